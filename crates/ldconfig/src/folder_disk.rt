@@ -1,0 +1,176 @@
+//! The slots of an image that is unpacked in a folder.
+ghost use Rattle.std.specs.Prelude.{◌≤◌, OnErr};
+ghost use Rattle.lib_types.specs.Counts.{HasRisen};
+ghost use Rattle.ldconfig.specs.Untold.{untold_disk};
+
+use crate::counts::one_more;
+use lib_types::{Failed, NoMemory};
+use std::alloc::{AllocError, Global};
+use std::fs::{self, OpenFile, OpenOptions};
+use std::io::{self, Read, Write};
+use std::rt::Runtime;
+use tree_face::{Disk, DiskRead, Slot, Tag};
+
+/// The slots in a folder: `image.mtree`, `etc/ld.so.cache` and `var/cache/ldconfig/aux-cache`. A temporary file stands
+/// beside its slot, with `.tmp` and the tag behind the slot's name.
+#[derive(Drop)]
+pub struct FolderDisk<R: Runtime> {
+    rt: R,
+    root: String<R::A>,
+    faults: u64,
+}
+
+// A slot of more bytes isn't read.
+const LARGEST_SLOT: u64 = 1 << 31;
+
+// The folder of a slot's file, below the root.
+fn folder_of(slot: Slot) -> &'static str {
+    match slot {
+        Slot::Manifest => ".",
+        Slot::Cache => "etc",
+        Slot::Aux => "var/cache/ldconfig",
+    }
+}
+
+fn name_of(slot: Slot) -> &'static str {
+    match slot {
+        Slot::Manifest => "image.mtree",
+        Slot::Cache => "ld.so.cache",
+        Slot::Aux => "aux-cache",
+    }
+}
+
+impl<R: Runtime> FolderDisk<R> {
+    /// The slots in the folder `root`.
+    pub fn new(rt: R, root: &str) -> Result<FolderDisk<R>, NoMemory> {
+        let root = String::from_str(rt.alloc(), root)?;
+        Ok(FolderDisk {
+            rt,
+            root,
+            faults: 0,
+        })
+    }
+
+    fn folder(&self, slot: Slot) -> Result<String<R::A>, AllocError> {
+        let root = self.root.as_str();
+        let folder = folder_of(slot);
+        format!(in self.rt.alloc(); "{root}/{folder}")
+    }
+
+    fn path(&self, slot: Slot) -> Result<String<R::A>, AllocError> {
+        let folder = self.folder(slot)?;
+        let name = name_of(slot);
+        format!(in self.rt.alloc(); "{folder}/{name}")
+    }
+
+    fn temporary_path(&self, tag: Tag, slot: Slot) -> Result<String<R::A>, AllocError> {
+        let path = self.path(slot)?;
+        let number = tag.0;
+        format!(in self.rt.alloc(); "{path}.tmp{number}")
+    }
+
+    fn create_file(&self, tag: Tag, slot: Slot) -> io::Result<()> {
+        fs::create_dir_all(&self.rt, self.folder(slot)?.as_str())?;
+        fs::create(&self.rt, self.temporary_path(tag, slot)?.as_str())?;
+        Ok(())
+    }
+
+    fn append_bytes(&self, tag: Tag, slot: Slot, bytes: &[u8]) -> io::Result<()> {
+        let path = self.temporary_path(tag, slot)?;
+        let mut file = OpenOptions::new()
+            .append(true)
+            .open(&self.rt, path.as_str())?;
+        file.write_all(bytes)
+    }
+
+    fn sync_file(&self, tag: Tag, slot: Slot) -> io::Result<()> {
+        let path = self.temporary_path(tag, slot)?;
+        OpenOptions::new()
+            .append(true)
+            .open(&self.rt, path.as_str())?
+            .sync_all()
+    }
+
+    fn rename_file(&self, tag: Tag, slot: Slot) -> io::Result<()> {
+        let temporary = self.temporary_path(tag, slot)?;
+        let path = self.path(slot)?;
+        self.rt.rename(temporary.as_str(), path.as_str())
+    }
+
+    fn sync_folder(&self, slot: Slot) -> io::Result<()> {
+        fs::open(&self.rt, self.folder(slot)?.as_str())?.sync_all()
+    }
+
+    // The answer of a writing call, which counts a failure.
+    fn answer(&mut self, done: io::Result<()>) -> Result<(), Failed>
+        ensures faults { self.old.faults ≤ self.new.faults }
+        ensures cause { OnErr result (HasRisen self.old.faults self.new.faults) }
+    {
+        match done {
+            Ok(()) => Ok(()),
+            Err(_) => {
+                self.faults = one_more(self.faults);
+                Err(Failed)
+            }
+        }
+    }
+}
+
+// The bytes of a file, none where there is no such file.
+fn read_file<R: Runtime>(rt: &R, alloc: Global, path: &str) -> io::Result<Option<Vec<u8>>> {
+    let mut file = match fs::open(rt, path) {
+        Ok(file) => file,
+        Err(error) if error.kind() == io::ErrorKind::NotFound => return Ok(None),
+        Err(error) => return Err(error),
+    };
+    let size = file.metadata()?.len();
+    if size > LARGEST_SLOT {
+        return Err(io::Error::from(io::ErrorKind::FileTooLarge));
+    }
+    let mut bytes = vec![in alloc; 0u8; size as usize]?;
+    file.read_exact(&mut bytes)?;
+    Ok(Some(bytes))
+}
+
+impl<R: Runtime> Disk for FolderDisk<R> {
+    ghost state = { λ d. untold_disk d.faults };
+
+    fn read(&mut self, alloc: Global, slot: Slot) -> Result<Option<Vec<u8>>, DiskRead> {
+        let Ok(path) = self.path(slot) else {
+            return Err(DiskRead::NoMemory);
+        };
+        match read_file(&self.rt, alloc, path.as_str()) {
+            Ok(found) => Ok(found),
+            Err(error) if error.kind() == io::ErrorKind::OutOfMemory => Err(DiskRead::NoMemory),
+            Err(_) => {
+                self.faults = one_more(self.faults);
+                Err(DiskRead::Failed)
+            }
+        }
+    }
+
+    fn create(&mut self, tag: Tag, slot: Slot) -> Result<(), Failed> {
+        let done = self.create_file(tag, slot);
+        self.answer(done)
+    }
+
+    fn append(&mut self, tag: Tag, slot: Slot, bytes: &[u8]) -> Result<(), Failed> {
+        let done = self.append_bytes(tag, slot, bytes);
+        self.answer(done)
+    }
+
+    fn sync(&mut self, tag: Tag, slot: Slot) -> Result<(), Failed> {
+        let done = self.sync_file(tag, slot);
+        self.answer(done)
+    }
+
+    fn publish(&mut self, tag: Tag, slot: Slot) -> Result<(), Failed> {
+        let done = self.rename_file(tag, slot);
+        self.answer(done)
+    }
+
+    fn settle(&mut self, slot: Slot) -> Result<(), Failed> {
+        let done = self.sync_folder(slot);
+        self.answer(done)
+    }
+}

@@ -1,0 +1,10 @@
+pub mod Analysis
+pub mod Counting
+pub mod Lacking
+pub mod Listing
+pub mod Lone
+pub mod Ranges
+pub mod Short
+pub mod Slots
+pub mod StringPool
+pub mod Texts

@@ -1,0 +1,161 @@
+-- The ELF header, the program headers and the dynamic section of a file, in both classes
+-- (gABI, "ELF Header", "Program Header", "Dynamic Section"; numbers are ELFDATA2LSB).
+-- `w` is the size of an address: 4 bytes in class 1, 8 bytes in class 2. No number has a bound.
+use Rattle.std.specs.Prelude.{ℕ, ◌+◌, ◌-◌, ◌*◌, ◌/◌, Bool, if◌then◌else◌, ◌==◌, ◌&&◌, ◌||◌, not, nat_le, nat_lt, List, [], ◌∷◌, map, length, take, drop, find, take_while, slice_index, Option, Some, None, option_map, option_and_then}
+use Rattle.std.specs.List.{list_any, range_with_len}
+use Rattle.lib_types.specs.Bytes.{field}
+use Rattle.ldconfig_cli.specs.declared.elf.Segment.{Segment}
+use Rattle.ldconfig_cli.specs.declared.elf.DynamicEntry.{DynamicEntry}
+
+-- ---- the file header
+
+-- EI_CLASS and EI_DATA of the identification
+abbrev pub class : List ℕ → ℕ
+class bytes = slice_index bytes 4
+
+abbrev pub encoding : List ℕ → ℕ
+encoding bytes = slice_index bytes 5
+
+abbrev pub word_size : List ℕ → ℕ
+word_size bytes = if class bytes == 2 then 8 else 4
+
+-- what differs between the classes
+abbrev pub at_class : ℕ → ℕ → ℕ → ℕ
+at_class w narrow wide = if w == 8 then wide else narrow
+
+abbrev pub header_length : ℕ → ℕ
+header_length w = at_class w 52 64
+
+abbrev pub etype : List ℕ → ℕ
+etype bytes = field bytes 16 2
+
+abbrev pub machine : List ℕ → ℕ
+machine bytes = field bytes 18 2
+
+abbrev pub phoff : ℕ → List ℕ → ℕ
+phoff w bytes = field bytes (at_class w 28 32) w
+
+abbrev pub phentsize : ℕ → List ℕ → ℕ
+phentsize w bytes = field bytes (at_class w 42 54) 2
+
+abbrev pub phnum : ℕ → List ℕ → ℕ
+phnum w bytes = field bytes (at_class w 44 56) 2
+
+-- ---- the program headers
+
+abbrev pub program_header_length : ℕ → ℕ
+program_header_length w = at_class w 32 56
+
+-- the segment of the program header at a place of the file
+abbrev pub segment_at : ℕ → List ℕ → ℕ → Segment
+segment_at w bytes at = record {
+  kind = field bytes at 4;
+  offset = field bytes (at + at_class w 4 8) w;
+  vaddr = field bytes (at + at_class w 8 16) w;
+  filesz = field bytes (at + at_class w 16 32) w;
+}
+
+abbrev pub segment : ℕ → List ℕ → ℕ → Segment
+segment w bytes index = segment_at w bytes (phoff w bytes + index * program_header_length w)
+
+unfoldable pub segments : ℕ → List ℕ → List Segment
+segments w bytes = map (segment w bytes) (range_with_len 0 (phnum w bytes))
+
+-- PT_LOAD and PT_DYNAMIC
+abbrev pub is_load : Segment → Bool
+is_load s = s.kind == 1
+
+abbrev pub is_dynamic : Segment → Bool
+is_dynamic s = s.kind == 2
+
+-- the address is in the segment's file part
+abbrev pub has_address : ℕ → Segment → Bool
+has_address address s = nat_le s.vaddr address && nat_lt address (s.vaddr + s.filesz)
+
+-- ---- the dynamic section
+
+abbrev pub entry_at : ℕ → List ℕ → ℕ → DynamicEntry
+entry_at w bytes at = record { tag = field bytes at w; value = field bytes (at + w) w }
+
+-- the whole entries of the segment
+abbrev pub whole_entries : ℕ → List ℕ → Segment → List DynamicEntry
+whole_entries w bytes s = map (λ index. entry_at w bytes (s.offset + index * (2 * w))) (range_with_len 0 (s.filesz / (2 * w)))
+
+-- those before the first DT_NULL, or all of them
+unfoldable pub dynamic_entries : ℕ → List ℕ → Segment → List DynamicEntry
+dynamic_entries w bytes s = take_while (λ e. not (e.tag == 0)) (whole_entries w bytes s)
+
+abbrev pub needed : ℕ
+needed = 1
+
+abbrev pub strtab : ℕ
+strtab = 5
+
+abbrev pub strsz : ℕ
+strsz = 10
+
+abbrev pub soname : ℕ
+soname = 14
+
+abbrev pub rpath : ℕ
+rpath = 15
+
+abbrev pub runpath : ℕ
+runpath = 29
+
+abbrev pub has_tag : ℕ → DynamicEntry → Bool
+has_tag tag e = e.tag == tag
+
+-- the value of the first entry with this tag
+abbrev pub value_of : ℕ → List DynamicEntry → Option ℕ
+value_of tag entries = option_map (λ e. e.value) (find (has_tag tag) entries)
+
+-- the entries whose value is the place of a text in the string table
+abbrev pub has_text : DynamicEntry → Bool
+has_text e = has_tag needed e || has_tag soname e || has_tag rpath e || has_tag runpath e
+
+-- of these every DT_NEEDED counts, and of each other tag the first
+abbrev pub counts_after : List DynamicEntry → DynamicEntry → Bool
+counts_after earlier e = has_text e && (has_tag needed e || not (list_any (has_tag e.tag) earlier))
+
+abbrev pub counting_after : List DynamicEntry → List DynamicEntry → List DynamicEntry
+counting_after earlier [] = []
+counting_after earlier (e ∷ rest) =
+    if counts_after earlier e then e ∷ counting_after (e ∷ earlier) rest else counting_after (e ∷ earlier) rest
+
+abbrev pub counting_entries : List DynamicEntry → List DynamicEntry
+counting_entries entries = counting_after [] entries
+
+-- ---- the string table: DT_STRTAB is an address, DT_STRSZ the number of bytes
+
+-- the bytes of the table whose address is in this segment, where they end neither past its file part nor past the file
+abbrev pub table_in : List ℕ → ℕ → ℕ → Segment → Option (List ℕ)
+table_in bytes address size s =
+    let at = s.offset + (address - s.vaddr) in
+    if nat_le (address + size) (s.vaddr + s.filesz) && nat_le (at + size) (length bytes)
+    then Some (take size (drop at bytes))
+    else None
+
+-- the first PT_LOAD with the address has the table
+abbrev pub table_at : List ℕ → List Segment → ℕ → ℕ → Option (List ℕ)
+table_at bytes segments address size =
+    option_and_then (table_in bytes address size) (find (λ s. is_load s && has_address address s) segments)
+
+abbrev pub string_table : List ℕ → List Segment → List DynamicEntry → Option (List ℕ)
+string_table bytes segments entries =
+    option_and_then (λ address. option_and_then (table_at bytes segments address) (value_of strsz entries)) (value_of strtab entries)
+
+abbrev pub is_nul : ℕ → Bool
+is_nul b = b == 0
+
+-- the bytes of the table from this place on, of which 65536 are looked at
+unfoldable pub near : List ℕ → ℕ → List ℕ
+near table at = take 65536 (drop at table)
+
+-- a NUL ends the text at this place of the table
+abbrev pub has_text_at : List ℕ → ℕ → Bool
+has_text_at table at = nat_lt at (length table) && list_any is_nul (near table at)
+
+-- the bytes from this place up to the NUL
+abbrev pub text_at : List ℕ → ℕ → List ℕ
+text_at table at = take_while (λ b. not (is_nul b)) (near table at)

@@ -1,0 +1,16 @@
+pub mod Analysis
+pub mod CacheText
+pub mod Elf
+pub mod Entries
+pub mod Libraries
+pub mod Manifest
+pub mod Outcome
+pub mod StringPool
+pub mod Reading
+pub mod Reasons
+pub mod Refusals
+pub mod Replace
+pub mod Report
+pub mod Run
+pub mod Status
+pub mod Words

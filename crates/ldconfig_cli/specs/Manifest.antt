@@ -1,0 +1,71 @@
+-- The manifests that are built so far: of mtree(5) a first line `#mtree`, and then lines of full paths with a type
+-- alone, `type=file` or `type=dir`.
+use Rattle.std.specs.Prelude.{ℕ, ◌-◌, ◌^◌, Bool, List, [], ◌∷◌, ◌++◌, ◌==◌, ◌&&◌, ◌||◌, not, nat_le, nat_eq, if◌then◌else◌, length, take, drop, codes, Option, Some, None}
+use Rattle.std.specs.List.{list_all, starts_with, ends_with}
+use Rattle.std.specs.Option.{option_map, option_and_then}
+use Rattle.std.specs.Str.{byte}
+use Rattle.bstr.specs.Text.{lines_of}
+use Rattle.tree_face.specs.declared.node.Node.{Node}
+use Rattle.tree_face.specs.declared.node.Node.TheVariants.{Dir, File}
+use Rattle.tree_face.specs.Tree.{Nodes, put, clashes, has_no_room, is_entry}
+
+-- a text with a line feed
+abbrev pub ended : List ℕ → List ℕ
+ended text = text ++ 10 ∷ []
+
+-- the bytes that stand for themselves: printable ASCII but the backslash and `#`
+abbrev pub is_plain : ℕ → Bool
+is_plain b = nat_le 33 b && nat_le b 126 && not (b == byte "\\") && not (b == byte "#")
+
+-- what stands before this end, and behind this front
+abbrev pub before_tail : List ℕ → List ℕ → Option (List ℕ)
+before_tail tail bytes = if ends_with nat_eq bytes tail then Some (take (length bytes - length tail) bytes) else None
+
+abbrev pub behind_head : List ℕ → List ℕ → Option (List ℕ)
+behind_head head bytes = if starts_with nat_eq bytes head then Some (drop (length head) bytes) else None
+
+-- a file's content is kept under its path without the first slash
+abbrev pub file_at : List ℕ → Node
+file_at path = File (drop 1 path) None
+
+-- the path that a word of plain bytes gives: a dot stands before it
+abbrev pub path_in : List ℕ → Option (List ℕ)
+path_in word = if list_all is_plain word then behind_head (codes ".") word else None
+
+-- a file or a directory with its path
+abbrev pub file_entry : List ℕ → Option (List ℕ × Node)
+file_entry word = option_map (λ path. (path, file_at path)) (path_in word)
+
+abbrev pub directory_entry : List ℕ → Option (List ℕ × Node)
+directory_entry word = option_map (λ path. (path, Dir)) (path_in word)
+
+-- what a line says
+abbrev pub entry_by : Option (List ℕ) → Option (List ℕ) → Option (List ℕ × Node)
+entry_by (Some file) directory = file_entry file
+entry_by None (Some directory) = directory_entry directory
+entry_by None None = None
+
+unfoldable pub entry_of : List ℕ → Option (List ℕ × Node)
+entry_of line = entry_by (before_tail (ended (codes " type=file")) line) (before_tail (ended (codes " type=dir")) line)
+
+-- the tree with one entry more, where it may stand in a tree, clashes with none and has room
+abbrev pub with_entry : Nodes → List ℕ × Node → Option Nodes
+with_entry t e = if not (is_entry e) || clashes t e.0 e.1 || has_no_room t e.0 then None else Some (put t e.0 e.1)
+
+abbrev pub with_line : Nodes → List ℕ → Option Nodes
+with_line t line = option_and_then (with_entry t) (entry_of line)
+
+-- the tree that the lines give, one after another
+abbrev pub with_lines : Nodes → List (List ℕ) → Option Nodes
+with_lines t [] = Some t
+with_lines t (line ∷ lines) = option_and_then (λ u. with_lines u lines) (with_line t line)
+
+abbrev pub largest_text : ℕ
+largest_text = 2 ^ 26
+
+-- the tree of a text
+unfoldable pub tree_of : List ℕ → Option Nodes
+tree_of text =
+    if nat_le (length text) largest_text
+    then option_and_then (λ rest. with_lines [] (lines_of rest)) (behind_head (ended (codes "#mtree")) text)
+    else None

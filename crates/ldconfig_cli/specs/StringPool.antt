@@ -1,0 +1,18 @@
+-- What the string pool keeps: each string with the number of bytes before it.
+use Rattle.std.specs.Prelude.{◌≡◌, ℕ, ◌+◌, List, [], ◌∷◌, length, map}
+use Rattle.std.specs.Borrow.{Bor}
+use Rattle.std.specs.Map.{keys_of, values_of}
+use Rattle.ldconfig_cli.specs.CacheText.{with_nul, table_of}
+
+-- the strings of these entries
+abbrev pub texts : List (Bor (List ℕ) × ℕ) → List (List ℕ)
+texts entries = map (λ key. key.now) (keys_of entries)
+
+-- the places of strings one after the other, from a place on
+abbrev pub places_from : ℕ → List (List ℕ) → List ℕ
+places_from place [] = []
+places_from place (text ∷ texts) = place ∷ places_from (place + length (with_nul text)) texts
+
+-- the entries have the places of their strings, and the size is that of the strings
+abbrev pub IsPlaced : List (Bor (List ℕ) × ℕ) → ℕ → Type 0
+IsPlaced entries size = (values_of entries ≡ places_from 0 (texts entries)) × (size ≡ length (table_of (texts entries)))

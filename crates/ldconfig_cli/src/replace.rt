@@ -1,0 +1,22 @@
+//! The replacement of a slot.
+ghost use Rattle.std.specs.Prelude.{◌≤◌, OnOk, OnErr};
+ghost use Rattle.lib_types.specs.Counts.{HasRisen};
+ghost use Rattle.tree_face.specs.Told.{Tells};
+ghost use Rattle.ldconfig_cli.specs.Replace.{Replaces, MayReplace};
+
+use lib_types::Failed;
+use tree_face::{Disk, Slot, Tag};
+
+/// Replaces what a slot holds by these bytes, by way of a temporary file.
+pub fn replace<D: Disk>(disk: &mut D, tag: Tag, slot: Slot, bytes: &[u8]) -> Result<(), Failed>
+    ensures done { OnOk result (Tells (Replaces slot bytes.now) (D.state disk.old).told (D.state disk.new).told) }
+    ensures failed { OnErr result (Tells (MayReplace slot bytes.now) (D.state disk.old).told (D.state disk.new).told) }
+    ensures faults { (D.state disk.old).faults ≤ (D.state disk.new).faults }
+    ensures cause { OnErr result (HasRisen (D.state disk.old).faults (D.state disk.new).faults) }
+{
+    disk.create(tag, slot)?;
+    disk.append(tag, slot, bytes)?;
+    disk.sync(tag, slot)?;
+    disk.publish(tag, slot)?;
+    disk.settle(slot)
+}

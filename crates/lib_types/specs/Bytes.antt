@@ -1,0 +1,7 @@
+-- Numbers in bytes, least byte first (gABI, ELFDATA2LSB).
+use Rattle.std.specs.Prelude.{ℕ, List}
+use Rattle.byteorder.specs.Endian.{little_from}
+
+-- the number of n bytes at a place
+abbrev pub field : List ℕ → ℕ → ℕ → ℕ
+field bytes at n = little_from at n bytes

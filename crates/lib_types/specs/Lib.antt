@@ -1,0 +1,4 @@
+pub mod Abi
+pub mod Bytes
+pub mod Counts
+pub mod Name

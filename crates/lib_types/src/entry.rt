@@ -1,0 +1,17 @@
+//! The entries of a cache.
+use crate::{Abi, Seq, Text};
+
+/// One soname that can be looked up, and the path that it leads to.
+#[derive(Drop)]
+pub struct Entry {
+    pub soname: Text,
+    pub abi: Abi,
+    /// The subdirectory of `glibc-hwcaps`, where the entry is of one.
+    pub cap: Option<Text>,
+    pub path: Text,
+    /// The number of the directory among those that are searched, from 0.
+    pub place: u32,
+}
+
+/// A list of entries.
+pub type Entries = Seq<Entry>;

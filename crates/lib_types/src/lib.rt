@@ -1,0 +1,23 @@
+//! The words that every crate of the product speaks in: texts, lists, ABIs, defects, analyses and entries.
+#![tactic(auto)]
+
+mod abi;
+mod analysis;
+mod entry;
+mod fault;
+mod name;
+mod seq;
+mod steps;
+mod text;
+
+pub use abi::Abi;
+pub use analysis::{Analysis, Defect};
+pub use entry::{Entries, Entry};
+pub use fault::{Failed, NoMemory};
+pub use name::{is_name, is_utf8};
+pub use seq::{Seq, Texts};
+pub use steps::Steps;
+pub use text::Text;
+
+#[cfg(test)]
+mod tests;

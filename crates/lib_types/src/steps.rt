@@ -1,0 +1,38 @@
+//! A counter of steps.
+ghost use Rattle.std.specs.Prelude.{◌≡◌, ℕ};
+ghost use Rattle.lib_types.specs.Counts.{raised};
+
+use std::marker::Model;
+
+/// A number of steps, which no call lowers. It stands still at 2^64 - 1.
+#[derive(Drop)]
+pub struct Steps {
+    count: u64,
+}
+
+impl Model for Steps {
+    ghost Value = { ℕ };
+
+    ghost view = { λ s. s.count };
+}
+
+impl Steps {
+    pub fn new() -> Steps
+        ensures { result ≡ 0 }
+    {
+        Steps { count: 0 }
+    }
+
+    /// Counts one step more.
+    pub fn tick(&mut self)
+        ensures { self.new ≡ raised self.old 1 }
+    {
+        self.count = self.count.saturating_add(1);
+    }
+
+    pub fn count(&self) -> u64
+        ensures { result ≡ self.now }
+    {
+        self.count
+    }
+}

@@ -1,0 +1,74 @@
+-- A run of digits at the front of a name is its first token.
+use Rattle.std.proofs.Common.{◌≡◌, ℕ, ◌+◌, ◌<◌, Bool, true, false, get_or, ◌-◌, List, [], ◌∷◌, Some, None, length, take, drop, refl, one-add, arith}
+use Rattle.std.specs.declared.cmp.Ordering.TheVariants.{Less}
+use Rattle.std.specs.Char.{IsAsciiDigit, is_ascii_digit}
+use Rattle.std.specs.List.{fold, prefix_len}
+use Rattle.std.specs.Cmp.Lexicographic.{slice_cmp}
+use Rattle.std.proofs.lemmas.Bool.Decides.{nat_tests}
+use Rattle.std.proofs.lemmas.List.{take_rest}
+use Rattle.name_order.specs.Order.{Byte, Number, token_cmp, token_order, tokens, tokens_after, value, with_digit}
+use Rattle.name_order.specs.Digits.{AreDigits}
+
+-- the digits at the front, and what is behind them
+abbrev pub run : List ℕ → List ℕ
+run xs = take (prefix_len is_ascii_digit xs) xs
+
+abbrev pub behind : List ℕ → List ℕ
+behind xs = drop (prefix_len is_ascii_digit xs) xs
+
+-- the number so far goes on to the end of the digits
+goes_on : (n : ℕ) (xs : List ℕ) → tokens_after (Some n) xs ≡ Number (fold with_digit n (run xs)) ∷ tokens_after None (behind xs)
+goes_on n [] = refl
+goes_on n (x ∷ xs) = by (is_ascii_digit x) refl (goes_on (with_digit n x) xs)
+  where
+    by : (b : Bool) → is_ascii_digit x ≡ b
+        → tokens_after (Some (with_digit n x)) xs ≡ Number (fold with_digit (with_digit n x) (run xs)) ∷ tokens_after None (behind xs)
+        → tokens_after (Some n) (x ∷ xs) ≡ Number (fold with_digit n (run (x ∷ xs))) ∷ tokens_after None (behind (x ∷ xs))
+    by true e rest = rw (e, one-add (prefix_len is_ascii_digit xs)) rest
+    by false e rest = simp e
+
+-- what stands there is digits
+pub AreDigits-run : (xs : List ℕ) → AreDigits (run xs)
+AreDigits-run [] = tt
+AreDigits-run (x ∷ xs) = by (is_ascii_digit x) refl (AreDigits-run xs)
+  where
+    digit : is_ascii_digit x ≡ true → IsAsciiDigit x
+    digit e = grind (arith, nat_tests)
+
+    by : (b : Bool) → is_ascii_digit x ≡ b → AreDigits (run xs) → AreDigits (run (x ∷ xs))
+    by true e rest = rw (e, one-add (prefix_len is_ascii_digit xs)) (digit e, rest)
+    by false e rest = rw e tt
+
+-- what a name that begins with a digit begins with
+pub tokens-run : (name : List ℕ) → 0 < prefix_len is_ascii_digit name → tokens name ≡ Number (value (run name)) ∷ tokens (behind name)
+unfolding tokens
+tokens-run [] some = absurd (omega arith)
+tokens-run (x ∷ xs) some = by (is_ascii_digit x) refl
+  where
+    by : (b : Bool) → is_ascii_digit x ≡ b → tokens (x ∷ xs) ≡ Number (value (run (x ∷ xs))) ∷ tokens (behind (x ∷ xs))
+    by true e = rw (e, one-add (prefix_len is_ascii_digit xs)) (goes_on (with_digit 0 x) xs)
+    by false e = absurd (let none : prefix_len is_ascii_digit (x ∷ xs) ≡ 0 = simp e in omega arith)
+
+-- what any other name begins with
+pub tokens-byte : (name : List ℕ) → 0 < length name → prefix_len is_ascii_digit name ≡ 0 → tokens name ≡ Byte (get_or name 0 0) ∷ tokens (take (length name - 1) (drop 1 name))
+unfolding tokens
+tokens-byte [] some none = absurd (omega arith)
+tokens-byte (x ∷ xs) some none = by (is_ascii_digit x) refl
+  where
+    by : (b : Bool) → is_ascii_digit x ≡ b → tokens (x ∷ xs) ≡ Byte x ∷ tokens (take (length (x ∷ xs) - 1) xs)
+    by true e = absurd (let more : prefix_len is_ascii_digit (x ∷ xs) ≡ 1 + prefix_len is_ascii_digit xs = simp e in omega arith)
+    by false e = rw (e, take_rest (x ∷ xs) 1) refl
+
+-- the end of a name is below any bytes
+pub end_below : (xs : List ℕ) → 0 < length xs → token_order [] xs ≡ Less
+unfolding tokens
+end_below [] some = absurd (omega arith)
+end_below (x ∷ xs) some = by (is_ascii_digit x) refl
+  where
+    by : (b : Bool) → is_ascii_digit x ≡ b → slice_cmp token_cmp [] (tokens_after None (x ∷ xs)) ≡ Less
+    by true e = rw (e, goes_on (with_digit 0 x) xs) refl
+    by false e = rw e refl
+
+pub ruleset run_laws = (AreDigits-run, tokens-run, tokens-byte)
+
+pub ruleset end_laws = (end_below)

@@ -1,0 +1,4 @@
+pub mod Digits
+pub mod LibraryName
+pub mod Order
+pub mod Part

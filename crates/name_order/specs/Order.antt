@@ -1,0 +1,55 @@
+-- The order in which ldconfig(8) writes library names into its cache and ld.so(8) looks them up there: that of
+-- `_dl_cache_libcmp`, which dl-cache.h declares, at ASCII names with numbers below 2 ^ 31. Here bytes past ASCII
+-- compare as unsigned values, and a number has any size.
+use Rattle.std.specs.Prelude.{ℕ, ◌+◌, ◌-◌, ◌*◌, List, [], ◌∷◌, ◌++◌, if◌then◌else◌, Option, Some, None, unwrap_or}
+use Rattle.std.specs.Str.{byte}
+use Rattle.std.specs.List.{fold}
+use Rattle.std.specs.Char.{is_ascii_digit}
+use Rattle.std.specs.Cmp.Lexicographic.{slice_cmp}
+use Rattle.std.specs.declared.cmp.Ordering.{Ordering}
+use Rattle.std.specs.declared.cmp.Ordering.TheVariants.{Less, Greater}
+use Rattle.std.specs.Ordering.{nat_cmp, then_cmp}
+
+-- what is compared as one: a byte, or a maximal run of ASCII digits as the number that it writes, of any size
+pub data Token : Type 0 where
+  Byte : ℕ → Token
+  Number : ℕ → Token
+
+-- the number that the digits of n and then this digit write
+abbrev pub with_digit : ℕ → ℕ → ℕ
+with_digit n digit = 10 * n + (digit - byte "0")
+
+-- the number that digits write
+abbrev pub value : List ℕ → ℕ
+value digits = fold with_digit 0 digits
+
+-- the token of the number so far, where there is one
+abbrev pub number_token : Option ℕ → List Token
+number_token None = []
+number_token (Some n) = Number n ∷ []
+
+-- the tokens of a name that goes on with these bytes behind the number so far
+abbrev pub tokens_after : Option ℕ → List ℕ → List Token
+tokens_after number [] = number_token number
+tokens_after number (b ∷ rest) =
+    if is_ascii_digit b then tokens_after (Some (with_digit (unwrap_or number 0) b)) rest
+    else number_token number ++ Byte b ∷ tokens_after None rest
+
+-- the maximal runs of digits and the other bytes, from the left
+unfoldable pub tokens : List ℕ → List Token
+tokens name = tokens_after None name
+
+-- a byte is below a number
+abbrev pub token_cmp : Token → Token → Ordering
+token_cmp (Byte a) (Byte b) = nat_cmp a b
+token_cmp (Byte a) (Number n) = Less
+token_cmp (Number m) (Byte b) = Greater
+token_cmp (Number m) (Number n) = nat_cmp m n
+
+-- the loader's order: the first pair of tokens that differs decides, and the end is below each token
+abbrev pub token_order : List ℕ → List ℕ → Ordering
+token_order a b = slice_cmp token_cmp (tokens a) (tokens b)
+
+-- the loader's order, then the order of the bytes
+abbrev pub name_order : List ℕ → List ℕ → Ordering
+name_order = then_cmp token_order (slice_cmp nat_cmp)

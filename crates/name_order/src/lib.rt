@@ -1,0 +1,126 @@
+//! The order in which the loader sorts library names, and which names are library names.
+#![tactic(auto)]
+
+ghost use Rattle.std.specs.Prelude.{◌≡◌, ◌↔◌, codes};
+ghost use Rattle.std.specs.Cmp.{IsTotalOrder};
+ghost use Rattle.name_order.specs.Order.{name_order, token_order};
+ghost use Rattle.name_order.specs.LibraryName.{contains, has_library_prefix, has_temporary_suffix, is_library_name};
+
+mod part;
+
+use part::{compare_parts, next_part};
+use std::cmp::Ordering;
+
+/// The loader's order of two names. Names that differ only in the zeros before a number are equal in it.
+#[tactic(auto, using(crate::proofs::Runs::end_laws), unfolding(crate::specs::Order::tokens))]
+pub fn compare_tokens(a: &[u8], b: &[u8]) -> Ordering
+    ensures { result ≡ token_order a.now b.now }
+{
+    let mut left = a;
+    let mut right = b;
+    while let Some((part, left_rest)) = next_part(left) {
+        let Some((other, right_rest)) = next_part(right) else {
+            return Ordering::Greater;
+        };
+        let order = compare_parts(part, other);
+        if order != Ordering::Equal {
+            return order;
+        }
+        left = left_rest;
+        right = right_rest;
+    }
+    if right.is_empty() {
+        Ordering::Equal
+    } else {
+        Ordering::Less
+    }
+}
+
+/// The loader's order, and the order of the bytes where that finds two names equal.
+#[tactic(auto, using(crate::proofs::Total::name_laws))]
+pub fn compare(a: &[u8], b: &[u8]) -> Ordering
+    ensures value { result ≡ name_order a.now b.now }
+    ensures equal { (result ≡ Ordering.Equal) ↔ (a.now ≡ b.now) }
+    ensures total { IsTotalOrder name_order }
+{
+    compare_tokens(a, b).then_with(|| a.cmp(b))
+}
+
+/// Whether a file of this name may be a library, to go by its name alone.
+#[tactic(auto, unfolding(crate::specs::LibraryName::is_library_name))]
+pub fn is_library_name(name: &[u8]) -> bool
+    ensures { result ≡ is_library_name name.now }
+{
+    has_library_prefix(name)
+        && contains_so(name)
+        && !name.contains(&b';')
+        && !has_temporary_suffix(name)
+}
+
+fn has_library_prefix(name: &[u8]) -> bool
+    ensures { result ≡ has_library_prefix name.now }
+{
+    name.starts_with(b"lib") || name.starts_with(b"ld-")
+}
+
+/// Whether the name has a suffix of files that dpkg and prelink are about to rename.
+fn has_temporary_suffix(name: &[u8]) -> bool
+    ensures { result ≡ has_temporary_suffix name.now }
+{
+    name.ends_with(b".dpkg-new") || name.ends_with(b".dpkg-tmp") || name.ends_with(b".#prelink#")
+}
+
+fn contains_so(name: &[u8]) -> bool
+    ensures { result ≡ contains (codes ".so") name.now }
+{
+    let mut rest = name;
+    while !rest.is_empty() {
+        if rest.starts_with(b".so") {
+            return true;
+        }
+        rest = &rest[1..];
+    }
+    false
+}
+
+#[cfg(test)]
+mod tests {
+    use super::*;
+
+    #[test]
+    fn orders_names(rt: HostRuntime) {
+        let rows: [(&[u8], &[u8]); 5] = [
+            (b"libx.so.10", b"libx.so.9"),
+            (b"libx.so.1", b"libx.so"),
+            (b"lib1", b"liba"),
+            (b"libx.so.1", b"libx.so.01"),
+            (b"lib10a", b"lib9b"),
+        ];
+        for (above, below) in rows {
+            assert_eq!(rt; compare(above, below), Ordering::Greater, "{above:?}");
+            assert_eq!(rt; compare(below, above), Ordering::Less, "{above:?}");
+            assert_eq!(rt; compare(above, above), Ordering::Equal, "{above:?}");
+        }
+        assert_eq!(rt;
+            compare_tokens(b"libx.so.1", b"libx.so.01"),
+            Ordering::Equal
+        );
+    }
+
+    #[test]
+    fn knows_library_names(rt: HostRuntime) {
+        let rows: [(&[u8], bool); 8] = [
+            (b"ld-linux.so.2", true),
+            (b"libz.so.1", true),
+            (b"libz.a", false),
+            (b"ld.so.conf", false),
+            (b"libz.so.1;5f3e", false),
+            (b"libz.so.1.dpkg-new", false),
+            (b"libz.so.1.dpkg-tmp", false),
+            (b"libz.so.1.#prelink#", false),
+        ];
+        for (name, want) in rows {
+            assert_eq!(rt; is_library_name(name), want, "{name:?}");
+        }
+    }
+}

@@ -1,0 +1,104 @@
+-- A disk of three slots. A slot is replaced by way of a temporary file, which only its publishing makes the slot's content.
+use Rattle.std.specs.Prelude.{◌≡◌, ◌⊎◌, ◌≤◌, ◌++◌, ◌==◌, ◌&&◌, ℕ, Bool, true, false, List, [], Option, Some, None, IfSome, IsErrOf, is_some, Result, IfOk, OnOk, OnErr, Vec}
+use Rattle.std.specs.Option.{option_map}
+use Rattle.std.specs.declared.alloc.Global.{Global}
+use Rattle.lib_types.specs.declared.fault.Failed.{Failed}
+use Rattle.lib_types.specs.Counts.{HasRisen}
+use Rattle.tree_face.specs.declared.disk.Slot.{Slot}
+use Rattle.tree_face.specs.declared.disk.Slot.TheVariants.{Manifest, Cache, Aux}
+use Rattle.tree_face.specs.declared.disk.DiskRead.{DiskRead}
+use Rattle.tree_face.specs.declared.disk.DiskRead.TheVariants as disk_read
+use Rattle.tree_face.specs.Told.{IfTold, Tells}
+
+abbrev pub Content : Type 0
+Content = Option (List ℕ)
+
+-- what a reading of each slot gives
+pub record Slots : Type 0 where
+  pub manifest : Content
+  pub cache : Content
+  pub aux : Content
+
+abbrev pub slot_of : Slots → Slot → Content
+slot_of s Manifest = s.manifest
+slot_of s Cache = s.cache
+slot_of s Aux = s.aux
+
+abbrev pub with_slot : Slots → Slot → Content → Slots
+with_slot s Manifest c = record s { manifest = c }
+with_slot s Cache c = record s { cache = c }
+with_slot s Aux c = record s { aux = c }
+
+abbrev pub slot_eq : Slot → Slot → Bool
+slot_eq Manifest Manifest = true
+slot_eq Cache Cache = true
+slot_eq Aux Aux = true
+slot_eq _ _ = false
+
+-- one temporary file for each tag and slot, none where there is none
+abbrev pub Temporaries : Type 0
+Temporaries = ℕ → Slot → Content
+
+pub record DiskContent : Type 0 where
+  pub now : Slots
+  pub temporary : Temporaries
+
+pub record DiskState : Type 0 where
+  -- the contents, where told
+  pub told : Option DiskContent
+  -- whether the temporary file of a tag and slot was created and not published since
+  pub made : ℕ → Slot → Bool
+  pub faults : ℕ
+
+-- no temporary file but this one is touched
+abbrev pub KeepsOthers : ℕ → Slot → Temporaries → Temporaries → Type 0
+KeepsOthers tag slot a b = (t : ℕ) (s : Slot) → (t == tag) && slot_eq s slot ≡ false → b t s ≡ a t s
+
+-- the slots stay, and only this temporary file may change
+pub record Touches (tag : ℕ) (slot : Slot) (a b : DiskContent) : Type 0 where
+  pub slots : b.now ≡ a.now
+  pub others : KeepsOthers tag slot a.temporary b.temporary
+
+-- the temporary file is empty
+pub record Creates (tag : ℕ) (slot : Slot) (a b : DiskContent) : Type 0 where
+  pub touches : Touches tag slot a b
+  pub empty : b.temporary tag slot ≡ Some []
+
+-- the temporary file has these bytes more
+pub record Appends (tag : ℕ) (slot : Slot) (bytes : List ℕ) (a b : DiskContent) : Type 0 where
+  pub touches : Touches tag slot a b
+  pub more : b.temporary tag slot ≡ option_map (λ c. c ++ bytes) (a.temporary tag slot)
+
+-- the temporary file stays
+pub record Keeps (a b : DiskContent) : Type 0 where
+  pub slots : b.now ≡ a.now
+  pub temporary : (t : ℕ) (s : Slot) → b.temporary t s ≡ a.temporary t s
+
+-- the temporary file becomes the slot's content, and ends
+pub record Publishes (tag : ℕ) (slot : Slot) (a b : DiskContent) : Type 0 where
+  pub slots : b.now ≡ with_slot a.now slot (a.temporary tag slot)
+  pub others : KeepsOthers tag slot a.temporary b.temporary
+
+-- a publishing that failed: the slot has the old content or the new one
+pub record MayPublish (tag : ℕ) (slot : Slot) (a b : DiskContent) : Type 0 where
+  pub slots : (b.now ≡ a.now) ⊎ (b.now ≡ with_slot a.now slot (a.temporary tag slot))
+  pub others : KeepsOthers tag slot a.temporary b.temporary
+
+-- a writing call: what it does where it answers Ok, and where it answers Failed
+pub record Does (change left : DiskContent → DiskContent → Type 0) (old new : DiskState) (result : Result (Unit {0}) Failed) : Type 0 where
+  pub done : OnOk result (Tells change old.told new.told)
+  pub failed : OnErr result (Tells left old.told new.told)
+  pub faults : old.faults ≤ new.faults
+  pub cause : OnErr result (HasRisen old.faults new.faults)
+
+-- the same temporary files are made as before
+abbrev pub KeepsMade : DiskState → DiskState → Type 0
+KeepsMade old new = (t : ℕ) (s : Slot) → new.made t s ≡ old.made t s
+
+-- a reading of a slot
+pub record ReadsSlot (old new : DiskState) (slot : Slot) (result : Result (Option (Vec ℕ Global)) DiskRead) : Type 0 where
+  pub content : IfOk result (λ found. IfTold old.told (λ told. option_map (λ v. v.items) found ≡ slot_of told.now slot))
+  pub told : new.told ≡ old.told
+  pub made : KeepsMade old new
+  pub faults : old.faults ≤ new.faults
+  pub cause : IsErrOf result disk_read.Failed → HasRisen old.faults new.faults

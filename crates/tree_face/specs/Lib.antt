@@ -1,0 +1,14 @@
+pub mod Disk
+pub mod MemStore
+pub mod Memory
+pub mod Node
+pub mod Paths
+pub mod Places
+pub mod SlotFile
+pub mod Store
+pub mod Stream
+pub mod SureDisk
+pub mod SureStore
+pub mod SureStream
+pub mod Told
+pub mod Tree

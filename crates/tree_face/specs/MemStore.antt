@@ -1,0 +1,7 @@
+-- What a store in memory that fails on demand tells.
+use Rattle.tree_face.specs.declared.memory.stores.MemStore.{MemStore}
+use Rattle.tree_face.specs.SureStore.{state_of}
+use Rattle.tree_face.specs.Store.{StoreState}
+
+abbrev pub failing_state_of : MemStore → StoreState
+failing_state_of s = record (state_of s.store) { faults = s.failures.faults }

@@ -1,0 +1,30 @@
+-- What disks in memory tell.
+use Rattle.std.specs.Prelude.{Some, is_some}
+use Rattle.tree_face.specs.declared.disk.Slot.{Slot}
+use Rattle.tree_face.specs.declared.disk.Slot.TheVariants.{Manifest, Cache, Aux}
+use Rattle.tree_face.specs.declared.memory.disks.MemDisk.{MemDisk}
+use Rattle.tree_face.specs.declared.memory.disks.SureDisk.{SureDisk}
+use Rattle.tree_face.specs.declared.memory.slot_file.SlotFile.{SlotFile}
+use Rattle.tree_face.specs.Disk.{DiskState, DiskContent}
+use Rattle.tree_face.specs.SlotFile.{content_in, temporary_in}
+
+abbrev pub file_of : SureDisk → Slot → SlotFile
+file_of d Manifest = d.manifest
+file_of d Cache = d.cache
+file_of d Aux = d.aux
+
+abbrev pub disk_content : SureDisk → DiskContent
+disk_content d = record {
+  now = record { manifest = content_in d.manifest; cache = content_in d.cache; aux = content_in d.aux };
+  temporary = λ tag slot. temporary_in (file_of d slot) tag;
+}
+
+abbrev pub disk_state : SureDisk → DiskState
+disk_state d = record {
+  told = Some (disk_content d);
+  made = λ tag slot. is_some (temporary_in (file_of d slot) tag);
+  faults = d.faults;
+}
+
+abbrev pub failing_disk_state : MemDisk → DiskState
+failing_disk_state d = record (disk_state d.disk) { faults = d.failures.faults }

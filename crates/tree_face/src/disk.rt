@@ -1,0 +1,66 @@
+//! The three files that the product keeps, and how they are replaced.
+ghost use Rattle.std.specs.Prelude.{◌≡◌, true, OnOk};
+ghost use Rattle.tree_face.specs.Disk.{DiskState, Creates, Appends, Keeps, Touches, Publishes, MayPublish, Does, KeepsMade, ReadsSlot};
+
+use lib_types::Failed;
+use std::alloc::Global;
+
+/// What a disk keeps.
+#[derive(Clone, Copy, Debug, PartialEq, Eq, PartialOrd, Ord)]
+pub enum Slot {
+    /// The image's manifest.
+    Manifest,
+    /// The cache that the loader reads.
+    Cache,
+    /// The auxiliary cache.
+    Aux,
+}
+
+/// The number of an updater: its temporary files are its own.
+#[derive(Clone, Copy, Debug, PartialEq, Eq, PartialOrd, Ord)]
+pub struct Tag(pub u16);
+
+/// Why a slot wasn't read.
+#[derive(Clone, Copy, Debug, PartialEq, Eq)]
+pub enum DiskRead {
+    Failed,
+    NoMemory,
+}
+
+/// A disk of three slots, with a temporary file for each tag and slot. Each call that answers Failed raises the count
+/// of faults.
+pub trait Disk {
+    ghost state: { Self → DiskState };
+
+    /// The slot's content, or none where it holds nothing.
+    fn read(&mut self, alloc: Global, slot: Slot) -> Result<Option<Vec<u8>>, DiskRead>
+        ensures { ReadsSlot (state self.old) (state self.new) slot result };
+
+    /// Makes the temporary file of this tag and slot empty.
+    fn create(&mut self, tag: Tag, slot: Slot) -> Result<(), Failed>
+        ensures does { Does (Creates tag.0 slot) (Touches tag.0 slot) (state self.old) (state self.new) result }
+        ensures made { OnOk result ((state self.new).made tag.0 slot ≡ true) };
+
+    /// Adds bytes to the temporary file. After a refusal it has any bytes.
+    fn append(&mut self, tag: Tag, slot: Slot, bytes: &[u8]) -> Result<(), Failed>
+        requires { (state self.old).made tag.0 slot ≡ true }
+        ensures does { Does (Appends tag.0 slot bytes.now) (Touches tag.0 slot) (state self.old) (state self.new) result }
+        ensures made { KeepsMade (state self.old) (state self.new) };
+
+    /// Brings the temporary file's bytes to where a crash doesn't reach them.
+    fn sync(&mut self, tag: Tag, slot: Slot) -> Result<(), Failed>
+        requires { (state self.old).made tag.0 slot ≡ true }
+        ensures does { Does Keeps (Touches tag.0 slot) (state self.old) (state self.new) result }
+        ensures made { KeepsMade (state self.old) (state self.new) };
+
+    /// Makes the temporary file the slot's content, and ends it. After a refusal the slot has the old content or the
+    /// new one.
+    fn publish(&mut self, tag: Tag, slot: Slot) -> Result<(), Failed>
+        requires { (state self.old).made tag.0 slot ≡ true }
+        ensures { Does (Publishes tag.0 slot) (MayPublish tag.0 slot) (state self.old) (state self.new) result };
+
+    /// Brings the slot's content to where a crash doesn't reach it.
+    fn settle(&mut self, slot: Slot) -> Result<(), Failed>
+        ensures does { Does Keeps Keeps (state self.old) (state self.new) result }
+        ensures made { KeepsMade (state self.old) (state self.new) };
+}

@@ -1,0 +1,181 @@
+//! Stores in memory.
+ghost use Rattle.std.specs.Prelude.{◌≡◌, ◌<◌, ◌++◌, ◌-◌, ℕ, List, Some, None, IfSome, length, min, take, drop};
+ghost use Rattle.std.specs.Option.{option_map, option_copied};
+ghost use Rattle.std.specs.List.{slice_get, position};
+ghost use Rattle.lib_types.specs.Counts.{raised};
+ghost use Rattle.tree_face.specs.Memory.{held_in, is_under};
+
+use super::failures::Failures;
+use crate::Store;
+use lib_types::{Failed, Text};
+
+/// A store that holds pairs of a key and a content, and refuses nothing but a key that it doesn't hold. Of a key that
+/// stands twice the first pair counts.
+#[derive(Drop)]
+pub struct SureStore {
+    pairs: Vec<(Text, Text)>,
+    begun_place: Option<usize>,
+    begun: u64,
+    taken: u64,
+}
+
+/// A store in memory whose calls fail on demand.
+#[derive(Drop)]
+pub struct MemStore {
+    store: SureStore,
+    failures: Failures,
+}
+
+// Where the first pair of a key stands.
+fn place_of(pairs: &[(Text, Text)], key: &[u8]) -> Option<usize>
+    ensures { result ≡ position (is_under key.now) pairs.now }
+{
+    pairs.iter().position(|pair| pair.0.as_bytes() == key)
+}
+
+// The content at a place.
+fn content_at(pairs: &[(Text, Text)], place: usize) -> Option<&[u8]>
+    ensures { option_copied result ≡ option_map (λ pair. pair.1) (slice_get pairs.now place) }
+{
+    match pairs.get(place) {
+        Some(pair) => Some(pair.1.as_bytes()),
+        None => None,
+    }
+}
+
+/// Copies what a content has from a place on into the front of a buffer, and answers how much that is.
+pub fn copy_from(content: &[u8], at: u64, buf: &mut [u8]) -> usize
+    ensures count { result ≡ min (length buf.old) (length content.now - at) }
+    ensures bytes { buf.new ≡ take result (drop at content.now) ++ drop result buf.old }
+{
+    if at >= content.len() as u64 {
+        return 0;
+    }
+    let rest = &content[at as usize..];
+    let count = rest.len().min(buf.len());
+    buf[..count].copy_from_slice(&rest[..count]);
+    count
+}
+
+impl SureStore {
+    ghost use Rattle.tree_face.specs.SureStore.{state_of};
+
+    pub fn new(held: Vec<(Text, Text)>) -> SureStore
+        ensures held { (state_of result).held ≡ Some (held_in held.items) }
+        ensures counts { ((state_of result).begun ≡ 0) × ((state_of result).taken ≡ 0) }
+    {
+        SureStore {
+            pairs: held,
+            begun_place: None,
+            begun: 0,
+            taken: 0,
+        }
+    }
+
+    /// How many keys were begun.
+    pub fn begun(&self) -> u64
+        ensures { result ≡ (state_of self.now).begun }
+    {
+        self.begun
+    }
+
+    // Begins the first pair of a key, where there is one.
+    #[tactic(auto, using(crate::proofs::Pairs::content_first, crate::proofs::Pairs::key_first))]
+    fn open(&mut self, key: &[u8])
+        ensures held { (state_of self.new).held ≡ (state_of self.old).held }
+        ensures content { (state_of self.new).content ≡ held_in self.old.pairs.items key.now }
+        ensures key { (content : List ℕ) → held_in self.old.pairs.items key.now ≡ Some content → (state_of self.new).key ≡ Some key.now }
+        ensures begun { (state_of self.new).begun ≡ raised (state_of self.old).begun 1 }
+        ensures taken { (state_of self.new).taken ≡ (state_of self.old).taken }
+    {
+        self.begun = self.begun.saturating_add(1);
+        self.begun_place = place_of(&self.pairs, key);
+    }
+
+    // The content of the begun key.
+    fn content(&self) -> Option<&[u8]>
+        ensures { option_copied result ≡ (state_of self.now).content }
+    {
+        match self.begun_place {
+            Some(place) => content_at(&self.pairs, place),
+            None => None,
+        }
+    }
+
+    // No key is begun from here on.
+    fn close(&mut self)
+        ensures { state_of self.new ≡ record (state_of self.old) { key = None; content = None; size = None } }
+    {
+        self.begun_place = None;
+    }
+}
+
+impl Store for SureStore {
+    ghost use Rattle.tree_face.specs.SureStore.{state_of};
+
+    ghost state = { state_of };
+
+    fn begin(&mut self, key: &[u8]) -> Result<u64, Failed> {
+        self.open(key);
+        match self.content() {
+            Some(content) => Ok(content.len() as u64),
+            None => Err(Failed),
+        }
+    }
+
+    fn read_at(&mut self, at: u64, buf: &mut [u8]) -> Result<usize, Failed> {
+        let Some(content) = self.content() else {
+            return Err(Failed);
+        };
+        let count = copy_from(content, at, buf);
+        self.taken = self.taken.saturating_add(count as u64);
+        Ok(count)
+    }
+}
+
+impl MemStore {
+    ghost use Rattle.tree_face.specs.MemStore.{failing_state_of};
+
+    /// A store that holds these pairs. The calls with the numbers of `fail` fail, counted from 0 over all of its calls.
+    pub fn new(held: Vec<(Text, Text)>, fail: Vec<u64>) -> MemStore
+        ensures held { (failing_state_of result).held ≡ Some (held_in held.items) }
+        ensures counts { ((failing_state_of result).begun ≡ 0) × ((failing_state_of result).taken ≡ 0) × ((failing_state_of result).faults ≡ 0) }
+    {
+        MemStore {
+            store: SureStore::new(held),
+            failures: Failures::new(fail),
+        }
+    }
+
+    /// How many keys were begun.
+    pub fn begun(&self) -> u64
+        ensures { result ≡ (failing_state_of self.now).begun }
+    {
+        self.store.begun()
+    }
+}
+
+impl Store for MemStore {
+    ghost use Rattle.tree_face.specs.MemStore.{failing_state_of};
+
+    ghost state = { failing_state_of };
+
+    fn begin(&mut self, key: &[u8]) -> Result<u64, Failed> {
+        let due = self.failures.is_due(false);
+        let size = self.store.begin(key)?;
+        if due {
+            self.store.close();
+            self.failures.add_fault();
+            return Err(Failed);
+        }
+        Ok(size)
+    }
+
+    fn read_at(&mut self, at: u64, buf: &mut [u8]) -> Result<usize, Failed> {
+        if self.failures.is_due(false) {
+            self.failures.add_fault();
+            return Err(Failed);
+        }
+        self.store.read_at(at, buf)
+    }
+}

@@ -1,0 +1,66 @@
+//! What stands at a path of a tree.
+ghost use Rattle.std.specs.Prelude.{◌≡◌};
+ghost use Rattle.tree_face.specs.Node.{is_node, is_dir, is_key, is_target, has_no_nul};
+
+use lib_types::{Text, is_utf8};
+
+/// What tells one state of a file from another.
+#[derive(Clone, Copy, Debug, PartialEq, Eq)]
+pub struct Id {
+    pub dev: u64,
+    pub inode: u64,
+    pub ctime: u64,
+    pub size: u64,
+}
+
+/// A directory, a file or a link.
+#[derive(Drop)]
+pub enum Node {
+    Dir,
+    /// The content stands in a store under this key.
+    File { key: Text, id: Option<Id> },
+    /// A symbolic link with this text.
+    Link { target: Text },
+}
+
+/// The most bytes of a content key or a link's target.
+const TEXT_MAX: usize = 4095;
+
+/// Whether the node's key or target, where it has one, may stand in a tree.
+pub fn is_node(node: &Node) -> bool
+    ensures { result ≡ is_node node.now }
+{
+    match node {
+        Node::Dir => true,
+        Node::File { key, .. } => is_key(key.as_bytes()),
+        Node::Link { target } => is_target(target.as_bytes()),
+    }
+}
+
+/// Whether the node is a directory.
+pub(crate) fn is_dir(node: &Node) -> bool
+    ensures { result ≡ is_dir node.now }
+{
+    match node {
+        Node::Dir => true,
+        _ => false,
+    }
+}
+
+fn is_key(key: &[u8]) -> bool
+    ensures { result ≡ is_key key.now }
+{
+    is_target(key) && is_utf8(key)
+}
+
+fn is_target(target: &[u8]) -> bool
+    ensures { result ≡ is_target target.now }
+{
+    !target.is_empty() && target.len() <= TEXT_MAX && has_no_nul(target)
+}
+
+fn has_no_nul(bytes: &[u8]) -> bool
+    ensures { result ≡ has_no_nul bytes.now }
+{
+    bytes.iter().all(|&b| b != 0)
+}

@@ -1,0 +1,96 @@
+//! Paths of a tree and their order.
+ghost use Rattle.std.specs.Prelude.{◌≡◌, ℕ, ◌+◌, ◌==◌, ◌^◌, ◌<◌, IfSome, length};
+ghost use Rattle.tree_face.specs.Paths.{is_path, are_names, path_cmp, path_rank, stem, folder, is_below, name_behind};
+ghost use Rattle.std.specs.List.{before_first, position};
+
+use lib_types::is_name;
+use std::cmp::Ordering;
+
+/// The most bytes of a path.
+const PATH_MAX: usize = 4095;
+
+/// Whether the bytes are the path of a place below the root.
+pub fn is_path(path: &[u8]) -> bool
+    ensures { result ≡ is_path path.now }
+{
+    path.len() <= PATH_MAX && path.starts_with(b"/") && are_names(&path[1..])
+}
+
+// Whether the bytes are names with a slash between each two.
+fn are_names(bytes: &[u8]) -> bool
+    ensures { result ≡ are_names bytes.now }
+{
+    bytes.split(|&b| b == b'/').all(|name| is_name(name))
+}
+
+// The place of a byte in the order of paths.
+fn rank(b: u8) -> u16
+    ensures { result ≡ path_rank b }
+{
+    if b == b'/' { 0 } else { u16::from(b) + 1 }
+}
+
+/// The order of the tree.
+pub(crate) fn compare(a: &[u8], b: &[u8]) -> Ordering
+    ensures { result ≡ path_cmp a.now b.now }
+{
+    let mut i = 0;
+    while i < a.len() && i < b.len() {
+        if a[i] != b[i] {
+            return rank(a[i]).cmp(&rank(b[i]));
+        }
+        i += 1;
+    }
+    a.len().cmp(&b.len())
+}
+
+// The path without its last slash, which the root alone has.
+fn stem(path: &[u8]) -> &[u8]
+    ensures { result.now ≡ stem path.now }
+{
+    if path == b"/".as_slice() { b"" } else { path }
+}
+
+/// Whether the other path lies below this one.
+pub(crate) fn is_below(path: &[u8], other: &[u8]) -> bool
+    ensures { result ≡ is_below path.now other.now }
+{
+    match other.strip_prefix(stem(path)) {
+        Some(rest) => rest.starts_with(b"/"),
+        None => false,
+    }
+}
+
+/// How many bytes each path below this one begins with, before the name that stands directly below.
+pub(crate) fn folder_len(path: &[u8]) -> usize
+    requires { length path.now < 2 ^ 32 }
+    ensures { result ≡ length (folder path.now) }
+{
+    stem(path).len() + 1
+}
+
+/// The name that begins at this place of a path.
+pub(crate) fn name_from(path: &[u8], start: usize) -> &[u8]
+    ensures { result.now ≡ name_behind start path.now }
+{
+    match path.get(start..) {
+        Some(rest) => first_name(rest),
+        None => b"",
+    }
+}
+
+fn first_name(bytes: &[u8]) -> &[u8]
+    ensures { result.now ≡ before_first (λ b. b == 47) bytes.now }
+{
+    match first_slash(bytes) {
+        Some(n) => &bytes[..n],
+        None => bytes,
+    }
+}
+
+fn first_slash(bytes: &[u8]) -> Option<usize>
+    ensures place { result ≡ position (λ b. b == 47) bytes.now }
+    ensures within { IfSome result (λ n. n < length bytes.now) }
+{
+    bytes.iter().position(|&b| b == b'/')
+}
