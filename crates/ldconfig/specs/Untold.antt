@@ -1,5 +1,5 @@
 -- What the devices over real folders and streams tell: nothing of a content, and their counts.
-use Rattle.std.specs.Prelude.{ℕ, true, None, Option}
+use Rattle.std.specs.Prelude.{ℕ, true, None}
 use Rattle.tree_face.specs.Disk.{DiskState}
 use Rattle.tree_face.specs.Store.{StoreState}
 use Rattle.tree_face.specs.Stream.{SourceState, SinkState}

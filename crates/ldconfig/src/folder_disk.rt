@@ -4,6 +4,7 @@ ghost use Rattle.lib_types.specs.Counts.{HasRisen};
 ghost use Rattle.ldconfig.specs.Untold.{untold_disk};
 
 use crate::counts::one_more;
+use crate::folder_store::open_regular;
 use lib_types::{Failed, NoMemory};
 use std::alloc::{AllocError, Global};
 use std::fs::{self, OpenFile, OpenOptions};
@@ -118,12 +119,11 @@ impl<R: Runtime> FolderDisk<R> {
 
 // The bytes of a file, none where there is no such file.
 fn read_file<R: Runtime>(rt: &R, alloc: Global, path: &str) -> io::Result<Option<Vec<u8>>> {
-    let mut file = match fs::open(rt, path) {
-        Ok(file) => file,
+    let (mut file, size) = match open_regular(rt, path) {
+        Ok(opened) => opened,
         Err(error) if error.kind() == io::ErrorKind::NotFound => return Ok(None),
         Err(error) => return Err(error),
     };
-    let size = file.metadata()?.len();
     if size > LARGEST_SLOT {
         return Err(io::Error::from(io::ErrorKind::FileTooLarge));
     }

@@ -35,21 +35,31 @@ impl<R: Runtime> FolderStore<R> {
     }
 }
 
-// Opens a file that stands below a folder, and tells its length.
-fn open_below<R: Runtime>(rt: &R, root: &str, key: &[u8]) -> io::Result<(R::File, u64)> {
+// A key as a path below a folder.
+fn path_below<R: Runtime>(rt: &R, root: &str, key: &[u8]) -> io::Result<String<R::A>> {
     let Ok(key) = std::str::from_utf8(key) else {
         return Err(io::Error::from(io::ErrorKind::InvalidInput));
     };
     if key.split('/').any(|part| part == "..") {
         return Err(io::Error::from(io::ErrorKind::InvalidInput));
     }
-    let path = format!(in rt.alloc(); "{root}/{key}")?;
-    let file = fs::open(rt, path.as_str())?;
-    let about = file.metadata()?;
-    if !about.is_file() {
+    Ok(format!(in rt.alloc(); "{root}/{key}")?)
+}
+
+/// Opens a regular file and tells its length. Anything else is refused before it is opened, since a pipe would wait.
+pub fn open_regular<R: Runtime>(rt: &R, path: &str) -> io::Result<(R::File, u64)> {
+    if !fs::metadata(rt, path)?.is_file() {
         return Err(io::Error::from(io::ErrorKind::InvalidInput));
     }
-    Ok((file, about.len()))
+    let file = fs::open(rt, path)?;
+    let size = file.metadata()?.len();
+    Ok((file, size))
+}
+
+// Opens a file that stands below a folder, and tells its length.
+fn open_below<R: Runtime>(rt: &R, root: &str, key: &[u8]) -> io::Result<(R::File, u64)> {
+    let path = path_below(rt, root, key)?;
+    open_regular(rt, path.as_str())
 }
 
 // Fills the buffer with what a file has from a place on.

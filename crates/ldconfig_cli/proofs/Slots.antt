@@ -1,5 +1,5 @@
 -- What the replacement of the Cache slot leaves.
-use Rattle.std.proofs.Common.{◌≡◌, List, ℕ, Option, Some, None, subst, inl, inr}
+use Rattle.std.proofs.Common.{List, ℕ, Option, Some, None, inl, inr}
 use Rattle.tree_face.specs.declared.disk.Slot.TheVariants.{Cache}
 use Rattle.tree_face.specs.Disk.{DiskContent}
 use Rattle.tree_face.specs.Store.{Contents}

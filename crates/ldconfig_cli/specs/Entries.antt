@@ -1,5 +1,5 @@
 -- The entries of a cache: one for each library, in the order in which ld.so(8) searches a cache by halves.
-use Rattle.std.specs.Prelude.{ℕ, List, ◌++◌, map, None}
+use Rattle.std.specs.Prelude.{List, ◌++◌, map, None}
 use Rattle.std.specs.List.Sorted.{IsPermutation, IsSortedByKey}
 use Rattle.std.specs.Ordering.{flip_args}
 use Rattle.lib_types.specs.declared.abi.Abi.TheVariants.{X86_64}

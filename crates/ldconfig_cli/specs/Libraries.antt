@@ -1,5 +1,5 @@
 -- The library files of a tree: the files of `/usr/lib` with library names.
-use Rattle.std.specs.Prelude.{ℕ, Bool, List, [], ◌==◌, ◌&&◌, not, if◌then◌else◌, codes, Option, Some, None}
+use Rattle.std.specs.Prelude.{ℕ, Bool, List, ◌==◌, ◌&&◌, not, if◌then◌else◌, codes, Option, Some, None}
 use Rattle.std.specs.List.{list_any, filter_map}
 use Rattle.std.specs.Option.{option_and_then}
 use Rattle.lib_types.specs.Name.{slash}

@@ -2,9 +2,9 @@
 use Rattle.std.specs.Prelude.{ℕ, Bool, true, false, List, [], ◌∷◌, ◌||◌, not, nat_lt, if◌then◌else◌, length, codes, Option, Some, None, unwrap_or}
 use Rattle.std.specs.List.{list_any, filter_map}
 use Rattle.std.specs.Str.{bytes_eq}
-use Rattle.lib_types.specs.declared.abi.Abi.TheVariants.{I386, X86_64, X32, Aarch64}
+use Rattle.lib_types.specs.declared.abi.Abi.TheVariants.{X86_64}
 use Rattle.lib_types.specs.declared.analysis.Analysis.{Analysis}
-use Rattle.lib_types.specs.declared.analysis.Analysis.TheVariants.{Lib, Not}
+use Rattle.lib_types.specs.declared.analysis.Analysis.TheVariants.{Lib}
 use Rattle.tree_face.specs.declared.tree.Kind.{Kind}
 use Rattle.tree_face.specs.declared.tree.Kind.TheVariants as kind
 use Rattle.tree_face.specs.Store.{Contents}
@@ -41,7 +41,7 @@ abbrev pub has_other_places : Nodes → Bool
 has_other_places t = list_any (is_there t) other_places
 
 abbrev pub most_entries : ℕ
-most_entries = 0
+most_entries = 131072
 
 -- a library of x86-64 whose soname is the name of its file
 abbrev pub is_own : List ℕ → Analysis → Bool

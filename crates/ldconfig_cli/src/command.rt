@@ -1,10 +1,11 @@
 //! The top call.
-ghost use Rattle.std.specs.Prelude.{◌≡◌, ◌↔◌, ◌⊎◌, ◌≤◌, None};
+ghost use Rattle.std.specs.Prelude.{◌≡◌, ◌↔◌, ◌⊎◌, ◌≤◌, ℕ, List, None};
 ghost use Rattle.lib_types.specs.Counts.{HasRisen};
 ghost use Rattle.tree_face.specs.Told.{IfTold, Tells};
+ghost use Rattle.ldconfig_cli.specs.Libraries.{Library};
 ghost use Rattle.ldconfig_cli.specs.Outcome as outcomes;
 ghost use Rattle.ldconfig_cli.specs.Outcome.{outcome};
-ghost use Rattle.ldconfig_cli.specs.Run.{Answers, ComesTo, HasFailed, IfBothTold, LacksLibrary, NeedsManifest, OutputAfter, OutputBefore, SlotsAfter, status_of};
+ghost use Rattle.ldconfig_cli.specs.Run.{Answers, ComesTo, HasFailed, IfBothTold, IsCacheOf, LacksLibrary, NeedsManifest, OutputAfter, OutputBefore, SlotsAfter, status_of};
 ghost use Rattle.ldconfig_cli.specs.Words.{IsUpdate};
 
 use crate::prepare::{Refusal, prepare};
@@ -70,13 +71,13 @@ fn update<S: Store, D: Disk, O: Sink>(
 /// Runs the command of these words.
 ///
 /// So far the one command is `update`: it makes the cache of the libraries of the manifest's tree, puts it into the
-/// Cache slot, and writes a line that tells of it. A refusal writes a line of its own. Nothing is read from `input`.
+/// Cache slot, and writes a line that tells of it. A refusal writes a line of its own. Nothing is read from the input.
 pub fn run<S: Store, D: Disk, I: Source, O: Sink>(
     alloc: Global,
     words: &Vec<String>,
     store: &mut S,
     disk: &mut D,
-    input: &mut I,
+    _input: &mut I,
     out: &mut O,
 ) -> Status
     // The words, the slots and the counts tell when each answer comes.
@@ -94,11 +95,11 @@ pub fn run<S: Store, D: Disk, I: Source, O: Sink>(
 
     // What is left in the slots and on the output.
     ensures slots { Tells (SlotsAfter result (S.state store.old).held) (D.state disk.old).told (D.state disk.new).told }
+    ensures one_cache { (found : List Library) (bytes others : List ℕ) → IsCacheOf found bytes → IsCacheOf found others → bytes ≡ others }
     ensures output { OutputAfter result (S.state store.old).held (D.state disk.old).told (O.state out.old) (O.state out.new) }
     ensures held { (S.state store.new).held ≡ (S.state store.old).held }
-    ensures input { I.state input.new ≡ I.state input.old }
+    ensures input { I.state _input.new ≡ I.state _input.old }
 {
-    let _input: &I = input;
     let status = if is_update(words) {
         update(alloc, store, disk, out)
     } else {

@@ -8,6 +8,8 @@ mod elf;
 mod entries;
 mod libraries;
 mod manifest;
+#[cfg(test)]
+mod plain;
 mod prepare;
 mod replace;
 mod report;
@@ -17,3 +19,6 @@ mod words;
 
 pub use command::run;
 pub use status::Status;
+
+#[cfg(test)]
+mod tests;

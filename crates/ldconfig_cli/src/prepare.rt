@@ -98,7 +98,7 @@ impl From<NoMemory> for Refusal {
 }
 
 /// More library files are not taken.
-const MOST_ENTRIES: usize = 0;
+const MOST_ENTRIES: usize = 131072;
 
 // The text of the manifest.
 fn manifest_text<D: Disk>(alloc: Global, disk: &mut D) -> Result<Vec<u8>, ManifestFault>

@@ -1,5 +1,5 @@
 -- The table of ABIs: e_machine and the class of the gABI and its supplements, the flags of glibc's dl-cache.h.
-use Rattle.std.specs.Prelude.{ℕ, Bool, List, [], ◌∷◌, ℤ, pos, ◌==◌, ◌&&◌, Option, find, codes}
+use Rattle.std.specs.Prelude.{ℕ, List, [], ◌∷◌, ℤ, pos, ◌==◌, ◌&&◌, Option, find, codes}
 use Rattle.std.specs.Ordering.{int_eq}
 use Rattle.std.specs.Str.{bytes_eq}
 use Rattle.lib_types.specs.declared.abi.Abi.{Abi}

@@ -1,5 +1,5 @@
 -- Names of files: one to 255 bytes of UTF-8 without `/` and NUL, and neither `.` nor `..` (path_resolution(7)).
-use Rattle.std.specs.Prelude.{ℕ, Bool, List, [], ◌∷◌, nat_le, ◌==◌, ◌&&◌, not, length, codes}
+use Rattle.std.specs.Prelude.{ℕ, Bool, List, nat_le, ◌==◌, ◌&&◌, not, length, codes}
 use Rattle.std.specs.List.{list_all}
 use Rattle.std.specs.Str.{bytes_eq, is_utf8}
 

@@ -1,5 +1,5 @@
 -- A disk of three slots. A slot is replaced by way of a temporary file, which only its publishing makes the slot's content.
-use Rattle.std.specs.Prelude.{◌≡◌, ◌⊎◌, ◌≤◌, ◌++◌, ◌==◌, ◌&&◌, ℕ, Bool, true, false, List, [], Option, Some, None, IfSome, IsErrOf, is_some, Result, IfOk, OnOk, OnErr, Vec}
+use Rattle.std.specs.Prelude.{◌≡◌, ◌⊎◌, ◌≤◌, ◌++◌, ◌==◌, ◌&&◌, ℕ, Bool, true, false, List, [], Option, Some, IsErrOf, Result, IfOk, OnOk, OnErr, Vec}
 use Rattle.std.specs.Option.{option_map}
 use Rattle.std.specs.declared.alloc.Global.{Global}
 use Rattle.lib_types.specs.declared.fault.Failed.{Failed}

@@ -8,3 +8,6 @@ mod streams;
 pub use disks::{Call, DoneCall, MemDisk, SureDisk};
 pub use stores::{MemStore, SureStore};
 pub use streams::{MemSink, MemSource, SureSink, SureSource};
+
+#[cfg(test)]
+mod tests;

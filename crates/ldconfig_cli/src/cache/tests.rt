@@ -3,44 +3,10 @@
 ghost use Rattle.std.specs.Prelude.{◌≡◌, ◌+◌, ◌≤◌, length, All, None, IfOk};
 
 use super::write;
+use crate::tests::samples::{EMPTY_CACHE, ONE_CACHE, THREE_CACHE};
 use lib_types::{Abi, Entries, Entry, NoMemory, Text};
 use std::alloc::Global;
 use std::test::Fail;
-
-// A cache of no entries: 114 bytes.
-const EMPTY: &[u8] = b"\
-    glibc-ld.so.cache1.1\x00\x00\x00\x00\x00\x00\x00\x00\
-    \x02\x00\x00\x00\x30\x00\x00\x00\x00\x00\x00\x00\x00\x00\x00\x00\x00\x00\x00\x00\
-    \x74\x21\xa4\xea\x01\x00\x00\x00\x00\x00\x00\x00\x00\x00\x00\x00\x48\x00\x00\x00\x2a\x00\x00\x00\
-    ldconfig (image profile) release version 1";
-
-// One library: 170 bytes.
-const ONE: &[u8] = b"\
-    glibc-ld.so.cache1.1\x01\x00\x00\x00\x1d\x00\x00\x00\
-    \x02\x00\x00\x00\x68\x00\x00\x00\x00\x00\x00\x00\x00\x00\x00\x00\x00\x00\x00\x00\
-    \x03\x03\x00\x00\x48\x00\x00\x00\x52\x00\x00\x00\x00\x00\x00\x00\x00\x00\x00\x00\x00\x00\x00\x00\
-    libz.so.1\0\
-    /usr/lib/libz.so.1\0\
-    \x00\x00\x00\
-    \x74\x21\xa4\xea\x01\x00\x00\x00\x00\x00\x00\x00\x00\x00\x00\x00\x80\x00\x00\x00\x2a\x00\x00\x00\
-    ldconfig (image profile) release version 1";
-
-// Three versions of one library: 290 bytes.
-const THREE: &[u8] = b"\
-    glibc-ld.so.cache1.1\x03\x00\x00\x00\x65\x00\x00\x00\
-    \x02\x00\x00\x00\xe0\x00\x00\x00\x00\x00\x00\x00\x00\x00\x00\x00\x00\x00\x00\x00\
-    \x03\x03\x00\x00\x78\x00\x00\x00\x85\x00\x00\x00\x00\x00\x00\x00\x00\x00\x00\x00\x00\x00\x00\x00\
-    \x03\x03\x00\x00\x9b\x00\x00\x00\xa7\x00\x00\x00\x00\x00\x00\x00\x00\x00\x00\x00\x00\x00\x00\x00\
-    \x03\x03\x00\x00\xbc\x00\x00\x00\xc8\x00\x00\x00\x00\x00\x00\x00\x00\x00\x00\x00\x00\x00\x00\x00\
-    libfoo.so.10\0\
-    /usr/lib/libfoo.so.10\0\
-    libfoo.so.9\0\
-    /usr/lib/libfoo.so.9\0\
-    libfoo.so.2\0\
-    /usr/lib/libfoo.so.2\0\
-    \x00\x00\x00\
-    \x74\x21\xa4\xea\x01\x00\x00\x00\x00\x00\x00\x00\x00\x00\x00\x00\xf8\x00\x00\x00\x2a\x00\x00\x00\
-    ldconfig (image profile) release version 1";
 
 // One soname for two ABIs: 206 bytes.
 const SHARED: &[u8] = b"\
@@ -73,7 +39,7 @@ fn entry(alloc: Global, abi: Abi, soname: &[u8], path: &[u8]) -> Result<Entry, N
 fn no_entries(rt: HostRuntime) -> Result<(), Fail> {
     let alloc = rt.alloc();
     let entries = Entries::new(alloc);
-    assert_eq!(rt; write(alloc, &entries)?.as_slice(), EMPTY);
+    assert_eq!(rt; write(alloc, &entries)?.as_slice(), EMPTY_CACHE);
     Ok(())
 }
 
@@ -82,7 +48,7 @@ fn one_entry(rt: HostRuntime) -> Result<(), Fail> {
     let alloc = rt.alloc();
     let mut entries = Entries::new(alloc);
     entries.push(entry(alloc, Abi::X86_64, b"libz.so.1", b"/usr/lib/libz.so.1")?)?;
-    assert_eq!(rt; write(alloc, &entries)?.as_slice(), ONE);
+    assert_eq!(rt; write(alloc, &entries)?.as_slice(), ONE_CACHE);
     Ok(())
 }
 
@@ -98,7 +64,7 @@ fn three_entries(rt: HostRuntime) -> Result<(), Fail> {
     )?)?;
     entries.push(entry(alloc, Abi::X86_64, b"libfoo.so.9", b"/usr/lib/libfoo.so.9")?)?;
     entries.push(entry(alloc, Abi::X86_64, b"libfoo.so.2", b"/usr/lib/libfoo.so.2")?)?;
-    assert_eq!(rt; write(alloc, &entries)?.as_slice(), THREE);
+    assert_eq!(rt; write(alloc, &entries)?.as_slice(), THREE_CACHE);
     Ok(())
 }
 

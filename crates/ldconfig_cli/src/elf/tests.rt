@@ -1,29 +1,6 @@
 use super::*;
+use crate::tests::samples::LIBZ;
 use std::test::Fail;
-
-// A shared object of x86-64 whose DT_SONAME is `libz.so.1`, part by part as the gABI has them.
-const LIBZ: [u8; 251] = [
-    // identification: 0x7f `ELF`, ELFCLASS64, ELFDATA2LSB, EV_CURRENT
-    0x7f, 0x45, 0x4c, 0x46, 2, 1, 1, 0, 0, 0, 0, 0, 0, 0, 0, 0,
-    // e_type ET_DYN, e_machine EM_X86_64, e_version, e_entry
-    3, 0, 62, 0, 1, 0, 0, 0, 0, 0, 0, 0, 0, 0, 0, 0,
-    // e_phoff, e_shoff
-    64, 0, 0, 0, 0, 0, 0, 0, 0, 0, 0, 0, 0, 0, 0, 0,
-    // e_flags, e_ehsize, e_phentsize, e_phnum, then no section headers
-    0, 0, 0, 0, 64, 0, 56, 0, 2, 0, 0, 0, 0, 0, 0, 0,
-    // PT_LOAD at 64: p_type, p_flags, p_offset, p_vaddr, p_paddr, p_filesz, p_memsz, p_align
-    1, 0, 0, 0, 4, 0, 0, 0, 0, 0, 0, 0, 0, 0, 0, 0, 0x00, 0x10, 0, 0, 0, 0, 0, 0, 0x00, 0x10, 0, 0,
-    0, 0, 0, 0, 251, 0, 0, 0, 0, 0, 0, 0, 251, 0, 0, 0, 0, 0, 0, 0, 0x00, 0x10, 0, 0, 0, 0, 0, 0,
-    // PT_DYNAMIC at 120
-    2, 0, 0, 0, 4, 0, 0, 0, 176, 0, 0, 0, 0, 0, 0, 0, 0xb0, 0x10, 0, 0, 0, 0, 0, 0, 0xb0, 0x10, 0,
-    0, 0, 0, 0, 0, 64, 0, 0, 0, 0, 0, 0, 0, 64, 0, 0, 0, 0, 0, 0, 0, 8, 0, 0, 0, 0, 0, 0, 0,
-    // the dynamic entries at 176: DT_SONAME, DT_STRTAB, DT_STRSZ, DT_NULL
-    14, 0, 0, 0, 0, 0, 0, 0, 1, 0, 0, 0, 0, 0, 0, 0, 5, 0, 0, 0, 0, 0, 0, 0, 0xf0, 0x10, 0, 0, 0,
-    0, 0, 0, 10, 0, 0, 0, 0, 0, 0, 0, 11, 0, 0, 0, 0, 0, 0, 0, 0, 0, 0, 0, 0, 0, 0, 0, 0, 0, 0, 0,
-    0, 0, 0, 0,
-    // the string table at 240
-    0, b'l', b'i', b'b', b'z', b'.', b's', b'o', b'.', b'1', 0,
-];
 
 // The library with one byte changed.
 fn with_byte(at: usize, byte: u8) -> [u8; 251] {
