@@ -7,8 +7,9 @@ use crate::counts::one_more;
 use crate::folder_store::open_regular;
 use lib_types::{Failed, NoMemory};
 use std::alloc::{AllocError, Global};
-use std::fs::{self, OpenFile, OpenOptions};
+use std::fs::{self, OpenFile, OpenOptions, Permissions};
 use std::io::{self, Read, Write};
+use std::os::unix::fs::PermissionsExt;
 use std::rt::Runtime;
 use tree_face::{Disk, DiskRead, Slot, Tag};
 
@@ -24,20 +25,26 @@ pub struct FolderDisk<R: Runtime> {
 // A slot of more bytes isn't read.
 const LARGEST_SLOT: u64 = 1 << 31;
 
-// The folder of a slot's file, below the root.
-fn folder_of(slot: Slot) -> &'static str {
+/// Everybody reads the cache, whatever mode new files and folders have otherwise.
+const CACHE_MODE: u32 = 0o644;
+
+const FOLDER_MODE: u32 = 0o755;
+
+// A slot's file, below the root.
+fn file_of(slot: Slot) -> &'static str {
     match slot {
-        Slot::Manifest => ".",
-        Slot::Cache => "etc",
-        Slot::Aux => "var/cache/ldconfig",
+        Slot::Manifest => "image.mtree",
+        Slot::Cache => "etc/ld.so.cache",
+        Slot::Aux => "var/cache/ldconfig/aux-cache",
     }
 }
 
-fn name_of(slot: Slot) -> &'static str {
+// The folders on the way from the root to a slot's file.
+fn folders_to(slot: Slot) -> &'static [&'static str] {
     match slot {
-        Slot::Manifest => "image.mtree",
-        Slot::Cache => "ld.so.cache",
-        Slot::Aux => "aux-cache",
+        Slot::Manifest => &[],
+        Slot::Cache => &["etc"],
+        Slot::Aux => &["var", "var/cache", "var/cache/ldconfig"],
     }
 }
 
@@ -52,16 +59,14 @@ impl<R: Runtime> FolderDisk<R> {
         })
     }
 
-    fn folder(&self, slot: Slot) -> Result<String<R::A>, AllocError> {
+    // A place below the root.
+    fn below(&self, place: &str) -> Result<String<R::A>, AllocError> {
         let root = self.root.as_str();
-        let folder = folder_of(slot);
-        format!(in self.rt.alloc(); "{root}/{folder}")
+        format!(in self.rt.alloc(); "{root}/{place}")
     }
 
     fn path(&self, slot: Slot) -> Result<String<R::A>, AllocError> {
-        let folder = self.folder(slot)?;
-        let name = name_of(slot);
-        format!(in self.rt.alloc(); "{folder}/{name}")
+        self.below(file_of(slot))
     }
 
     fn temporary_path(&self, tag: Tag, slot: Slot) -> Result<String<R::A>, AllocError> {
@@ -70,10 +75,20 @@ impl<R: Runtime> FolderDisk<R> {
         format!(in self.rt.alloc(); "{path}.tmp{number}")
     }
 
-    fn create_file(&self, tag: Tag, slot: Slot) -> io::Result<()> {
-        fs::create_dir_all(&self.rt, self.folder(slot)?.as_str())?;
-        fs::create(&self.rt, self.temporary_path(tag, slot)?.as_str())?;
+    fn make_folders(&self, slot: Slot) -> io::Result<()> {
+        for folder in folders_to(slot) {
+            make_folder(&self.rt, self.below(folder)?.as_str())?;
+        }
         Ok(())
+    }
+
+    fn create_file(&self, tag: Tag, slot: Slot) -> io::Result<()> {
+        self.make_folders(slot)?;
+        let file = make_file(&self.rt, self.temporary_path(tag, slot)?.as_str())?;
+        match slot {
+            Slot::Cache => file.set_permissions(Permissions::from_mode(CACHE_MODE)),
+            Slot::Manifest | Slot::Aux => Ok(()),
+        }
     }
 
     fn append_bytes(&self, tag: Tag, slot: Slot, bytes: &[u8]) -> io::Result<()> {
@@ -98,8 +113,13 @@ impl<R: Runtime> FolderDisk<R> {
         self.rt.rename(temporary.as_str(), path.as_str())
     }
 
-    fn sync_folder(&self, slot: Slot) -> io::Result<()> {
-        fs::open(&self.rt, self.folder(slot)?.as_str())?.sync_all()
+    // Syncs the root and the folders on the way to a slot's file, some of which `create_file` may have made.
+    fn sync_folders(&self, slot: Slot) -> io::Result<()> {
+        fs::open(&self.rt, self.root.as_str())?.sync_all()?;
+        for folder in folders_to(slot) {
+            fs::open(&self.rt, self.below(folder)?.as_str())?.sync_all()?;
+        }
+        Ok(())
     }
 
     // The answer of a writing call, which counts a failure.
@@ -114,6 +134,32 @@ impl<R: Runtime> FolderDisk<R> {
                 Err(Failed)
             }
         }
+    }
+}
+
+// Makes a folder where there is none. A link isn't taken for one, since it may lead out of the image.
+fn make_folder<R: Runtime>(rt: &R, path: &str) -> io::Result<()> {
+    match fs::create_dir(rt, path) {
+        Err(error) if error.kind() == io::ErrorKind::AlreadyExists => {
+            if fs::symlink_metadata(rt, path)?.is_dir() {
+                Ok(())
+            } else {
+                Err(io::Error::from(io::ErrorKind::NotADirectory))
+            }
+        }
+        Err(error) => Err(error),
+        Ok(()) => rt.set_permissions(path, Permissions::from_mode(FOLDER_MODE)),
+    }
+}
+
+// Makes an empty file in the place of what an earlier run may have left there, and never at the end of a link.
+fn make_file<R: Runtime>(rt: &R, path: &str) -> io::Result<R::File> {
+    match rt.remove_file(path) {
+        Err(error) if error.kind() != io::ErrorKind::NotFound => Err(error),
+        _ => OpenOptions::new()
+            .write(true)
+            .create_new(true)
+            .open(rt, path),
     }
 }
 
@@ -170,7 +216,7 @@ impl<R: Runtime> Disk for FolderDisk<R> {
     }
 
     fn settle(&mut self, slot: Slot) -> Result<(), Failed> {
-        let done = self.sync_folder(slot);
+        let done = self.sync_folders(slot);
         self.answer(done)
     }
 }

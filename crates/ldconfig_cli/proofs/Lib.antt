@@ -1,10 +1,8 @@
 pub mod Analysis
 pub mod Counting
-pub mod Insertion
 pub mod Lacking
 pub mod Listing
 pub mod Lone
-pub mod Positions
 pub mod Ranges
 pub mod Short
 pub mod Slots

@@ -1,11 +1,11 @@
 -- What the replacement of the Cache slot leaves.
-use Rattle.std.proofs.Common.{List, ℕ, Option, Some, None, inl, inr}
+use Rattle.std.proofs.Common.{List, ℕ, Option, Some, None, inr}
 use Rattle.tree_face.specs.declared.disk.Slot.TheVariants.{Cache}
 use Rattle.tree_face.specs.Disk.{DiskContent}
 use Rattle.tree_face.specs.Store.{Contents}
 use Rattle.tree_face.specs.Told.{IfTold, Tells}
-use Rattle.ldconfig_cli.specs.Replace.{Replaces, MayReplace}
-use Rattle.ldconfig_cli.specs.Run.{IfBothTold, IsUpdateOf, LeavesCache, MayLeaveCache}
+use Rattle.ldconfig_cli.specs.Replace.{MayReplace}
+use Rattle.ldconfig_cli.specs.Run.{IfBothTold, IsUpdateOf, LeavesCache, MayLeaveCache, tag}
 
 -- the bytes are the update of what both tell
 abbrev pub IsUpdate : Option Contents → Option DiskContent → List ℕ → ℕ → Type 0
@@ -15,18 +15,17 @@ told_content : (held : Option Contents) (a : DiskContent) (bytes : List ℕ) (co
 told_content None a bytes count update = tt
 told_content (Some contents) a bytes count update = update
 
-pub leaves_cache : (held : Option Contents) (a b : Option DiskContent) (bytes : List ℕ) (count : ℕ) → IsUpdate held a bytes count →
-    Tells (Replaces Cache bytes) a b → Tells (LeavesCache held) a b
-leaves_cache held None None bytes count update slots = tt
-leaves_cache held None (Some b) bytes count update slots = slots
-leaves_cache held (Some a) None bytes count update slots = slots
-leaves_cache held (Some a) (Some b) bytes count update slots =
-    record { cache = bytes; count = count; slots = slots; is_cache = told_content held a bytes count update }
+module _ (Writes : List ℕ → DiskContent → DiskContent → Type 0) where
+  pub leaves_cache : (held : Option Contents) (a b : Option DiskContent) (bytes : List ℕ) (count : ℕ) → IsUpdate held a bytes count →
+      Tells (Writes bytes) a b → Tells (LeavesCache Writes held) a b
+  leaves_cache held None None bytes count update written = tt
+  leaves_cache held None (Some b) bytes count update written = written
+  leaves_cache held (Some a) None bytes count update written = written
+  leaves_cache held (Some a) (Some b) bytes count update written =
+      record { cache = bytes; count = count; written = written; is_cache = told_content held a bytes count update }
 
-pub may_leave_cache : (held : Option Contents) (a b : Option DiskContent) (bytes : List ℕ) (count : ℕ) → IsUpdate held a bytes count →
-    Tells (MayReplace Cache bytes) a b → Tells (MayLeaveCache held) a b
-may_leave_cache held None None bytes count update slots = tt
-may_leave_cache held None (Some b) bytes count update slots = slots
-may_leave_cache held (Some a) None bytes count update slots = slots
-may_leave_cache held (Some a) (Some b) bytes count update (inl same) = inl same
-may_leave_cache held (Some a) (Some b) bytes count update (inr slots) = inr (leaves_cache held (Some a) (Some b) bytes count update slots)
+pub may_leave_cache : (held : Option Contents) (a b : Option DiskContent) → Tells (LeavesCache (MayReplace tag Cache) held) a b → Tells (MayLeaveCache held) a b
+may_leave_cache held None None leaves = tt
+may_leave_cache held None (Some b) leaves = leaves
+may_leave_cache held (Some a) None leaves = leaves
+may_leave_cache held (Some a) (Some b) leaves = inr leaves

@@ -1,4 +1,5 @@
--- The library files of a tree: the files of `/usr/lib` with library names.
+-- The library files of a tree: the files of `/usr/lib` with library names. It is one of the trusted directories of
+-- ldconfig(8), and the one that is built so far.
 use Rattle.std.specs.Prelude.{ℕ, Bool, List, ◌==◌, ◌&&◌, not, if◌then◌else◌, codes, Option, Some, None}
 use Rattle.std.specs.List.{list_any, filter_map}
 use Rattle.std.specs.Option.{option_and_then}

@@ -1,6 +1,7 @@
 -- What an update of a manifest comes to, over given contents.
 use Rattle.std.specs.Prelude.{ℕ, Bool, true, false, List, [], ◌∷◌, ◌||◌, not, nat_lt, if◌then◌else◌, length, codes, Option, Some, None, unwrap_or}
 use Rattle.std.specs.List.{list_any, filter_map}
+use Rattle.std.specs.Option.{option_map_or}
 use Rattle.std.specs.Str.{bytes_eq}
 use Rattle.lib_types.specs.declared.abi.Abi.TheVariants.{X86_64}
 use Rattle.lib_types.specs.declared.analysis.Analysis.{Analysis}
@@ -70,6 +71,11 @@ outcome_of_tree held None = NotBuilt
 outcome_of_tree held (Some t) =
     if has_other_places t || nat_lt most_entries (length (libraries t)) then NotBuilt
     else unwrap_or (first_fault held (libraries t)) (Writes (libraries t))
+
+-- the library files of what the manifest's slot holds, none where it holds no tree
+abbrev pub library_files : Option (List ℕ) → List Library
+library_files None = []
+library_files (Some text) = option_map_or libraries (tree_of text) []
 
 -- the outcome of what the manifest's slot holds
 abbrev pub outcome : Contents → Option (List ℕ) → Outcome

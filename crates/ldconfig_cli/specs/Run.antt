@@ -3,18 +3,18 @@ use Rattle.std.specs.Prelude.{◌≡◌, ◌⊎◌, ℕ, List, Option, Some, Non
 use Rattle.lib_types.specs.Counts.{HasRisen}
 use Rattle.lib_types.specs.declared.entry.Entry.{Entry}
 use Rattle.tree_face.specs.declared.disk.Slot.TheVariants.{Cache}
-use Rattle.tree_face.specs.Disk.{DiskState, DiskContent}
-use Rattle.tree_face.specs.Store.{StoreState, Contents}
+use Rattle.tree_face.specs.Disk.{DiskState, DiskContent, Touches}
+use Rattle.tree_face.specs.Store.{StoreState, Contents, BeginsAtMost}
 use Rattle.tree_face.specs.Stream.{SinkState, IsFollowedBy, IsFollowedByPart}
 use Rattle.tree_face.specs.Told.{IfTold, Tells, IsSame}
 use Rattle.tree_face.specs.Tree.{Nodes}
 use Rattle.ldconfig_cli.specs.CacheText.{cache_text}
 use Rattle.ldconfig_cli.specs.Entries.{AreEntriesOf}
 use Rattle.ldconfig_cli.specs.Libraries.{Library}
-use Rattle.ldconfig_cli.specs.Outcome.{Outcome, outcome, outcome_of_tree}
+use Rattle.ldconfig_cli.specs.Outcome.{Outcome, outcome, outcome_of_tree, library_files}
 use Rattle.ldconfig_cli.specs.Outcome as outcomes
 use Rattle.ldconfig_cli.specs.Report.{report_line}
-use Rattle.ldconfig_cli.specs.Replace.{Replaces}
+use Rattle.ldconfig_cli.specs.Replace.{Replaces, MayReplace}
 use Rattle.ldconfig_cli.specs.Status.{fault_line}
 use Rattle.ldconfig_cli.specs.declared.status.Status.{Status}
 use Rattle.ldconfig_cli.specs.declared.status.Status.TheVariants.{Done, Usage, StoreFault, DiskFault, OutputFault, NoMemory, NoManifest, NotBuilt}
@@ -68,31 +68,33 @@ pub record IsUpdateOf (contents : Contents) (disk : DiskContent) (cache : List �
   pub cache_is : IsCacheOf found cache
   pub count_is : length found ≡ count
 
--- ---- the slots
+-- ---- the disk
 
-abbrev pub KeepsSlots : DiskContent → DiskContent → Type 0
-KeepsSlots a b = b.now ≡ a.now
+-- the number of the updater
+abbrev pub tag : ℕ
+tag = 0
 
--- the Cache slot has the cache of the manifest's libraries, and the other slots are as they were
-pub record LeavesCache (held : Option Contents) (a b : DiskContent) : Type 0 where
+-- the cache of the manifest's libraries is written, as this relation says of bytes
+pub record LeavesCache (Writes : List ℕ → DiskContent → DiskContent → Type 0) (held : Option Contents) (a b : DiskContent) : Type 0 where
   pub cache : List ℕ
   pub count : ℕ
-  pub slots : Replaces Cache cache a b
+  pub written : Writes cache a b
   pub is_cache : IfTold held (λ contents. IsUpdateOf contents a cache count)
 
+-- nothing was written but the temporary file, or a replacement by the cache of the manifest's libraries failed
 abbrev pub MayLeaveCache : Option Contents → DiskContent → DiskContent → Type 0
-MayLeaveCache held a b = KeepsSlots a b ⊎ LeavesCache held a b
+MayLeaveCache held a b = Touches tag Cache a b ⊎ LeavesCache (MayReplace tag Cache) held a b
 
 -- only an update that was made writes, or may have written where the disk has failed
-abbrev pub SlotsAfter : Status → Option Contents → DiskContent → DiskContent → Type 0
-SlotsAfter Done held = LeavesCache held
-SlotsAfter OutputFault held = LeavesCache held
-SlotsAfter DiskFault held = MayLeaveCache held
-SlotsAfter Usage held = KeepsSlots
-SlotsAfter StoreFault held = KeepsSlots
-SlotsAfter NoMemory held = KeepsSlots
-SlotsAfter NoManifest held = KeepsSlots
-SlotsAfter NotBuilt held = KeepsSlots
+abbrev pub DiskAfter : Status → Option Contents → DiskContent → DiskContent → Type 0
+DiskAfter Done held = LeavesCache (Replaces tag Cache) held
+DiskAfter OutputFault held = LeavesCache (Replaces tag Cache) held
+DiskAfter DiskFault held = MayLeaveCache held
+DiskAfter Usage held = IsSame
+DiskAfter StoreFault held = IsSame
+DiskAfter NoMemory held = IsSame
+DiskAfter NoManifest held = IsSame
+DiskAfter NotBuilt held = IsSame
 
 -- ---- the output
 
@@ -138,6 +140,10 @@ status_of outcomes.NoManifest = NoManifest
 status_of outcomes.NotBuilt = NotBuilt
 status_of outcomes.Lacking = StoreFault
 status_of (outcomes.Writes found) = Done
+
+-- at most one key was begun for each of the manifest's library files
+abbrev pub BeginsOnce : Option DiskContent → StoreState → StoreState → Type 0
+BeginsOnce told old new = IfTold told (λ content. BeginsAtMost (length (library_files content.now.manifest)) old new)
 
 -- a device has failed in this call
 abbrev pub HasFailed : StoreState → StoreState → DiskState → DiskState → SinkState → SinkState → Type 0

@@ -129,6 +129,3 @@ fn put_u64(out: &mut Vec<u8>, number: u64) -> Result<(), NoMemory>
     out.extend_from_slice(&number.to_le_bytes())?;
     Ok(())
 }
-
-#[cfg(test)]
-mod tests;

@@ -1,6 +1,7 @@
 //! What keeps an update from being made.
-ghost use Rattle.std.specs.Prelude.{◌≡◌, ◌⊎◌, ◌≤◌, None, Some, map, IfOk, OnOk, IsErrOf, IsSomeAnd};
+ghost use Rattle.std.specs.Prelude.{◌≡◌, ◌⊎◌, ◌≤◌, None, Some, length, map, IfOk, OnOk, IsErrOf, IsSomeAnd};
 ghost use Rattle.lib_types.specs.Counts.{HasRisen};
+ghost use Rattle.tree_face.specs.Store.{BeginsAtMost};
 ghost use Rattle.tree_face.specs.Told.{IfTold};
 ghost use Rattle.ldconfig_cli.specs.Analysis.{analysis};
 ghost use Rattle.ldconfig_cli.specs.Libraries.{seen};
@@ -85,6 +86,7 @@ fn check_library<S: Store>(
     ensures not_built { IsErrOf result LibraryFault.NotBuilt → IfTold (S.state store.old).held (λ held. fault_of held (seen library.now) ≡ Some NotBuilt) }
     ensures cause { IsErrOf result LibraryFault.Store → HasRisen (S.state store.old).faults (S.state store.new).faults ⊎ IsSomeAnd (S.state store.old).held (λ held. fault_of held (seen library.now) ≡ Some Lacking) }
     ensures held { (S.state store.new).held ≡ (S.state store.old).held }
+    ensures begun { BeginsAtMost 1 (S.state store.old) (S.state store.new) }
     ensures faults { (S.state store.old).faults ≤ (S.state store.new).faults }
 {
     let bytes = read_whole(alloc, store, library.key)?;
@@ -105,6 +107,7 @@ pub fn check_libraries<S: Store>(
     ensures not_built { IsErrOf result LibraryFault.NotBuilt → IfTold (S.state store.old).held (λ held. first_fault held (map seen libraries.now) ≡ Some NotBuilt) }
     ensures cause { IsErrOf result LibraryFault.Store → HasRisen (S.state store.old).faults (S.state store.new).faults ⊎ IsSomeAnd (S.state store.old).held (λ held. first_fault held (map seen libraries.now) ≡ Some Lacking) }
     ensures held { (S.state store.new).held ≡ (S.state store.old).held }
+    ensures begun { BeginsAtMost (length libraries.now) (S.state store.old) (S.state store.new) }
     ensures faults { (S.state store.old).faults ≤ (S.state store.new).faults }
 {
     for library in libraries {

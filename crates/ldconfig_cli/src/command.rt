@@ -5,7 +5,7 @@ ghost use Rattle.tree_face.specs.Told.{IfTold, Tells};
 ghost use Rattle.ldconfig_cli.specs.Libraries.{Library};
 ghost use Rattle.ldconfig_cli.specs.Outcome as outcomes;
 ghost use Rattle.ldconfig_cli.specs.Outcome.{outcome};
-ghost use Rattle.ldconfig_cli.specs.Run.{Answers, ComesTo, HasFailed, IfBothTold, IsCacheOf, LacksLibrary, NeedsManifest, OutputAfter, OutputBefore, SlotsAfter, status_of};
+ghost use Rattle.ldconfig_cli.specs.Run.{Answers, BeginsOnce, ComesTo, HasFailed, IfBothTold, IsCacheOf, LacksLibrary, NeedsManifest, OutputAfter, OutputBefore, DiskAfter, status_of};
 ghost use Rattle.ldconfig_cli.specs.Words.{IsUpdate};
 
 use crate::prepare::{Refusal, prepare};
@@ -47,9 +47,10 @@ fn update<S: Store, D: Disk, O: Sink>(
     ensures output_fault { result ≡ Status.OutputFault → HasRisen (O.state out.old).faults (O.state out.new).faults }
     ensures done { result ≡ Status.Done → IfBothTold (S.state store.old).held (D.state disk.old).told (λ contents content. status_of (outcome contents content.now.manifest) ≡ Status.Done) }
 
-    ensures slots { Tells (SlotsAfter result (S.state store.old).held) (D.state disk.old).told (D.state disk.new).told }
+    ensures disk { Tells (DiskAfter result (S.state store.old).held) (D.state disk.old).told (D.state disk.new).told }
     ensures output { OutputBefore result (S.state store.old).held (D.state disk.old).told (O.state out.old) (O.state out.new) }
     ensures held { (S.state store.new).held ≡ (S.state store.old).held }
+    ensures begun { BeginsOnce (D.state disk.old).told (S.state store.old) (S.state store.new) }
 
     ensures store_faults { (S.state store.old).faults ≤ (S.state store.new).faults }
     ensures disk_faults { (D.state disk.old).faults ≤ (D.state disk.new).faults }
@@ -77,7 +78,7 @@ pub fn run<S: Store, D: Disk, I: Source, O: Sink>(
     words: &Vec<String>,
     store: &mut S,
     disk: &mut D,
-    _input: &mut I,
+    input: &mut I,
     out: &mut O,
 ) -> Status
     // The words, the slots and the counts tell when each answer comes.
@@ -93,12 +94,18 @@ pub fn run<S: Store, D: Disk, I: Source, O: Sink>(
     ensures complete { IsUpdate words.now → IfBothTold (S.state store.old).held (D.state disk.old).told (λ contents content. Answers result (outcome contents content.now.manifest) (HasFailed (S.state store.old) (S.state store.new) (D.state disk.old) (D.state disk.new) (O.state out.old) (O.state out.new))) }
     ensures absent { IsUpdate words.now → IfTold (D.state disk.old).told (λ content. content.now.manifest ≡ None → (result ≡ Status.NoManifest) ⊎ ((result ≡ Status.NoMemory) ⊎ HasRisen (D.state disk.old).faults (D.state disk.new).faults)) }
 
-    // What is left in the slots and on the output.
-    ensures slots { Tells (SlotsAfter result (S.state store.old).held) (D.state disk.old).told (D.state disk.new).told }
+    // What is left on the disk and on the output.
+    ensures disk { Tells (DiskAfter result (S.state store.old).held) (D.state disk.old).told (D.state disk.new).told }
     ensures one_cache { (found : List Library) (bytes others : List ℕ) → IsCacheOf found bytes → IsCacheOf found others → bytes ≡ others }
     ensures output { OutputAfter result (S.state store.old).held (D.state disk.old).told (O.state out.old) (O.state out.new) }
     ensures held { (S.state store.new).held ≡ (S.state store.old).held }
-    ensures input { I.state _input.new ≡ I.state _input.old }
+    ensures begun { BeginsOnce (D.state disk.old).told (S.state store.old) (S.state store.new) }
+    ensures input { I.state input.new ≡ I.state input.old }
+
+    // Counts of faults never fall.
+    ensures store_faults { (S.state store.old).faults ≤ (S.state store.new).faults }
+    ensures disk_faults { (D.state disk.old).faults ≤ (D.state disk.new).faults }
+    ensures out_faults { (O.state out.old).faults ≤ (O.state out.new).faults }
 {
     let status = if is_update(words) {
         update(alloc, store, disk, out)

@@ -368,6 +368,3 @@ pub fn x86_64_library<'a>(alloc: Global, bytes: &'a [u8]) -> Result<Option<Libra
     let entries = dynamic_entries(alloc, bytes, dynamic)?;
     Ok(library_of(bytes, segments.as_slice(), entries.as_slice()))
 }
-
-#[cfg(test)]
-mod tests;

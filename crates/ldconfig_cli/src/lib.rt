@@ -8,8 +8,6 @@ mod elf;
 mod entries;
 mod libraries;
 mod manifest;
-#[cfg(test)]
-mod plain;
 mod prepare;
 mod replace;
 mod report;
@@ -19,6 +17,3 @@ mod words;
 
 pub use command::run;
 pub use status::Status;
-
-#[cfg(test)]
-mod tests;

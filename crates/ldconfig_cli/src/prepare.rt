@@ -2,13 +2,14 @@
 ghost use Rattle.std.specs.Prelude.{◌≡◌, ◌⊎◌, ◌≤◌, None, Some, All, length, map, IfOk, IsErrOf, IsSomeAnd, MatchResult};
 ghost use Rattle.std.specs.String.{string_bytes};
 ghost use Rattle.lib_types.specs.Counts.{HasRisen};
+ghost use Rattle.tree_face.specs.Store.{BeginsAtMost};
 ghost use Rattle.tree_face.specs.Told.{IfTold};
-ghost use Rattle.ldconfig_cli.specs.Libraries.{seen};
+ghost use Rattle.ldconfig_cli.specs.Libraries.{libraries, seen};
 ghost use Rattle.ldconfig_cli.specs.Outcome as outcomes;
 ghost use Rattle.ldconfig_cli.specs.Outcome.{outcome_of_tree};
 ghost use Rattle.ldconfig_cli.specs.Refusals.{status_of_refusal};
 ghost use Rattle.ldconfig_cli.specs.Report.{report_line};
-ghost use Rattle.ldconfig_cli.specs.Run.{IsCacheOf, IsUpdateOf, IsUpdateOfTree, HasManifest, NeedsManifest, IfBothTold, ComesTo, LacksLibrary};
+ghost use Rattle.ldconfig_cli.specs.Run.{BeginsOnce, IsCacheOf, IsUpdateOf, IsUpdateOfTree, HasManifest, NeedsManifest, IfBothTold, ComesTo, LacksLibrary};
 ghost use Rattle.ldconfig_cli.specs.declared.prepare.ManifestFault.TheVariants as manifest_fault;
 ghost use Rattle.ldconfig_cli.specs.declared.prepare.Refusal.TheVariants as refusals;
 
@@ -140,6 +141,7 @@ fn prepare_tree<S: Store>(alloc: Global, store: &mut S, tree: &Tree) -> Result<P
     ensures store_fault { IsErrOf result Refusal.Store → HasRisen (S.state store.old).faults (S.state store.new).faults ⊎ IsSomeAnd (S.state store.old).held (λ contents. outcome_of_tree contents (Some tree.now) ≡ outcomes.Lacking) }
     ensures others { (IsErrOf result Refusal.Disk → ⊥) × (IsErrOf result Refusal.NoManifest → ⊥) }
     ensures held { (S.state store.new).held ≡ (S.state store.old).held }
+    ensures begun { BeginsAtMost (length (libraries tree.now)) (S.state store.old) (S.state store.new) }
     ensures faults { (S.state store.old).faults ≤ (S.state store.new).faults }
 {
     if has_other_places(tree) {
@@ -168,6 +170,7 @@ pub fn prepare<S: Store, D: Disk>(
     ensures store_fault { IsErrOf result Refusal.Store → HasRisen (S.state store.old).faults (S.state store.new).faults ⊎ LacksLibrary (S.state store.old).held (D.state disk.old).told }
     ensures disk_fault { IsErrOf result Refusal.Disk → HasRisen (D.state disk.old).faults (D.state disk.new).faults }
     ensures held { (S.state store.new).held ≡ (S.state store.old).held }
+    ensures begun { BeginsOnce (D.state disk.old).told (S.state store.old) (S.state store.new) }
     ensures told { (D.state disk.new).told ≡ (D.state disk.old).told }
     ensures store_faults { (S.state store.old).faults ≤ (S.state store.new).faults }
     ensures disk_faults { (D.state disk.old).faults ≤ (D.state disk.new).faults }

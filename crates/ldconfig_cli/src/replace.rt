@@ -9,8 +9,8 @@ use tree_face::{Disk, Slot, Tag};
 
 /// Replaces what a slot holds by these bytes, by way of a temporary file.
 pub fn replace<D: Disk>(disk: &mut D, tag: Tag, slot: Slot, bytes: &[u8]) -> Result<(), Failed>
-    ensures done { OnOk result (Tells (Replaces slot bytes.now) (D.state disk.old).told (D.state disk.new).told) }
-    ensures failed { OnErr result (Tells (MayReplace slot bytes.now) (D.state disk.old).told (D.state disk.new).told) }
+    ensures done { OnOk result (Tells (Replaces tag.0 slot bytes.now) (D.state disk.old).told (D.state disk.new).told) }
+    ensures failed { OnErr result (Tells (MayReplace tag.0 slot bytes.now) (D.state disk.old).told (D.state disk.new).told) }
     ensures faults { (D.state disk.old).faults ≤ (D.state disk.new).faults }
     ensures cause { OnErr result (HasRisen (D.state disk.old).faults (D.state disk.new).faults) }
 {

@@ -1,7 +1,7 @@
 //! Files that are read whole.
 ghost use Rattle.std.specs.Prelude.{◌≡◌, ◌⊎◌, ◌≤◌, Some, IfOk, IsErrOf};
 ghost use Rattle.lib_types.specs.Counts.{HasRisen};
-ghost use Rattle.tree_face.specs.Store.{Lacks};
+ghost use Rattle.tree_face.specs.Store.{BeginsAtMost, Lacks};
 ghost use Rattle.tree_face.specs.Told.{IfTold};
 ghost use Rattle.ldconfig_cli.specs.declared.whole.ReadFault.TheVariants as read_fault;
 
@@ -36,6 +36,7 @@ impl From<AllocError> for ReadFault {
 pub fn read_whole<S: Store>(alloc: Global, store: &mut S, key: &[u8]) -> Result<Vec<u8>, ReadFault>
     ensures content { IfOk result (λ bytes. IfTold (S.state store.old).held (λ held. held key.now ≡ Some bytes.items)) }
     ensures held { (S.state store.new).held ≡ (S.state store.old).held }
+    ensures begun { BeginsAtMost 1 (S.state store.old) (S.state store.new) }
     ensures faults { (S.state store.old).faults ≤ (S.state store.new).faults }
     ensures cause { IsErrOf result ReadFault.Store → HasRisen (S.state store.old).faults (S.state store.new).faults ⊎ Lacks (S.state store.old).held key.now }
 {

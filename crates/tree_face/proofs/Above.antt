@@ -1,5 +1,6 @@
 -- What stands above a path, and when a node clashes.
 use Rattle.std.proofs.Common.{◌≡◌, ℕ, suc, ◌<◌, Bool, true, false, ◌&&◌, ◌||◌, not, List, [], ◌∷◌, ◌++◌, length, get_or, take, drop, Option, Some, None, refl, sym, ap, subst, ◌∙◌, arith}
+use Rattle.std.proofs.lemmas.Bool.{and_parts, and_from}
 use Rattle.std.proofs.lemmas.Cmp.{tied_itself}
 use Rattle.std.proofs.lemmas.List.Folds.{list_any_none, list_any_at}
 use Rattle.std.specs.declared.cmp.Ordering.TheVariants.{Equal}
@@ -10,7 +11,6 @@ use Rattle.tree_face.specs.declared.node.Node.{Node}
 use Rattle.tree_face.specs.Node.{is_dir}
 use Rattle.tree_face.specs.Places.{IsPlaceOf, has_file_above}
 use Rattle.tree_face.proofs.Trees.{found_node}
-use Rattle.tree_face.proofs.Bools.{and_left, and_right, both}
 use Rattle.std.proofs.lemmas.List.{get_or_default}
 use Rattle.std.proofs.lemmas.List.Sums.{AllPass-from_list_all}
 use Rattle.std.proofs.lemmas.Map.Entries.{place_from_lookup}
@@ -26,7 +26,7 @@ use Rattle.tree_face.specs.Tree.{Nodes, IsPathSorted, has_below, node_at, is_ent
 use Rattle.tree_face.proofs.Below.{exact, below_is, below_from}
 
 path_of_entry : (t : Nodes) (k : ℕ) (d : List ℕ × Node) → list_all is_entry t ≡ true → k < length t → is_path (get_or t k d).0 ≡ true
-path_of_entry t k d all h = and_left _ _ (AllPass-from_list_all is_entry t all k d h)
+path_of_entry t k d all h = (and_parts _ _ (AllPass-from_list_all is_entry t all k d h)).0
 
 -- a node that is found stands at a path, and may stand in a tree
 pub found_entry : (t : Nodes) (q : List ℕ) (node : Node) → list_all is_entry t ≡ true → node_at t q ≡ Some node → is_entry (q, node) ≡ true
@@ -40,7 +40,7 @@ found_entry t q node all at =
 
 pub path_of_found : (t : Nodes) (q : List ℕ) (o : Option Node) → list_all is_entry t ≡ true → node_at t q ≡ o → IsSome o → is_path q ≡ true
 path_of_found t q None all at some = absurd (cc)
-path_of_found t q (Some node) all at some = and_left _ _ (found_entry t q node all at)
+path_of_found t q (Some node) all at some = (and_parts _ _ (found_entry t q node all at)).0
 
 file_node : (o : Option Node) → is_file o ≡ true → (node : Node) × (o ≡ Some node) × (not (is_dir node) ≡ true)
 file_node None h = absurd (cc)
@@ -60,7 +60,7 @@ module _ (t : Nodes) (path : List ℕ) (all : list_all is_entry t ≡ true) wher
       let proper : is_path p.1 ≡ true = subst (λ (z : List ℕ × Node). is_path z.0 ≡ true) g (path_of_entry t p.0 d all h) in
       let below : is_below p.1 path ≡ true = below_from p.1 path s proper (subst (λ (z : List ℕ). path ≡ z ++ 47 ∷ s) same e) in
       list_any_at (λ (e : List ℕ × Node). is_below e.0 path && not (is_dir e.1)) t p.0 d h
-      (subst (λ (z : List ℕ × Node). (is_below z.0 path && not (is_dir z.1)) ≡ true) (sym g) (both _ _ below file))
+      (subst (λ (z : List ℕ × Node). (is_below z.0 path && not (is_dir z.1)) ≡ true) (sym g) (and_from _ _ below file))
 
   pub file_above : (i : ℕ) → i < length path → get_or path i 0 ≡ 47 → is_file (node_at t (take i path)) ≡ true → has_file_above t path ≡ true
   file_above i h slash file =
@@ -75,11 +75,11 @@ module _ (t : Nodes) (path : List ℕ) (all : list_all is_entry t ≡ true) wher
       (λ e.
       let q = (get_or t k d).0 in
       let proper = path_of_entry t k d all h in
-      let s = below_is q path proper (and_left _ _ e) in
+      let s = below_is q path proper (and_parts _ _ e).0 in
       let slash : get_or path (length q) 0 ≡ 47 = subst (λ (z : List ℕ). get_or z (length q) 0 ≡ 47) (sym s.1) (get_or-append_seam q 47 s.0 0) in
       let front : take (length q) path ≡ q = subst (λ (z : List ℕ). take (length q) z ≡ q) (sym s.1) (take-append_seam q (47 ∷ s.0)) in
       let place : IsPlaceOf t q k = record { within = h; same = λ e. subst (λ (z : List ℕ × Node). path_cmp z.0 q ≡ Equal) (get_or_default t k d e h) (tied_itself path_total q) } in
-      let there : is_file (node_at t (take (length q) path)) ≡ true = ap (λ z. is_file (node_at t z)) front ∙ ap is_file (found_node t q k sorted place d) ∙ and_right (is_below q path) (not (is_dir (get_or t k d).1)) e in
+      let there : is_file (node_at t (take (length q) path)) ≡ true = ap (λ z. is_file (node_at t z)) front ∙ ap is_file (found_node t q k sorted place d) ∙ (and_parts (is_below q path) (not (is_dir (get_or t k d).1)) e).1 in
       let inside : length q < length path = subst (λ (z : List ℕ). length q < length z) (sym s.1) (shorter_front q s.0) in
       let free = none (length q) inside slash in absurd (cc))
       (λ e. e))

@@ -1,5 +1,6 @@
 -- What stays true of a tree.
 use Rattle.std.proofs.Common.{◌≡◌, ℕ, ◌<◌, ◌≤◌, ◌^◌, Bool, true, false, cond, List, [], ◌∷◌, length, Result, Ok, Err, arith}
+use Rattle.std.proofs.lemmas.Bool.{and_from}
 use Rattle.std.proofs.lemmas.List.{length-set}
 use Rattle.std.proofs.lemmas.List.Edits.{length-insert}
 use Rattle.std.specs.BTreeMap.{is_at}
@@ -13,7 +14,6 @@ use Rattle.tree_face.specs.Tree as tree
 use Rattle.tree_face.specs.Tree.{Nodes, IsPathSorted, IsTree, node_at, is_entry}
 use Rattle.tree_face.specs.Places.{IsPlaceOf, IsGapFor}
 use Rattle.tree_face.specs.declared.node.Node.{Node}
-use Rattle.tree_face.proofs.Bools.{both}
 use Rattle.tree_face.proofs.Clear.{all_put, all_removed, clear_put, clear_removed}
 use Rattle.tree_face.proofs.Trees.{replaced, inserted}
 use Rattle.tree_face.specs.Tree.{clashes}
@@ -24,7 +24,7 @@ fewer_removed test (e ∷ t) = let h = fewer_removed test t in elim (test e.0) a
 
 module _ (t : Nodes) (path : List ℕ) (node : Node) (free : clashes t path node ≡ false) where
   pub put_tree : IsTree t → is_path path ≡ true → is_node node ≡ true → length (tree.put t path node) ≤ 2 ^ 20 → IsTree (tree.put t path node)
-  put_tree h p n few = record { sorted = places.sorted_put path_total path t node h.sorted; entries = all_put is_entry t path node h.entries (both _ _ p n); few = few; clear = clear_put t path node p h.clear free }
+  put_tree h p n few = record { sorted = places.sorted_put path_total path t node h.sorted; entries = all_put is_entry t path node h.entries (and_from _ _ p n); few = few; clear = clear_put t path node p h.clear free }
 
   pub replaced_tree : (at : ℕ) → IsTree t → IsPlaceOf t path at → is_path path ≡ true → is_node node ≡ true → IsTree (tree.put t path node)
   replaced_tree at h p q n = put_tree h q n (rw (← replaced t path at node (path, node) h.sorted p, length-set) h.few)

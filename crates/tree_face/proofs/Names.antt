@@ -1,13 +1,12 @@
 -- The names directly below a directory.
 use Rattle.std.proofs.Common.{◌≡◌, ℕ, zero, suc, ◌+◌, ◌≤◌, Bool, true, false, cond, nat_lt, Some, None, List, [], ◌∷◌, length, get_or, take, drop, refl, sym, ap, subst, ◌∙◌, ⊎_elim, arith, length-drop}
-use Rattle.std.proofs.lemmas.Bool.{cases_lt}
+use Rattle.std.proofs.lemmas.Bool.{cases_lt, and_parts, and_from}
 use Rattle.std.proofs.lemmas.Bool.Decides.{nat_tests}
 use Rattle.std.proofs.lemmas.List.{get_or-drop, take_all}
 use Rattle.std.specs.List.{filter, AllWithin, list_all, position, position_or_len, before_first}
 use Rattle.std.specs.List.Sorted.{IsPartitionedBy, IsPartitionPoint}
 use Rattle.tree_face.proofs.Below.{below_as_later, none_before}
 use Rattle.tree_face.proofs.Places.{by_test}
-use Rattle.tree_face.proofs.Bools.{and_left, and_right, both}
 use Rattle.tree_face.specs.Paths.{is_path, is_below, root}
 use Rattle.tree_face.specs.Places.{IsBehind}
 use Rattle.tree_face.specs.Tree.{Nodes, IsPathSorted, is_entry}
@@ -39,7 +38,7 @@ module _ {X : Type 0} (p : X → Bool) where
 
   pub filter_all : (xs : List X) → list_all p xs ≡ true → xs ≡ filter p xs
   filter_all [] all = refl
-  filter_all (x ∷ xs) all = ap (λ l. x ∷ l) (filter_all xs (and_right _ _ all)) ∙ sym (ap (λ b. cond b (x ∷ filter p xs) (filter p xs)) (and_left _ _ all))
+  filter_all (x ∷ xs) all = ap (λ l. x ∷ l) (filter_all xs (and_parts _ _ all).1) ∙ sym (ap (λ b. cond b (x ∷ filter p xs) (filter p xs)) (and_parts _ _ all).0)
 
 -- ---- what lies below a path
 
@@ -69,7 +68,7 @@ module _ (t : Nodes) (path : List ℕ) (at : ℕ) (proper : is_path path ≡ tru
 
 all_below_root : (t : Nodes) → list_all is_entry t ≡ true → list_all (λ e. is_below root e.0) t ≡ true
 all_below_root [] all = refl
-all_below_root (e ∷ t) all = both _ _ (and_right _ _ (and_left _ _ (and_left _ _ (and_left _ _ all)))) (all_below_root t (and_right _ _ all))
+all_below_root (e ∷ t) all = and_from _ _ (and_parts _ _ (and_parts _ _ (and_parts _ _ (and_parts _ _ all).0).0).0).1 (all_below_root t (and_parts _ _ all).1)
 
 pub below_root : (t : Nodes) → list_all is_entry t ≡ true → t ≡ filter (λ e. is_below root e.0) t
 below_root t all = filter_all (λ (e : List ℕ × Node). is_below root e.0) t (all_below_root t all)

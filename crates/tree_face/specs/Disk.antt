@@ -1,5 +1,5 @@
 -- A disk of three slots. A slot is replaced by way of a temporary file, which only its publishing makes the slot's content.
-use Rattle.std.specs.Prelude.{◌≡◌, ◌⊎◌, ◌≤◌, ◌++◌, ◌==◌, ◌&&◌, ℕ, Bool, true, false, List, [], Option, Some, IsErrOf, Result, IfOk, OnOk, OnErr, Vec}
+use Rattle.std.specs.Prelude.{◌≡◌, ◌⊎◌, ◌≤◌, ◌++◌, ◌==◌, ◌&&◌, ℕ, Bool, true, false, List, [], Option, Some, None, IsErrOf, Result, IfOk, OnOk, OnErr, Vec}
 use Rattle.std.specs.Option.{option_map}
 use Rattle.std.specs.declared.alloc.Global.{Global}
 use Rattle.lib_types.specs.declared.fault.Failed.{Failed}
@@ -77,6 +77,7 @@ pub record Keeps (a b : DiskContent) : Type 0 where
 -- the temporary file becomes the slot's content, and ends
 pub record Publishes (tag : ℕ) (slot : Slot) (a b : DiskContent) : Type 0 where
   pub slots : b.now ≡ with_slot a.now slot (a.temporary tag slot)
+  pub ended : b.temporary tag slot ≡ None
   pub others : KeepsOthers tag slot a.temporary b.temporary
 
 -- a publishing that failed: the slot has the old content or the new one
@@ -94,6 +95,10 @@ pub record Does (change left : DiskContent → DiskContent → Type 0) (old new 
 -- the same temporary files are made as before
 abbrev pub KeepsMade : DiskState → DiskState → Type 0
 KeepsMade old new = (t : ℕ) (s : Slot) → new.made t s ≡ old.made t s
+
+-- the same temporary files but this one are made as before
+abbrev pub KeepsOthersMade : ℕ → Slot → DiskState → DiskState → Type 0
+KeepsOthersMade tag slot old new = (t : ℕ) (s : Slot) → (t == tag) && slot_eq s slot ≡ false → new.made t s ≡ old.made t s
 
 -- a reading of a slot
 pub record ReadsSlot (old new : DiskState) (slot : Slot) (result : Result (Option (Vec ℕ Global)) DiskRead) : Type 0 where

@@ -1,7 +1,8 @@
 -- What disks in memory tell.
-use Rattle.std.specs.Prelude.{Some, is_some}
+use Rattle.std.specs.Prelude.{List, Some, is_some}
 use Rattle.tree_face.specs.declared.disk.Slot.{Slot}
 use Rattle.tree_face.specs.declared.disk.Slot.TheVariants.{Manifest, Cache, Aux}
+use Rattle.tree_face.specs.declared.memory.disks.DoneCall.{DoneCall}
 use Rattle.tree_face.specs.declared.memory.disks.MemDisk.{MemDisk}
 use Rattle.tree_face.specs.declared.memory.disks.SureDisk.{SureDisk}
 use Rattle.tree_face.specs.declared.memory.slot_file.SlotFile.{SlotFile}
@@ -25,6 +26,13 @@ disk_state d = record {
   made = λ tag slot. is_some (temporary_in (file_of d slot) tag);
   faults = d.faults;
 }
+
+abbrev pub failing_disk_content : MemDisk → DiskContent
+failing_disk_content d = disk_content d.disk
+
+-- the writing calls that were made
+abbrev pub calls_of : MemDisk → List DoneCall
+calls_of d = d.calls.items
 
 abbrev pub failing_disk_state : MemDisk → DiskState
 failing_disk_state d = record (disk_state d.disk) { faults = d.failures.faults }

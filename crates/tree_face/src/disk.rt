@@ -1,6 +1,6 @@
 //! The three files that the product keeps, and how they are replaced.
 ghost use Rattle.std.specs.Prelude.{◌≡◌, true, OnOk};
-ghost use Rattle.tree_face.specs.Disk.{DiskState, Creates, Appends, Keeps, Touches, Publishes, MayPublish, Does, KeepsMade, ReadsSlot};
+ghost use Rattle.tree_face.specs.Disk.{DiskState, Creates, Appends, Keeps, Touches, Publishes, MayPublish, Does, KeepsMade, KeepsOthersMade, ReadsSlot};
 
 use lib_types::Failed;
 use std::alloc::Global;
@@ -39,7 +39,8 @@ pub trait Disk {
     /// Makes the temporary file of this tag and slot empty.
     fn create(&mut self, tag: Tag, slot: Slot) -> Result<(), Failed>
         ensures does { Does (Creates tag.0 slot) (Touches tag.0 slot) (state self.old) (state self.new) result }
-        ensures made { OnOk result ((state self.new).made tag.0 slot ≡ true) };
+        ensures made { OnOk result ((state self.new).made tag.0 slot ≡ true) }
+        ensures others { KeepsOthersMade tag.0 slot (state self.old) (state self.new) };
 
     /// Adds bytes to the temporary file. After a refusal it has any bytes.
     fn append(&mut self, tag: Tag, slot: Slot, bytes: &[u8]) -> Result<(), Failed>
@@ -57,7 +58,8 @@ pub trait Disk {
     /// new one.
     fn publish(&mut self, tag: Tag, slot: Slot) -> Result<(), Failed>
         requires { (state self.old).made tag.0 slot ≡ true }
-        ensures { Does (Publishes tag.0 slot) (MayPublish tag.0 slot) (state self.old) (state self.new) result };
+        ensures does { Does (Publishes tag.0 slot) (MayPublish tag.0 slot) (state self.old) (state self.new) result }
+        ensures others { KeepsOthersMade tag.0 slot (state self.old) (state self.new) };
 
     /// Brings the slot's content to where a crash doesn't reach it.
     fn settle(&mut self, slot: Slot) -> Result<(), Failed>

@@ -140,7 +140,7 @@ impl Disk for SureDisk {
 }
 
 impl MemDisk {
-    ghost use Rattle.tree_face.specs.SureDisk.{disk_content, failing_disk_state};
+    ghost use Rattle.tree_face.specs.SureDisk.{calls_of, failing_disk_content, failing_disk_state};
 
     /// A disk whose slots hold these contents. The calls with the numbers of `fail` fail, counted from 0 over all calls.
     pub fn new(
@@ -150,9 +150,9 @@ impl MemDisk {
         aux: Option<Vec<u8>>,
         fail: Vec<u64>,
     ) -> MemDisk
-        ensures manifest { (disk_content result.disk).now.manifest ≡ option_map (λ v. v.items) manifest }
-        ensures cache { (disk_content result.disk).now.cache ≡ option_map (λ v. v.items) cache }
-        ensures aux { (disk_content result.disk).now.aux ≡ option_map (λ v. v.items) aux }
+        ensures manifest { (failing_disk_content result).now.manifest ≡ option_map (λ v. v.items) manifest }
+        ensures cache { (failing_disk_content result).now.cache ≡ option_map (λ v. v.items) cache }
+        ensures aux { (failing_disk_content result).now.aux ≡ option_map (λ v. v.items) aux }
         ensures faults { (failing_disk_state result).faults ≡ 0 }
     {
         MemDisk {
@@ -171,7 +171,7 @@ impl MemDisk {
 
     /// The writing calls that were made. One that failed may be among them.
     pub fn calls(&self) -> &[DoneCall]
-        ensures { result.now ≡ self.now.calls.items }
+        ensures { result.now ≡ calls_of self.now }
     {
         &self.calls
     }

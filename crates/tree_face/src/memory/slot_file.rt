@@ -1,5 +1,5 @@
 //! A slot in memory with its temporary files.
-ghost use Rattle.std.specs.Prelude.{◌≡◌, ◌++◌, ℕ, [], Some, OnOk, OnErr, IfOk};
+ghost use Rattle.std.specs.Prelude.{◌≡◌, ◌++◌, ℕ, [], Some, None, OnOk, OnErr, IfOk};
 ghost use Rattle.std.specs.Option.{option_map};
 
 use lib_types::NoMemory;
@@ -64,6 +64,7 @@ impl SlotFile {
     /// Makes the temporary file the slot's content, and ends it.
     pub fn publish(&mut self, tag: u16)
         ensures content { content_in self.new ≡ temporary_in self.old tag }
+        ensures ended { temporary_in self.new tag ≡ None }
         ensures others { KeepsOtherTags self.old self.new tag }
     {
         self.content = self.temporary.remove(&tag);

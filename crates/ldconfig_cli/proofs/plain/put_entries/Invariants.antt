@@ -1,6 +1,0 @@
-use Rattle.std.proofs.Common.{◌≡◌, ◌++◌, flat_map, map, take}
-use Rattle.ldconfig_cli.specs.CacheText.{entry_bytes}
-use Rattle.ldconfig_cli.proofs.plain.put_entries.Given as goal
-
-abbrev pub invariant-loop-entry : goal.invariant-loop-entry
-invariant-loop-entry l = l.out.items ≡ l.fn.out.items ++ flat_map (entry_bytes l.start (map (λ text. text.now) l.texts)) (take l.entry-index l.entries)

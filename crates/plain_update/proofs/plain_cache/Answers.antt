@@ -1,0 +1,24 @@
+use Rattle.std.proofs.Common.{List, ◌≤◌, length, map, arith}
+use Rattle.std.proofs.lemmas.List.{length-map}
+use Rattle.std.proofs.lemmas.List.Elements.{All-map}
+use Rattle.std.specs.List.{All}
+use Rattle.ldconfig_cli.specs.Libraries as libraries
+use Rattle.ldconfig_cli.proofs.Listing.{as_many, short_sonames, short_paths, plain_entries}
+use Rattle.plain_update.specs.Library.{seen}
+use Rattle.plain_update.specs.declared.Library.{Library}
+use Rattle.plain_update.proofs.plain_cache.Goals as goal
+
+short : (found : List Library) → All (λ library. length library.name.now ≤ 4095) found → All (λ library. length library.0 ≤ 4095) (map seen found)
+short found names = All-map (λ (library : libraries.Library). length library.0 ≤ 4095) seen found names
+
+pub plain_cache_text-requires-clause-few : goal.plain_cache_text-requires-clause-few
+plain_cache_text-requires-clause-few c = omega (arith, as_many _ _ c.in_ok-entries.ensures, length-map c.args.libraries.now seen, c.requires.few)
+
+pub plain_cache_text-requires-clause-sonames : goal.plain_cache_text-requires-clause-sonames
+plain_cache_text-requires-clause-sonames c = short_sonames _ _ c.in_ok-entries.ensures (short _ c.requires.short)
+
+pub plain_cache_text-requires-clause-paths : goal.plain_cache_text-requires-clause-paths
+plain_cache_text-requires-clause-paths c = short_paths _ _ c.in_ok-entries.ensures (short _ c.requires.short)
+
+pub plain_cache_text-requires-clause-plain : goal.plain_cache_text-requires-clause-plain
+plain_cache_text-requires-clause-plain c = plain_entries _ _ c.in_ok-entries.ensures (short _ c.requires.short)

@@ -1,0 +1,168 @@
+//! Devices that fail, each at each of its calls.
+ghost use Rattle.tree_face.specs.SureStream.{failing_sink_state};
+
+use crate::fixture::{
+    Devices, LIBZ_KEY, LIBZ_MANIFEST, OLD, Setting, Wanted, assert_slot, assert_update, done,
+    image, make_devices, number, one, refused, replacing_calls, run_words, strings,
+};
+use crate::samples::{LIBZ, ONE_CACHE};
+use ldconfig_cli::{Status, run};
+use lib_types::Failed;
+use std::alloc::Global;
+use std::process::Abort;
+use std::test::Fail;
+use tree_face::{Disk, MemSink, Sink, Slot};
+
+#[test]
+fn the_store_fails(rt: HostRuntime) -> Result<(), Fail> {
+    let alloc = rt.alloc();
+    let want = refused(Status::StoreFault, b"fault: StoreFault\n");
+    for call in 0..2 {
+        let held = one(alloc, LIBZ_KEY, &LIBZ)?;
+        let setting = Setting {
+            store_fails: Some(call),
+            ..image(LIBZ_MANIFEST)
+        };
+        let _ = assert_update(&rt, alloc, setting, held, want)?;
+    }
+    let _ = assert_update(&rt, alloc, image(LIBZ_MANIFEST), Vec::new(alloc), want)?;
+    Ok(())
+}
+
+// The disk's call 0 reads the manifest, and the calls 1 to 5 replace the cache.
+fn assert_disk_fault(
+    rt: &impl Abort,
+    alloc: Global,
+    status: Status,
+    devices: &mut Devices,
+    call: u64,
+) -> Result<(), Fail> {
+    assert_eq!(rt; status, Status::DiskFault, "call {call}");
+    assert_eq!(rt;
+        devices.out.written(),
+        b"fault: DiskFault\n".as_slice(),
+        "call {call}"
+    );
+    let calls = replacing_calls();
+    let made = calls.iter().take(call.saturating_sub(1) as usize);
+    assert!(rt; devices.disk.calls().iter().eq(made), "call {call}");
+    let disk = &mut devices.disk;
+    assert_slot(rt, alloc, disk, Slot::Manifest, Some(LIBZ_MANIFEST))?;
+    assert_slot(rt, alloc, disk, Slot::Aux, None)?;
+    let cache = disk.read(alloc, Slot::Cache)?;
+    let found = cache.as_ref().map(|v| v.as_slice());
+    // a publishing that failed leaves the old content or the new one
+    let may_be_old = call <= 4 && found == Some(OLD);
+    let may_be_new = call >= 4 && found == Some(ONE_CACHE);
+    assert!(rt; may_be_old || may_be_new, "call {call}");
+    Ok(())
+}
+
+#[test]
+fn the_disk_fails(rt: HostRuntime) -> Result<(), Fail> {
+    let alloc = rt.alloc();
+    for call in 0..6 {
+        let setting = Setting {
+            disk_fails: Some(call),
+            ..image(LIBZ_MANIFEST)
+        };
+        let mut devices = make_devices(alloc, setting, one(alloc, LIBZ_KEY, &LIBZ)?)?;
+        let status = run_words(alloc, &["update"], &mut devices)?;
+        assert_disk_fault(&rt, alloc, status, &mut devices, call)?;
+    }
+    Ok(())
+}
+
+#[test]
+fn the_disk_stops(rt: HostRuntime) -> Result<(), Fail> {
+    let alloc = rt.alloc();
+    for calls in 0..5 {
+        let held = one(alloc, LIBZ_KEY, &LIBZ)?;
+        let mut devices = make_devices(alloc, image(LIBZ_MANIFEST), held)?;
+        devices.disk.stop_after(calls);
+        let status = run_words(alloc, &["update"], &mut devices)?;
+        assert!(rt;
+            devices.disk.read(alloc, Slot::Cache).is_err(),
+            "after {calls}"
+        );
+        // the disk goes on
+        devices.disk.stop_after(9);
+        assert_disk_fault(&rt, alloc, status, &mut devices, calls + 1)?;
+    }
+    Ok(())
+}
+
+#[test]
+fn the_sink_fails(rt: HostRuntime) -> Result<(), Fail> {
+    let alloc = rt.alloc();
+    let new = Wanted {
+        status: Status::OutputFault,
+        ..done(b"", ONE_CACHE)
+    };
+    let rows = [
+        (LIBZ_MANIFEST, new),
+        // the first fault is told
+        (b"", refused(Status::NotBuilt, b"")),
+        (
+            b"#mtree\n./usr/lib/liba.so.1 type=file\n",
+            refused(Status::StoreFault, b""),
+        ),
+    ];
+    for (manifest, want) in rows {
+        let setting = Setting {
+            out_fails: Some(0),
+            ..image(manifest)
+        };
+        let _ = assert_update(&rt, alloc, setting, one(alloc, LIBZ_KEY, &LIBZ)?, want)?;
+    }
+    Ok(())
+}
+
+/// A sink that takes at most seven bytes at a call.
+#[derive(Drop)]
+struct NarrowSink {
+    sink: MemSink,
+}
+
+impl Sink for NarrowSink {
+    ghost state = { λ s. failing_sink_state s.sink };
+
+    fn write(&mut self, bytes: &[u8]) -> Result<usize, Failed> {
+        let count = bytes.len().min(7);
+        self.sink.write(&bytes[..count])
+    }
+}
+
+#[test]
+fn a_sink_takes_parts(rt: HostRuntime) -> Result<(), Fail> {
+    let alloc = rt.alloc();
+    // the call that fails, the answer, and what was taken before
+    let rows = [
+        (
+            9,
+            Status::Done,
+            b"1 libs, 0 links, 1 files opened\n".as_slice(),
+        ),
+        (4, Status::OutputFault, b"1 libs, 0 links, 1 files ope"),
+        (1, Status::OutputFault, b"1 libs,"),
+        (0, Status::OutputFault, b""),
+    ];
+    for (call, want, written) in rows {
+        let mut devices = make_devices(alloc, image(LIBZ_MANIFEST), one(alloc, LIBZ_KEY, &LIBZ)?)?;
+        let mut out = NarrowSink {
+            sink: MemSink::new(alloc, number(alloc, Some(call))?),
+        };
+        let words = strings(alloc, &["update"])?;
+        let Devices {
+            store,
+            disk,
+            input,
+            ..
+        } = &mut devices;
+        let status = run(alloc, &words, store, disk, input, &mut out);
+        assert_eq!(rt; status, want, "call {call}");
+        assert_eq!(rt; out.sink.written(), written, "call {call}");
+        assert_slot(&rt, alloc, disk, Slot::Cache, Some(ONE_CACHE))?;
+    }
+    Ok(())
+}

@@ -1,0 +1,81 @@
+//! Images that an update makes a cache of.
+use crate::fixture::{
+    LIBZ_KEY, LIBZ_MANIFEST, LIBZ_REPORT, assert_slot, assert_update, copy, done, image, library,
+    one, replacing_calls, strings,
+};
+use crate::samples::{EMPTY_CACHE, LIBZ, ONE_CACHE, THREE_CACHE};
+use ldconfig_cli::{Status, run};
+use lib_types::Text;
+use std::test::Fail;
+use tree_face::{Slot, SureDisk, SureSink, SureSource, SureStore};
+
+// A `run` that always wants memory meets its contract. This test refuses it.
+#[test]
+fn an_image_without_libraries_has_an_empty_cache(rt: HostRuntime) -> Result<(), Fail> {
+    let alloc = rt.alloc();
+    let manifests = [
+        b"#mtree\n".as_slice(),
+        // the first and the last byte that stand for themselves
+        b"#mtree\n./! type=file\n./~ type=dir\n",
+        // a line that replaces another
+        b"#mtree\n./a type=file\n./a type=file\n./a type=dir\n./a/b type=file\n",
+        // no files of /usr/lib itself with library names
+        b"#mtree\n./libz.so.1 type=file\n./usr/lib/libz.a type=file\n",
+        b"#mtree\n./usr/lib/sub/libz.so.1 type=file\n./usr/lib/libz.so.1 type=dir\n",
+        // neighbours of the places that aren't built
+        b"#mtree\n./etc/ld.so.conf.d type=dir\n./lib6 type=dir\n./lib64.so type=file\n",
+        b"#mtree\n./usr/lib6 type=dir\n./usr/lib/glibc-hwcaps.d type=dir\n",
+    ];
+    let want = done(b"0 libs, 0 links, 0 files opened\n", EMPTY_CACHE);
+    for manifest in manifests {
+        let devices = assert_update(&rt, alloc, image(manifest), Vec::new(alloc), want)?;
+        assert_eq!(rt; devices.store.begun(), 0);
+    }
+    Ok(())
+}
+
+#[test]
+fn one_library(rt: HostRuntime) -> Result<(), Fail> {
+    let alloc = rt.alloc();
+    let held = one(alloc, LIBZ_KEY, &LIBZ)?;
+    let want = done(LIBZ_REPORT, ONE_CACHE);
+    let devices = assert_update(&rt, alloc, image(LIBZ_MANIFEST), held, want)?;
+    assert_eq!(rt; devices.store.begun(), 1);
+    assert_eq!(rt; devices.disk.calls(), replacing_calls().as_slice());
+    Ok(())
+}
+
+#[test]
+fn three_libraries_stand_by_descending_names(rt: HostRuntime) -> Result<(), Fail> {
+    let alloc = rt.alloc();
+    let mut manifest = Vec::from_slice(alloc, b"#mtree\n")?;
+    let mut held = Vec::new(alloc);
+    for name in ["libfoo.so.2", "libfoo.so.9", "libfoo.so.10"] {
+        let line = format!(in alloc; "./usr/lib/{name} type=file\n")?;
+        manifest.extend_from_slice(line.as_bytes())?;
+        let key = format!(in alloc; "usr/lib/{name}")?;
+        let content = library(alloc, name.as_bytes())?;
+        held.push((
+            Text::copy_of(alloc, key.as_bytes())?,
+            Text::from_vec(content),
+        ))?;
+    }
+    let want = done(b"3 libs, 0 links, 3 files opened\n", THREE_CACHE);
+    let devices = assert_update(&rt, alloc, image(&manifest), held, want)?;
+    assert_eq!(rt; devices.store.begun(), 3);
+    Ok(())
+}
+
+#[test]
+fn devices_that_never_fail(rt: HostRuntime) -> Result<(), Fail> {
+    let alloc = rt.alloc();
+    let words = strings(alloc, &["update"])?;
+    let mut store = SureStore::new(one(alloc, LIBZ_KEY, &LIBZ)?);
+    let mut disk = SureDisk::new(alloc, copy(alloc, Some(LIBZ_MANIFEST))?, None, None);
+    let mut input = SureSource::new(Vec::new(alloc));
+    let mut out = SureSink::new(alloc);
+    let status = run(alloc, &words, &mut store, &mut disk, &mut input, &mut out);
+    assert_eq!(rt; status, Status::Done);
+    assert_eq!(rt; out.written(), LIBZ_REPORT);
+    assert_slot(&rt, alloc, &mut disk, Slot::Cache, Some(ONE_CACHE))
+}
