@@ -1,11 +1,12 @@
 //! The top call.
 ghost use Rattle.std.specs.Prelude.{◌≡◌, ◌↔◌, ◌⊎◌, ◌≤◌, ℕ, List, None};
 ghost use Rattle.lib_types.specs.Counts.{HasRisen};
+ghost use Rattle.tree_face.specs.Disk.{KeepsOthersMade};
 ghost use Rattle.tree_face.specs.Told.{IfTold, Tells};
 ghost use Rattle.ldconfig_cli.specs.Libraries.{Library};
 ghost use Rattle.ldconfig_cli.specs.Outcome as outcomes;
 ghost use Rattle.ldconfig_cli.specs.Outcome.{outcome};
-ghost use Rattle.ldconfig_cli.specs.Run.{Answers, BeginsOnce, ComesTo, HasFailed, IfBothTold, IsCacheOf, LacksLibrary, NeedsManifest, OutputAfter, OutputBefore, DiskAfter, status_of};
+ghost use Rattle.ldconfig_cli.specs.Run.{Answers, BeginsOnce, ComesTo, HasFailed, IfBothTold, IsCacheOf, LacksLibrary, NeedsManifest, OutputAfter, OutputBefore, DiskAfter, status_of, tag};
 ghost use Rattle.ldconfig_cli.specs.Words.{IsUpdate};
 
 use crate::prepare::{Refusal, prepare};
@@ -48,6 +49,7 @@ fn update<S: Store, D: Disk, O: Sink>(
     ensures done { result ≡ Status.Done → IfBothTold (S.state store.old).held (D.state disk.old).told (λ contents content. status_of (outcome contents content.now.manifest) ≡ Status.Done) }
 
     ensures disk { Tells (DiskAfter result (S.state store.old).held) (D.state disk.old).told (D.state disk.new).told }
+    ensures made { KeepsOthersMade tag Slot.Cache (D.state disk.old) (D.state disk.new) }
     ensures output { OutputBefore result (S.state store.old).held (D.state disk.old).told (O.state out.old) (O.state out.new) }
     ensures held { (S.state store.new).held ≡ (S.state store.old).held }
     ensures begun { BeginsOnce (D.state disk.old).told (S.state store.old) (S.state store.new) }
@@ -85,6 +87,7 @@ pub fn run<S: Store, D: Disk, I: Source, O: Sink>(
     ensures usage { (result ≡ Status.Usage) ↔ (IsUpdate words.now → ⊥) }
     ensures disk_fault { result ≡ Status.DiskFault → HasRisen (D.state disk.old).faults (D.state disk.new).faults }
     ensures no_manifest { result ≡ Status.NoManifest → IfTold (D.state disk.old).told (λ content. content.now.manifest ≡ None) }
+    ensures manifest { NeedsManifest result (D.state disk.old).told }
     ensures not_built { result ≡ Status.NotBuilt → ComesTo (S.state store.old) (D.state disk.old) outcomes.NotBuilt }
     ensures store_fault { result ≡ Status.StoreFault → HasRisen (S.state store.old).faults (S.state store.new).faults ⊎ LacksLibrary (S.state store.old).held (D.state disk.old).told }
     ensures output_fault { result ≡ Status.OutputFault → HasRisen (O.state out.old).faults (O.state out.new).faults }
@@ -96,6 +99,7 @@ pub fn run<S: Store, D: Disk, I: Source, O: Sink>(
 
     // What is left on the disk and on the output.
     ensures disk { Tells (DiskAfter result (S.state store.old).held) (D.state disk.old).told (D.state disk.new).told }
+    ensures made { KeepsOthersMade tag Slot.Cache (D.state disk.old) (D.state disk.new) }
     ensures one_cache { (found : List Library) (bytes others : List ℕ) → IsCacheOf found bytes → IsCacheOf found others → bytes ≡ others }
     ensures output { OutputAfter result (S.state store.old).held (D.state disk.old).told (O.state out.old) (O.state out.new) }
     ensures held { (S.state store.new).held ≡ (S.state store.old).held }

@@ -2,6 +2,7 @@
 ghost use Rattle.std.specs.Prelude.{◌≡◌, ◌⊎◌, ◌≤◌, None, Some, All, length, map, IfOk, IsErrOf, IsSomeAnd, MatchResult};
 ghost use Rattle.std.specs.String.{string_bytes};
 ghost use Rattle.lib_types.specs.Counts.{HasRisen};
+ghost use Rattle.tree_face.specs.Disk.{KeepsMade};
 ghost use Rattle.tree_face.specs.Store.{BeginsAtMost};
 ghost use Rattle.tree_face.specs.Told.{IfTold};
 ghost use Rattle.ldconfig_cli.specs.Libraries.{libraries, seen};
@@ -107,6 +108,7 @@ fn manifest_text<D: Disk>(alloc: Global, disk: &mut D) -> Result<Vec<u8>, Manife
     ensures no_manifest { IsErrOf result ManifestFault.NoManifest → IfTold (D.state disk.old).told (λ content. content.now.manifest ≡ None) }
     ensures cause { IsErrOf result ManifestFault.Disk → HasRisen (D.state disk.old).faults (D.state disk.new).faults }
     ensures told { (D.state disk.new).told ≡ (D.state disk.old).told }
+    ensures made { KeepsMade (D.state disk.old) (D.state disk.new) }
     ensures faults { (D.state disk.old).faults ≤ (D.state disk.new).faults }
 {
     match disk.read(alloc, Slot::Manifest) {
@@ -172,6 +174,7 @@ pub fn prepare<S: Store, D: Disk>(
     ensures held { (S.state store.new).held ≡ (S.state store.old).held }
     ensures begun { BeginsOnce (D.state disk.old).told (S.state store.old) (S.state store.new) }
     ensures told { (D.state disk.new).told ≡ (D.state disk.old).told }
+    ensures made { KeepsMade (D.state disk.old) (D.state disk.new) }
     ensures store_faults { (S.state store.old).faults ≤ (S.state store.new).faults }
     ensures disk_faults { (D.state disk.old).faults ≤ (D.state disk.new).faults }
 {

@@ -1,6 +1,7 @@
 //! The replacement of a slot.
 ghost use Rattle.std.specs.Prelude.{◌≤◌, OnOk, OnErr};
 ghost use Rattle.lib_types.specs.Counts.{HasRisen};
+ghost use Rattle.tree_face.specs.Disk.{KeepsOthersMade};
 ghost use Rattle.tree_face.specs.Told.{Tells};
 ghost use Rattle.ldconfig_cli.specs.Replace.{Replaces, MayReplace};
 
@@ -11,6 +12,7 @@ use tree_face::{Disk, Slot, Tag};
 pub fn replace<D: Disk>(disk: &mut D, tag: Tag, slot: Slot, bytes: &[u8]) -> Result<(), Failed>
     ensures done { OnOk result (Tells (Replaces tag.0 slot bytes.now) (D.state disk.old).told (D.state disk.new).told) }
     ensures failed { OnErr result (Tells (MayReplace tag.0 slot bytes.now) (D.state disk.old).told (D.state disk.new).told) }
+    ensures made { KeepsOthersMade tag.0 slot (D.state disk.old) (D.state disk.new) }
     ensures faults { (D.state disk.old).faults ≤ (D.state disk.new).faults }
     ensures cause { OnErr result (HasRisen (D.state disk.old).faults (D.state disk.new).faults) }
 {

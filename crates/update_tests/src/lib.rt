@@ -14,3 +14,5 @@ mod images;
 mod refusals;
 #[cfg(test)]
 mod samples;
+#[cfg(test)]
+mod updaters;

@@ -1,0 +1,25 @@
+//! Several updaters at one disk: each has temporary files of its own.
+use crate::fixture::{LIBZ_KEY, LIBZ_MANIFEST, assert_slot, image, make_devices, one, strings};
+use crate::samples::{LIBZ, ONE_CACHE};
+use ldconfig_cli::{Status, run};
+use std::test::Fail;
+use tree_face::{Disk, Slot, Tag};
+
+#[test]
+fn an_update_between_two_calls_of_another(rt: HostRuntime) -> Result<(), Fail> {
+    let alloc = rt.alloc();
+    let words = strings(alloc, &["update"])?;
+    let devices = make_devices(alloc, image(LIBZ_MANIFEST), one(alloc, LIBZ_KEY, &LIBZ)?)?;
+    let mut store = devices.store;
+    let mut disk = devices.disk;
+    let mut input = devices.input;
+    let mut out = devices.out;
+    disk.create(Tag(1), Slot::Cache)?;
+    disk.append(Tag(1), Slot::Cache, b"other")?;
+    let status = run(alloc, &words, &mut store, &mut disk, &mut input, &mut out);
+    assert_eq!(rt; status, Status::Done);
+    let made = disk.read(alloc, Slot::Cache)?;
+    assert_eq!(rt; made.as_ref().map(|v| v.as_slice()), Some(ONE_CACHE));
+    disk.publish(Tag(1), Slot::Cache)?;
+    assert_slot(&rt, alloc, &mut disk, Slot::Cache, Some(b"other"))
+}
