@@ -1,1 +1,3 @@
+pub mod Folder
+pub mod Start
 pub mod Untold

@@ -16,6 +16,10 @@ untold_store c = record {
   taken = c.taken;
 }
 
+-- the counts of a store that was not used yet
+abbrev pub no_counts : StoreCounts
+no_counts = record { size = None; faults = 0; begun = 0; taken = 0 }
+
 -- any temporary file may have been made
 abbrev pub untold_disk : ℕ → DiskState
 untold_disk faults = record { told = None; made = λ _ _. true; faults = faults }

@@ -1,6 +1,8 @@
 //! The slots of an image that is unpacked in a folder.
-ghost use Rattle.std.specs.Prelude.{◌≤◌, OnErr};
+ghost use Rattle.std.specs.Prelude.{◌≡◌, ◌≤◌, map, IfOk, OnErr};
+ghost use Rattle.std.specs.Result.{is_err};
 ghost use Rattle.lib_types.specs.Counts.{HasRisen};
+ghost use Rattle.ldconfig.specs.Folder.{file_of, folders_to};
 ghost use Rattle.ldconfig.specs.Untold.{untold_disk};
 
 use crate::counts::one_more;
@@ -31,7 +33,9 @@ const CACHE_MODE: u32 = 0o644;
 const FOLDER_MODE: u32 = 0o755;
 
 // A slot's file, below the root.
-fn file_of(slot: Slot) -> &'static str {
+fn file_of(slot: Slot) -> &'static str
+    ensures { result.now ≡ file_of slot }
+{
     match slot {
         Slot::Manifest => "image.mtree",
         Slot::Cache => "etc/ld.so.cache",
@@ -40,7 +44,9 @@ fn file_of(slot: Slot) -> &'static str {
 }
 
 // The folders on the way from the root to a slot's file.
-fn folders_to(slot: Slot) -> &'static [&'static str] {
+fn folders_to(slot: Slot) -> &'static [&'static str]
+    ensures { map (λ folder. folder.now) result.now ≡ folders_to slot }
+{
     match slot {
         Slot::Manifest => &[],
         Slot::Cache => &["etc"],
@@ -50,7 +56,9 @@ fn folders_to(slot: Slot) -> &'static [&'static str] {
 
 impl<R: Runtime> FolderDisk<R> {
     /// The slots in the folder `root`.
-    pub fn new(rt: R, root: &str) -> Result<FolderDisk<R>, NoMemory> {
+    pub fn new(rt: R, root: &str) -> Result<FolderDisk<R>, NoMemory>
+        ensures { IfOk result (λ disk. disk.faults ≡ 0) }
+    {
         let root = String::from_str(rt.alloc(), root)?;
         Ok(FolderDisk {
             rt,
@@ -124,6 +132,7 @@ impl<R: Runtime> FolderDisk<R> {
 
     // The answer of a writing call, which counts a failure.
     fn answer(&mut self, done: io::Result<()>) -> Result<(), Failed>
+        ensures same { is_err result ≡ is_err done }
         ensures faults { self.old.faults ≤ self.new.faults }
         ensures cause { OnErr result (HasRisen self.old.faults self.new.faults) }
     {

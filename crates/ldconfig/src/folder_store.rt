@@ -1,5 +1,6 @@
 //! A store of the files below a folder.
-ghost use Rattle.ldconfig.specs.Untold.{untold_store};
+ghost use Rattle.std.specs.Prelude.{◌≡◌, IfOk};
+ghost use Rattle.ldconfig.specs.Untold.{no_counts, untold_store};
 
 use crate::counts::{StoreCounts, one_more};
 use lib_types::{Failed, NoMemory};
@@ -19,7 +20,9 @@ pub struct FolderStore<R: Runtime> {
 
 impl<R: Runtime> FolderStore<R> {
     /// The store of the files below `root`.
-    pub fn new(rt: R, root: &str) -> Result<FolderStore<R>, NoMemory> {
+    pub fn new(rt: R, root: &str) -> Result<FolderStore<R>, NoMemory>
+        ensures { IfOk result (λ store. store.counts ≡ no_counts) }
+    {
         let root = String::from_str(rt.alloc(), root)?;
         Ok(FolderStore {
             rt,

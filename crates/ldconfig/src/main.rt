@@ -1,6 +1,9 @@
 //! `ldconfig` for images: keeps the loader's cache of a folder that has a manifest.
 #![tactic(auto)]
 
+ghost use Rattle.std.specs.Prelude.{◌≡◌};
+ghost use Rattle.ldconfig.specs.Start.{code_of};
+
 mod counts;
 mod folder_disk;
 mod folder_store;
@@ -26,7 +29,9 @@ enum StartFault {
 
 impl StartFault {
     // The exit status: that of want of memory, or one that no command ends with.
-    fn code(self) -> u8 {
+    fn code(self) -> u8
+        ensures { result ≡ code_of self }
+    {
         match self {
             StartFault::NoMemory => 14,
             StartFault::Other => 20,
@@ -35,12 +40,20 @@ impl StartFault {
 }
 
 impl From<NoMemory> for StartFault {
+    ghost use Rattle.ldconfig.specs.declared.StartFault.TheVariants as start_fault;
+
+    ghost from_gives = { λ _ fault. fault ≡ start_fault.NoMemory };
+
     fn from(_: NoMemory) -> Self {
         StartFault::NoMemory
     }
 }
 
 impl From<AllocError> for StartFault {
+    ghost use Rattle.ldconfig.specs.declared.StartFault.TheVariants as start_fault;
+
+    ghost from_gives = { λ _ fault. fault ≡ start_fault.NoMemory };
+
     fn from(_: AllocError) -> Self {
         StartFault::NoMemory
     }

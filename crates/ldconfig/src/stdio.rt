@@ -1,4 +1,5 @@
 //! Standard input and output.
+ghost use Rattle.std.specs.Prelude.{◌≡◌};
 ghost use Rattle.ldconfig.specs.Untold.{untold_source, untold_sink};
 
 use crate::counts::one_more;
@@ -23,7 +24,9 @@ pub struct StdoutSink<R: Runtime> {
 }
 
 impl<R: Runtime> StdinSource<R> {
-    pub fn new(rt: R) -> StdinSource<R> {
+    pub fn new(rt: R) -> StdinSource<R>
+        ensures { result.faults ≡ 0 }
+    {
         let reader = rt.reader();
         StdinSource {
             rt,
@@ -34,7 +37,9 @@ impl<R: Runtime> StdinSource<R> {
 }
 
 impl<R: Runtime> StdoutSink<R> {
-    pub fn new(rt: R) -> StdoutSink<R> {
+    pub fn new(rt: R) -> StdoutSink<R>
+        ensures { result.faults ≡ 0 }
+    {
         StdoutSink { rt, faults: 0 }
     }
 }

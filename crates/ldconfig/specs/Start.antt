@@ -1,0 +1,9 @@
+-- The exit statuses of a start that fails.
+use Rattle.std.specs.Prelude.{ℕ}
+use Rattle.ldconfig.specs.declared.StartFault.{StartFault}
+use Rattle.ldconfig.specs.declared.StartFault.TheVariants.{NoMemory, Other}
+
+-- that of want of memory, or one that no command ends with
+abbrev pub code_of : StartFault → ℕ
+code_of NoMemory = 14
+code_of Other = 20
