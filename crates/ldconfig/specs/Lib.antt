@@ -1,3 +1,1 @@
-pub mod Folder
 pub mod Start
-pub mod Untold

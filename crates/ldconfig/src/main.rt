@@ -1,34 +1,41 @@
 //! `ldconfig` for images: keeps the loader's cache of a folder that has a manifest.
 #![tactic(auto)]
 
-ghost use Rattle.std.specs.Prelude.{◌≡◌};
+ghost use Rattle.std.specs.Prelude.{◌≡◌, None};
 ghost use Rattle.ldconfig.specs.Start.{code_of};
 
-mod counts;
-mod folder_disk;
-mod folder_store;
-mod stdio;
-
-use folder_disk::FolderDisk;
-use folder_store::FolderStore;
-use ldconfig_cli::run;
+use ldconfig_cli::{Status, run};
 use lib_types::NoMemory;
 use std::alloc::AllocError;
+use std::io::{Error, ErrorKind};
 use std::process::ExitCode;
+use std::random::RandomSource;
 use std::rt::Runtime;
-use std::{env, io};
-use stdio::{StdinSource, StdoutSink};
+use std::{env, io, process};
+use tree_real::{FolderDisk, FolderStore, RunId, StdinSource, StdoutSink, write_error_line};
+
+// A line for each command.
+const USAGE: &str =
+    "usage: ldconfig update: makes etc/ld.so.cache of the libraries in image.mtree, in the folder of an image";
+
+const NO_MANIFEST: &str =
+    "ldconfig: image.mtree: No such file or directory\nldconfig: this makes one: (echo '#mtree'; find usr -type f -printf './%p type=file\\n') >image.mtree";
+
+const OUT_OF_MEMORY: &str = "ldconfig: out of memory";
+
+const NOT_BUILT: &str =
+    "ldconfig: the image asks for what this version does not build: README.md lists what it does";
 
 /// Why no command was run.
 #[derive(Clone, Copy, Debug, PartialEq, Eq)]
 enum StartFault {
     NoMemory,
-    /// The words can't be had: one isn't text, say.
+    /// The arguments or a random number aren't there: an argument isn't text, for example.
     Other,
 }
 
 impl StartFault {
-    // The exit status: that of want of memory, or one that no command ends with.
+    // The exit status: that of a command that is out of memory, or one that no command ends with.
     fn code(self) -> u8
         ensures { result ≡ code_of self }
     {
@@ -69,34 +76,92 @@ impl From<io::Error> for StartFault {
     }
 }
 
-// The words behind the program's name.
-fn words<R: Runtime + AllocGlobal>(rt: &R) -> Result<Vec<String>, StartFault> {
-    let mut args = env::args(rt)?;
+// Why no command was run. What it is about is written on the error output; `main` writes that memory is out.
+fn fault_of<R: Runtime>(rt: &R, name: &str, error: io::Error) -> StartFault {
+    let fault = StartFault::from(error);
+    if fault == StartFault::Other {
+        write_error_line(rt, name, error);
+    }
+    fault
+}
+
+// The arguments behind the program's name.
+fn arguments<R: Runtime + AllocGlobal>(rt: &R) -> io::Result<Vec<String>> {
+    let mut args = match env::args(rt) {
+        Ok(args) => args,
+        Err(error) if error.kind() == ErrorKind::InvalidData => {
+            return Err(Error::new(error.kind(), "one isn't UTF-8 text"));
+        }
+        Err(error) => return Err(error),
+    };
     let _program = args.next();
     Ok(args.collect(rt.alloc())?)
 }
 
-// Runs the command in the current folder, and answers its exit status.
-fn run_here<R: Runtime + AllocGlobal>(rt: R) -> Result<u8, StartFault> {
-    let words = words(&rt)?;
+// What makes this run's temporary files its own.
+fn run_id<R: Runtime + RandomSource>(rt: &R, process: u32) -> io::Result<RunId> {
+    let mut bytes = [0u8; 8];
+    rt.fill_bytes(&mut bytes)?;
+    Ok(RunId {
+        process,
+        random: u64::from_le_bytes(bytes),
+    })
+}
+
+// What a person can do after a command that ended so. The devices have said themselves what failed in them.
+fn advice(status: Status, wrote_cache: bool) -> Option<&'static str>
+    ensures { status ≡ Status.Done → result ≡ None }
+{
+    match status {
+        Status::Usage => Some(USAGE),
+        Status::NoManifest => Some(NO_MANIFEST),
+        Status::NotBuilt => Some(NOT_BUILT),
+        Status::NoMemory => Some(OUT_OF_MEMORY),
+        Status::OutputFault if wrote_cache => Some("ldconfig: etc/ld.so.cache was written"),
+        _ => None,
+    }
+}
+
+// Runs the command in the current folder, and returns its exit status.
+fn run_here<R: Runtime + AllocGlobal + RandomSource>(
+    rt: &R,
+    process: u32,
+) -> Result<u8, StartFault> {
+    let arguments = match arguments(rt) {
+        Ok(arguments) => arguments,
+        Err(error) => return Err(fault_of(rt, "arguments", error)),
+    };
+    let id = match run_id(rt, process) {
+        Ok(id) => id,
+        Err(error) => return Err(fault_of(rt, "random number", error)),
+    };
     let mut store = FolderStore::new(rt.clone()?, ".")?;
-    let mut disk = FolderDisk::new(rt.clone()?, ".")?;
+    let mut disk = FolderDisk::new(rt.clone()?, ".", id)?;
     let mut input = StdinSource::new(rt.clone()?);
     let mut output = StdoutSink::new(rt.clone()?);
     let status = run(
         rt.alloc(),
-        &words,
+        &arguments,
         &mut store,
         &mut disk,
         &mut input,
         &mut output,
     );
+    if let Some(text) = advice(status, disk.wrote_cache()) {
+        let _ = rt.eprintln(text);
+    }
     Ok(status.code())
 }
 
 fn main(rt: HostRuntime) -> ExitCode {
-    match run_here(rt) {
+    let process = process::id(rt.process());
+    match run_here(&rt, process) {
         Ok(code) => ExitCode::from(code),
-        Err(fault) => ExitCode::from(fault.code()),
+        Err(fault) => {
+            if fault == StartFault::NoMemory {
+                let _ = rt.eprintln(OUT_OF_MEMORY);
+            }
+            ExitCode::from(fault.code())
+        }
     }
 }

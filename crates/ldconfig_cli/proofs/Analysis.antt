@@ -14,7 +14,7 @@ use Rattle.lib_types.specs.Name.{is_name}
 use Rattle.ldconfig_cli.specs.declared.elf.Segment.{Segment}
 use Rattle.ldconfig_cli.specs.declared.elf.DynamicEntry.{DynamicEntry}
 use Rattle.ldconfig_cli.specs.Elf.{class, encoding, word_size, etype, machine, segments, dynamic_entries, strtab, strsz, soname, has_tag, value_of, has_text, counting_after, string_table, table_in, is_load, has_address}
-use Rattle.ldconfig_cli.specs.Analysis.{has_magic, is_below, has_class, abi, has_bad_headers, dynamic_segment, is_outside, entries, lacks_table, table, has_table_outside, first_bad, soname_in, dt_soname, sentences, library_of, analysis_by, analysis, is_x86_64}
+use Rattle.ldconfig_cli.specs.Analysis.{has_magic, is_shorter_than, has_class, abi, has_bad_headers, dynamic_segment, is_outside, entries, lacks_table, table, has_table_outside, first_bad, soname_in, dt_soname, sentences, as_library, analysis_by, analysis, is_x86_64}
 use Rattle.ldconfig_cli.specs.Reading.{is_shared_x86_64, has_all_texts, name_by, name_of, name_at, reading}
 use Rattle.ldconfig_cli.proofs.Counting.{lacks_text, has_all_texts_lem}
 
@@ -31,22 +31,22 @@ refused [] bytes h = grind arith
 refused ((true, d) ∷ rows) bytes h = refl
 refused ((false, d) ∷ rows) bytes h = refused rows bytes h
 
-accepted : (rows : List (Bool × Defect)) (bytes : List ℕ) → holds_one rows ≡ false → analysis_by (first_of_rows rows) bytes ≡ library_of bytes
+accepted : (rows : List (Bool × Defect)) (bytes : List ℕ) → holds_one rows ≡ false → analysis_by (first_of_rows rows) bytes ≡ as_library bytes
 accepted [] bytes h = refl
 accepted ((true, d) ∷ rows) bytes h = grind arith
 accepted ((false, d) ∷ rows) bytes h = accepted rows bytes h
 
--- the ABI of the header is x86-64 by its machine and its class alone
-tells_abi : (a b c d m : Bool) (f : Abi → Option (List ℕ)) (e : Defect) → (a ≡ true → b ≡ false) → b ≡ m →
+-- only the machine and the class of the header decide that its ABI is x86-64
+gives_abi : (a b c d m : Bool) (f : Abi → Option (List ℕ)) (e : Defect) → (a ≡ true → b ≡ false) → b ≡ m →
     is_x86_64 (option_map_or (λ a. Lib a (f a)) (cond a (Some I386) (cond b (Some X86_64) (cond c (Some X32) (cond d (Some Aarch64) None)))) (Not e)) ≡ m
-tells_abi true b c d m f e h g = sym (h refl) ∙ g
-tells_abi false true c d m f e h g = g
-tells_abi false false true d m f e h g = g
-tells_abi false false false true m f e h g = g
-tells_abi false false false false m f e h g = g
+gives_abi true b c d m f e h g = sym (h refl) ∙ g
+gives_abi false true c d m f e h g = g
+gives_abi false false true d m f e h g = g
+gives_abi false false false true m f e h g = g
+gives_abi false false false false m f e h g = g
 
 is_x86_64_abi : (m k : ℕ) (f : Abi → Option (List ℕ)) (d : Defect) → is_x86_64 (option_map_or (λ a. Lib a (f a)) (abi_of_elf m k) (Not d)) ≡ ((m == 62) && (k == 2))
-is_x86_64_abi m k f d = tells_abi _ _ _ _ _ f d (grind (arith, nat_tests)) (grind (arith, nat_tests))
+is_x86_64_abi m k f d = gives_abi _ _ _ _ _ f d (grind (arith, nat_tests)) (grind (arith, nat_tests))
 
 -- ---- the texts
 
@@ -177,7 +177,7 @@ holds bytes k m =
     let abi_is_one : is_none (abi bytes) ≡ false = ap is_none (abi_is bytes k m) in
     let type_is : (etype bytes == 3) ≡ true → (etype bytes == 2) ≡ false = λ h. grind (arith, nat_tests) in
     let shared = shared_by (length bytes) (etype bytes) (has_magic bytes) (is_class_2 bytes) (encoding bytes == 1) (is_machine_62 bytes) k m in
-    rows_by (has_magic bytes) (is_below 16 bytes) (has_class bytes) (encoding bytes == 1) (is_below 64 bytes) (is_none (abi bytes)) (etype bytes == 2) (etype bytes == 3) (has_bad_headers 8 bytes)
+    rows_by (has_magic bytes) (is_shorter_than 16 bytes) (has_class bytes) (encoding bytes == 1) (is_shorter_than 64 bytes) (is_none (abi bytes)) (etype bytes == 2) (etype bytes == 3) (has_bad_headers 8 bytes)
     (is_none (dynamic_segment 8 bytes)) (option_map_or (is_outside bytes) (dynamic_segment 8 bytes) false) (lacks_table (entries 8 bytes)) (has_table_outside 8 bytes)
     (has_bad_text (table 8 bytes) (entries 8 bytes)) (has_bad_name (table 8 bytes) (entries 8 bytes))
     (shorter (length bytes)) class_is abi_is_one type_is
@@ -224,10 +224,10 @@ analysis_here : (bytes : List ℕ) → is_class_2 bytes ≡ true → analysis by
 unfolding analysis
 analysis_here bytes k = rw k refl
 
-library_here : (bytes : List ℕ) → is_class_2 bytes ≡ true → is_machine_62 bytes ≡ true → library_of bytes ≡ Lib X86_64 (dt_soname 8 bytes)
+library_here : (bytes : List ℕ) → is_class_2 bytes ≡ true → is_machine_62 bytes ≡ true → as_library bytes ≡ Lib X86_64 (dt_soname 8 bytes)
 library_here bytes k m = rw (abi_is bytes k m, k) refl
 
-says_by : (rows : List (Bool × Defect)) (bytes : List ℕ) (name : Option (List ℕ)) (b : Bool) → holds_one rows ≡ b → library_of bytes ≡ Lib X86_64 name → Says (found_by b name) (analysis_by (first_of_rows rows) bytes)
+says_by : (rows : List (Bool × Defect)) (bytes : List ℕ) (name : Option (List ℕ)) (b : Bool) → holds_one rows ≡ b → as_library bytes ≡ Lib X86_64 name → Says (found_by b name) (analysis_by (first_of_rows rows) bytes)
 says_by rows bytes name true h e = refused rows bytes h
 says_by rows bytes name false h e = accepted rows bytes h ∙ e
 

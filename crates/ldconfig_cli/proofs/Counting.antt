@@ -1,4 +1,4 @@
--- The entries that count have their texts where each DT_NEEDED and the first entry of each other tag has its text.
+-- The entries that count have their texts if each DT_NEEDED and the first entry of each other tag has its text.
 use Rattle.std.proofs.Common.{◌≡◌, ℕ, Bool, true, false, cond, not, ◌&&◌, ◌||◌, ◌==◌, List, [], ◌∷◌, find, Some, is_none, option_map, refl, ap, ◌∙◌, arith}
 use Rattle.std.proofs.lemmas.Bool.Decides.{nat_tests}
 use Rattle.std.specs.List.{list_all, list_any}

@@ -1,8 +1,9 @@
 pub mod Analysis
+pub mod Calls
 pub mod Counting
 pub mod Lacking
 pub mod Listing
-pub mod Lone
+pub mod OnlyArgument
 pub mod Ranges
 pub mod Short
 pub mod Slots

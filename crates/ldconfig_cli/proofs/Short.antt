@@ -1,4 +1,4 @@
--- Library names are no longer than their paths.
+-- NamedKey names are no longer than their paths.
 use Rattle.std.proofs.Common.{◌≡◌, ℕ, ◌≤◌, Bool, true, false, cond, ◌&&◌, nat_le, nat_eq, List, [], ◌∷◌, length, drop, Some, None, refl, sym, ap, arith, length-drop}
 use Rattle.std.proofs.lemmas.List.Sums.{AllPass-from_list_all}
 use Rattle.std.proofs.lemmas.List.Elements.{All-weaker}
@@ -10,33 +10,33 @@ use Rattle.tree_face.specs.declared.node.Node.TheVariants.{Dir, File, Link}
 use Rattle.tree_face.specs.Paths.{is_path, are_names, root}
 use Rattle.tree_face.specs.Tree.{Nodes, IsTree, is_entry}
 use Rattle.tree_face.specs.Node.{is_node}
-use Rattle.ldconfig_cli.specs.Libraries.{Library, named, library_of, library_folder, is_own_library_name, libraries}
-use Rattle.ldconfig_cli.specs.Manifest.{behind_head}
+use Rattle.ldconfig_cli.specs.Libraries.{NamedKey, named, library_file_of, library_folder, is_own_library_name, libraries}
+use Rattle.ldconfig_cli.specs.Manifest.{without_prefix}
 
-named_so : (name : List ℕ) (node : Node) (library : Library) → named name node ≡ Some library → library.0 ≡ name
+named_so : (name : List ℕ) (node : Node) (library : NamedKey) → named name node ≡ Some library → library.0 ≡ name
 named_so name Dir library e = cc
 named_so name (File key id) library e =
     elim (is_own_library_name name) as (λ b. cond b (Some (name, key)) None ≡ Some library → library.0 ≡ name) [
-      | true ↦ λ some. let same : (name, key) ≡ library = cc in ap (λ (l : Library). l.0) (sym same)
+      | true ↦ λ some. let same : (name, key) ≡ library = cc in ap (λ (l : NamedKey). l.0) (sym same)
       | false ↦ λ none. cc
     ] e
 named_so name (Link target) library e = cc
 
-rest_short : (head bytes rest : List ℕ) → behind_head head bytes ≡ Some rest → length rest ≤ length bytes
+rest_short : (head bytes rest : List ℕ) → without_prefix head bytes ≡ Some rest → length rest ≤ length bytes
 rest_short head bytes rest e =
     elim (starts_with nat_eq bytes head) as (λ b. cond b (Some (drop (length head) bytes)) None ≡ Some rest → length rest ≤ length bytes) [
       | true ↦ λ some. let same : drop (length head) bytes ≡ rest = cc in rw (← same) (omega (arith, length-drop (length head) bytes))
       | false ↦ λ none. absurd (cc none)
     ] e
 
-library_short : (e : List ℕ × Node) (library : Library) → library_of e ≡ Some library → length library.0 ≤ length e.0
+library_short : (e : List ℕ × Node) (library : NamedKey) → library_file_of e ≡ Some library → length library.0 ≤ length e.0
 library_short e library is =
-    elim (behind_head library_folder e.0) as (λ o. behind_head library_folder e.0 ≡ o → option_and_then (λ name. named name e.1) o ≡ Some library → length library.0 ≤ length e.0) [
+    elim (without_prefix library_folder e.0) as (λ o. without_prefix library_folder e.0 ≡ o → option_and_then (λ name. named name e.1) o ≡ Some library → length library.0 ≤ length e.0) [
       | None ↦ λ b none. absurd (cc none)
       | Some name ↦ λ b some. rw (named_so name e.1 library some) (rest_short library_folder e.0 name b)
     ] refl is
 
-abbrev pub is_short : Library → Bool
+abbrev pub is_short : NamedKey → Bool
 is_short library = nat_le (length library.0) 4095
 
 path_short : (e : List ℕ × Node) → is_entry e ≡ true → length e.0 ≤ 4095
@@ -45,12 +45,12 @@ path_short e entry =
     let front = (and_parts (nat_le (length e.0) 4095 && starts_with nat_eq e.0 root) (are_names (drop 1 e.0)) path).0 in
     leb-true _ _ (and_parts (nat_le (length e.0) 4095) (starts_with nat_eq e.0 root) front).0
 
-short_found : (t : Nodes) → list_all is_entry t ≡ true → list_all is_short (filter_map library_of t) ≡ true
+short_found : (t : Nodes) → list_all is_entry t ≡ true → list_all is_short (filter_map library_file_of t) ≡ true
 short_found [] entries = refl
 short_found (e ∷ t) entries =
     let parts = and_parts (is_entry e) (list_all is_entry t) entries in
     let rest = short_found t parts.1 in
-    elim (library_of e) as (λ o. library_of e ≡ o → list_all is_short (cons_option o (filter_map library_of t)) ≡ true) [
+    elim (library_file_of e) as (λ o. library_file_of e ≡ o → list_all is_short (cons_option o (filter_map library_file_of t)) ≡ true) [
       | None ↦ λ none. rest
       | Some library ↦ λ some.
           let here = library_short e library some in
@@ -62,5 +62,5 @@ short_found (e ∷ t) entries =
 pub short_libraries : (t : Nodes) → IsTree t → All (λ library. length library.0 ≤ 4095) (libraries t)
 unfolding libraries
 short_libraries t tree =
-    All-weaker (λ (library : Library). is_short library ≡ true) (λ library. length library.0 ≤ 4095) (λ library short. leb-true _ _ short) _
-    (AllPass-from_list_all is_short (filter_map library_of t) (short_found t tree.entries))
+    All-weaker (λ (library : NamedKey). is_short library ≡ true) (λ library. length library.0 ≤ 4095) (λ library short. leb-true _ _ short) _
+    (AllPass-from_list_all is_short (filter_map library_file_of t) (short_found t tree.entries))

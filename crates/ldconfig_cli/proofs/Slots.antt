@@ -3,28 +3,31 @@ use Rattle.std.proofs.Common.{List, ℕ, Option, Some, None, inr}
 use Rattle.tree_face.specs.declared.disk.Slot.TheVariants.{Cache}
 use Rattle.tree_face.specs.Disk.{DiskContent}
 use Rattle.tree_face.specs.Store.{Contents}
-use Rattle.tree_face.specs.Told.{IfTold, Tells}
+use Rattle.tree_face.specs.Known.{IfKnown, Relates}
 use Rattle.ldconfig_cli.specs.Replace.{MayReplace}
-use Rattle.ldconfig_cli.specs.Run.{IfBothTold, IsUpdateOf, LeavesCache, MayLeaveCache, tag}
+use Rattle.ldconfig_cli.specs.Update.{LeavesCache, MayLeaveCache, tag}
+use Rattle.ldconfig_cli.specs.Cache.{IsUpdateOf}
+use Rattle.ldconfig_cli.specs.Devices.{IfBothKnown}
+use Rattle.ldconfig_cli.specs.Manifest.{manifest_of}
 
--- the bytes are the update of what both tell
+-- the bytes are the update of the contents, if these are known
 abbrev pub IsUpdate : Option Contents → Option DiskContent → List ℕ → ℕ → Type 0
-IsUpdate held told bytes count = IfBothTold held told (λ contents content. IsUpdateOf contents content bytes count)
+IsUpdate held disk bytes count = IfBothKnown held disk (λ contents content. IsUpdateOf contents (manifest_of content.now.manifest) bytes count)
 
-told_content : (held : Option Contents) (a : DiskContent) (bytes : List ℕ) (count : ℕ) → IsUpdate held (Some a) bytes count → IfTold held (λ contents. IsUpdateOf contents a bytes count)
-told_content None a bytes count update = tt
-told_content (Some contents) a bytes count update = update
+known_content : (held : Option Contents) (a : DiskContent) (bytes : List ℕ) (count : ℕ) → IsUpdate held (Some a) bytes count → IfKnown held (λ contents. IsUpdateOf contents (manifest_of a.now.manifest) bytes count)
+known_content None a bytes count update = tt
+known_content (Some contents) a bytes count update = update
 
 module _ (Writes : List ℕ → DiskContent → DiskContent → Type 0) where
   pub leaves_cache : (held : Option Contents) (a b : Option DiskContent) (bytes : List ℕ) (count : ℕ) → IsUpdate held a bytes count →
-      Tells (Writes bytes) a b → Tells (LeavesCache Writes held) a b
+      Relates (Writes bytes) a b → Relates (LeavesCache Writes held) a b
   leaves_cache held None None bytes count update written = tt
   leaves_cache held None (Some b) bytes count update written = written
   leaves_cache held (Some a) None bytes count update written = written
   leaves_cache held (Some a) (Some b) bytes count update written =
-      record { cache = bytes; count = count; written = written; is_cache = told_content held a bytes count update }
+      record { cache = bytes; count = count; written = written; is_cache = known_content held a bytes count update }
 
-pub may_leave_cache : (held : Option Contents) (a b : Option DiskContent) → Tells (LeavesCache (MayReplace tag Cache) held) a b → Tells (MayLeaveCache held) a b
+pub may_leave_cache : (held : Option Contents) (a b : Option DiskContent) → Relates (LeavesCache (MayReplace tag Cache) held) a b → Relates (MayLeaveCache held) a b
 may_leave_cache held None None leaves = tt
 may_leave_cache held None (Some b) leaves = leaves
 may_leave_cache held (Some a) None leaves = leaves

@@ -13,9 +13,9 @@ use Rattle.lib_types.specs.declared.entry.Entry.{Entry}
 use Rattle.name_order.specs.Order.{name_order}
 use Rattle.name_order.proofs.Total.{name_order-exact, name_order-total}
 use Rattle.ldconfig_cli.specs.CacheText.{cache_text}
-use Rattle.ldconfig_cli.specs.Entries.{AreEntriesOf, entry_of}
-use Rattle.ldconfig_cli.specs.Libraries.{Library}
-use Rattle.ldconfig_cli.specs.Run.{IsCacheOf}
+use Rattle.ldconfig_cli.specs.Entries.{AreEntriesOf, cache_entry_of}
+use Rattle.ldconfig_cli.specs.Libraries.{NamedKey}
+use Rattle.ldconfig_cli.specs.Cache.{IsCacheOf}
 use Rattle.ldconfig_cli.proofs.Listing.{sorted_items}
 
 -- lists of which each function has the same sum have the same elements
@@ -26,26 +26,26 @@ HaveSameSums {X} xs ys = (f : X → ℕ) → sum_by f ys ≡ sum_by f xs
 least_first : {X : Type 0} (lt : X → X → Bool) → IsStrictWeakOrder lt → (x y : X) (xs ys : List X) → IsSortedBy lt (x ∷ xs) → HaveSameSums (x ∷ xs) (y ∷ ys) → lt y x ≡ false
 least_first {X = X} lt o x y xs ys sorted same = by (lt y x) refl
   where
-    is_below : X → ℕ
-    is_below z = cond (lt z x) 1 0
+    counts_below : X → ℕ
+    counts_below z = cond (lt z x) 1 0
 
-    none : All (λ z. is_below z ≤ 0) (x ∷ xs)
-    none = All-from_get_or (λ z. is_below z ≤ 0) (x ∷ xs) x
+    none : All (λ z. counts_below z ≤ 0) (x ∷ xs)
+    none = All-from_get_or (λ z. counts_below z ≤ 0) (x ∷ xs) x
         (λ i within. rw (sorted_far lt o (x ∷ xs) sorted 0 i x (omega arith) within) (omega arith))
 
     by : (b : Bool) → lt y x ≡ b → b ≡ false
     by false e = refl
     by true e =
-        let one : is_below y ≡ 1 = rw e refl in
-        let few = sum_by-le is_below 0 (x ∷ xs) none in
-        absurd (omega (arith, one, few, same is_below, sum_by-cons is_below y ys))
+        let one : counts_below y ≡ 1 = rw e refl in
+        let few = sum_by-le counts_below 0 (x ∷ xs) none in
+        absurd (omega (arith, one, few, same counts_below, sum_by-cons counts_below y ys))
 
 sorted_rest : {X : Type 0} (lt : X → X → Bool) (x : X) (xs : List X) → IsSortedBy lt (x ∷ xs) → IsSortedBy lt xs
 sorted_rest lt x xs sorted k d low high =
     let e : suc k + 1 ≡ suc (k + 1) = omega arith in
     subst (λ n. lt (get_or (x ∷ xs) n d) (get_or xs k d) ≡ false) e (sorted (suc k) d (omega arith) (omega arith))
 
--- sorted lists with the same elements are the same list, where no two elements tie
+-- sorted lists with the same elements are the same list if no two elements tie
 sorted_same : {X : Type 0} (lt : X → X → Bool) → IsStrictWeakOrder lt → ((x y : X) → lt x y ≡ false → lt y x ≡ false → x ≡ y)
     → (xs ys : List X) → HaveSameSums xs ys → IsSortedBy lt xs → IsSortedBy lt ys → xs ≡ ys
 sorted_same lt o exact [] [] same up upward = refl
@@ -72,26 +72,26 @@ names_same xs ys permutation up upward =
 
 -- an entry of a library is known by its soname
 abbrev IsNamed : Entry → Type 0
-IsNamed entry = entry_of (entry.soname, []) ≡ entry
+IsNamed entry = cache_entry_of (entry.soname, []) ≡ entry
 
-by_names : (entries : List Entry) → All IsNamed entries → map entry_of (map (λ soname. (soname, [])) (map (λ entry. entry.soname) entries)) ≡ entries
+by_names : (entries : List Entry) → All IsNamed entries → map cache_entry_of (map (λ soname. (soname, [])) (map (λ entry. entry.soname) entries)) ≡ entries
 by_names [] named = refl
 by_names (entry ∷ entries) named =
     let first = All-head IsNamed entry entries named in
     let rest = by_names entries (All-tail IsNamed entry entries named) in
     cc
 
-all_named : (found : List Library) (entries : List Entry) → AreEntriesOf found entries → All IsNamed entries
-all_named found entries are = All-permutation IsNamed _ _ are.all (All-map IsNamed entry_of found (λ k d within. refl))
+all_named : (found : List NamedKey) (entries : List Entry) → AreEntriesOf found entries → All IsNamed entries
+all_named found entries are = All-permutation IsNamed _ _ are.all (All-map IsNamed cache_entry_of found (λ k d within. refl))
 
-pub unique : (found : List Library) (entries others : List Entry) → AreEntriesOf found entries → AreEntriesOf found others → entries ≡ others
+pub unique : (found : List NamedKey) (entries others : List Entry) → AreEntriesOf found entries → AreEntriesOf found others → entries ≡ others
 unique found entries others are as_well =
     let names = names_same (map (λ (entry : Entry). entry.soname) entries) (map (λ (entry : Entry). entry.soname) others)
     (IsPermutation-map (λ (entry : Entry). entry.soname) entries others (IsPermutation-trans _ _ _ (IsPermutation-sym _ _ are.all) as_well.all))
     (sorted_items (λ (entry : Entry). entry.soname) (λ name. name) (flip_args name_order) entries are.descending)
     (sorted_items (λ (entry : Entry). entry.soname) (λ name. name) (flip_args name_order) others as_well.descending) in
-    sym (by_names entries (all_named found entries are)) ∙ ap (λ sonames. map entry_of (map (λ soname. (soname, [])) sonames)) names ∙ by_names others (all_named found others as_well)
+    sym (by_names entries (all_named found entries are)) ∙ ap (λ sonames. map cache_entry_of (map (λ soname. (soname, [])) sonames)) names ∙ by_names others (all_named found others as_well)
 
 -- libraries have one cache
-pub one_cache : (found : List Library) (bytes others : List ℕ) → IsCacheOf found bytes → IsCacheOf found others → bytes ≡ others
+pub one_cache : (found : List NamedKey) (bytes others : List ℕ) → IsCacheOf found bytes → IsCacheOf found others → bytes ≡ others
 one_cache found bytes others is are = is.text ∙ ap cache_text (unique found is.entries are.entries is.are are.are) ∙ sym are.text

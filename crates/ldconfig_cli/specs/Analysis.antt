@@ -23,8 +23,8 @@ magic = 0x7f ∷ 0x45 ∷ 0x4c ∷ 0x46 ∷ []
 abbrev pub has_magic : List ℕ → Bool
 has_magic bytes = starts_with nat_eq bytes magic
 
-abbrev pub is_below : ℕ → List ℕ → Bool
-is_below size bytes = nat_lt (length bytes) size
+abbrev pub is_shorter_than : ℕ → List ℕ → Bool
+is_shorter_than size bytes = nat_lt (length bytes) size
 
 abbrev pub has_class : List ℕ → Bool
 has_class bytes = (class bytes == 1) || (class bytes == 2)
@@ -53,14 +53,14 @@ dynamic_segment w bytes = find is_dynamic (segments w bytes)
 abbrev pub is_outside : List ℕ → Segment → Bool
 is_outside bytes s = nat_lt (length bytes) (s.offset + s.filesz)
 
--- the entries of the file, none where no segment has them
+-- the entries of the file, none if no segment has them
 unfoldable pub entries : ℕ → List ℕ → List DynamicEntry
 entries w bytes = option_map_or (dynamic_entries w bytes) (dynamic_segment w bytes) []
 
 abbrev pub lacks_table : List DynamicEntry → Bool
 lacks_table es = list_any has_text es && (is_none (value_of strtab es) || is_none (value_of strsz es))
 
--- the table of the file, where it stands in a segment's file part
+-- the table of the file, if it is in a segment's file part
 unfoldable pub table : ℕ → List ℕ → Option (List ℕ)
 table w bytes = string_table bytes (segments w bytes) (entries w bytes)
 
@@ -92,10 +92,10 @@ dt_soname w bytes = soname_in (table w bytes) (value_of soname (entries w bytes)
 abbrev pub sentences : ℕ → List ℕ → List (Bool × Defect)
 sentences w bytes =
     (not (has_magic bytes), NotElf)
-    ∷ (is_below 16 bytes, TooShort (length bytes))
+    ∷ (is_shorter_than 16 bytes, TooShort (length bytes))
     ∷ (not (has_class bytes), BadClass (class bytes))
     ∷ (not (encoding bytes == 1), BadData (encoding bytes))
-    ∷ (is_below (header_length w) bytes, TooShort (length bytes))
+    ∷ (is_shorter_than (header_length w) bytes, TooShort (length bytes))
     ∷ (is_none (abi bytes), BadMachine (machine bytes))
     ∷ (not (is_loadable bytes), NotShared (etype bytes))
     ∷ (has_bad_headers w bytes, BadPhdrs)
@@ -114,13 +114,13 @@ defect bytes = option_map (λ p. p.1) (find (λ p. p.0) (sentences (word_size by
 
 -- ---- the analysis
 
-abbrev pub library_of : List ℕ → Analysis
-library_of bytes =
+abbrev pub as_library : List ℕ → Analysis
+as_library bytes =
     option_map_or (λ abi. Lib abi (dt_soname (word_size bytes) bytes)) (abi bytes) (Not (BadMachine (machine bytes)))
 
 abbrev pub analysis_by : Option Defect → List ℕ → Analysis
 analysis_by (Some d) bytes = Not d
-analysis_by None bytes = library_of bytes
+analysis_by None bytes = as_library bytes
 
 unfoldable pub analysis : List ℕ → Analysis
 analysis bytes = analysis_by (defect bytes) bytes

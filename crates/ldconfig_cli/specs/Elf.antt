@@ -46,7 +46,7 @@ phnum w bytes = field bytes (at_class w 44 56) 2
 abbrev pub program_header_length : ℕ → ℕ
 program_header_length w = at_class w 32 56
 
--- the segment of the program header at a place of the file
+-- the segment of the program header at an offset of the file
 abbrev pub segment_at : ℕ → List ℕ → ℕ → Segment
 segment_at w bytes at = record {
   kind = field bytes at 4;
@@ -110,7 +110,7 @@ has_tag tag e = e.tag == tag
 abbrev pub value_of : ℕ → List DynamicEntry → Option ℕ
 value_of tag entries = option_map (λ e. e.value) (find (has_tag tag) entries)
 
--- the entries whose value is the place of a text in the string table
+-- the entries whose value is the offset of a text in the string table
 abbrev pub has_text : DynamicEntry → Bool
 has_text e = has_tag needed e || has_tag soname e || has_tag rpath e || has_tag runpath e
 
@@ -128,7 +128,7 @@ counting_entries entries = counting_after [] entries
 
 -- ---- the string table: DT_STRTAB is an address, DT_STRSZ the number of bytes
 
--- the bytes of the table whose address is in this segment, where they end neither past its file part nor past the file
+-- the bytes of the table whose address is in this segment, if they end neither past its file part nor past the file
 abbrev pub table_in : List ℕ → ℕ → ℕ → Segment → Option (List ℕ)
 table_in bytes address size s =
     let at = s.offset + (address - s.vaddr) in
@@ -148,14 +148,14 @@ string_table bytes segments entries =
 abbrev pub is_nul : ℕ → Bool
 is_nul b = b == 0
 
--- the bytes of the table from this place on, of which 65536 are looked at
+-- the bytes of the table from this offset on, of which 65536 are looked at
 unfoldable pub near : List ℕ → ℕ → List ℕ
 near table at = take 65536 (drop at table)
 
--- a NUL ends the text at this place of the table
+-- a NUL ends the text at this offset of the table
 abbrev pub has_text_at : List ℕ → ℕ → Bool
 has_text_at table at = nat_lt at (length table) && list_any is_nul (near table at)
 
--- the bytes from this place up to the NUL
+-- the bytes from this offset up to the NUL
 abbrev pub text_at : List ℕ → ℕ → List ℕ
 text_at table at = take_while (λ b. not (is_nul b)) (near table at)

@@ -8,33 +8,33 @@ use Rattle.name_order.specs.LibraryName.{is_library_name}
 use Rattle.tree_face.specs.declared.node.Node.{Node}
 use Rattle.tree_face.specs.declared.node.Node.TheVariants.{Dir, File, Link}
 use Rattle.tree_face.specs.Tree.{Nodes}
-use Rattle.ldconfig_cli.specs.Manifest.{behind_head}
+use Rattle.ldconfig_cli.specs.Manifest.{without_prefix}
 use Rattle.ldconfig_cli.specs.declared.libraries.LibraryFile.{LibraryFile}
 
 -- a name, and the key of the file's content
-abbrev pub Library : Type 0
-Library = List ℕ × List ℕ
+abbrev pub NamedKey : Type 0
+NamedKey = List ℕ × List ℕ
 
--- what the path of each place directly below it begins with
+-- the prefix of each path below it
 abbrev pub library_folder : List ℕ
 library_folder = codes "/usr/lib/"
 
 abbrev pub is_own_library_name : List ℕ → Bool
 is_own_library_name name = is_library_name name && not (list_any (λ b. b == slash) name)
 
-abbrev pub named : List ℕ → Node → Option Library
+abbrev pub named : List ℕ → Node → Option NamedKey
 named name Dir = None
 named name (File key id) = if is_own_library_name name then Some (name, key) else None
 named name (Link target) = None
 
-abbrev pub library_of : List ℕ × Node → Option Library
-library_of e = option_and_then (λ name. named name e.1) (behind_head library_folder e.0)
+abbrev pub library_file_of : List ℕ × Node → Option NamedKey
+library_file_of e = option_and_then (λ name. named name e.1) (without_prefix library_folder e.0)
 
 -- in the order of the tree, which in one folder is that of the names' bytes
-unfoldable pub libraries : Nodes → List Library
-libraries t = filter_map library_of t
+unfoldable pub libraries : Nodes → List NamedKey
+libraries t = filter_map library_file_of t
 
-abbrev pub seen : LibraryFile → Library
+abbrev pub seen : LibraryFile → NamedKey
 seen l = (l.name.now, l.key.now)
 
 abbrev pub name_of : LibraryFile → List ℕ

@@ -1,7 +1,6 @@
--- What an update of a manifest comes to, over given contents.
-use Rattle.std.specs.Prelude.{ℕ, Bool, true, false, List, [], ◌∷◌, ◌||◌, not, nat_lt, if◌then◌else◌, length, codes, Option, Some, None, unwrap_or}
-use Rattle.std.specs.List.{list_any, filter_map}
-use Rattle.std.specs.Option.{option_map_or}
+-- What an update of a manifest comes to, for given contents.
+use Rattle.std.specs.Prelude.{ℕ, ◌+◌, min, Bool, true, false, List, [], ◌∷◌, ◌||◌, not, nat_lt, if◌then◌else◌, length, codes, Option, Some, None, is_none, unwrap_or}
+use Rattle.std.specs.List.{list_any, filter_map, prefix_len}
 use Rattle.std.specs.Str.{bytes_eq}
 use Rattle.lib_types.specs.declared.abi.Abi.TheVariants.{X86_64}
 use Rattle.lib_types.specs.declared.analysis.Analysis.{Analysis}
@@ -11,8 +10,9 @@ use Rattle.tree_face.specs.declared.tree.Kind.TheVariants as kind
 use Rattle.tree_face.specs.Store.{Contents}
 use Rattle.tree_face.specs.Tree.{Nodes, kind_at}
 use Rattle.ldconfig_cli.specs.Analysis.{analysis}
-use Rattle.ldconfig_cli.specs.Libraries.{Library, libraries}
-use Rattle.ldconfig_cli.specs.Manifest.{tree_of}
+use Rattle.ldconfig_cli.specs.Libraries.{NamedKey, libraries}
+use Rattle.ldconfig_cli.specs.Manifest.{Manifest, Empty, NoTree, HasTree}
+use Rattle.ldconfig_cli.specs.declared.libraries.TheConstants.{ENTRIES_MAX}
 
 pub data Outcome : Type 0 where
   -- there is no manifest
@@ -22,7 +22,7 @@ pub data Outcome : Type 0 where
   -- the content of a library file isn't held
   Lacking : Outcome
   -- a cache of these libraries
-  Writes : List Library → Outcome
+  Writes : List NamedKey → Outcome
 
 abbrev pub is_absent : Kind → Bool
 is_absent kind.Absent = true
@@ -30,7 +30,7 @@ is_absent kind.Dir = false
 is_absent kind.File = false
 is_absent kind.Link = false
 
--- places that ldconfig(8) reads too
+-- paths that ldconfig(8) reads too
 abbrev pub other_places : List (List ℕ)
 other_places =
     codes "/etc/ld.so.conf" ∷ codes "/lib" ∷ codes "/lib64" ∷ codes "/usr/lib64" ∷ codes "/usr/lib/glibc-hwcaps" ∷ []
@@ -41,8 +41,9 @@ is_there t path = not (is_absent (kind_at t path))
 abbrev pub has_other_places : Nodes → Bool
 has_other_places t = list_any (is_there t) other_places
 
-abbrev pub most_entries : ℕ
-most_entries = 131072
+-- the image has what isn't built: another place, or more library files than a cache may have entries
+abbrev pub is_unbuilt : Nodes → Bool
+is_unbuilt t = has_other_places t || nat_lt ENTRIES_MAX (length (libraries t))
 
 -- a library of x86-64 whose soname is the name of its file
 abbrev pub is_own : List ℕ → Analysis → Bool
@@ -55,29 +56,33 @@ abbrev pub fault_by : List ℕ → Option (List ℕ) → Option Outcome
 fault_by name None = Some Lacking
 fault_by name (Some bytes) = if is_own name (analysis bytes) then None else Some NotBuilt
 
-abbrev pub fault_of : Contents → Library → Option Outcome
+abbrev pub fault_of : Contents → NamedKey → Option Outcome
 fault_of held library = fault_by library.0 (held library.1)
+
+abbrev pub is_fine : Contents → NamedKey → Bool
+is_fine held library = is_none (fault_of held library)
 
 abbrev pub first : {A : Type 0} → List A → Option A
 first [] = None
 first (x ∷ rest) = Some x
 
 -- the first library in the order of their names that stops the update
-abbrev pub first_fault : Contents → List Library → Option Outcome
+abbrev pub first_fault : Contents → List NamedKey → Option Outcome
 first_fault held found = first (filter_map (fault_of held) found)
 
-abbrev pub outcome_of_tree : Contents → Option Nodes → Outcome
-outcome_of_tree held None = NotBuilt
-outcome_of_tree held (Some t) =
-    if has_other_places t || nat_lt most_entries (length (libraries t)) then NotBuilt
-    else unwrap_or (first_fault held (libraries t)) (Writes (libraries t))
+-- ---- the whole
 
--- the library files of what the manifest's slot holds, none where it holds no tree
-abbrev pub library_files : Option (List ℕ) → List Library
-library_files None = []
-library_files (Some text) = option_map_or libraries (tree_of text) []
+-- the library files that an update reads: those of a tree that is built
+abbrev pub files_to_read : Manifest → List NamedKey
+files_to_read (HasTree t) = if is_unbuilt t then [] else libraries t
+files_to_read NoTree = []
+files_to_read Empty = []
 
--- the outcome of what the manifest's slot holds
-abbrev pub outcome : Contents → Option (List ℕ) → Outcome
-outcome held None = NoManifest
-outcome held (Some text) = outcome_of_tree held (tree_of text)
+-- of these files an update begins those up to and with the first that stops it
+abbrev pub begun_of : Contents → List NamedKey → ℕ
+begun_of held files = min (length files) (prefix_len (is_fine held) files + 1)
+
+abbrev pub outcome : Contents → Manifest → Outcome
+outcome held Empty = NoManifest
+outcome held NoTree = NotBuilt
+outcome held (HasTree t) = if is_unbuilt t then NotBuilt else unwrap_or (first_fault held (libraries t)) (Writes (libraries t))

@@ -1,4 +1,4 @@
--- What the reader of class 2 finds of x86-64 libraries, step by step. The clauses of its helpers cite these words.
+-- What the reader of class 2 finds of x86-64 libraries, step by step. The clauses of its helpers cite these definitions.
 use Rattle.std.specs.Prelude.{ℕ, Bool, true, if◌then◌else◌, ◌==◌, ◌&&◌, ◌||◌, not, nat_le, List, length, find, Option, Some, None, option_and_then}
 use Rattle.std.specs.List.{list_any, list_all}
 use Rattle.std.specs.Option.{option_map_or}
@@ -42,7 +42,7 @@ unfoldable pub name_of : List ℕ → List Segment → List DynamicEntry → Opt
 name_of bytes segments es =
     if list_any has_text es then option_and_then (name_by es) (string_table bytes segments es) else Some None
 
--- the DT_SONAME of a library that may have one, and nothing where the file is no library
+-- the DT_SONAME of a library that may have one, and None if the file is no library
 abbrev pub name_at : List ℕ → Segment → Option (Option (List ℕ))
 name_at bytes s =
     if is_outside bytes s then None else name_of bytes (segments 8 bytes) (dynamic_entries 8 bytes s)

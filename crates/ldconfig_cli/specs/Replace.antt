@@ -9,7 +9,7 @@ pub record Replaces (tag : ℕ) (slot : Slot) (bytes : List ℕ) (a b : DiskCont
   pub ended : b.temporary tag slot ≡ None
   pub others : KeepsOthers tag slot a.temporary b.temporary
 
--- a replacement that failed: the slot has these bytes or is as it was, and so is all else but the temporary file
+-- a replacement that failed: the slot has these bytes or is as it was; of all else only the temporary file may have changed
 pub record MayReplace (tag : ℕ) (slot : Slot) (bytes : List ℕ) (a b : DiskContent) : Type 0 where
   pub slots : (b.now ≡ a.now) ⊎ (b.now ≡ with_slot a.now slot (Some bytes))
   pub others : KeepsOthers tag slot a.temporary b.temporary

@@ -1,4 +1,4 @@
--- The line that tells of an update.
+-- The report of an update.
 use Rattle.std.specs.Prelude.{ℕ, List, ◌++◌, codes}
 use Rattle.std.specs.Fmt.{decimal}
 use Rattle.ldconfig_cli.specs.Manifest.{ended}

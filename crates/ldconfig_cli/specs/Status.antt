@@ -1,5 +1,8 @@
--- What each end of a command is told by: the exit status, and the line on the output.
-use Rattle.std.specs.Prelude.{ℕ, List, [], ◌∷◌, ◌++◌, codes}
+-- The exit status of each status, and the fault line on the output.
+use Rattle.std.specs.Prelude.{◌⊎◌, ℕ, List, [], ◌∷◌, ◌++◌, codes}
+use Rattle.lib_types.specs.Counts.{HasRisen}
+use Rattle.tree_face.specs.Known.{Relates}
+use Rattle.tree_face.specs.Stream.{SinkState, IsFollowedBy, IsFollowedByPart}
 use Rattle.ldconfig_cli.specs.declared.status.Status.{Status}
 use Rattle.ldconfig_cli.specs.declared.status.Status.TheVariants.{Done, Usage, StoreFault, DiskFault, OutputFault, NoMemory, NoManifest, NotBuilt}
 
@@ -16,13 +19,17 @@ code_of NotBuilt = 18
 abbrev pub line : List ℕ → List ℕ
 line text = text ++ 10 ∷ []
 
--- the line that tells of a refusal; without one after success, where the output has failed, and for want of memory
+-- the fault line, empty for a status that has none
 abbrev pub fault_line : Status → List ℕ
 fault_line Usage = line (codes "fault: Usage")
 fault_line StoreFault = line (codes "fault: StoreFault")
 fault_line DiskFault = line (codes "fault: DiskFault")
 fault_line NoManifest = line (codes "fault: NoManifest")
 fault_line NotBuilt = line (codes "fault: NotBuilt")
-fault_line Done = []
-fault_line OutputFault = []
-fault_line NoMemory = []
+fault_line _ = []
+
+-- a line is written, or a prefix of it if the sink has failed
+abbrev pub Says : List ℕ → SinkState → SinkState → Type 0
+Says text old new =
+    Relates (IsFollowedBy text) old.written new.written
+    ⊎ (HasRisen old.faults new.faults × Relates (IsFollowedByPart text) old.written new.written)

@@ -8,11 +8,11 @@ use Rattle.ldconfig_cli.specs.CacheText.{with_nul, table_of}
 abbrev pub texts : List (Bor (List ℕ) × ℕ) → List (List ℕ)
 texts entries = map (λ key. key.now) (keys_of entries)
 
--- the places of strings one after the other, from a place on
-abbrev pub places_from : ℕ → List (List ℕ) → List ℕ
-places_from place [] = []
-places_from place (text ∷ texts) = place ∷ places_from (place + length (with_nul text)) texts
+-- the offsets of strings one after the other, from an offset on
+abbrev pub offsets_from : ℕ → List (List ℕ) → List ℕ
+offsets_from place [] = []
+offsets_from place (text ∷ texts) = place ∷ offsets_from (place + length (with_nul text)) texts
 
--- the entries have the places of their strings, and the size is that of the strings
-abbrev pub IsPlaced : List (Bor (List ℕ) × ℕ) → ℕ → Type 0
-IsPlaced entries size = (values_of entries ≡ places_from 0 (texts entries)) × (size ≡ length (table_of (texts entries)))
+-- the entries have the offsets of their strings, and the size is that of the strings
+abbrev pub HasOffsets : List (Bor (List ℕ) × ℕ) → ℕ → Type 0
+HasOffsets entries size = (values_of entries ≡ offsets_from 0 (texts entries)) × (size ≡ length (table_of (texts entries)))

@@ -83,8 +83,8 @@ fn put_entry(out: &mut Vec<u8>, start: u32, pool: &Pool<'_>, entry: &Entry) -> R
     ensures { OnOk result (out.new.items ≡ out.old.items ++ entry_bytes start pool.now entry.now) }
 {
     put_u32(out, entry.abi.flags() as u32)?;
-    put_u32(out, start + pool.place(entry.soname.as_bytes()))?;
-    put_u32(out, start + pool.place(entry.path.as_bytes()))?;
+    put_u32(out, start + pool.offset(entry.soname.as_bytes()))?;
+    put_u32(out, start + pool.offset(entry.path.as_bytes()))?;
 
     // The unused number, and no hwcaps name.
     put_u32(out, 0)?;

@@ -1,52 +1,23 @@
 //! What keeps an update from being made.
-ghost use Rattle.std.specs.Prelude.{◌≡◌, ◌⊎◌, ◌≤◌, None, Some, length, map, IfOk, OnOk, IsErrOf, IsSomeAnd};
+ghost use Rattle.std.specs.Prelude.{◌≡◌, ◌⊎◌, ◌≤◌, None, Some, length, map, IfOk, IfErr, OnOk, IsErrOf, IsSomeAnd};
 ghost use Rattle.lib_types.specs.Counts.{HasRisen};
+ghost use Rattle.tree_face.specs.Known.{IfKnown};
 ghost use Rattle.tree_face.specs.Store.{BeginsAtMost};
-ghost use Rattle.tree_face.specs.Told.{IfTold};
 ghost use Rattle.ldconfig_cli.specs.Analysis.{analysis};
 ghost use Rattle.ldconfig_cli.specs.Libraries.{seen};
-ghost use Rattle.ldconfig_cli.specs.Outcome.{NotBuilt, Lacking, has_other_places, is_there, is_own, fault_of, first_fault};
-ghost use Rattle.ldconfig_cli.specs.declared.check.LibraryFault.TheVariants as library_fault;
+ghost use Rattle.ldconfig_cli.specs.Outcome.{NotBuilt, Lacking, has_other_places, is_there, is_own, fault_of, first_fault, begun_of};
+ghost use Rattle.ldconfig_cli.specs.Refusal.{IsOrNoMemory};
+ghost use Rattle.ldconfig_cli.specs.Update.{AreFineBefore};
 
 use crate::elf::x86_64_library;
 use crate::libraries::LibraryFile;
-use crate::whole::{ReadFault, read_whole};
+use crate::refusal::Refusal;
+use crate::whole::read_whole;
 use lib_types::NoMemory;
 use std::alloc::Global;
 use tree_face::{Kind, Store, Tree};
 
-/// Why the libraries of an image aren't taken.
-#[derive(Clone, Copy, Debug, PartialEq, Eq)]
-pub enum LibraryFault {
-    /// One isn't of x86-64 and of its own name.
-    NotBuilt,
-    /// The content of one can't be had.
-    Store,
-    NoMemory,
-}
-
-impl From<ReadFault> for LibraryFault {
-    ghost use Rattle.ldconfig_cli.specs.Reasons.{library_fault_of};
-
-    ghost from_gives = { λ fault e. e ≡ library_fault_of fault };
-
-    fn from(fault: ReadFault) -> Self {
-        match fault {
-            ReadFault::Store => LibraryFault::Store,
-            ReadFault::NoMemory => LibraryFault::NoMemory,
-        }
-    }
-}
-
-impl From<NoMemory> for LibraryFault {
-    ghost from_gives = { λ _ e. e ≡ library_fault.NoMemory };
-
-    fn from(_: NoMemory) -> Self {
-        LibraryFault::NoMemory
-    }
-}
-
-/// Whether a place is there that ldconfig would read and that isn't built yet.
+/// Whether something is there that ldconfig would read and that isn't built yet.
 pub fn has_other_places(tree: &Tree) -> bool
     ensures { result ≡ has_other_places tree.now }
 {
@@ -81,10 +52,12 @@ fn check_library<S: Store>(
     alloc: Global,
     store: &mut S,
     library: &LibraryFile<'_>,
-) -> Result<(), LibraryFault>
-    ensures built { OnOk result (IfTold (S.state store.old).held (λ held. fault_of held (seen library.now) ≡ None)) }
-    ensures not_built { IsErrOf result LibraryFault.NotBuilt → IfTold (S.state store.old).held (λ held. fault_of held (seen library.now) ≡ Some NotBuilt) }
-    ensures cause { IsErrOf result LibraryFault.Store → HasRisen (S.state store.old).faults (S.state store.new).faults ⊎ IsSomeAnd (S.state store.old).held (λ held. fault_of held (seen library.now) ≡ Some Lacking) }
+) -> Result<(), Refusal>
+    ensures built { OnOk result (IfKnown (S.state store.old).held (λ held. fault_of held (seen library.now) ≡ None)) }
+    ensures not_built { IsErrOf result Refusal.NotBuilt → IfKnown (S.state store.old).held (λ held. fault_of held (seen library.now) ≡ Some NotBuilt) }
+    ensures cause { IsErrOf result Refusal.Store → HasRisen (S.state store.old).faults (S.state store.new).faults
+        ⊎ IsSomeAnd (S.state store.old).held (λ held. fault_of held (seen library.now) ≡ Some Lacking) }
+    ensures others { (IsErrOf result Refusal.Disk → ⊥) × (IsErrOf result Refusal.NoManifest → ⊥) }
     ensures held { (S.state store.new).held ≡ (S.state store.old).held }
     ensures begun { BeginsAtMost 1 (S.state store.old) (S.state store.new) }
     ensures faults { (S.state store.old).faults ≤ (S.state store.new).faults }
@@ -93,7 +66,7 @@ fn check_library<S: Store>(
     if is_own(alloc, library.name, &bytes)? {
         Ok(())
     } else {
-        Err(LibraryFault::NotBuilt)
+        Err(Refusal::NotBuilt)
     }
 }
 
@@ -102,12 +75,18 @@ pub fn check_libraries<S: Store>(
     alloc: Global,
     store: &mut S,
     libraries: &[LibraryFile<'_>],
-) -> Result<(), LibraryFault>
-    ensures built { OnOk result (IfTold (S.state store.old).held (λ held. first_fault held (map seen libraries.now) ≡ None)) }
-    ensures not_built { IsErrOf result LibraryFault.NotBuilt → IfTold (S.state store.old).held (λ held. first_fault held (map seen libraries.now) ≡ Some NotBuilt) }
-    ensures cause { IsErrOf result LibraryFault.Store → HasRisen (S.state store.old).faults (S.state store.new).faults ⊎ IsSomeAnd (S.state store.old).held (λ held. first_fault held (map seen libraries.now) ≡ Some Lacking) }
+) -> Result<(), Refusal>
+    ensures built { OnOk result (IfKnown (S.state store.old).held (λ held. first_fault held (map seen libraries.now) ≡ None)) }
+    ensures not_built { IsErrOf result Refusal.NotBuilt → IfKnown (S.state store.old).held (λ held. first_fault held (map seen libraries.now) ≡ Some NotBuilt) }
+    ensures cause { IsErrOf result Refusal.Store → HasRisen (S.state store.old).faults (S.state store.new).faults
+        ⊎ IsSomeAnd (S.state store.old).held (λ held. first_fault held (map seen libraries.now) ≡ Some Lacking) }
+    ensures fine { IsErrOf result Refusal.Store →
+        IfKnown (S.state store.old).held (λ held. AreFineBefore held (map seen libraries.now) (S.state store.old) (S.state store.new)) }
+    ensures others { (IsErrOf result Refusal.Disk → ⊥) × (IsErrOf result Refusal.NoManifest → ⊥) }
     ensures held { (S.state store.new).held ≡ (S.state store.old).held }
     ensures begun { BeginsAtMost (length libraries.now) (S.state store.old) (S.state store.new) }
+    ensures begun_first { IfKnown (S.state store.old).held
+        (λ held. BeginsAtMost (begun_of held (map seen libraries.now)) (S.state store.old) (S.state store.new)) }
     ensures faults { (S.state store.old).faults ≤ (S.state store.new).faults }
 {
     for library in libraries {

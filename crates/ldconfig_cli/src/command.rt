@@ -1,36 +1,26 @@
 //! The top call.
-ghost use Rattle.std.specs.Prelude.{◌≡◌, ◌↔◌, ◌⊎◌, ◌≤◌, ℕ, List, None};
+ghost use Rattle.std.specs.Prelude.{◌≡◌, ◌↔◌, ◌⊎◌, ◌<◌, ◌≤◌, ℕ, List, Some, None, false};
 ghost use Rattle.lib_types.specs.Counts.{HasRisen};
-ghost use Rattle.tree_face.specs.Disk.{KeepsOthersMade};
-ghost use Rattle.tree_face.specs.Told.{IfTold, Tells};
-ghost use Rattle.ldconfig_cli.specs.Libraries.{Library};
+ghost use Rattle.tree_face.specs.Disk.{KeepsAll, KeepsOthersMade};
+ghost use Rattle.tree_face.specs.Known.{IfKnown, Relates};
+ghost use Rattle.ldconfig_cli.specs.Cache.{IsCacheOf};
+ghost use Rattle.ldconfig_cli.specs.Command.{command_of};
+ghost use Rattle.ldconfig_cli.specs.Devices.{devices, IfBothKnown};
+ghost use Rattle.ldconfig_cli.specs.Libraries.{NamedKey};
+ghost use Rattle.ldconfig_cli.specs.Manifest.{manifest_of};
 ghost use Rattle.ldconfig_cli.specs.Outcome as outcomes;
 ghost use Rattle.ldconfig_cli.specs.Outcome.{outcome};
-ghost use Rattle.ldconfig_cli.specs.Run.{Answers, BeginsOnce, ComesTo, HasFailed, IfBothTold, IsCacheOf, LacksLibrary, NeedsManifest, OutputAfter, OutputBefore, DiskAfter, status_of, tag};
-ghost use Rattle.ldconfig_cli.specs.Words.{IsUpdate};
+ghost use Rattle.ldconfig_cli.specs.Update.{AreBegunFine, BeginsFiles, BeginsUpToFirst, CallsAfter, ComesTo, DiskAfter, HasManifest, HasNoManifest, LacksLibrary, OutputBefore, UpdateRun, needs_no_manifest, status_of, tag};
+ghost use Rattle.ldconfig_cli.specs.Status.{Says, fault_line};
+ghost use Rattle.ldconfig_cli.specs.Usage.{UsageRun};
+ghost use Rattle.tree_face.specs.Stream.{SourceState};
 
-use crate::prepare::{Refusal, prepare};
+use crate::arguments::{Command, command_of};
+use crate::prepare::prepare;
 use crate::replace::replace;
 use crate::status::Status;
-use crate::words::is_update;
 use std::alloc::Global;
 use tree_face::{Disk, Sink, Slot, Source, Store, Tag, put_all};
-
-impl From<Refusal> for Status {
-    ghost use Rattle.ldconfig_cli.specs.Refusals.{status_of_refusal};
-
-    ghost from_gives = { λ refusal status. status ≡ status_of_refusal refusal };
-
-    fn from(refusal: Refusal) -> Self {
-        match refusal {
-            Refusal::Disk => Status::DiskFault,
-            Refusal::NoManifest => Status::NoManifest,
-            Refusal::NotBuilt => Status::NotBuilt,
-            Refusal::Store => Status::StoreFault,
-            Refusal::NoMemory => Status::NoMemory,
-        }
-    }
-}
 
 // One update, which writes its report but no fault line.
 fn update<S: Store, D: Disk, O: Sink>(
@@ -39,20 +29,27 @@ fn update<S: Store, D: Disk, O: Sink>(
     disk: &mut D,
     out: &mut O,
 ) -> Status
-    ensures manifest { NeedsManifest result (D.state disk.old).told }
     ensures no_usage { result ≡ Status.Usage → ⊥ }
-    ensures no_manifest { result ≡ Status.NoManifest → IfTold (D.state disk.old).told (λ content. content.now.manifest ≡ None) }
-    ensures not_built { result ≡ Status.NotBuilt → ComesTo (S.state store.old) (D.state disk.old) outcomes.NotBuilt }
-    ensures store_fault { result ≡ Status.StoreFault → HasRisen (S.state store.old).faults (S.state store.new).faults ⊎ LacksLibrary (S.state store.old).held (D.state disk.old).told }
+    ensures no_manifest { result ≡ Status.NoManifest → HasNoManifest (D.state disk.old).contents }
+    ensures manifest { needs_no_manifest result ≡ false → HasManifest (D.state disk.old).contents }
+    ensures not_built { result ≡ Status.NotBuilt → ComesTo (S.state store.old).held (D.state disk.old).contents outcomes.NotBuilt }
+    ensures store_fault { result ≡ Status.StoreFault → HasRisen (S.state store.old).faults (S.state store.new).faults
+        ⊎ LacksLibrary (S.state store.old).held (D.state disk.old).contents }
+    ensures store_fault_first { result ≡ Status.StoreFault → AreBegunFine (D.state disk.old).contents (S.state store.old) (S.state store.new) }
     ensures disk_fault { result ≡ Status.DiskFault → HasRisen (D.state disk.old).faults (D.state disk.new).faults }
+    ensures disk_read_fault { result ≡ Status.DiskFault →
+        (D.state disk.old).read_faults < (D.state disk.new).read_faults → KeepsAll (D.state disk.old) (D.state disk.new) }
     ensures output_fault { result ≡ Status.OutputFault → HasRisen (O.state out.old).faults (O.state out.new).faults }
-    ensures done { result ≡ Status.Done → IfBothTold (S.state store.old).held (D.state disk.old).told (λ contents content. status_of (outcome contents content.now.manifest) ≡ Status.Done) }
+    ensures done { result ≡ Status.Done → IfBothKnown (S.state store.old).held (D.state disk.old).contents
+        (λ contents content. status_of (outcome contents (manifest_of content.now.manifest)) ≡ Status.Done) }
 
-    ensures disk { Tells (DiskAfter result (S.state store.old).held) (D.state disk.old).told (D.state disk.new).told }
+    ensures disk { Relates (DiskAfter result (S.state store.old).held) (D.state disk.old).contents (D.state disk.new).contents }
+    ensures calls { Relates (CallsAfter result) (D.state disk.old).calls (D.state disk.new).calls }
     ensures made { KeepsOthersMade tag Slot.Cache (D.state disk.old) (D.state disk.new) }
-    ensures output { OutputBefore result (S.state store.old).held (D.state disk.old).told (O.state out.old) (O.state out.new) }
+    ensures output { OutputBefore result (S.state store.old).held (D.state disk.old).contents (O.state out.old) (O.state out.new) }
     ensures held { (S.state store.new).held ≡ (S.state store.old).held }
-    ensures begun { BeginsOnce (D.state disk.old).told (S.state store.old) (S.state store.new) }
+    ensures begun { BeginsFiles (D.state disk.old).contents (S.state store.old) (S.state store.new) }
+    ensures begun_first { BeginsUpToFirst (D.state disk.old).contents (S.state store.old) (S.state store.new) }
 
     ensures store_faults { (S.state store.old).faults ≤ (S.state store.new).faults }
     ensures disk_faults { (D.state disk.old).faults ≤ (D.state disk.new).faults }
@@ -71,10 +68,43 @@ fn update<S: Store, D: Disk, O: Sink>(
     Status::Done
 }
 
-/// Runs the command of these words.
+// The command `update`. The state of the input is any, since nothing is read from it.
+fn run_update<S: Store, D: Disk, O: Sink>(
+    alloc: Global,
+    store: &mut S,
+    disk: &mut D,
+    out: &mut O,
+) -> Status
+    ensures update { (input : SourceState) → UpdateRun
+        (devices (S.state store.old) (D.state disk.old) input (O.state out.old))
+        (devices (S.state store.new) (D.state disk.new) input (O.state out.new))
+        result }
+    ensures made { KeepsOthersMade tag Slot.Cache (D.state disk.old) (D.state disk.new) }
+    ensures held { (S.state store.new).held ≡ (S.state store.old).held }
+    ensures store_faults { (S.state store.old).faults ≤ (S.state store.new).faults }
+    ensures disk_faults { (D.state disk.old).faults ≤ (D.state disk.new).faults }
+    ensures out_faults { (O.state out.old).faults ≤ (O.state out.new).faults }
+{
+    let status = update(alloc, store, disk, out);
+    let _ = put_all(out, status.fault_line());
+    status
+}
+
+// Refuses the arguments.
+fn refuse_arguments<O: Sink>(out: &mut O) -> Status
+    ensures status { result ≡ Status.Usage }
+    ensures output { Says (fault_line Status.Usage) (O.state out.old) (O.state out.new) }
+    ensures faults { (O.state out.old).faults ≤ (O.state out.new).faults }
+{
+    let _ = put_all(out, Status::Usage.fault_line());
+    Status::Usage
+}
+
+/// Runs the command of these arguments, the program's name not among them.
 ///
 /// So far the one command is `update`: it makes the cache of the libraries of the manifest's tree, puts it into the
-/// Cache slot, and writes a line that tells of it. A refusal writes a line of its own. Nothing is read from the input.
+/// Cache slot, and writes a report. Every other status but OutputFault and NoMemory writes its fault line. Nothing is
+/// read from the input.
 pub fn run<S: Store, D: Disk, I: Source, O: Sink>(
     alloc: Global,
     words: &Vec<String>,
@@ -83,39 +113,27 @@ pub fn run<S: Store, D: Disk, I: Source, O: Sink>(
     input: &mut I,
     out: &mut O,
 ) -> Status
-    // The words, the slots and the counts tell when each answer comes.
-    ensures usage { (result ≡ Status.Usage) ↔ (IsUpdate words.now → ⊥) }
-    ensures disk_fault { result ≡ Status.DiskFault → HasRisen (D.state disk.old).faults (D.state disk.new).faults }
-    ensures no_manifest { result ≡ Status.NoManifest → IfTold (D.state disk.old).told (λ content. content.now.manifest ≡ None) }
-    ensures manifest { NeedsManifest result (D.state disk.old).told }
-    ensures not_built { result ≡ Status.NotBuilt → ComesTo (S.state store.old) (D.state disk.old) outcomes.NotBuilt }
-    ensures store_fault { result ≡ Status.StoreFault → HasRisen (S.state store.old).faults (S.state store.new).faults ⊎ LacksLibrary (S.state store.old).held (D.state disk.old).told }
-    ensures output_fault { result ≡ Status.OutputFault → HasRisen (O.state out.old).faults (O.state out.new).faults }
-    ensures done { result ≡ Status.Done → IfBothTold (S.state store.old).held (D.state disk.old).told (λ contents content. status_of (outcome contents content.now.manifest) ≡ Status.Done) }
+    ensures usage { (result ≡ Status.Usage) ↔ (command_of words.now ≡ None) }
+    ensures no_command { command_of words.now ≡ None → UsageRun
+        (devices (S.state store.old) (D.state disk.old) (I.state input.old) (O.state out.old))
+        (devices (S.state store.new) (D.state disk.new) (I.state input.new) (O.state out.new))
+        result }
+    ensures update { command_of words.now ≡ Some Command.Update → UpdateRun
+        (devices (S.state store.old) (D.state disk.old) (I.state input.old) (O.state out.old))
+        (devices (S.state store.new) (D.state disk.new) (I.state input.new) (O.state out.new))
+        result }
+    ensures one_cache { (found : List NamedKey) (bytes others : List ℕ) → IsCacheOf found bytes → IsCacheOf found others → bytes ≡ others }
 
-    // Nothing else keeps an update from being made.
-    ensures complete { IsUpdate words.now → IfBothTold (S.state store.old).held (D.state disk.old).told (λ contents content. Answers result (outcome contents content.now.manifest) (HasFailed (S.state store.old) (S.state store.new) (D.state disk.old) (D.state disk.new) (O.state out.old) (O.state out.new))) }
-    ensures absent { IsUpdate words.now → IfTold (D.state disk.old).told (λ content. content.now.manifest ≡ None → (result ≡ Status.NoManifest) ⊎ ((result ≡ Status.NoMemory) ⊎ HasRisen (D.state disk.old).faults (D.state disk.new).faults)) }
-
-    // What is left on the disk and on the output.
-    ensures disk { Tells (DiskAfter result (S.state store.old).held) (D.state disk.old).told (D.state disk.new).told }
+    // What no command changes.
     ensures made { KeepsOthersMade tag Slot.Cache (D.state disk.old) (D.state disk.new) }
-    ensures one_cache { (found : List Library) (bytes others : List ℕ) → IsCacheOf found bytes → IsCacheOf found others → bytes ≡ others }
-    ensures output { OutputAfter result (S.state store.old).held (D.state disk.old).told (O.state out.old) (O.state out.new) }
     ensures held { (S.state store.new).held ≡ (S.state store.old).held }
-    ensures begun { BeginsOnce (D.state disk.old).told (S.state store.old) (S.state store.new) }
     ensures input { I.state input.new ≡ I.state input.old }
-
-    // Counts of faults never fall.
     ensures store_faults { (S.state store.old).faults ≤ (S.state store.new).faults }
     ensures disk_faults { (D.state disk.old).faults ≤ (D.state disk.new).faults }
     ensures out_faults { (O.state out.old).faults ≤ (O.state out.new).faults }
 {
-    let status = if is_update(words) {
-        update(alloc, store, disk, out)
-    } else {
-        Status::Usage
-    };
-    let _ = put_all(out, status.fault_line());
-    status
+    match command_of(words) {
+        Some(Command::Update) => run_update(alloc, store, disk, out),
+        None => refuse_arguments(out),
+    }
 }

@@ -35,7 +35,7 @@ const TEXT_LIMIT: usize = 65536;
 
 /// What an x86-64 library says of itself.
 #[derive(Clone, Copy)]
-pub struct Library<'a> {
+pub struct ElfLibrary<'a> {
     /// Its `DT_SONAME`, if it has one that isn't empty.
     pub soname: Option<&'a [u8]>,
 }
@@ -56,7 +56,7 @@ struct DynamicEntry {
     value: u64,
 }
 
-// ---- numbers at a place
+// ---- numbers at an offset
 
 fn half_at(bytes: &[u8], at: usize) -> u16
     requires { at + 2 ≤ length bytes.now }
@@ -313,8 +313,8 @@ fn soname_in<'a>(table: &'a [u8], entries: &[DynamicEntry]) -> Option<&'a [u8]>
     unless_empty(text)
 }
 
-// The name of a library with this table, or nothing where the file is none.
-fn library_with<'a>(table: &'a [u8], entries: &[DynamicEntry]) -> Option<Library<'a>>
+// The name of a library with this table, or None if the file is none.
+fn library_with<'a>(table: &'a [u8], entries: &[DynamicEntry]) -> Option<ElfLibrary<'a>>
     ensures { option_map (λ l. option_map (λ t. t.now) l.soname) result ≡ name_by entries.now table.now }
 {
     if !has_all_texts(table, entries) {
@@ -323,7 +323,7 @@ fn library_with<'a>(table: &'a [u8], entries: &[DynamicEntry]) -> Option<Library
     let soname = soname_in(table, entries);
     match soname {
         Some(name) if !is_name(name) => None,
-        _ => Some(Library { soname }),
+        _ => Some(ElfLibrary { soname }),
     }
 }
 
@@ -334,24 +334,27 @@ fn has_text(entries: &[DynamicEntry]) -> bool
 }
 
 #[tactic(auto, unfolding(crate::specs::Reading::name_of))]
-fn library_of<'a>(
+fn elf_library_of<'a>(
     bytes: &'a [u8],
     segments: &[Segment],
     entries: &[DynamicEntry],
-) -> Option<Library<'a>>
+) -> Option<ElfLibrary<'a>>
     ensures { option_map (λ l. option_map (λ t. t.now) l.soname) result ≡ name_of bytes.now segments.now entries.now }
 {
     if !has_text(entries) {
-        return Some(Library { soname: None });
+        return Some(ElfLibrary { soname: None });
     }
     let table = string_table(bytes, segments, entries)?;
     library_with(table, entries)
 }
 
-/// What the bytes of a file say of it as an x86-64 library: nothing where they are no such library, for
+/// What the bytes of a file say of it as an x86-64 library: None if they are no such library, for
 /// whatever reason. The name borrows from them.
 #[tactic(auto, using(crate::proofs::Analysis::library_lem, crate::proofs::Analysis::other_lem), unfolding(crate::specs::Reading::reading))]
-pub fn x86_64_library<'a>(alloc: Global, bytes: &'a [u8]) -> Result<Option<Library<'a>>, NoMemory>
+pub fn x86_64_library<'a>(
+    alloc: Global,
+    bytes: &'a [u8],
+) -> Result<Option<ElfLibrary<'a>>, NoMemory>
     ensures library { IfOk result (λ found. IfSome found (λ library. analysis bytes.now ≡ Lib X86_64 (option_map (λ name. name.now) library.soname))) }
     ensures other { IfOk result (λ found. IfNone found (is_x86_64 (analysis bytes.now) ≡ false)) }
 {
@@ -366,5 +369,5 @@ pub fn x86_64_library<'a>(alloc: Global, bytes: &'a [u8]) -> Result<Option<Libra
         return Ok(None);
     }
     let entries = dynamic_entries(alloc, bytes, dynamic)?;
-    Ok(library_of(bytes, segments.as_slice(), entries.as_slice()))
+    Ok(elf_library_of(bytes, segments.as_slice(), entries.as_slice()))
 }

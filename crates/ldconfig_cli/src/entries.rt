@@ -1,6 +1,6 @@
 //! The entries of a cache.
 ghost use Rattle.std.specs.Prelude.{◌≡◌, ◌++◌, map, IfOk};
-ghost use Rattle.ldconfig_cli.specs.Entries.{entry_of, AreEntriesOf};
+ghost use Rattle.ldconfig_cli.specs.Entries.{cache_entry_of, AreEntriesOf};
 ghost use Rattle.ldconfig_cli.specs.Libraries.{library_folder, seen};
 
 use crate::libraries::LibraryFile;
@@ -18,8 +18,8 @@ fn path_of(alloc: Global, name: &[u8]) -> Result<Text, NoMemory>
     Ok(Text::from_vec(path))
 }
 
-fn entry_of(alloc: Global, library: &LibraryFile<'_>) -> Result<Entry, NoMemory>
-    ensures { IfOk result (λ entry. entry ≡ entry_of (seen library.now)) }
+fn cache_entry_of(alloc: Global, library: &LibraryFile<'_>) -> Result<Entry, NoMemory>
+    ensures { IfOk result (λ entry. entry ≡ cache_entry_of (seen library.now)) }
 {
     Ok(Entry {
         soname: Text::copy_of(alloc, library.name)?,
@@ -31,11 +31,11 @@ fn entry_of(alloc: Global, library: &LibraryFile<'_>) -> Result<Entry, NoMemory>
 }
 
 fn entries_of(alloc: Global, libraries: &[LibraryFile<'_>]) -> Result<Entries, NoMemory>
-    ensures { IfOk result (λ entries. entries ≡ map entry_of (map seen libraries.now)) }
+    ensures { IfOk result (λ entries. entries ≡ map cache_entry_of (map seen libraries.now)) }
 {
     let mut entries = Entries::new(alloc);
     for library in libraries {
-        entries.push(entry_of(alloc, library)?)?;
+        entries.push(cache_entry_of(alloc, library)?)?;
     }
     Ok(entries)
 }

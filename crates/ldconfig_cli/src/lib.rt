@@ -1,6 +1,7 @@
 //! The commands of `ldconfig`, over any devices.
 #![tactic(auto)]
 
+mod arguments;
 mod cache;
 mod check;
 mod command;
@@ -9,11 +10,12 @@ mod entries;
 mod libraries;
 mod manifest;
 mod prepare;
+mod refusal;
 mod replace;
 mod report;
 mod status;
 mod whole;
-mod words;
 
+pub use arguments::Command;
 pub use command::run;
 pub use status::Status;

@@ -7,20 +7,23 @@ ghost use Rattle.std.specs.Ordering.{as_partial_cmp, flip_args, on};
 ghost use Rattle.std.specs.Prelude.{nat_eq};
 ghost use Rattle.name_order.specs.Order.{name_order};
 ghost use Rattle.name_order.proofs.Total.{name_order-partial, name_order-ties, name_order-total};
-ghost use Rattle.ldconfig_cli.specs.Libraries.{named, library_of, is_own_library_name, libraries, seen};
+ghost use Rattle.ldconfig_cli.specs.Libraries.{named, library_file_of, is_own_library_name, libraries, seen};
 
-use crate::manifest::behind_head;
+use crate::manifest::without_prefix;
 use lib_types::NoMemory;
 use name_order::{compare, is_library_name};
 use std::alloc::Global;
 use std::cmp::Ordering;
-use tree_face::{Node, Tree};
+use tree_face::{Node, PATH_MAX, Tree};
+
+/// The most library files of an image: a cache has an entry for each, and its offsets are below 2^32.
+pub const ENTRIES_MAX: usize = 131072;
 
 /// A file of `/usr/lib` with a library name.
 #[derive(Clone, Copy)]
 pub struct LibraryFile<'a> {
     pub name: &'a [u8],
-    /// What the store holds the file's content under.
+    /// The key of the file's content in the store.
     pub key: &'a [u8],
 }
 
@@ -77,7 +80,7 @@ fn is_own_library_name(name: &[u8]) -> bool
     is_library_name(name) && !name.contains(&b'/')
 }
 
-// The library that a node of this name is.
+// The library file that a node of this name is.
 fn named<'a>(name: &'a [u8], node: &'a Node) -> Option<LibraryFile<'a>>
     ensures { MatchOption result (named name.now node.now ≡ None) (λ l. named name.now node.now ≡ Some (l.name.now, l.key.now)) }
 {
@@ -90,11 +93,11 @@ fn named<'a>(name: &'a [u8], node: &'a Node) -> Option<LibraryFile<'a>>
     }
 }
 
-// The library that a node of this path is.
-fn library_of<'a>(path: &'a [u8], node: &'a Node) -> Option<LibraryFile<'a>>
-    ensures { MatchOption result (library_of (path.now, node.now) ≡ None) (λ l. library_of (path.now, node.now) ≡ Some (l.name.now, l.key.now)) }
+// The library file that a node of this path is.
+fn library_file_of<'a>(path: &'a [u8], node: &'a Node) -> Option<LibraryFile<'a>>
+    ensures { MatchOption result (library_file_of (path.now, node.now) ≡ None) (λ l. library_file_of (path.now, node.now) ≡ Some (l.name.now, l.key.now)) }
 {
-    let name = behind_head(path, b"/usr/lib/")?;
+    let name = without_prefix(path, b"/usr/lib/")?;
     named(name, node)
 }
 
@@ -102,11 +105,11 @@ fn library_of<'a>(path: &'a [u8], node: &'a Node) -> Option<LibraryFile<'a>>
 #[tactic(auto, unfolding(crate::specs::Libraries::libraries))]
 pub fn libraries(alloc: Global, tree: &Tree) -> Result<Vec<LibraryFile<'_>>, NoMemory>
     ensures found { IfOk result (λ found. map seen found.items ≡ libraries tree.now) }
-    ensures short { IfOk result (λ found. All (λ library. length library.0 ≤ 4095) (map seen found.items)) }
+    ensures short { IfOk result (λ found. All (λ library. length library.0 ≤ PATH_MAX) (map seen found.items)) }
 {
     let mut found = Vec::new(alloc);
     for (path, node) in tree.nodes() {
-        if let Some(library) = library_of(path, node) {
+        if let Some(library) = library_file_of(path, node) {
             found.push(library)?;
         }
     }

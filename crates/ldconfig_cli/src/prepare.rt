@@ -1,28 +1,29 @@
 //! What an update is about to write, made before it writes.
-ghost use Rattle.std.specs.Prelude.{◌≡◌, ◌⊎◌, ◌≤◌, None, Some, All, length, map, IfOk, IsErrOf, IsSomeAnd, MatchResult};
+ghost use Rattle.std.specs.Prelude.{◌≡◌, ◌⊎◌, ◌≤◌, None, Some, All, length, map, false, IfOk, IsErrOf, OnOk, IsSomeAnd, MatchResult};
 ghost use Rattle.std.specs.String.{string_bytes};
 ghost use Rattle.lib_types.specs.Counts.{HasRisen};
-ghost use Rattle.tree_face.specs.Disk.{KeepsMade};
+ghost use Rattle.tree_face.specs.Disk.{KeepsAll};
+ghost use Rattle.tree_face.specs.Known.{IfKnown};
 ghost use Rattle.tree_face.specs.Store.{BeginsAtMost};
-ghost use Rattle.tree_face.specs.Told.{IfTold};
-ghost use Rattle.ldconfig_cli.specs.Libraries.{libraries, seen};
+ghost use Rattle.ldconfig_cli.specs.Cache.{IsCacheOf, IsUpdateOf};
+ghost use Rattle.ldconfig_cli.specs.Devices.{IfBothKnown};
+ghost use Rattle.ldconfig_cli.specs.Libraries.{seen};
+ghost use Rattle.ldconfig_cli.specs.Manifest.{HasTree, manifest_of};
 ghost use Rattle.ldconfig_cli.specs.Outcome as outcomes;
-ghost use Rattle.ldconfig_cli.specs.Outcome.{outcome_of_tree};
-ghost use Rattle.ldconfig_cli.specs.Refusals.{status_of_refusal};
+ghost use Rattle.ldconfig_cli.specs.Outcome.{outcome, files_to_read, begun_of};
+ghost use Rattle.ldconfig_cli.specs.Refusal.{status_of_refusal};
 ghost use Rattle.ldconfig_cli.specs.Report.{report_line};
-ghost use Rattle.ldconfig_cli.specs.Run.{BeginsOnce, IsCacheOf, IsUpdateOf, IsUpdateOfTree, HasManifest, NeedsManifest, IfBothTold, ComesTo, LacksLibrary};
-ghost use Rattle.ldconfig_cli.specs.declared.prepare.ManifestFault.TheVariants as manifest_fault;
-ghost use Rattle.ldconfig_cli.specs.declared.prepare.Refusal.TheVariants as refusals;
+ghost use Rattle.ldconfig_cli.specs.Update.{AreBegunFine, AreFineBefore, BeginsFiles, BeginsUpToFirst, ComesTo, HasManifest, HasNoManifest, LacksLibrary, needs_no_manifest};
 
-use crate::cache;
-use crate::check::{LibraryFault, check_libraries, has_other_places};
+use crate::check::{check_libraries, has_other_places};
 use crate::entries::entries;
-use crate::libraries::{LibraryFile, libraries};
-use crate::manifest::{self, FormFault};
+use crate::libraries::{ENTRIES_MAX, LibraryFile, libraries};
+use crate::refusal::Refusal;
 use crate::report::report_line;
+use crate::{cache, manifest};
 use lib_types::NoMemory;
-use std::alloc::{AllocError, Global};
-use tree_face::{Disk, DiskRead, Slot, Store, Tree};
+use std::alloc::Global;
+use tree_face::{Disk, DiskRead, PATH_MAX, Slot, Store, Tree};
 
 /// What an update is about to write.
 #[derive(Drop)]
@@ -32,98 +33,29 @@ pub struct Prepared {
     pub line: String,
 }
 
-/// Why there is nothing to write.
-#[derive(Clone, Copy, Debug, PartialEq, Eq)]
-pub enum Refusal {
-    Disk,
-    NoManifest,
-    NotBuilt,
-    Store,
-    NoMemory,
-}
-
-/// Why there is no manifest to read.
-#[derive(Clone, Copy, Debug, PartialEq, Eq)]
-pub enum ManifestFault {
-    Disk,
-    NoManifest,
-    NoMemory,
-}
-
-impl From<ManifestFault> for Refusal {
-    ghost use Rattle.ldconfig_cli.specs.Refusals.{refusal_of_manifest};
-
-    ghost from_gives = { λ fault e. e ≡ refusal_of_manifest fault };
-
-    fn from(fault: ManifestFault) -> Self {
-        match fault {
-            ManifestFault::Disk => Refusal::Disk,
-            ManifestFault::NoManifest => Refusal::NoManifest,
-            ManifestFault::NoMemory => Refusal::NoMemory,
-        }
-    }
-}
-
-impl From<FormFault> for Refusal {
-    ghost use Rattle.ldconfig_cli.specs.Refusals.{refusal_of_form};
-
-    ghost from_gives = { λ fault e. e ≡ refusal_of_form fault };
-
-    fn from(fault: FormFault) -> Self {
-        match fault {
-            FormFault::NotBuilt => Refusal::NotBuilt,
-            FormFault::NoMemory => Refusal::NoMemory,
-        }
-    }
-}
-
-impl From<LibraryFault> for Refusal {
-    ghost use Rattle.ldconfig_cli.specs.Refusals.{refusal_of_library};
-
-    ghost from_gives = { λ fault e. e ≡ refusal_of_library fault };
-
-    fn from(fault: LibraryFault) -> Self {
-        match fault {
-            LibraryFault::NotBuilt => Refusal::NotBuilt,
-            LibraryFault::Store => Refusal::Store,
-            LibraryFault::NoMemory => Refusal::NoMemory,
-        }
-    }
-}
-
-impl From<NoMemory> for Refusal {
-    ghost from_gives = { λ _ e. e ≡ refusals.NoMemory };
-
-    fn from(_: NoMemory) -> Self {
-        Refusal::NoMemory
-    }
-}
-
-/// More library files are not taken.
-const MOST_ENTRIES: usize = 131072;
-
 // The text of the manifest.
-fn manifest_text<D: Disk>(alloc: Global, disk: &mut D) -> Result<Vec<u8>, ManifestFault>
-    ensures text { IfOk result (λ text. IfTold (D.state disk.old).told (λ content. content.now.manifest ≡ Some text.items)) }
-    ensures no_manifest { IsErrOf result ManifestFault.NoManifest → IfTold (D.state disk.old).told (λ content. content.now.manifest ≡ None) }
-    ensures cause { IsErrOf result ManifestFault.Disk → HasRisen (D.state disk.old).faults (D.state disk.new).faults }
-    ensures told { (D.state disk.new).told ≡ (D.state disk.old).told }
-    ensures made { KeepsMade (D.state disk.old) (D.state disk.new) }
+fn manifest_text<D: Disk>(alloc: Global, disk: &mut D) -> Result<Vec<u8>, Refusal>
+    ensures text { IfOk result (λ text. IfKnown (D.state disk.old).contents (λ content. content.now.manifest ≡ Some text.items)) }
+    ensures no_manifest { IsErrOf result Refusal.NoManifest → HasNoManifest (D.state disk.old).contents }
+    ensures cause { IsErrOf result Refusal.Disk → HasRisen (D.state disk.old).faults (D.state disk.new).faults }
+    ensures others { (IsErrOf result Refusal.NotBuilt → ⊥) × (IsErrOf result Refusal.Store → ⊥) }
+    ensures keeps { KeepsAll (D.state disk.old) (D.state disk.new) }
     ensures faults { (D.state disk.old).faults ≤ (D.state disk.new).faults }
+    ensures not_counted { OnOk result ((D.state disk.new).read_faults ≡ (D.state disk.old).read_faults) }
 {
     match disk.read(alloc, Slot::Manifest) {
         Ok(Some(text)) => Ok(text),
-        Ok(None) => Err(ManifestFault::NoManifest),
-        Err(DiskRead::Failed) => Err(ManifestFault::Disk),
-        Err(DiskRead::NoMemory) => Err(ManifestFault::NoMemory),
+        Ok(None) => Err(Refusal::NoManifest),
+        Err(DiskRead::Failed) => Err(Refusal::Disk),
+        Err(DiskRead::NoMemory) => Err(Refusal::NoMemory),
     }
 }
 
-// The cache of these libraries, and the line that tells of it.
+// The cache of these libraries, and the report.
 #[tactic(auto, using(crate::proofs::Listing::as_many, crate::proofs::Listing::short_sonames, crate::proofs::Listing::short_paths, crate::proofs::Listing::plain_entries))]
 fn prepare_libraries(alloc: Global, found: Vec<LibraryFile<'_>>) -> Result<Prepared, NoMemory>
-    requires few { length found.items ≤ 131072 }
-    requires short { All (λ library. length library.0 ≤ 4095) (map seen found.items) }
+    requires few { length found.items ≤ ENTRIES_MAX }
+    requires short { All (λ library. length library.0 ≤ PATH_MAX) (map seen found.items) }
     ensures cache { IfOk result (λ prepared. IsCacheOf (map seen found.entry.items) prepared.cache.items) }
     ensures count { IfOk result (λ prepared. prepared.count ≡ length found.entry.items) }
     ensures line { IfOk result (λ prepared. string_bytes prepared.line ≡ report_line prepared.count) }
@@ -137,20 +69,27 @@ fn prepare_libraries(alloc: Global, found: Vec<LibraryFile<'_>>) -> Result<Prepa
 
 // What the update of a tree is about to write.
 fn prepare_tree<S: Store>(alloc: Global, store: &mut S, tree: &Tree) -> Result<Prepared, Refusal>
-    ensures update { IfOk result (λ prepared. IfTold (S.state store.old).held (λ contents. IsUpdateOfTree contents tree.now prepared.cache.items prepared.count)) }
+    ensures update { IfOk result (λ prepared. IfKnown (S.state store.old).held
+        (λ contents. IsUpdateOf contents (HasTree tree.now) prepared.cache.items prepared.count)) }
     ensures line { IfOk result (λ prepared. string_bytes prepared.line ≡ report_line prepared.count) }
-    ensures not_built { IsErrOf result Refusal.NotBuilt → IfTold (S.state store.old).held (λ contents. outcome_of_tree contents (Some tree.now) ≡ outcomes.NotBuilt) }
-    ensures store_fault { IsErrOf result Refusal.Store → HasRisen (S.state store.old).faults (S.state store.new).faults ⊎ IsSomeAnd (S.state store.old).held (λ contents. outcome_of_tree contents (Some tree.now) ≡ outcomes.Lacking) }
+    ensures not_built { IsErrOf result Refusal.NotBuilt →
+        IfKnown (S.state store.old).held (λ contents. outcome contents (HasTree tree.now) ≡ outcomes.NotBuilt) }
+    ensures store_fault { IsErrOf result Refusal.Store → HasRisen (S.state store.old).faults (S.state store.new).faults
+        ⊎ IsSomeAnd (S.state store.old).held (λ contents. outcome contents (HasTree tree.now) ≡ outcomes.Lacking) }
+    ensures fine { IsErrOf result Refusal.Store →
+        IfKnown (S.state store.old).held (λ held. AreFineBefore held (files_to_read (HasTree tree.now)) (S.state store.old) (S.state store.new)) }
     ensures others { (IsErrOf result Refusal.Disk → ⊥) × (IsErrOf result Refusal.NoManifest → ⊥) }
     ensures held { (S.state store.new).held ≡ (S.state store.old).held }
-    ensures begun { BeginsAtMost (length (libraries tree.now)) (S.state store.old) (S.state store.new) }
+    ensures begun { BeginsAtMost (length (files_to_read (HasTree tree.now))) (S.state store.old) (S.state store.new) }
+    ensures begun_first { IfKnown (S.state store.old).held
+        (λ held. BeginsAtMost (begun_of held (files_to_read (HasTree tree.now))) (S.state store.old) (S.state store.new)) }
     ensures faults { (S.state store.old).faults ≤ (S.state store.new).faults }
 {
     if has_other_places(tree) {
         return Err(Refusal::NotBuilt);
     }
     let found = libraries(alloc, tree)?;
-    if found.len() > MOST_ENTRIES {
+    if found.len() > ENTRIES_MAX {
         return Err(Refusal::NotBuilt);
     }
     check_libraries(alloc, store, &found)?;
@@ -164,19 +103,24 @@ pub fn prepare<S: Store, D: Disk>(
     store: &mut S,
     disk: &mut D,
 ) -> Result<Prepared, Refusal>
-    ensures update { IfOk result (λ prepared. IfBothTold (S.state store.old).held (D.state disk.old).told (λ contents content. IsUpdateOf contents content prepared.cache.items prepared.count)) }
+    ensures update { IfOk result (λ prepared. IfBothKnown (S.state store.old).held (D.state disk.old).contents
+        (λ contents content. IsUpdateOf contents (manifest_of content.now.manifest) prepared.cache.items prepared.count)) }
     ensures line { IfOk result (λ prepared. string_bytes prepared.line ≡ report_line prepared.count) }
-    ensures manifest { MatchResult result (λ _. HasManifest (D.state disk.old).told) (λ refusal. NeedsManifest (status_of_refusal refusal) (D.state disk.old).told) }
-    ensures no_manifest { IsErrOf result Refusal.NoManifest → IfTold (D.state disk.old).told (λ content. content.now.manifest ≡ None) }
-    ensures not_built { IsErrOf result Refusal.NotBuilt → ComesTo (S.state store.old) (D.state disk.old) outcomes.NotBuilt }
-    ensures store_fault { IsErrOf result Refusal.Store → HasRisen (S.state store.old).faults (S.state store.new).faults ⊎ LacksLibrary (S.state store.old).held (D.state disk.old).told }
+    ensures manifest { MatchResult result (λ _. HasManifest (D.state disk.old).contents)
+        (λ refusal. needs_no_manifest (status_of_refusal refusal) ≡ false → HasManifest (D.state disk.old).contents) }
+    ensures no_manifest { IsErrOf result Refusal.NoManifest → HasNoManifest (D.state disk.old).contents }
+    ensures not_built { IsErrOf result Refusal.NotBuilt → ComesTo (S.state store.old).held (D.state disk.old).contents outcomes.NotBuilt }
+    ensures store_fault { IsErrOf result Refusal.Store → HasRisen (S.state store.old).faults (S.state store.new).faults
+        ⊎ LacksLibrary (S.state store.old).held (D.state disk.old).contents }
+    ensures fine { IsErrOf result Refusal.Store → AreBegunFine (D.state disk.old).contents (S.state store.old) (S.state store.new) }
     ensures disk_fault { IsErrOf result Refusal.Disk → HasRisen (D.state disk.old).faults (D.state disk.new).faults }
     ensures held { (S.state store.new).held ≡ (S.state store.old).held }
-    ensures begun { BeginsOnce (D.state disk.old).told (S.state store.old) (S.state store.new) }
-    ensures told { (D.state disk.new).told ≡ (D.state disk.old).told }
-    ensures made { KeepsMade (D.state disk.old) (D.state disk.new) }
+    ensures begun { BeginsFiles (D.state disk.old).contents (S.state store.old) (S.state store.new) }
+    ensures begun_first { BeginsUpToFirst (D.state disk.old).contents (S.state store.old) (S.state store.new) }
+    ensures keeps { KeepsAll (D.state disk.old) (D.state disk.new) }
     ensures store_faults { (S.state store.old).faults ≤ (S.state store.new).faults }
     ensures disk_faults { (D.state disk.old).faults ≤ (D.state disk.new).faults }
+    ensures not_counted { OnOk result ((D.state disk.new).read_faults ≡ (D.state disk.old).read_faults) }
 {
     let text = manifest_text(alloc, disk)?;
     let tree = manifest::read(alloc, &text)?;

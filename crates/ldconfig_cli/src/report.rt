@@ -1,4 +1,4 @@
-//! The line that tells of an update.
+//! The report of an update.
 ghost use Rattle.std.specs.Prelude.{◌≡◌, IfOk};
 ghost use Rattle.std.specs.String.{string_bytes};
 ghost use Rattle.ldconfig_cli.specs.Report.{report_line};

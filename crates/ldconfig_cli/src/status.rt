@@ -7,7 +7,7 @@ ghost use Rattle.ldconfig_cli.specs.Status.{code_of, fault_line};
 pub enum Status {
     /// All was done.
     Done,
-    /// The words are no command.
+    /// The arguments are those of no command.
     Usage,
     /// The store has failed, or doesn't hold a file that had to be read.
     StoreFault,
@@ -15,7 +15,7 @@ pub enum Status {
     DiskFault,
     /// The sink has failed.
     OutputFault,
-    /// Memory was wanted and not there.
+    /// Out of memory.
     NoMemory,
     /// The disk has no manifest.
     NoManifest,
@@ -40,7 +40,7 @@ impl Status {
         }
     }
 
-    // The line that tells of a refusal, where one is told.
+    // The fault line, empty for a status that has none.
     pub(crate) fn fault_line(self) -> &'static [u8]
         ensures { result.now ≡ fault_line self }
     {

@@ -1,1 +1,4 @@
+pub mod Bools
+pub mod Prefixes
+pub mod SortedPairs
 pub mod Utf8

@@ -1,4 +1,4 @@
-//! The ABIs of the product, with the numbers and words of each.
+//! The ABIs of the product, with the numbers and names of each.
 ghost use Rattle.std.specs.Prelude.{◌≡◌, pos};
 ghost use Rattle.lib_types.specs.Abi.{flags_of, lib_of, abi_of_elf, abi_of_flags, abi_of_word};
 
@@ -50,7 +50,7 @@ impl Abi {
         }
     }
 
-    /// The ABI that is written so in words of a command.
+    /// The ABI that has this name in the arguments of a command.
     pub fn of_word(word: &[u8]) -> Option<Abi>
         ensures { result ≡ abi_of_word word.now }
     {
@@ -63,7 +63,7 @@ impl Abi {
         }
     }
 
-    /// What `$LIB` stands for.
+    /// What the loader replaces `$LIB` by.
     pub fn lib(self) -> &'static [u8]
         ensures { result.now ≡ lib_of self }
     {

@@ -1,7 +1,7 @@
 //! What a file is: a library, or the defect that keeps it from being one.
 use crate::{Abi, Text};
 
-/// Why a file is no library. The numbers are those that the file has in the place.
+/// Why a file is no library. The numbers are those that the file has in the field.
 #[derive(Clone, Copy, Debug, PartialEq, Eq)]
 pub enum Defect {
     NotElf,

@@ -6,7 +6,7 @@ use crate::{Abi, Seq, Text};
 pub struct Entry {
     pub soname: Text,
     pub abi: Abi,
-    /// The subdirectory of `glibc-hwcaps`, where the entry is of one.
+    /// The subdirectory of `glibc-hwcaps` that the library is in, if it is in one.
     pub cap: Option<Text>,
     pub path: Text,
     /// The number of the directory among those that are searched, from 0.

@@ -1,11 +1,11 @@
-//! The two answers that come from outside of the product.
+//! The two returns that come from outside of the product.
 use std::alloc::{AllocError, AllocFailed};
 
-/// A device refused a call. Each device counts its faults.
+/// A call of a device failed. Each device counts its faults.
 #[derive(Clone, Copy, Debug, PartialEq, Eq)]
 pub struct Failed;
 
-/// Memory was wanted and not there.
+/// Out of memory.
 #[derive(Clone, Copy, Debug, PartialEq, Eq)]
 pub struct NoMemory;
 

@@ -1,4 +1,4 @@
-//! The words that every crate of the product speaks in: texts, lists, ABIs, defects, analyses and entries.
+//! The types that every crate of the product uses: texts, lists, ABIs, defects, analyses and entries.
 #![tactic(auto)]
 
 mod abi;
@@ -14,7 +14,7 @@ pub use abi::Abi;
 pub use analysis::{Analysis, Defect};
 pub use entry::{Entries, Entry};
 pub use fault::{Failed, NoMemory};
-pub use name::{is_name, is_utf8};
+pub use name::{NAME_MAX, is_name, is_utf8};
 pub use seq::{Seq, Texts};
 pub use steps::Steps;
 pub use text::Text;

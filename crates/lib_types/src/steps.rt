@@ -4,7 +4,7 @@ ghost use Rattle.lib_types.specs.Counts.{raised};
 
 use std::marker::Model;
 
-/// A number of steps, which no call lowers. It stands still at 2^64 - 1.
+/// A number of steps, which no call lowers: a saturating counter of 64 bits.
 #[derive(Drop)]
 pub struct Steps {
     count: u64,
@@ -17,6 +17,7 @@ impl Model for Steps {
 }
 
 impl Steps {
+    /// No steps.
     pub fn new() -> Steps
         ensures { result ≡ 0 }
     {
@@ -30,6 +31,7 @@ impl Steps {
         self.count = self.count.saturating_add(1);
     }
 
+    /// The number of steps so far.
     pub fn count(&self) -> u64
         ensures { result ≡ self.now }
     {

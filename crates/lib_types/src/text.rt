@@ -41,6 +41,7 @@ impl Text {
         self.bytes
     }
 
+    /// The bytes, borrowed.
     pub fn as_bytes(&self) -> &[u8]
         ensures { result.now ≡ self.now }
     {

@@ -1,4 +1,4 @@
--- Runs of digits, compared in place, compare as the numbers that they write.
+-- Runs of digits, compared without a copy, compare as the numbers that they write.
 use Rattle.std.proofs.Common.{◌≡◌, ℕ, ◌+◌, ◌<◌, ◌≤◌, Bool, true, false, cond, ◌==◌, List, [], ◌∷◌, length, drop, refl, ◌∙◌, ap, one-add, arith}
 use Rattle.std.specs.declared.cmp.Ordering.{Ordering}
 use Rattle.std.specs.declared.cmp.Ordering.TheVariants.{Less, Equal, Greater}
@@ -13,7 +13,7 @@ use Rattle.std.proofs.lemmas.Bool.Decides.{nat_tests}
 use Rattle.name_order.specs.Order.{value, with_digit}
 use Rattle.name_order.specs.Digits.{AreDigits, significant}
 
--- the greater number stays the greater, where no fewer digits follow it
+-- the greater number stays the greater if no fewer digits follow it
 stays_above : (m n : ℕ) (xs ys : List ℕ) → AreDigits xs → m < n → length xs ≤ length ys → fold with_digit m xs < fold with_digit n ys
 stays_above m n [] [] digits above short = above
 stays_above m n [] (y ∷ ys) digits above short = stays_above m (with_digit n y) [] ys digits (omega arith) (omega arith)
@@ -36,7 +36,7 @@ same_length n (x ∷ xs) (y ∷ ys) first second long =
     by Equal h rest = rest ∙ ap (λ z. nat_cmp (fold with_digit (with_digit n x) xs) (fold with_digit (with_digit n z) ys)) h
     by Greater h rest = nat_cmp_is _ _ Greater (stays_above (with_digit n y) (with_digit n x) ys xs second.1 (omega arith) (omega arith))
 
--- no zero stands at the front
+-- the first digit isn't zero
 abbrev IsTrimmed : List ℕ → Type 0
 IsTrimmed [] = ⊤
 IsTrimmed (x ∷ xs) = byte "0" < x

@@ -27,7 +27,7 @@ goes_on n (x ∷ xs) = by (is_ascii_digit x) refl (goes_on (with_digit n x) xs)
     by true e rest = rw (e, one-add (prefix_len is_ascii_digit xs)) rest
     by false e rest = simp e
 
--- what stands there is digits
+-- all of it is digits
 pub AreDigits-run : (xs : List ℕ) → AreDigits (run xs)
 AreDigits-run [] = tt
 AreDigits-run (x ∷ xs) = by (is_ascii_digit x) refl (AreDigits-run xs)

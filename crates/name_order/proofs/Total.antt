@@ -1,4 +1,4 @@
--- The loader's order and the name order are total, and the name order tells any two names apart.
+-- The loader's order and the name order are total, and no two names are equal in the name order.
 use Rattle.std.proofs.Common.{◌≡◌, ℕ, false, List, refl, sym, ◌∙◌, ap, subst}
 use Rattle.std.specs.declared.cmp.Ordering.{Ordering}
 use Rattle.std.specs.declared.cmp.Ordering.TheVariants.{Less, Equal, Greater}
@@ -37,7 +37,7 @@ token_order-total = on_total tokens (lists_total token_cmp-total)
 pub name_order-total : IsTotalOrder name_order
 name_order-total = then_total token_order-total nat_list_cmp_total
 
--- where two orders one after the other find no difference, the second finds none
+-- if two orders one after the other find no difference, the second finds none
 second_tied : (r s : Ordering) → ordering_then r s ≡ Equal → s ≡ Equal
 second_tied Less s e = cc
 second_tied Equal s e = e
@@ -63,7 +63,7 @@ name_order-ties a b =
 pub name_order-partial : IsPartialOrder (pointwise nat_eq) (as_partial_cmp name_order)
 name_order-partial = po name_order-total name_order-ties
 
--- where the first of two orders falls, both together do
+-- if the first of two orders falls, both together do
 after_second : (r s : Ordering) → is_gt (ordering_then r s) ≡ false → is_gt r ≡ false
 after_second Less s e = refl
 after_second Equal s e = refl

@@ -1,10 +1,10 @@
--- Which file names are those of libraries: the forms `lib*.so*` and `ld-*.so*` of ldconfig(8), where no package tool
+-- Which file names are those of libraries: the forms `lib*.so*` and `ld-*.so*` of ldconfig(8), if no package tool
 -- writes the file at the moment.
 use Rattle.std.specs.Prelude.{ℕ, Bool, ◌&&◌, ◌||◌, not, List, [], ◌∷◌, nat_eq, ◌==◌, codes}
 use Rattle.std.specs.Str.{byte}
 use Rattle.std.specs.List.{starts_with, ends_with, list_any}
 
--- the text stands somewhere in the bytes
+-- the text occurs in the bytes
 abbrev pub contains : List ℕ → List ℕ → Bool
 contains text [] = starts_with nat_eq [] text
 contains text (b ∷ rest) = starts_with nat_eq (b ∷ rest) text || contains text rest
@@ -17,7 +17,7 @@ abbrev pub has_temporary_suffix : List ℕ → Bool
 has_temporary_suffix name =
     (ends_with nat_eq name (codes ".dpkg-new") || ends_with nat_eq name (codes ".dpkg-tmp")) || ends_with nat_eq name (codes ".#prelink#")
 
--- a semicolon stands in the names that rpm gives a file until it renames it
+-- a semicolon is in the names that rpm gives a file until it renames it
 unfoldable pub is_library_name : List ℕ → Bool
 is_library_name name =
     ((has_library_prefix name && contains (codes ".so") name) && not (list_any (λ c. c == byte ";") name)) && not (has_temporary_suffix name)

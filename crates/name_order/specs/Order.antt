@@ -23,7 +23,7 @@ with_digit n digit = 10 * n + (digit - byte "0")
 abbrev pub value : List ℕ → ℕ
 value digits = fold with_digit 0 digits
 
--- the token of the number so far, where there is one
+-- the token of the number so far, if there is one
 abbrev pub number_token : Option ℕ → List Token
 number_token None = []
 number_token (Some n) = Number n ∷ []

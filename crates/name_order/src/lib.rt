@@ -36,7 +36,7 @@ pub fn compare_tokens(a: &[u8], b: &[u8]) -> Ordering
     }
 }
 
-/// The loader's order, and the order of the bytes where that finds two names equal.
+/// The loader's order, and the order of the bytes if two names are equal in it.
 #[tactic(auto, using(crate::proofs::Total::name_laws))]
 pub fn compare(a: &[u8], b: &[u8]) -> Ordering
     ensures value { result ≡ name_order a.now b.now }
@@ -46,7 +46,7 @@ pub fn compare(a: &[u8], b: &[u8]) -> Ordering
     compare_tokens(a, b).then_with(|| a.cmp(b))
 }
 
-/// Whether a file of this name may be a library, to go by its name alone.
+/// Whether a file of this name may be a library, to judge only by its name.
 #[tactic(auto, unfolding(crate::specs::LibraryName::is_library_name))]
 pub fn is_library_name(name: &[u8]) -> bool
     ensures { result ≡ is_library_name name.now }

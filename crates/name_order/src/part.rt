@@ -1,4 +1,4 @@
-//! The parts of a name that the loader compares, read in place.
+//! The parts of a name that the loader compares, without a copy.
 ghost use Rattle.std.specs.Prelude.{◌≡◌, ◌==◌, ◌≤◌, MatchOption, [], length};
 ghost use Rattle.std.specs.List.{prefix_len};
 ghost use Rattle.std.specs.Char.{is_ascii_digit};

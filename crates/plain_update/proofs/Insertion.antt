@@ -1,4 +1,4 @@
--- A list stays sorted where an element is put into its place.
+-- A list stays sorted if an element is inserted in order.
 use Rattle.std.proofs.Common.{◌≡◌, ℕ, ◌+◌, ◌-◌, ◌<◌, ◌≤◌, Bool, true, false, not, List, [], ◌∷◌, ◌++◌, length, map, get_or, take, refl, ⊎_elim, arith}
 use Rattle.std.proofs.lemmas.Bool.{cases_lt}
 use Rattle.std.proofs.lemmas.List.{map-append, take_more}
@@ -13,12 +13,12 @@ use Rattle.std.specs.declared.cmp.Ordering.TheVariants.{Less, Equal, Greater}
 use Rattle.lib_types.specs.declared.entry.Entry.{Entry}
 use Rattle.name_order.specs.Order.{name_order}
 use Rattle.name_order.proofs.Total.{name_order-total}
-use Rattle.ldconfig_cli.specs.Entries.{AreEntriesOf, entry_of}
-use Rattle.ldconfig_cli.specs.Libraries.{Library}
-use Rattle.plain_update.specs.Library.{seen}
-use Rattle.plain_update.specs.declared.Library as declared
+use Rattle.ldconfig_cli.specs.Entries.{AreEntriesOf, cache_entry_of}
+use Rattle.ldconfig_cli.specs.Libraries.{NamedKey}
+use Rattle.plain_update.specs.LibraryFile.{seen}
+use Rattle.plain_update.specs.declared.LibraryFile as declared
 
--- a sorted list stays so with an element that is put where it is in order with both neighbours
+-- a sorted list stays so with an element that is in order with both neighbours
 insert_sorted : {X : Type 0} (lt : X → X → Bool) (xs : List X) (i : ℕ) (y : X) → IsSortedBy lt xs → i ≤ length xs
     → ((j : ℕ) (d : X) → j + 1 ≡ i → lt y (get_or xs j d) ≡ false) → ((j : ℕ) (d : X) → j ≡ i → j < length xs → lt (get_or xs j d) y ≡ false)
     → IsSortedBy lt (insert xs i y)
@@ -66,23 +66,23 @@ not_above_is Greater e = cc
 abbrev is_not_above : List ℕ → Entry → Bool
 is_not_above soname entry = not (is_gt (name_order entry.soname soname))
 
--- where an entry of this soname goes
+-- the index for an entry of this soname
 abbrev place_of_soname : List Entry → List ℕ → ℕ
 place_of_soname entries soname = position_or_len (is_not_above soname) entries
 
 -- the entries with that of one more library
-listed_more : (found : List Library) (entries : List Entry) (library : Library) → AreEntriesOf found entries
-    → AreEntriesOf (found ++ library ∷ []) (insert entries (place_of_soname entries library.0) (entry_of library))
+listed_more : (found : List NamedKey) (entries : List Entry) (library : NamedKey) → AreEntriesOf found entries
+    → AreEntriesOf (found ++ library ∷ []) (insert entries (place_of_soname entries library.0) (cache_entry_of library))
 listed_more found entries library are = record {
-  all = rw (map-append entry_of found (library ∷ [])) (IsPermutation-push_more _ _ _ (entry_of library) are.all (IsPermutation-insert entries _ (entry_of library)));
-  descending = insert_sorted (λ a b. is_lt (flip_args name_order a.soname b.soname)) entries _ (entry_of library) are.descending (prefix_len-le-length _ entries)
+  all = rw (map-append cache_entry_of found (library ∷ [])) (IsPermutation-push_more _ _ _ (cache_entry_of library) are.all (IsPermutation-insert entries _ (cache_entry_of library)));
+  descending = insert_sorted (λ a b. is_lt (flip_args name_order a.soname b.soname)) entries _ (cache_entry_of library) are.descending (prefix_len-le-length _ entries)
       (λ j d e. above_is _ (fails_before_first (is_not_above library.0) entries j d (omega arith)))
       (λ j d e within. rw (name_order-total.antisymm library.0 (get_or entries j d).soname, e) (not_above_is _ (passes_at_first (is_not_above library.0) entries d (omega arith))));
 }
 
--- a step of a loop that puts the entry of each library into its place
-pub library_more : (libraries : List declared.Library) (i : ℕ) (d : declared.Library) (entries more : List Entry) (place : ℕ) (entry : Entry) → i < length libraries
-    → AreEntriesOf (map seen (take i libraries)) entries → entry ≡ entry_of (seen (get_or libraries i d)) → place ≡ place_of_soname entries (get_or libraries i d).name.now
+-- a step of a loop that inserts the entry of each library
+pub library_more : (libraries : List declared.LibraryFile) (i : ℕ) (d : declared.LibraryFile) (entries more : List Entry) (place : ℕ) (entry : Entry) → i < length libraries
+    → AreEntriesOf (map seen (take i libraries)) entries → entry ≡ cache_entry_of (seen (get_or libraries i d)) → place ≡ place_of_soname entries (get_or libraries i d).name.now
     → more ≡ insert entries place entry → AreEntriesOf (map seen (take (i + 1) libraries)) more
 library_more libraries i d entries more place entry within are made found put =
     rw (take_more libraries i d within, map-append seen (take i libraries) (get_or libraries i d ∷ []), put, made, found)

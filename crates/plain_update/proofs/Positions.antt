@@ -5,9 +5,9 @@ use Rattle.std.proofs.lemmas.List.{length-map, map-append, take-map}
 use Rattle.std.specs.Borrow.{Bor}
 use Rattle.std.specs.List.{list_any, position_or_len}
 use Rattle.indexmap.specs.IndexSet.{insert_key}
-use Rattle.ldconfig_cli.specs.CacheText.{place_of, table_of}
+use Rattle.ldconfig_cli.specs.CacheText.{offset_of, table_of}
 
--- one is among them where its place is none behind them
+-- one is among them if its index is within them
 among : {X : Type 0} (p : X → Bool) (xs : List X) → list_any p xs ≡ not (position_or_len p xs == length xs)
 among p [] = refl
 among p (x ∷ xs) = by (p x) (among p xs)
@@ -35,5 +35,5 @@ with_old texts text inside =
 
 -- the texts before one
 pub before : (texts : List (Bor (List ℕ))) (text : List ℕ)
-    → length (table_of (map (λ other. other.now) (take (position_or_len (bytes_eq text) (map (λ other. other.now) texts)) texts))) ≡ place_of (map (λ other. other.now) texts) text
+    → length (table_of (map (λ other. other.now) (take (position_or_len (bytes_eq text) (map (λ other. other.now) texts)) texts))) ≡ offset_of (map (λ other. other.now) texts) text
 before texts text = ap (λ ts. length (table_of ts)) (sym (take-map (λ (other : Bor (List ℕ)). other.now) _ texts))

@@ -1,1 +1,1 @@
-pub mod Library
+pub mod LibraryFile

@@ -1,4 +1,4 @@
-//! What an update writes, once more, by a plain and slow program: each text is looked for from the front, and each place
+//! What an update writes, once more, by a plain and slow program: each text is looked for from the front, and each offset
 //! counted from the front. Its contracts are the definitions that the fast program meets, so that both can be compared.
 #![tactic(auto)]
 
@@ -7,10 +7,10 @@ ghost use Rattle.std.specs.List.{position_or_len};
 ghost use Rattle.std.specs.Ordering.{is_gt};
 ghost use Rattle.indexmap.specs.IndexSet.{insert_key};
 ghost use Rattle.name_order.specs.Order.{name_order};
-ghost use Rattle.ldconfig_cli.specs.CacheText.{cache_text, strings, header, entry_bytes, extension, table_of, place_of, u32_bytes};
-ghost use Rattle.ldconfig_cli.specs.Entries.{entry_of, AreEntriesOf};
-ghost use Rattle.ldconfig_cli.specs.Run.{IsCacheOf};
-ghost use Rattle.plain_update.specs.Library.{seen};
+ghost use Rattle.ldconfig_cli.specs.CacheText.{cache_text, strings, header, entry_bytes, extension, table_of, offset_of, u32_bytes};
+ghost use Rattle.ldconfig_cli.specs.Entries.{cache_entry_of, AreEntriesOf};
+ghost use Rattle.ldconfig_cli.specs.Cache.{IsCacheOf};
+ghost use Rattle.plain_update.specs.LibraryFile.{seen};
 
 use lib_types::{Abi, Entries, Entry, NoMemory, Text};
 use name_order::compare;
@@ -19,14 +19,14 @@ use std::cmp::Ordering;
 
 /// A library file of `/usr/lib`.
 #[derive(Clone, Copy)]
-pub struct Library<'a> {
+pub struct LibraryFile<'a> {
     pub name: &'a [u8],
     /// What a store holds the file's content under.
     pub key: &'a [u8],
 }
 
 /// The cache of these libraries.
-pub fn plain_cache(alloc: Global, libraries: &[Library<'_>]) -> Result<Vec<u8>, NoMemory>
+pub fn plain_cache(alloc: Global, libraries: &[LibraryFile<'_>]) -> Result<Vec<u8>, NoMemory>
     requires few { length libraries.now ≤ 131072 }
     requires short { All (λ library. length library.name.now ≤ 4095) libraries.now }
     ensures { IfOk result (λ bytes. IsCacheOf (map seen libraries.now) bytes.items) }
@@ -75,7 +75,7 @@ fn strings(alloc: Global, entries: &[Entry]) -> Result<Vec<&[u8]>, NoMemory>
     Ok(texts)
 }
 
-// Puts a text at the end, where it is new.
+// Adds a text at the end if it is new.
 #[tactic(auto, using(crate::proofs::Positions::with_new, crate::proofs::Positions::with_old))]
 fn add<'a>(texts: &mut Vec<&'a [u8]>, text: &'a [u8]) -> Result<(), NoMemory>
     ensures { OnOk result (map (λ other. other.now) texts.new.items ≡ insert_key bytes_eq (map (λ other. other.now) texts.old.items) text.now) }
@@ -86,7 +86,7 @@ fn add<'a>(texts: &mut Vec<&'a [u8]>, text: &'a [u8]) -> Result<(), NoMemory>
     Ok(())
 }
 
-// The place of a text among others; their number, where it isn't among them.
+// The index of a text among others; their number if it isn't among them.
 fn position(texts: &[&[u8]], text: &[u8]) -> usize
     ensures value { result ≡ position_or_len (bytes_eq text.now) (map (λ other. other.now) texts.now) }
     ensures within { result ≤ length texts.now }
@@ -101,9 +101,9 @@ fn position(texts: &[&[u8]], text: &[u8]) -> usize
 
 // The bytes before a text.
 #[tactic(auto, using(crate::proofs::Positions::before, ldconfig_cli::proofs::StringPool::place_of_le))]
-fn place_of(texts: &[&[u8]], text: &[u8]) -> u32
+fn offset_of(texts: &[&[u8]], text: &[u8]) -> u32
     requires { length (table_of (map (λ text. text.now) texts.now)) < 2 ^ 32 }
-    ensures value { result ≡ place_of (map (λ text. text.now) texts.now) text.now }
+    ensures value { result ≡ offset_of (map (λ text. text.now) texts.now) text.now }
     ensures within { result ≤ length (table_of (map (λ text. text.now) texts.now)) }
 {
     size_of(&texts[..position(texts, text)])
@@ -146,8 +146,8 @@ fn put_entry(out: &mut Vec<u8>, start: u32, texts: &[&[u8]], entry: &Entry) -> R
     requires { start + length (table_of (map (λ text. text.now) texts.now)) < 2 ^ 32 }
     ensures { OnOk result (out.new.items ≡ out.old.items ++ entry_bytes start (map (λ text. text.now) texts.now) entry.now) }
 {
-    let soname = start + place_of(texts, entry.soname.as_bytes());
-    let path = start + place_of(texts, entry.path.as_bytes());
+    let soname = start + offset_of(texts, entry.soname.as_bytes());
+    let path = start + offset_of(texts, entry.path.as_bytes());
     put_numbers(out, &[entry.abi.flags() as u32, soname, path, 0, 0, 0])
 }
 
@@ -195,19 +195,19 @@ fn put_extension(out: &mut Vec<u8>, place: u32) -> Result<(), NoMemory>
     Ok(())
 }
 
-/// The entries of these libraries, each put into its place among those before it.
-pub fn plain_entries(alloc: Global, libraries: &[Library<'_>]) -> Result<Entries, NoMemory>
+/// The entries of these libraries, each inserted among those before it.
+pub fn plain_entries(alloc: Global, libraries: &[LibraryFile<'_>]) -> Result<Entries, NoMemory>
     ensures { IfOk result (AreEntriesOf (map seen libraries.now)) }
 {
     let mut entries = Vec::new(alloc);
     for library in libraries {
         let place = place_below(&entries, library.name);
-        entries.insert(place, entry_of(alloc, library)?)?;
+        entries.insert(place, cache_entry_of(alloc, library)?)?;
     }
     Ok(Entries::from_vec(entries))
 }
 
-// The first place whose soname isn't above this one.
+// The first index whose soname isn't above this one.
 fn place_below(entries: &[Entry], soname: &[u8]) -> usize
     ensures value { result ≡ position_or_len (λ entry. not (is_gt (name_order entry.soname soname.now))) entries.now }
     ensures within { result ≤ length entries.now }
@@ -220,8 +220,8 @@ fn place_below(entries: &[Entry], soname: &[u8]) -> usize
     entries.len()
 }
 
-fn entry_of(alloc: Global, library: &Library<'_>) -> Result<Entry, NoMemory>
-    ensures { IfOk result (λ entry. entry ≡ entry_of (seen library.now)) }
+fn cache_entry_of(alloc: Global, library: &LibraryFile<'_>) -> Result<Entry, NoMemory>
+    ensures { IfOk result (λ entry. entry ≡ cache_entry_of (seen library.now)) }
 {
     let mut path = Vec::from_slice(alloc, b"/usr/lib/")?;
     path.extend_from_slice(library.name)?;

@@ -2,7 +2,7 @@
 ghost use Rattle.std.specs.Prelude.{◌≡◌, ◌≤◌, length, All, None, IfOk};
 ghost use Rattle.std.specs.Bool.{OnTrue};
 
-use super::{Library, plain_cache, plain_cache_text, plain_entries};
+use super::{LibraryFile, plain_cache, plain_cache_text, plain_entries};
 use ldconfig_cli::{Status, run};
 use lib_types::{Abi, Entries, Entry, NoMemory, Text};
 use std::alloc::Global;
@@ -38,7 +38,7 @@ fn entry(alloc: Global, abi: Abi, soname: &[u8], path: &[u8]) -> Result<Entry, N
     })
 }
 
-// A shared soname stands once among the strings.
+// A shared soname is once among the strings.
 #[test]
 fn one_soname_of_two_abis(rt: HostRuntime) -> Result<(), Fail> {
     let alloc = rt.alloc();
@@ -97,7 +97,7 @@ const LISTS: [(&str, &str); 13] = [
     ),
 ];
 
-// The keys of the files of these names, which stand apart by blanks.
+// The keys of the files of these names, which blanks separate.
 fn keys(alloc: Global, names: &str) -> Result<Vec<Text>, Fail> {
     let mut found = Vec::new(alloc);
     for name in names.split_whitespace() {
@@ -108,25 +108,25 @@ fn keys(alloc: Global, names: &str) -> Result<Vec<Text>, Fail> {
 }
 
 // The libraries that these are the keys of.
-fn libraries(alloc: Global, keys: &[Text]) -> Result<Vec<Library<'_>>, NoMemory> {
+fn libraries(alloc: Global, keys: &[Text]) -> Result<Vec<LibraryFile<'_>>, NoMemory> {
     let mut found = Vec::new(alloc);
     for key in keys {
         let key = key.as_bytes();
         let name = key.strip_prefix(b"usr/lib/".as_slice()).unwrap_or(key);
-        found.push(Library { name, key })?;
+        found.push(LibraryFile { name, key })?;
     }
     Ok(found)
 }
 
 // Whether the plain program takes these libraries.
-fn are_taken(libraries: &[Library<'_>]) -> bool
+fn are_taken(libraries: &[LibraryFile<'_>]) -> bool
     ensures few { OnTrue result (length libraries.now ≤ 131072) }
     ensures short { OnTrue result (All (λ library. length library.name.now ≤ 4095) libraries.now) }
 {
     libraries.len() <= 131072 && libraries.iter().all(|library| library.name.len() <= 4095)
 }
 
-// The sonames of these entries, with a blank behind each.
+// The sonames of these entries, with a blank after each.
 fn sonames(alloc: Global, entries: &Entries) -> Result<Vec<u8>, NoMemory> {
     let mut text = Vec::new(alloc);
     for entry in entries.as_slice() {
@@ -140,7 +140,7 @@ fn sonames(alloc: Global, entries: &Entries) -> Result<Vec<u8>, NoMemory> {
 fn cache_by_update(
     rt: &impl Abort,
     alloc: Global,
-    libraries: &[Library<'_>],
+    libraries: &[LibraryFile<'_>],
 ) -> Result<Option<Vec<u8>>, Fail> {
     let mut manifest = Vec::from_slice(alloc, b"#mtree\n")?;
     let mut held = Vec::new(alloc);

@@ -1,34 +1,30 @@
--- What stands above a path, and when a node clashes.
-use Rattle.std.proofs.Common.{◌≡◌, ℕ, suc, ◌<◌, Bool, true, false, ◌&&◌, ◌||◌, not, List, [], ◌∷◌, ◌++◌, length, get_or, take, drop, Option, Some, None, refl, sym, ap, subst, ◌∙◌, arith}
-use Rattle.std.proofs.lemmas.Bool.{and_parts, and_from}
-use Rattle.std.proofs.lemmas.Cmp.{tied_itself}
+-- What lies above a path, and when a node clashes.
+use Rattle.std.proofs.Common.{◌≡◌, ℕ, ◌+◌, ◌<◌, Bool, true, false, ◌&&◌, ◌||◌, not, List, [], ◌∷◌, ◌++◌, length, get_or, Option, Some, None, refl, sym, ap, subst, ◌∙◌, ⊎_elim, arith}
+use Rattle.std.proofs.lemmas.Bool.{and_parts, and_from, or_parts, cases_lt}
 use Rattle.std.proofs.lemmas.List.Folds.{list_any_none, list_any_at}
-use Rattle.std.specs.declared.cmp.Ordering.TheVariants.{Equal}
+use Rattle.std.specs.declared.cmp.Ordering.TheVariants.{Less, Greater}
 use Rattle.tree_face.proofs.Order.{path_total}
-use Rattle.tree_face.proofs.Places.{by_test}
+use Rattle.lib_types.proofs.SortedPairs.{by_test, below_later}
+use Rattle.lib_types.proofs.Bools.{not_true}
 use Rattle.tree_face.specs.Paths.{path_cmp, is_path, is_below}
 use Rattle.tree_face.specs.declared.node.Node.{Node}
 use Rattle.tree_face.specs.Node.{is_dir}
-use Rattle.tree_face.specs.Places.{IsPlaceOf, has_file_above}
-use Rattle.tree_face.proofs.Trees.{found_node}
+use Rattle.tree_face.specs.Index.{IsIndexOf, IsGapFor, is_file_above, has_file_above}
 use Rattle.std.proofs.lemmas.List.{get_or_default}
 use Rattle.std.proofs.lemmas.List.Sums.{AllPass-from_list_all}
 use Rattle.std.proofs.lemmas.Map.Entries.{place_from_lookup}
 use Rattle.std.proofs.lemmas.Option.{slice_get_within, get_or_from_slice_get}
-use Rattle.std.proofs.Math.Seq.{get_or-append_seam, take-append_seam}
-use Rattle.std.proofs.Common.{length-append, drop-cons}
-use Rattle.std.proofs.lemmas.List.{take-append-drop}
 use Rattle.std.specs.Option.{IsSome}
 use Rattle.std.specs.BTreeMap.{is_at}
 use Rattle.std.specs.Cmp.{Equal-is}
 use Rattle.std.specs.List.{list_all}
-use Rattle.tree_face.specs.Tree.{Nodes, IsPathSorted, has_below, node_at, is_entry, is_file, clash_with, clashes}
-use Rattle.tree_face.proofs.Below.{exact, below_is, below_from}
+use Rattle.tree_face.specs.Tree.{Nodes, IsTree, has_below, node_at, is_entry, clash_with, clashes}
+use Rattle.tree_face.proofs.Below.{exact, below_is, below_from, comes_before, between}
 
 path_of_entry : (t : Nodes) (k : ℕ) (d : List ℕ × Node) → list_all is_entry t ≡ true → k < length t → is_path (get_or t k d).0 ≡ true
 path_of_entry t k d all h = (and_parts _ _ (AllPass-from_list_all is_entry t all k d h)).0
 
--- a node that is found stands at a path, and may stand in a tree
+-- a node that is found is at a path, and is valid
 pub found_entry : (t : Nodes) (q : List ℕ) (node : Node) → list_all is_entry t ≡ true → node_at t q ≡ Some node → is_entry (q, node) ≡ true
 found_entry t q node all at =
     let p = place_from_lookup (is_at (path_cmp q)) t node at in
@@ -42,49 +38,7 @@ pub path_of_found : (t : Nodes) (q : List ℕ) (o : Option Node) → list_all is
 path_of_found t q None all at some = absurd (cc)
 path_of_found t q (Some node) all at some = (and_parts _ _ (found_entry t q node all at)).0
 
-file_node : (o : Option Node) → is_file o ≡ true → (node : Node) × (o ≡ Some node) × (not (is_dir node) ≡ true)
-file_node None h = absurd (cc)
-file_node (Some node) h = (node, refl, h)
-
-shorter_front : (q s : List ℕ) → length q < length (q ++ 47 ∷ s)
-shorter_front q s = omega (arith, length-append q (47 ∷ s))
-
-module _ (t : Nodes) (path : List ℕ) (all : list_all is_entry t ≡ true) where
-  file_found : (q s : List ℕ) (node : Node) → path ≡ q ++ 47 ∷ s → node_at t q ≡ Some node → not (is_dir node) ≡ true → has_file_above t path ≡ true
-  file_found q s node e at file =
-      let p = place_from_lookup (is_at (path_cmp q)) t node at in
-      let h : p.0 < length t = slice_get_within t p.0 _ p.2 in
-      let d : List ℕ × Node = (p.1, node) in
-      let g : get_or t p.0 d ≡ d = get_or_from_slice_get t p.0 d d p.2 in
-      let same : q ≡ p.1 = exact q p.1 ((Equal-is (path_cmp q p.1)).0 p.3) in
-      let proper : is_path p.1 ≡ true = subst (λ (z : List ℕ × Node). is_path z.0 ≡ true) g (path_of_entry t p.0 d all h) in
-      let below : is_below p.1 path ≡ true = below_from p.1 path s proper (subst (λ (z : List ℕ). path ≡ z ++ 47 ∷ s) same e) in
-      list_any_at (λ (e : List ℕ × Node). is_below e.0 path && not (is_dir e.1)) t p.0 d h
-      (subst (λ (z : List ℕ × Node). (is_below z.0 path && not (is_dir z.1)) ≡ true) (sym g) (and_from _ _ below file))
-
-  pub file_above : (i : ℕ) → i < length path → get_or path i 0 ≡ 47 → is_file (node_at t (take i path)) ≡ true → has_file_above t path ≡ true
-  file_above i h slash file =
-      let e : drop i path ≡ get_or path i 0 ∷ drop (suc i) path = drop-cons path i 0 h in
-      let whole : path ≡ take i path ++ 47 ∷ drop (suc i) path = sym (take-append-drop i path) ∙ ap (λ z. take i path ++ z) (e ∙ ap (λ b. b ∷ drop (suc i) path) slash) in
-      let f = file_node (node_at t (take i path)) file in
-      file_found (take i path) (drop (suc i) path) f.0 whole f.1 f.2
-
-  pub no_file_above : IsPathSorted t → ((j : ℕ) → j < length path → get_or path j 0 ≡ 47 → is_file (node_at t (take j path)) ≡ false) → has_file_above t path ≡ false
-  no_file_above sorted none = list_any_none (λ (e : List ℕ × Node). is_below e.0 path && not (is_dir e.1)) t (λ k d h.
-      by_test (is_below (get_or t k d).0 path && not (is_dir (get_or t k d).1))
-      (λ e.
-      let q = (get_or t k d).0 in
-      let proper = path_of_entry t k d all h in
-      let s = below_is q path proper (and_parts _ _ e).0 in
-      let slash : get_or path (length q) 0 ≡ 47 = subst (λ (z : List ℕ). get_or z (length q) 0 ≡ 47) (sym s.1) (get_or-append_seam q 47 s.0 0) in
-      let front : take (length q) path ≡ q = subst (λ (z : List ℕ). take (length q) z ≡ q) (sym s.1) (take-append_seam q (47 ∷ s.0)) in
-      let place : IsPlaceOf t q k = record { within = h; same = λ e. subst (λ (z : List ℕ × Node). path_cmp z.0 q ≡ Equal) (get_or_default t k d e h) (tied_itself path_total q) } in
-      let there : is_file (node_at t (take (length q) path)) ≡ true = ap (λ z. is_file (node_at t z)) front ∙ ap is_file (found_node t q k sorted place d) ∙ (and_parts (is_below q path) (not (is_dir (get_or t k d).1)) e).1 in
-      let inside : length q < length path = subst (λ (z : List ℕ). length q < length z) (sym s.1) (shorter_front q s.0) in
-      let free = none (length q) inside slash in absurd (cc))
-      (λ e. e))
-
--- ---- both
+-- ---- files and links above a path
 
 regroup : (a b c x y : Bool) → ((a || (c && b)) || (x || (c && y))) ≡ ((a || x) || (c && (b || y)))
 regroup true b c x y = refl
@@ -98,6 +52,67 @@ apart path node [] = grind arith
 apart path node (e ∷ t) =
     ap (λ z. clash_with path node e || z) (apart path node t)
     ∙ regroup (is_below e.0 path && not (is_dir e.1)) (is_below path e.0) (not (is_dir node)) (has_file_above t path) (has_below t path)
+
+above_free : (t : Nodes) (path : List ℕ) (node : Node) → clashes t path node ≡ false → has_file_above t path ≡ false
+above_free t path node free = (or_parts (has_file_above t path) (not (is_dir node) && has_below t path) (sym (apart path node t) ∙ free)).0
+
+module _ (t : Nodes) (tree : IsTree t) where
+  none_above_entry : (k : ℕ) (d : List ℕ × Node) → k < length t → has_file_above t (get_or t k d).0 ≡ false
+  none_above_entry k d h = above_free t (get_or t k d).0 (get_or t k d).1 (not_true _ (AllPass-from_list_all (λ (e : List ℕ × Node). not (clashes t e.0 e.1)) t tree.clear k d h))
+
+  -- no file or link lies above a path that has an entry
+  pub none_above_found : (path : List ℕ) (k : ℕ) (d : List ℕ × Node) → IsIndexOf t path k → has_file_above t path ≡ false
+  none_above_found path k d index = subst (λ q. has_file_above t q ≡ false) (exact (get_or t k d).0 path (index.same d)) (none_above_entry k d index.within)
+
+  module _ (path : List ℕ) where
+    -- what lies above the path comes before it
+    above_is_less : (k : ℕ) (d : List ℕ × Node) → k < length t → is_file_above path (get_or t k d) ≡ true → path_cmp (get_or t k d).0 path ≡ Less
+    above_is_less k d h above =
+        let q = (get_or t k d).0 in
+        let s = below_is q path (path_of_entry t k d tree.entries h) (and_parts _ _ above).0 in
+        subst (λ z. path_cmp q z ≡ Less) (sym s.1) (comes_before q s.0)
+
+    pub none_above_first : IsGapFor t path 0 → has_file_above t path ≡ false
+    none_above_first gap = list_any_none (is_file_above path) t (λ k d h.
+        by_test (is_file_above path (get_or t k d))
+        (λ above. let z : Less ≡ Greater = sym (above_is_less k d h above) ∙ gap.after k d (omega arith) h in absurd (cc))
+        (λ e. e))
+
+    -- an entry above the path is the one directly before it, since nothing lies between them but what lies below that entry
+    above_is_before : (index i k : ℕ) (d : List ℕ × Node) → index ≡ i + 1 → IsGapFor t path index → k < length t → is_file_above path (get_or t k d) ≡ true → k ≡ i
+    above_is_before index i k d next gap h above =
+        let q = (get_or t k d).0 in
+        let less = above_is_less k d h above in
+        let within = gap.within in
+        ⊎_elim
+        (λ lt. ⊎_elim
+        (λ earlier.
+        let proper = path_of_entry t k d tree.entries h in
+        let s = below_is q path proper (and_parts _ _ above).0 in
+        let there : i < length t = omega arith in
+        let first = below_later path_total t k i d tree.sorted earlier there in
+        let second : path_cmp (get_or t i d).0 (q ++ 47 ∷ s.0) ≡ Less = subst (λ z. path_cmp (get_or t i d).0 z ≡ Less) s.1 (gap.before i d (omega arith) (omega arith)) in
+        let r = between q (get_or t i d).0 s.0 first second in
+        let below : is_below q (get_or t i d).0 ≡ true = below_from q (get_or t i d).0 r.0 proper r.1 in
+        let some : has_file_above t (get_or t i d).0 ≡ true = list_any_at (is_file_above (get_or t i d).0) t k d h (and_from _ _ below (and_parts (is_below q path) (not (is_dir (get_or t k d).1)) above).1) in
+        let z : true ≡ false = sym some ∙ none_above_entry i d there in absurd (cc))
+        (λ later. omega arith)
+        (cases_lt k i))
+        (λ ge. let z : Less ≡ Greater = sym less ∙ gap.after k d ge h in absurd (cc))
+        (cases_lt k index)
+
+    pub above_by_before : (index i : ℕ) (d : List ℕ × Node) → index ≡ i + 1 → IsGapFor t path index → is_file_above path (get_or t i d) ≡ has_file_above t path
+    above_by_before index i d next gap =
+        let within = gap.within in
+        by_test (is_file_above path (get_or t i d))
+        (λ above. above ∙ sym (list_any_at (is_file_above path) t i d (omega arith) above))
+        (λ none. none ∙ sym (list_any_none (is_file_above path) t (λ k e h.
+        by_test (is_file_above path (get_or t k e))
+        (λ above.
+        let same : k ≡ i = above_is_before index i k e next gap h above in
+        let moved : is_file_above path (get_or t i d) ≡ true = subst (λ z. is_file_above path z ≡ true) (get_or_default t i e d (subst (λ n. n < length t) same h)) (subst (λ n. is_file_above path (get_or t n e) ≡ true) same above) in
+        let z : true ≡ false = sym moved ∙ none in absurd (cc))
+        (λ e. e))))
 
 module _ (t : Nodes) (path : List ℕ) (node : Node) where
   pub clash_above : has_file_above t path ≡ true → clashes t path node ≡ true

@@ -1,4 +1,4 @@
--- What lies below a path stands directly behind it.
+-- What lies below a path comes directly behind it.
 use Rattle.std.proofs.Common.{◌≡◌, ◌≢◌, ℕ, ◌+◌, ◌<◌, ◌≤◌, Bool, true, false, cond, ◌&&◌, nat_eq, List, [], ◌∷◌, ◌++◌, length, get_or, drop, refl, sym, ap, subst, ◌∙◌, ⊎_elim, arith, append_assoc, Ordering}
 use Rattle.std.proofs.lemmas.Bool.{cases_lt, eqb-true, eq-eqb}
 use Rattle.std.proofs.lemmas.Bool.Decides.{Decides-eqb, nat_tests}
@@ -11,10 +11,10 @@ use Rattle.std.specs.Ordering.{nat_cmp, ordering_then, is_gt}
 use Rattle.std.specs.Str.{bytes_eq}
 use Rattle.std.specs.declared.cmp.Ordering.TheVariants.{Less, Equal, Greater}
 use Rattle.tree_face.proofs.Order.{path_total}
-use Rattle.tree_face.proofs.Places.{by_ordering, by_test, flipped, below_later, before_place}
+use Rattle.lib_types.proofs.SortedPairs.{by_ordering, by_test, flipped, below_later, before_index}
 use Rattle.tree_face.specs.Paths.{path_cmp, path_rank, is_path, root, stem, folder, is_below}
 use Rattle.tree_face.specs.declared.node.Node.{Node}
-use Rattle.tree_face.specs.Places.{IsPlaceOf, IsGapFor, IsBehind}
+use Rattle.tree_face.specs.Index.{IsIndexOf, IsGapFor, IsBehind}
 use Rattle.tree_face.specs.Tree.{Nodes, IsPathSorted, has_below}
 
 -- the rank of bytes that are equal, and the bytes of equal ranks
@@ -38,7 +38,7 @@ cmp_step x y p q r h = ap (λ o. ordering_then o (path_cmp p q)) h
 pub after_slash : (y : ℕ) → nat_eq y 47 ≡ false → nat_cmp (path_rank y) (path_rank 47) ≡ Greater
 after_slash y h = grind (arith, nat_tests)
 
--- what stands between a path and a place below it lies below it too
+-- what comes between a path and a path below it lies below it too
 pub between : (p q s : List ℕ) → path_cmp p q ≡ Less → path_cmp q (p ++ 47 ∷ s) ≡ Less → (t : List ℕ) × (q ≡ p ++ 47 ∷ t)
 between [] [] s h k = absurd (cc)
 between [] (y ∷ q) s h k = by_test (nat_eq y 47) (λ e. (q, ap (λ z. z ∷ q) (eqb-true y 47 e)))
@@ -66,7 +66,7 @@ starts_behind : (p rest : List ℕ) → starts_with nat_eq (p ++ rest) (p ++ roo
 starts_behind [] rest = refl
 starts_behind (x ∷ p) rest = ap (λ b. b && starts_with nat_eq (p ++ rest) (p ++ root)) (eq-eqb x x refl) ∙ starts_behind p rest
 
--- what `strip_prefix` leaves tells whether the path lies below
+-- what `strip_prefix` leaves shows whether the path lies below
 pub below_stripped : (path q rest : List ℕ) (b : Bool) → q ≡ stem path ++ rest → b ≡ starts_with nat_eq rest root → b ≡ is_below path q
 below_stripped path q rest b e h = h ∙ sym (starts_behind (stem path) rest) ∙ ap (λ z. starts_with nat_eq z (folder path)) (sym e)
 
@@ -75,7 +75,7 @@ not_below_unstripped path q none = by_test (is_below path q)
     (λ e. absurd (none _ ((starts_is Decides-eqb q (folder path) (is_below path q) refl).0 e ∙ append_assoc (stem path) root _)))
     (λ e. sym e)
 
--- q lies below p exactly where it is p with a slash and more behind it
+-- q lies below p exactly if it is p with a slash and more behind it
 pub below_is : (p q : List ℕ) → is_path p ≡ true → is_below p q ≡ true → (s : List ℕ) × (q ≡ p ++ 47 ∷ s)
 below_is p q h b =
     let f = (starts_is Decides-eqb q (p ++ root) (is_below p q) (ap (λ f. starts_with nat_eq q f) (folder_is p h))).0 b in
@@ -122,11 +122,11 @@ module _ (t : Nodes) (path : List ℕ) (at : ℕ) (proper : is_path path ≡ tru
   some_below_next d l e = list_any_at (λ (e : List ℕ × Node). is_below path e.0) t at d l e
 
 -- behind the path's own entry
-pub behind_place : (t : Nodes) (path : List ℕ) (at : ℕ) → IsPathSorted t → IsPlaceOf t path at → IsBehind t path (at + 1)
-behind_place t path at s p = record {
+pub behind_index : (t : Nodes) (path : List ℕ) (at : ℕ) → IsPathSorted t → IsIndexOf t path at → IsBehind t path (at + 1)
+behind_index t path at s p = record {
   within = omega (arith, p.within);
   before = λ k d low high. ⊎_elim
-      (λ lt. ap is_gt (before_place path_total t path at s p.within p.same k d (omega arith) lt))
+      (λ lt. ap is_gt (before_index path_total t path at s p.within p.same k d (omega arith) lt))
       (λ ge. let e : k ≡ at = omega arith in subst (λ (n : ℕ). is_gt (path_cmp (get_or t n d).0 path) ≡ false) (sym e) (ap is_gt (p.same d)))
       (cases_lt k at);
   after = λ k d low high.

@@ -7,8 +7,8 @@ use Rattle.std.specs.Map.{remove_entry}
 use Rattle.std.specs.declared.cmp.Ordering.TheVariants.{Less, Equal, Greater}
 use Rattle.tree_face.proofs.Below.{exact, below_is, comes_before}
 use Rattle.tree_face.proofs.Order.{path_total}
-use Rattle.tree_face.proofs.Places.{by_ordering, by_test, put_step}
-use Rattle.tree_face.proofs.Bools.{not_true, and_false, turned}
+use Rattle.lib_types.proofs.SortedPairs.{by_ordering, by_test, put_step}
+use Rattle.lib_types.proofs.Bools.{not_true, and_false, turned}
 use Rattle.tree_face.specs.Node.{is_dir}
 use Rattle.tree_face.specs.Paths.{path_cmp, is_path, is_below}
 use Rattle.tree_face.specs.Tree as tree

@@ -7,15 +7,15 @@ use Rattle.std.specs.BTreeMap.{is_at}
 use Rattle.std.specs.Map.{remove_entry}
 use Rattle.std.specs.Result.{MatchResult, IfErr}
 use Rattle.tree_face.proofs.Order.{path_total}
-use Rattle.tree_face.proofs.Places as places
+use Rattle.lib_types.proofs.SortedPairs as pairs
 use Rattle.tree_face.specs.Node.{is_node}
 use Rattle.tree_face.specs.Paths.{path_cmp, is_path}
 use Rattle.tree_face.specs.Tree as tree
 use Rattle.tree_face.specs.Tree.{Nodes, IsPathSorted, IsTree, node_at, is_entry}
-use Rattle.tree_face.specs.Places.{IsPlaceOf, IsGapFor}
+use Rattle.tree_face.specs.Index.{IsIndexOf, IsGapFor}
 use Rattle.tree_face.specs.declared.node.Node.{Node}
 use Rattle.tree_face.proofs.Clear.{all_put, all_removed, clear_put, clear_removed}
-use Rattle.tree_face.proofs.Trees.{replaced, inserted}
+use Rattle.tree_face.proofs.Index.{replaced, inserted}
 use Rattle.tree_face.specs.Tree.{clashes}
 
 fewer_removed : (test : List ℕ → Bool) (t : Nodes) → length (remove_entry test t) ≤ length t
@@ -24,17 +24,17 @@ fewer_removed test (e ∷ t) = let h = fewer_removed test t in elim (test e.0) a
 
 module _ (t : Nodes) (path : List ℕ) (node : Node) (free : clashes t path node ≡ false) where
   pub put_tree : IsTree t → is_path path ≡ true → is_node node ≡ true → length (tree.put t path node) ≤ 2 ^ 20 → IsTree (tree.put t path node)
-  put_tree h p n few = record { sorted = places.sorted_put path_total path t node h.sorted; entries = all_put is_entry t path node h.entries (and_from _ _ p n); few = few; clear = clear_put t path node p h.clear free }
+  put_tree h p n few = record { sorted = pairs.sorted_put path_total path t node h.sorted; entries = all_put is_entry t path node h.entries (and_from _ _ p n); few = few; clear = clear_put t path node p h.clear free }
 
-  pub replaced_tree : (at : ℕ) → IsTree t → IsPlaceOf t path at → is_path path ≡ true → is_node node ≡ true → IsTree (tree.put t path node)
+  pub replaced_tree : (at : ℕ) → IsTree t → IsIndexOf t path at → is_path path ≡ true → is_node node ≡ true → IsTree (tree.put t path node)
   replaced_tree at h p q n = put_tree h q n (rw (← replaced t path at node (path, node) h.sorted p, length-set) h.few)
 
   pub inserted_tree : (at : ℕ) → IsTree t → IsGapFor t path at → is_path path ≡ true → is_node node ≡ true → length t < 2 ^ 20 → IsTree (tree.put t path node)
   inserted_tree at h p q n few = put_tree h q n (rw (← inserted t path at node p) (let k = length-insert t at (path, node) p.within in omega arith))
 
-  pub tree_put : (place : Result ℕ ℕ) → MatchResult place (IsPlaceOf t path) (IsGapFor t path) → IfErr place (λ _. length t < 2 ^ 20) → IsTree t → is_path path ≡ true → is_node node ≡ true → IsTree (tree.put t path node)
+  pub tree_put : (place : Result ℕ ℕ) → MatchResult place (IsIndexOf t path) (IsGapFor t path) → IfErr place (λ _. length t < 2 ^ 20) → IsTree t → is_path path ≡ true → is_node node ≡ true → IsTree (tree.put t path node)
   tree_put (Ok at) p room h q n = replaced_tree at h p q n
   tree_put (Err at) p room h q n = inserted_tree at h p q n room
 
 pub removed_tree : (t : Nodes) (path : List ℕ) → IsTree t → IsTree (tree.remove t path)
-removed_tree t path h = let k = fewer_removed (is_at (path_cmp path)) t in record { sorted = places.sorted_removed path_total (is_at (path_cmp path)) t h.sorted; entries = all_removed is_entry _ t h.entries; few = omega (arith, h.few); clear = clear_removed t (is_at (path_cmp path)) h.clear }
+removed_tree t path h = let k = fewer_removed (is_at (path_cmp path)) t in record { sorted = pairs.sorted_removed path_total (is_at (path_cmp path)) t h.sorted; entries = all_removed is_entry _ t h.entries; few = omega (arith, h.few); clear = clear_removed t (is_at (path_cmp path)) h.clear }

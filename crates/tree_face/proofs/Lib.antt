@@ -1,12 +1,10 @@
 pub mod Above
 pub mod Below
-pub mod Bools
 pub mod Clear
+pub mod Index
 pub mod Kept
 pub mod Names
 pub mod Order
 pub mod Pairs
-pub mod Places
 pub mod Rising
 pub mod Streams
-pub mod Trees

@@ -6,9 +6,9 @@ use Rattle.std.proofs.lemmas.List.{get_or-drop, take_all}
 use Rattle.std.specs.List.{filter, AllWithin, list_all, position, position_or_len, before_first}
 use Rattle.std.specs.List.Sorted.{IsPartitionedBy, IsPartitionPoint}
 use Rattle.tree_face.proofs.Below.{below_as_later, none_before}
-use Rattle.tree_face.proofs.Places.{by_test}
+use Rattle.lib_types.proofs.SortedPairs.{by_test}
 use Rattle.tree_face.specs.Paths.{is_path, is_below, root}
-use Rattle.tree_face.specs.Places.{IsBehind}
+use Rattle.tree_face.specs.Index.{IsBehind}
 use Rattle.tree_face.specs.Tree.{Nodes, IsPathSorted, is_entry}
 use Rattle.tree_face.specs.declared.node.Node.{Node}
 
@@ -56,7 +56,7 @@ module _ (t : Nodes) (path : List ℕ) (at : ℕ) (proper : is_path path ≡ tru
       filter_front (λ (e : List ℕ × Node). is_below path e.0) (drop at t) n h parts
       ∙ filter_none_before (λ (e : List ℕ × Node). is_below path e.0) t at behind.within (λ k d low high. none_before t path at proper behind k d high)
 
-  -- the same of a slice from this place on
+  -- the same of a slice from this index on
   pub below_cut : (rest : Nodes) → rest ≡ drop at t → (n : ℕ) → n ≤ length rest → IsPathSorted t
       → (IsPartitionedBy (λ e. is_below path e.0) rest → IsPartitionPoint (λ e. is_below path e.0 ≡ true) (λ e. is_below path e.0 ≡ false) rest n)
       → take n rest ≡ filter (λ e. is_below path e.0) t

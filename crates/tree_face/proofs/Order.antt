@@ -25,7 +25,7 @@ by_length [] b (suc i) h k e = absurd (omega arith)
 by_length (x ∷ a) [] (suc i) h k e = absurd (omega arith)
 by_length (x ∷ a) (y ∷ b) (suc i) h k e = longer_by_one _ _ _ (by_length a b i (omega arith) (omega arith) (λ p q. e (omega arith) (omega arith)))
 
--- where one path is at its end, the lengths decide
+-- if one path is at its end, the lengths decide
 pub path_cmp-by_length : (a b : List ℕ) (i : ℕ) → i ≤ length a → i ≤ length b → (i < length a → i < length b → ⊥)
     → path_cmp (drop i a) (drop i b) ≡ nat_cmp (length a) (length b)
 path_cmp-by_length a b i h k e = nat_cmp_is _ _ _ (by_length a b i h k e)

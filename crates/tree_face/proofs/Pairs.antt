@@ -1,4 +1,4 @@
--- The first item that passes a test, and where it stands.
+-- The first item that passes a test, and its index.
 use Rattle.std.proofs.Common.{◌≡◌, ℕ, ◌<◌, Bool, true, false, cond, List, [], ◌∷◌, length, Some, None, refl, sym, ◌∙◌, ap}
 use Rattle.std.proofs.Math.Dec.{ltb}
 use Rattle.std.proofs.lemmas.Bool.{ltb-false, ltb-true}
@@ -17,10 +17,10 @@ found_at p xs =
       | false ↦ λ e. sym (find_at p xs ∙ slice_get_past xs n (ltb-false _ _ e))
     ] refl
 
-pub position_within : {X : Type 0} (p : X → Bool) (xs : List X) → IfSome (position p xs) (λ place. place < length xs)
+pub position_within : {X : Type 0} (p : X → Bool) (xs : List X) → IfSome (position p xs) (λ index. index < length xs)
 position_within p xs =
     let n = position_or_len p xs in
-    elim (ltb n (length xs)) as (λ b. ltb n (length xs) ≡ b → IfSome (cond b (Some n) None) (λ place. place < length xs)) [
+    elim (ltb n (length xs)) as (λ b. ltb n (length xs) ≡ b → IfSome (cond b (Some n) None) (λ index. index < length xs)) [
       | true ↦ λ e. ltb-true _ _ e
       | false ↦ λ e. tt
     ] refl
@@ -34,11 +34,11 @@ find-passes p (y ∷ xs) x e =
       | false ↦ λ fails found. find-passes p xs x found
     ] refl e
 
--- the content at the first place of a key is what is held under it
+-- the content at the first index of a key is what is held under it
 pub content_first : (pairs : List Pair) (key : List ℕ) → option_map (λ pair. pair.1) (pair_at pairs (position (is_under key) pairs)) ≡ held_in pairs key
 content_first pairs key = ap (option_map (λ (pair : Pair). pair.1)) (found_at (is_under key) pairs)
 
--- the key at that place is the key
+-- the key at that index is the key
 pub key_first : (pairs : List Pair) (key content : List ℕ) → held_in pairs key ≡ Some content → option_map (λ pair. pair.0) (pair_at pairs (position (is_under key) pairs)) ≡ Some key
 key_first pairs key content held =
     ap (option_map (λ (pair : Pair). pair.0)) (found_at (is_under key) pairs)

@@ -17,7 +17,7 @@ use Rattle.std.specs.Str.{bytes_eq}
 use Rattle.std.specs.declared.cmp.Ordering.TheVariants.{Less, Equal, Greater}
 use Rattle.tree_face.proofs.Below.{cmp_step, after_slash, rank_equal, nat_cmp_equal, nat_cmp_itself}
 use Rattle.tree_face.proofs.Order.{path_total}
-use Rattle.tree_face.proofs.Places.{by_ordering, by_test, below_later}
+use Rattle.lib_types.proofs.SortedPairs.{by_ordering, by_test, below_later}
 use Rattle.tree_face.specs.Paths.{path_cmp, path_rank, folder, is_below, name_behind}
 use Rattle.tree_face.specs.Tree.{Nodes, IsPathSorted, of_dir, kind_at, names_below, children_of}
 use Rattle.tree_face.specs.declared.node.Node.{Node}

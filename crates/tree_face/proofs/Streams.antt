@@ -4,11 +4,11 @@ use Rattle.std.proofs.Math.ListN.{drop_of_length-le}
 use Rattle.std.proofs.Math.Seq.{take-add, take-append_seam}
 use Rattle.std.proofs.lemmas.List.{drop-drop, length-take-le, take-append-drop}
 use Rattle.tree_face.specs.Stream.{IsFollowedBy, Gives}
-use Rattle.tree_face.specs.Told.{Tells}
+use Rattle.tree_face.specs.Known.{Relates}
 
 -- the first bytes, and then the next ones
 pub taken_on : (at n : ℕ) (bytes : List ℕ) (a b c : Option (List ℕ)) →
-    Tells (IsFollowedBy (take at bytes)) a b → Tells (IsFollowedBy (take n (drop at bytes))) b c → Tells (IsFollowedBy (take (at + n) bytes)) a c
+    Relates (IsFollowedBy (take at bytes)) a b → Relates (IsFollowedBy (take n (drop at bytes))) b c → Relates (IsFollowedBy (take (at + n) bytes)) a c
 taken_on at n bytes None None None first next = tt
 taken_on at n bytes None None (Some c) first next = absurd next
 taken_on at n bytes None (Some b) c first next = absurd first
@@ -16,7 +16,7 @@ taken_on at n bytes (Some a) None c first next = absurd first
 taken_on at n bytes (Some a) (Some b) None first next = absurd next
 taken_on at n bytes (Some a) (Some b) (Some c) first next = rw (next, first, take-add at n bytes) (append_assoc a (take at bytes) (take n (drop at bytes)))
 
--- what was copied from a place on is what a source gives
+-- what was copied from an offset on is what a source gives
 pub gives_part : (bytes : List ℕ) (at n : ℕ) (before after : List ℕ) → n ≡ min (length before) (length bytes - at) → at ≤ length bytes →
     after ≡ take n (drop at bytes) ++ drop n before → Gives (length before) n after (drop at bytes) (drop (at + n) bytes)
 gives_part bytes at n before after count within copied =

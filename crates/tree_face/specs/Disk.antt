@@ -1,14 +1,15 @@
--- A disk of three slots. A slot is replaced by way of a temporary file, which only its publishing makes the slot's content.
-use Rattle.std.specs.Prelude.{◌≡◌, ◌⊎◌, ◌≤◌, ◌++◌, ◌==◌, ◌&&◌, ℕ, Bool, true, false, List, [], Option, Some, None, IsErrOf, Result, IfOk, OnOk, OnErr, Vec}
+-- A disk of three slots. A slot is replaced by way of a temporary file: only its publishing makes it the slot's content (rename(2)).
+use Rattle.std.specs.Prelude.{◌≡◌, ◌⊎◌, ◌≤◌, ◌++◌, ◌==◌, ◌&&◌, ℕ, Bool, true, false, List, [], ◌∷◌, Option, Some, None, is_some, IsErrOf, Result, IfOk, OnOk, OnErr, Vec}
 use Rattle.std.specs.Option.{option_map}
 use Rattle.std.specs.declared.alloc.Global.{Global}
 use Rattle.lib_types.specs.declared.fault.Failed.{Failed}
 use Rattle.lib_types.specs.Counts.{HasRisen}
+use Rattle.tree_face.specs.declared.disk.DoneCall.{DoneCall}
 use Rattle.tree_face.specs.declared.disk.Slot.{Slot}
 use Rattle.tree_face.specs.declared.disk.Slot.TheVariants.{Manifest, Cache, Aux}
 use Rattle.tree_face.specs.declared.disk.DiskRead.{DiskRead}
 use Rattle.tree_face.specs.declared.disk.DiskRead.TheVariants as disk_read
-use Rattle.tree_face.specs.Told.{IfTold, Tells}
+use Rattle.tree_face.specs.Known.{IfKnown, Relates}
 
 abbrev pub Content : Type 0
 Content = Option (List ℕ)
@@ -35,7 +36,7 @@ slot_eq Cache Cache = true
 slot_eq Aux Aux = true
 slot_eq _ _ = false
 
--- one temporary file for each tag and slot, none where there is none
+-- the temporary file of each tag and slot, if there is one
 abbrev pub Temporaries : Type 0
 Temporaries = ℕ → Slot → Content
 
@@ -44,11 +45,21 @@ pub record DiskContent : Type 0 where
   pub temporary : Temporaries
 
 pub record DiskState : Type 0 where
-  -- the contents, where told
-  pub told : Option DiskContent
+  -- the contents, if known
+  pub contents : Option DiskContent
   -- whether the temporary file of a tag and slot was created and not published since
   pub made : ℕ → Slot → Bool
+  -- the writing calls in their order, if known; one that failed may be missing
+  pub calls : Option (List DoneCall)
   pub faults : ℕ
+  -- how many of the faults were of readings
+  pub read_faults : ℕ
+
+-- Where contents are known, a temporary file is created and not published exactly if there is one.
+abbrev pub IsMadeIfThere : DiskState → Type 0
+IsMadeIfThere s = IfKnown s.contents (λ c. (t : ℕ) (slot : Slot) → s.made t slot ≡ is_some (c.temporary t slot))
+
+-- ---- changes of the contents
 
 -- no temporary file but this one is touched
 abbrev pub KeepsOthers : ℕ → Slot → Temporaries → Temporaries → Type 0
@@ -69,7 +80,7 @@ pub record Appends (tag : ℕ) (slot : Slot) (bytes : List ℕ) (a b : DiskConte
   pub touches : Touches tag slot a b
   pub more : b.temporary tag slot ≡ option_map (λ c. c ++ bytes) (a.temporary tag slot)
 
--- the temporary file stays
+-- the slots and all temporary files stay
 pub record Keeps (a b : DiskContent) : Type 0 where
   pub slots : b.now ≡ a.now
   pub temporary : (t : ℕ) (s : Slot) → b.temporary t s ≡ a.temporary t s
@@ -85,11 +96,26 @@ pub record MayPublish (tag : ℕ) (slot : Slot) (a b : DiskContent) : Type 0 whe
   pub slots : (b.now ≡ a.now) ⊎ (b.now ≡ with_slot a.now slot (a.temporary tag slot))
   pub others : KeepsOthers tag slot a.temporary b.temporary
 
--- a writing call: what it does where it answers Ok, and where it answers Failed
-pub record Does (change left : DiskContent → DiskContent → Type 0) (old new : DiskState) (result : Result (Unit {0}) Failed) : Type 0 where
-  pub done : OnOk result (Tells change old.told new.told)
-  pub failed : OnErr result (Tells left old.told new.told)
+-- ---- the list of writing calls
+
+-- the call is the last of the list
+abbrev pub Adds : DoneCall → List DoneCall → List DoneCall → Type 0
+Adds call a b = b ≡ a ++ call ∷ []
+
+-- a call that failed may be missing
+abbrev pub MayAdd : DoneCall → List DoneCall → List DoneCall → Type 0
+MayAdd call a b = (b ≡ a) ⊎ (b ≡ a ++ call ∷ [])
+
+-- ---- the calls
+
+-- a writing call: what it does to the contents if it returns Ok, and if it returns Failed
+pub record Does (call : DoneCall) (change left : DiskContent → DiskContent → Type 0) (old new : DiskState) (result : Result (Unit {0}) Failed) : Type 0 where
+  pub done : OnOk result (Relates change old.contents new.contents)
+  pub failed : OnErr result (Relates left old.contents new.contents)
+  pub added : OnOk result (Relates (Adds call) old.calls new.calls)
+  pub may_add : OnErr result (Relates (MayAdd call) old.calls new.calls)
   pub faults : old.faults ≤ new.faults
+  pub read_faults : new.read_faults ≡ old.read_faults
   pub cause : OnErr result (HasRisen old.faults new.faults)
 
 -- the same temporary files are made as before
@@ -100,10 +126,18 @@ KeepsMade old new = (t : ℕ) (s : Slot) → new.made t s ≡ old.made t s
 abbrev pub KeepsOthersMade : ℕ → Slot → DiskState → DiskState → Type 0
 KeepsOthersMade tag slot old new = (t : ℕ) (s : Slot) → (t == tag) && slot_eq s slot ≡ false → new.made t s ≡ old.made t s
 
+-- nothing is written: the contents, the calls and the temporary files that were made stay
+pub record KeepsAll (old new : DiskState) : Type 0 where
+  pub contents : new.contents ≡ old.contents
+  pub made : KeepsMade old new
+  pub calls : new.calls ≡ old.calls
+
 -- a reading of a slot
 pub record ReadsSlot (old new : DiskState) (slot : Slot) (result : Result (Option (Vec ℕ Global)) DiskRead) : Type 0 where
-  pub content : IfOk result (λ found. IfTold old.told (λ told. option_map (λ v. v.items) found ≡ slot_of told.now slot))
-  pub told : new.told ≡ old.told
-  pub made : KeepsMade old new
+  pub content : IfOk result (λ found. IfKnown old.contents (λ known. option_map (λ v. v.items) found ≡ slot_of known.now slot))
+  pub keeps : KeepsAll old new
   pub faults : old.faults ≤ new.faults
+  pub read_faults : old.read_faults ≤ new.read_faults
+  pub not_counted : IfOk result (λ _. new.read_faults ≡ old.read_faults)
   pub cause : IsErrOf result disk_read.Failed → HasRisen old.faults new.faults
+  pub counted : IsErrOf result disk_read.Failed → HasRisen old.read_faults new.read_faults

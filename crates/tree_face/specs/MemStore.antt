@@ -1,4 +1,4 @@
--- What a store in memory that fails on demand tells.
+-- The state of a store in memory that fails on demand.
 use Rattle.tree_face.specs.declared.memory.stores.MemStore.{MemStore}
 use Rattle.tree_face.specs.SureStore.{state_of}
 use Rattle.tree_face.specs.Store.{StoreState}

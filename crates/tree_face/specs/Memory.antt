@@ -18,6 +18,6 @@ pair_of pairs key = find (is_under key) pairs
 abbrev pub held_in : List Pair → Contents
 held_in pairs key = option_map (λ pair. pair.1) (pair_of pairs key)
 
--- the pair at a place, where there is one
+-- the pair at an index, if there is one
 abbrev pub pair_at : List Pair → Option ℕ → Option Pair
-pair_at pairs place = option_and_then (slice_get pairs) place
+pair_at pairs index = option_and_then (slice_get pairs) index

@@ -1,8 +1,9 @@
--- What may stand at a path of a tree.
+-- What may be at a path of a tree.
 use Rattle.std.specs.Prelude.{ℕ, Bool, true, false, List, nat_le, ◌==◌, ◌&&◌, not, length}
 use Rattle.std.specs.List.{list_all}
 use Rattle.std.specs.Str.{is_utf8}
 use Rattle.tree_face.specs.declared.node.Node.{Node}
+use Rattle.tree_face.specs.declared.node.TheConstants.{TEXT_MAX}
 use Rattle.tree_face.specs.declared.node.Node.TheVariants.{Dir, File, Link}
 
 abbrev pub has_no_nul : List ℕ → Bool
@@ -10,7 +11,7 @@ has_no_nul = list_all (λ b. not (b == 0))
 
 -- the text of a link (symlink(7)): 1 to 4095 bytes without NUL
 abbrev pub is_target : List ℕ → Bool
-is_target target = nat_le 1 (length target) && nat_le (length target) 4095 && has_no_nul target
+is_target target = nat_le 1 (length target) && nat_le (length target) TEXT_MAX && has_no_nul target
 
 -- what a store holds a file's content under: 1 to 4095 bytes of UTF-8 without NUL
 abbrev pub is_key : List ℕ → Bool

@@ -1,4 +1,4 @@
--- Paths, which name the places of a tree below its root, and their order.
+-- Paths below the root of a tree, and their order.
 use Rattle.std.specs.Prelude.{ℕ, ◌+◌, Bool, List, [], ◌++◌, ◌==◌, ◌&&◌, nat_le, nat_eq, if◌then◌else◌, map, length, drop, codes}
 use Rattle.std.specs.declared.cmp.Ordering.{Ordering}
 use Rattle.std.specs.Ordering.{nat_cmp}
@@ -6,6 +6,7 @@ use Rattle.std.specs.Cmp.Lexicographic.{slice_cmp}
 use Rattle.std.specs.List.{list_all, slice_split, starts_with, before_first}
 use Rattle.std.specs.Str.{bytes_eq}
 use Rattle.lib_types.specs.Name.{slash, is_name}
+use Rattle.tree_face.specs.declared.path.TheConstants.{PATH_MAX}
 
 -- the root, which is no path of a node
 abbrev pub root : List ℕ
@@ -17,7 +18,7 @@ are_names bytes = list_all is_name (slice_split (λ b. b == slash) bytes)
 
 -- a slash and then names with a slash between each two, at most 4095 bytes in all
 abbrev pub is_path : List ℕ → Bool
-is_path path = nat_le (length path) 4095 && starts_with nat_eq path root && are_names (drop 1 path)
+is_path path = nat_le (length path) PATH_MAX && starts_with nat_eq path root && are_names (drop 1 path)
 
 -- In the order of a tree a slash comes before every other byte.
 abbrev pub path_rank : ℕ → ℕ
@@ -27,11 +28,11 @@ path_rank b = if b == slash then 0 else b + 1
 abbrev pub path_cmp : List ℕ → List ℕ → Ordering
 path_cmp p q = slice_cmp nat_cmp (map path_rank p) (map path_rank q)
 
--- a path without its last slash, which the root alone has
+-- a path without its last slash, which only the root has
 abbrev pub stem : List ℕ → List ℕ
 stem path = if bytes_eq path root then [] else path
 
--- what the path of each place below a directory begins with
+-- the prefix of each path below a directory
 abbrev pub folder : List ℕ → List ℕ
 folder path = stem path ++ root
 
@@ -39,6 +40,6 @@ folder path = stem path ++ root
 abbrev pub is_below : List ℕ → List ℕ → Bool
 is_below p q = starts_with nat_eq q (folder p)
 
--- the name that stands behind the first n bytes of a path
+-- the name at the offset n of a path
 abbrev pub name_behind : ℕ → List ℕ → List ℕ
 name_behind n path = before_first (λ b. b == slash) (drop n path)

@@ -1,12 +1,13 @@
--- What disks in memory tell.
+-- The states of disks in memory.
 use Rattle.std.specs.Prelude.{List, Some, is_some}
+use Rattle.tree_face.specs.declared.disk.DoneCall.{DoneCall}
 use Rattle.tree_face.specs.declared.disk.Slot.{Slot}
 use Rattle.tree_face.specs.declared.disk.Slot.TheVariants.{Manifest, Cache, Aux}
-use Rattle.tree_face.specs.declared.memory.disks.DoneCall.{DoneCall}
 use Rattle.tree_face.specs.declared.memory.disks.MemDisk.{MemDisk}
 use Rattle.tree_face.specs.declared.memory.disks.SureDisk.{SureDisk}
 use Rattle.tree_face.specs.declared.memory.slot_file.SlotFile.{SlotFile}
 use Rattle.tree_face.specs.Disk.{DiskState, DiskContent}
+use Rattle.tree_face.specs.Failures.{Plan, plan_of}
 use Rattle.tree_face.specs.SlotFile.{content_in, temporary_in}
 
 abbrev pub file_of : SureDisk → Slot → SlotFile
@@ -20,19 +21,27 @@ disk_content d = record {
   temporary = λ tag slot. temporary_in (file_of d slot) tag;
 }
 
+-- the writing calls that were made
+abbrev pub calls_of : SureDisk → List DoneCall
+calls_of d = d.calls.items
+
 abbrev pub disk_state : SureDisk → DiskState
 disk_state d = record {
-  told = Some (disk_content d);
+  contents = Some (disk_content d);
   made = λ tag slot. is_some (temporary_in (file_of d slot) tag);
+  calls = Some (calls_of d);
   faults = d.faults;
+  read_faults = 0;
 }
 
 abbrev pub failing_disk_content : MemDisk → DiskContent
 failing_disk_content d = disk_content d.disk
 
--- the writing calls that were made
-abbrev pub calls_of : MemDisk → List DoneCall
-calls_of d = d.calls.items
+abbrev pub failing_calls_of : MemDisk → List DoneCall
+failing_calls_of d = calls_of d.disk
 
 abbrev pub failing_disk_state : MemDisk → DiskState
-failing_disk_state d = record (disk_state d.disk) { faults = d.failures.faults }
+failing_disk_state d = record (disk_state d.disk) { faults = d.failures.faults; read_faults = d.read_faults }
+
+abbrev pub disk_plan : MemDisk → Plan
+disk_plan d = plan_of d.failures

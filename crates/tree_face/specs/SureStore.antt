@@ -1,4 +1,4 @@
--- What a store in memory that never fails tells.
+-- The state of a store in memory that never fails.
 use Rattle.std.specs.Prelude.{length, Some}
 use Rattle.std.specs.Option.{option_map}
 use Rattle.tree_face.specs.declared.memory.stores.SureStore.{SureStore}
@@ -7,7 +7,7 @@ use Rattle.tree_face.specs.Store.{StoreState}
 
 abbrev pub state_of : SureStore → StoreState
 state_of s =
-    let open_pair = pair_at s.pairs.items s.begun_place in
+    let open_pair = pair_at s.pairs.items s.begun_index in
     record {
       held = Some (held_in s.pairs.items);
       key = option_map (λ pair. pair.0) open_pair;

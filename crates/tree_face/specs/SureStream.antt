@@ -1,4 +1,4 @@
--- What sources and sinks in memory tell.
+-- The states of sources and sinks in memory.
 use Rattle.std.specs.Prelude.{drop, Some}
 use Rattle.tree_face.specs.declared.memory.streams.MemSink.{MemSink}
 use Rattle.tree_face.specs.declared.memory.streams.MemSource.{MemSource}

@@ -1,6 +1,7 @@
 //! The three files that the product keeps, and how they are replaced.
 ghost use Rattle.std.specs.Prelude.{◌≡◌, true, OnOk};
-ghost use Rattle.tree_face.specs.Disk.{DiskState, Creates, Appends, Keeps, Touches, Publishes, MayPublish, Does, KeepsMade, KeepsOthersMade, ReadsSlot};
+ghost use Rattle.tree_face.specs.Calls.{made_call, settling};
+ghost use Rattle.tree_face.specs.Disk.{DiskState, Creates, Appends, Keeps, Touches, Publishes, MayPublish, Does, IsMadeIfThere, KeepsMade, KeepsOthersMade, ReadsSlot};
 
 use lib_types::Failed;
 use std::alloc::Global;
@@ -16,9 +17,27 @@ pub enum Slot {
     Aux,
 }
 
-/// The number of an updater: its temporary files are its own.
+/// The number of an updater, whose temporary files are its own.
 #[derive(Clone, Copy, Debug, PartialEq, Eq, PartialOrd, Ord)]
 pub struct Tag(pub u16);
+
+/// A writing call of a disk.
+#[derive(Clone, Copy, Debug, PartialEq, Eq)]
+pub enum Call {
+    Create,
+    Append,
+    Sync,
+    Publish,
+    Settle,
+}
+
+/// A writing call that was made. A `settle` has tag 0.
+#[derive(Clone, Copy, Debug, PartialEq, Eq)]
+pub struct DoneCall {
+    pub tag: Tag,
+    pub slot: Slot,
+    pub call: Call,
+}
 
 /// Why a slot wasn't read.
 #[derive(Clone, Copy, Debug, PartialEq, Eq)]
@@ -27,42 +46,45 @@ pub enum DiskRead {
     NoMemory,
 }
 
-/// A disk of three slots, with a temporary file for each tag and slot. Each call that answers Failed raises the count
-/// of faults.
+/// A disk of three slots, with a temporary file for each tag and slot. Each call that returns Failed raises the count
+/// of faults, a reading also that of the readings' faults.
 pub trait Disk {
     ghost state: { Self → DiskState };
 
-    /// The slot's content, or none where it holds nothing.
+    /// The slot's content, or None if the slot holds nothing.
     fn read(&mut self, alloc: Global, slot: Slot) -> Result<Option<Vec<u8>>, DiskRead>
         ensures { ReadsSlot (state self.old) (state self.new) slot result };
 
     /// Makes the temporary file of this tag and slot empty.
     fn create(&mut self, tag: Tag, slot: Slot) -> Result<(), Failed>
-        ensures does { Does (Creates tag.0 slot) (Touches tag.0 slot) (state self.old) (state self.new) result }
+        ensures does { Does (made_call tag slot Call.Create) (Creates tag.0 slot) (Touches tag.0 slot) (state self.old) (state self.new) result }
         ensures made { OnOk result ((state self.new).made tag.0 slot ≡ true) }
         ensures others { KeepsOthersMade tag.0 slot (state self.old) (state self.new) };
 
-    /// Adds bytes to the temporary file. After a refusal it has any bytes.
+    /// Adds bytes to the temporary file. After an error it has any bytes.
     fn append(&mut self, tag: Tag, slot: Slot, bytes: &[u8]) -> Result<(), Failed>
         requires { (state self.old).made tag.0 slot ≡ true }
-        ensures does { Does (Appends tag.0 slot bytes.now) (Touches tag.0 slot) (state self.old) (state self.new) result }
+        ensures does { Does (made_call tag slot Call.Append) (Appends tag.0 slot bytes.now) (Touches tag.0 slot) (state self.old) (state self.new) result }
         ensures made { KeepsMade (state self.old) (state self.new) };
 
-    /// Brings the temporary file's bytes to where a crash doesn't reach them.
+    /// Flushes the temporary file's bytes to stable storage.
     fn sync(&mut self, tag: Tag, slot: Slot) -> Result<(), Failed>
         requires { (state self.old).made tag.0 slot ≡ true }
-        ensures does { Does Keeps (Touches tag.0 slot) (state self.old) (state self.new) result }
+        ensures does { Does (made_call tag slot Call.Sync) Keeps (Touches tag.0 slot) (state self.old) (state self.new) result }
         ensures made { KeepsMade (state self.old) (state self.new) };
 
-    /// Makes the temporary file the slot's content, and ends it. After a refusal the slot has the old content or the
+    /// Makes the temporary file the slot's content, and ends it. After an error the slot has the old content or the
     /// new one.
     fn publish(&mut self, tag: Tag, slot: Slot) -> Result<(), Failed>
         requires { (state self.old).made tag.0 slot ≡ true }
-        ensures does { Does (Publishes tag.0 slot) (MayPublish tag.0 slot) (state self.old) (state self.new) result }
+        ensures does { Does (made_call tag slot Call.Publish) (Publishes tag.0 slot) (MayPublish tag.0 slot) (state self.old) (state self.new) result }
         ensures others { KeepsOthersMade tag.0 slot (state self.old) (state self.new) };
 
-    /// Brings the slot's content to where a crash doesn't reach it.
+    /// Flushes the slot's content and its name to stable storage.
     fn settle(&mut self, slot: Slot) -> Result<(), Failed>
-        ensures does { Does Keeps Keeps (state self.old) (state self.new) result }
+        ensures does { Does (settling slot) Keeps Keeps (state self.old) (state self.new) result }
         ensures made { KeepsMade (state self.old) (state self.new) };
+
+    // No publishing can empty a slot by a temporary file that isn't there.
+    ghost made_if_there: { (disk : Self) → IsMadeIfThere (state disk) };
 }

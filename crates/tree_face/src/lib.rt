@@ -9,16 +9,12 @@ mod store;
 mod stream;
 mod tree;
 
-pub use disk::{Disk, DiskRead, Slot, Tag};
+pub use disk::{Call, Disk, DiskRead, DoneCall, Slot, Tag};
 pub use memory::{
-    Call, DoneCall, MemDisk, MemSink, MemSource, MemStore, SureDisk, SureSink, SureSource,
-    SureStore,
+    MemDisk, MemSink, MemSource, MemStore, SureDisk, SureSink, SureSource, SureStore,
 };
-pub use node::{Id, Node, is_node};
-pub use path::is_path;
+pub use node::{Id, Node, TEXT_MAX, is_node};
+pub use path::{PATH_MAX, is_path};
 pub use store::Store;
 pub use stream::{Sink, Source, put_all};
-pub use tree::{Children, Kind, Nodes, Tree, TreeFault};
-
-#[cfg(test)]
-mod tree_tests;
+pub use tree::{Children, Kind, NODES_MAX, Nodes, Tree, TreeFault};

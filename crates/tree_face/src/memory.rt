@@ -5,9 +5,6 @@ mod slot_file;
 mod stores;
 mod streams;
 
-pub use disks::{Call, DoneCall, MemDisk, SureDisk};
+pub use disks::{MemDisk, SureDisk};
 pub use stores::{MemStore, SureStore};
 pub use streams::{MemSink, MemSource, SureSink, SureSource};
-
-#[cfg(test)]
-mod tests;

@@ -1,10 +1,10 @@
-//! What stands at a path of a tree.
+//! What is at a path of a tree.
 ghost use Rattle.std.specs.Prelude.{◌≡◌};
 ghost use Rattle.tree_face.specs.Node.{is_node, is_dir, is_key, is_target, has_no_nul};
 
 use lib_types::{Text, is_utf8};
 
-/// What tells one state of a file from another.
+/// The identity of a file's content: the ctime in nanoseconds since the epoch, the size in bytes.
 #[derive(Clone, Copy, Debug, PartialEq, Eq)]
 pub struct Id {
     pub dev: u64,
@@ -17,16 +17,16 @@ pub struct Id {
 #[derive(Drop)]
 pub enum Node {
     Dir,
-    /// The content stands in a store under this key.
+    /// A file, whose content a store holds under this key.
     File { key: Text, id: Option<Id> },
     /// A symbolic link with this text.
     Link { target: Text },
 }
 
 /// The most bytes of a content key or a link's target.
-const TEXT_MAX: usize = 4095;
+pub const TEXT_MAX: usize = 4095;
 
-/// Whether the node's key or target, where it has one, may stand in a tree.
+/// Whether the node's key or target, if it has one, is valid.
 pub fn is_node(node: &Node) -> bool
     ensures { result ≡ is_node node.now }
 {

@@ -7,9 +7,9 @@ use lib_types::is_name;
 use std::cmp::Ordering;
 
 /// The most bytes of a path.
-const PATH_MAX: usize = 4095;
+pub const PATH_MAX: usize = 4095;
 
-/// Whether the bytes are the path of a place below the root.
+/// Whether the bytes are a path below the root.
 pub fn is_path(path: &[u8]) -> bool
     ensures { result ≡ is_path path.now }
 {
@@ -23,7 +23,7 @@ fn are_names(bytes: &[u8]) -> bool
     bytes.split(|&b| b == b'/').all(|name| is_name(name))
 }
 
-// The place of a byte in the order of paths.
+// The rank of a byte in the order of paths.
 fn rank(b: u8) -> u16
     ensures { result ≡ path_rank b }
 {
@@ -44,7 +44,7 @@ pub(crate) fn compare(a: &[u8], b: &[u8]) -> Ordering
     a.len().cmp(&b.len())
 }
 
-// The path without its last slash, which the root alone has.
+// The path without its last slash, which only the root has.
 fn stem(path: &[u8]) -> &[u8]
     ensures { result.now ≡ stem path.now }
 {
@@ -61,7 +61,7 @@ pub(crate) fn is_below(path: &[u8], other: &[u8]) -> bool
     }
 }
 
-/// How many bytes each path below this one begins with, before the name that stands directly below.
+/// The offset, in each path below this one, of the name directly below.
 pub(crate) fn folder_len(path: &[u8]) -> usize
     requires { length path.now < 2 ^ 32 }
     ensures { result ≡ length (folder path.now) }
@@ -69,7 +69,7 @@ pub(crate) fn folder_len(path: &[u8]) -> usize
     stem(path).len() + 1
 }
 
-/// The name that begins at this place of a path.
+/// The name that begins at this offset of a path.
 pub(crate) fn name_from(path: &[u8], start: usize) -> &[u8]
     ensures { result.now ≡ name_behind start path.now }
 {
@@ -89,7 +89,7 @@ fn first_name(bytes: &[u8]) -> &[u8]
 }
 
 fn first_slash(bytes: &[u8]) -> Option<usize>
-    ensures place { result ≡ position (λ b. b == 47) bytes.now }
+    ensures index { result ≡ position (λ b. b == 47) bytes.now }
     ensures within { IfSome result (λ n. n < length bytes.now) }
 {
     bytes.iter().position(|&b| b == b'/')

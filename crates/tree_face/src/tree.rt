@@ -10,9 +10,13 @@ use std::marker::Model;
 
 mod entries;
 
-use entries::Entry;
+use entries::PathEntry;
 
-/// What stands at a place, for those who don't need the node.
+/// The most nodes of a tree: as many files as large images have, with room for more. It bounds what a manifest can make
+/// an update take.
+pub const NODES_MAX: usize = 1 << 20;
+
+/// What is at a path, for those who don't need the node.
 #[derive(Clone, Copy, Debug, PartialEq, Eq)]
 pub enum Kind {
     Absent,
@@ -41,13 +45,13 @@ impl From<NoMemory> for TreeFault {
     }
 }
 
-/// The nodes of an image by their paths, which contracts see as the list of both in the order of the paths.
+/// The nodes of an image by their paths. Contracts see a tree as the list of both in the order of the paths.
 ///
-/// The root is a directory without a node, and so is each directory that only its content shows.
+/// The root is a directory without a node, and so is each path without a node that has something below it.
 #[derive(Drop)]
 pub struct Tree {
     alloc: Global,
-    entries: Vec<Entry>,
+    entries: Vec<PathEntry>,
 }
 
 impl Model for Tree {
@@ -68,7 +72,7 @@ impl Tree {
     ghost use Rattle.tree_face.specs.Node.{is_node};
     ghost use Rattle.tree_face.specs.Paths.{is_path};
 
-    /// A tree without nodes, which keeps the allocator and takes no memory.
+    /// A tree without nodes. It keeps the allocator and takes no memory.
     pub fn new(alloc: Global) -> Tree
         ensures { result ≡ [] }
     {
@@ -78,6 +82,7 @@ impl Tree {
         }
     }
 
+    /// The number of nodes.
     pub fn len(&self) -> usize
         ensures { result ≡ length self.now }
     {
@@ -93,7 +98,7 @@ impl Tree {
         entries::node(&self.entries, path)
     }
 
-    /// What stands at the path. The root is a directory; a text that is neither the root nor a path is absent.
+    /// What is at the path. The root is a directory; a text that is neither the root nor a path is absent.
     pub fn kind(&self, path: &[u8]) -> Kind
         ensures { result ≡ kind_at self.now path.now }
     {
@@ -106,9 +111,9 @@ impl Tree {
         entries::kind(&self.entries, path)
     }
 
-    /// Puts the node at the path, in the place of the one that is there.
+    /// Puts the node at the path, instead of the one that is there.
     ///
-    /// A path behind all others takes no move of the others.
+    /// A path that comes after all others takes neither a search nor a move of the others.
     pub fn put(&mut self, path: &[u8], node: Node) -> Result<(), TreeFault>
         requires path { IsTrue (is_path path.now) }
         requires node { IsTrue (is_node node) }
@@ -117,12 +122,12 @@ impl Tree {
         ensures clash { (result ≡ Err TreeFault.Clash) ↔ IsTrue (clashes self.old path.now node) }
         ensures full { (result ≡ Err TreeFault.Full) ↔ ((clashes self.old path.now node ≡ false) × IsTrue (has_no_room self.old path.now)) }
     {
-        let place = entries::place_for(&self.entries, path, &node)?;
-        entries::put_at(self.alloc, &mut self.entries, place, path, node)?;
+        let found = entries::find_for(&self.entries, path, &node)?;
+        entries::put_at(self.alloc, &mut self.entries, found, path, node)?;
         Ok(())
     }
 
-    /// Whether there was a node at the path, which is gone now. What lies below stays.
+    /// Removes the node at the path and returns whether there was one. What lies below stays.
     pub fn remove(&mut self, path: &[u8]) -> bool
         ensures list { self.new ≡ remove self.old path.now }
         ensures found { result ≡ is_some (node_at self.old path.now) }
@@ -162,7 +167,7 @@ impl Tree {
 /// The nodes of a tree that are still to come.
 #[derive(Drop)]
 pub struct Nodes<'a> {
-    rest: &'a [Entry],
+    rest: &'a [PathEntry],
 }
 
 impl<'a> Model for Nodes<'a> {
@@ -192,8 +197,8 @@ impl<'a> Iterator for Nodes<'a> {
 /// The names below a directory that are still to come.
 #[derive(Drop)]
 pub struct Children<'a> {
-    rest: &'a [Entry],
-    // how many bytes of each path stand before the name
+    rest: &'a [PathEntry],
+    // the offset of the name in each path
     start: usize,
 }
 

@@ -55,10 +55,10 @@ fn a_damaged_library_is_refused(rt: HostRuntime) -> Result<(), Fail> {
 #[test]
 fn what_does_not_count_is_not_read(rt: HostRuntime) -> Result<(), Fail> {
     let alloc = rt.alloc();
-    // tag 30 in place of DT_SONAME, and an empty DT_SONAME: the library's name is that of its file
+    // tag 30 instead of DT_SONAME, and an empty DT_SONAME: the library's name is that of its file
     let unnamed = with_byte(176, 30);
     let empty = with_byte(184, 0);
-    // a second DT_SONAME, outside of the string table, in place of the DT_NULL
+    // a second DT_SONAME, outside of the string table, instead of the DT_NULL
     let mut second = with_byte(224, 14);
     second[232] = 99;
     for content in [unnamed.as_slice(), &empty, &second] {

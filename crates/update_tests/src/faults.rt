@@ -101,7 +101,7 @@ fn the_sink_fails(rt: HostRuntime) -> Result<(), Fail> {
     };
     let rows = [
         (LIBZ_MANIFEST, new),
-        // the first fault is told
+        // the first fault decides
         (b"", refused(Status::NotBuilt, b"")),
         (
             b"#mtree\n./usr/lib/liba.so.1 type=file\n",
@@ -136,7 +136,7 @@ impl Sink for NarrowSink {
 #[test]
 fn a_sink_takes_parts(rt: HostRuntime) -> Result<(), Fail> {
     let alloc = rt.alloc();
-    // the call that fails, the answer, and what was taken before
+    // the call that fails, the status, and what was written before
     let rows = [
         (
             9,

@@ -28,7 +28,7 @@ pub struct Setting<'a> {
     pub out_fails: Option<u64>,
 }
 
-/// What a run has to leave. Of the three slots it writes the Cache slot alone.
+/// What a run has to leave. Of the three slots it writes only the Cache slot.
 #[derive(Clone, Copy)]
 pub struct Wanted<'a> {
     pub status: Status,
@@ -77,7 +77,7 @@ pub(crate) fn strings(alloc: Global, texts: &[&str]) -> Result<Vec<String>, Fail
     Ok(found)
 }
 
-/// What holds this alone.
+/// What holds only this.
 pub(crate) fn one(alloc: Global, key: &[u8], content: &[u8]) -> Result<Pairs, Fail> {
     let mut held = Vec::new(alloc);
     held.push((Text::copy_of(alloc, key)?, Text::copy_of(alloc, content)?))?;
@@ -196,7 +196,7 @@ pub(crate) fn library(alloc: Global, soname: &[u8]) -> Result<Vec<u8>, Fail> {
     Ok(bytes)
 }
 
-/// Runs an update of the example with this content in the library's place, which has to be refused.
+/// Runs an update of the example with this content in the library's file, which has to be refused.
 pub(crate) fn assert_not_built(
     rt: &impl Abort,
     alloc: Global,

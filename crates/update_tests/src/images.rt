@@ -9,20 +9,20 @@ use lib_types::Text;
 use std::test::Fail;
 use tree_face::{Slot, SureDisk, SureSink, SureSource, SureStore};
 
-// A `run` that always wants memory meets its contract. This test refuses it.
+// A `run` that always returns NoMemory meets its contract. This test refuses it.
 #[test]
 fn an_image_without_libraries_has_an_empty_cache(rt: HostRuntime) -> Result<(), Fail> {
     let alloc = rt.alloc();
     let manifests = [
         b"#mtree\n".as_slice(),
-        // the first and the last byte that stand for themselves
+        // the first and the last byte that need no escape
         b"#mtree\n./! type=file\n./~ type=dir\n",
         // a line that replaces another
         b"#mtree\n./a type=file\n./a type=file\n./a type=dir\n./a/b type=file\n",
         // no files of /usr/lib itself with library names
         b"#mtree\n./libz.so.1 type=file\n./usr/lib/libz.a type=file\n",
         b"#mtree\n./usr/lib/sub/libz.so.1 type=file\n./usr/lib/libz.so.1 type=dir\n",
-        // neighbours of the places that aren't built
+        // neighbours of the paths that aren't built
         b"#mtree\n./etc/ld.so.conf.d type=dir\n./lib6 type=dir\n./lib64.so type=file\n",
         b"#mtree\n./usr/lib6 type=dir\n./usr/lib/glibc-hwcaps.d type=dir\n",
     ];

@@ -1,4 +1,4 @@
-//! Words, manifests and libraries that are refused.
+//! Arguments, manifests and libraries that are refused.
 use crate::fixture::{
     LIBZ_KEY, LIBZ_MANIFEST, OLD, Setting, assert_not_built, assert_slot, assert_update, image,
     library, make_devices, one, refused, run_words,
@@ -34,7 +34,7 @@ fn other_manifests_are_not_built(rt: HostRuntime) -> Result<(), Fail> {
         b"#mtree\n ./a type=dir\n",
         b"#mtree\n./a type=dir \n",
         b"#mtree\n./a\ttype=dir\n",
-        // bytes that don't stand for themselves
+        // bytes that need an escape
         b"#mtree\n./a#b type=dir\n",
         b"#mtree\n./a\\040b type=dir\n",
         b"#mtree\n./a\x1fb type=dir\n",

@@ -1,29 +1,29 @@
 //! The strings of a cache.
 ghost use Rattle.std.specs.Prelude.{◌≡◌, ◌+◌, ◌*◌, ◌^◌, ◌++◌, ◌<◌, ◌≤◌, length, All, IfOk, OnOk, OnErr, bytes_eq};
 ghost use Rattle.indexmap.specs.IndexSet.{insert_key};
-ghost use Rattle.ldconfig_cli.specs.CacheText.{strings, table_of, place_of};
+ghost use Rattle.ldconfig_cli.specs.CacheText.{strings, table_of, offset_of};
 
 use indexmap::IndexMap;
 use lib_types::{Entry, NoMemory};
 use std::alloc::Global;
 use std::marker::Model;
 
-/// Strings, each once, which contracts see as the list of them. In the file each stands with its NUL, one after the other.
+/// Strings, each once. Contracts see a pool as the list of them. In the file each has its NUL, one after the other.
 #[derive(Drop)]
 pub struct Pool<'a> {
-    places: IndexMap<&'a [u8], u32>,
+    offsets: IndexMap<&'a [u8], u32>,
     size: u32,
 }
 
 impl<'a> Model for Pool<'a> {
     ghost use Rattle.std.specs.Prelude.{ℕ, List};
-    ghost use Rattle.ldconfig_cli.specs.StringPool.{texts, IsPlaced};
+    ghost use Rattle.ldconfig_cli.specs.StringPool.{texts, HasOffsets};
 
     ghost Value = { List (List ℕ) };
 
-    ghost view = { λ p. texts p.places.entries };
+    ghost view = { λ p. texts p.offsets.entries };
 
-    ghost invariant = { λ p. IsPlaced p.places.entries p.size };
+    ghost invariant = { λ p. HasOffsets p.offsets.entries p.size };
 }
 
 impl<'a> Pool<'a> {
@@ -37,7 +37,7 @@ impl<'a> Pool<'a> {
         ensures size { IfOk result (λ pool. length (table_of pool) ≤ 9402 * length entries.now) }
     {
         let mut pool = Pool {
-            places: IndexMap::with_capacity(alloc, 2 * entries.len())?,
+            offsets: IndexMap::with_capacity(alloc, 2 * entries.len())?,
             size: 0,
         };
         for entry in entries {
@@ -47,14 +47,14 @@ impl<'a> Pool<'a> {
         Ok(pool)
     }
 
-    // Puts a string at the end, where it is new.
+    // Adds a string at the end if it is new.
     fn add(&mut self, text: &'a [u8]) -> Result<(), NoMemory>
         requires { length (table_of self.old) + length text.now + 1 < 2 ^ 32 }
         ensures done { OnOk result (self.new ≡ insert_key bytes_eq self.old text.now) }
         ensures refused { OnErr result (self.new ≡ self.old) }
     {
-        if !self.places.contains_key(text) {
-            self.places.insert(text, self.size)?;
+        if !self.offsets.contains_key(text) {
+            self.offsets.insert(text, self.size)?;
             self.size += text.len() as u32 + 1;
         }
         Ok(())
@@ -67,19 +67,19 @@ impl<'a> Pool<'a> {
         self.size
     }
 
-    /// The number of bytes before this string; that of all strings, where it isn't among them.
-    pub fn place(&self, text: &[u8]) -> u32
-        ensures value { result ≡ place_of self.now text.now }
+    /// The offset of this string from the first; the number of all bytes if it isn't among them.
+    pub fn offset(&self, text: &[u8]) -> u32
+        ensures value { result ≡ offset_of self.now text.now }
         ensures within { result ≤ length (table_of self.now) }
     {
-        self.places.get(text).copied().unwrap_or(self.size)
+        self.offsets.get(text).copied().unwrap_or(self.size)
     }
 
     /// Writes the strings.
     pub fn put(&self, out: &mut Vec<u8>) -> Result<(), NoMemory>
         ensures { OnOk result (out.new.items ≡ out.old.items ++ table_of self.now) }
     {
-        for text in self.places.keys().as_slice() {
+        for text in self.offsets.keys().as_slice() {
             out.extend_from_slice(*text)?;
             out.push(0)?;
         }

@@ -1,6 +1,6 @@
 use Rattle.std.proofs.Common.{map, take}
 use Rattle.ldconfig_cli.specs.Entries.{AreEntriesOf}
-use Rattle.plain_update.specs.Library.{seen}
+use Rattle.plain_update.specs.LibraryFile.{seen}
 use Rattle.plain_update.proofs.plain_entries.Given as goal
 
 -- the entries of the libraries so far

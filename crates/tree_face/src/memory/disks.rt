@@ -1,41 +1,27 @@
 //! Disks in memory.
-ghost use Rattle.std.specs.Prelude.{◌≡◌, if◌then◌else◌};
+ghost use Rattle.std.specs.Prelude.{◌≡◌, [], None, true, false, OnOk, MatchResult, if◌then◌else◌};
 ghost use Rattle.std.specs.Option.{option_map};
 ghost use Rattle.std.specs.Result.{is_err};
 ghost use Rattle.lib_types.specs.Counts.{raised};
+ghost use Rattle.tree_face.specs.Calls.{made_call, settling};
+ghost use Rattle.tree_face.specs.Disk.{Adds, Creates, Appends, Keeps, Touches, Publishes, MayPublish, Does, KeepsMade, KeepsOthersMade, ReadsSlot};
+ghost use Rattle.tree_face.specs.Failures.{FollowsPlan, stopping_after};
 
 use super::failures::Failures;
 use super::slot_file::SlotFile;
-use crate::{Disk, DiskRead, Slot, Tag};
+use crate::{Call, Disk, DiskRead, DoneCall, Slot, Tag};
 use lib_types::{Failed, NoMemory};
 use std::alloc::Global;
 
-/// A disk in memory that fails for want of memory alone.
+/// A disk in memory that fails only if it is out of memory.
 #[derive(Drop)]
 pub struct SureDisk {
     alloc: Global,
     manifest: SlotFile,
     cache: SlotFile,
     aux: SlotFile,
+    calls: Vec<DoneCall>,
     faults: u64,
-}
-
-/// A writing call of a disk.
-#[derive(Clone, Copy, Debug, PartialEq, Eq)]
-pub enum Call {
-    Create,
-    Append,
-    Sync,
-    Publish,
-    Settle,
-}
-
-/// A writing call that was made. A settling has tag 0.
-#[derive(Clone, Copy, Debug, PartialEq, Eq)]
-pub struct DoneCall {
-    pub tag: Tag,
-    pub slot: Slot,
-    pub call: Call,
 }
 
 /// A disk in memory whose calls fail on demand.
@@ -43,12 +29,11 @@ pub struct DoneCall {
 pub struct MemDisk {
     disk: SureDisk,
     failures: Failures,
-    calls: Vec<DoneCall>,
+    read_faults: u64,
 }
 
 impl SureDisk {
-    ghost use Rattle.tree_face.specs.Disk.{Slots};
-    ghost use Rattle.tree_face.specs.SureDisk.{disk_state, disk_content};
+    ghost use Rattle.tree_face.specs.SureDisk.{calls_of, disk_state, disk_content};
 
     /// A disk whose slots hold these contents.
     pub fn new(
@@ -60,6 +45,7 @@ impl SureDisk {
         ensures manifest { (disk_content result).now.manifest ≡ option_map (λ v. v.items) manifest }
         ensures cache { (disk_content result).now.cache ≡ option_map (λ v. v.items) cache }
         ensures aux { (disk_content result).now.aux ≡ option_map (λ v. v.items) aux }
+        ensures calls { calls_of result ≡ [] }
         ensures faults { (disk_state result).faults ≡ 0 }
     {
         SureDisk {
@@ -67,12 +53,34 @@ impl SureDisk {
             manifest: SlotFile::new(alloc, manifest),
             cache: SlotFile::new(alloc, cache),
             aux: SlotFile::new(alloc, aux),
+            calls: Vec::new(alloc),
             faults: 0,
         }
     }
+
+    /// The writing calls that were made. One that failed may be among them.
+    pub fn calls(&self) -> &[DoneCall]
+        ensures { result.now ≡ calls_of self.now }
+    {
+        &self.calls
+    }
+
+    // Adds a writing call to the list.
+    fn add_call(&mut self, tag: Tag, slot: Slot, call: Call) -> Result<(), Failed>
+        ensures rest { self.new ≡ record self.old { calls = self.new.calls; faults = self.new.faults } }
+        ensures calls { MatchResult result (λ _. Adds (made_call tag slot call) (calls_of self.old) (calls_of self.new))
+            (λ _. calls_of self.new ≡ calls_of self.old) }
+        ensures faults { self.new.faults ≡ (if is_err result then raised self.old.faults 1 else self.old.faults) }
+    {
+        let added = match self.calls.push(DoneCall { tag, slot, call }) {
+            Ok(()) => Ok(()),
+            Err(_) => Err(NoMemory),
+        };
+        answer(&mut self.faults, added)
+    }
 }
 
-// The answer of a writing call, which counts a refused growth.
+// The result of a writing call, which counts a refused growth.
 fn answer(faults: &mut u64, done: Result<(), NoMemory>) -> Result<(), Failed>
     ensures same { is_err result ≡ is_err done }
     ensures faults { faults.new ≡ (if is_err done then raised faults.old 1 else faults.old) }
@@ -87,6 +95,7 @@ fn answer(faults: &mut u64, done: Result<(), NoMemory>) -> Result<(), Failed>
 }
 
 impl Disk for SureDisk {
+    ghost use Rattle.std.specs.Prelude.{refl};
     ghost use Rattle.tree_face.specs.SureDisk.{disk_state};
 
     ghost state = { disk_state };
@@ -104,6 +113,7 @@ impl Disk for SureDisk {
     }
 
     fn create(&mut self, tag: Tag, slot: Slot) -> Result<(), Failed> {
+        self.add_call(tag, slot, Call::Create)?;
         let done = match slot {
             Slot::Manifest => self.manifest.create(self.alloc, tag.0),
             Slot::Cache => self.cache.create(self.alloc, tag.0),
@@ -113,6 +123,7 @@ impl Disk for SureDisk {
     }
 
     fn append(&mut self, tag: Tag, slot: Slot, bytes: &[u8]) -> Result<(), Failed> {
+        self.add_call(tag, slot, Call::Append)?;
         let done = match slot {
             Slot::Manifest => self.manifest.append(self.alloc, tag.0, bytes),
             Slot::Cache => self.cache.append(self.alloc, tag.0, bytes),
@@ -121,11 +132,12 @@ impl Disk for SureDisk {
         answer(&mut self.faults, done)
     }
 
-    fn sync(&mut self, _tag: Tag, _slot: Slot) -> Result<(), Failed> {
-        Ok(())
+    fn sync(&mut self, tag: Tag, slot: Slot) -> Result<(), Failed> {
+        self.add_call(tag, slot, Call::Sync)
     }
 
     fn publish(&mut self, tag: Tag, slot: Slot) -> Result<(), Failed> {
+        self.add_call(tag, slot, Call::Publish)?;
         match slot {
             Slot::Manifest => self.manifest.publish(tag.0),
             Slot::Cache => self.cache.publish(tag.0),
@@ -134,13 +146,15 @@ impl Disk for SureDisk {
         Ok(())
     }
 
-    fn settle(&mut self, _slot: Slot) -> Result<(), Failed> {
-        Ok(())
+    fn settle(&mut self, slot: Slot) -> Result<(), Failed> {
+        self.add_call(Tag(0), slot, Call::Settle)
     }
+
+    ghost made_if_there = { λ disk tag slot. refl };
 }
 
 impl MemDisk {
-    ghost use Rattle.tree_face.specs.SureDisk.{calls_of, failing_disk_content, failing_disk_state};
+    ghost use Rattle.tree_face.specs.SureDisk.{failing_calls_of, failing_disk_content, failing_disk_state, disk_plan};
 
     /// A disk whose slots hold these contents. The calls with the numbers of `fail` fail, counted from 0 over all calls.
     pub fn new(
@@ -153,102 +167,152 @@ impl MemDisk {
         ensures manifest { (failing_disk_content result).now.manifest ≡ option_map (λ v. v.items) manifest }
         ensures cache { (failing_disk_content result).now.cache ≡ option_map (λ v. v.items) cache }
         ensures aux { (failing_disk_content result).now.aux ≡ option_map (λ v. v.items) aux }
-        ensures faults { (failing_disk_state result).faults ≡ 0 }
+        ensures calls { failing_calls_of result ≡ [] }
+        ensures plan { disk_plan result ≡ record { fail = fail.items; next = 0; left = None } }
+        ensures faults { ((failing_disk_state result).faults ≡ 0) × ((failing_disk_state result).read_faults ≡ 0) }
     {
         MemDisk {
             disk: SureDisk::new(alloc, manifest, cache, aux),
             failures: Failures::new(fail),
-            calls: Vec::new(alloc),
+            read_faults: 0,
         }
     }
 
     /// Lets so many further writing calls pass, and makes every call after them fail.
     pub fn stop_after(&mut self, calls: u64)
-        ensures { failing_disk_state self.new ≡ failing_disk_state self.old }
+        ensures state { failing_disk_state self.new ≡ failing_disk_state self.old }
+        ensures plan { disk_plan self.new ≡ stopping_after calls (disk_plan self.old) }
     {
         self.failures.stop_after(calls);
     }
 
     /// The writing calls that were made. One that failed may be among them.
     pub fn calls(&self) -> &[DoneCall]
-        ensures { result.now ≡ calls_of self.now }
+        ensures { result.now ≡ failing_calls_of self.now }
     {
-        &self.calls
+        self.disk.calls()
     }
 
-    // Lets a writing call pass, and takes it down.
-    fn pass(&mut self, tag: Tag, slot: Slot, call: Call) -> Result<(), Failed>
+    // Lets a writing call pass if it isn't due to fail.
+    fn pass(&mut self) -> Result<(), Failed>
         ensures disk { self.new.disk ≡ self.old.disk }
-        ensures faults { (failing_disk_state self.new).faults ≡ (if is_err result then raised (failing_disk_state self.old).faults 1 else (failing_disk_state self.old).faults) }
+        ensures plan { FollowsPlan true (disk_plan self.old) (disk_plan self.new) (is_err result) }
+        ensures faults { self.new.failures.faults ≡ (if is_err result then raised self.old.failures.faults 1 else self.old.failures.faults) }
+        ensures read_faults { self.new.read_faults ≡ self.old.read_faults }
     {
-        let due = self.failures.is_due(true);
-        if due || self.calls.push(DoneCall { tag, slot, call }).is_err() {
+        if self.failures.is_due(true) {
             self.failures.add_fault();
             return Err(Failed);
         }
         Ok(())
     }
 
-    // The answer of the disk below, whose refusal is a fault.
+    // The result of the disk below, whose error is a fault.
     fn answer(&mut self, done: Result<(), Failed>) -> Result<(), Failed>
         ensures disk { self.new.disk ≡ self.old.disk }
         ensures same { is_err result ≡ is_err done }
-        ensures faults { (failing_disk_state self.new).faults ≡ (if is_err done then raised (failing_disk_state self.old).faults 1 else (failing_disk_state self.old).faults) }
+        ensures plan { disk_plan self.new ≡ disk_plan self.old }
+        ensures faults { self.new.failures.faults ≡ (if is_err done then raised self.old.failures.faults 1 else self.old.failures.faults) }
+        ensures read_faults { self.new.read_faults ≡ self.old.read_faults }
     {
         if done.is_err() {
             self.failures.add_fault();
         }
         done
     }
+
+    // Counts a failed reading.
+    fn add_read_fault(&mut self)
+        ensures disk { self.new.disk ≡ self.old.disk }
+        ensures plan { disk_plan self.new ≡ disk_plan self.old }
+        ensures faults { self.new.failures.faults ≡ raised self.old.failures.faults 1 }
+        ensures read_faults { self.new.read_faults ≡ raised self.old.read_faults 1 }
+    {
+        self.failures.add_fault();
+        self.read_faults = self.read_faults.saturating_add(1);
+    }
 }
 
 impl Disk for MemDisk {
-    ghost use Rattle.tree_face.specs.SureDisk.{failing_disk_state};
+    ghost use Rattle.std.specs.Prelude.{refl};
+    ghost use Rattle.tree_face.specs.SureDisk.{disk_plan, failing_disk_state};
 
     ghost state = { failing_disk_state };
 
-    fn read(&mut self, alloc: Global, slot: Slot) -> Result<Option<Vec<u8>>, DiskRead> {
+    fn read(&mut self, alloc: Global, slot: Slot) -> Result<Option<Vec<u8>>, DiskRead>
+        ensures reads { ReadsSlot (failing_disk_state self.old) (failing_disk_state self.new) slot result }
+        ensures plan { FollowsPlan false (disk_plan self.old) (disk_plan self.new) (is_err result) }
+    {
         if self.failures.is_due(false) {
-            self.failures.add_fault();
+            self.add_read_fault();
             return Err(DiskRead::Failed);
         }
         match self.disk.read(alloc, slot) {
             Ok(found) => Ok(found),
             Err(DiskRead::NoMemory) => Err(DiskRead::NoMemory),
             Err(DiskRead::Failed) => {
-                self.failures.add_fault();
+                self.add_read_fault();
                 Err(DiskRead::Failed)
             }
         }
     }
 
-    fn create(&mut self, tag: Tag, slot: Slot) -> Result<(), Failed> {
-        self.pass(tag, slot, Call::Create)?;
+    fn create(&mut self, tag: Tag, slot: Slot) -> Result<(), Failed>
+        ensures does { Does (made_call tag slot Call.Create) (Creates tag.0 slot) (Touches tag.0 slot)
+            (failing_disk_state self.old) (failing_disk_state self.new) result }
+        ensures made { OnOk result ((failing_disk_state self.new).made tag.0 slot ≡ true) }
+        ensures others { KeepsOthersMade tag.0 slot (failing_disk_state self.old) (failing_disk_state self.new) }
+        ensures plan { FollowsPlan true (disk_plan self.old) (disk_plan self.new) (is_err result) }
+    {
+        self.pass()?;
         let done = self.disk.create(tag, slot);
         self.answer(done)
     }
 
-    fn append(&mut self, tag: Tag, slot: Slot, bytes: &[u8]) -> Result<(), Failed> {
-        self.pass(tag, slot, Call::Append)?;
+    fn append(&mut self, tag: Tag, slot: Slot, bytes: &[u8]) -> Result<(), Failed>
+        requires { (failing_disk_state self.old).made tag.0 slot ≡ true }
+        ensures does { Does (made_call tag slot Call.Append) (Appends tag.0 slot bytes.now) (Touches tag.0 slot)
+            (failing_disk_state self.old) (failing_disk_state self.new) result }
+        ensures made { KeepsMade (failing_disk_state self.old) (failing_disk_state self.new) }
+        ensures plan { FollowsPlan true (disk_plan self.old) (disk_plan self.new) (is_err result) }
+    {
+        self.pass()?;
         let done = self.disk.append(tag, slot, bytes);
         self.answer(done)
     }
 
-    fn sync(&mut self, tag: Tag, slot: Slot) -> Result<(), Failed> {
-        self.pass(tag, slot, Call::Sync)?;
+    fn sync(&mut self, tag: Tag, slot: Slot) -> Result<(), Failed>
+        requires { (failing_disk_state self.old).made tag.0 slot ≡ true }
+        ensures does { Does (made_call tag slot Call.Sync) Keeps (Touches tag.0 slot) (failing_disk_state self.old) (failing_disk_state self.new) result }
+        ensures made { KeepsMade (failing_disk_state self.old) (failing_disk_state self.new) }
+        ensures plan { FollowsPlan true (disk_plan self.old) (disk_plan self.new) (is_err result) }
+    {
+        self.pass()?;
         let done = self.disk.sync(tag, slot);
         self.answer(done)
     }
 
-    fn publish(&mut self, tag: Tag, slot: Slot) -> Result<(), Failed> {
-        self.pass(tag, slot, Call::Publish)?;
+    fn publish(&mut self, tag: Tag, slot: Slot) -> Result<(), Failed>
+        requires { (failing_disk_state self.old).made tag.0 slot ≡ true }
+        ensures does { Does (made_call tag slot Call.Publish) (Publishes tag.0 slot) (MayPublish tag.0 slot)
+            (failing_disk_state self.old) (failing_disk_state self.new) result }
+        ensures others { KeepsOthersMade tag.0 slot (failing_disk_state self.old) (failing_disk_state self.new) }
+        ensures plan { FollowsPlan true (disk_plan self.old) (disk_plan self.new) (is_err result) }
+    {
+        self.pass()?;
         let done = self.disk.publish(tag, slot);
         self.answer(done)
     }
 
-    fn settle(&mut self, slot: Slot) -> Result<(), Failed> {
-        self.pass(Tag(0), slot, Call::Settle)?;
+    fn settle(&mut self, slot: Slot) -> Result<(), Failed>
+        ensures does { Does (settling slot) Keeps Keeps (failing_disk_state self.old) (failing_disk_state self.new) result }
+        ensures made { KeepsMade (failing_disk_state self.old) (failing_disk_state self.new) }
+        ensures plan { FollowsPlan true (disk_plan self.old) (disk_plan self.new) (is_err result) }
+    {
+        self.pass()?;
         let done = self.disk.settle(slot);
         self.answer(done)
     }
+
+    ghost made_if_there = { λ disk tag slot. refl };
 }

@@ -1,8 +1,7 @@
 //! Which calls of a device in memory are to fail.
-ghost use Rattle.std.specs.Prelude.{◌≡◌, ◌==◌, ◌-◌, ◌||◌, Some, None, false, if◌then◌else◌};
-ghost use Rattle.std.specs.List.{list_any};
-ghost use Rattle.std.specs.Option.{option_map, option_map_or};
+ghost use Rattle.std.specs.Prelude.{◌≡◌, [], None};
 ghost use Rattle.lib_types.specs.Counts.{raised};
+ghost use Rattle.tree_face.specs.Failures.{plan_of, is_due, after_call, stopping_after};
 
 /// The plan of a device's failures, with the count of those that came.
 #[derive(Drop)]
@@ -16,9 +15,7 @@ pub struct Failures {
 impl Failures {
     /// The calls with these numbers fail, counted from 0.
     pub fn new(fail: Vec<u64>) -> Failures
-        ensures fail { result.fail ≡ fail }
-        ensures calls { result.calls ≡ 0 }
-        ensures stop { result.stop ≡ None }
+        ensures plan { plan_of result ≡ record { fail = fail.items; next = 0; left = None } }
         ensures faults { result.faults ≡ 0 }
     {
         Failures {
@@ -29,26 +26,26 @@ impl Failures {
         }
     }
 
-    /// So many further writing calls pass, and every call after them fails.
+    /// Lets so many further writing calls pass, and makes every call after them fail.
     pub fn stop_after(&mut self, calls: u64)
-        ensures { self.new ≡ record self.old { stop = Some calls } }
+        ensures plan { plan_of self.new ≡ stopping_after calls (plan_of self.old) }
+        ensures faults { self.new.faults ≡ self.old.faults }
     {
         self.stop = Some(calls);
     }
 
-    /// One fault more.
+    /// Counts a fault.
     pub fn add_fault(&mut self)
-        ensures { self.new ≡ record self.old { faults = raised self.old.faults 1 } }
+        ensures plan { plan_of self.new ≡ plan_of self.old }
+        ensures faults { self.new.faults ≡ raised self.old.faults 1 }
     {
         self.faults = self.faults.saturating_add(1);
     }
 
-    /// Counts a call, and tells whether it is to fail.
+    /// Counts a call, and returns whether it is to fail.
     pub fn is_due(&mut self, writes: bool) -> bool
-        ensures due { result ≡ (option_map_or (λ left. left == 0) self.old.stop false || list_any (λ call. call == self.old.calls) self.old.fail.items) }
-        ensures fail { self.new.fail ≡ self.old.fail }
-        ensures calls { self.new.calls ≡ raised self.old.calls 1 }
-        ensures stop { self.new.stop ≡ (if writes then option_map (λ left. left - 1) self.old.stop else self.old.stop) }
+        ensures due { result ≡ is_due (plan_of self.old) }
+        ensures plan { plan_of self.new ≡ after_call writes (plan_of self.old) }
         ensures faults { self.new.faults ≡ self.old.faults }
     {
         let call = self.calls;

@@ -6,7 +6,7 @@ use lib_types::NoMemory;
 use std::alloc::Global;
 use std::collections::BTreeMap;
 
-/// What a slot holds, and the temporary files that may take its place, by their tags.
+/// What a slot holds, and the temporary files that may replace it, by their tags.
 #[derive(Drop)]
 pub struct SlotFile {
     content: Option<Vec<u8>>,
@@ -16,6 +16,7 @@ pub struct SlotFile {
 impl SlotFile {
     ghost use Rattle.tree_face.specs.SlotFile.{content_in, temporary_in, KeepsOtherTags};
 
+    /// A slot with this content and no temporary file.
     pub fn new(alloc: Global, content: Option<Vec<u8>>) -> SlotFile
         ensures { content_in result ≡ option_map (λ v. v.items) content }
     {

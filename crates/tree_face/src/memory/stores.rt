@@ -9,12 +9,12 @@ use super::failures::Failures;
 use crate::Store;
 use lib_types::{Failed, Text};
 
-/// A store that holds pairs of a key and a content, and refuses nothing but a key that it doesn't hold. Of a key that
-/// stands twice the first pair counts.
+/// A store that holds pairs of a key and a content, and fails only for a key that it doesn't hold. Of a key that
+/// occurs twice the first pair counts.
 #[derive(Drop)]
 pub struct SureStore {
     pairs: Vec<(Text, Text)>,
-    begun_place: Option<usize>,
+    begun_index: Option<usize>,
     begun: u64,
     taken: u64,
 }
@@ -26,24 +26,24 @@ pub struct MemStore {
     failures: Failures,
 }
 
-// Where the first pair of a key stands.
-fn place_of(pairs: &[(Text, Text)], key: &[u8]) -> Option<usize>
+// The index of the first pair of a key.
+fn index_of(pairs: &[(Text, Text)], key: &[u8]) -> Option<usize>
     ensures { result ≡ position (is_under key.now) pairs.now }
 {
     pairs.iter().position(|pair| pair.0.as_bytes() == key)
 }
 
-// The content at a place.
-fn content_at(pairs: &[(Text, Text)], place: usize) -> Option<&[u8]>
-    ensures { option_copied result ≡ option_map (λ pair. pair.1) (slice_get pairs.now place) }
+// The content at an index.
+fn content_at(pairs: &[(Text, Text)], index: usize) -> Option<&[u8]>
+    ensures { option_copied result ≡ option_map (λ pair. pair.1) (slice_get pairs.now index) }
 {
-    match pairs.get(place) {
+    match pairs.get(index) {
         Some(pair) => Some(pair.1.as_bytes()),
         None => None,
     }
 }
 
-/// Copies what a content has from a place on into the front of a buffer, and answers how much that is.
+/// Copies what a content has from an offset on into the front of a buffer, and returns how much that is.
 pub fn copy_from(content: &[u8], at: u64, buf: &mut [u8]) -> usize
     ensures count { result ≡ min (length buf.old) (length content.now - at) }
     ensures bytes { buf.new ≡ take result (drop at content.now) ++ drop result buf.old }
@@ -60,13 +60,14 @@ pub fn copy_from(content: &[u8], at: u64, buf: &mut [u8]) -> usize
 impl SureStore {
     ghost use Rattle.tree_face.specs.SureStore.{state_of};
 
+    /// A store that holds these pairs of a key and a content.
     pub fn new(held: Vec<(Text, Text)>) -> SureStore
         ensures held { (state_of result).held ≡ Some (held_in held.items) }
         ensures counts { ((state_of result).begun ≡ 0) × ((state_of result).taken ≡ 0) }
     {
         SureStore {
             pairs: held,
-            begun_place: None,
+            begun_index: None,
             begun: 0,
             taken: 0,
         }
@@ -79,7 +80,7 @@ impl SureStore {
         self.begun
     }
 
-    // Begins the first pair of a key, where there is one.
+    // Begins the first pair of a key, if there is one.
     #[tactic(auto, using(crate::proofs::Pairs::content_first, crate::proofs::Pairs::key_first))]
     fn open(&mut self, key: &[u8])
         ensures held { (state_of self.new).held ≡ (state_of self.old).held }
@@ -89,15 +90,15 @@ impl SureStore {
         ensures taken { (state_of self.new).taken ≡ (state_of self.old).taken }
     {
         self.begun = self.begun.saturating_add(1);
-        self.begun_place = place_of(&self.pairs, key);
+        self.begun_index = index_of(&self.pairs, key);
     }
 
     // The content of the begun key.
     fn content(&self) -> Option<&[u8]>
         ensures { option_copied result ≡ (state_of self.now).content }
     {
-        match self.begun_place {
-            Some(place) => content_at(&self.pairs, place),
+        match self.begun_index {
+            Some(index) => content_at(&self.pairs, index),
             None => None,
         }
     }
@@ -106,7 +107,7 @@ impl SureStore {
     fn close(&mut self)
         ensures { state_of self.new ≡ record (state_of self.old) { key = None; content = None; size = None } }
     {
-        self.begun_place = None;
+        self.begun_index = None;
     }
 }
 

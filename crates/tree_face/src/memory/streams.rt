@@ -22,7 +22,7 @@ pub struct MemSource {
     failures: Failures,
 }
 
-/// A sink that keeps what it took, and fails for want of memory alone.
+/// A sink that keeps what it took, and fails only if it is out of memory.
 #[derive(Drop)]
 pub struct SureSink {
     bytes: Vec<u8>,
@@ -39,6 +39,7 @@ pub struct MemSink {
 impl SureSource {
     ghost use Rattle.tree_face.specs.SureStream.{source_state};
 
+    /// A source of these bytes.
     pub fn new(bytes: Vec<u8>) -> SureSource
         ensures { (source_state result).left ≡ Some bytes.items }
     {
@@ -91,6 +92,7 @@ impl Source for MemSource {
 impl SureSink {
     ghost use Rattle.tree_face.specs.SureStream.{sink_state};
 
+    /// An empty sink.
     pub fn new(alloc: Global) -> SureSink
         ensures written { (sink_state result).written ≡ Some [] }
         ensures faults { (sink_state result).faults ≡ 0 }

@@ -4,96 +4,116 @@ ghost use Rattle.std.specs.List.{filter, dedup, dedup_from};
 ghost use Rattle.std.specs.Str.{bytes_eq};
 ghost use Rattle.std.specs.Option.{option_copied, is_some};
 ghost use Rattle.tree_face.specs.Paths.{path_cmp, root, is_path, is_below, name_behind};
-ghost use Rattle.tree_face.specs.Places.{IsPlaceOf, IsGapFor, IsBehind, has_file_above};
-ghost use Rattle.tree_face.specs.Tree.{IsPathSorted, IsTree, node_at, is_file, has_below, clashes, has_no_room, kind_of, kind_there, put, remove};
+ghost use Rattle.tree_face.specs.Index.{IsIndexOf, IsGapFor, IsBehind, is_file_above, has_file_above};
+ghost use Rattle.tree_face.specs.Tree.{IsPathSorted, IsTree, node_at, has_below, clashes, has_no_room, kind_of, kind_there, put, remove};
 
-use super::{Kind, TreeFault};
+use super::{Kind, NODES_MAX, TreeFault};
 use crate::node::{Node, is_dir};
 use crate::path::{compare, is_below, name_from};
 use lib_types::{NoMemory, Text};
 use std::alloc::Global;
 use std::cmp::Ordering;
 
-/// A path and what stands there.
-pub(super) type Entry = (Text, Node);
+/// A path and its node.
+pub(super) type PathEntry = (Text, Node);
 
-/// The most nodes of a tree.
-const NODES_MAX: usize = 1 << 20;
-
-/// Where the path's entry is, or where it would go.
-pub(super) fn find(entries: &Vec<Entry>, path: &[u8]) -> Result<usize, usize>
+// Whether the path comes after all entries.
+fn is_after_all(entries: &Vec<PathEntry>, path: &[u8]) -> bool
     requires { IsPathSorted entries.now.items }
-    ensures found { IfOk result (IsPlaceOf entries.now.items path.now) }
+    ensures { IsTrue result → IsGapFor entries.now.items path.now (length entries.now.items) }
+{
+    match entries.len() {
+        0 => true,
+        count => compare(path_of(entries, count - 1), path).is_lt(),
+    }
+}
+
+fn search(entries: &Vec<PathEntry>, path: &[u8]) -> Result<usize, usize>
+    requires { IsPathSorted entries.now.items }
+    ensures found { IfOk result (IsIndexOf entries.now.items path.now) }
     ensures absent { IfErr result (IsGapFor entries.now.items path.now) }
 {
     entries.binary_search_by(
-        |entry: &Entry| -> Ordering
+        |entry: &PathEntry| -> Ordering
             ensures { result ≡ path_cmp entry.now.0 path.entry.now }
         { compare(entry.0.as_bytes(), path) },
     )
 }
 
-// The node of the entry at this place.
-fn node_of(entries: &Vec<Entry>, at: usize) -> &Node
-    requires { at < length entries.now.items }
-    ensures { (d : _) → result.now ≡ (slice_index_or entries.now.items at d).1 }
+/// The index of the path's entry, or that at which it would be inserted. The lines of a sorted manifest each come after
+/// all others, so that case takes no search.
+pub(super) fn find(entries: &Vec<PathEntry>, path: &[u8]) -> Result<usize, usize>
+    requires { IsPathSorted entries.now.items }
+    ensures found { IfOk result (IsIndexOf entries.now.items path.now) }
+    ensures absent { IfErr result (IsGapFor entries.now.items path.now) }
 {
-    &entries[at].1
+    if is_after_all(entries, path) {
+        return Err(entries.len());
+    }
+    search(entries, path)
+}
+
+// The node of the entry at this index.
+fn node_of(entries: &Vec<PathEntry>, index: usize) -> &Node
+    requires { index < length entries.now.items }
+    ensures { (d : _) → result.now ≡ (slice_index_or entries.now.items index d).1 }
+{
+    &entries[index].1
 }
 
 /// The node of the path.
-pub(super) fn node<'a>(entries: &'a Vec<Entry>, path: &[u8]) -> Option<&'a Node>
+pub(super) fn node<'a>(entries: &'a Vec<PathEntry>, path: &[u8]) -> Option<&'a Node>
     requires { IsPathSorted entries.now.items }
     ensures { option_copied result ≡ node_at entries.now.items path.now }
 {
     match find(entries, path) {
-        Ok(at) => Some(node_of(entries, at)),
+        Ok(index) => Some(node_of(entries, index)),
         Err(_) => None,
     }
 }
 
-// Overwrites the node of the entry at this place.
-fn set_node(entries: &mut Vec<Entry>, at: usize, node: Node)
-    requires { at < length entries.old.items }
-    ensures { (d : _) → entries.new.items ≡ slice_set entries.old.items at ((slice_index_or entries.old.items at d).0, node) }
+// Overwrites the node of the entry at this index.
+fn set_node(entries: &mut Vec<PathEntry>, index: usize, node: Node)
+    requires { index < length entries.old.items }
+    ensures { (d : _) → entries.new.items ≡ slice_set entries.old.items index ((slice_index_or entries.old.items index d).0, node) }
 {
-    entries[at].1 = node;
+    entries[index].1 = node;
 }
 
-// Takes the entry of the path out.
-fn take_out(entries: &mut Vec<Entry>, at: usize, path: &[u8])
+// Removes the entry of the path.
+fn take_out(entries: &mut Vec<PathEntry>, index: usize, path: &[u8])
     requires sorted { IsPathSorted entries.old.items }
-    requires place { IsPlaceOf entries.old.items path.now at }
+    requires index { IsIndexOf entries.old.items path.now index }
     ensures { entries.new.items ≡ remove entries.old.items path.now }
 {
-    let _ = entries.remove(at);
+    let _ = entries.remove(index);
 }
 
-/// Takes the entry of the path out where there is one.
-pub(super) fn remove(entries: &mut Vec<Entry>, path: &[u8]) -> bool
+/// Removes the entry of the path if there is one.
+pub(super) fn remove(entries: &mut Vec<PathEntry>, path: &[u8]) -> bool
     requires { IsPathSorted entries.old.items }
     ensures list { entries.new.items ≡ remove entries.old.items path.now }
     ensures found { result ≡ is_some (node_at entries.old.items path.now) }
 {
     match find(entries, path) {
-        Ok(at) => {
-            take_out(entries, at, path);
+        Ok(index) => {
+            take_out(entries, index, path);
             true
         }
         Err(_) => false,
     }
 }
 
-// The path of the entry at this place.
-fn path_of(entries: &Vec<Entry>, at: usize) -> &[u8]
-    requires { at < length entries.now.items }
-    ensures { (d : _) → result.now ≡ (slice_index_or entries.now.items at d).0 }
+// The path of the entry at this index.
+fn path_of(entries: &Vec<PathEntry>, index: usize) -> &[u8]
+    requires { index < length entries.now.items }
+    ensures { (d : _) → result.now ≡ (slice_index_or entries.now.items index d).0 }
 {
-    entries[at].0.as_bytes()
+    entries[index].0.as_bytes()
 }
 
-// Whether something lies below the path, where the entries from this place on are those behind it.
-fn has_below(entries: &Vec<Entry>, path: &[u8], behind: usize) -> bool
+// Whether something lies below the path, given that the entries from this index on are those behind it.
+fn has_below(entries: &Vec<PathEntry>, path: &[u8], behind: usize) -> bool
     requires sorted { IsPathSorted entries.now.items }
     requires path { IsTrue (is_path path.now) }
     requires behind { IsBehind entries.now.items path.now behind }
@@ -112,16 +132,16 @@ fn kind_of(node: &Node) -> Kind
     }
 }
 
-/// What stands at the path.
-pub(super) fn kind(entries: &Vec<Entry>, path: &[u8]) -> Kind
+/// What is at the path.
+pub(super) fn kind(entries: &Vec<PathEntry>, path: &[u8]) -> Kind
     requires sorted { IsPathSorted entries.now.items }
     requires path { IsTrue (is_path path.now) }
     ensures { result ≡ kind_there (node_at entries.now.items path.now) (has_below entries.now.items path.now) }
 {
     match find(entries, path) {
-        Ok(at) => kind_of(node_of(entries, at)),
-        Err(at) => {
-            if has_below(entries, path, at) {
+        Ok(index) => kind_of(node_of(entries, index)),
+        Err(index) => {
+            if has_below(entries, path, index) {
                 Kind::Dir
             } else {
                 Kind::Absent
@@ -130,69 +150,66 @@ pub(super) fn kind(entries: &Vec<Entry>, path: &[u8]) -> Kind
     }
 }
 
-// Whether a file or a link is at the path.
-fn is_file(entries: &Vec<Entry>, path: &[u8]) -> bool
-    requires { IsPathSorted entries.now.items }
-    ensures { result ≡ is_file (node_at entries.now.items path.now) }
+// Whether this entry is a file or a link above the path.
+fn is_file_above(entries: &Vec<PathEntry>, index: usize, path: &[u8]) -> bool
+    requires { index < length entries.now.items }
+    ensures { (d : _) → result ≡ is_file_above path.now (slice_index_or entries.now.items index d) }
 {
-    match node(entries, path) {
-        Some(node) => !is_dir(node),
-        None => false,
-    }
+    is_below(path_of(entries, index), path) && !is_dir(node_of(entries, index))
 }
 
-// Whether the path lies below a file or a link.
-fn has_file_above(entries: &Vec<Entry>, path: &[u8]) -> bool
-    requires { IsTree entries.now.items }
+// Whether the path lies below a file or a link. Nothing else lies below one, so it is the entry directly before a path
+// that has no entry, and no path that has one lies below it.
+fn has_file_above(entries: &Vec<PathEntry>, path: &[u8], found: Result<usize, usize>) -> bool
+    requires tree { IsTree entries.now.items }
+    requires found { MatchResult found (IsIndexOf entries.now.items path.now) (IsGapFor entries.now.items path.now) }
     ensures { result ≡ has_file_above entries.now.items path.now }
 {
-    for i in 0..path.len() {
-        if path[i] == b'/' && is_file(entries, &path[..i]) {
-            return true;
-        }
+    match found {
+        Ok(_) => false,
+        Err(index) => index > 0 && is_file_above(entries, index - 1, path),
     }
-    false
 }
 
-// The place of the first entry behind the path.
-fn behind(entries: &Vec<Entry>, path: &[u8], place: Result<usize, usize>) -> usize
+// The index of the first entry behind the path.
+fn behind(entries: &Vec<PathEntry>, path: &[u8], found: Result<usize, usize>) -> usize
     requires sorted { IsPathSorted entries.now.items }
-    requires place { MatchResult place (IsPlaceOf entries.now.items path.now) (IsGapFor entries.now.items path.now) }
+    requires found { MatchResult found (IsIndexOf entries.now.items path.now) (IsGapFor entries.now.items path.now) }
     ensures { IsBehind entries.now.items path.now result }
 {
-    match place {
-        Ok(at) => at + 1,
-        Err(at) => at,
+    match found {
+        Ok(index) => index + 1,
+        Err(index) => index,
     }
 }
 
 // Whether a file or link would have something below it.
-fn clashes(entries: &Vec<Entry>, path: &[u8], node: &Node, place: Result<usize, usize>) -> bool
+fn clashes(entries: &Vec<PathEntry>, path: &[u8], node: &Node, found: Result<usize, usize>) -> bool
     requires tree { IsTree entries.now.items }
     requires path { IsTrue (is_path path.now) }
-    requires place { MatchResult place (IsPlaceOf entries.now.items path.now) (IsGapFor entries.now.items path.now) }
+    requires found { MatchResult found (IsIndexOf entries.now.items path.now) (IsGapFor entries.now.items path.now) }
     ensures { result ≡ clashes entries.now.items path.now node.now }
 {
-    has_file_above(entries, path)
-        || (!is_dir(node) && has_below(entries, path, behind(entries, path, place)))
+    has_file_above(entries, path, found)
+        || (!is_dir(node) && has_below(entries, path, behind(entries, path, found)))
 }
 
 // Whether the path is new and the tree has all the nodes that it may have.
-fn has_no_room(entries: &Vec<Entry>, path: &[u8], place: Result<usize, usize>) -> bool
+fn has_no_room(entries: &Vec<PathEntry>, path: &[u8], found: Result<usize, usize>) -> bool
     requires tree { IsTree entries.now.items }
-    requires place { MatchResult place (IsPlaceOf entries.now.items path.now) (IsGapFor entries.now.items path.now) }
+    requires found { MatchResult found (IsIndexOf entries.now.items path.now) (IsGapFor entries.now.items path.now) }
     ensures value { result ≡ has_no_room entries.now.items path.now }
-    ensures room { IfErr place (λ _. result ≡ false → length entries.now.items < 2 ^ 20) }
+    ensures room { IfErr found (λ _. result ≡ false → length entries.now.items < 2 ^ 20) }
 {
-    match place {
+    match found {
         Ok(_) => false,
         Err(_) => entries.len() == NODES_MAX,
     }
 }
 
-/// Where the node goes, or why it can't be put.
-pub(super) fn place_for(
-    entries: &Vec<Entry>,
+/// The index of the path's entry or of its gap, or why the node can't be put.
+pub(super) fn find_for(
+    entries: &Vec<PathEntry>,
     path: &[u8],
     node: &Node,
 ) -> Result<Result<usize, usize>, TreeFault>
@@ -202,69 +219,69 @@ pub(super) fn place_for(
     ensures full { (result ≡ Err TreeFault.Full) ↔ ((clashes entries.now.items path.now node.now ≡ false) × IsTrue (has_no_room entries.now.items path.now)) }
     ensures free { OnOk result (clashes entries.now.items path.now node.now ≡ false) }
     ensures memory { result ≢ Err TreeFault.NoMemory }
-    ensures place { IfOk result (λ place. MatchResult place (IsPlaceOf entries.now.items path.now) (IsGapFor entries.now.items path.now)) }
-    ensures room { IfOk result (λ place. IfErr place (λ _. length entries.now.items < 2 ^ 20)) }
+    ensures found { IfOk result (λ found. MatchResult found (IsIndexOf entries.now.items path.now) (IsGapFor entries.now.items path.now)) }
+    ensures room { IfOk result (λ found. IfErr found (λ _. length entries.now.items < 2 ^ 20)) }
 {
-    let place = find(entries, path);
-    if clashes(entries, path, node, place) {
+    let found = find(entries, path);
+    if clashes(entries, path, node, found) {
         return Err(TreeFault::Clash);
     }
-    if has_no_room(entries, path, place) {
+    if has_no_room(entries, path, found) {
         return Err(TreeFault::Full);
     }
-    Ok(place)
+    Ok(found)
 }
 
-// Puts the node in the place of the one that the path has.
-fn replace(entries: &mut Vec<Entry>, at: usize, path: &[u8], node: Node)
+// Replaces the node of the path's entry.
+fn replace(entries: &mut Vec<PathEntry>, index: usize, path: &[u8], node: Node)
     requires sorted { IsPathSorted entries.old.items }
-    requires place { IsPlaceOf entries.old.items path.now at }
+    requires index { IsIndexOf entries.old.items path.now index }
     ensures { entries.new.items ≡ put entries.old.items path.now node }
 {
-    set_node(entries, at, node);
+    set_node(entries, index, node);
 }
 
-// Puts the node at a path that has none.
+// Inserts an entry for a path that has none.
 fn insert(
     alloc: Global,
-    entries: &mut Vec<Entry>,
-    at: usize,
+    entries: &mut Vec<PathEntry>,
+    index: usize,
     path: &[u8],
     node: Node,
 ) -> Result<(), NoMemory>
-    requires { IsGapFor entries.old.items path.now at }
+    requires { IsGapFor entries.old.items path.now index }
     ensures done { OnOk result (entries.new.items ≡ put entries.old.items path.now node) }
     ensures refused { OnErr result (entries.new.items ≡ entries.old.items) }
 {
     let path = Text::copy_of(alloc, path)?;
-    entries.insert(at, (path, node))?;
+    entries.insert(index, (path, node))?;
     Ok(())
 }
 
-/// Puts the node where it goes.
+/// Puts the node at the index that was found.
 pub(super) fn put_at(
     alloc: Global,
-    entries: &mut Vec<Entry>,
-    place: Result<usize, usize>,
+    entries: &mut Vec<PathEntry>,
+    found: Result<usize, usize>,
     path: &[u8],
     node: Node,
 ) -> Result<(), NoMemory>
     requires sorted { IsPathSorted entries.old.items }
-    requires place { MatchResult place (IsPlaceOf entries.old.items path.now) (IsGapFor entries.old.items path.now) }
+    requires found { MatchResult found (IsIndexOf entries.old.items path.now) (IsGapFor entries.old.items path.now) }
     ensures done { OnOk result (entries.new.items ≡ put entries.old.items path.now node) }
     ensures refused { OnErr result (entries.new.items ≡ entries.old.items) }
 {
-    match place {
-        Ok(at) => {
-            replace(entries, at, path, node);
+    match found {
+        Ok(index) => {
+            replace(entries, index, path, node);
             Ok(())
         }
-        Err(at) => insert(alloc, entries, at, path, node),
+        Err(index) => insert(alloc, entries, index, path, node),
     }
 }
 
-// The part of the list that lies below the path, where the entries from this place on are those behind it.
-fn below_from<'a>(entries: &'a Vec<Entry>, path: &[u8], behind: usize) -> &'a [Entry]
+// The part of the list that lies below the path, given that the entries from this index on are those behind it.
+fn below_from<'a>(entries: &'a Vec<PathEntry>, path: &[u8], behind: usize) -> &'a [PathEntry]
     requires sorted { IsPathSorted entries.now.items }
     requires path { IsTrue (is_path path.now) }
     requires behind { IsBehind entries.now.items path.now behind }
@@ -272,7 +289,7 @@ fn below_from<'a>(entries: &'a Vec<Entry>, path: &[u8], behind: usize) -> &'a [E
 {
     let rest = &entries[behind..];
     let count = rest.partition_point(
-        |entry: &Entry| -> bool
+        |entry: &PathEntry| -> bool
             ensures { result ≡ is_below path.entry.now entry.now.0 }
         { is_below(path, entry.0.as_bytes()) },
     );
@@ -280,7 +297,7 @@ fn below_from<'a>(entries: &'a Vec<Entry>, path: &[u8], behind: usize) -> &'a [E
 }
 
 /// The part of the list that lies below the root or the path.
-pub(super) fn below<'a>(entries: &'a Vec<Entry>, path: &[u8]) -> &'a [Entry]
+pub(super) fn below<'a>(entries: &'a Vec<PathEntry>, path: &[u8]) -> &'a [PathEntry]
     requires tree { IsTree entries.now.items }
     requires path { (path.now ≡ root) ⊎ IsTrue (is_path path.now) }
     ensures { result.now ≡ filter (λ e. is_below path.now e.0) entries.now.items }
@@ -288,13 +305,14 @@ pub(super) fn below<'a>(entries: &'a Vec<Entry>, path: &[u8]) -> &'a [Entry]
     if path == b"/".as_slice() {
         return entries.as_slice();
     }
-    let place = find(entries, path);
-    below_from(entries, path, behind(entries, path, place))
+    let found = find(entries, path);
+    below_from(entries, path, behind(entries, path, found))
 }
 
-/// What follows the entries of one child, which has this name behind the first `start` bytes of their paths.
-pub(super) fn skip_child<'a>(entries: &'a [Entry], name: &[u8], start: usize) -> &'a [Entry]
-    ensures { dedup_from bytes_eq name.now (map (λ e. name_behind start e.0) entries.now) ≡ name.now ∷ dedup bytes_eq (map (λ e. name_behind start e.0) result.now) }
+/// What follows the entries of one child, which has this name at the offset `start` of their paths.
+pub(super) fn skip_child<'a>(entries: &'a [PathEntry], name: &[u8], start: usize) -> &'a [PathEntry]
+    ensures { dedup_from bytes_eq name.now (map (λ e. name_behind start e.0) entries.now)
+        ≡ name.now ∷ dedup bytes_eq (map (λ e. name_behind start e.0) result.now) }
 {
     let mut rest = entries;
     while let Some((entry, more)) = rest.split_first() {

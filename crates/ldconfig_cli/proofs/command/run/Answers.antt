@@ -1,5 +1,19 @@
+use Rattle.std.proofs.Common.{◌≡◌, Some, None, sym, ◌∙◌}
+use Rattle.ldconfig_cli.specs.Command.{command_of}
 use Rattle.ldconfig_cli.proofs.Unique.{one_cache}
 use Rattle.ldconfig_cli.proofs.command.run.Goals as goal
 
-pub returns-clause-one_cache : goal.returns-clause-one_cache
-returns-clause-one_cache g c found bytes others is are = one_cache found bytes others is are
+pub returns-in-Some-Update-clause-usage : goal.returns-in-Some-Update-clause-usage
+returns-in-Some-Update-clause-usage g c =
+    let run = c.run_update.ensures.update (g.I.Source.state c.args.input.now) in
+    let some : command_of c.args.words.now ≡ Some c.in-Some-Update.field-0 = sym c.command_of.ensures ∙ c.in-Some-Update.is in
+    (λ usage. absurd (run.no_usage usage), λ none. absurd (cc (some, none)))
+
+pub returns-in-Some-Update-clause-update : goal.returns-in-Some-Update-clause-update
+returns-in-Some-Update-clause-update g c = λ is. c.run_update.ensures.update (g.I.Source.state c.args.input.now)
+
+pub returns-in-Some-Update-clause-one_cache : goal.returns-in-Some-Update-clause-one_cache
+returns-in-Some-Update-clause-one_cache g c found bytes others is are = one_cache found bytes others is are
+
+pub returns-in-None-clause-one_cache : goal.returns-in-None-clause-one_cache
+returns-in-None-clause-one_cache g c found bytes others is are = one_cache found bytes others is are

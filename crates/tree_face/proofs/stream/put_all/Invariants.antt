@@ -1,13 +1,13 @@
 use Rattle.std.proofs.Common.{length, ◌-◌, ◌≤◌, take}
 use Rattle.tree_face.specs.Stream.{IsFollowedBy}
-use Rattle.tree_face.specs.Told.{Tells}
+use Rattle.tree_face.specs.Known.{Relates}
 use Rattle.tree_face.proofs.stream.put_all.Given as goal
 
 -- what was taken so far
 abbrev pub invariant-loop-at : goal.invariant-loop-at
 invariant-loop-at g l = record {
   within : l.at ≤ length l.bytes;
-  written : Tells (IsFollowedBy (take l.at l.bytes)) (g.O.Sink.state l.fn.sink).written (g.O.Sink.state l.sink).written;
+  written : Relates (IsFollowedBy (take l.at l.bytes)) (g.O.Sink.state l.fn.sink).written (g.O.Sink.state l.sink).written;
   faults : (g.O.Sink.state l.fn.sink).faults ≤ (g.O.Sink.state l.sink).faults;
 }
 

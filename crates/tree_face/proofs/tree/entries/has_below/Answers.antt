@@ -1,7 +1,7 @@
 use Rattle.std.proofs.Common.{◌≡◌, ltb, ℕ, false, [], List, ap, sym, ◌∙◌, arith}
 use Rattle.std.proofs.lemmas.Bool.Decides.{nat_tests}
 use Rattle.tree_face.proofs.Below.{none_below_end, none_below_next, some_below_next}
-use Rattle.tree_face.proofs.Places.{by_test}
+use Rattle.lib_types.proofs.SortedPairs.{by_test}
 use Rattle.tree_face.specs.Paths.{is_below}
 use Rattle.tree_face.specs.declared.node.Node.{Node}
 use Rattle.tree_face.specs.declared.node.Node.TheVariants.{Dir}

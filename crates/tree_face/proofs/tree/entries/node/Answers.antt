@@ -1,5 +1,5 @@
 use Rattle.std.proofs.Common.{[], Some, ap, sym, ◌∙◌}
-use Rattle.tree_face.proofs.Trees.{found_node, absent_node}
+use Rattle.tree_face.proofs.Index.{found_node, absent_node}
 use Rattle.tree_face.proofs.tree.entries.node.Goals as goal
 use Rattle.tree_face.specs.declared.node.Node.TheVariants.{Dir}
 

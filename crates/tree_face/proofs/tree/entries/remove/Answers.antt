@@ -1,6 +1,6 @@
 use Rattle.std.proofs.Common.{[], sym, ap}
 use Rattle.std.specs.Option.{is_some}
-use Rattle.tree_face.proofs.Trees.{found_node, absent_node, none_removed}
+use Rattle.tree_face.proofs.Index.{found_node, absent_node, none_removed}
 use Rattle.tree_face.proofs.tree.entries.remove.Goals as goal
 use Rattle.tree_face.specs.declared.node.Node.TheVariants.{Dir}
 

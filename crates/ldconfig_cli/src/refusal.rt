@@ -1,0 +1,51 @@
+//! Why an update isn't made.
+ghost use Rattle.std.specs.Prelude.{◌≡◌};
+ghost use Rattle.ldconfig_cli.specs.Refusal.{status_of_refusal};
+ghost use Rattle.ldconfig_cli.specs.declared.refusal.Refusal.TheVariants as refusals;
+
+use crate::status::Status;
+use lib_types::NoMemory;
+use std::alloc::AllocError;
+
+/// Why an update isn't made. Nothing was written then.
+#[derive(Clone, Copy, Debug, PartialEq, Eq)]
+pub enum Refusal {
+    /// The Manifest slot can't be read.
+    Disk,
+    NoManifest,
+    /// The image has what isn't built yet.
+    NotBuilt,
+    /// A library file can't be read.
+    Store,
+    NoMemory,
+}
+
+impl From<NoMemory> for Refusal {
+    ghost from_gives = { λ _ e. e ≡ refusals.NoMemory };
+
+    fn from(_: NoMemory) -> Self {
+        Refusal::NoMemory
+    }
+}
+
+impl From<AllocError> for Refusal {
+    ghost from_gives = { λ _ e. e ≡ refusals.NoMemory };
+
+    fn from(_: AllocError) -> Self {
+        Refusal::NoMemory
+    }
+}
+
+impl From<Refusal> for Status {
+    ghost from_gives = { λ refusal status. status ≡ status_of_refusal refusal };
+
+    fn from(refusal: Refusal) -> Self {
+        match refusal {
+            Refusal::Disk => Status::DiskFault,
+            Refusal::NoManifest => Status::NoManifest,
+            Refusal::NotBuilt => Status::NotBuilt,
+            Refusal::Store => Status::StoreFault,
+            Refusal::NoMemory => Status::NoMemory,
+        }
+    }
+}

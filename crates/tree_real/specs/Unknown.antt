@@ -1,0 +1,37 @@
+-- The states of the devices over real folders and streams: unknown contents, and their counts.
+use Rattle.std.specs.Prelude.{ℕ, true, None}
+use Rattle.tree_face.specs.Disk.{DiskState}
+use Rattle.tree_face.specs.Store.{StoreState}
+use Rattle.tree_face.specs.Stream.{SourceState, SinkState}
+use Rattle.tree_real.specs.declared.counts.StoreCounts.{StoreCounts}
+
+abbrev pub unknown_store : StoreCounts → StoreState
+unknown_store c = record {
+  held = None;
+  key = None;
+  content = None;
+  size = c.size;
+  faults = c.faults;
+  begun = c.begun;
+  taken = c.taken;
+}
+
+-- the counts of a store that was not used yet
+abbrev pub no_counts : StoreCounts
+no_counts = record { size = None; faults = 0; begun = 0; taken = 0 }
+
+-- any temporary file may have been made
+abbrev pub unknown_disk : ℕ → ℕ → DiskState
+unknown_disk faults read_faults = record {
+  contents = None;
+  made = λ _ _. true;
+  calls = None;
+  faults = faults;
+  read_faults = read_faults;
+}
+
+abbrev pub unknown_source : ℕ → SourceState
+unknown_source faults = record { left = None; faults = faults }
+
+abbrev pub unknown_sink : ℕ → SinkState
+unknown_sink faults = record { written = None; faults = faults }
