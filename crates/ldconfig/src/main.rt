@@ -23,6 +23,9 @@ const NO_MANIFEST: &str =
 
 const OUT_OF_MEMORY: &str = "ldconfig: out of memory";
 
+const BAD_MANIFEST: &str =
+    "ldconfig: image.mtree: the line on the output says where and what; docs/FORMATS.md explains it";
+
 const NOT_BUILT: &str =
     "ldconfig: the image asks for what this version does not build: README.md lists what it does";
 
@@ -115,6 +118,7 @@ fn advice(status: Status, wrote_cache: bool) -> Option<&'static str>
     match status {
         Status::Usage => Some(USAGE),
         Status::NoManifest => Some(NO_MANIFEST),
+        Status::BadManifest(_) => Some(BAD_MANIFEST),
         Status::NotBuilt => Some(NOT_BUILT),
         Status::NoMemory => Some(OUT_OF_MEMORY),
         Status::OutputFault if wrote_cache => Some("ldconfig: etc/ld.so.cache was written"),

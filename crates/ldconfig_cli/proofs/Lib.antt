@@ -1,5 +1,6 @@
 pub mod Analysis
 pub mod Calls
+pub mod Completing
 pub mod Counting
 pub mod Lacking
 pub mod Listing

@@ -10,8 +10,7 @@ use Rattle.tree_face.specs.declared.node.Node.TheVariants.{Dir, File, Link}
 use Rattle.tree_face.specs.Paths.{is_path, are_names, root}
 use Rattle.tree_face.specs.Tree.{Nodes, IsTree, is_entry}
 use Rattle.tree_face.specs.Node.{is_node}
-use Rattle.ldconfig_cli.specs.Libraries.{NamedKey, named, library_file_of, library_folder, is_own_library_name, libraries}
-use Rattle.ldconfig_cli.specs.Manifest.{without_prefix}
+use Rattle.ldconfig_cli.specs.Libraries.{NamedKey, named, library_file_of, without_prefix, is_own_library_name, libraries_in}
 
 named_so : (name : List ℕ) (node : Node) (library : NamedKey) → named name node ≡ Some library → library.0 ≡ name
 named_so name Dir library e = cc
@@ -29,12 +28,13 @@ rest_short head bytes rest e =
       | false ↦ λ none. absurd (cc none)
     ] e
 
-library_short : (e : List ℕ × Node) (library : NamedKey) → library_file_of e ≡ Some library → length library.0 ≤ length e.0
-library_short e library is =
-    elim (without_prefix library_folder e.0) as (λ o. without_prefix library_folder e.0 ≡ o → option_and_then (λ name. named name e.1) o ≡ Some library → length library.0 ≤ length e.0) [
-      | None ↦ λ b none. absurd (cc none)
-      | Some name ↦ λ b some. rw (named_so name e.1 library some) (rest_short library_folder e.0 name b)
-    ] refl is
+module _ (prefix : List ℕ) where
+  library_short : (e : List ℕ × Node) (library : NamedKey) → library_file_of prefix e ≡ Some library → length library.0 ≤ length e.0
+  library_short e library is =
+      elim (without_prefix prefix e.0) as (λ o. without_prefix prefix e.0 ≡ o → option_and_then (λ name. named name e.1) o ≡ Some library → length library.0 ≤ length e.0) [
+        | None ↦ λ b none. absurd (cc none)
+        | Some name ↦ λ b some. rw (named_so name e.1 library some) (rest_short prefix e.0 name b)
+      ] refl is
 
 abbrev pub is_short : NamedKey → Bool
 is_short library = nat_le (length library.0) 4095
@@ -45,22 +45,22 @@ path_short e entry =
     let front = (and_parts (nat_le (length e.0) 4095 && starts_with nat_eq e.0 root) (are_names (drop 1 e.0)) path).0 in
     leb-true _ _ (and_parts (nat_le (length e.0) 4095) (starts_with nat_eq e.0 root) front).0
 
-short_found : (t : Nodes) → list_all is_entry t ≡ true → list_all is_short (filter_map library_file_of t) ≡ true
-short_found [] entries = refl
-short_found (e ∷ t) entries =
-    let parts = and_parts (is_entry e) (list_all is_entry t) entries in
-    let rest = short_found t parts.1 in
-    elim (library_file_of e) as (λ o. library_file_of e ≡ o → list_all is_short (cons_option o (filter_map library_file_of t)) ≡ true) [
-      | None ↦ λ none. rest
-      | Some library ↦ λ some.
-          let here = library_short e library some in
-          let whole = path_short e parts.0 in
-          let fits : length library.0 ≤ 4095 = omega (arith, here, whole) in
-          and_from _ _ (le-leb _ _ fits) rest
-    ] refl
+module _ (prefix : List ℕ) where
+  short_found : (t : Nodes) → list_all is_entry t ≡ true → list_all is_short (filter_map (library_file_of prefix) t) ≡ true
+  short_found [] entries = refl
+  short_found (e ∷ t) entries =
+      let parts = and_parts (is_entry e) (list_all is_entry t) entries in
+      let rest = short_found t parts.1 in
+      elim (library_file_of prefix e) as (λ o. library_file_of prefix e ≡ o → list_all is_short (cons_option o (filter_map (library_file_of prefix) t)) ≡ true) [
+        | None ↦ λ none. rest
+        | Some library ↦ λ some.
+            let here = library_short prefix e library some in
+            let whole = path_short e parts.0 in
+            let fits : length library.0 ≤ 4095 = omega (arith, here, whole) in
+            and_from _ _ (le-leb _ _ fits) rest
+      ] refl
 
-pub short_libraries : (t : Nodes) → IsTree t → All (λ library. length library.0 ≤ 4095) (libraries t)
-unfolding libraries
-short_libraries t tree =
-    All-weaker (λ (library : NamedKey). is_short library ≡ true) (λ library. length library.0 ≤ 4095) (λ library short. leb-true _ _ short) _
-    (AllPass-from_list_all is_short (filter_map library_file_of t) (short_found t tree.entries))
+  pub short_libraries : (t : Nodes) → IsTree t → All (λ library. length library.0 ≤ 4095) (libraries_in t prefix)
+  short_libraries t tree =
+      All-weaker (λ (library : NamedKey). is_short library ≡ true) (λ library. length library.0 ≤ 4095) (λ library short. leb-true _ _ short) _
+      (AllPass-from_list_all is_short (filter_map (library_file_of prefix) t) (short_found t tree.entries))

@@ -1,23 +1,46 @@
--- The library files of a tree: the files of `/usr/lib` with library names. It is one of the trusted directories of
--- ldconfig(8), and the one that is built so far.
-use Rattle.std.specs.Prelude.{ℕ, Bool, List, ◌==◌, ◌&&◌, not, if◌then◌else◌, codes, Option, Some, None}
-use Rattle.std.specs.List.{list_any, filter_map}
-use Rattle.std.specs.Option.{option_and_then}
+-- The library files of a tree: the files with library names of the directory to which `/usr/lib` leads. It is one of the trusted
+-- directories of ldconfig(8), and the one that is built so far.
+use Rattle.std.specs.Prelude.{ℕ, Bool, true, false, List, [], ◌==◌, ◌&&◌, not, nat_eq, if◌then◌else◌, length, drop, codes, Option, Some, None, Result, Ok, Err}
+use Rattle.std.specs.List.{list_any, filter_map, starts_with}
+use Rattle.std.specs.Option.{option_and_then, option_map_or}
 use Rattle.lib_types.specs.Name.{slash}
 use Rattle.name_order.specs.LibraryName.{is_library_name}
+use Rattle.path_walk.specs.Walk.{resolution}
+use Rattle.path_walk.specs.declared.walk.Mode.TheVariants.{Plain}
+use Rattle.path_walk.specs.declared.walk.WalkFault.{WalkFault}
 use Rattle.tree_face.specs.declared.node.Node.{Node}
 use Rattle.tree_face.specs.declared.node.Node.TheVariants.{Dir, File, Link}
-use Rattle.tree_face.specs.Tree.{Nodes}
-use Rattle.ldconfig_cli.specs.Manifest.{without_prefix}
+use Rattle.tree_face.specs.declared.tree.Kind.{Kind}
+use Rattle.tree_face.specs.declared.tree.Kind.TheVariants as kinds
+use Rattle.tree_face.specs.Paths.{folder}
+use Rattle.tree_face.specs.Tree.{Nodes, kind_at}
 use Rattle.ldconfig_cli.specs.declared.libraries.LibraryFile.{LibraryFile}
 
 -- a name, and the key of the file's content
 abbrev pub NamedKey : Type 0
 NamedKey = List ℕ × List ℕ
 
--- the prefix of each path below it
+-- what the path of each entry begins with
 abbrev pub library_folder : List ℕ
 library_folder = codes "/usr/lib/"
+
+abbrev pub is_dir_kind : Kind → Bool
+is_dir_kind kinds.Dir = true
+is_dir_kind kinds.Absent = false
+is_dir_kind kinds.File = false
+is_dir_kind kinds.Link = false
+
+-- the place, if it is a directory
+abbrev pub directory_in : Nodes → Result (List ℕ) WalkFault → Option (List ℕ)
+directory_in t (Ok place) = if is_dir_kind (kind_at t place) then Some place else None
+directory_in t (Err fault) = None
+
+-- the directory to which `/usr/lib` leads
+unfoldable pub library_directory : Nodes → Option (List ℕ)
+library_directory t = directory_in t (resolution t (codes "/usr/lib") Plain)
+
+abbrev pub without_prefix : List ℕ → List ℕ → Option (List ℕ)
+without_prefix prefix bytes = if starts_with nat_eq bytes prefix then Some (drop (length prefix) bytes) else None
 
 abbrev pub is_own_library_name : List ℕ → Bool
 is_own_library_name name = is_library_name name && not (list_any (λ b. b == slash) name)
@@ -27,12 +50,36 @@ named name Dir = None
 named name (File key id) = if is_own_library_name name then Some (name, key) else None
 named name (Link target) = None
 
-abbrev pub library_file_of : List ℕ × Node → Option NamedKey
-library_file_of e = option_and_then (λ name. named name e.1) (without_prefix library_folder e.0)
+-- the library file whose path begins with this prefix
+abbrev pub library_file_of : List ℕ → List ℕ × Node → Option NamedKey
+library_file_of prefix e = option_and_then (λ name. named name e.1) (without_prefix prefix e.0)
 
 -- in the order of the tree, which in one folder is that of the names' bytes
+abbrev pub libraries_in : Nodes → List ℕ → List NamedKey
+libraries_in t prefix = filter_map (library_file_of prefix) t
+
+abbrev pub libraries_of : Nodes → Option (List ℕ) → List NamedKey
+libraries_of t None = []
+libraries_of t (Some directory) = libraries_in t (folder directory)
+
 unfoldable pub libraries : Nodes → List NamedKey
-libraries t = filter_map library_file_of t
+libraries t = libraries_of t (library_directory t)
+
+-- a link with a library name
+abbrev pub is_named_link : List ℕ → Node → Bool
+is_named_link name (Link target) = is_own_library_name name
+is_named_link name Dir = false
+is_named_link name (File key id) = false
+
+abbrev pub is_library_link : List ℕ → List ℕ × Node → Bool
+is_library_link prefix e = option_map_or (λ name. is_named_link name e.1) (without_prefix prefix e.0) false
+
+abbrev pub has_links_in : Nodes → Option (List ℕ) → Bool
+has_links_in t None = false
+has_links_in t (Some directory) = list_any (is_library_link (folder directory)) t
+
+unfoldable pub has_library_links : Nodes → Bool
+has_library_links t = has_links_in t (library_directory t)
 
 abbrev pub seen : LibraryFile → NamedKey
 seen l = (l.name.now, l.key.now)

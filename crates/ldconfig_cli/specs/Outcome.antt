@@ -5,18 +5,22 @@ use Rattle.std.specs.Str.{bytes_eq}
 use Rattle.lib_types.specs.declared.abi.Abi.TheVariants.{X86_64}
 use Rattle.lib_types.specs.declared.analysis.Analysis.{Analysis}
 use Rattle.lib_types.specs.declared.analysis.Analysis.TheVariants.{Lib}
-use Rattle.tree_face.specs.declared.tree.Kind.{Kind}
-use Rattle.tree_face.specs.declared.tree.Kind.TheVariants as kind
+use Rattle.mtree_manifest.specs.declared.fault.ManifestFault.{ManifestFault}
+use Rattle.path_walk.specs.Walk.{resolution}
+use Rattle.path_walk.specs.declared.walk.Mode.TheVariants.{Plain}
+use Rattle.std.specs.Result.{is_ok}
 use Rattle.tree_face.specs.Store.{Contents}
-use Rattle.tree_face.specs.Tree.{Nodes, kind_at}
+use Rattle.tree_face.specs.Tree.{Nodes}
 use Rattle.ldconfig_cli.specs.Analysis.{analysis}
-use Rattle.ldconfig_cli.specs.Libraries.{NamedKey, libraries}
-use Rattle.ldconfig_cli.specs.Manifest.{Manifest, Empty, NoTree, HasTree}
+use Rattle.ldconfig_cli.specs.Libraries.{NamedKey, libraries, has_library_links}
+use Rattle.ldconfig_cli.specs.Manifest.{Manifest, Empty, Faulty, HasTree}
 use Rattle.ldconfig_cli.specs.declared.libraries.TheConstants.{ENTRIES_MAX}
 
 pub data Outcome : Type 0 where
   -- there is no manifest
   NoManifest : Outcome
+  -- the manifest has no tree
+  BadManifest : ManifestFault → Outcome
   -- the image asks for what isn't built yet
   NotBuilt : Outcome
   -- the content of a library file isn't held
@@ -24,26 +28,20 @@ pub data Outcome : Type 0 where
   -- a cache of these libraries
   Writes : List NamedKey → Outcome
 
-abbrev pub is_absent : Kind → Bool
-is_absent kind.Absent = true
-is_absent kind.Dir = false
-is_absent kind.File = false
-is_absent kind.Link = false
-
 -- paths that ldconfig(8) reads too
 abbrev pub other_places : List (List ℕ)
 other_places =
     codes "/etc/ld.so.conf" ∷ codes "/lib" ∷ codes "/lib64" ∷ codes "/usr/lib64" ∷ codes "/usr/lib/glibc-hwcaps" ∷ []
 
 abbrev pub is_there : Nodes → List ℕ → Bool
-is_there t path = not (is_absent (kind_at t path))
+is_there t path = is_ok (resolution t path Plain)
 
 abbrev pub has_other_places : Nodes → Bool
 has_other_places t = list_any (is_there t) other_places
 
--- the image has what isn't built: another place, or more library files than a cache may have entries
+-- the image has what isn't built: another folder, more library files than a cache may have entries, or a library's link
 abbrev pub is_unbuilt : Nodes → Bool
-is_unbuilt t = has_other_places t || nat_lt ENTRIES_MAX (length (libraries t))
+is_unbuilt t = has_other_places t || nat_lt ENTRIES_MAX (length (libraries t)) || has_library_links t
 
 -- a library of x86-64 whose soname is the name of its file
 abbrev pub is_own : List ℕ → Analysis → Bool
@@ -75,7 +73,7 @@ first_fault held found = first (filter_map (fault_of held) found)
 -- the library files that an update reads: those of a tree that is built
 abbrev pub files_to_read : Manifest → List NamedKey
 files_to_read (HasTree t) = if is_unbuilt t then [] else libraries t
-files_to_read NoTree = []
+files_to_read (Faulty fault) = []
 files_to_read Empty = []
 
 -- of these files an update begins those up to and with the first that stops it
@@ -84,5 +82,5 @@ begun_of held files = min (length files) (prefix_len (is_fine held) files + 1)
 
 abbrev pub outcome : Contents → Manifest → Outcome
 outcome held Empty = NoManifest
-outcome held NoTree = NotBuilt
+outcome held (Faulty fault) = BadManifest fault
 outcome held (HasTree t) = if is_unbuilt t then NotBuilt else unwrap_or (first_fault held (libraries t)) (Writes (libraries t))

@@ -1,14 +1,20 @@
 -- The exit status of each status, and the fault line on the output.
-use Rattle.std.specs.Prelude.{◌⊎◌, ℕ, List, [], ◌∷◌, ◌++◌, codes}
+use Rattle.std.specs.Prelude.{◌⊎◌, ℕ, Bool, true, false, List, [], ◌∷◌, ◌++◌, codes}
+use Rattle.std.specs.Fmt.{decimal}
 use Rattle.lib_types.specs.Counts.{HasRisen}
+use Rattle.mtree_manifest.specs.declared.fault.LineKind.{LineKind}
+use Rattle.mtree_manifest.specs.declared.fault.LineKind.TheVariants as kinds
+use Rattle.mtree_manifest.specs.declared.fault.ManifestFault.{ManifestFault}
+use Rattle.mtree_manifest.specs.declared.fault.ManifestFault.TheVariants as manifest_faults
 use Rattle.tree_face.specs.Known.{Relates}
 use Rattle.tree_face.specs.Stream.{SinkState, IsFollowedBy, IsFollowedByPart}
 use Rattle.ldconfig_cli.specs.declared.status.Status.{Status}
-use Rattle.ldconfig_cli.specs.declared.status.Status.TheVariants.{Done, Usage, StoreFault, DiskFault, OutputFault, NoMemory, NoManifest, NotBuilt}
+use Rattle.ldconfig_cli.specs.declared.status.Status.TheVariants.{Done, Usage, BadManifest, StoreFault, DiskFault, OutputFault, NoMemory, NoManifest, NotBuilt}
 
 abbrev pub code_of : Status → ℕ
 code_of Done = 0
 code_of Usage = 2
+code_of (BadManifest fault) = 3
 code_of StoreFault = 10
 code_of DiskFault = 11
 code_of OutputFault = 13
@@ -19,8 +25,31 @@ code_of NotBuilt = 18
 abbrev pub line : List ℕ → List ℕ
 line text = text ++ 10 ∷ []
 
+abbrev pub kind_text : LineKind → List ℕ
+kind_text kinds.BadLine = codes "BadLine"
+kind_text kinds.BadEscape = codes "BadEscape"
+kind_text kinds.BadNumber = codes "BadNumber"
+kind_text kinds.BadType = codes "BadType"
+kind_text kinds.NoTarget = codes "NoTarget"
+
+abbrev pub line_text : ℕ → List ℕ → List ℕ
+line_text number kind = line (codes "fault: BadManifest line " ++ decimal number ++ codes ": " ++ kind)
+
+abbrev pub manifest_text : ManifestFault → List ℕ
+manifest_text (manifest_faults.TooLong length) = line (codes "fault: BadManifest: TooLong")
+manifest_text (manifest_faults.Bad number kind) = line_text number (kind_text kind)
+manifest_text (manifest_faults.Clash number) = line_text number (codes "Clash")
+manifest_text (manifest_faults.TooMany number) = line_text number (codes "TooMany")
+manifest_text manifest_faults.NoMemory = []
+
+-- the fault line is the same for each such status
+abbrev pub is_fixed : Status → Bool
+is_fixed (BadManifest fault) = false
+is_fixed _ = true
+
 -- the fault line, empty for a status that has none
 abbrev pub fault_line : Status → List ℕ
+fault_line (BadManifest fault) = manifest_text fault
 fault_line Usage = line (codes "fault: Usage")
 fault_line StoreFault = line (codes "fault: StoreFault")
 fault_line DiskFault = line (codes "fault: DiskFault")

@@ -11,14 +11,15 @@ use Rattle.tree_face.specs.Store.{Contents, StoreState, BeginsAtMost}
 use Rattle.tree_face.specs.Stream.{SinkState, IsFollowedBy, IsFollowedByPart}
 use Rattle.ldconfig_cli.specs.Cache.{IsUpdateOf}
 use Rattle.ldconfig_cli.specs.Devices.{Devices, IfBothKnown}
-use Rattle.ldconfig_cli.specs.Manifest.{manifest_of}
+use Rattle.ldconfig_cli.specs.Manifest.{manifest_of, Faulty}
 use Rattle.ldconfig_cli.specs.Outcome.{Outcome, outcome, files_to_read, begun_of, is_fine}
 use Rattle.ldconfig_cli.specs.Outcome as outcomes
 use Rattle.ldconfig_cli.specs.Report.{report_line}
 use Rattle.ldconfig_cli.specs.Replace.{Replaces, MayReplace}
 use Rattle.ldconfig_cli.specs.Status.{fault_line, Says}
 use Rattle.ldconfig_cli.specs.declared.status.Status.{Status}
-use Rattle.ldconfig_cli.specs.declared.status.Status.TheVariants.{Done, Usage, StoreFault, DiskFault, OutputFault, NoMemory, NoManifest, NotBuilt}
+use Rattle.ldconfig_cli.specs.declared.status.Status.TheVariants.{Done, Usage, BadManifest, StoreFault, DiskFault, OutputFault, NoMemory, NoManifest, NotBuilt}
+use Rattle.mtree_manifest.specs.declared.fault.ManifestFault.{ManifestFault}
 
 -- the number of the updater
 abbrev pub tag : ℕ
@@ -33,6 +34,7 @@ ComesTo held disk end = IfBothKnown held disk (λ contents content. outcome cont
 -- the status if no count rises and memory suffices
 abbrev pub status_of : Outcome → Status
 status_of outcomes.NoManifest = NoManifest
+status_of (outcomes.BadManifest fault) = BadManifest fault
 status_of outcomes.NotBuilt = NotBuilt
 status_of outcomes.Lacking = StoreFault
 status_of (outcomes.Writes found) = Done
@@ -52,6 +54,10 @@ HasManifest disk = IfKnown disk (λ content. IsSome content.now.manifest)
 -- the Manifest slot holds nothing
 abbrev pub HasNoManifest : Option DiskContent → Type 0
 HasNoManifest disk = IfKnown disk (λ content. content.now.manifest ≡ None)
+
+-- the text of the Manifest slot has no tree, and this is its first fault
+abbrev pub HasFault : Option DiskContent → ManifestFault → Type 0
+HasFault disk fault = IfKnown disk (λ content. manifest_of content.now.manifest ≡ Faulty fault)
 
 -- the content of a library file isn't held: one of the manifest's tree, or of some manifest if the disk's contents are unknown
 abbrev pub LacksLibrary : Option Contents → Option DiskContent → Type 0
@@ -144,6 +150,7 @@ pub record UpdateRun (old new : Devices) (status : Status) : Type 0 where
   pub no_usage : status ≡ Usage → ⊥
   pub no_manifest : status ≡ NoManifest → HasNoManifest old.disk.contents
   pub manifest : needs_no_manifest status ≡ false → HasManifest old.disk.contents
+  pub bad_manifest : (fault : ManifestFault) → status ≡ BadManifest fault → HasFault old.disk.contents fault
   pub not_built : status ≡ NotBuilt → ComesTo old.store.held old.disk.contents outcomes.NotBuilt
   pub store_fault : status ≡ StoreFault → HasRisen old.store.faults new.store.faults ⊎ LacksLibrary old.store.held old.disk.contents
   pub store_fault_first : status ≡ StoreFault → AreBegunFine old.disk.contents old.store new.store

@@ -1,5 +1,5 @@
 //! The top call.
-ghost use Rattle.std.specs.Prelude.{◌≡◌, ◌↔◌, ◌⊎◌, ◌<◌, ◌≤◌, ℕ, List, Some, None, false};
+ghost use Rattle.std.specs.Prelude.{◌≡◌, ◌↔◌, ◌⊎◌, ◌<◌, ◌≤◌, ℕ, List, Some, None, false, OnOk, OnErr};
 ghost use Rattle.lib_types.specs.Counts.{HasRisen};
 ghost use Rattle.tree_face.specs.Disk.{KeepsAll, KeepsOthersMade};
 ghost use Rattle.tree_face.specs.Known.{IfKnown, Relates};
@@ -8,17 +8,19 @@ ghost use Rattle.ldconfig_cli.specs.Command.{command_of};
 ghost use Rattle.ldconfig_cli.specs.Devices.{devices, IfBothKnown};
 ghost use Rattle.ldconfig_cli.specs.Libraries.{NamedKey};
 ghost use Rattle.ldconfig_cli.specs.Manifest.{manifest_of};
+ghost use Rattle.mtree_manifest.specs.declared.fault.ManifestFault.{ManifestFault};
 ghost use Rattle.ldconfig_cli.specs.Outcome as outcomes;
 ghost use Rattle.ldconfig_cli.specs.Outcome.{outcome};
-ghost use Rattle.ldconfig_cli.specs.Update.{AreBegunFine, BeginsFiles, BeginsUpToFirst, CallsAfter, ComesTo, DiskAfter, HasManifest, HasNoManifest, LacksLibrary, OutputBefore, UpdateRun, needs_no_manifest, status_of, tag};
-ghost use Rattle.ldconfig_cli.specs.Status.{Says, fault_line};
+ghost use Rattle.ldconfig_cli.specs.Update.{AreBegunFine, BeginsFiles, BeginsUpToFirst, CallsAfter, ComesTo, DiskAfter, HasFault, HasManifest, HasNoManifest, LacksLibrary, OutputBefore, UpdateRun, needs_no_manifest, status_of, tag};
+ghost use Rattle.ldconfig_cli.specs.Status.{Says, fault_line, is_fixed};
 ghost use Rattle.ldconfig_cli.specs.Usage.{UsageRun};
 ghost use Rattle.tree_face.specs.Stream.{SourceState};
 
 use crate::arguments::{Command, command_of};
 use crate::prepare::prepare;
 use crate::replace::replace;
-use crate::status::Status;
+use crate::status::{Status, manifest_text};
+use lib_types::NoMemory;
 use std::alloc::Global;
 use tree_face::{Disk, Sink, Slot, Source, Store, Tag, put_all};
 
@@ -32,6 +34,7 @@ fn update<S: Store, D: Disk, O: Sink>(
     ensures no_usage { result ≡ Status.Usage → ⊥ }
     ensures no_manifest { result ≡ Status.NoManifest → HasNoManifest (D.state disk.old).contents }
     ensures manifest { needs_no_manifest result ≡ false → HasManifest (D.state disk.old).contents }
+    ensures bad_manifest { (fault : ManifestFault) → result ≡ Status.BadManifest fault → HasFault (D.state disk.old).contents fault }
     ensures not_built { result ≡ Status.NotBuilt → ComesTo (S.state store.old).held (D.state disk.old).contents outcomes.NotBuilt }
     ensures store_fault { result ≡ Status.StoreFault → HasRisen (S.state store.old).faults (S.state store.new).faults
         ⊎ LacksLibrary (S.state store.old).held (D.state disk.old).contents }
@@ -86,8 +89,29 @@ fn run_update<S: Store, D: Disk, O: Sink>(
     ensures out_faults { (O.state out.old).faults ≤ (O.state out.new).faults }
 {
     let status = update(alloc, store, disk, out);
-    let _ = put_all(out, status.fault_line());
-    status
+    match put_fault_line(alloc, out, status) {
+        Ok(()) => status,
+        Err(NoMemory) => Status::NoMemory,
+    }
+}
+
+// Writes the fault line of a status that has one. That of a manifest has a number, so it takes memory.
+fn put_fault_line<O: Sink>(alloc: Global, out: &mut O, status: Status) -> Result<(), NoMemory>
+    ensures said { OnOk result (Says (fault_line status) (O.state out.old) (O.state out.new)) }
+    ensures kept { OnErr result (O.state out.new ≡ O.state out.old) }
+    ensures cause { OnErr result (is_fixed status ≡ false) }
+    ensures faults { (O.state out.old).faults ≤ (O.state out.new).faults }
+{
+    match status {
+        Status::BadManifest(fault) => {
+            let line = manifest_text(alloc, fault)?;
+            let _ = put_all(out, line.as_bytes());
+        }
+        _ => {
+            let _ = put_all(out, status.fault_line());
+        }
+    }
+    Ok(())
 }
 
 // Refuses the arguments.

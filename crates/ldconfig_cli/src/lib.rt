@@ -8,7 +8,6 @@ mod command;
 mod elf;
 mod entries;
 mod libraries;
-mod manifest;
 mod prepare;
 mod refusal;
 mod replace;

@@ -1,5 +1,5 @@
 //! What an update is about to write, made before it writes.
-ghost use Rattle.std.specs.Prelude.{◌≡◌, ◌⊎◌, ◌≤◌, None, Some, All, length, map, false, IfOk, IsErrOf, OnOk, IsSomeAnd, MatchResult};
+ghost use Rattle.std.specs.Prelude.{◌≡◌, ◌⊎◌, ◌≤◌, None, Some, All, length, map, true, false, IfOk, IfErr, IsErrOf, OnOk, IsSomeAnd, MatchResult};
 ghost use Rattle.std.specs.String.{string_bytes};
 ghost use Rattle.lib_types.specs.Counts.{HasRisen};
 ghost use Rattle.tree_face.specs.Disk.{KeepsAll};
@@ -7,20 +7,21 @@ ghost use Rattle.tree_face.specs.Known.{IfKnown};
 ghost use Rattle.tree_face.specs.Store.{BeginsAtMost};
 ghost use Rattle.ldconfig_cli.specs.Cache.{IsCacheOf, IsUpdateOf};
 ghost use Rattle.ldconfig_cli.specs.Devices.{IfBothKnown};
-ghost use Rattle.ldconfig_cli.specs.Libraries.{seen};
+ghost use Rattle.ldconfig_cli.specs.Libraries.{libraries, seen};
 ghost use Rattle.ldconfig_cli.specs.Manifest.{HasTree, manifest_of};
 ghost use Rattle.ldconfig_cli.specs.Outcome as outcomes;
-ghost use Rattle.ldconfig_cli.specs.Outcome.{outcome, files_to_read, begun_of};
-ghost use Rattle.ldconfig_cli.specs.Refusal.{status_of_refusal};
+ghost use Rattle.ldconfig_cli.specs.Outcome.{outcome, files_to_read, begun_of, is_unbuilt};
+ghost use Rattle.mtree_manifest.specs.declared.fault.ManifestFault.{ManifestFault};
+ghost use Rattle.ldconfig_cli.specs.Refusal.{status_of_refusal, IsOrNoMemory, IsOfLibraries, IsOfSlot};
 ghost use Rattle.ldconfig_cli.specs.Report.{report_line};
-ghost use Rattle.ldconfig_cli.specs.Update.{AreBegunFine, AreFineBefore, BeginsFiles, BeginsUpToFirst, ComesTo, HasManifest, HasNoManifest, LacksLibrary, needs_no_manifest};
+ghost use Rattle.ldconfig_cli.specs.Update.{AreBegunFine, AreFineBefore, BeginsFiles, BeginsUpToFirst, ComesTo, HasFault, HasManifest, HasNoManifest, LacksLibrary, needs_no_manifest};
 
+use crate::cache;
 use crate::check::{check_libraries, has_other_places};
 use crate::entries::entries;
-use crate::libraries::{ENTRIES_MAX, LibraryFile, libraries};
+use crate::libraries::{ENTRIES_MAX, LibraryFile, has_links_in, libraries_in, library_prefix};
 use crate::refusal::Refusal;
 use crate::report::report_line;
-use crate::{cache, manifest};
 use lib_types::NoMemory;
 use std::alloc::Global;
 use tree_face::{Disk, DiskRead, PATH_MAX, Slot, Store, Tree};
@@ -38,7 +39,7 @@ fn manifest_text<D: Disk>(alloc: Global, disk: &mut D) -> Result<Vec<u8>, Refusa
     ensures text { IfOk result (λ text. IfKnown (D.state disk.old).contents (λ content. content.now.manifest ≡ Some text.items)) }
     ensures no_manifest { IsErrOf result Refusal.NoManifest → HasNoManifest (D.state disk.old).contents }
     ensures cause { IsErrOf result Refusal.Disk → HasRisen (D.state disk.old).faults (D.state disk.new).faults }
-    ensures others { (IsErrOf result Refusal.NotBuilt → ⊥) × (IsErrOf result Refusal.Store → ⊥) }
+    ensures others { IfErr result IsOfSlot }
     ensures keeps { KeepsAll (D.state disk.old) (D.state disk.new) }
     ensures faults { (D.state disk.old).faults ≤ (D.state disk.new).faults }
     ensures not_counted { OnOk result ((D.state disk.new).read_faults ≡ (D.state disk.old).read_faults) }
@@ -67,6 +68,29 @@ fn prepare_libraries(alloc: Global, found: Vec<LibraryFile<'_>>) -> Result<Prepa
     Ok(Prepared { cache, count, line })
 }
 
+// The library files of a tree that is built.
+#[tactic(auto, unfolding(crate::specs::Libraries::libraries, crate::specs::Libraries::has_library_links))]
+fn find_libraries<'a>(alloc: Global, tree: &'a Tree) -> Result<Vec<LibraryFile<'a>>, Refusal>
+    ensures found { IfOk result (λ found. map seen found.items ≡ libraries tree.now) }
+    ensures built { OnOk result (is_unbuilt tree.now ≡ false) }
+    ensures few { IfOk result (λ found. length found.items ≤ ENTRIES_MAX) }
+    ensures short { IfOk result (λ found. All (λ library. length library.0 ≤ PATH_MAX) (map seen found.items)) }
+    ensures not_built { IsErrOf result Refusal.NotBuilt → is_unbuilt tree.now ≡ true }
+    ensures refusals { IfErr result (IsOrNoMemory Refusal.NotBuilt) }
+{
+    if has_other_places(alloc, tree)? {
+        return Err(Refusal::NotBuilt);
+    }
+    let Some(prefix) = library_prefix(alloc, tree)? else {
+        return Ok(Vec::new(alloc));
+    };
+    let found = libraries_in(alloc, tree, &prefix)?;
+    if found.len() > ENTRIES_MAX || has_links_in(tree, &prefix) {
+        return Err(Refusal::NotBuilt);
+    }
+    Ok(found)
+}
+
 // What the update of a tree is about to write.
 fn prepare_tree<S: Store>(alloc: Global, store: &mut S, tree: &Tree) -> Result<Prepared, Refusal>
     ensures update { IfOk result (λ prepared. IfKnown (S.state store.old).held
@@ -78,20 +102,14 @@ fn prepare_tree<S: Store>(alloc: Global, store: &mut S, tree: &Tree) -> Result<P
         ⊎ IsSomeAnd (S.state store.old).held (λ contents. outcome contents (HasTree tree.now) ≡ outcomes.Lacking) }
     ensures fine { IsErrOf result Refusal.Store →
         IfKnown (S.state store.old).held (λ held. AreFineBefore held (files_to_read (HasTree tree.now)) (S.state store.old) (S.state store.new)) }
-    ensures others { (IsErrOf result Refusal.Disk → ⊥) × (IsErrOf result Refusal.NoManifest → ⊥) }
+    ensures others { IfErr result IsOfLibraries }
     ensures held { (S.state store.new).held ≡ (S.state store.old).held }
     ensures begun { BeginsAtMost (length (files_to_read (HasTree tree.now))) (S.state store.old) (S.state store.new) }
     ensures begun_first { IfKnown (S.state store.old).held
         (λ held. BeginsAtMost (begun_of held (files_to_read (HasTree tree.now))) (S.state store.old) (S.state store.new)) }
     ensures faults { (S.state store.old).faults ≤ (S.state store.new).faults }
 {
-    if has_other_places(tree) {
-        return Err(Refusal::NotBuilt);
-    }
-    let found = libraries(alloc, tree)?;
-    if found.len() > ENTRIES_MAX {
-        return Err(Refusal::NotBuilt);
-    }
+    let found = find_libraries(alloc, tree)?;
     check_libraries(alloc, store, &found)?;
     let prepared = prepare_libraries(alloc, found)?;
     Ok(prepared)
@@ -109,6 +127,7 @@ pub fn prepare<S: Store, D: Disk>(
     ensures manifest { MatchResult result (λ _. HasManifest (D.state disk.old).contents)
         (λ refusal. needs_no_manifest (status_of_refusal refusal) ≡ false → HasManifest (D.state disk.old).contents) }
     ensures no_manifest { IsErrOf result Refusal.NoManifest → HasNoManifest (D.state disk.old).contents }
+    ensures bad_manifest { (fault : ManifestFault) → IsErrOf result (Refusal.BadManifest fault) → HasFault (D.state disk.old).contents fault }
     ensures not_built { IsErrOf result Refusal.NotBuilt → ComesTo (S.state store.old).held (D.state disk.old).contents outcomes.NotBuilt }
     ensures store_fault { IsErrOf result Refusal.Store → HasRisen (S.state store.old).faults (S.state store.new).faults
         ⊎ LacksLibrary (S.state store.old).held (D.state disk.old).contents }
@@ -123,6 +142,6 @@ pub fn prepare<S: Store, D: Disk>(
     ensures not_counted { OnOk result ((D.state disk.new).read_faults ≡ (D.state disk.old).read_faults) }
 {
     let text = manifest_text(alloc, disk)?;
-    let tree = manifest::read(alloc, &text)?;
+    let tree = mtree_manifest::read(alloc, &text)?;
     prepare_tree(alloc, store, &tree)
 }

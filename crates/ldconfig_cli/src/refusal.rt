@@ -1,10 +1,11 @@
 //! Why an update isn't made.
 ghost use Rattle.std.specs.Prelude.{◌≡◌};
-ghost use Rattle.ldconfig_cli.specs.Refusal.{status_of_refusal};
+ghost use Rattle.ldconfig_cli.specs.Refusal.{refusal_of, status_of_refusal};
 ghost use Rattle.ldconfig_cli.specs.declared.refusal.Refusal.TheVariants as refusals;
 
 use crate::status::Status;
 use lib_types::NoMemory;
+use mtree_manifest::ManifestFault;
 use std::alloc::AllocError;
 
 /// Why an update isn't made. Nothing was written then.
@@ -13,6 +14,8 @@ pub enum Refusal {
     /// The Manifest slot can't be read.
     Disk,
     NoManifest,
+    /// The manifest has no tree. This fault is never NoMemory.
+    BadManifest(ManifestFault),
     /// The image has what isn't built yet.
     NotBuilt,
     /// A library file can't be read.
@@ -36,6 +39,17 @@ impl From<AllocError> for Refusal {
     }
 }
 
+impl From<ManifestFault> for Refusal {
+    ghost from_gives = { λ fault e. e ≡ refusal_of fault };
+
+    fn from(fault: ManifestFault) -> Self {
+        match fault {
+            ManifestFault::NoMemory => Refusal::NoMemory,
+            _ => Refusal::BadManifest(fault),
+        }
+    }
+}
+
 impl From<Refusal> for Status {
     ghost from_gives = { λ refusal status. status ≡ status_of_refusal refusal };
 
@@ -43,6 +57,7 @@ impl From<Refusal> for Status {
         match refusal {
             Refusal::Disk => Status::DiskFault,
             Refusal::NoManifest => Status::NoManifest,
+            Refusal::BadManifest(fault) => Status::BadManifest(fault),
             Refusal::NotBuilt => Status::NotBuilt,
             Refusal::Store => Status::StoreFault,
             Refusal::NoMemory => Status::NoMemory,

@@ -1,6 +1,12 @@
 //! How a command ends.
-ghost use Rattle.std.specs.Prelude.{◌≡◌};
-ghost use Rattle.ldconfig_cli.specs.Status.{code_of, fault_line};
+ghost use Rattle.std.specs.Prelude.{◌≡◌, true, IfOk};
+ghost use Rattle.ldconfig_cli.specs.Status.{code_of, fault_line, kind_text, line_text, manifest_text};
+ghost use Rattle.std.specs.String.{string_bytes};
+ghost use Rattle.mtree_manifest.specs.declared.fault.ManifestFault.{ManifestFault};
+
+use lib_types::NoMemory;
+use mtree_manifest::{LineKind, ManifestFault};
+use std::alloc::Global;
 
 /// How a command ended.
 #[derive(Clone, Copy, Debug, PartialEq, Eq)]
@@ -9,6 +15,8 @@ pub enum Status {
     Done,
     /// The arguments are those of no command.
     Usage,
+    /// The manifest has no tree. This fault is never NoMemory.
+    BadManifest(ManifestFault),
     /// The store has failed, or doesn't hold a file that had to be read.
     StoreFault,
     /// The disk has failed.
@@ -31,6 +39,7 @@ impl Status {
         match self {
             Status::Done => 0,
             Status::Usage => 2,
+            Status::BadManifest(_) => 3,
             Status::StoreFault => 10,
             Status::DiskFault => 11,
             Status::OutputFault => 13,
@@ -40,9 +49,9 @@ impl Status {
         }
     }
 
-    // The fault line, empty for a status that has none.
+    // The fault line of a status that has always the same, empty if it has none.
     pub(crate) fn fault_line(self) -> &'static [u8]
-        ensures { result.now ≡ fault_line self }
+        ensures { ((fault : ManifestFault) → self ≡ Status.BadManifest fault → ⊥) → result.now ≡ fault_line self }
     {
         match self {
             Status::Usage => b"fault: Usage\n",
@@ -50,7 +59,41 @@ impl Status {
             Status::DiskFault => b"fault: DiskFault\n",
             Status::NoManifest => b"fault: NoManifest\n",
             Status::NotBuilt => b"fault: NotBuilt\n",
-            Status::Done | Status::OutputFault | Status::NoMemory => b"",
+            Status::Done | Status::OutputFault | Status::NoMemory | Status::BadManifest(_) => b"",
         }
+    }
+}
+
+fn kind_text(kind: LineKind) -> &'static str
+    ensures { result.now ≡ kind_text kind }
+{
+    match kind {
+        LineKind::BadLine => "BadLine",
+        LineKind::BadEscape => "BadEscape",
+        LineKind::BadNumber => "BadNumber",
+        LineKind::BadType => "BadType",
+        LineKind::NoTarget => "NoTarget",
+    }
+}
+
+fn line_text(alloc: Global, number: u64, kind: &str) -> Result<String, NoMemory>
+    ensures { IfOk result (λ line. string_bytes line ≡ line_text number kind.now) }
+{
+    let line = format!(in alloc; "fault: BadManifest line {number}: {kind}\n")?;
+    Ok(line)
+}
+
+/// The fault line of a manifest without a tree.
+pub(crate) fn manifest_text(alloc: Global, fault: ManifestFault) -> Result<String, NoMemory>
+    ensures { IfOk result (λ line. string_bytes line ≡ manifest_text fault) }
+{
+    match fault {
+        ManifestFault::TooLong { .. } => {
+            Ok(String::from_str(alloc, "fault: BadManifest: TooLong\n")?)
+        }
+        ManifestFault::Bad { line, kind } => line_text(alloc, line, kind_text(kind)),
+        ManifestFault::Clash { line } => line_text(alloc, line, "Clash"),
+        ManifestFault::TooMany { line } => line_text(alloc, line, "TooMany"),
+        ManifestFault::NoMemory => Ok(String::new(alloc)),
     }
 }

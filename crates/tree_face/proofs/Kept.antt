@@ -13,7 +13,9 @@ use Rattle.tree_face.specs.Paths.{path_cmp, is_path}
 use Rattle.tree_face.specs.Tree as tree
 use Rattle.tree_face.specs.Tree.{Nodes, IsPathSorted, IsTree, node_at, is_entry}
 use Rattle.tree_face.specs.Index.{IsIndexOf, IsGapFor}
+use Rattle.tree_face.specs.Runs.{joined, index_of, IsPlaceOf, IsGapAt}
 use Rattle.tree_face.specs.declared.node.Node.{Node}
+use Rattle.tree_face.specs.declared.tree.runs.Place.{Place}
 use Rattle.tree_face.proofs.Clear.{all_put, all_removed, clear_put, clear_removed}
 use Rattle.tree_face.proofs.Index.{replaced, inserted}
 use Rattle.tree_face.specs.Tree.{clashes}
@@ -32,9 +34,11 @@ module _ (t : Nodes) (path : List ℕ) (node : Node) (free : clashes t path node
   pub inserted_tree : (at : ℕ) → IsTree t → IsGapFor t path at → is_path path ≡ true → is_node node ≡ true → length t < 2 ^ 20 → IsTree (tree.put t path node)
   inserted_tree at h p q n few = put_tree h q n (rw (← inserted t path at node p) (let k = length-insert t at (path, node) p.within in omega arith))
 
-  pub tree_put : (place : Result ℕ ℕ) → MatchResult place (IsIndexOf t path) (IsGapFor t path) → IfErr place (λ _. length t < 2 ^ 20) → IsTree t → is_path path ≡ true → is_node node ≡ true → IsTree (tree.put t path node)
-  tree_put (Ok at) p room h q n = replaced_tree at h p q n
-  tree_put (Err at) p room h q n = inserted_tree at h p q n room
+-- with a node at the place that was found for its path
+pub tree_put : (runs : List Nodes) (path : List ℕ) (node : Node) → clashes (joined runs) path node ≡ false → (found : Result Place Place) → MatchResult found (IsPlaceOf runs path) (IsGapAt runs path)
+    → IfErr found (λ _. length (joined runs) < 2 ^ 20) → IsTree (joined runs) → is_path path ≡ true → is_node node ≡ true → IsTree (tree.put (joined runs) path node)
+tree_put runs path node free (Ok place) p room h q n = replaced_tree (joined runs) path node free (index_of runs place) h p.index q n
+tree_put runs path node free (Err place) p room h q n = inserted_tree (joined runs) path node free (index_of runs place) h p.gap q n room
 
 pub removed_tree : (t : Nodes) (path : List ℕ) → IsTree t → IsTree (tree.remove t path)
 removed_tree t path h = let k = fewer_removed (is_at (path_cmp path)) t in record { sorted = pairs.sorted_removed path_total (is_at (path_cmp path)) t h.sorted; entries = all_removed is_entry _ t h.entries; few = omega (arith, h.few); clear = clear_removed t (is_at (path_cmp path)) h.clear }

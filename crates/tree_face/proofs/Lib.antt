@@ -7,4 +7,5 @@ pub mod Names
 pub mod Order
 pub mod Pairs
 pub mod Rising
+pub mod Runs
 pub mod Streams

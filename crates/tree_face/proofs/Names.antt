@@ -1,13 +1,16 @@
 -- The names directly below a directory.
-use Rattle.std.proofs.Common.{◌≡◌, ℕ, zero, suc, ◌+◌, ◌≤◌, Bool, true, false, cond, nat_lt, Some, None, List, [], ◌∷◌, length, get_or, take, drop, refl, sym, ap, subst, ◌∙◌, ⊎_elim, arith, length-drop}
+use Rattle.std.proofs.Common.{◌≡◌, ℕ, zero, suc, ◌+◌, ◌≤◌, Bool, true, false, cond, nat_lt, nat_eq, map, ◌&&◌, Some, None, List, [], ◌∷◌, ◌++◌, length, get_or, take, drop, refl, sym, ap, subst, ◌∙◌, ⊎_elim, arith, length-drop}
 use Rattle.std.proofs.lemmas.Bool.{cases_lt, and_parts, and_from}
 use Rattle.std.proofs.lemmas.Bool.Decides.{nat_tests}
 use Rattle.std.proofs.lemmas.List.{get_or-drop, take_all}
-use Rattle.std.specs.List.{filter, AllWithin, list_all, position, position_or_len, before_first}
+use Rattle.std.proofs.lemmas.List.Sums.{take_while-cons, AllPass-from_list_all}
+use Rattle.std.specs.List.{filter, take_while, AllWithin, list_all, position, position_or_len, before_first, starts_with, dedup, dedup_from}
+use Rattle.std.specs.Str.{bytes_eq}
 use Rattle.std.specs.List.Sorted.{IsPartitionedBy, IsPartitionPoint}
 use Rattle.tree_face.proofs.Below.{below_as_later, none_before}
 use Rattle.lib_types.proofs.SortedPairs.{by_test}
-use Rattle.tree_face.specs.Paths.{is_path, is_below, root}
+use Rattle.tree_face.specs.Paths.{is_path, is_below, root, name_behind}
+use Rattle.tree_face.specs.Runs.{names_behind}
 use Rattle.tree_face.specs.Index.{IsBehind}
 use Rattle.tree_face.specs.Tree.{Nodes, IsPathSorted, is_entry}
 use Rattle.tree_face.specs.declared.node.Node.{Node}
@@ -28,17 +31,20 @@ module _ {X : Type 0} (p : X → Bool) where
       ap (λ b. cond b (x ∷ filter p xs) (filter p xs)) (none 0 x (omega arith) (omega arith))
       ∙ filter_none xs (λ k d low high. none (suc k) d (omega arith) (omega arith))
 
-  pub filter_front : (xs : List X) (n : ℕ) → n ≤ length xs → IsPartitionPoint (λ x. p x ≡ true) (λ x. p x ≡ false) xs n → take n xs ≡ filter p xs
-  filter_front xs zero h parts = sym (filter_none xs parts.1)
-  filter_front [] (suc n) h parts = refl
-  filter_front (x ∷ xs) (suc n) h parts =
-      ap (λ l. x ∷ l) (filter_front xs n (omega arith)
-      (λ k d low high. parts.0 (suc k) d (omega arith) (omega arith), λ k d low high. parts.1 (suc k) d (omega arith) (omega arith)))
-      ∙ sym (ap (λ b. cond b (x ∷ filter p xs) (filter p xs)) (parts.0 0 x (omega arith) (omega arith)))
-
-  pub filter_all : (xs : List X) → list_all p xs ≡ true → xs ≡ filter p xs
-  filter_all [] all = refl
-  filter_all (x ∷ xs) all = ap (λ l. x ∷ l) (filter_all xs (and_parts _ _ all).1) ∙ sym (ap (λ b. cond b (x ∷ filter p xs) (filter p xs)) (and_parts _ _ all).0)
+  -- if those that pass come first, they are what a walk takes that ends at the first that doesn't
+  pub taken_first : (xs : List X) → IsPartitionedBy p xs → take_while p xs ≡ filter p xs
+  taken_first [] parts = refl
+  taken_first (x ∷ xs) parts = by_test (p x)
+      (λ e.
+      take_while-cons p x xs ∙ ap (λ b. cond b (x ∷ take_while p xs) []) e
+      ∙ ap (λ l. x ∷ l) (taken_first xs (λ i j d h l f. parts (suc i) (suc j) d (omega arith) (omega arith) f))
+      ∙ sym (ap (λ b. cond b (x ∷ filter p xs) (filter p xs)) e))
+      (λ e.
+      let none = filter_none xs (λ k d low high. by_test (p (get_or xs k d))
+      (λ f. let g : p x ≡ true = parts 0 (suc k) d (omega arith) (omega arith) f in absurd (cc))
+      (λ f. f)) in
+      take_while-cons p x xs ∙ ap (λ b. cond b (x ∷ take_while p xs) []) e ∙ sym none
+      ∙ sym (ap (λ b. cond b (x ∷ filter p xs) (filter p xs)) e))
 
 -- ---- what lies below a path
 
@@ -50,28 +56,18 @@ module _ (t : Nodes) (path : List ℕ) (at : ℕ) (proper : is_path path ≡ tru
       (λ ge. let same : j ≡ i = omega arith in subst (λ (n : ℕ). is_below path (get_or (drop at t) n d).0 ≡ true) same e)
       (cases_lt i j)
 
-  pub below_is_front : (n : ℕ) → n ≤ length (drop at t) → IsPartitionPoint (λ e. is_below path e.0 ≡ true) (λ e. is_below path e.0 ≡ false) (drop at t) n
-      → take n (drop at t) ≡ filter (λ e. is_below path e.0) t
-  below_is_front n h parts =
-      filter_front (λ (e : List ℕ × Node). is_below path e.0) (drop at t) n h parts
+  pub below_taken : IsPathSorted t → take_while (λ e. is_below path e.0) (drop at t) ≡ filter (λ e. is_below path e.0) t
+  below_taken sorted =
+      taken_first (λ (e : List ℕ × Node). is_below path e.0) (drop at t) (below_first sorted)
       ∙ filter_none_before (λ (e : List ℕ × Node). is_below path e.0) t at behind.within (λ k d low high. none_before t path at proper behind k d high)
-
-  -- the same of a slice from this index on
-  pub below_cut : (rest : Nodes) → rest ≡ drop at t → (n : ℕ) → n ≤ length rest → IsPathSorted t
-      → (IsPartitionedBy (λ e. is_below path e.0) rest → IsPartitionPoint (λ e. is_below path e.0 ≡ true) (λ e. is_below path e.0 ≡ false) rest n)
-      → take n rest ≡ filter (λ e. is_below path e.0) t
-  below_cut rest e n h sorted cut =
-      let P : Nodes → Type 0 = λ r. IsPartitionedBy (λ (e : List ℕ × Node). is_below path e.0) r in
-      let Q : Nodes → Type 0 = λ r. (n ≤ length r) × IsPartitionPoint (λ (e : List ℕ × Node). is_below path e.0 ≡ true) (λ (e : List ℕ × Node). is_below path e.0 ≡ false) r n in
-      let q = subst Q e (h, cut (subst P (sym e) (below_first sorted))) in
-      ap (λ (r : Nodes). take n r) e ∙ below_is_front n q.0 q.1
 
 all_below_root : (t : Nodes) → list_all is_entry t ≡ true → list_all (λ e. is_below root e.0) t ≡ true
 all_below_root [] all = refl
 all_below_root (e ∷ t) all = and_from _ _ (and_parts _ _ (and_parts _ _ (and_parts _ _ (and_parts _ _ all).0).0).0).1 (all_below_root t (and_parts _ _ all).1)
 
-pub below_root : (t : Nodes) → list_all is_entry t ≡ true → t ≡ filter (λ e. is_below root e.0) t
-below_root t all = filter_all (λ (e : List ℕ × Node). is_below root e.0) t (all_below_root t all)
+pub below_root : (t : Nodes) → list_all is_entry t ≡ true → take_while (λ e. is_below root e.0) t ≡ filter (λ e. is_below root e.0) t
+below_root t all = taken_first (λ (e : List ℕ × Node). is_below root e.0) t
+    (λ i j d h l e. AllPass-from_list_all (λ (e : List ℕ × Node). is_below root e.0) t (all_below_root t all) i d (omega arith))
 
 -- ---- the first name of a path
 
@@ -87,3 +83,33 @@ module _ {X : Type 0} (p : X → Bool) (xs : List X) where
   before_none h = by_test (nat_lt (position_or_len p xs) (length xs))
       (λ e. let f : None ≡ Some (position_or_len p xs) = h ∙ ap (λ b. cond b (Some (position_or_len p xs)) None) e in absurd (cc))
       (λ e. let long : length xs ≤ position_or_len p xs = grind (arith, nat_tests) in sym (take_all (position_or_len p xs) xs long))
+
+-- ---- the entries of one child
+
+child_first : (folder : List ℕ) (e : List ℕ × Node) (t : Nodes) → starts_with nat_eq e.0 folder ≡ true → names_behind folder (e ∷ t) ≡ name_behind (length folder) e.0 ∷ names_behind folder t
+child_first folder e t starts =
+    let test = λ (x : List ℕ × Node). starts_with nat_eq x.0 folder in
+    ap (map (λ (x : List ℕ × Node). name_behind (length folder) x.0)) (take_while-cons test e t ∙ ap (λ b. cond b (e ∷ take_while test t) []) starts)
+
+-- the names that begin with a child, given what is left behind its entries
+pub child_taken : (folder : List ℕ) (e : List ℕ × Node) (t rest : Nodes) (name : List ℕ) → starts_with nat_eq e.0 folder ≡ true → name ≡ name_behind (length folder) e.0
+    → dedup_from bytes_eq name (names_behind folder t) ≡ name ∷ dedup bytes_eq (names_behind folder rest) → dedup bytes_eq (names_behind folder (e ∷ t)) ≡ name ∷ dedup bytes_eq (names_behind folder rest)
+child_taken folder e t rest name starts same skipped =
+    ap (dedup bytes_eq) (child_first folder e t starts) ∙ ap (λ n. dedup_from bytes_eq n (names_behind folder t)) (sym same) ∙ skipped
+
+-- an entry of the same child adds no name
+pub child_skipped : (folder name : List ℕ) (e : List ℕ × Node) (t : Nodes) → (starts_with nat_eq e.0 folder && bytes_eq (name_behind (length folder) e.0) name) ≡ true
+    → dedup_from bytes_eq name (names_behind folder (e ∷ t)) ≡ dedup_from bytes_eq name (names_behind folder t)
+child_skipped folder name e t same =
+    let both = and_parts (starts_with nat_eq e.0 folder) (bytes_eq (name_behind (length folder) e.0) name) same in
+    ap (dedup_from bytes_eq name) (child_first folder e t both.0)
+    ∙ ap (λ b. cond b (dedup_from bytes_eq name (names_behind folder t)) (name ∷ dedup_from bytes_eq (name_behind (length folder) e.0) (names_behind folder t))) both.1
+
+-- ---- the folder of a path
+
+pub folder_taken : (f q r : List ℕ) → q ≡ f ++ r → take (length f) q ≡ f
+folder_taken f q r e = ap (take (length f)) e ∙ front f r
+  where
+    front : (f r : List ℕ) → take (length f) (f ++ r) ≡ f
+    front [] r = refl
+    front (x ∷ f) r = ap (λ l. x ∷ l) (front f r)

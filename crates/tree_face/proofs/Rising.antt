@@ -72,7 +72,7 @@ without_front : (f s u : List ℕ) → path_cmp (f ++ s) (f ++ u) ≡ path_cmp s
 without_front [] s u = refl
 without_front (x ∷ f) s u = cmp_step x x (f ++ s) (f ++ u) Equal (nat_cmp_itself (path_rank x)) ∙ without_front f s u
 
-below_rest : (p q : List ℕ) → is_below p q ≡ true → q ≡ folder p ++ drop (length (folder p)) q
+pub below_rest : (p q : List ℕ) → is_below p q ≡ true → q ≡ folder p ++ drop (length (folder p)) q
 below_rest p q h = (starts_is Decides-eqb q (folder p) (is_below p q) refl).0 h
 
 names_of_later : (p q r : List ℕ) → is_below p q ≡ true → is_below p r ≡ true → path_cmp q r ≡ Less → IsNotBelow (name_behind (length (folder p)) r) (name_behind (length (folder p)) q)

@@ -7,6 +7,7 @@ pub mod MemStore
 pub mod Memory
 pub mod Node
 pub mod Paths
+pub mod Runs
 pub mod SlotFile
 pub mod Store
 pub mod Stream

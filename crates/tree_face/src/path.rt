@@ -1,5 +1,5 @@
 //! Paths of a tree and their order.
-ghost use Rattle.std.specs.Prelude.{◌≡◌, ℕ, ◌+◌, ◌==◌, ◌^◌, ◌<◌, IfSome, length};
+ghost use Rattle.std.specs.Prelude.{◌≡◌, ℕ, ◌+◌, ◌==◌, ◌^◌, ◌<◌, IfSome, IsTrue, length};
 ghost use Rattle.tree_face.specs.Paths.{is_path, are_names, path_cmp, path_rank, stem, folder, is_below, name_behind};
 ghost use Rattle.std.specs.List.{before_first, position};
 
@@ -62,11 +62,20 @@ pub(crate) fn is_below(path: &[u8], other: &[u8]) -> bool
 }
 
 /// The offset, in each path below this one, of the name directly below.
-pub(crate) fn folder_len(path: &[u8]) -> usize
+fn folder_len(path: &[u8]) -> usize
     requires { length path.now < 2 ^ 32 }
     ensures { result ≡ length (folder path.now) }
 {
     stem(path).len() + 1
+}
+
+/// The prefix of a path below this one that ends directly before the name of the child.
+pub(crate) fn folder_in<'a>(path: &[u8], other: &'a [u8]) -> &'a [u8]
+    requires short { length path.now < 2 ^ 32 }
+    requires below { IsTrue (is_below path.now other.now) }
+    ensures { result.now ≡ folder path.now }
+{
+    &other[..folder_len(path)]
 }
 
 /// The name that begins at this offset of a path.

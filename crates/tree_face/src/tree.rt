@@ -3,14 +3,18 @@ ghost use Rattle.std.specs.Prelude.{◌≡◌, ◌↔◌, false, [], OnOk, OnErr
 ghost use Rattle.std.specs.Option.{option_copied, is_some};
 
 use crate::node::Node;
-use crate::path::{folder_len, is_path, name_from};
+use crate::path::{folder_in, is_below, is_path};
 use lib_types::NoMemory;
 use std::alloc::Global;
 use std::marker::Model;
 
 mod entries;
+mod rest;
+mod run;
+mod runs;
 
-use entries::PathEntry;
+use rest::Rest;
+use run::Run;
 
 /// The most nodes of a tree: as many files as large images have, with room for more. It bounds what a manifest can make
 /// an update take.
@@ -51,17 +55,22 @@ impl From<NoMemory> for TreeFault {
 #[derive(Drop)]
 pub struct Tree {
     alloc: Global,
-    entries: Vec<PathEntry>,
+    // the entries in sorted runs
+    runs: Vec<Run>,
+    // the number of nodes
+    count: usize,
 }
 
 impl Model for Tree {
-    ghost use Rattle.tree_face.specs.Tree.{Nodes, IsTree};
+    ghost use Rattle.std.specs.Prelude.{◌≡◌, length};
+    ghost use Rattle.tree_face.specs.Runs.{joined, AreRuns};
+    ghost use Rattle.tree_face.specs.Tree.{Nodes};
 
     ghost Value = { Nodes };
 
-    ghost view = { λ t. t.entries.items };
+    ghost view = { λ t. joined t.runs.items };
 
-    ghost invariant = { λ t. IsTree t.entries.items };
+    ghost invariant = { λ t. AreRuns t.runs.items × (t.count ≡ length (joined t.runs.items)) };
 }
 
 impl Tree {
@@ -78,7 +87,8 @@ impl Tree {
     {
         Tree {
             alloc,
-            entries: Vec::new(alloc),
+            runs: Vec::new(alloc),
+            count: 0,
         }
     }
 
@@ -86,7 +96,7 @@ impl Tree {
     pub fn len(&self) -> usize
         ensures { result ≡ length self.now }
     {
-        self.entries.len()
+        self.count
     }
 
     /// The node of the path, found by a search among the sorted paths.
@@ -95,7 +105,7 @@ impl Tree {
         ensures at_paths { IsSome (node_at self.now path.now) → IsTrue (is_path path.now) }
         ensures sorted { IsPathSorted self.now }
     {
-        entries::node(&self.entries, path)
+        entries::node(&self.runs, path)
     }
 
     /// What is at the path. The root is a directory; a text that is neither the root nor a path is absent.
@@ -108,7 +118,7 @@ impl Tree {
         if !is_path(path) {
             return Kind::Absent;
         }
-        entries::kind(&self.entries, path)
+        entries::kind(&self.runs, path)
     }
 
     /// Puts the node at the path, instead of the one that is there.
@@ -122,8 +132,8 @@ impl Tree {
         ensures clash { (result ≡ Err TreeFault.Clash) ↔ IsTrue (clashes self.old path.now node) }
         ensures full { (result ≡ Err TreeFault.Full) ↔ ((clashes self.old path.now node ≡ false) × IsTrue (has_no_room self.old path.now)) }
     {
-        let found = entries::find_for(&self.entries, path, &node)?;
-        entries::put_at(self.alloc, &mut self.entries, found, path, node)?;
+        let found = entries::find_for(&self.runs, self.count, path, &node)?;
+        self.count = entries::put_at(self.alloc, &mut self.runs, self.count, found, path, node)?;
         Ok(())
     }
 
@@ -132,7 +142,11 @@ impl Tree {
         ensures list { self.new ≡ remove self.old path.now }
         ensures found { result ≡ is_some (node_at self.old path.now) }
     {
-        entries::remove(&mut self.entries, path)
+        let found = entries::remove(&mut self.runs, path);
+        if found {
+            self.count -= 1;
+        }
+        found
     }
 
     /// The names directly below a directory, in the order of their bytes.
@@ -141,14 +155,8 @@ impl Tree {
         ensures sorted { IsStrictlySortedBy (slice_cmp nat_cmp) result }
     {
         match self.kind(path) {
-            Kind::Dir => Children {
-                rest: entries::below(&self.entries, path),
-                start: folder_len(path),
-            },
-            _ => Children {
-                rest: &[],
-                start: 0,
-            },
+            Kind::Dir => Children::of(entries::below(&self.runs, path), path),
+            _ => Children::none(),
         }
     }
 
@@ -159,7 +167,7 @@ impl Tree {
         ensures tree { IsTree self.now }
     {
         Nodes {
-            rest: self.entries.as_slice(),
+            rest: Rest::all(&self.runs),
         }
     }
 }
@@ -167,7 +175,7 @@ impl Tree {
 /// The nodes of a tree that are still to come.
 #[derive(Drop)]
 pub struct Nodes<'a> {
-    rest: &'a [PathEntry],
+    rest: Rest<'a>,
 }
 
 impl<'a> Model for Nodes<'a> {
@@ -175,7 +183,7 @@ impl<'a> Model for Nodes<'a> {
 
     ghost Value = { Nodes };
 
-    ghost view = { λ s. s.rest.now };
+    ghost view = { λ s. s.rest };
 }
 
 impl<'a> Iterator for Nodes<'a> {
@@ -197,20 +205,51 @@ impl<'a> Iterator for Nodes<'a> {
 /// The names below a directory that are still to come.
 #[derive(Drop)]
 pub struct Children<'a> {
-    rest: &'a [PathEntry],
-    // the offset of the name in each path
-    start: usize,
+    rest: Rest<'a>,
+    // the prefix of each path of a child, which ends directly before the name
+    folder: &'a [u8],
 }
 
 impl<'a> Model for Children<'a> {
-    ghost use Rattle.std.specs.Prelude.{ℕ, List, map};
+    ghost use Rattle.std.specs.Prelude.{ℕ, List};
     ghost use Rattle.std.specs.List.{dedup};
     ghost use Rattle.std.specs.Str.{bytes_eq};
-    ghost use Rattle.tree_face.specs.Paths.{name_behind};
+    ghost use Rattle.tree_face.specs.Runs.{names_behind};
 
     ghost Value = { List (List ℕ) };
 
-    ghost view = { λ s. dedup bytes_eq (map (λ e. name_behind s.start e.0) s.rest.now) };
+    ghost view = { λ s. dedup bytes_eq (names_behind s.folder.now s.rest) };
+}
+
+impl<'a> Children<'a> {
+    ghost use Rattle.std.specs.Prelude.{map, ◌<◌, ◌^◌};
+    ghost use Rattle.std.specs.List.{dedup, take_while};
+    ghost use Rattle.std.specs.Str.{bytes_eq};
+    ghost use Rattle.tree_face.specs.Paths.{is_below, folder, name_behind};
+
+    // No names.
+    fn none() -> Children<'a>
+        ensures { result ≡ [] }
+    {
+        Children {
+            rest: Rest::none(),
+            folder: b"",
+        }
+    }
+
+    // The names directly below the path, given entries whose first are all that lie below it.
+    fn of(rest: Rest<'a>, path: &[u8]) -> Children<'a>
+        requires { length path.now < 2 ^ 32 }
+        ensures { result ≡ dedup bytes_eq (map (λ e. name_behind (length (folder path.now)) e.0) (take_while (λ e. is_below path.now e.0) rest.entry)) }
+    {
+        match rest.split_first() {
+            Some((first, _)) if is_below(path, first.0.as_bytes()) => {
+                let folder = folder_in(path, first.0.as_bytes());
+                Children { rest, folder }
+            }
+            _ => Children::none(),
+        }
+    }
 }
 
 impl<'a> Iterator for Children<'a> {
@@ -223,9 +262,8 @@ impl<'a> Iterator for Children<'a> {
     ghost remaining = { item_count (λ s. s) };
 
     fn next(&mut self) -> Option<&'a [u8]> {
-        let (first, others) = self.rest.split_first()?;
-        let name = name_from(first.0.as_bytes(), self.start);
-        self.rest = entries::skip_child(others, name, self.start);
+        let (name, rest) = entries::first_child(&self.rest, self.folder)?;
+        self.rest = rest;
         Some(name)
     }
 }

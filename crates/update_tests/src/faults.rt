@@ -8,6 +8,7 @@ use crate::fixture::{
 use crate::samples::{LIBZ, ONE_CACHE};
 use ldconfig_cli::{Status, run};
 use lib_types::Failed;
+use mtree_manifest::{LineKind, ManifestFault};
 use std::alloc::Global;
 use std::process::Abort;
 use std::test::Fail;
@@ -102,7 +103,17 @@ fn the_sink_fails(rt: HostRuntime) -> Result<(), Fail> {
     let rows = [
         (LIBZ_MANIFEST, new),
         // the first fault decides
-        (b"", refused(Status::NotBuilt, b"")),
+        (b"#mtree\n./lib type=dir\n", refused(Status::NotBuilt, b"")),
+        (
+            b"./a type=x\n",
+            refused(
+                Status::BadManifest(ManifestFault::Bad {
+                    line: 1,
+                    kind: LineKind::BadType,
+                }),
+                b"",
+            ),
+        ),
         (
             b"#mtree\n./usr/lib/liba.so.1 type=file\n",
             refused(Status::StoreFault, b""),

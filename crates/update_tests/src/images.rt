@@ -15,8 +15,9 @@ fn an_image_without_libraries_has_an_empty_cache(rt: HostRuntime) -> Result<(), 
     let alloc = rt.alloc();
     let manifests = [
         b"#mtree\n".as_slice(),
-        // the first and the last byte that need no escape
-        b"#mtree\n./! type=file\n./~ type=dir\n",
+        // a manifest's forms: no head, defaults, relative names, escapes, nodes that aren't kept
+        b"",
+        b"#mtree\n/set type=file\n. type=dir\n usr type=dir\n  a\\040b size=1\n ..\n..\ndev type=char\r\n",
         // a line that replaces another
         b"#mtree\n./a type=file\n./a type=file\n./a type=dir\n./a/b type=file\n",
         // no files of /usr/lib itself with library names
@@ -25,6 +26,9 @@ fn an_image_without_libraries_has_an_empty_cache(rt: HostRuntime) -> Result<(), 
         // neighbours of the paths that aren't built
         b"#mtree\n./etc/ld.so.conf.d type=dir\n./lib6 type=dir\n./lib64.so type=file\n",
         b"#mtree\n./usr/lib6 type=dir\n./usr/lib/glibc-hwcaps.d type=dir\n",
+        // links that lead nowhere, and links that are no library's
+        b"#mtree\n./lib type=link link=none\n./usr/lib/libz.a type=link link=x\n",
+        b"#mtree\n./usr/lib type=link link=none\n./none2/libz.so.1 type=file\n",
     ];
     let want = done(b"0 libs, 0 links, 0 files opened\n", EMPTY_CACHE);
     for manifest in manifests {
@@ -42,6 +46,18 @@ fn one_library(rt: HostRuntime) -> Result<(), Fail> {
     let devices = assert_update(&rt, alloc, image(LIBZ_MANIFEST), held, want)?;
     assert_eq!(rt; devices.store.begun(), 1);
     assert_eq!(rt; devices.disk.calls(), replacing_calls().as_slice());
+    Ok(())
+}
+
+// `/usr/lib` is where it leads, and the entry's path as it is spelled.
+#[test]
+fn a_folder_that_is_a_link(rt: HostRuntime) -> Result<(), Fail> {
+    let alloc = rt.alloc();
+    let manifest =
+        b"usr type=dir\n lib type=link link=../x\n..\n./x/libz.so.1 inode=1 ctime=2 size=251\n";
+    let held = one(alloc, b"x/libz.so.1", &LIBZ)?;
+    let want = done(LIBZ_REPORT, ONE_CACHE);
+    let _ = assert_update(&rt, alloc, image(manifest), held, want)?;
     Ok(())
 }
 

@@ -5,61 +5,56 @@ use crate::fixture::{
 };
 use crate::samples::{I386_LIBZ, LIBZ};
 use ldconfig_cli::Status;
+use mtree_manifest::{LineKind, ManifestFault};
 use std::test::Fail;
 use tree_face::{Disk, Slot};
 
+// The kinds of line faults are tried by the tests of manifests; here one of each form of fault line.
 #[test]
-fn other_manifests_are_not_built(rt: HostRuntime) -> Result<(), Fail> {
+fn bad_manifests_are_refused(rt: HostRuntime) -> Result<(), Fail> {
     let alloc = rt.alloc();
-    let manifests = [
-        b"".as_slice(),
-        b"#mtree",
-        b"#MTREE\n",
-        b"./a type=dir\n",
-        b"\n#mtree\n",
-        b"#mtree \n",
-        // lines of another form
-        b"#mtree\n\n",
-        b"#mtree\n# a comment\n",
-        b"#mtree\n/set type=file\n",
-        b"#mtree\n./a type=dir",
-        b"#mtree\n./a type=dir\r\n",
-        b"#mtree\n./a\n",
-        b"#mtree\n./a type=\n",
-        b"#mtree\n./a type=link\n",
-        b"#mtree\n./a type=link link=b\n",
-        b"#mtree\n./a type=file size=1\n",
-        b"#mtree\n./a size=1 type=file\n",
-        b"#mtree\n./a  type=dir\n",
-        b"#mtree\n ./a type=dir\n",
-        b"#mtree\n./a type=dir \n",
-        b"#mtree\n./a\ttype=dir\n",
-        // bytes that need an escape
-        b"#mtree\n./a#b type=dir\n",
-        b"#mtree\n./a\\040b type=dir\n",
-        b"#mtree\n./a\x1fb type=dir\n",
-        b"#mtree\n./a\x7fb type=dir\n",
-        b"#mtree\n./a\xc3\xa9 type=dir\n",
-        // no paths
-        b"#mtree\na type=dir\n",
-        b"#mtree\na/b type=dir\n",
-        b"#mtree\n/a type=dir\n",
-        b"#mtree\n. type=dir\n",
-        b"#mtree\n./ type=dir\n",
-        b"#mtree\n./a/ type=dir\n",
-        b"#mtree\n.//a type=dir\n",
-        b"#mtree\n./a/./b type=dir\n",
-        b"#mtree\n./a/../b type=dir\n",
-        // something below a file
-        b"#mtree\n./a type=file\n./a/b type=file\n",
-        b"#mtree\n./a/b/c type=dir\n./a type=file\n",
+    let rows: [(&[u8], ManifestFault, &[u8]); 6] = [
+        (
+            b"a\n/b type=dir\n",
+            bad(2, LineKind::BadLine),
+            b"fault: BadManifest line 2: BadLine\n",
+        ),
+        (
+            b"./a\\q\n",
+            bad(1, LineKind::BadEscape),
+            b"fault: BadManifest line 1: BadEscape\n",
+        ),
+        (
+            b"a size=x\n",
+            bad(1, LineKind::BadNumber),
+            b"fault: BadManifest line 1: BadNumber\n",
+        ),
+        (
+            b"a type=\n",
+            bad(1, LineKind::BadType),
+            b"fault: BadManifest line 1: BadType\n",
+        ),
+        (
+            b"a type=link\n",
+            bad(1, LineKind::NoTarget),
+            b"fault: BadManifest line 1: NoTarget\n",
+        ),
+        (
+            b"a\n./a/b\n",
+            ManifestFault::Clash { line: 2 },
+            b"fault: BadManifest line 2: Clash\n",
+        ),
     ];
-    let want = refused(Status::NotBuilt, b"fault: NotBuilt\n");
-    for manifest in manifests {
+    for (manifest, fault, line) in rows {
+        let want = refused(Status::BadManifest(fault), line);
         let devices = assert_update(&rt, alloc, image(manifest), Vec::new(alloc), want)?;
         assert!(rt; devices.disk.calls().is_empty());
     }
     Ok(())
+}
+
+fn bad(line: u64, kind: LineKind) -> ManifestFault {
+    ManifestFault::Bad { line, kind }
 }
 
 #[test]
@@ -70,10 +65,13 @@ fn other_places_are_not_built(rt: HostRuntime) -> Result<(), Fail> {
         b"./etc/ld.so.conf/a type=file\n",
         b"./lib type=dir\n",
         b"./lib type=file\n",
+        b"./lib type=link link=usr\n",
         b"./lib64/a type=file\n",
         b"./usr/lib64 type=dir\n",
         b"./usr/lib/glibc-hwcaps type=dir\n",
         b"./usr/lib/glibc-hwcaps/x86-64-v3/libz.so.1 type=file\n",
+        // a library's link
+        b"./usr/lib/libz.so type=link link=none\n",
     ];
     let want = refused(Status::NotBuilt, b"fault: NotBuilt\n");
     for line in lines {
@@ -167,6 +165,7 @@ fn the_exit_statuses(rt: HostRuntime) {
     for (status, code) in [
         (Status::Done, 0),
         (Status::Usage, 2),
+        (Status::BadManifest(bad(1, LineKind::BadType)), 3),
         (Status::StoreFault, 10),
         (Status::DiskFault, 11),
         (Status::OutputFault, 13),

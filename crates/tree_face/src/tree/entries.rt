@@ -1,125 +1,86 @@
-//! The sorted list of paths and nodes.
-ghost use Rattle.std.specs.Prelude.{◌≡◌, ◌≢◌, ◌∷◌, map, ◌⊎◌, ℕ, ◌<◌, ◌≤◌, ◌^◌, IfOk, IfErr, OnOk, OnErr, ◌↔◌, ◌+◌, IsTrue, false, None, MatchResult, length, slice_index_or, slice_set};
-ghost use Rattle.std.specs.List.{filter, dedup, dedup_from};
+//! What a tree has at a path, and how that changes.
+ghost use Rattle.std.specs.Prelude.{◌≡◌, ◌≢◌, ◌∷◌, map, ◌⊎◌, ℕ, ◌<◌, ◌≤◌, ◌^◌, IfOk, IfErr, OnOk, OnErr, ◌↔◌, ◌+◌, IsTrue, false, true, None, MatchResult, MatchOption, [], length, slice_index_or, nat_eq, ◌&&◌};
+ghost use Rattle.std.specs.List.{filter, dedup, dedup_from, take_while, starts_with};
 ghost use Rattle.std.specs.Str.{bytes_eq};
 ghost use Rattle.std.specs.Option.{option_copied, is_some};
 ghost use Rattle.tree_face.specs.Paths.{path_cmp, root, is_path, is_below, name_behind};
-ghost use Rattle.tree_face.specs.Index.{IsIndexOf, IsGapFor, IsBehind, is_file_above, has_file_above};
+ghost use Rattle.tree_face.specs.Index.{IsBehind, is_file_above, has_file_above};
+ghost use Rattle.tree_face.specs.Runs.{joined, are_runs, index_of, names_behind, AreRuns, IsEntryPlace, IsPlace, IsPlaceOf, IsGapAt};
 ghost use Rattle.tree_face.specs.Tree.{IsPathSorted, IsTree, node_at, has_below, clashes, has_no_room, kind_of, kind_there, put, remove};
 
-use super::{Kind, NODES_MAX, TreeFault};
+use super::rest::Rest;
+use super::run::{PathEntry, Run};
+use super::runs::{Place, entry_at, entry_before, entry_from, find};
+use super::{Kind, NODES_MAX, TreeFault, runs as places};
 use crate::node::{Node, is_dir};
-use crate::path::{compare, is_below, name_from};
+use crate::path::{is_below, name_from};
 use lib_types::{NoMemory, Text};
 use std::alloc::Global;
-use std::cmp::Ordering;
 
-/// A path and its node.
-pub(super) type PathEntry = (Text, Node);
-
-// Whether the path comes after all entries.
-fn is_after_all(entries: &Vec<PathEntry>, path: &[u8]) -> bool
-    requires { IsPathSorted entries.now.items }
-    ensures { IsTrue result → IsGapFor entries.now.items path.now (length entries.now.items) }
+// The node of the entry at this place.
+fn node_of(runs: &Vec<Run>, place: Place) -> &Node
+    requires { IsEntryPlace runs.now.items place }
+    ensures { (d : _) → result.now ≡ (slice_index_or (joined runs.now.items) (index_of runs.now.items place) d).1 }
 {
-    match entries.len() {
-        0 => true,
-        count => compare(path_of(entries, count - 1), path).is_lt(),
-    }
-}
-
-fn search(entries: &Vec<PathEntry>, path: &[u8]) -> Result<usize, usize>
-    requires { IsPathSorted entries.now.items }
-    ensures found { IfOk result (IsIndexOf entries.now.items path.now) }
-    ensures absent { IfErr result (IsGapFor entries.now.items path.now) }
-{
-    entries.binary_search_by(
-        |entry: &PathEntry| -> Ordering
-            ensures { result ≡ path_cmp entry.now.0 path.entry.now }
-        { compare(entry.0.as_bytes(), path) },
-    )
-}
-
-/// The index of the path's entry, or that at which it would be inserted. The lines of a sorted manifest each come after
-/// all others, so that case takes no search.
-pub(super) fn find(entries: &Vec<PathEntry>, path: &[u8]) -> Result<usize, usize>
-    requires { IsPathSorted entries.now.items }
-    ensures found { IfOk result (IsIndexOf entries.now.items path.now) }
-    ensures absent { IfErr result (IsGapFor entries.now.items path.now) }
-{
-    if is_after_all(entries, path) {
-        return Err(entries.len());
-    }
-    search(entries, path)
-}
-
-// The node of the entry at this index.
-fn node_of(entries: &Vec<PathEntry>, index: usize) -> &Node
-    requires { index < length entries.now.items }
-    ensures { (d : _) → result.now ≡ (slice_index_or entries.now.items index d).1 }
-{
-    &entries[index].1
+    &entry_at(runs, place).1
 }
 
 /// The node of the path.
-pub(super) fn node<'a>(entries: &'a Vec<PathEntry>, path: &[u8]) -> Option<&'a Node>
-    requires { IsPathSorted entries.now.items }
-    ensures { option_copied result ≡ node_at entries.now.items path.now }
+pub(super) fn node<'a>(runs: &'a Vec<Run>, path: &[u8]) -> Option<&'a Node>
+    requires runs { IsTrue (are_runs runs.now.items) }
+    requires sorted { IsPathSorted (joined runs.now.items) }
+    ensures { option_copied result ≡ node_at (joined runs.now.items) path.now }
 {
-    match find(entries, path) {
-        Ok(index) => Some(node_of(entries, index)),
+    match find(runs, path) {
+        Ok(place) => Some(node_of(runs, place)),
         Err(_) => None,
     }
 }
 
-// Overwrites the node of the entry at this index.
-fn set_node(entries: &mut Vec<PathEntry>, index: usize, node: Node)
-    requires { index < length entries.old.items }
-    ensures { (d : _) → entries.new.items ≡ slice_set entries.old.items index ((slice_index_or entries.old.items index d).0, node) }
-{
-    entries[index].1 = node;
-}
-
 // Removes the entry of the path.
-fn take_out(entries: &mut Vec<PathEntry>, index: usize, path: &[u8])
-    requires sorted { IsPathSorted entries.old.items }
-    requires index { IsIndexOf entries.old.items path.now index }
-    ensures { entries.new.items ≡ remove entries.old.items path.now }
+fn take_out(runs: &mut Vec<Run>, place: Place, path: &[u8])
+    requires runs { IsTrue (are_runs runs.old.items) }
+    requires sorted { IsPathSorted (joined runs.old.items) }
+    requires place { IsPlaceOf runs.old.items path.now place }
+    ensures list { joined runs.new.items ≡ remove (joined runs.old.items) path.now }
+    ensures runs { IsTrue (are_runs runs.new.items) }
+    ensures one { length (joined runs.new.items) + 1 ≡ length (joined runs.old.items) }
 {
-    let _ = entries.remove(index);
+    places::remove(runs, place);
 }
 
 /// Removes the entry of the path if there is one.
-pub(super) fn remove(entries: &mut Vec<PathEntry>, path: &[u8]) -> bool
-    requires { IsPathSorted entries.old.items }
-    ensures list { entries.new.items ≡ remove entries.old.items path.now }
-    ensures found { result ≡ is_some (node_at entries.old.items path.now) }
+pub(super) fn remove(runs: &mut Vec<Run>, path: &[u8]) -> bool
+    requires runs { IsTrue (are_runs runs.old.items) }
+    requires sorted { IsPathSorted (joined runs.old.items) }
+    ensures list { joined runs.new.items ≡ remove (joined runs.old.items) path.now }
+    ensures runs { IsTrue (are_runs runs.new.items) }
+    ensures found { result ≡ is_some (node_at (joined runs.old.items) path.now) }
+    ensures none { result ≡ false → length (joined runs.new.items) ≡ length (joined runs.old.items) }
+    ensures one { result ≡ true → length (joined runs.new.items) + 1 ≡ length (joined runs.old.items) }
 {
-    match find(entries, path) {
-        Ok(index) => {
-            take_out(entries, index, path);
+    match find(runs, path) {
+        Ok(place) => {
+            take_out(runs, place, path);
             true
         }
         Err(_) => false,
     }
 }
 
-// The path of the entry at this index.
-fn path_of(entries: &Vec<PathEntry>, index: usize) -> &[u8]
-    requires { index < length entries.now.items }
-    ensures { (d : _) → result.now ≡ (slice_index_or entries.now.items index d).0 }
-{
-    entries[index].0.as_bytes()
-}
-
-// Whether something lies below the path, given that the entries from this index on are those behind it.
-fn has_below(entries: &Vec<PathEntry>, path: &[u8], behind: usize) -> bool
-    requires sorted { IsPathSorted entries.now.items }
+// Whether something lies below the path, given that the entries from this place on are those behind it.
+fn has_below(runs: &Vec<Run>, path: &[u8], behind: Place) -> bool
+    requires runs { IsTrue (are_runs runs.now.items) }
+    requires sorted { IsPathSorted (joined runs.now.items) }
     requires path { IsTrue (is_path path.now) }
-    requires behind { IsBehind entries.now.items path.now behind }
-    ensures { result ≡ has_below entries.now.items path.now }
+    requires place { IsPlace runs.now.items behind }
+    requires behind { IsBehind (joined runs.now.items) path.now (index_of runs.now.items behind) }
+    ensures { result ≡ has_below (joined runs.now.items) path.now }
 {
-    behind < entries.len() && is_below(path, path_of(entries, behind))
+    match entry_from(runs, behind) {
+        Some(next) => is_below(path, next.0.as_bytes()),
+        None => false,
+    }
 }
 
 fn kind_of(node: &Node) -> Kind
@@ -133,15 +94,16 @@ fn kind_of(node: &Node) -> Kind
 }
 
 /// What is at the path.
-pub(super) fn kind(entries: &Vec<PathEntry>, path: &[u8]) -> Kind
-    requires sorted { IsPathSorted entries.now.items }
+pub(super) fn kind(runs: &Vec<Run>, path: &[u8]) -> Kind
+    requires runs { IsTrue (are_runs runs.now.items) }
+    requires sorted { IsPathSorted (joined runs.now.items) }
     requires path { IsTrue (is_path path.now) }
-    ensures { result ≡ kind_there (node_at entries.now.items path.now) (has_below entries.now.items path.now) }
+    ensures { result ≡ kind_there (node_at (joined runs.now.items) path.now) (has_below (joined runs.now.items) path.now) }
 {
-    match find(entries, path) {
-        Ok(index) => kind_of(node_of(entries, index)),
-        Err(index) => {
-            if has_below(entries, path, index) {
+    match find(runs, path) {
+        Ok(place) => kind_of(node_of(runs, place)),
+        Err(place) => {
+            if has_below(runs, path, place) {
                 Kind::Dir
             } else {
                 Kind::Absent
@@ -151,175 +113,223 @@ pub(super) fn kind(entries: &Vec<PathEntry>, path: &[u8]) -> Kind
 }
 
 // Whether this entry is a file or a link above the path.
-fn is_file_above(entries: &Vec<PathEntry>, index: usize, path: &[u8]) -> bool
-    requires { index < length entries.now.items }
-    ensures { (d : _) → result ≡ is_file_above path.now (slice_index_or entries.now.items index d) }
+fn is_file_above(entry: &PathEntry, path: &[u8]) -> bool
+    ensures { result ≡ is_file_above path.now (entry.now.0, entry.now.1) }
 {
-    is_below(path_of(entries, index), path) && !is_dir(node_of(entries, index))
+    is_below(entry.0.as_bytes(), path) && !is_dir(&entry.1)
+}
+
+// Whether the entry directly before the place is a file or a link above the path.
+fn is_file_before(runs: &Vec<Run>, path: &[u8], place: Place) -> bool
+    requires runs { AreRuns runs.now.items }
+    requires gap { IsGapAt runs.now.items path.now place }
+    ensures { result ≡ has_file_above (joined runs.now.items) path.now }
+{
+    match entry_before(runs, place) {
+        Some(entry) => is_file_above(entry, path),
+        None => false,
+    }
 }
 
 // Whether the path lies below a file or a link. Nothing else lies below one, so it is the entry directly before a path
 // that has no entry, and no path that has one lies below it.
-fn has_file_above(entries: &Vec<PathEntry>, path: &[u8], found: Result<usize, usize>) -> bool
-    requires tree { IsTree entries.now.items }
-    requires found { MatchResult found (IsIndexOf entries.now.items path.now) (IsGapFor entries.now.items path.now) }
-    ensures { result ≡ has_file_above entries.now.items path.now }
+fn has_file_above(runs: &Vec<Run>, path: &[u8], found: Result<Place, Place>) -> bool
+    requires runs { AreRuns runs.now.items }
+    requires found { MatchResult found (IsPlaceOf runs.now.items path.now) (IsGapAt runs.now.items path.now) }
+    ensures { result ≡ has_file_above (joined runs.now.items) path.now }
 {
     match found {
         Ok(_) => false,
-        Err(index) => index > 0 && is_file_above(entries, index - 1, path),
+        Err(place) => is_file_before(runs, path, place),
     }
 }
 
-// The index of the first entry behind the path.
-fn behind(entries: &Vec<PathEntry>, path: &[u8], found: Result<usize, usize>) -> usize
-    requires sorted { IsPathSorted entries.now.items }
-    requires found { MatchResult found (IsIndexOf entries.now.items path.now) (IsGapFor entries.now.items path.now) }
-    ensures { IsBehind entries.now.items path.now result }
+// The place of the first entry behind the path.
+fn behind(runs: &Vec<Run>, path: &[u8], found: Result<Place, Place>) -> Place
+    requires runs { IsTrue (are_runs runs.now.items) }
+    requires sorted { IsPathSorted (joined runs.now.items) }
+    requires found { MatchResult found (IsPlaceOf runs.now.items path.now) (IsGapAt runs.now.items path.now) }
+    ensures place { IsPlace runs.now.items result }
+    ensures behind { IsBehind (joined runs.now.items) path.now (index_of runs.now.items result) }
 {
     match found {
-        Ok(index) => index + 1,
-        Err(index) => index,
+        Ok(place) => Place {
+            run: place.run,
+            at: place.at + 1,
+        },
+        Err(place) => place,
     }
 }
 
 // Whether a file or link would have something below it.
-fn clashes(entries: &Vec<PathEntry>, path: &[u8], node: &Node, found: Result<usize, usize>) -> bool
-    requires tree { IsTree entries.now.items }
+fn clashes(runs: &Vec<Run>, path: &[u8], node: &Node, found: Result<Place, Place>) -> bool
+    requires runs { AreRuns runs.now.items }
     requires path { IsTrue (is_path path.now) }
-    requires found { MatchResult found (IsIndexOf entries.now.items path.now) (IsGapFor entries.now.items path.now) }
-    ensures { result ≡ clashes entries.now.items path.now node.now }
+    requires found { MatchResult found (IsPlaceOf runs.now.items path.now) (IsGapAt runs.now.items path.now) }
+    ensures { result ≡ clashes (joined runs.now.items) path.now node.now }
 {
-    has_file_above(entries, path, found)
-        || (!is_dir(node) && has_below(entries, path, behind(entries, path, found)))
+    has_file_above(runs, path, found)
+        || (!is_dir(node) && has_below(runs, path, behind(runs, path, found)))
 }
 
 // Whether the path is new and the tree has all the nodes that it may have.
-fn has_no_room(entries: &Vec<PathEntry>, path: &[u8], found: Result<usize, usize>) -> bool
-    requires tree { IsTree entries.now.items }
-    requires found { MatchResult found (IsIndexOf entries.now.items path.now) (IsGapFor entries.now.items path.now) }
-    ensures value { result ≡ has_no_room entries.now.items path.now }
-    ensures room { IfErr found (λ _. result ≡ false → length entries.now.items < 2 ^ 20) }
+fn has_no_room(runs: &Vec<Run>, count: usize, path: &[u8], found: Result<Place, Place>) -> bool
+    requires runs { AreRuns runs.now.items }
+    requires count { count ≡ length (joined runs.now.items) }
+    requires found { MatchResult found (IsPlaceOf runs.now.items path.now) (IsGapAt runs.now.items path.now) }
+    ensures value { result ≡ has_no_room (joined runs.now.items) path.now }
+    ensures room { IfErr found (λ _. result ≡ false → length (joined runs.now.items) < 2 ^ 20) }
 {
     match found {
         Ok(_) => false,
-        Err(_) => entries.len() == NODES_MAX,
+        Err(_) => count == NODES_MAX,
     }
 }
 
-/// The index of the path's entry or of its gap, or why the node can't be put.
+/// The place of the path's entry or of its gap, or why the node can't be put.
 pub(super) fn find_for(
-    entries: &Vec<PathEntry>,
+    runs: &Vec<Run>,
+    count: usize,
     path: &[u8],
     node: &Node,
-) -> Result<Result<usize, usize>, TreeFault>
-    requires tree { IsTree entries.now.items }
+) -> Result<Result<Place, Place>, TreeFault>
+    requires runs { AreRuns runs.now.items }
+    requires count { count ≡ length (joined runs.now.items) }
     requires path { IsTrue (is_path path.now) }
-    ensures clash { (result ≡ Err TreeFault.Clash) ↔ IsTrue (clashes entries.now.items path.now node.now) }
-    ensures full { (result ≡ Err TreeFault.Full) ↔ ((clashes entries.now.items path.now node.now ≡ false) × IsTrue (has_no_room entries.now.items path.now)) }
-    ensures free { OnOk result (clashes entries.now.items path.now node.now ≡ false) }
+    ensures clash { (result ≡ Err TreeFault.Clash) ↔ IsTrue (clashes (joined runs.now.items) path.now node.now) }
+    ensures full { (result ≡ Err TreeFault.Full) ↔ ((clashes (joined runs.now.items) path.now node.now ≡ false) × IsTrue (has_no_room (joined runs.now.items) path.now)) }
+    ensures free { OnOk result (clashes (joined runs.now.items) path.now node.now ≡ false) }
     ensures memory { result ≢ Err TreeFault.NoMemory }
-    ensures found { IfOk result (λ found. MatchResult found (IsIndexOf entries.now.items path.now) (IsGapFor entries.now.items path.now)) }
-    ensures room { IfOk result (λ found. IfErr found (λ _. length entries.now.items < 2 ^ 20)) }
+    ensures found { IfOk result (λ found. MatchResult found (IsPlaceOf runs.now.items path.now) (IsGapAt runs.now.items path.now)) }
+    ensures room { IfOk result (λ found. IfErr found (λ _. length (joined runs.now.items) < 2 ^ 20)) }
 {
-    let found = find(entries, path);
-    if clashes(entries, path, node, found) {
+    let found = find(runs, path);
+    if clashes(runs, path, node, found) {
         return Err(TreeFault::Clash);
     }
-    if has_no_room(entries, path, found) {
+    if has_no_room(runs, count, path, found) {
         return Err(TreeFault::Full);
     }
     Ok(found)
 }
 
 // Replaces the node of the path's entry.
-fn replace(entries: &mut Vec<PathEntry>, index: usize, path: &[u8], node: Node)
-    requires sorted { IsPathSorted entries.old.items }
-    requires index { IsIndexOf entries.old.items path.now index }
-    ensures { entries.new.items ≡ put entries.old.items path.now node }
+fn replace(runs: &mut Vec<Run>, place: Place, path: &[u8], node: Node)
+    requires runs { IsTrue (are_runs runs.old.items) }
+    requires sorted { IsPathSorted (joined runs.old.items) }
+    requires place { IsPlaceOf runs.old.items path.now place }
+    ensures list { joined runs.new.items ≡ put (joined runs.old.items) path.now node }
+    ensures runs { IsTrue (are_runs runs.new.items) }
+    ensures count { length (joined runs.new.items) ≡ length (joined runs.old.items) }
 {
-    set_node(entries, index, node);
+    places::set_node(runs, place, node);
 }
 
 // Inserts an entry for a path that has none.
 fn insert(
     alloc: Global,
-    entries: &mut Vec<PathEntry>,
-    index: usize,
+    runs: &mut Vec<Run>,
+    place: Place,
     path: &[u8],
     node: Node,
 ) -> Result<(), NoMemory>
-    requires { IsGapFor entries.old.items path.now index }
-    ensures done { OnOk result (entries.new.items ≡ put entries.old.items path.now node) }
-    ensures refused { OnErr result (entries.new.items ≡ entries.old.items) }
+    requires runs { IsTrue (are_runs runs.old.items) }
+    requires gap { IsGapAt runs.old.items path.now place }
+    ensures done { OnOk result (joined runs.new.items ≡ put (joined runs.old.items) path.now node) }
+    ensures count { OnOk result (length (joined runs.new.items) ≡ length (joined runs.old.items) + 1) }
+    ensures refused { OnErr result (joined runs.new.items ≡ joined runs.old.items) }
+    ensures runs { IsTrue (are_runs runs.new.items) }
 {
     let path = Text::copy_of(alloc, path)?;
-    entries.insert(index, (path, node))?;
+    places::insert(alloc, runs, place, (path, node))?;
     Ok(())
 }
 
-/// Puts the node at the index that was found.
+/// Puts the node at the place that was found, and returns how many nodes the tree has then.
 pub(super) fn put_at(
     alloc: Global,
-    entries: &mut Vec<PathEntry>,
-    found: Result<usize, usize>,
+    runs: &mut Vec<Run>,
+    count: usize,
+    found: Result<Place, Place>,
     path: &[u8],
     node: Node,
-) -> Result<(), NoMemory>
-    requires sorted { IsPathSorted entries.old.items }
-    requires found { MatchResult found (IsIndexOf entries.old.items path.now) (IsGapFor entries.old.items path.now) }
-    ensures done { OnOk result (entries.new.items ≡ put entries.old.items path.now node) }
-    ensures refused { OnErr result (entries.new.items ≡ entries.old.items) }
+) -> Result<usize, NoMemory>
+    requires runs { IsTrue (are_runs runs.old.items) }
+    requires count { count ≡ length (joined runs.old.items) }
+    requires sorted { IsPathSorted (joined runs.old.items) }
+    requires found { MatchResult found (IsPlaceOf runs.old.items path.now) (IsGapAt runs.old.items path.now) }
+    requires room { IfErr found (λ _. length (joined runs.old.items) < 2 ^ 20) }
+    ensures done { OnOk result (joined runs.new.items ≡ put (joined runs.old.items) path.now node) }
+    ensures count { IfOk result (λ count. count ≡ length (joined runs.new.items)) }
+    ensures refused { OnErr result (joined runs.new.items ≡ joined runs.old.items) }
+    ensures runs { IsTrue (are_runs runs.new.items) }
 {
     match found {
-        Ok(index) => {
-            replace(entries, index, path, node);
-            Ok(())
+        Ok(place) => {
+            replace(runs, place, path, node);
+            Ok(count)
         }
-        Err(index) => insert(alloc, entries, index, path, node),
+        Err(place) => {
+            insert(alloc, runs, place, path, node)?;
+            Ok(count + 1)
+        }
     }
 }
 
-// The part of the list that lies below the path, given that the entries from this index on are those behind it.
-fn below_from<'a>(entries: &'a Vec<PathEntry>, path: &[u8], behind: usize) -> &'a [PathEntry]
-    requires sorted { IsPathSorted entries.now.items }
+// The entries behind the path, whose first are those below it.
+fn below_path<'a>(runs: &'a Vec<Run>, path: &[u8]) -> Rest<'a>
+    requires runs { IsTrue (are_runs runs.now.items) }
+    requires sorted { IsPathSorted (joined runs.now.items) }
     requires path { IsTrue (is_path path.now) }
-    requires behind { IsBehind entries.now.items path.now behind }
-    ensures { result.now ≡ filter (λ e. is_below path.now e.0) entries.now.items }
+    ensures { take_while (λ e. is_below path.now e.0) result ≡ filter (λ e. is_below path.now e.0) (joined runs.now.items) }
 {
-    let rest = &entries[behind..];
-    let count = rest.partition_point(
-        |entry: &PathEntry| -> bool
-            ensures { result ≡ is_below path.entry.now entry.now.0 }
-        { is_below(path, entry.0.as_bytes()) },
-    );
-    &rest[..count]
+    let found = find(runs, path);
+    Rest::from(runs, behind(runs, path, found))
 }
 
-/// The part of the list that lies below the root or the path.
-pub(super) fn below<'a>(entries: &'a Vec<PathEntry>, path: &[u8]) -> &'a [PathEntry]
-    requires tree { IsTree entries.now.items }
+/// Entries whose first are all those that lie below the root or the path.
+pub(super) fn below<'a>(runs: &'a Vec<Run>, path: &[u8]) -> Rest<'a>
+    requires runs { AreRuns runs.now.items }
     requires path { (path.now ≡ root) ⊎ IsTrue (is_path path.now) }
-    ensures { result.now ≡ filter (λ e. is_below path.now e.0) entries.now.items }
+    ensures { take_while (λ e. is_below path.now e.0) result ≡ filter (λ e. is_below path.now e.0) (joined runs.now.items) }
 {
     if path == b"/".as_slice() {
-        return entries.as_slice();
+        return Rest::all(runs);
     }
-    let found = find(entries, path);
-    below_from(entries, path, behind(entries, path, found))
+    below_path(runs, path)
 }
 
-/// What follows the entries of one child, which has this name at the offset `start` of their paths.
-pub(super) fn skip_child<'a>(entries: &'a [PathEntry], name: &[u8], start: usize) -> &'a [PathEntry]
-    ensures { dedup_from bytes_eq name.now (map (λ e. name_behind start e.0) entries.now)
-        ≡ name.now ∷ dedup bytes_eq (map (λ e. name_behind start e.0) result.now) }
+// Whether the path goes on with this name behind the folder.
+fn is_child(folder: &[u8], name: &[u8], path: &[u8]) -> bool
+    ensures { result ≡ (starts_with nat_eq path.now folder.now && bytes_eq (name_behind (length folder.now) path.now) name.now) }
+{
+    path.starts_with(folder) && name_from(path, folder.len()) == name
+}
+
+// What follows the entries of one child, which has this name behind the folder.
+fn skip_child<'a>(entries: Rest<'a>, folder: &[u8], name: &[u8]) -> Rest<'a>
+    ensures { dedup_from bytes_eq name.now (names_behind folder.now entries.entry) ≡ name.now ∷ dedup bytes_eq (names_behind folder.now result) }
 {
     let mut rest = entries;
     while let Some((entry, more)) = rest.split_first() {
-        if name_from(entry.0.as_bytes(), start) != name {
+        if !is_child(folder, name, entry.0.as_bytes()) {
             break;
         }
         rest = more;
     }
     rest
+}
+
+/// The first name with which the folder's paths go on, and what follows the entries of that child.
+pub(super) fn first_child<'a>(rest: &Rest<'a>, folder: &[u8]) -> Option<(&'a [u8], Rest<'a>)>
+    ensures { MatchOption result (dedup bytes_eq (names_behind folder.now rest.now) ≡ [])
+        (λ r. dedup bytes_eq (names_behind folder.now rest.now) ≡ r.0.now ∷ dedup bytes_eq (names_behind folder.now r.1)) }
+{
+    let (first, others) = rest.split_first()?;
+    if !first.0.as_bytes().starts_with(folder) {
+        return None;
+    }
+    let name = name_from(first.0.as_bytes(), folder.len());
+    let rest = skip_child(others, folder, name);
+    Some((name, rest))
 }

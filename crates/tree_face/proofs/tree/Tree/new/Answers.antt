@@ -4,4 +4,4 @@ use Rattle.tree_face.proofs.tree.Tree.new.Goals as goal
 
 pub invariant_of-result : goal.invariant_of-result
 unfolding IsStrictlySortedBy
-invariant_of-result c = rw c.new.ensures.items (record { sorted = tt; entries = refl; few = omega arith; clear = refl })
+invariant_of-result c = rw c.new.ensures.items (record { tree = record { sorted = tt; entries = refl; few = omega arith; clear = refl }; bounded = refl }, refl)

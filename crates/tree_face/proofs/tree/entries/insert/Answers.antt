@@ -1,10 +1,15 @@
-use Rattle.std.proofs.Common.{ap, ◌∙◌}
+use Rattle.std.proofs.Common.{length, ap, ◌∙◌}
 use Rattle.std.specs.List.{insert}
+use Rattle.std.proofs.lemmas.List.Edits.{length-insert}
 use Rattle.tree_face.proofs.Index.{inserted}
+use Rattle.tree_face.specs.Runs.{joined, index_of}
 use Rattle.tree_face.proofs.tree.entries.insert.Goals as goal
 
 pub returns-clause-done : goal.returns-clause-done
 returns-clause-done c =
-    c.in_ok-insert.ensures.items
-    ∙ ap (λ p. insert c.args.entries.now.items c.args.index (p, c.args.node)) c.in_ok-path.ensures
-    ∙ inserted _ _ _ c.args.node c.requires
+    c.in_ok-insert.ensures.done
+    ∙ ap (λ p. insert (joined c.args.runs.now.items) (index_of c.args.runs.now.items c.args.place) (p, c.args.node)) c.in_ok-path.ensures
+    ∙ inserted _ _ _ c.args.node c.requires.gap.gap
+
+pub returns-clause-count : goal.returns-clause-count
+returns-clause-count c = ap length c.in_ok-insert.ensures.done ∙ length-insert _ _ _ c.requires.gap.gap.within

@@ -5,10 +5,10 @@ use Rattle.tree_face.proofs.tree.entries.remove.Goals as goal
 use Rattle.tree_face.specs.declared.node.Node.TheVariants.{Dir}
 
 pub returns-in-Ok-clause-found : goal.returns-in-Ok-clause-found
-returns-in-Ok-clause-found c = sym (ap is_some (found_node _ _ _ c.requires c.in-Ok.ensures.found ([], Dir)))
+returns-in-Ok-clause-found c = sym (ap is_some (found_node _ _ _ c.requires.sorted c.in-Ok.ensures.found.index ([], Dir)))
 
 pub returns-in-Err-clause-list : goal.returns-in-Err-clause-list
-returns-in-Err-clause-list c = none_removed _ _ _ c.in-Err.ensures.absent
+returns-in-Err-clause-list c = none_removed _ _ _ c.in-Err.ensures.absent.gap
 
 pub returns-in-Err-clause-found : goal.returns-in-Err-clause-found
-returns-in-Err-clause-found c = ap is_some (absent_node _ _ _ c.in-Err.ensures.absent)
+returns-in-Err-clause-found c = ap is_some (absent_node _ _ _ c.in-Err.ensures.absent.gap)

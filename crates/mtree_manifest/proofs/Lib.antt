@@ -1,0 +1,13 @@
+pub mod Counting
+pub mod Decode
+pub mod Escaping
+pub mod Goods
+pub mod Keywords
+pub mod Names
+pub mod Numbers
+pub mod Parting
+pub mod Places
+pub mod Progressing
+pub mod RoundTrip
+pub mod Tokens
+pub mod Opening

@@ -1,0 +1,9 @@
+use Rattle.std.proofs.Common.{◌≡◌, true}
+use Rattle.std.specs.List.{filter}
+use Rattle.mtree_manifest.specs.Paths.{decoded_each, is_kept, names_of}
+use Rattle.mtree_manifest.specs.Naming.{named}
+use Rattle.mtree_manifest.proofs.paths.append_names.Given as goal
+
+-- the components that are left complete the path and the test
+abbrev pub invariant-loop-component : goal.invariant-loop-component
+invariant-loop-component l = named l.out.items l.good (decoded_each (filter is_kept l.component-iterator)) ≡ named l.fn.out.items true (names_of l.fn.word)

@@ -1,0 +1,22 @@
+-- What the code returned, beside what is to come out.
+use Rattle.std.specs.Prelude.{◌≡◌, Result, Ok, Err}
+use Rattle.mtree_manifest.specs.declared.fault.ManifestFault.{ManifestFault}
+use Rattle.mtree_manifest.specs.declared.fault.ManifestFault.TheVariants.{TooLong, Bad, Clash, TooMany, NoMemory}
+
+-- this fault comes out, unless it is that of memory
+abbrev pub Refuses : {A : Type 0} → ManifestFault → Result A ManifestFault → Type 0
+Refuses NoMemory outcome = Unit {0}
+Refuses (TooLong n) outcome = outcome ≡ Err (TooLong n)
+Refuses (Bad line kind) outcome = outcome ≡ Err (Bad line kind)
+Refuses (Clash line) outcome = outcome ≡ Err (Clash line)
+Refuses (TooMany line) outcome = outcome ≡ Err (TooMany line)
+
+-- a call that changes a value: what comes out is the new one
+abbrev pub Ends : {A : Type 0} → Result (Unit {0}) ManifestFault → Result A ManifestFault → A → Type 0
+Ends (Ok _) outcome new = outcome ≡ Ok new
+Ends (Err e) outcome new = Refuses e outcome
+
+-- a call that gives a value
+abbrev pub Gives : {X A : Type 0} → (X → A) → Result X ManifestFault → Result A ManifestFault → Type 0
+Gives view (Ok x) outcome = outcome ≡ Ok (view x)
+Gives view (Err e) outcome = Refuses e outcome

@@ -1,0 +1,64 @@
+-- Escapes in the words of a manifest (mtree(5): blanks, backslashes and other bytes are written as vis(3) writes them).
+use Rattle.std.specs.Prelude.{ℕ, ◌+◌, ◌-◌, ◌*◌, ◌/◌, ◌%◌, Bool, List, [], ◌∷◌, ◌==◌, ◌&&◌, not, nat_le, if◌then◌else◌, flat_map, Option, Some, None, option_map}
+use Rattle.std.specs.Str.{byte}
+
+abbrev pub backslash : ℕ
+backslash = byte "\\"
+
+-- the byte that a letter behind a backslash stands for: a blank, a tab, a line feed, or itself
+abbrev pub letter : ℕ → Option ℕ
+letter c =
+    if c == byte "s" then Some 32 else
+    if c == byte "t" then Some 9 else
+    if c == byte "n" then Some 10 else
+    if c == backslash then Some backslash else
+    if c == byte "#" then Some (byte "#") else None
+
+abbrev pub is_octal : ℕ → Bool
+is_octal c = nat_le (byte "0") c && nat_le c (byte "7")
+
+abbrev pub octal_value : ℕ → ℕ → ℕ → ℕ
+octal_value a b c = 64 * (a - byte "0") + 8 * (b - byte "0") + (c - byte "0")
+
+-- the byte of three octal digits from 001 to 377
+abbrev pub octal : ℕ → ℕ → ℕ → Option ℕ
+octal a b c =
+    if is_octal a && is_octal b && is_octal c && nat_le 1 (octal_value a b c) && nat_le (octal_value a b c) 255
+    then Some (octal_value a b c) else None
+
+-- a byte in front of the bytes, if there are both
+abbrev pub in_front : Option ℕ → Option (List ℕ) → Option (List ℕ)
+in_front None text = None
+in_front (Some b) text = option_map (λ bytes. b ∷ bytes) text
+
+-- an escape is a letter, before what follows it, or else three octal digits, before what follows them
+abbrev pub escape : Option ℕ → Option (List ℕ) → Option ℕ → Option (List ℕ) → Option (List ℕ)
+escape (Some b) behind_letter digits behind_digits = in_front (Some b) behind_letter
+escape None behind_letter digits behind_digits = in_front digits behind_digits
+
+-- The bytes that a word stands for; none if a backslash begins no escape. Each byte but a backslash stands for itself.
+unfoldable pub decoded : List ℕ → Option (List ℕ)
+decoded [] = Some []
+decoded (b ∷ []) = if b == backslash then None else in_front (Some b) (decoded [])
+decoded (b ∷ c ∷ []) =
+    if b == backslash then in_front (letter c) (decoded []) else in_front (Some b) (decoded (c ∷ []))
+decoded (b ∷ c ∷ d ∷ []) =
+    if b == backslash then in_front (letter c) (decoded (d ∷ [])) else in_front (Some b) (decoded (c ∷ d ∷ []))
+decoded (b ∷ c ∷ d ∷ e ∷ rest) =
+    if b == backslash
+    then escape (letter c) (decoded (d ∷ e ∷ rest)) (octal c d e) (decoded rest)
+    else in_front (Some b) (decoded (c ∷ d ∷ e ∷ rest))
+
+-- the bytes that the canonical text leaves as they are: printable ASCII but the backslash and `#`
+abbrev pub is_plain : ℕ → Bool
+is_plain b = nat_le 33 b && nat_le b 126 && not (b == backslash) && not (b == byte "#")
+
+abbrev pub octal_digits : ℕ → List ℕ
+octal_digits b = (byte "0" + b / 64) ∷ (byte "0" + b / 8 % 8) ∷ (byte "0" + b % 8) ∷ []
+
+abbrev pub escaped_byte : ℕ → List ℕ
+escaped_byte b = if is_plain b then b ∷ [] else backslash ∷ octal_digits b
+
+-- the bytes as the canonical text has them
+abbrev pub escaped : List ℕ → List ℕ
+escaped bytes = flat_map escaped_byte bytes

@@ -1,0 +1,17 @@
+pub mod Canon
+pub mod Decoding
+pub mod Ends
+pub mod Escape
+pub mod Keys
+pub mod Good
+pub mod Lines
+pub mod Lining
+pub mod Manifest
+pub mod Naming
+pub mod Parts
+pub mod Paths
+pub mod Progress
+pub mod Range
+pub mod Reader
+pub mod Stacks
+pub mod Views

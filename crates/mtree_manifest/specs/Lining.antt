@@ -1,0 +1,8 @@
+-- What the code's open line stands for.
+use Rattle.std.specs.Prelude.{option_map}
+use Rattle.mtree_manifest.specs.Progress.{Open}
+use Rattle.mtree_manifest.specs.Views.{given_in}
+use Rattle.mtree_manifest.specs.declared.line.Line as the_line
+
+abbrev pub line_in : the_line.Line → Open
+line_in l = record { number = l.number; first = option_map (λ first. (first.0, first.1.now)) l.first; given = given_in l.given }

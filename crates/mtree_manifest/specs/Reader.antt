@@ -1,0 +1,21 @@
+-- What the reader's parts stand for.
+use Rattle.std.specs.Prelude.{ℕ, List, Result}
+use Rattle.mtree_manifest.specs.Keys.{Values}
+use Rattle.mtree_manifest.specs.Paths.{place}
+use Rattle.mtree_manifest.specs.declared.fault.ManifestFault.{ManifestFault}
+use Rattle.mtree_manifest.specs.Lining.{line_in}
+use Rattle.mtree_manifest.specs.Manifest.{State, put_by, stack_behind, with_put}
+use Rattle.mtree_manifest.specs.Views.{values_in}
+use Rattle.mtree_manifest.specs.Progress.{Progress}
+use Rattle.mtree_manifest.specs.declared.line.Line as the_line
+use Rattle.mtree_manifest.specs.declared.reader.Reader as the_reader
+
+abbrev pub state_in : the_reader.Reader → State
+state_in r = record { tree = r.tree; defaults = values_in r.defaults; dirs = r.dirs }
+
+abbrev pub progress_in : the_reader.Reader → ℕ → the_line.Line → Progress
+progress_in r next line = record { state = state_in r; line = line_in line; next = next }
+
+-- the state with the node of a line that has no fault
+abbrev pub entry_put : ℕ → State → List ℕ → Values → Result State ManifestFault
+entry_put number s first v = with_put number s (stack_behind s.dirs first v) (put_by (place s.dirs first) v)

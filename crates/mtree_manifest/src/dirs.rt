@@ -1,0 +1,88 @@
+//! The directories that are open.
+ghost use Rattle.std.specs.Prelude.{◌≡◌, ◌≤◌, ◌++◌, ◌∷◌, ◌==◌, [], not, length, OnOk};
+ghost use Rattle.mtree_manifest.specs.Paths.{current, closed};
+ghost use Rattle.mtree_manifest.specs.Stacks.{IsStack, paths_in, top, opened};
+
+use lib_types::NoMemory;
+use std::alloc::Global;
+use std::marker::Model;
+
+/// The directories that are open, which contracts see as the list of their paths. The path of each begins with that of the
+/// one opened before it, so one buffer has them all.
+#[derive(Drop)]
+pub(crate) struct Dirs {
+    path: Vec<u8>,
+    /// How many bytes of the buffer each of them takes, the one opened last at the end.
+    lens: Vec<usize>,
+}
+
+impl Model for Dirs {
+    ghost use Rattle.mtree_manifest.specs.Paths.{Stack};
+    ghost use Rattle.mtree_manifest.specs.Stacks.{IsStack, paths_in};
+
+    ghost Value = { Stack };
+
+    ghost view = { λ d. paths_in d.path.items d.lens.items };
+
+    ghost invariant = { λ d. IsStack d.path.items d.lens.items };
+}
+
+// How many bytes the path of the current directory takes.
+fn top(path: &Vec<u8>, lens: &Vec<usize>) -> usize
+    requires { IsStack path.now.items lens.now.items }
+    ensures value { result ≡ top lens.now.items }
+    ensures within { result ≤ length path.now.items }
+{
+    match lens.as_slice().last() {
+        Some(&n) => n,
+        None => 0,
+    }
+}
+
+// Opens the directory whose path goes on with these bytes.
+#[tactic(auto, using(crate::proofs::Opening::one_more))]
+fn open_in(path: &mut Vec<u8>, lens: &mut Vec<usize>, more: &[u8]) -> Result<(), NoMemory>
+    requires { IsStack path.old.items lens.old.items }
+    ensures stack { IsStack path.new.items lens.new.items }
+    ensures done { OnOk result (paths_in path.new.items lens.new.items ≡ opened path.old.items lens.old.items more.now) }
+{
+    let len = top(path, lens);
+    path.truncate(len);
+    path.extend_from_slice(more)?;
+    lens.push(path.len())?;
+    Ok(())
+}
+
+impl Dirs {
+    /// No directory is open.
+    pub(crate) fn new(alloc: Global) -> Dirs
+        ensures { result ≡ [] }
+    {
+        Dirs {
+            path: Vec::new(alloc),
+            lens: Vec::new(alloc),
+        }
+    }
+
+    /// The path of the current directory, the root's being empty.
+    pub(crate) fn current(&self) -> &[u8]
+        ensures { result.now ≡ current self.now }
+    {
+        &self.path.as_slice()[..top(&self.path, &self.lens)]
+    }
+
+    /// Closes the directory that was opened last. Says whether one was open.
+    pub(crate) fn close(&mut self) -> bool
+        ensures open { result ≡ not (length self.old == 0) }
+        ensures closed { self.new ≡ closed self.old }
+    {
+        self.lens.pop().is_some()
+    }
+
+    /// Opens the directory whose path goes on with these bytes behind that of the current one.
+    pub(crate) fn open(&mut self, more: &[u8]) -> Result<(), NoMemory>
+        ensures { OnOk result (self.new ≡ self.old ++ (current self.old ++ more.now) ∷ []) }
+    {
+        open_in(&mut self.path, &mut self.lens, more)
+    }
+}

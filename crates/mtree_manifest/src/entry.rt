@@ -1,0 +1,167 @@
+//! What a line with a path makes.
+ghost use Rattle.std.specs.Prelude.{◌≡◌, None, drop, IfOk, OnOk, IsTrue};
+ghost use Rattle.std.specs.Option.{option_copied};
+ghost use Rattle.tree_face.specs.Node.{is_node};
+ghost use Rattle.tree_face.specs.Paths.{is_path};
+ghost use Rattle.mtree_manifest.specs.Ends.{Ends};
+ghost use Rattle.mtree_manifest.specs.Manifest.{text_of, key_of, id_of, node_of, is_dir, is_link, target_fault, with_node};
+ghost use Rattle.mtree_manifest.specs.Paths.{names_of, place_fault_of, path_of, base_by};
+ghost use Rattle.mtree_manifest.specs.Naming.{is_place_behind, place_fault_behind};
+ghost use Rattle.mtree_manifest.specs.Views.{values_in};
+
+use crate::escape::decode;
+use crate::fault::{LineKind, ManifestFault};
+use crate::keys::{Keys, LineType, fault_unless};
+use crate::paths::{append_names, behind_first, is_directive, is_full};
+use lib_types::{NoMemory, Text};
+use std::alloc::Global;
+use tree_face::{Id, Node, Tree, TreeFault, is_path};
+
+pub(crate) fn is_dir(kind: LineType) -> bool
+    ensures { result ≡ is_dir kind }
+{
+    match kind {
+        LineType::Dir => true,
+        _ => false,
+    }
+}
+
+fn is_link(kind: LineType) -> bool
+    ensures { result ≡ is_link kind }
+{
+    match kind {
+        LineType::Link => true,
+        _ => false,
+    }
+}
+
+/// A link needs a target.
+pub(crate) fn target_fault(keys: &Keys<'_>) -> Option<LineKind>
+    ensures { result ≡ target_fault (values_in keys.now) }
+{
+    let lacks_target = is_link(keys.kind) && keys.link.is_empty();
+    fault_unless(!lacks_target, LineKind::NoTarget)
+}
+
+// Fills the buffer with the path of the directory from which a word leads on.
+fn begin_at(path: &mut Vec<u8>, current: &[u8], word: &[u8]) -> Result<(), NoMemory>
+    ensures { OnOk result (path.new.items ≡ base_by word.now current.now) }
+{
+    path.clear();
+    if !is_full(word) {
+        path.extend_from_slice(current)?;
+    }
+    Ok(())
+}
+
+// Whether a word leads to a place, by the path from which it leads on and the one to which it leads.
+fn is_place(is_dir: bool, are_names: bool, start: usize, path: &[u8]) -> bool
+    ensures { result ≡ is_place_behind is_dir are_names start path.now }
+{
+    are_names && (is_dir || path.len() != start) && (path.is_empty() || is_path(path))
+}
+
+fn place_fault(word: &[u8], is_place: bool) -> Option<LineKind>
+    ensures { result ≡ place_fault_behind word.now is_place }
+{
+    fault_unless(!is_directive(word) && is_place, LineKind::BadLine)
+}
+
+/// Fills the buffer with where a first word leads, in or below the current directory. Says what is wrong with the word.
+#[tactic(auto, using(crate::proofs::Places::fault_behind))]
+pub(crate) fn find_place(
+    path: &mut Vec<u8>,
+    current: &[u8],
+    is_dir: bool,
+    word: &[u8],
+) -> Result<Option<LineKind>, NoMemory>
+    ensures fault { IfOk result (λ fault. fault ≡ place_fault_of is_dir (base_by word.now current.now) word.now (names_of word.now)) }
+    ensures place { IfOk result (λ fault. fault ≡ None → path.new.items ≡ path_of (names_of word.now) (base_by word.now current.now)) }
+{
+    begin_at(path, current, word)?;
+    let start = path.len();
+    let Some(are_names) = append_names(path, word)? else {
+        return Ok(Some(LineKind::BadEscape));
+    };
+    let is_place = is_place(is_dir, are_names, start, path.as_slice());
+    Ok(place_fault(word, is_place))
+}
+
+// The text that a value stands for. One without escapes is copied once.
+fn text_of(alloc: Global, value: &[u8]) -> Result<Text, NoMemory>
+    ensures { IfOk result (λ text. text ≡ text_of value.now) }
+{
+    let mut bytes = Vec::with_capacity(alloc, value.len())?;
+    if decode(&mut bytes, value)? {
+        Ok(Text::from_vec(bytes))
+    } else {
+        Ok(Text::from_vec(Vec::new(alloc)))
+    }
+}
+
+fn key_of(alloc: Global, contents: Option<&[u8]>, path: &[u8]) -> Result<Text, NoMemory>
+    ensures { IfOk result (λ key. key ≡ key_of (option_copied contents.entry) path.now) }
+{
+    match contents {
+        Some(value) => text_of(alloc, value),
+        None => Text::copy_of(alloc, behind_first(path)),
+    }
+}
+
+fn id_of(keys: &Keys<'_>) -> Option<Id>
+    ensures { result ≡ id_of (values_in keys.now) }
+{
+    let inode = keys.inode?;
+    let ctime = keys.ctime?;
+    let size = keys.size?;
+    let dev = keys.dev.unwrap_or(0);
+    Some(Id {
+        dev,
+        inode,
+        ctime,
+        size,
+    })
+}
+
+/// The node of a path; the root has none.
+pub(crate) fn node_of(alloc: Global, keys: &Keys<'_>, path: &[u8]) -> Result<Option<Node>, NoMemory>
+    ensures { IfOk result (λ node. node ≡ node_of (values_in keys.now) path.now) }
+{
+    if path.is_empty() {
+        return Ok(None);
+    }
+    match keys.kind {
+        LineType::File => {
+            let key = key_of(alloc, keys.contents, path)?;
+            Ok(Some(Node::File {
+                key,
+                id: id_of(keys),
+            }))
+        }
+        LineType::Dir => Ok(Some(Node::Dir)),
+        LineType::Link => {
+            let target = text_of(alloc, keys.link)?;
+            Ok(Some(Node::Link { target }))
+        }
+        LineType::NoNode | LineType::Unknown => Ok(None),
+    }
+}
+
+/// Puts the node of the line with this number.
+pub(crate) fn put_node(
+    tree: &mut Tree,
+    number: u64,
+    path: &[u8],
+    node: Node,
+) -> Result<(), ManifestFault>
+    requires path { IsTrue (is_path path.now) }
+    requires node { IsTrue (is_node node) }
+    ensures { Ends result (with_node number tree.old (path.now, node)) tree.new }
+{
+    match tree.put(path, node) {
+        Ok(()) => Ok(()),
+        Err(TreeFault::Clash) => Err(ManifestFault::Clash { line: number }),
+        Err(TreeFault::Full) => Err(ManifestFault::TooMany { line: number }),
+        Err(TreeFault::NoMemory) => Err(ManifestFault::NoMemory),
+    }
+}

@@ -1,0 +1,66 @@
+//! What is wrong with a manifest.
+ghost use Rattle.std.specs.Prelude.{◌≡◌};
+
+use lib_types::NoMemory;
+use std::alloc::{AllocError, AllocFailed};
+
+/// The most bytes of a manifest's text: 64 MiB, some eighty bytes for each node that a tree may have.
+pub const TEXT_MAX: usize = 1 << 26;
+
+/// What is wrong with a line. Of several faults of one line the first in this order counts.
+#[derive(Clone, Copy, Debug, PartialEq, Eq)]
+pub enum LineKind {
+    /// A backslash begins no escape.
+    BadEscape,
+    /// The line has no form that a line may have.
+    BadLine,
+    /// A number isn't 1 to 20 decimal digits, or isn't below 2^64.
+    BadNumber,
+    /// The value of `type` is no type.
+    BadType,
+    /// A link has no target.
+    NoTarget,
+}
+
+/// Why a manifest was not read. Lines are counted from 1, and a joined line has the number of its first physical line.
+#[derive(Clone, Copy, Debug, PartialEq, Eq)]
+pub enum ManifestFault {
+    /// The text has more bytes than a manifest may have.
+    TooLong { length: u64 },
+    Bad { line: u64, kind: LineKind },
+    /// The line would put something below a file or a link.
+    Clash { line: u64 },
+    /// The line's node would be one more than a tree may have.
+    TooMany { line: u64 },
+    NoMemory,
+}
+
+impl From<NoMemory> for ManifestFault {
+    ghost use Rattle.mtree_manifest.specs.declared.fault.ManifestFault.TheVariants as faults;
+
+    ghost from_gives = { λ _ e. e ≡ faults.NoMemory };
+
+    fn from(_: NoMemory) -> Self {
+        ManifestFault::NoMemory
+    }
+}
+
+impl From<AllocError> for ManifestFault {
+    ghost use Rattle.mtree_manifest.specs.declared.fault.ManifestFault.TheVariants as faults;
+
+    ghost from_gives = { λ _ e. e ≡ faults.NoMemory };
+
+    fn from(_: AllocError) -> Self {
+        ManifestFault::NoMemory
+    }
+}
+
+impl<T: Drop> From<AllocFailed<T>> for ManifestFault {
+    ghost use Rattle.mtree_manifest.specs.declared.fault.ManifestFault.TheVariants as faults;
+
+    ghost from_gives = { λ _ e. e ≡ faults.NoMemory };
+
+    fn from(_: AllocFailed<T>) -> Self {
+        ManifestFault::NoMemory
+    }
+}

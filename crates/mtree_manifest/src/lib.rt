@@ -1,0 +1,17 @@
+//! The manifest of an image, as mtree(5) has it: read into a tree, and written from one.
+#![tactic(auto)]
+
+mod dirs;
+mod entry;
+mod escape;
+mod fault;
+mod keys;
+mod line;
+mod parts;
+mod paths;
+mod reader;
+mod writer;
+
+pub use fault::{LineKind, ManifestFault, TEXT_MAX};
+pub use reader::read;
+pub use writer::write;

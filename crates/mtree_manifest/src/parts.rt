@@ -1,0 +1,86 @@
+//! The parts of some bytes between separators.
+ghost use Rattle.std.specs.Prelude.{◌≡◌, ◌<◌, ◌∷◌, Some, length, position, IfSome};
+ghost use Rattle.std.specs.List.{slice_split};
+ghost use Rattle.std.specs.Option.{option_copied};
+ghost use Rattle.mtree_manifest.specs.Parts.{separates, parts_of};
+
+use std::marker::Model;
+
+/// What stands between two parts.
+#[derive(Clone, Copy, Debug, PartialEq, Eq)]
+pub(crate) enum Separator {
+    Blank,
+    Slash,
+}
+
+// Whether the byte stands between two parts.
+fn separates(separator: Separator, b: u8) -> bool
+    ensures { result ≡ separates separator b }
+{
+    match separator {
+        Separator::Blank => b == b' ' || b == b'\t',
+        Separator::Slash => b == b'/',
+    }
+}
+
+fn first_separator(separator: Separator, bytes: &[u8]) -> Option<usize>
+    ensures index { result ≡ position (separates separator) bytes.now }
+    ensures within { IfSome result (λ n. n < length bytes.now) }
+{
+    bytes.iter().position(|&b| separates(separator, b))
+}
+
+// The first part, and the bytes behind the separator that ends it.
+#[tactic(auto, using(crate::proofs::Parting::cut_at, crate::proofs::Parting::cut_nowhere))]
+fn cut(separator: Separator, bytes: &[u8]) -> (&[u8], Option<&[u8]>)
+    ensures { parts_of separator (Some bytes.now) ≡ result.0.now ∷ parts_of separator (option_copied result.1) }
+{
+    match first_separator(separator, bytes) {
+        Some(n) => (&bytes[..n], Some(&bytes[n + 1..])),
+        None => (bytes, None),
+    }
+}
+
+/// The parts that are still to come, empty ones too, which contracts see as their list.
+#[derive(Drop)]
+pub(crate) struct Parts<'a> {
+    separator: Separator,
+    rest: Option<&'a [u8]>,
+}
+
+impl<'a> Model for Parts<'a> {
+    ghost use Rattle.std.specs.Prelude.{ℕ, List};
+    ghost use Rattle.std.specs.Option.{option_copied};
+    ghost use Rattle.mtree_manifest.specs.Parts.{parts_of};
+
+    ghost Value = { List (List ℕ) };
+
+    ghost view = { λ s. parts_of s.separator (option_copied s.rest) };
+}
+
+impl<'a> Iterator for Parts<'a> {
+    ghost use Rattle.std.specs.Iterator.{YieldsFirstRef, item_count};
+
+    type Item = &'a [u8];
+
+    ghost next_gives = { YieldsFirstRef (λ s. s) };
+
+    ghost remaining = { item_count (λ s. s) };
+
+    fn next(&mut self) -> Option<&'a [u8]> {
+        let rest = self.rest?;
+        let (part, behind) = cut(self.separator, rest);
+        self.rest = behind;
+        Some(part)
+    }
+}
+
+/// The parts of some bytes.
+pub(crate) fn split(separator: Separator, bytes: &[u8]) -> Parts<'_>
+    ensures { result ≡ slice_split (separates separator) bytes.now }
+{
+    Parts {
+        separator,
+        rest: Some(bytes),
+    }
+}

@@ -1,0 +1,211 @@
+//! A manifest's tree.
+ghost use Rattle.mtree_manifest.specs.declared.fault.TheConstants.{TEXT_MAX};
+ghost use Rattle.mtree_manifest.specs.declared.fault.ManifestFault.TheVariants as faults;
+ghost use Rattle.std.specs.Prelude.{◌≡◌, ◌⊎◌, ◌≤◌, Some, None, length, OnOk, IfOk, IfErr, IsTrue};
+ghost use Rattle.mtree_manifest.specs.Ends.{Ends, Gives};
+ghost use Rattle.mtree_manifest.specs.Good.{IsGood, IsGoodOpen, are_good};
+ghost use Rattle.mtree_manifest.specs.Lines.{lines_in};
+ghost use Rattle.mtree_manifest.specs.Lining.{line_in};
+ghost use Rattle.mtree_manifest.specs.Manifest.{no_lines, set_line, close_line, entry_fault, entry, stack_behind, with_reading, with_lines, tree_of, first_bad, HasOneOutcome};
+ghost use Rattle.mtree_manifest.specs.Paths.{place};
+ghost use Rattle.mtree_manifest.specs.Progress.{line_ended, physical_taken};
+ghost use Rattle.mtree_manifest.specs.Reader.{state_in, progress_in, entry_put};
+ghost use Rattle.mtree_manifest.specs.Views.{values_in, given_in};
+
+use crate::dirs::Dirs;
+use crate::entry::{find_place, is_dir, node_of, put_node, target_fault};
+use crate::fault::{LineKind, ManifestFault, TEXT_MAX};
+use crate::keys::{Given, Keys, first_fault, no_keys};
+use crate::line::{Head, Line, goes_on, start_line, with_physical};
+use crate::paths::is_full;
+use bstr::ByteSlice;
+use lib_types::NoMemory;
+use std::alloc::Global;
+use tree_face::Tree;
+
+/// What the lines so far have made.
+#[derive(Drop)]
+pub(crate) struct Reader<'a> {
+    alloc: Global,
+    tree: Tree,
+    dirs: Dirs,
+    defaults: Keys<'a>,
+    /// The path of the line at hand.
+    path: Vec<u8>,
+}
+
+// Opens the directory of a relative line, whose path begins with that of the current one.
+#[tactic(auto, using(crate::proofs::Places::place_from, crate::proofs::Places::place_longer))]
+fn open_place(dirs: &mut Dirs, keys: &Keys<'_>, first: &[u8], path: &[u8]) -> Result<(), NoMemory>
+    requires { path.now ≡ place dirs.old first.now }
+    ensures { OnOk result (dirs.new ≡ stack_behind dirs.old first.now (values_in keys.now)) }
+{
+    if is_dir(keys.kind) && !is_full(first) {
+        let len = dirs.current().len();
+        dirs.open(&path[len..])?;
+    }
+    Ok(())
+}
+
+impl<'a> Reader<'a> {
+    fn new(alloc: Global) -> Reader<'a>
+        ensures { state_in result ≡ no_lines }
+    {
+        Reader {
+            alloc,
+            tree: Tree::new(alloc),
+            dirs: Dirs::new(alloc),
+            defaults: no_keys(),
+            path: Vec::new(alloc),
+        }
+    }
+
+    // Finds the path of a line, and says what is wrong with the line.
+    fn find_entry(&mut self, given: &Given<'a>, first: &[u8]) -> Result<Option<LineKind>, NoMemory>
+        ensures fault { IfOk result (λ fault. fault ≡ entry_fault self.old.dirs first.now (given_in given.now)) }
+        ensures path { IfOk result (λ fault. fault ≡ None → self.new.path.items ≡ place self.old.dirs first.now) }
+        ensures state { state_in self.new ≡ state_in self.old }
+    {
+        let keys = &given.keys;
+        let place = find_place(
+            &mut self.path,
+            self.dirs.current(),
+            is_dir(keys.kind),
+            first,
+        )?;
+        Ok(first_fault(given.fault, first_fault(place, target_fault(keys))))
+    }
+
+    // Puts the node of a line without a fault, whose path was found.
+    fn put_entry(&mut self, line: &Line<'a>, first: &[u8]) -> Result<(), ManifestFault>
+        requires faultless { entry_fault self.old.dirs first.now (given_in line.now.given) ≡ None }
+        requires path { self.old.path.items ≡ place self.old.dirs first.now }
+        requires good { IsGood (given_in line.now.given) }
+        ensures { Ends result (entry_put line.now.number (state_in self.old) first.now (values_in line.now.given.keys)) (state_in self.new) }
+    {
+        let keys = &line.given.keys;
+        let node = node_of(self.alloc, keys, self.path.as_slice())?;
+        open_place(&mut self.dirs, keys, first, self.path.as_slice())?;
+        match node {
+            Some(node) => put_node(&mut self.tree, line.number, self.path.as_slice(), node),
+            None => Ok(()),
+        }
+    }
+
+    // A line with a path.
+    #[tactic(auto, using(crate::proofs::Goods::faultless, crate::proofs::Goods::faulty))]
+    fn read_entry(&mut self, line: &Line<'a>, first: &[u8]) -> Result<(), ManifestFault>
+        requires good { IsGood (given_in line.now.given) }
+        ensures { Ends result (with_reading line.now.number (state_in self.old) (entry self.old.dirs first.now (given_in line.now.given))) (state_in self.new) }
+    {
+        match self.find_entry(&line.given, first)? {
+            Some(kind) => Err(ManifestFault::Bad {
+                line: line.number,
+                kind,
+            }),
+            None => self.put_entry(line, first),
+        }
+    }
+
+    // A `/set` line.
+    fn set_defaults(&mut self, line: &Line<'a>) -> Result<(), ManifestFault>
+        ensures { Ends result (with_reading line.now.number (state_in self.old) (set_line (given_in line.now.given))) (state_in self.new) }
+    {
+        if let Some(kind) = line.given.fault {
+            return Err(ManifestFault::Bad {
+                line: line.number,
+                kind,
+            });
+        }
+        self.defaults = line.given.keys;
+        Ok(())
+    }
+
+    // A `..` line.
+    fn close(&mut self, number: u64) -> Result<(), ManifestFault>
+        ensures { Ends result (with_reading number (state_in self.old) (close_line self.old.dirs)) (state_in self.new) }
+    {
+        if self.dirs.close() {
+            Ok(())
+        } else {
+            Err(ManifestFault::Bad {
+                line: number,
+                kind: LineKind::BadLine,
+            })
+        }
+    }
+
+    // Takes what the words of a line say.
+    fn end_line(&mut self, line: &Line<'a>) -> Result<(), ManifestFault>
+        requires good { IsGoodOpen (line_in line.now) }
+        ensures { Ends result (line_ended (state_in self.old) (line_in line.now)) (state_in self.new) }
+    {
+        let Some((head, first)) = line.first else {
+            return Ok(());
+        };
+        match head {
+            Head::Comment => Ok(()),
+            Head::Set => self.set_defaults(line),
+            Head::Unset => {
+                self.defaults = line.given.keys;
+                Ok(())
+            }
+            Head::Close => self.close(line.number),
+            Head::Entry => self.read_entry(line, first),
+        }
+    }
+}
+
+// The line that goes on, or the start of the next one, behind one physical line more.
+fn take_physical<'a>(
+    reader: &mut Reader<'a>,
+    line: Line<'a>,
+    next: u64,
+    physical: &'a [u8],
+) -> Result<Line<'a>, ManifestFault>
+    requires defaults { IsTrue (are_good (state_in reader.old).defaults) }
+    requires good { IsGoodOpen (line_in line) }
+    ensures reads { Gives (progress_in reader.new next) result (physical_taken next (state_in reader.old) (line_in line.entry) physical.entry.now) }
+    ensures defaults { IfOk result (λ _. IsTrue (are_good (state_in reader.new).defaults)) }
+    ensures good { IfOk result (λ more. IsGoodOpen (line_in more)) }
+{
+    let line = with_physical(reader.alloc, line, physical)?;
+    if goes_on(physical) {
+        return Ok(line);
+    }
+    reader.end_line(&line)?;
+    Ok(start_line(next, reader.defaults))
+}
+
+// Reads all lines of a text.
+#[tactic(auto, using(crate::proofs::Goods::none_good, crate::proofs::Progressing::physicals, crate::proofs::Counting::few_lines))]
+fn read_lines<'a>(reader: &mut Reader<'a>, text: &'a [u8]) -> Result<(), ManifestFault>
+    requires short { length text.now ≤ TEXT_MAX }
+    requires start { state_in reader.old ≡ no_lines }
+    ensures { Ends result (with_lines no_lines (lines_in text.entry.now)) (state_in reader.new) }
+{
+    let mut line = start_line(1, reader.defaults);
+    let mut next = 1;
+    for physical in text.lines() {
+        next += 1;
+        line = take_physical(reader, line, next, physical)?;
+    }
+    reader.end_line(&line)
+}
+
+/// The tree of a manifest, or its first fault: the text's length, or the first line that is bad.
+#[tactic(auto, unfolding(crate::specs::Manifest::outcome), using(crate::proofs::Goods::one_outcome))]
+pub fn read(alloc: Global, text: &[u8]) -> Result<Tree, ManifestFault>
+    ensures tree { IfOk result (λ tree. tree_of text.now ≡ Some tree) }
+    ensures one_outcome { HasOneOutcome text.now }
+    ensures fault { IfErr result (λ fault. (fault ≡ faults.NoMemory) ⊎ (first_bad text.now ≡ Some fault)) }
+{
+    if text.len() > TEXT_MAX {
+        return Err(ManifestFault::TooLong {
+            length: text.len() as u64,
+        });
+    }
+    let mut reader = Reader::new(alloc);
+    read_lines(&mut reader, text)?;
+    Ok(reader.tree)
+}

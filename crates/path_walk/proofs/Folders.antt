@@ -1,0 +1,25 @@
+-- The bytes of a place before its last slash.
+use Rattle.std.proofs.Common.{◌≡◌, ◌<◌, ◌≤◌, ◌+◌, ℕ, suc, Bool, true, false, List, [], ◌∷◌, ◌++◌, length, take, get_or, Some, None, unwrap_or, refl, ap, sym, ◌∙◌, arith}
+use Rattle.std.proofs.lemmas.List.{take_more}
+use Rattle.lib_types.specs.Name.{slash}
+use Rattle.lib_types.proofs.SortedPairs.{by_test}
+use Rattle.path_walk.specs.Names.{is_slash, before_last, more_before}
+
+pub last_slash : (xs : List ℕ) → before_last (xs ++ slash ∷ []) ≡ Some xs
+last_slash [] = refl
+last_slash (x ∷ xs) = ap (more_before x) (last_slash xs)
+
+pub last_other : (xs : List ℕ) (b : ℕ) → is_slash b ≡ false → before_last (xs ++ b ∷ []) ≡ before_last xs
+last_other [] b e = rw e refl
+last_other (x ∷ xs) b e = ap (more_before x) (last_other xs b e)
+
+-- one byte less: it is no slash, or the slash that ends the folder
+module _ (place : List ℕ) (n m : ℕ) (less : n ≡ m + 1) (within : n ≤ length place) where
+  cut_off : take n place ≡ take m place ++ get_or place m 0 ∷ []
+  cut_off = rw less (take_more place m 0 (omega arith))
+
+  pub goes_on : is_slash (get_or place m 0) ≡ false → before_last (take n place) ≡ before_last place → before_last (take m place) ≡ before_last place
+  goes_on e h = sym (last_other (take m place) (get_or place m 0) e) ∙ ap before_last (sym cut_off) ∙ h
+
+  pub ends_here : get_or place m 0 ≡ slash → before_last (take n place) ≡ before_last place → unwrap_or (before_last place) [] ≡ take m place
+  ends_here e h = ap (λ o. unwrap_or o []) (sym h ∙ ap before_last (cut_off ∙ ap (λ b. take m place ++ b ∷ []) e) ∙ last_slash (take m place))

@@ -1,0 +1,4 @@
+mod Folders
+mod Joining
+mod Parting
+mod Walks

@@ -1,0 +1,4 @@
+pub mod Names
+pub mod Rest
+pub mod Stops
+pub mod Walk

@@ -1,0 +1,45 @@
+-- What private functions say of a walk that stops.
+use Rattle.std.specs.Prelude.{◌≡◌, ◌⊎◌, ◌++◌, ◌∷◌, ◌&&◌, ◌+◌, ℕ, Bool, true, false, List, length, Option, Some, None, Result, Ok, Err, option_map}
+use Rattle.std.specs.Option.{option_copied}
+use Rattle.name_order.specs.LibraryName.{is_library_name}
+use Rattle.tree_face.specs.declared.tree.Kind.TheVariants as kinds
+use Rattle.tree_face.specs.Tree.{Nodes, kind_at}
+use Rattle.path_walk.specs.Names.{names_of, join}
+use Rattle.path_walk.specs.Rest.{names_in}
+use Rattle.path_walk.specs.Walk.{Stop, Ends, Follows, is_plain, start_of, target_at}
+use Rattle.path_walk.specs.declared.walk.Mode.{Mode}
+use Rattle.path_walk.specs.declared.walk.WalkFault.{WalkFault}
+use Rattle.path_walk.specs.declared.walk.WalkFault.TheVariants.{Absent, NoMemory}
+use Rattle.path_walk.specs.declared.walk.Child.{Child}
+use Rattle.path_walk.specs.declared.walk.Child.TheVariants as child
+use Rattle.path_walk.specs.declared.walk.Halt.{Halt}
+use Rattle.path_walk.specs.declared.walk.Halt.TheVariants as halt
+
+-- the stop of a walk that halts at this place
+abbrev pub stop_of : Halt → List ℕ → Stop
+stop_of halt.Reached place = Ends (Ok place)
+stop_of (halt.Link target rest) place = Follows (names_of target.now ++ names_in (option_copied rest)) (start_of target.now place)
+
+-- in the folder `old` the name is this child, and `new` is the place from which the walk goes on
+abbrev pub IsChild : Nodes → Mode → List ℕ → List ℕ → List ℕ → Child → Type 0
+IsChild t mode name old new child.Dir = (kind_at t (join old name) ≡ kinds.Dir) × (new ≡ join old name)
+IsChild t mode name old new child.File = (kind_at t (join old name) ≡ kinds.File) × (new ≡ join old name)
+IsChild t mode name old new (child.Link target) =
+    (kind_at t (join old name) ≡ kinds.Link) × ((is_plain mode && is_library_name name) ≡ false) × (target.now ≡ target_at t (join old name)) × (new ≡ old)
+
+-- the name counts as absent
+abbrev pub IsAbsent : Nodes → Mode → List ℕ → List ℕ → Type 0
+IsAbsent t mode name old =
+    (kind_at t (join old name) ≡ kinds.Absent) ⊎ ((kind_at t (join old name) ≡ kinds.Link) × ((is_plain mode && is_library_name name) ≡ true))
+
+abbrev pub IsNoChild : Nodes → Mode → List ℕ → List ℕ → WalkFault → Type 0
+IsNoChild t mode name old fault = (fault ≡ NoMemory) ⊎ ((fault ≡ Absent) × IsAbsent t mode name old)
+
+-- the walk stops so, or the walk is out of memory
+abbrev pub Fails : Stop → WalkFault → Type 0
+Fails stop fault = (fault ≡ NoMemory) ⊎ (stop ≡ Ends (Err fault))
+
+-- how much is left of a text
+abbrev pub size_of : Option (List ℕ) → ℕ
+size_of None = 0
+size_of (Some bytes) = 1 + length bytes

@@ -1,0 +1,114 @@
+//! The names of a path text, and the texts of places.
+ghost use Rattle.std.specs.Prelude.{◌≡◌, ◌<◌, ◌∷◌, ◌++◌, [], None, length, position, IfSome, MatchOption, OnOk, IfOk, take};
+ghost use Rattle.std.specs.List.{slice_split};
+ghost use Rattle.std.specs.Option.{option_copied};
+ghost use Rattle.lib_types.specs.Name.{slash};
+ghost use Rattle.tree_face.specs.Paths.{root};
+ghost use Rattle.path_walk.specs.Names.{is_slash, is_kept, names_of, before_last, parent, join};
+ghost use Rattle.path_walk.specs.Rest.{parts_of, names_in, ends_at};
+ghost use Rattle.path_walk.specs.Stops.{size_of};
+
+use lib_types::NoMemory;
+use std::alloc::Global;
+
+fn first_slash(bytes: &[u8]) -> Option<usize>
+    ensures index { result ≡ position is_slash bytes.now }
+    ensures within { IfSome result (λ n. n < length bytes.now) }
+{
+    bytes.iter().position(|&b| b == b'/')
+}
+
+// The first part, and what is behind the slash that ends it.
+#[tactic(auto, using(crate::proofs::Parting::cut_at, crate::proofs::Parting::cut_nowhere))]
+fn cut(bytes: &[u8]) -> (&[u8], Option<&[u8]>)
+    ensures parts { slice_split is_slash bytes.now ≡ result.0.now ∷ parts_of (option_copied result.1) }
+    ensures shorter { IfSome result.1 (λ rest. length rest.now < length bytes.now) }
+{
+    match first_slash(bytes) {
+        Some(n) => (&bytes[..n], Some(&bytes[n + 1..])),
+        None => (bytes, None),
+    }
+}
+
+fn is_kept(name: &[u8]) -> bool
+    ensures { result ≡ is_kept name.now }
+{
+    name.len() != 0 && name != b".".as_slice()
+}
+
+/// The first name of a path text, and the text that is left; None if it has no name.
+pub fn next_name(text: Option<&[u8]>) -> Option<(&[u8], Option<&[u8]>)>
+    ensures name { MatchOption result (names_in (option_copied text.entry) ≡ [])
+        (λ next. names_in (option_copied text.entry) ≡ next.0.now ∷ names_in (option_copied next.1)) }
+    ensures shorter { IfSome result (λ next. size_of (option_copied next.1) < size_of (option_copied text.entry)) }
+{
+    let mut left = text;
+    while let Some(bytes) = left {
+        let (part, rest) = cut(bytes);
+        if is_kept(part) {
+            return Some((part, rest));
+        }
+        left = rest;
+    }
+    None
+}
+
+/// Goes to the place of this name in the folder.
+pub fn enter(place: &mut Vec<u8>, name: &[u8]) -> Result<(), NoMemory>
+    ensures { OnOk result (place.new.items ≡ join place.old.items name.now) }
+{
+    if place.as_slice() != b"/".as_slice() {
+        place.push(b'/')?;
+    }
+    place.extend_from_slice(name)?;
+    Ok(())
+}
+
+// How many bytes of a place are those of its folder, without the slash behind them.
+#[tactic(auto, using(crate::proofs::Folders::goes_on, crate::proofs::Folders::ends_here))]
+fn folder_len(place: &[u8]) -> usize
+    ensures { ends_at place.now result }
+{
+    let mut n = place.len();
+    while n > 0 {
+        n -= 1;
+        if place[n] == b'/' {
+            return n;
+        }
+    }
+    0
+}
+
+/// Goes to the folder of the place; from the root to the root.
+pub fn leave(place: &mut Vec<u8>) -> Result<(), NoMemory>
+    ensures { OnOk result (place.new.items ≡ parent place.old.items) }
+{
+    let n = folder_len(place);
+    place.truncate(n);
+    if place.is_empty() {
+        place.push(b'/')?;
+    }
+    Ok(())
+}
+
+// Two texts with a slash between them.
+fn with_slash(alloc: Global, first: &[u8], rest: &[u8]) -> Result<Vec<u8>, NoMemory>
+    ensures { IfOk result (λ text. text.items ≡ first.now ++ slash ∷ rest.now) }
+{
+    let mut text = Vec::with_capacity(alloc, first.len() + 1 + rest.len())?;
+    text.extend_from_slice(first)?;
+    text.push(b'/')?;
+    text.extend_from_slice(rest)?;
+    Ok(text)
+}
+
+/// A text of the first one's names and then of those that are left.
+#[tactic(auto, using(crate::proofs::Joining::names_joined, crate::proofs::Joining::names_alone))]
+pub fn joined(alloc: Global, first: &[u8], rest: Option<&[u8]>) -> Result<Vec<u8>, NoMemory>
+    ensures { IfOk result (λ text. names_of text.items ≡ names_of first.now ++ names_in (option_copied rest.entry)) }
+{
+    match rest {
+        Some(rest) => with_slash(alloc, first, rest),
+        None => Ok(Vec::from_slice(alloc, first)?),
+    }
+}

@@ -1,0 +1,227 @@
+//! The walk from name to name.
+ghost use Rattle.std.specs.Prelude.{◌≡◌, ◌⊎◌, ◌++◌, ◌∷◌, ℕ, List, IfOk, IfErr, Ok, Err, Some, MatchResult, MatchOption, OnOk};
+ghost use Rattle.std.specs.Option.{option_copied};
+ghost use Rattle.tree_face.specs.Paths.{root};
+ghost use Rattle.tree_face.specs.Tree.{kind_at};
+ghost use Rattle.path_walk.specs.Names.{names_of, join};
+ghost use Rattle.path_walk.specs.Walk.{steps, walk, at_file, start_of, target_at, is_plain, resolution};
+ghost use Rattle.path_walk.specs.Stops.{stop_of, IsChild, IsNoChild, Fails};
+ghost use Rattle.path_walk.specs.Rest.{names_in};
+ghost use Rattle.path_walk.specs.declared.walk.WalkFault.TheVariants as faults;
+
+use crate::names::{enter, joined, leave, next_name};
+use lib_types::{NoMemory, Text};
+use name_order::is_library_name;
+use std::alloc::{AllocError, Global};
+use tree_face::{Kind, Node, Tree};
+
+/// Which links are followed.
+#[derive(Clone, Copy, Debug, PartialEq, Eq)]
+pub enum Mode {
+    /// A link with a library name counts as absent: ldconfig makes such links itself.
+    Plain,
+    /// All links.
+    Full,
+}
+
+/// Why a path leads nowhere.
+#[derive(Clone, Copy, Debug, PartialEq, Eq)]
+pub enum WalkFault {
+    /// A name isn't there.
+    Absent,
+    /// A name or `..` is looked for below a file.
+    NotDir,
+    /// More links would have to be followed than a walk may follow.
+    TooManyLinks,
+    NoMemory,
+}
+
+impl From<NoMemory> for WalkFault {
+    ghost from_gives = { λ _ e. e ≡ faults.NoMemory };
+
+    fn from(_: NoMemory) -> Self {
+        WalkFault::NoMemory
+    }
+}
+
+impl From<AllocError> for WalkFault {
+    ghost from_gives = { λ _ e. e ≡ faults.NoMemory };
+
+    fn from(_: AllocError) -> Self {
+        WalkFault::NoMemory
+    }
+}
+
+/// The most links that one walk follows (as Linux does, path_resolution(7)).
+pub const LINKS_MAX: usize = 40;
+
+// Where a walk halts: at its end, or at a link that is followed.
+#[derive(Clone, Copy)]
+enum Halt<'t, 'p> {
+    Reached,
+    Link {
+        target: &'t [u8],
+        rest: Option<&'p [u8]>,
+    },
+}
+
+// What a name in a folder is, a link with its target.
+#[derive(Clone, Copy)]
+enum Child<'t> {
+    Dir,
+    File,
+    Link(&'t [u8]),
+}
+
+fn target_at<'t>(tree: &'t Tree, path: &[u8]) -> &'t [u8]
+    ensures { result.now ≡ target_at tree.now path.now }
+{
+    match tree.node(path) {
+        Some(Node::Link { target }) => target.as_bytes(),
+        _ => b"",
+    }
+}
+
+fn is_plain(mode: Mode) -> bool
+    ensures { result ≡ is_plain mode }
+{
+    match mode {
+        Mode::Plain => true,
+        Mode::Full => false,
+    }
+}
+
+// Goes to the child of this name in the folder; to a link not, since the walk goes on by its target.
+fn step<'t>(
+    tree: &'t Tree,
+    mode: Mode,
+    place: &mut Vec<u8>,
+    name: &[u8],
+) -> Result<Child<'t>, WalkFault>
+    ensures child { IfOk result (IsChild tree.now mode name.now place.old.items place.new.items) }
+    ensures none { IfErr result (IsNoChild tree.now mode name.now place.old.items) }
+{
+    let folder = place.len();
+    enter(place, name)?;
+    match tree.kind(place) {
+        Kind::Absent => Err(WalkFault::Absent),
+        Kind::Dir => Ok(Child::Dir),
+        Kind::File => Ok(Child::File),
+        Kind::Link => {
+            if is_plain(mode) && is_library_name(name) {
+                return Err(WalkFault::Absent);
+            }
+            let target = target_at(tree, place);
+            place.truncate(folder);
+            Ok(Child::Link(target))
+        }
+    }
+}
+
+// Where a walk ends at a file with this text left.
+fn at_file<'t, 'p>(rest: Option<&'p [u8]>) -> Result<Halt<'t, 'p>, WalkFault>
+    ensures { (place : List ℕ) → MatchResult result (λ halt. at_file (names_in (option_copied rest.entry)) place ≡ stop_of halt place) (Fails (at_file (names_in (option_copied rest.entry)) place)) }
+{
+    match next_name(rest) {
+        Some(_) => Err(WalkFault::NotDir),
+        None => Ok(Halt::Reached),
+    }
+}
+
+// Goes on by one name, with this text left behind it: None if the walk goes on from the new place.
+fn go<'t, 'p>(
+    tree: &'t Tree,
+    mode: Mode,
+    place: &mut Vec<u8>,
+    name: &[u8],
+    rest: Option<&'p [u8]>,
+) -> Result<Option<Halt<'t, 'p>>, WalkFault>
+    ensures goes { IfOk result (λ stop. MatchOption stop
+        (steps tree.now mode (name.now ∷ names_in (option_copied rest.entry)) place.old.items ≡ steps tree.now mode (names_in (option_copied rest.entry)) place.new.items)
+        (λ halt. steps tree.now mode (name.now ∷ names_in (option_copied rest.entry)) place.old.items ≡ stop_of halt place.new.items)) }
+    ensures fails { IfErr result (Fails (steps tree.now mode (name.now ∷ names_in (option_copied rest.entry)) place.old.items)) }
+{
+    if name == b"..".as_slice() {
+        leave(place)?;
+        return Ok(None);
+    }
+    match step(tree, mode, place, name)? {
+        Child::Dir => Ok(None),
+        Child::File => Ok(Some(at_file(rest)?)),
+        Child::Link(target) => Ok(Some(Halt::Link { target, rest })),
+    }
+}
+
+// Walks by the names of this text, up to the end or to the first link that is followed.
+fn walk_names<'t, 'p>(
+    tree: &'t Tree,
+    mode: Mode,
+    place: &mut Vec<u8>,
+    path: Option<&'p [u8]>,
+) -> Result<Halt<'t, 'p>, WalkFault>
+    ensures halts { IfOk result (λ halt. steps tree.now mode (names_in (option_copied path.entry)) place.old.items ≡ stop_of halt place.new.items) }
+    ensures fails { IfErr result (Fails (steps tree.now mode (names_in (option_copied path.entry)) place.old.items)) }
+{
+    let mut left = path;
+    while let Some((name, rest)) = next_name(left) {
+        if let Some(halt) = go(tree, mode, place, name, rest)? {
+            return Ok(halt);
+        }
+        left = rest;
+    }
+    Ok(Halt::Reached)
+}
+
+// Goes to the place from which the walk goes on by a target.
+fn restart(place: &mut Vec<u8>, target: &[u8]) -> Result<(), NoMemory>
+    ensures { OnOk result (place.new.items ≡ start_of target.now place.old.items) }
+{
+    if target.starts_with(b"/") {
+        place.clear();
+        place.push(b'/')?;
+    }
+    Ok(())
+}
+
+// The walk by this path text from the place, which follows at most LINKS_MAX links.
+#[tactic(auto, using(crate::proofs::Walks::walk_ends, crate::proofs::Walks::walk_follows, crate::proofs::Walks::walk_stops))]
+fn follow(
+    alloc: Global,
+    tree: &Tree,
+    mode: Mode,
+    place: &mut Vec<u8>,
+    path: Vec<u8>,
+) -> Result<(), WalkFault>
+    ensures reached { OnOk result (walk tree.now mode LINKS_MAX (steps tree.now mode (names_of path.items) place.old.items) ≡ Ok place.new.items) }
+    ensures fails { IfErr result (λ fault. (fault ≡ faults.NoMemory) ⊎ (walk tree.now mode LINKS_MAX (steps tree.now mode (names_of path.items) place.old.items) ≡ Err fault)) }
+{
+    let mut path = path;
+    for link in 0..LINKS_MAX {
+        let more = match walk_names(tree, mode, place, Some(&path))? {
+            Halt::Reached => return Ok(()),
+            Halt::Link { target, rest } => {
+                restart(place, target)?;
+                joined(alloc, target, rest)?
+            }
+        };
+        path = more;
+    }
+    match walk_names(tree, mode, place, Some(&path))? {
+        Halt::Reached => Ok(()),
+        Halt::Link { .. } => Err(WalkFault::TooManyLinks),
+    }
+}
+
+/// The place to which a path text leads, without links. A text is taken below the root, with or without a slash in front.
+///
+/// Takes memory for the place and for what is left of the path.
+#[tactic(auto, unfolding(crate::specs::Walk::resolution))]
+pub fn resolve(alloc: Global, tree: &Tree, path: &[u8], mode: Mode) -> Result<Text, WalkFault>
+    ensures place { IfOk result (λ place. resolution tree.now path.now mode ≡ Ok place) }
+    ensures fault { IfErr result (λ fault. (fault ≡ faults.NoMemory) ⊎ (resolution tree.now path.now mode ≡ Err fault)) }
+{
+    let mut place = Vec::from_slice(alloc, b"/")?;
+    let left = Vec::from_slice(alloc, path)?;
+    follow(alloc, tree, mode, &mut place, left)?;
+    Ok(Text::from_vec(place))
+}

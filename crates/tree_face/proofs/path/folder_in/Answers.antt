@@ -1,0 +1,11 @@
+use Rattle.std.proofs.Common.{◌≡◌, ◌≤◌, ◌++◌, length, take, drop, ap, ◌∙◌, arith, length-append}
+use Rattle.tree_face.proofs.Names.{folder_taken}
+use Rattle.tree_face.proofs.Rising.{below_rest}
+use Rattle.tree_face.specs.Paths.{folder}
+use Rattle.tree_face.proofs.path.folder_in.Goals as goal
+
+pub returns : goal.returns
+returns c =
+    let f = folder c.args.path.now in
+    let q = c.args.other.now in
+    ap (λ n. take n q) c.folder_len.ensures ∙ folder_taken f q (drop (length f) q) (below_rest c.args.path.now q c.requires.below)

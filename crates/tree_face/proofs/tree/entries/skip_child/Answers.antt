@@ -1,0 +1,13 @@
+use Rattle.std.proofs.Common.{rules, ◌≡◌, true, List, ℕ, ap, sym, ◌∙◌}
+use Rattle.std.specs.List.{dedup_from}
+use Rattle.std.specs.Str.{bytes_eq}
+use Rattle.tree_face.proofs.Names.{child_skipped}
+use Rattle.tree_face.specs.Runs.{names_behind}
+use Rattle.tree_face.proofs.tree.entries.skip_child.Goals as goal
+
+pub loop-entry-preserved : goal.loop-entry-preserved
+loop-entry-preserved c =
+    let folder = c.args.folder.now in
+    let name = c.args.name.now in
+    sym (child_skipped folder name (c.in-Some.entry.now.0, c.in-Some.entry.now.1) c.in-Some.more (search rules))
+    ∙ ap (λ t. dedup_from bytes_eq name (names_behind folder t)) (sym c.in-Some.ensures) ∙ c.loop-entry.invariant

@@ -1,0 +1,135 @@
+//! A run of a tree's entries.
+ghost use Rattle.std.specs.Prelude.{◌≡◌, ◌==◌, ◌<◌, ◌≤◌, [], OnOk, OnErr, IfOk, IfErr, length, take, drop, slice_index_or, slice_set};
+ghost use Rattle.std.specs.List.{insert, remove};
+ghost use Rattle.tree_face.specs.Paths.{path_cmp};
+ghost use Rattle.tree_face.specs.Index.{IsIndexOf, IsGapFor};
+ghost use Rattle.tree_face.specs.Runs.{begins_by};
+ghost use Rattle.tree_face.specs.Tree.{IsPathSorted};
+
+use crate::node::Node;
+use crate::path::compare;
+use lib_types::{NoMemory, Text};
+use std::alloc::Global;
+use std::cmp::Ordering;
+use std::marker::Model;
+
+/// A path and its node.
+pub(super) type PathEntry = (Text, Node);
+
+/// The most entries of a run. What is put or removed moves no more entries than that.
+pub(super) const RUN_MAX: usize = 512;
+
+/// Entries that stand in one block of memory, which contracts see as their list.
+#[derive(Drop)]
+pub(super) struct Run {
+    entries: Vec<PathEntry>,
+}
+
+impl Model for Run {
+    ghost use Rattle.tree_face.specs.Tree.{Nodes};
+
+    ghost Value = { Nodes };
+
+    ghost view = { λ r. r.entries.items };
+}
+
+impl Run {
+    /// A run without entries. It keeps the allocator and takes no memory.
+    pub(super) fn new(alloc: Global) -> Run
+        ensures { result ≡ [] }
+    {
+        Run {
+            entries: Vec::new(alloc),
+        }
+    }
+
+    /// The number of entries.
+    pub(super) fn len(&self) -> usize
+        ensures { result ≡ length self.now }
+    {
+        self.entries.len()
+    }
+
+    /// The entries.
+    pub(super) fn as_slice(&self) -> &[PathEntry]
+        ensures { result.now ≡ self.now }
+    {
+        self.entries.as_slice()
+    }
+
+    /// Whether the run begins at the path or before it.
+    pub(super) fn begins_by(&self, path: &[u8]) -> bool
+        ensures { result ≡ begins_by path.now self.now }
+    {
+        match self.entries.as_slice().split_first() {
+            Some((first, _)) => !compare(first.0.as_bytes(), path).is_gt(),
+            None => true,
+        }
+    }
+
+    /// The index of the path's entry, or that of its gap.
+    pub(super) fn search(&self, path: &[u8]) -> Result<usize, usize>
+        requires { IsPathSorted self.now }
+        ensures found { IfOk result (IsIndexOf self.now path.now) }
+        ensures absent { IfErr result (IsGapFor self.now path.now) }
+    {
+        search(&self.entries, path)
+    }
+
+    /// Overwrites the node of the entry at this index.
+    pub(super) fn set_node(&mut self, index: usize, node: Node)
+        requires { index < length self.old }
+        ensures { (d : _) → self.new ≡ slice_set self.old index ((slice_index_or self.old index d).0, node) }
+    {
+        set_node(&mut self.entries, index, node);
+    }
+
+    /// Removes the entry at this index.
+    pub(super) fn remove(&mut self, index: usize)
+        requires { index < length self.old }
+        ensures { self.new ≡ remove self.old index }
+    {
+        let _ = self.entries.remove(index);
+    }
+
+    /// Inserts an entry at this index.
+    pub(super) fn insert(&mut self, index: usize, entry: PathEntry) -> Result<(), NoMemory>
+        requires { index ≤ length self.old }
+        ensures done { OnOk result (self.new ≡ insert self.old index entry) }
+        ensures refused { OnErr result (self.new ≡ self.old) }
+    {
+        self.entries.insert(index, entry)?;
+        Ok(())
+    }
+
+    /// Keeps the entries before this index, and returns the others as a run of their own.
+    pub(super) fn split_off(&mut self, index: usize) -> Result<Run, NoMemory>
+        requires { index ≤ length self.old }
+        ensures front { OnOk result (self.new ≡ take index self.old) }
+        ensures back { IfOk result (λ run. run ≡ drop index self.old) }
+        ensures refused { OnErr result (self.new ≡ self.old) }
+    {
+        let entries = self.entries.split_off(index)?;
+        Ok(Run { entries })
+    }
+}
+
+fn search(entries: &Vec<PathEntry>, path: &[u8]) -> Result<usize, usize>
+    requires { IsPathSorted entries.now.items }
+    ensures found { IfOk result (IsIndexOf entries.now.items path.now) }
+    ensures absent { IfErr result (IsGapFor entries.now.items path.now) }
+{
+    entries.binary_search_by(
+        |entry: &PathEntry| -> Ordering
+            ensures { result ≡ path_cmp entry.now.0 path.entry.now }
+        { compare(entry.0.as_bytes(), path) },
+    )
+}
+
+// Overwrites the node of the entry at this index.
+fn set_node(entries: &mut Vec<PathEntry>, index: usize, node: Node)
+    requires { index < length entries.old.items }
+    ensures { (d : _) → entries.new.items ≡ slice_set entries.old.items index ((slice_index_or entries.old.items index d).0, node) }
+{
+    entries[index].1 = node;
+}
