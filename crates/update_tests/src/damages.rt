@@ -1,9 +1,7 @@
 //! The example's library with some of its bytes changed.
-use crate::fixture::{
-    LIBZ_KEY, LIBZ_MANIFEST, LIBZ_REPORT, assert_not_built, assert_update, done, image, one,
-};
-use crate::samples::{LIBZ, ONE_CACHE};
+use crate::updates::{assert_not_built, assert_update};
 use std::test::Fail;
+use update_fixture::{LIBZ, LIBZ_KEY, LIBZ_MANIFEST, LIBZ_REPORT, ONE_CACHE, done, image, one};
 
 // The library with one byte changed.
 fn with_byte(at: usize, byte: u8) -> [u8; 251] {

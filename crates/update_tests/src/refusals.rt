@@ -1,13 +1,13 @@
 //! Arguments, manifests and libraries that are refused.
-use crate::fixture::{
-    LIBZ_KEY, LIBZ_MANIFEST, OLD, Setting, assert_not_built, assert_slot, assert_update, image,
-    library, make_devices, one, refused, run_words,
-};
-use crate::samples::{I386_LIBZ, LIBZ};
+use crate::updates::{assert_not_built, assert_update};
 use ldconfig_cli::Status;
 use mtree_manifest::{LineKind, ManifestFault};
 use std::test::Fail;
 use tree_face::{Disk, Slot};
+use update_fixture::{
+    I386_LIBZ, LIBZ, LIBZ_KEY, LIBZ_MANIFEST, OLD, Setting, has, image, library, make_devices, one,
+    refused, run_words,
+};
 
 // The kinds of line faults are tried by the tests of manifests; here one of each form of fault line.
 #[test]
@@ -142,7 +142,10 @@ fn other_words_touch_nothing(rt: HostRuntime) -> Result<(), Fail> {
         );
         assert_eq!(rt; devices.store.begun(), 0, "{words:?}");
         assert!(rt; devices.disk.read(alloc, Slot::Cache).is_err(), "{words:?}");
-        assert_slot(&rt, alloc, &mut devices.disk, Slot::Cache, Some(OLD))?;
+        assert!(rt;
+            has(alloc, &mut devices.disk, Slot::Cache, Some(OLD)),
+            "{words:?}"
+        );
     }
     Ok(())
 }

@@ -1,11 +1,6 @@
 //! Devices that fail, each at each of its calls.
 ghost use Rattle.tree_face.specs.SureStream.{failing_sink_state};
 
-use crate::fixture::{
-    Devices, LIBZ_KEY, LIBZ_MANIFEST, OLD, Setting, Wanted, assert_slot, assert_update, done,
-    image, make_devices, number, one, refused, replacing_calls, run_words, strings,
-};
-use crate::samples::{LIBZ, ONE_CACHE};
 use ldconfig_cli::{Status, run};
 use lib_types::Failed;
 use mtree_manifest::{LineKind, ManifestFault};
@@ -13,6 +8,24 @@ use std::alloc::Global;
 use std::process::Abort;
 use std::test::Fail;
 use tree_face::{Disk, MemSink, Sink, Slot};
+use update_fixture::{
+    Devices, LIBZ, LIBZ_KEY, LIBZ_MANIFEST, OLD, ONE_CACHE, Pairs, Setting, Wanted, done, has,
+    image, is_left, make_devices, number, one, refused, replacing_calls, run_words, strings,
+};
+
+// Runs an update and compares all that it leaves.
+fn assert_update(
+    rt: &impl Abort,
+    alloc: Global,
+    setting: Setting<'_>,
+    held: Pairs,
+    want: Wanted<'_>,
+) -> Result<(), Fail> {
+    let mut devices = make_devices(alloc, setting, held)?;
+    let status = run_words(alloc, &["update"], &mut devices)?;
+    assert!(rt; is_left(alloc, setting, status, &mut devices, want));
+    Ok(())
+}
 
 #[test]
 fn the_store_fails(rt: HostRuntime) -> Result<(), Fail> {
@@ -24,9 +37,9 @@ fn the_store_fails(rt: HostRuntime) -> Result<(), Fail> {
             store_fails: Some(call),
             ..image(LIBZ_MANIFEST)
         };
-        let _ = assert_update(&rt, alloc, setting, held, want)?;
+        assert_update(&rt, alloc, setting, held, want)?;
     }
-    let _ = assert_update(&rt, alloc, image(LIBZ_MANIFEST), Vec::new(alloc), want)?;
+    assert_update(&rt, alloc, image(LIBZ_MANIFEST), Vec::new(alloc), want)?;
     Ok(())
 }
 
@@ -48,8 +61,11 @@ fn assert_disk_fault(
     let made = calls.iter().take(call.saturating_sub(1) as usize);
     assert!(rt; devices.disk.calls().iter().eq(made), "call {call}");
     let disk = &mut devices.disk;
-    assert_slot(rt, alloc, disk, Slot::Manifest, Some(LIBZ_MANIFEST))?;
-    assert_slot(rt, alloc, disk, Slot::Aux, None)?;
+    assert!(rt;
+        has(alloc, disk, Slot::Manifest, Some(LIBZ_MANIFEST)),
+        "call {call}"
+    );
+    assert!(rt; has(alloc, disk, Slot::Aux, None), "call {call}");
     let cache = disk.read(alloc, Slot::Cache)?;
     let found = cache.as_ref().map(|v| v.as_slice());
     // a publishing that failed leaves the old content or the new one
@@ -124,7 +140,7 @@ fn the_sink_fails(rt: HostRuntime) -> Result<(), Fail> {
             out_fails: Some(0),
             ..image(manifest)
         };
-        let _ = assert_update(&rt, alloc, setting, one(alloc, LIBZ_KEY, &LIBZ)?, want)?;
+        assert_update(&rt, alloc, setting, one(alloc, LIBZ_KEY, &LIBZ)?, want)?;
     }
     Ok(())
 }
@@ -173,7 +189,10 @@ fn a_sink_takes_parts(rt: HostRuntime) -> Result<(), Fail> {
         let status = run(alloc, &words, store, disk, input, &mut out);
         assert_eq!(rt; status, want, "call {call}");
         assert_eq!(rt; out.sink.written(), written, "call {call}");
-        assert_slot(&rt, alloc, disk, Slot::Cache, Some(ONE_CACHE))?;
+        assert!(rt;
+            has(alloc, disk, Slot::Cache, Some(ONE_CACHE)),
+            "call {call}"
+        );
     }
     Ok(())
 }

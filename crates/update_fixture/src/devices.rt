@@ -1,10 +1,8 @@
 //! Devices in memory for one run of the command, and what they have to hold after it.
 use crate::samples::LIBZ;
 use ldconfig_cli::{Status, run};
-use lib_types::Text;
+use lib_types::{NoMemory, Text};
 use std::alloc::Global;
-use std::process::Abort;
-use std::test::Fail;
 use tree_face::{Call, Disk, DoneCall, MemDisk, MemSink, MemSource, MemStore, Slot, Tag};
 
 /// What the Cache slot holds before a run.
@@ -44,7 +42,8 @@ pub struct Devices {
     pub out: MemSink,
 }
 
-pub(crate) fn image(manifest: &[u8]) -> Setting<'_> {
+/// A run with this manifest, in which no device fails.
+pub fn image(manifest: &[u8]) -> Setting<'_> {
     Setting {
         manifest: Some(manifest),
         store_fails: None,
@@ -53,7 +52,8 @@ pub(crate) fn image(manifest: &[u8]) -> Setting<'_> {
     }
 }
 
-pub(crate) fn done<'a>(written: &'a [u8], cache: &'a [u8]) -> Wanted<'a> {
+/// What a run that is done leaves.
+pub fn done<'a>(written: &'a [u8], cache: &'a [u8]) -> Wanted<'a> {
     Wanted {
         status: Status::Done,
         written,
@@ -61,7 +61,8 @@ pub(crate) fn done<'a>(written: &'a [u8], cache: &'a [u8]) -> Wanted<'a> {
     }
 }
 
-pub(crate) fn refused(status: Status, written: &[u8]) -> Wanted<'_> {
+/// What a refused run leaves: the old cache.
+pub fn refused(status: Status, written: &[u8]) -> Wanted<'_> {
     Wanted {
         status,
         written,
@@ -69,7 +70,8 @@ pub(crate) fn refused(status: Status, written: &[u8]) -> Wanted<'_> {
     }
 }
 
-pub(crate) fn strings(alloc: Global, texts: &[&str]) -> Result<Vec<String>, Fail> {
+/// Arguments.
+pub fn strings(alloc: Global, texts: &[&str]) -> Result<Vec<String>, NoMemory> {
     let mut found = Vec::new(alloc);
     for text in texts {
         found.push(String::from_str(alloc, text)?)?;
@@ -78,13 +80,14 @@ pub(crate) fn strings(alloc: Global, texts: &[&str]) -> Result<Vec<String>, Fail
 }
 
 /// What holds only this.
-pub(crate) fn one(alloc: Global, key: &[u8], content: &[u8]) -> Result<Pairs, Fail> {
+pub fn one(alloc: Global, key: &[u8], content: &[u8]) -> Result<Pairs, NoMemory> {
     let mut held = Vec::new(alloc);
     held.push((Text::copy_of(alloc, key)?, Text::copy_of(alloc, content)?))?;
     Ok(held)
 }
 
-pub(crate) fn number(alloc: Global, call: Option<u64>) -> Result<Vec<u64>, Fail> {
+/// A list of this call, or of none.
+pub fn number(alloc: Global, call: Option<u64>) -> Result<Vec<u64>, NoMemory> {
     let mut calls = Vec::new(alloc);
     if let Some(call) = call {
         calls.push(call)?;
@@ -92,18 +95,16 @@ pub(crate) fn number(alloc: Global, call: Option<u64>) -> Result<Vec<u64>, Fail>
     Ok(calls)
 }
 
-pub(crate) fn copy(alloc: Global, bytes: Option<&[u8]>) -> Result<Option<Vec<u8>>, Fail> {
+/// A copy of these bytes, if there are some.
+pub fn copy(alloc: Global, bytes: Option<&[u8]>) -> Result<Option<Vec<u8>>, NoMemory> {
     match bytes {
         Some(bytes) => Ok(Some(Vec::from_slice(alloc, bytes)?)),
         None => Ok(None),
     }
 }
 
-pub(crate) fn make_devices(
-    alloc: Global,
-    setting: Setting<'_>,
-    held: Pairs,
-) -> Result<Devices, Fail> {
+/// Devices in memory of this setting.
+pub fn make_devices(alloc: Global, setting: Setting<'_>, held: Pairs) -> Result<Devices, NoMemory> {
     Ok(Devices {
         store: MemStore::new(held, number(alloc, setting.store_fails)?),
         disk: MemDisk::new(
@@ -118,11 +119,8 @@ pub(crate) fn make_devices(
     })
 }
 
-pub(crate) fn run_words(
-    alloc: Global,
-    texts: &[&str],
-    devices: &mut Devices,
-) -> Result<Status, Fail> {
+/// Runs the command of these arguments.
+pub fn run_words(alloc: Global, texts: &[&str], devices: &mut Devices) -> Result<Status, NoMemory> {
     let words = strings(alloc, texts)?;
     Ok(run(
         alloc,
@@ -134,40 +132,32 @@ pub(crate) fn run_words(
     ))
 }
 
-pub(crate) fn assert_slot<D: Disk>(
-    rt: &impl Abort,
-    alloc: Global,
-    disk: &mut D,
-    slot: Slot,
-    want: Option<&[u8]>,
-) -> Result<(), Fail> {
-    let found = disk.read(alloc, slot)?;
-    assert_eq!(rt; found.as_ref().map(|v| v.as_slice()), want, "{slot:?}");
-    Ok(())
+/// Whether the slot holds these bytes, or nothing if they are None.
+pub fn has<D: Disk>(alloc: Global, disk: &mut D, slot: Slot, want: Option<&[u8]>) -> bool {
+    match (disk.read(alloc, slot), want) {
+        (Ok(Some(found)), Some(want)) => found.as_slice() == want,
+        (Ok(None), None) => true,
+        _ => false,
+    }
 }
 
-/// Runs an update, compares all that it leaves, and hands the devices on.
-pub(crate) fn assert_update(
-    rt: &impl Abort,
+/// Whether a run with this status has left what is wanted.
+pub fn is_left(
     alloc: Global,
     setting: Setting<'_>,
-    held: Pairs,
+    status: Status,
+    devices: &mut Devices,
     want: Wanted<'_>,
-) -> Result<Devices, Fail> {
-    let mut devices = make_devices(alloc, setting, held)?;
-    let status = run_words(alloc, &["update"], &mut devices)?;
-    let manifest = setting.manifest;
-    assert_eq!(rt; status, want.status, "{manifest:?}");
-    assert_eq!(rt; devices.out.written(), want.written, "{manifest:?}");
-    let disk = &mut devices.disk;
-    assert_slot(rt, alloc, disk, Slot::Manifest, setting.manifest)?;
-    assert_slot(rt, alloc, disk, Slot::Cache, Some(want.cache))?;
-    assert_slot(rt, alloc, disk, Slot::Aux, None)?;
-    Ok(devices)
+) -> bool {
+    status == want.status
+        && devices.out.written() == want.written
+        && has(alloc, &mut devices.disk, Slot::Manifest, setting.manifest)
+        && has(alloc, &mut devices.disk, Slot::Cache, Some(want.cache))
+        && has(alloc, &mut devices.disk, Slot::Aux, None)
 }
 
 /// The calls that replace the Cache slot.
-pub(crate) fn replacing_calls() -> [DoneCall; 5] {
+pub fn replacing_calls() -> [DoneCall; 5] {
     [
         Call::Create,
         Call::Append,
@@ -183,7 +173,7 @@ pub(crate) fn replacing_calls() -> [DoneCall; 5] {
 }
 
 /// The example's library under another DT_SONAME.
-pub(crate) fn library(alloc: Global, soname: &[u8]) -> Result<Vec<u8>, Fail> {
+pub fn library(alloc: Global, soname: &[u8]) -> Result<Vec<u8>, NoMemory> {
     let table = 2 + soname.len() as u64;
     let size = 240 + table;
     let mut front = LIBZ;
@@ -194,24 +184,4 @@ pub(crate) fn library(alloc: Global, soname: &[u8]) -> Result<Vec<u8>, Fail> {
     bytes.extend_from_slice(soname)?;
     bytes.push(0)?;
     Ok(bytes)
-}
-
-/// Runs an update of the example with this content in the library's file, which has to be refused.
-pub(crate) fn assert_not_built(
-    rt: &impl Abort,
-    alloc: Global,
-    content: &[u8],
-    what: &str,
-) -> Result<(), Fail> {
-    let held = one(alloc, LIBZ_KEY, content)?;
-    let mut devices = make_devices(alloc, image(LIBZ_MANIFEST), held)?;
-    let status = run_words(alloc, &["update"], &mut devices)?;
-    assert_eq!(rt; status, Status::NotBuilt, "{what}");
-    assert_eq!(rt;
-        devices.out.written(),
-        b"fault: NotBuilt\n".as_slice(),
-        "{what}"
-    );
-    assert!(rt; devices.disk.calls().is_empty(), "{what}");
-    Ok(())
 }
