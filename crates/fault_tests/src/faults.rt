@@ -31,7 +31,8 @@ fn assert_update(
 fn the_store_fails(rt: HostRuntime) -> Result<(), Fail> {
     let alloc = rt.alloc();
     let want = refused(Status::StoreFault, b"fault: StoreFault\n");
-    for call in 0..2 {
+    // the key is begun; then header, program headers, dynamic entries and the text are read
+    for call in 0..6 {
         let held = one(alloc, LIBZ_KEY, &LIBZ)?;
         let setting = Setting {
             store_fails: Some(call),

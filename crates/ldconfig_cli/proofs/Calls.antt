@@ -1,8 +1,7 @@
 -- Writing calls that are added one after another.
-use Rattle.std.proofs.Common.{◌≡◌, ◌⊎◌, ℕ, List, [], ◌∷◌, ◌++◌, length, take, Option, Some, None, Result, Ok, Err, sym, ap, ◌∙◌, append_assoc, inl, inr}
+use Rattle.std.proofs.Common.{◌≡◌, List, [], ◌∷◌, ◌++◌, length, take, Option, Some, None, Result, Ok, Err, sym, ap, ◌∙◌, append_assoc, inl, inr}
 use Rattle.std.proofs.Math.Seq.{take-append_seam}
-use Rattle.std.specs.Result.{OnOk, OnErr}
-use Rattle.lib_types.specs.declared.fault.Failed.{Failed}
+use Rattle.std.specs.Result.{OnErr}
 use Rattle.tree_face.specs.declared.disk.DoneCall.{DoneCall}
 use Rattle.tree_face.specs.Disk.{Adds, MayAdd}
 use Rattle.tree_face.specs.Known.{Relates}

@@ -8,7 +8,6 @@ use Rattle.tree_face.specs.Store.{Contents}
 use Rattle.tree_face.specs.Tree.{Nodes}
 use Rattle.ldconfig_cli.specs.Manifest.{HasTree, manifest_of, manifest_by}
 use Rattle.mtree_manifest.specs.Manifest as manifests
-use Rattle.mtree_manifest.specs.declared.fault.ManifestFault.{ManifestFault}
 use Rattle.ldconfig_cli.specs.Outcome.{outcome, Lacking}
 use Rattle.ldconfig_cli.specs.Update.{LacksLibrary}
 

@@ -1,13 +1,8 @@
-pub mod Analysis
 pub mod Calls
 pub mod Completing
-pub mod Counting
 pub mod Lacking
 pub mod Listing
 pub mod OnlyArgument
-pub mod Ranges
 pub mod Short
 pub mod Slots
-pub mod StringPool
-pub mod Texts
 pub mod Unique

@@ -1,4 +1,4 @@
--- NamedKey names are no longer than their paths.
+-- The names of libraries are no longer than their paths.
 use Rattle.std.proofs.Common.{◌≡◌, ℕ, ◌≤◌, Bool, true, false, cond, ◌&&◌, nat_le, nat_eq, List, [], ◌∷◌, length, drop, Some, None, refl, sym, ap, arith, length-drop}
 use Rattle.std.proofs.lemmas.List.Sums.{AllPass-from_list_all}
 use Rattle.std.proofs.lemmas.List.Elements.{All-weaker}
@@ -10,16 +10,17 @@ use Rattle.tree_face.specs.declared.node.Node.TheVariants.{Dir, File, Link}
 use Rattle.tree_face.specs.Paths.{is_path, are_names, root}
 use Rattle.tree_face.specs.Tree.{Nodes, IsTree, is_entry}
 use Rattle.tree_face.specs.Node.{is_node}
-use Rattle.ldconfig_cli.specs.Libraries.{NamedKey, named, library_file_of, without_prefix, is_own_library_name, libraries_in}
+use Rattle.ldconfig_cli.specs.Libraries.{NamedFile, named, library_file_of, without_prefix, is_own_library_name, libraries_in}
 
-named_so : (name : List ℕ) (node : Node) (library : NamedKey) → named name node ≡ Some library → library.0 ≡ name
-named_so name Dir library e = cc
-named_so name (File key id) library e =
-    elim (is_own_library_name name) as (λ b. cond b (Some (name, key)) None ≡ Some library → library.0 ≡ name) [
-      | true ↦ λ some. let same : (name, key) ≡ library = cc in ap (λ (l : NamedKey). l.0) (sym same)
+named_so : (path name : List ℕ) (node : Node) (file : NamedFile) → named path name node ≡ Some file → file.name ≡ name
+named_so path name Dir file e = cc
+named_so path name (File key id) file e =
+    let found : NamedFile = record { name = name; path = path; key = key } in
+    elim (is_own_library_name name) as (λ b. cond b (Some found) None ≡ Some file → file.name ≡ name) [
+      | true ↦ λ some. let same : found ≡ file = cc in ap (λ (f : NamedFile). f.name) (sym same)
       | false ↦ λ none. cc
     ] e
-named_so name (Link target) library e = cc
+named_so path name (Link target) file e = cc
 
 rest_short : (head bytes rest : List ℕ) → without_prefix head bytes ≡ Some rest → length rest ≤ length bytes
 rest_short head bytes rest e =
@@ -29,15 +30,15 @@ rest_short head bytes rest e =
     ] e
 
 module _ (prefix : List ℕ) where
-  library_short : (e : List ℕ × Node) (library : NamedKey) → library_file_of prefix e ≡ Some library → length library.0 ≤ length e.0
-  library_short e library is =
-      elim (without_prefix prefix e.0) as (λ o. without_prefix prefix e.0 ≡ o → option_and_then (λ name. named name e.1) o ≡ Some library → length library.0 ≤ length e.0) [
+  library_short : (e : List ℕ × Node) (file : NamedFile) → library_file_of prefix e ≡ Some file → length file.name ≤ length e.0
+  library_short e file is =
+      elim (without_prefix prefix e.0) as (λ o. without_prefix prefix e.0 ≡ o → option_and_then (λ name. named e.0 name e.1) o ≡ Some file → length file.name ≤ length e.0) [
         | None ↦ λ b none. absurd (cc none)
-        | Some name ↦ λ b some. rw (named_so name e.1 library some) (rest_short prefix e.0 name b)
+        | Some name ↦ λ b some. rw (named_so e.0 name e.1 file some) (rest_short prefix e.0 name b)
       ] refl is
 
-abbrev pub is_short : NamedKey → Bool
-is_short library = nat_le (length library.0) 4095
+abbrev pub is_short : NamedFile → Bool
+is_short file = nat_le (length file.name) 4095
 
 path_short : (e : List ℕ × Node) → is_entry e ≡ true → length e.0 ≤ 4095
 path_short e entry =
@@ -56,11 +57,11 @@ module _ (prefix : List ℕ) where
         | Some library ↦ λ some.
             let here = library_short prefix e library some in
             let whole = path_short e parts.0 in
-            let fits : length library.0 ≤ 4095 = omega (arith, here, whole) in
+            let fits : length library.name ≤ 4095 = omega (arith, here, whole) in
             and_from _ _ (le-leb _ _ fits) rest
       ] refl
 
-  pub short_libraries : (t : Nodes) → IsTree t → All (λ library. length library.0 ≤ 4095) (libraries_in t prefix)
+  pub short_libraries : (t : Nodes) → IsTree t → All (λ file. length file.name ≤ 4095) (libraries_in t prefix)
   short_libraries t tree =
-      All-weaker (λ (library : NamedKey). is_short library ≡ true) (λ library. length library.0 ≤ 4095) (λ library short. leb-true _ _ short) _
+      All-weaker (λ (file : NamedFile). is_short file ≡ true) (λ file. length file.name ≤ 4095) (λ file short. leb-true _ _ short) _
       (AllPass-from_list_all is_short (filter_map (library_file_of prefix) t) (short_found t tree.entries))

@@ -1,22 +1,28 @@
 -- The cache of an image.
-use Rattle.std.specs.Prelude.{◌≡◌, ℕ, List, length}
+use Rattle.std.specs.Prelude.{◌≡◌, ℕ, List}
 use Rattle.lib_types.specs.declared.entry.Entry.{Entry}
 use Rattle.tree_face.specs.Store.{Contents}
-use Rattle.ldconfig_cli.specs.CacheText.{cache_text}
+use Rattle.cache_writer.specs.CacheText.{cache_text}
 use Rattle.ldconfig_cli.specs.Entries.{AreEntriesOf}
-use Rattle.ldconfig_cli.specs.Libraries.{NamedKey}
+use Rattle.ldconfig_cli.specs.Found.{Analysed, OwnLibrary, libraries_among}
 use Rattle.ldconfig_cli.specs.Manifest.{Manifest}
 use Rattle.ldconfig_cli.specs.Outcome.{outcome, Writes}
+use Rattle.ldconfig_cli.specs.Report.{report_of}
 
 -- the cache of these libraries
-pub record IsCacheOf (found : List NamedKey) (bytes : List ℕ) : Type 0 where
+pub record IsCacheOf (found : List OwnLibrary) (bytes : List ℕ) : Type 0 where
   pub entries : List Entry
   pub are : AreEntriesOf found entries
   pub text : bytes ≡ cache_text entries
 
--- the cache of a manifest's libraries, and their number
-pub record IsUpdateOf (contents : Contents) (manifest : Manifest) (cache : List ℕ) (count : ℕ) : Type 0 where
-  pub found : List NamedKey
-  pub comes : outcome contents manifest ≡ Writes found
-  pub cache_is : IsCacheOf found cache
-  pub count_is : length found ≡ count
+-- the cache of a manifest's libraries, and the report of their files
+pub record IsUpdateOf (contents : Contents) (manifest : Manifest) (cache report : List ℕ) : Type 0 where
+  pub files : List Analysed
+  pub comes : outcome contents manifest ≡ Writes files
+  pub cache_is : IsCacheOf (libraries_among files) cache
+  pub report_is : report ≡ report_of files
+
+-- the report of some files
+pub record IsReport (report : List ℕ) : Type 0 where
+  pub files : List Analysed
+  pub report_is : report ≡ report_of files

@@ -1,5 +1,7 @@
 -- Why an update isn't made, as a status; and which causes a part of it can have.
 use Rattle.std.specs.Prelude.{◌≡◌, ◌⊎◌}
+use Rattle.elf_dynamic.specs.declared.fault.AnalyseFault.{AnalyseFault}
+use Rattle.elf_dynamic.specs.declared.fault.AnalyseFault.TheVariants as reading
 use Rattle.mtree_manifest.specs.declared.fault.ManifestFault.{ManifestFault}
 use Rattle.mtree_manifest.specs.declared.fault.ManifestFault.TheVariants as faults
 use Rattle.ldconfig_cli.specs.declared.refusal.Refusal.{Refusal}
@@ -23,6 +25,11 @@ IsOrNoMemory cause refusal = (refusal ≡ cause) ⊎ (refusal ≡ refusals.NoMem
 abbrev pub refusal_of : ManifestFault → Refusal
 refusal_of faults.NoMemory = refusals.NoMemory
 refusal_of fault = refusals.BadManifest fault
+
+-- the fault of a file's reading
+abbrev pub refusal_of_reading : AnalyseFault → Refusal
+refusal_of_reading reading.StoreFault = refusals.Store
+refusal_of_reading reading.NoMemory = refusals.NoMemory
 
 -- a cause that the library files of a tree can have
 abbrev pub IsOfLibraries : Refusal → Type 0

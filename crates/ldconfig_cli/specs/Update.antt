@@ -1,5 +1,5 @@
 -- The command `update`: which status it returns, and what it leaves on the devices.
-use Rattle.std.specs.Prelude.{◌≡◌, ◌⊎◌, ◌<◌, ◌-◌, ℕ, Bool, true, false, IsTrue, List, Option, Some, None, IsSome, length, take}
+use Rattle.std.specs.Prelude.{◌≡◌, ◌⊎◌, ◌<◌, ◌-◌, ℕ, Bool, true, false, List, Option, Some, None, IsSome, length, take}
 use Rattle.std.specs.List.{list_all}
 use Rattle.lib_types.specs.Counts.{HasRisen}
 use Rattle.tree_face.specs.Calls.{replacement}
@@ -9,12 +9,12 @@ use Rattle.tree_face.specs.Disk.{DiskContent, Touches, KeepsAll, KeepsOthersMade
 use Rattle.tree_face.specs.Known.{IfKnown, Relates, IsSame}
 use Rattle.tree_face.specs.Store.{Contents, StoreState, BeginsAtMost}
 use Rattle.tree_face.specs.Stream.{SinkState, IsFollowedBy, IsFollowedByPart}
-use Rattle.ldconfig_cli.specs.Cache.{IsUpdateOf}
+use Rattle.ldconfig_cli.specs.Cache.{IsUpdateOf, IsReport}
 use Rattle.ldconfig_cli.specs.Devices.{Devices, IfBothKnown}
+use Rattle.ldconfig_cli.specs.Libraries.{NamedFile}
 use Rattle.ldconfig_cli.specs.Manifest.{manifest_of, Faulty}
 use Rattle.ldconfig_cli.specs.Outcome.{Outcome, outcome, files_to_read, begun_of, is_fine}
 use Rattle.ldconfig_cli.specs.Outcome as outcomes
-use Rattle.ldconfig_cli.specs.Report.{report_line}
 use Rattle.ldconfig_cli.specs.Replace.{Replaces, MayReplace}
 use Rattle.ldconfig_cli.specs.Status.{fault_line, Says}
 use Rattle.ldconfig_cli.specs.declared.status.Status.{Status}
@@ -37,7 +37,7 @@ status_of outcomes.NoManifest = NoManifest
 status_of (outcomes.BadManifest fault) = BadManifest fault
 status_of outcomes.NotBuilt = NotBuilt
 status_of outcomes.Lacking = StoreFault
-status_of (outcomes.Writes found) = Done
+status_of (outcomes.Writes files) = Done
 
 -- the statuses that may come without a manifest
 abbrev pub needs_no_manifest : Status → Bool
@@ -77,7 +77,7 @@ Returns status end failed = (status ≡ status_of end) ⊎ ((status ≡ NoMemory
 -- ---- the store
 
 -- the files that an update reads, by the content of the Manifest slot
-abbrev pub files_of : DiskContent → List (List ℕ × List ℕ)
+abbrev pub files_of : DiskContent → List NamedFile
 files_of content = files_to_read (manifest_of content.now.manifest)
 
 -- at most one key was begun for each file that an update reads
@@ -89,7 +89,7 @@ abbrev pub BeginsUpToFirst : Option DiskContent → StoreState → StoreState �
 BeginsUpToFirst disk old new = IfBothKnown old.held disk (λ contents content. BeginsAtMost (begun_of contents (files_of content)) old new)
 
 -- the files that were begun are fine, but for the last of them
-abbrev pub AreFineBefore : Contents → List (List ℕ × List ℕ) → StoreState → StoreState → Type 0
+abbrev pub AreFineBefore : Contents → List NamedFile → StoreState → StoreState → Type 0
 AreFineBefore contents files old new = list_all (is_fine contents) (take (new.begun - old.begun - 1) files) ≡ true
 
 abbrev pub AreBegunFine : Option DiskContent → StoreState → StoreState → Type 0
@@ -100,9 +100,9 @@ AreBegunFine disk old new = IfBothKnown old.held disk (λ contents content. AreF
 -- the cache of the manifest's libraries is written, as this relation says of bytes
 pub record LeavesCache (Writes : List ℕ → DiskContent → DiskContent → Type 0) (held : Option Contents) (a b : DiskContent) : Type 0 where
   pub cache : List ℕ
-  pub count : ℕ
+  pub report : List ℕ
   pub written : Writes cache a b
-  pub is_cache : IfKnown held (λ contents. IsUpdateOf contents (manifest_of a.now.manifest) cache count)
+  pub is_cache : IfKnown held (λ contents. IsUpdateOf contents (manifest_of a.now.manifest) cache report)
 
 -- nothing was written but the temporary file, or a replacement by the cache of the manifest's libraries failed
 abbrev pub MayLeaveCache : Option Contents → DiskContent → DiskContent → Type 0
@@ -126,9 +126,10 @@ CallsAfter _ = IsSame
 
 -- the report of the update follows what was written
 pub record Reports (P : List ℕ → List ℕ → List ℕ → Type 0) (held : Option Contents) (disk : Option DiskContent) (a b : List ℕ) : Type 0 where
-  pub count : ℕ
-  pub line : P (report_line count) a b
-  pub counts : IfBothKnown held disk (λ contents content. (cache : List ℕ) × IsUpdateOf contents (manifest_of content.now.manifest) cache count)
+  pub report : List ℕ
+  pub is_report : IsReport report
+  pub written : P report a b
+  pub is_own : IfBothKnown held disk (λ contents content. (cache : List ℕ) × IsUpdateOf contents (manifest_of content.now.manifest) cache report)
 
 -- the report, a prefix of it if the output has failed, or the fault line
 abbrev pub OutputAfter : Status → Option Contents → Option DiskContent → SinkState → SinkState → Type 0

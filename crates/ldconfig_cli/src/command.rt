@@ -6,7 +6,7 @@ ghost use Rattle.tree_face.specs.Known.{IfKnown, Relates};
 ghost use Rattle.ldconfig_cli.specs.Cache.{IsCacheOf};
 ghost use Rattle.ldconfig_cli.specs.Command.{command_of};
 ghost use Rattle.ldconfig_cli.specs.Devices.{devices, IfBothKnown};
-ghost use Rattle.ldconfig_cli.specs.Libraries.{NamedKey};
+ghost use Rattle.ldconfig_cli.specs.Found.{OwnLibrary};
 ghost use Rattle.ldconfig_cli.specs.Manifest.{manifest_of};
 ghost use Rattle.mtree_manifest.specs.declared.fault.ManifestFault.{ManifestFault};
 ghost use Rattle.ldconfig_cli.specs.Outcome as outcomes;
@@ -65,7 +65,7 @@ fn update<S: Store, D: Disk, O: Sink>(
     if replace(disk, Tag(0), Slot::Cache, &prepared.cache).is_err() {
         return Status::DiskFault;
     }
-    if put_all(out, prepared.line.as_bytes()).is_err() {
+    if put_all(out, &prepared.report).is_err() {
         return Status::OutputFault;
     }
     Status::Done
@@ -146,7 +146,7 @@ pub fn run<S: Store, D: Disk, I: Source, O: Sink>(
         (devices (S.state store.old) (D.state disk.old) (I.state input.old) (O.state out.old))
         (devices (S.state store.new) (D.state disk.new) (I.state input.new) (O.state out.new))
         result }
-    ensures one_cache { (found : List NamedKey) (bytes others : List ℕ) → IsCacheOf found bytes → IsCacheOf found others → bytes ≡ others }
+    ensures one_cache { (found : List OwnLibrary) (bytes others : List ℕ) → IsCacheOf found bytes → IsCacheOf found others → bytes ≡ others }
 
     // What no command changes.
     ensures made { KeepsOthersMade tag Slot.Cache (D.state disk.old) (D.state disk.new) }

@@ -2,10 +2,8 @@
 #![tactic(auto)]
 
 mod arguments;
-mod cache;
 mod check;
 mod command;
-mod elf;
 mod entries;
 mod libraries;
 mod prepare;
@@ -13,7 +11,6 @@ mod refusal;
 mod replace;
 mod report;
 mod status;
-mod whole;
 
 pub use arguments::Command;
 pub use command::run;

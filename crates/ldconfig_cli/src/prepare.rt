@@ -1,27 +1,28 @@
 //! What an update is about to write, made before it writes.
 ghost use Rattle.std.specs.Prelude.{◌≡◌, ◌⊎◌, ◌≤◌, None, Some, All, length, map, true, false, IfOk, IfErr, IsErrOf, OnOk, IsSomeAnd, MatchResult};
-ghost use Rattle.std.specs.String.{string_bytes};
 ghost use Rattle.lib_types.specs.Counts.{HasRisen};
 ghost use Rattle.tree_face.specs.Disk.{KeepsAll};
 ghost use Rattle.tree_face.specs.Known.{IfKnown};
 ghost use Rattle.tree_face.specs.Store.{BeginsAtMost};
-ghost use Rattle.ldconfig_cli.specs.Cache.{IsCacheOf, IsUpdateOf};
+ghost use Rattle.ldconfig_cli.specs.Cache.{IsCacheOf, IsReport, IsUpdateOf};
 ghost use Rattle.ldconfig_cli.specs.Devices.{IfBothKnown};
+ghost use Rattle.ldconfig_cli.specs.Entries.{own_library};
+ghost use Rattle.ldconfig_cli.specs.Found.{analysed_in, libraries_among};
 ghost use Rattle.ldconfig_cli.specs.Libraries.{libraries, seen};
 ghost use Rattle.ldconfig_cli.specs.Manifest.{HasTree, manifest_of};
 ghost use Rattle.ldconfig_cli.specs.Outcome as outcomes;
 ghost use Rattle.ldconfig_cli.specs.Outcome.{outcome, files_to_read, begun_of, is_unbuilt};
 ghost use Rattle.mtree_manifest.specs.declared.fault.ManifestFault.{ManifestFault};
 ghost use Rattle.ldconfig_cli.specs.Refusal.{status_of_refusal, IsOrNoMemory, IsOfLibraries, IsOfSlot};
-ghost use Rattle.ldconfig_cli.specs.Report.{report_line};
+ghost use Rattle.ldconfig_cli.specs.Report.{report_of};
 ghost use Rattle.ldconfig_cli.specs.Update.{AreBegunFine, AreFineBefore, BeginsFiles, BeginsUpToFirst, ComesTo, HasFault, HasManifest, HasNoManifest, LacksLibrary, needs_no_manifest};
 
-use crate::cache;
-use crate::check::{check_libraries, has_other_places};
-use crate::entries::entries;
-use crate::libraries::{ENTRIES_MAX, LibraryFile, has_links_in, libraries_in, library_prefix};
+use crate::check::{AnalysedFile, check_libraries, has_other_places, libraries_among};
+use crate::entries::{Library, entries};
+use crate::libraries::{LibraryFile, has_links_in, libraries_in, library_prefix};
 use crate::refusal::Refusal;
-use crate::report::report_line;
+use crate::report::report_of;
+use cache_writer::ENTRIES_MAX;
 use lib_types::NoMemory;
 use std::alloc::Global;
 use tree_face::{Disk, DiskRead, PATH_MAX, Slot, Store, Tree};
@@ -30,8 +31,7 @@ use tree_face::{Disk, DiskRead, PATH_MAX, Slot, Store, Tree};
 #[derive(Drop)]
 pub struct Prepared {
     pub cache: Vec<u8>,
-    pub count: usize,
-    pub line: String,
+    pub report: Vec<u8>,
 }
 
 // The text of the manifest.
@@ -52,20 +52,29 @@ fn manifest_text<D: Disk>(alloc: Global, disk: &mut D) -> Result<Vec<u8>, Refusa
     }
 }
 
-// The cache of these libraries, and the report.
+// The cache of these libraries.
 #[tactic(auto, using(crate::proofs::Listing::as_many, crate::proofs::Listing::short_sonames, crate::proofs::Listing::short_paths, crate::proofs::Listing::plain_entries))]
-fn prepare_libraries(alloc: Global, found: Vec<LibraryFile<'_>>) -> Result<Prepared, NoMemory>
-    requires few { length found.items ≤ ENTRIES_MAX }
-    requires short { All (λ library. length library.0 ≤ PATH_MAX) (map seen found.items) }
-    ensures cache { IfOk result (λ prepared. IsCacheOf (map seen found.entry.items) prepared.cache.items) }
-    ensures count { IfOk result (λ prepared. prepared.count ≡ length found.entry.items) }
-    ensures line { IfOk result (λ prepared. string_bytes prepared.line ≡ report_line prepared.count) }
+fn cache_of(alloc: Global, libraries: Vec<Library<'_>>) -> Result<Vec<u8>, NoMemory>
+    requires few { length libraries.items ≤ ENTRIES_MAX }
+    requires short { All (λ library. length library.name ≤ PATH_MAX) (map own_library libraries.items) }
+    ensures { IfOk result (λ cache. IsCacheOf (map own_library libraries.entry.items) cache.items) }
 {
-    let count = found.len();
-    let entries = entries(alloc, found)?;
-    let cache = cache::write(alloc, &entries)?;
-    let line = report_line(alloc, count)?;
-    Ok(Prepared { cache, count, line })
+    let entries = entries(alloc, libraries)?;
+    cache_writer::write(alloc, &entries)
+}
+
+// The cache of the libraries among these files, and the report.
+#[tactic(auto, using(crate::proofs::Listing::few_among, crate::proofs::Listing::short_among))]
+fn prepare_files(alloc: Global, files: &[AnalysedFile<'_>]) -> Result<Prepared, NoMemory>
+    requires few { length files.now ≤ ENTRIES_MAX }
+    requires short { All (λ file. length file.name ≤ PATH_MAX) (map (λ a. seen a.file) files.now) }
+    ensures cache { IfOk result (λ prepared. IsCacheOf (libraries_among (map analysed_in files.now)) prepared.cache.items) }
+    ensures report { IfOk result (λ prepared. prepared.report.items ≡ report_of (map analysed_in files.now)) }
+{
+    let libraries = libraries_among(alloc, files)?;
+    let report = report_of(alloc, files, libraries.len())?;
+    let cache = cache_of(alloc, libraries)?;
+    Ok(Prepared { cache, report })
 }
 
 // The library files of a tree that is built.
@@ -74,7 +83,7 @@ fn find_libraries<'a>(alloc: Global, tree: &'a Tree) -> Result<Vec<LibraryFile<'
     ensures found { IfOk result (λ found. map seen found.items ≡ libraries tree.now) }
     ensures built { OnOk result (is_unbuilt tree.now ≡ false) }
     ensures few { IfOk result (λ found. length found.items ≤ ENTRIES_MAX) }
-    ensures short { IfOk result (λ found. All (λ library. length library.0 ≤ PATH_MAX) (map seen found.items)) }
+    ensures short { IfOk result (λ found. All (λ file. length file.name ≤ PATH_MAX) (map seen found.items)) }
     ensures not_built { IsErrOf result Refusal.NotBuilt → is_unbuilt tree.now ≡ true }
     ensures refusals { IfErr result (IsOrNoMemory Refusal.NotBuilt) }
 {
@@ -94,8 +103,8 @@ fn find_libraries<'a>(alloc: Global, tree: &'a Tree) -> Result<Vec<LibraryFile<'
 // What the update of a tree is about to write.
 fn prepare_tree<S: Store>(alloc: Global, store: &mut S, tree: &Tree) -> Result<Prepared, Refusal>
     ensures update { IfOk result (λ prepared. IfKnown (S.state store.old).held
-        (λ contents. IsUpdateOf contents (HasTree tree.now) prepared.cache.items prepared.count)) }
-    ensures line { IfOk result (λ prepared. string_bytes prepared.line ≡ report_line prepared.count) }
+        (λ contents. IsUpdateOf contents (HasTree tree.now) prepared.cache.items prepared.report.items)) }
+    ensures report { IfOk result (λ prepared. IsReport prepared.report.items) }
     ensures not_built { IsErrOf result Refusal.NotBuilt →
         IfKnown (S.state store.old).held (λ contents. outcome contents (HasTree tree.now) ≡ outcomes.NotBuilt) }
     ensures store_fault { IsErrOf result Refusal.Store → HasRisen (S.state store.old).faults (S.state store.new).faults
@@ -110,8 +119,8 @@ fn prepare_tree<S: Store>(alloc: Global, store: &mut S, tree: &Tree) -> Result<P
     ensures faults { (S.state store.old).faults ≤ (S.state store.new).faults }
 {
     let found = find_libraries(alloc, tree)?;
-    check_libraries(alloc, store, &found)?;
-    let prepared = prepare_libraries(alloc, found)?;
+    let files = check_libraries(alloc, store, &found)?;
+    let prepared = prepare_files(alloc, &files)?;
     Ok(prepared)
 }
 
@@ -122,8 +131,8 @@ pub fn prepare<S: Store, D: Disk>(
     disk: &mut D,
 ) -> Result<Prepared, Refusal>
     ensures update { IfOk result (λ prepared. IfBothKnown (S.state store.old).held (D.state disk.old).contents
-        (λ contents content. IsUpdateOf contents (manifest_of content.now.manifest) prepared.cache.items prepared.count)) }
-    ensures line { IfOk result (λ prepared. string_bytes prepared.line ≡ report_line prepared.count) }
+        (λ contents content. IsUpdateOf contents (manifest_of content.now.manifest) prepared.cache.items prepared.report.items)) }
+    ensures report { IfOk result (λ prepared. IsReport prepared.report.items) }
     ensures manifest { MatchResult result (λ _. HasManifest (D.state disk.old).contents)
         (λ refusal. needs_no_manifest (status_of_refusal refusal) ≡ false → HasManifest (D.state disk.old).contents) }
     ensures no_manifest { IsErrOf result Refusal.NoManifest → HasNoManifest (D.state disk.old).contents }

@@ -1,12 +1,13 @@
 //! Why an update isn't made.
 ghost use Rattle.std.specs.Prelude.{◌≡◌};
-ghost use Rattle.ldconfig_cli.specs.Refusal.{refusal_of, status_of_refusal};
+ghost use Rattle.ldconfig_cli.specs.Refusal.{refusal_of, refusal_of_reading, status_of_refusal};
 ghost use Rattle.ldconfig_cli.specs.declared.refusal.Refusal.TheVariants as refusals;
 
 use crate::status::Status;
+use elf_dynamic::AnalyseFault;
 use lib_types::NoMemory;
 use mtree_manifest::ManifestFault;
-use std::alloc::AllocError;
+use std::alloc::{AllocError, AllocFailed};
 
 /// Why an update isn't made. Nothing was written then.
 #[derive(Clone, Copy, Debug, PartialEq, Eq)]
@@ -36,6 +37,25 @@ impl From<AllocError> for Refusal {
 
     fn from(_: AllocError) -> Self {
         Refusal::NoMemory
+    }
+}
+
+impl<T: Drop> From<AllocFailed<T>> for Refusal {
+    ghost from_gives = { λ _ e. e ≡ refusals.NoMemory };
+
+    fn from(_: AllocFailed<T>) -> Self {
+        Refusal::NoMemory
+    }
+}
+
+impl From<AnalyseFault> for Refusal {
+    ghost from_gives = { λ fault e. e ≡ refusal_of_reading fault };
+
+    fn from(fault: AnalyseFault) -> Self {
+        match fault {
+            AnalyseFault::StoreFault => Refusal::Store,
+            AnalyseFault::NoMemory => Refusal::NoMemory,
+        }
     }
 }
 

@@ -1,4 +1,6 @@
 pub mod Bools
+pub mod Parting
+pub mod Plain
 pub mod Prefixes
 pub mod SortedPairs
 pub mod Utf8

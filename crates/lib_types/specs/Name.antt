@@ -1,5 +1,5 @@
 -- Names of files: one to 255 bytes of UTF-8 without `/` and NUL, and neither `.` nor `..` (path_resolution(7)).
-use Rattle.std.specs.Prelude.{ℕ, Bool, List, nat_le, ◌==◌, ◌&&◌, not, length, codes}
+use Rattle.std.specs.Prelude.{ℕ, Bool, List, nat_le, nat_lt, ◌==◌, ◌&&◌, ◌||◌, not, length, codes}
 use Rattle.std.specs.List.{list_all}
 use Rattle.std.specs.Str.{bytes_eq, is_utf8}
 use Rattle.lib_types.specs.declared.name.TheConstants.{NAME_MAX}
@@ -11,11 +11,18 @@ slash = 47
 abbrev pub have_no_slash : List ℕ → Bool
 have_no_slash = list_all (λ b. not (b == slash) && not (b == 0))
 
+-- ASCII bytes of which neither is a slash or a NUL
+abbrev pub is_plain : List ℕ → Bool
+is_plain = list_all (λ b. not (b == slash) && not (b == 0) && nat_lt b 128)
+
+-- the folder itself, or the one above it
+abbrev pub are_dots : List ℕ → Bool
+are_dots name = bytes_eq name (codes ".") || bytes_eq name (codes "..")
+
 abbrev pub is_name : List ℕ → Bool
 is_name name =
     nat_le 1 (length name)
     && nat_le (length name) NAME_MAX
-    && not (bytes_eq name (codes "."))
-    && not (bytes_eq name (codes ".."))
+    && not (are_dots name)
     && have_no_slash name
     && is_utf8 name

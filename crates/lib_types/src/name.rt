@@ -1,22 +1,34 @@
 //! Names of files.
 ghost use Rattle.std.specs.Prelude.{◌≡◌};
 ghost use Rattle.std.specs.Str.{is_utf8};
-ghost use Rattle.lib_types.specs.Name.{is_name, have_no_slash};
+ghost use Rattle.lib_types.specs.Name.{are_dots, is_name, is_plain, have_no_slash};
 
 /// The most bytes of a name (NAME_MAX of limits.h).
 pub const NAME_MAX: usize = 255;
 
 /// Whether the bytes are the name of a file in a folder.
+#[tactic(auto, using(crate::proofs::Plain::plain_bytes))]
 pub fn is_name(bytes: &[u8]) -> bool
     ensures { result ≡ is_name bytes.now }
 {
-    if bytes.is_empty() || bytes.len() > NAME_MAX {
+    if bytes.is_empty() || bytes.len() > NAME_MAX || are_dots(bytes) {
         return false;
     }
-    if bytes == b".".as_slice() || bytes == b"..".as_slice() {
-        return false;
-    }
-    have_no_slash(bytes) && is_utf8(bytes)
+    is_plain(bytes) || (have_no_slash(bytes) && is_utf8(bytes))
+}
+
+// Whether the bytes are `.` or `..`. Most names are longer, so that their length is enough.
+fn are_dots(bytes: &[u8]) -> bool
+    ensures { result ≡ are_dots bytes.now }
+{
+    bytes.len() <= 2 && (bytes == b".".as_slice() || bytes == b"..".as_slice())
+}
+
+// Whether the bytes are ASCII without a slash and a NUL. Most names are, and one pass shows it.
+fn is_plain(bytes: &[u8]) -> bool
+    ensures { result ≡ is_plain bytes.now }
+{
+    bytes.iter().all(|&b| b != b'/' && b != 0 && b < 128)
 }
 
 // Whether the bytes have neither a slash nor a NUL.

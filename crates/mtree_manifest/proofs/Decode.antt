@@ -3,7 +3,7 @@ use Rattle.std.proofs.Common.{◌≡◌, ◌<◌, ℕ, Bool, true, false, cond, 
 use Rattle.std.proofs.lemmas.Bool.{or_parts}
 use Rattle.std.proofs.lemmas.List.{append-nil}
 use Rattle.std.specs.Option.{option_map}
-use Rattle.std.specs.List.{list_any}
+use Rattle.std.specs.List.{list_any, AllByRecursion}
 use Rattle.mtree_manifest.specs.Escape.{decoded, backslash, letter, octal, in_front, escape}
 use Rattle.mtree_manifest.specs.Keys.{text_fault}
 use Rattle.mtree_manifest.specs.Views.{fault_of_text, written_fault, may_be}
@@ -42,12 +42,17 @@ decoded_nil = refl
 pub decoded_plain : (b : ℕ) (rest : List ℕ) → eqb b backslash ≡ false → decoded (b ∷ rest) ≡ in_front (Some b) (decoded rest)
 decoded_plain b rest h = decoded_step b rest ∙ ap (λ t. then_rest (cond t (escape_at rest) (Some (b, rest)))) h
 
+pub none_is : (word : List ℕ) → list_any (λ b. eqb b backslash) word ≡ false → AllByRecursion (λ b. eqb b backslash ≡ false) word
+none_is [] h = tt
+none_is (b ∷ rest) h = let parts = or_parts (eqb b backslash) (list_any (λ b. eqb b backslash) rest) h in (parts.0, none_is rest parts.1)
+
 -- a word without a backslash stands for itself
+pub other_decoded : (word : List ℕ) → AllByRecursion (λ b. eqb b backslash ≡ false) word → decoded word ≡ Some word
+other_decoded [] all = decoded_nil
+other_decoded (b ∷ rest) all = decoded_plain b rest all.0 ∙ ap (in_front (Some b)) (other_decoded rest all.1)
+
 pub plain_decoded : (word : List ℕ) → list_any (λ b. eqb b backslash) word ≡ false → decoded word ≡ Some word
-plain_decoded [] h = decoded_nil
-plain_decoded (b ∷ rest) h =
-    let parts = or_parts (eqb b backslash) (list_any (λ b. eqb b backslash) rest) h in
-    decoded_plain b rest parts.0 ∙ ap (in_front (Some b)) (plain_decoded rest parts.1)
+plain_decoded word h = other_decoded word (none_is word h)
 
 -- bytes before those that a word stands for
 abbrev pub behind : List ℕ → Option (List ℕ) → Option (List ℕ)

@@ -12,7 +12,8 @@ use Rattle.tree_face.specs.Node.{has_no_nul}
 use Rattle.mtree_manifest.specs.Decoding.{first_byte, escape_by, octal_at}
 use Rattle.mtree_manifest.specs.Escape.{decoded, escaped, escaped_byte, octal_digits, is_plain, backslash, letter, octal, in_front}
 use Rattle.mtree_manifest.specs.Lines.{goes_on}
-use Rattle.mtree_manifest.specs.Paths.{is_slash, is_kept, decoded_each}
+use Rattle.tree_face.specs.Paths.{is_slash, is_kept}
+use Rattle.mtree_manifest.specs.Paths.{decoded_each}
 use Rattle.mtree_manifest.specs.Range.{AreBytes}
 use Rattle.mtree_manifest.proofs.Decode.{decoded_step, decoded_plain, then_rest, decoded_nil, plain_decoded}
 use Rattle.mtree_manifest.proofs.Names.{no_nul, name_facts}
@@ -156,17 +157,21 @@ split_escaped (b ∷ bytes) all = by_byte (eqb b 47) b bytes refl all (split_esc
         ∙ ap (onto_front (escaped_byte b)) rest
         ∙ sym (ap (map escaped) (slice_split-cons_no is_slash b bytes e) ∙ escaped_first b (slice_split is_slash bytes))
 
-pub bytes_of_parts : (bytes : List ℕ) → AreBytes bytes → AllByRecursion AreBytes (slice_split is_slash bytes)
-bytes_of_parts [] all = (tt, tt)
-bytes_of_parts (b ∷ bytes) all = by_byte (is_slash b) (slice_split is_slash bytes) (bytes_of_parts bytes all.1)
+-- what holds of all bytes holds of those of each part
+pub all_of_parts : (P : ℕ → Type 0) (bytes : List ℕ) → AllByRecursion P bytes → AllByRecursion (AllByRecursion P) (slice_split is_slash bytes)
+all_of_parts P [] all = (tt, tt)
+all_of_parts P (b ∷ bytes) all = by_byte (is_slash b) (slice_split is_slash bytes) (all_of_parts P bytes all.1)
   where
-    first_onto : (parts : List (List ℕ)) → AllByRecursion AreBytes parts → AllByRecursion AreBytes (onto_first b parts)
+    first_onto : (parts : List (List ℕ)) → AllByRecursion (AllByRecursion P) parts → AllByRecursion (AllByRecursion P) (onto_first b parts)
     first_onto [] h = ((all.0, tt), tt)
     first_onto (part ∷ parts) h = ((all.0, h.0), h.1)
 
-    by_byte : (t : Bool) (parts : List (List ℕ)) → AllByRecursion AreBytes parts → AllByRecursion AreBytes (cond t ([] ∷ parts) (onto_first b parts))
+    by_byte : (t : Bool) (parts : List (List ℕ)) → AllByRecursion (AllByRecursion P) parts → AllByRecursion (AllByRecursion P) (cond t ([] ∷ parts) (onto_first b parts))
     by_byte true parts h = (tt, h)
     by_byte false parts h = first_onto parts h
+
+pub bytes_of_parts : (bytes : List ℕ) → AreBytes bytes → AllByRecursion AreBytes (slice_split is_slash bytes)
+bytes_of_parts bytes all = all_of_parts (λ b. b < 256) bytes all
 
 pub bytes_same : (xs ys : List ℕ) → bytes_eq xs ys ≡ true → xs ≡ ys
 bytes_same [] [] e = refl

@@ -1,11 +1,11 @@
 pub mod Counting
 pub mod Decode
 pub mod Escaping
+pub mod FullWords
 pub mod Goods
 pub mod Keywords
 pub mod Names
 pub mod Numbers
-pub mod Parting
 pub mod Places
 pub mod Progressing
 pub mod RoundTrip

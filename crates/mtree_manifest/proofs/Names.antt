@@ -2,13 +2,13 @@
 use Rattle.std.proofs.Common.{◌≡◌, ◌≤◌, ℕ, true, false, leb, eqb, not, ◌&&◌, List, [], ◌∷◌, ◌++◌, length, drop, codes, refl, ap, subst, ◌∙◌, length-append, length-drop, arith}
 use Rattle.std.specs.List.{list_all, join_with_byte, slice_split, starts_with, flat_map}
 use Rattle.std.specs.Str.{IsUtf8, is_utf8, bytes_eq}
-use Rattle.std.proofs.lemmas.Bool.{and_parts, and_from, le-leb, leb-true, not-true}
+use Rattle.std.proofs.lemmas.Bool.{and_parts, and_from, or_parts, le-leb, leb-true, not-true}
 use Rattle.std.proofs.lemmas.List.{append-nil}
 use Rattle.std.proofs.lemmas.List.Folds.{list_all-append}
 use Rattle.std.proofs.lemmas.List.Splits.{join_with_byte-slice_split, length-slice_split}
 use Rattle.std.proofs.lemmas.Str.{IsUtf8-append, IsUtf8-from_ascii, IsUtf8-from_is_utf8, is_utf8-from_IsUtf8}
 use Rattle.std.proofs.lemmas.Str.Ascii.{IsAscii-cons}
-use Rattle.lib_types.specs.Name.{is_name, have_no_slash}
+use Rattle.lib_types.specs.Name.{is_name, are_dots, have_no_slash}
 use Rattle.tree_face.specs.Node.{is_key, is_target, has_no_nul}
 use Rattle.tree_face.specs.Paths.{is_path, are_names, root}
 
@@ -23,10 +23,10 @@ pub name_facts : (name : List ℕ) → is_name name ≡ true → IsName name
 name_facts name e =
     let utf8 = and_parts _ (is_utf8 name) e in
     let clear = and_parts _ (have_no_slash name) utf8.0 in
-    let no_dots = and_parts _ (not (bytes_eq name (codes ".."))) clear.0 in
-    let no_dot = and_parts _ (not (bytes_eq name (codes "."))) no_dots.0 in
-    let bounds = and_parts (leb 1 (length name)) (leb (length name) 255) no_dot.0 in
-    record { some = leb-true 1 (length name) bounds.0; clear = clear.1; utf8 = utf8.1; no_dot = not-true _ no_dot.1 }
+    let no_dots = and_parts _ (not (are_dots name)) clear.0 in
+    let no_dot = or_parts (bytes_eq name (codes ".")) (bytes_eq name (codes "..")) (not-true _ no_dots.1) in
+    let bounds = and_parts (leb 1 (length name)) (leb (length name) 255) no_dots.0 in
+    record { some = leb-true 1 (length name) bounds.0; clear = clear.1; utf8 = utf8.1; no_dot = no_dot.0 }
 
 pub no_nul : (bytes : List ℕ) → have_no_slash bytes ≡ true → has_no_nul bytes ≡ true
 no_nul [] e = refl

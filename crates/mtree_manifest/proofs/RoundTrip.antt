@@ -1,90 +1,53 @@
 -- The canonical text of a tree reads as the tree.
-use Rattle.std.proofs.Common.{◌≡◌, ◌<◌, ◌≤◌, ◌+◌, ℕ, Bool, true, false, leb, eqb, not, ◌&&◌, ◌||◌, List, [], ◌∷◌, ◌++◌, length, map, codes, Some, None, Ok, refl, ap, sym, subst, ◌∙◌, length-append, append_assoc, arith}
+use Rattle.std.proofs.Common.{◌≡◌, ◌<◌, ◌≤◌, ◌+◌, ℕ, Bool, true, false, leb, eqb, not, ◌&&◌, List, [], ◌∷◌, ◌++◌, length, map, codes, Some, None, Ok, refl, ap, sym, subst, ◌∙◌, length-append, append_assoc, arith}
 use Rattle.std.specs.Option.{option_map}
 use Rattle.std.specs.Result.{result_ok}
-use Rattle.std.specs.List.{list_all, list_any, filter, slice_split, flat_map, join_with_byte, AllByRecursion}
+use Rattle.std.specs.List.{list_all, list_any, filter, slice_split, flat_map, AllByRecursion}
 use Rattle.std.specs.List.Sorted.{IsStrictlySortedBy}
 use Rattle.std.specs.BTreeMap.{insert_entry}
 use Rattle.std.specs.Map.{keys_of}
 use Rattle.std.specs.declared.cmp.Ordering.TheVariants.{Less, Greater}
-use Rattle.std.proofs.lemmas.Bool.{and_parts, and_from, and_right, or_from, or_parts, or_right, not-true, eqb-true, ne_eqb, cond-true, cond-false, le-leb}
+use Rattle.std.proofs.lemmas.Bool.{and_parts, and_right, or_from, or_parts, not-true, ne_eqb, cond-true, cond-false, le-leb}
 use Rattle.std.proofs.lemmas.List.{append-nil}
 use Rattle.std.proofs.lemmas.List.Folds.{list_all-append}
-use Rattle.std.proofs.lemmas.List.Splits.{join_with_byte-slice_split, length-slice_split}
 use Rattle.std.proofs.lemmas.Map.Keys.{sorted_head, sorted_tail}
 use Rattle.lib_types.proofs.SortedPairs.{put_step, flipped}
-use Rattle.lib_types.specs.Name.{is_name}
 use Rattle.tree_face.specs.declared.node.Node.{Node}
 use Rattle.tree_face.specs.declared.tree.TheConstants.{NODES_MAX}
 use Rattle.tree_face.specs.Node.{is_node}
-use Rattle.tree_face.specs.Paths.{is_path, are_names, path_cmp}
+use Rattle.tree_face.specs.Paths.{is_slash, is_kept, is_path, path_cmp}
 use Rattle.tree_face.specs.Tree.{Nodes, IsTree, is_entry, clashes, clash_with, has_no_room}
 use Rattle.tree_face.proofs.Order.{path_total}
 use Rattle.bstr.proofs.lemmas.LineLemmas.{lines-nil}
 use Rattle.bstr.specs.Text.{without_terminator}
 use Rattle.mtree_manifest.specs.Canon.{canon, node_line}
-use Rattle.mtree_manifest.specs.Keys.{Values, no_values, first_fault, fault_unless}
+use Rattle.mtree_manifest.specs.Keys.{Values, no_values, first_fault}
 use Rattle.mtree_manifest.specs.Lines.{Line, joined, goes_on, physical_words, physical_lines}
 use Rattle.mtree_manifest.specs.Manifest.{State, Puts, ◌>>=◌, reading, entry, entry_fault, put_by, stack_behind, node_of, node_by, is_dir, target_fault, unless_faulty, with_node, with_reading, with_lines, no_lines, outcome, tree_of}
-use Rattle.mtree_manifest.specs.Paths.{is_slash, is_kept, decoded_each, names_of, below, is_place, place, place_fault, place_fault_of, path_of}
+use Rattle.mtree_manifest.specs.Paths.{decoded_each, names_of, place, place_fault}
 use Rattle.mtree_manifest.specs.Range.{AreBytes, IsInRange, AreInRange}
-use Rattle.mtree_manifest.specs.declared.fault.LineKind.TheVariants.{BadLine}
 use Rattle.mtree_manifest.specs.declared.fault.TheConstants.{TEXT_MAX}
 use Rattle.mtree_manifest.proofs.Escaping.{split_escaped, bytes_of_parts, names_kept, names_decoded}
 use Rattle.mtree_manifest.proofs.Keywords.{keywords, path_word, line_spaced, keyword_tokens, path_token, values_for, keywords_given, node_made, target_made}
-use Rattle.mtree_manifest.proofs.Names.{slashed}
+use Rattle.mtree_manifest.specs.Escape.{escaped}
+use Rattle.mtree_manifest.proofs.FullWords.{path_first, path_names, leads_there, leads_well}
 use Rattle.mtree_manifest.proofs.Tokens.{IsBody, spaced, tokens_body, tokens_physical, physical_first}
 
 -- ---- the first word of a line leads to the path
 
--- a path begins with a slash
-path_first : (path : List ℕ) → is_path path ≡ true → (rest : List ℕ) × (path ≡ 47 ∷ rest)
-path_first [] proper = absurd (cc)
-path_first (b ∷ rest) proper =
-    let parts = and_parts (leb (length (b ∷ rest)) 4095 && (eqb 47 b && true)) (are_names rest) proper in
-    let first = and_parts (leb (length (b ∷ rest)) 4095) (eqb 47 b && true) parts.0 in
-    (rest, ap (λ c. c ∷ rest) (sym (eqb-true 47 b (and_parts (eqb 47 b) true first.1).0)))
-
 module _ (rest : List ℕ) (proper : is_path (47 ∷ rest) ≡ true) (range : AreBytes (47 ∷ rest)) where
-  names : List (List ℕ)
-  names = slice_split is_slash rest
-
-  good_names : list_all is_name names ≡ true
-  unfolding names
-  good_names = (and_parts _ (are_names rest) proper).1
-
-  some_names : 1 ≤ length names
-  unfolding names
-  some_names = omega (arith, length-slice_split is_slash rest)
-
-  names_found : names_of (path_word (47 ∷ rest)) ≡ Some names
-  unfolding names
+  names_found : names_of (path_word (47 ∷ rest)) ≡ Some (slice_split is_slash rest)
   names_found =
+      let names = slice_split is_slash rest in
       ap (λ parts. decoded_each (filter is_kept parts)) (split_escaped rest range.1)
-      ∙ ap decoded_each (names_kept names good_names (bytes_of_parts rest range.1))
-      ∙ names_decoded names good_names (bytes_of_parts rest range.1)
-
-  slashed_all : (ns : List (List ℕ)) → 1 ≤ length ns → flat_map (λ n. 47 ∷ n) ns ≡ 47 ∷ join_with_byte 47 ns
-  slashed_all [] some = absurd (omega arith)
-  slashed_all (n ∷ ns) some = slashed n ns
-
-  names_path : below [] names ≡ 47 ∷ rest
-  unfolding names
-  names_path = slashed_all names some_names ∙ ap (λ r. 47 ∷ r) (join_with_byte-slice_split 47 rest)
-
-  place_good : (d : Bool) → is_place d [] names ≡ true
-  place_good d =
-      and_from (list_all is_name names && (d || not (eqb (length names) 0))) (eqb (length (below [] names)) 0 || is_path (below [] names))
-      (and_from (list_all is_name names) (d || not (eqb (length names) 0)) good_names (or_right d (not (eqb (length names) 0)) (ap not (ne_eqb _ _ (λ e. absurd (omega (arith, some_names)))))))
-      (or_right (eqb (length (below [] names)) 0) (is_path (below [] names)) (ap is_path names_path ∙ proper))
+      ∙ ap decoded_each (names_kept names (path_names rest proper) (bytes_of_parts rest range.1))
+      ∙ names_decoded names (path_names rest proper) (bytes_of_parts rest range.1)
 
   pub place_read : place [] (path_word (47 ∷ rest)) ≡ 47 ∷ rest
-  place_read = ap (λ found. path_of found []) names_found ∙ names_path
+  place_read = leads_there rest (escaped rest) proper names_found []
 
   pub place_faultless : (d : Bool) → place_fault d [] (path_word (47 ∷ rest)) ≡ None
-  place_faultless d =
-      ap (place_fault_of d [] (path_word (47 ∷ rest))) names_found
-      ∙ ap (λ t. fault_unless t BadLine) (place_good d)
+  place_faultless d = leads_well rest (escaped rest) proper names_found d []
 
 -- ---- one line
 

@@ -6,12 +6,17 @@ use Rattle.tree_face.specs.Paths.{is_path}
 use Rattle.mtree_manifest.specs.Keys.{fault_unless}
 use Rattle.mtree_manifest.specs.declared.fault.LineKind.{LineKind}
 use Rattle.mtree_manifest.specs.declared.fault.LineKind.TheVariants.{BadLine}
-use Rattle.mtree_manifest.specs.Paths.{below, is_directive}
+use Rattle.mtree_manifest.specs.Paths.{base_by, below, is_directive, names_of, path_of, place_fault_of}
 
 -- the names were appended, and whether all of them are names is known; or an escape is bad
 abbrev pub Names : List ℕ → List ℕ → Option (List (List ℕ)) → Option Bool → Type 0
 Names old new None good = good ≡ None
 Names old new (Some names) good = (good ≡ Some (list_all is_name names)) × (new ≡ below old names)
+
+-- from each directory the word leads without a fault to this path
+pub record LeadsTo (word path : List ℕ) : Type 0 where
+  pub fault : (is_dir : Bool) (current : List ℕ) → place_fault_of is_dir (base_by word current) word (names_of word) ≡ None
+  pub place : (current : List ℕ) → path_of (names_of word) (base_by word current) ≡ path
 
 -- what has been appended and found so far, and then these names
 abbrev pub named : List ℕ → Bool → Option (List (List ℕ)) → Option (List ℕ × Bool)

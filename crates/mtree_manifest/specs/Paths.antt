@@ -1,9 +1,8 @@
 -- Where the first word of a manifest's line leads (mtree(5): full paths and relative names).
-use Rattle.std.specs.Prelude.{ℕ, ◌-◌, Bool, List, [], ◌∷◌, ◌++◌, ◌==◌, ◌&&◌, ◌||◌, not, nat_eq, if◌then◌else◌, codes, filter, length, take, drop, flat_map, slice_index_or, Option, Some, None, option_map, option_and_then}
-use Rattle.std.specs.List.{list_any, list_all, slice_split, starts_with}
-use Rattle.std.specs.Str.{bytes_eq}
+use Rattle.std.specs.Prelude.{ℕ, ◌-◌, Bool, List, [], ◌∷◌, ◌++◌, ◌==◌, ◌&&◌, ◌||◌, not, nat_eq, if◌then◌else◌, length, take, drop, flat_map, slice_index_or, Option, Some, None, option_map, option_and_then}
+use Rattle.std.specs.List.{list_any, list_all, starts_with}
 use Rattle.lib_types.specs.Name.{slash, is_name}
-use Rattle.tree_face.specs.Paths.{root, is_path}
+use Rattle.tree_face.specs.Paths.{root, is_slash, components, is_path}
 use Rattle.mtree_manifest.specs.Escape.{decoded}
 use Rattle.mtree_manifest.specs.Keys.{fault_unless}
 use Rattle.mtree_manifest.specs.declared.fault.LineKind.{LineKind}
@@ -20,9 +19,6 @@ current dirs = slice_index_or dirs (length dirs - 1) []
 abbrev pub closed : Stack → Stack
 closed dirs = take (length dirs - 1) dirs
 
-abbrev pub is_slash : ℕ → Bool
-is_slash b = b == slash
-
 -- a word with a slash behind its first character is a full path from the root; another one is a name in the current directory
 abbrev pub is_full : List ℕ → Bool
 is_full word = list_any is_slash (drop 1 word)
@@ -38,19 +34,12 @@ base_by word current = if is_full word then [] else current
 abbrev pub base_of : Stack → List ℕ → List ℕ
 base_of dirs word = base_by word (current dirs)
 
--- the components as written; empty ones and `.` are dropped
-abbrev pub is_kept : List ℕ → Bool
-is_kept component = not (length component == 0) && not (bytes_eq component (codes "."))
-
-abbrev pub components : List ℕ → List (List ℕ)
-components word = filter is_kept (slice_split is_slash word)
-
--- each decoded by itself
+-- components, each decoded by itself
 abbrev pub decoded_each : List (List ℕ) → Option (List (List ℕ))
 decoded_each [] = Some []
 decoded_each (c ∷ cs) = option_and_then (λ name. option_map (λ names. name ∷ names) (decoded_each cs)) (decoded c)
 
--- the names that a first word gives; none if an escape is bad
+-- the names that a first word gives, which is divided as it is written; none if an escape is bad
 abbrev pub names_of : List ℕ → Option (List (List ℕ))
 names_of word = decoded_each (components word)
 

@@ -1,15 +1,15 @@
 //! What a line with a path makes.
-ghost use Rattle.std.specs.Prelude.{◌≡◌, None, drop, IfOk, OnOk, IsTrue};
+ghost use Rattle.std.specs.Prelude.{◌≡◌, None, drop, IfOk, IfSome, OnOk, IsTrue};
 ghost use Rattle.std.specs.Option.{option_copied};
 ghost use Rattle.tree_face.specs.Node.{is_node};
 ghost use Rattle.tree_face.specs.Paths.{is_path};
 ghost use Rattle.mtree_manifest.specs.Ends.{Ends};
 ghost use Rattle.mtree_manifest.specs.Manifest.{text_of, key_of, id_of, node_of, is_dir, is_link, target_fault, with_node};
 ghost use Rattle.mtree_manifest.specs.Paths.{names_of, place_fault_of, path_of, base_by};
-ghost use Rattle.mtree_manifest.specs.Naming.{is_place_behind, place_fault_behind};
+ghost use Rattle.mtree_manifest.specs.Naming.{LeadsTo, is_place_behind, place_fault_behind};
 ghost use Rattle.mtree_manifest.specs.Views.{values_in};
 
-use crate::escape::decode;
+use crate::escape::{decode, has_backslash};
 use crate::fault::{LineKind, ManifestFault};
 use crate::keys::{Keys, LineType, fault_unless};
 use crate::paths::{append_names, behind_first, is_directive, is_full};
@@ -43,15 +43,20 @@ pub(crate) fn target_fault(keys: &Keys<'_>) -> Option<LineKind>
     fault_unless(!lacks_target, LineKind::NoTarget)
 }
 
+// Fills the buffer with these bytes alone.
+fn fill(buffer: &mut Vec<u8>, bytes: &[u8]) -> Result<(), NoMemory>
+    ensures { OnOk result (buffer.new.items ≡ bytes.now) }
+{
+    buffer.clear();
+    buffer.extend_from_slice(bytes)?;
+    Ok(())
+}
+
 // Fills the buffer with the path of the directory from which a word leads on.
 fn begin_at(path: &mut Vec<u8>, current: &[u8], word: &[u8]) -> Result<(), NoMemory>
     ensures { OnOk result (path.new.items ≡ base_by word.now current.now) }
 {
-    path.clear();
-    if !is_full(word) {
-        path.extend_from_slice(current)?;
-    }
-    Ok(())
+    fill(path, if is_full(word) { b"" } else { current })
 }
 
 // Whether a word leads to a place, by the path from which it leads on and the one to which it leads.
@@ -67,6 +72,19 @@ fn place_fault(word: &[u8], is_place: bool) -> Option<LineKind>
     fault_unless(!is_directive(word) && is_place, LineKind::BadLine)
 }
 
+// The path of a first word that is a dot and a path without escapes, as most first words are.
+#[tactic(auto, using(crate::proofs::FullWords::dotted_path))]
+fn dotted_path(word: &[u8]) -> Option<&[u8]>
+    ensures { IfSome result (λ path. LeadsTo word.now path.now) }
+{
+    let path = behind_first(word);
+    if word.starts_with(b".") && is_path(path) && !has_backslash(path) {
+        Some(path)
+    } else {
+        None
+    }
+}
+
 /// Fills the buffer with where a first word leads, in or below the current directory. Says what is wrong with the word.
 #[tactic(auto, using(crate::proofs::Places::fault_behind))]
 pub(crate) fn find_place(
@@ -78,6 +96,10 @@ pub(crate) fn find_place(
     ensures fault { IfOk result (λ fault. fault ≡ place_fault_of is_dir (base_by word.now current.now) word.now (names_of word.now)) }
     ensures place { IfOk result (λ fault. fault ≡ None → path.new.items ≡ path_of (names_of word.now) (base_by word.now current.now)) }
 {
+    if let Some(dotted) = dotted_path(word) {
+        fill(path, dotted)?;
+        return Ok(None);
+    }
     begin_at(path, current, word)?;
     let start = path.len();
     let Some(are_names) = append_names(path, word)? else {

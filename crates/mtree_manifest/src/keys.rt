@@ -1,10 +1,11 @@
 //! The keywords of a line and their values.
-ghost use Rattle.std.specs.Prelude.{◌≡◌, ◌<◌, ◌≤◌, ◌^◌, if◌then◌else◌, nat_lt, not, Some, None, length, IfOk, IfSome, IsTrue, bytes_eq, position};
+ghost use Rattle.std.specs.Prelude.{◌≡◌, ◌<◌, ◌≤◌, ◌^◌, if◌then◌else◌, nat_lt, not, Some, None, is_some, length, IfOk, OnOk, IfSome, IsTrue, bytes_eq, position};
 ghost use Rattle.std.specs.List.{list_any, list_all};
 ghost use Rattle.std.specs.Char.{is_ascii_digit};
 ghost use Rattle.std.specs.Str.Parse.{digits_value};
 ghost use Rattle.tree_face.specs.Node.{is_key, has_no_nul};
-ghost use Rattle.mtree_manifest.specs.Keys.{rank, first_fault, fault_unless, keyword_of, is_known, type_of, is_type, no_node_types, number_of, is_link_text, value_fault, with_value, without, given_word, unset_word, is_equals, no_values};
+ghost use Rattle.mtree_manifest.specs.Keys.{rank, first_fault, fault_unless, keyword_of, is_known, type_of, is_type, no_node_types, number_of, is_link_text, without, given_by, given_word, unset_word, is_equals, no_values};
+ghost use Rattle.mtree_manifest.specs.declared.fault.LineKind.TheVariants.{BadNumber};
 ghost use Rattle.mtree_manifest.specs.Views.{values_in, given_in, fault_of_text, written_fault};
 
 use crate::escape::{decode, has_backslash};
@@ -214,6 +215,15 @@ fn number_of(value: &[u8]) -> Option<u64>
     }
 }
 
+// Keeps the number that the value writes, and returns the fault of a value that writes none.
+fn number_in(number: &mut Option<u64>, value: &[u8]) -> Option<LineKind>
+    ensures number { number.new ≡ number_of value.now }
+    ensures fault { result ≡ fault_unless (is_some (number_of value.now)) BadNumber }
+{
+    *number = number_of(value);
+    fault_unless(number.is_some(), LineKind::BadNumber)
+}
+
 fn has_no_nul(text: &[u8]) -> bool
     ensures { result ≡ has_no_nul text.now }
 {
@@ -279,35 +289,37 @@ fn written_fault(
     }
 }
 
-fn value_fault(alloc: Global, keyword: Keyword, value: &[u8]) -> Result<Option<LineKind>, NoMemory>
-    ensures { IfOk result (λ fault. fault ≡ value_fault keyword value.now) }
+// The values with one more, whose fault counts with those before.
+fn given_value<'a>(
+    alloc: Global,
+    given: &mut Given<'a>,
+    keyword: Keyword,
+    value: &'a [u8],
+) -> Result<(), NoMemory>
+    ensures { OnOk result (given_in given.new ≡ given_by (given_in given.old) (keyword, Some value.entry.now)) }
 {
-    match keyword {
-        Keyword::Type => Ok(fault_unless(is_type(type_of(value)), LineKind::BadType)),
-        Keyword::Link => written_fault(alloc, false, value),
-        Keyword::Contents => written_fault(alloc, true, value),
-        Keyword::Dev | Keyword::Inode | Keyword::Ctime | Keyword::Size => {
-            Ok(fault_unless(number_of(value).is_some(), LineKind::BadNumber))
+    let keys = &mut given.keys;
+    let fault = match keyword {
+        Keyword::Type => {
+            keys.kind = type_of(value);
+            fault_unless(is_type(keys.kind), LineKind::BadType)
         }
-        Keyword::Other => Ok(None),
-    }
-}
-
-fn with_value<'a>(keys: Keys<'a>, keyword: Keyword, value: &'a [u8]) -> Keys<'a>
-    ensures { values_in result ≡ with_value (values_in keys.entry) keyword value.entry.now }
-{
-    let mut keys = keys;
-    match keyword {
-        Keyword::Type => keys.kind = type_of(value),
-        Keyword::Link => keys.link = value,
-        Keyword::Dev => keys.dev = number_of(value),
-        Keyword::Inode => keys.inode = number_of(value),
-        Keyword::Ctime => keys.ctime = number_of(value),
-        Keyword::Size => keys.size = number_of(value),
-        Keyword::Contents => keys.contents = Some(value),
-        Keyword::Other => {}
-    }
-    keys
+        Keyword::Link => {
+            keys.link = value;
+            written_fault(alloc, false, value)?
+        }
+        Keyword::Contents => {
+            keys.contents = Some(value);
+            written_fault(alloc, true, value)?
+        }
+        Keyword::Dev => number_in(&mut keys.dev, value),
+        Keyword::Inode => number_in(&mut keys.inode, value),
+        Keyword::Ctime => number_in(&mut keys.ctime, value),
+        Keyword::Size => number_in(&mut keys.size, value),
+        Keyword::Other => None,
+    };
+    given.fault = first_fault(given.fault, fault);
+    Ok(())
 }
 
 fn without<'a>(keys: Keys<'a>, keyword: Keyword) -> Keys<'a>
@@ -334,28 +346,20 @@ fn first_equals(word: &[u8]) -> Option<usize>
     word.iter().position(|&b| b == b'=')
 }
 
-/// What one word more gives.
+/// Adds what one word more gives.
 pub(crate) fn given_word<'a>(
     alloc: Global,
-    given: Given<'a>,
+    given: &mut Given<'a>,
     word: &'a [u8],
-) -> Result<Given<'a>, NoMemory>
-    ensures { IfOk result (λ g. given_in g ≡ given_word (given_in given.entry) word.entry.now) }
+) -> Result<(), NoMemory>
+    ensures { OnOk result (given_in given.new ≡ given_word (given_in given.old) word.entry.now) }
 {
     let Some(n) = first_equals(word) else {
         let fault = fault_unless(!is_known(keyword_of(word)), LineKind::BadLine);
-        return Ok(Given {
-            keys: given.keys,
-            fault: first_fault(given.fault, fault),
-        });
+        given.fault = first_fault(given.fault, fault);
+        return Ok(());
     };
-    let keyword = keyword_of(&word[..n]);
-    let value = &word[n + 1..];
-    let fault = value_fault(alloc, keyword, value)?;
-    Ok(Given {
-        keys: with_value(given.keys, keyword, value),
-        fault: first_fault(given.fault, fault),
-    })
+    given_value(alloc, given, keyword_of(&word[..n]), &word[n + 1..])
 }
 
 /// The values without that of the keyword that the word names, or without all.

@@ -1,5 +1,6 @@
 //! A line whose words are read one after another.
-ghost use Rattle.std.specs.Prelude.{◌≡◌, fold, IfOk};
+ghost use Rattle.std.specs.Prelude.{◌≡◌, true, nat_eq, codes, fold, OnOk};
+ghost use Rattle.std.specs.List.{starts_with};
 ghost use Rattle.mtree_manifest.specs.Lines.{words_of, goes_on, physical_words};
 ghost use Rattle.mtree_manifest.specs.Manifest.{head_of};
 ghost use Rattle.mtree_manifest.specs.Progress.{started, given_by_head, with_word};
@@ -43,71 +44,74 @@ pub(crate) fn start_line<'a>(number: u64, defaults: Keys<'a>) -> Line<'a>
     }
 }
 
+// Most first words begin with none of the characters that the others begin with.
 fn head_of(word: &[u8]) -> Head
     ensures { result ≡ head_of word.now }
 {
-    if word.starts_with(b"#") {
-        Head::Comment
-    } else if word == b"/set".as_slice() {
+    match word.first() {
+        Some(b'#') => Head::Comment,
+        Some(b'/') => slash_head(word),
+        Some(b'.') if word == b"..".as_slice() => Head::Close,
+        _ => Head::Entry,
+    }
+}
+
+// What a word that begins with a slash makes of its line.
+fn slash_head(word: &[u8]) -> Head
+    requires { starts_with nat_eq word.now (codes "/") ≡ true }
+    ensures { result ≡ head_of word.now }
+{
+    if word == b"/set".as_slice() {
         Head::Set
     } else if word == b"/unset".as_slice() {
         Head::Unset
-    } else if word == b"..".as_slice() {
-        Head::Close
     } else {
         Head::Entry
     }
 }
 
-// What a word gives that stands behind the first one.
+// Adds what a word gives that stands behind the first one.
 fn given_by_head<'a>(
     alloc: Global,
     head: Head,
-    given: Given<'a>,
+    given: &mut Given<'a>,
     word: &'a [u8],
-) -> Result<Given<'a>, NoMemory>
-    ensures { IfOk result (λ more. given_in more ≡ given_by_head head (given_in given.entry) word.entry.now) }
+) -> Result<(), NoMemory>
+    ensures { OnOk result (given_in given.new ≡ given_by_head head (given_in given.old) word.entry.now) }
 {
     match head {
-        Head::Comment | Head::Close => Ok(given),
+        Head::Comment | Head::Close => Ok(()),
         Head::Set | Head::Entry => given_word(alloc, given, word),
-        Head::Unset => Ok(Given {
-            keys: unset_word(given.keys, word),
-            fault: given.fault,
-        }),
-    }
-}
-
-// The line with one word more.
-fn with_word<'a>(alloc: Global, line: Line<'a>, word: &'a [u8]) -> Result<Line<'a>, NoMemory>
-    ensures { IfOk result (λ more. line_in more ≡ with_word (line_in line.entry) word.entry.now) }
-{
-    let Some((head, _)) = line.first else {
-        return Ok(Line {
-            number: line.number,
-            first: Some((head_of(word), word)),
-            given: line.given,
-        });
-    };
-    let given = given_by_head(alloc, head, line.given, word)?;
-    Ok(Line {
-        number: line.number,
-        first: line.first,
-        given,
-    })
-}
-
-// The line with more words.
-fn with_words<'a>(alloc: Global, line: Line<'a>, bytes: &'a [u8]) -> Result<Line<'a>, NoMemory>
-    ensures { IfOk result (λ more. line_in more ≡ fold with_word (line_in line.entry) (words_of bytes.entry.now)) }
-{
-    let mut more = line;
-    for word in split(Separator::Blank, bytes) {
-        if !word.is_empty() {
-            more = with_word(alloc, more, word)?;
+        Head::Unset => {
+            given.keys = unset_word(given.keys, word);
+            Ok(())
         }
     }
-    Ok(more)
+}
+
+// Adds one word.
+fn add_word<'a>(alloc: Global, line: &mut Line<'a>, word: &'a [u8]) -> Result<(), NoMemory>
+    ensures { OnOk result (line_in line.new ≡ with_word (line_in line.old) word.entry.now) }
+{
+    match line.first {
+        Some((head, _)) => given_by_head(alloc, head, &mut line.given, word),
+        None => {
+            line.first = Some((head_of(word), word));
+            Ok(())
+        }
+    }
+}
+
+// Adds the words between blanks.
+fn add_words<'a>(alloc: Global, line: &mut Line<'a>, bytes: &'a [u8]) -> Result<(), NoMemory>
+    ensures { OnOk result (line_in line.new ≡ fold with_word (line_in line.old) (words_of bytes.entry.now)) }
+{
+    for word in split(Separator::Blank, bytes) {
+        if !word.is_empty() {
+            add_word(alloc, line, word)?;
+        }
+    }
+    Ok(())
 }
 
 /// Whether a physical line goes on in the next one.
@@ -117,17 +121,17 @@ pub(crate) fn goes_on(physical: &[u8]) -> bool
     physical.ends_with(b"\\")
 }
 
-/// The line with the words of one physical line more.
-pub(crate) fn with_physical<'a>(
+/// Adds the words of a physical line.
+pub(crate) fn add_physical<'a>(
     alloc: Global,
-    line: Line<'a>,
+    line: &mut Line<'a>,
     physical: &'a [u8],
-) -> Result<Line<'a>, NoMemory>
-    ensures { IfOk result (λ more. line_in more ≡ fold with_word (line_in line.entry) (physical_words physical.entry.now)) }
+) -> Result<(), NoMemory>
+    ensures { OnOk result (line_in line.new ≡ fold with_word (line_in line.old) (physical_words physical.entry.now)) }
 {
     if goes_on(physical) {
-        with_words(alloc, line, &physical[..physical.len() - 1])
+        add_words(alloc, line, &physical[..physical.len() - 1])
     } else {
-        with_words(alloc, line, physical)
+        add_words(alloc, line, physical)
     }
 }

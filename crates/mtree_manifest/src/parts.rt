@@ -31,7 +31,7 @@ fn first_separator(separator: Separator, bytes: &[u8]) -> Option<usize>
 }
 
 // The first part, and the bytes behind the separator that ends it.
-#[tactic(auto, using(crate::proofs::Parting::cut_at, crate::proofs::Parting::cut_nowhere))]
+#[tactic(auto, using(lib_types::proofs::Parting::cut_at, lib_types::proofs::Parting::cut_nowhere))]
 fn cut(separator: Separator, bytes: &[u8]) -> (&[u8], Option<&[u8]>)
     ensures { parts_of separator (Some bytes.now) ≡ result.0.now ∷ parts_of separator (option_copied result.1) }
 {

@@ -1,11 +1,12 @@
 //! Where the first word of a line leads.
 ghost use Rattle.std.specs.Prelude.{◌≡◌, [], ◌∷◌, drop, IfOk};
-ghost use Rattle.mtree_manifest.specs.Paths.{is_full, is_directive, is_kept, decoded_each, names_of};
+ghost use Rattle.mtree_manifest.specs.Paths.{is_full, is_directive, decoded_each, names_of};
 ghost use Rattle.mtree_manifest.specs.Naming.{Names};
 
 use crate::escape::decode;
 use crate::parts::{Separator, split};
 use lib_types::{NoMemory, is_name};
+use tree_face::is_kept;
 
 /// The bytes without the first one: a word without its first character, or a path without its first slash.
 pub(crate) fn behind_first(bytes: &[u8]) -> &[u8]
@@ -26,12 +27,6 @@ pub(crate) fn is_directive(word: &[u8]) -> bool
     ensures { result ≡ is_directive word.now }
 {
     word.starts_with(b"/") && !is_full(word)
-}
-
-fn is_kept(component: &[u8]) -> bool
-    ensures { result ≡ is_kept component.now }
-{
-    !component.is_empty() && component != b".".as_slice()
 }
 
 /// Appends a component's name with a slash before it. Says whether it is a name, if each of its escapes is one.

@@ -2,7 +2,7 @@
 ghost use Rattle.mtree_manifest.specs.declared.fault.TheConstants.{TEXT_MAX};
 ghost use Rattle.mtree_manifest.specs.declared.fault.ManifestFault.TheVariants as faults;
 ghost use Rattle.std.specs.Prelude.{◌≡◌, ◌⊎◌, ◌≤◌, Some, None, length, OnOk, IfOk, IfErr, IsTrue};
-ghost use Rattle.mtree_manifest.specs.Ends.{Ends, Gives};
+ghost use Rattle.mtree_manifest.specs.Ends.{Ends};
 ghost use Rattle.mtree_manifest.specs.Good.{IsGood, IsGoodOpen, are_good};
 ghost use Rattle.mtree_manifest.specs.Lines.{lines_in};
 ghost use Rattle.mtree_manifest.specs.Lining.{line_in};
@@ -16,7 +16,7 @@ use crate::dirs::Dirs;
 use crate::entry::{find_place, is_dir, node_of, put_node, target_fault};
 use crate::fault::{LineKind, ManifestFault, TEXT_MAX};
 use crate::keys::{Given, Keys, first_fault, no_keys};
-use crate::line::{Head, Line, goes_on, start_line, with_physical};
+use crate::line::{Head, Line, add_physical, goes_on, start_line};
 use crate::paths::is_full;
 use bstr::ByteSlice;
 use lib_types::NoMemory;
@@ -156,25 +156,25 @@ impl<'a> Reader<'a> {
     }
 }
 
-// The line that goes on, or the start of the next one, behind one physical line more.
+// Takes one physical line more: the line goes on, or it ends and the next one starts.
 fn take_physical<'a>(
     reader: &mut Reader<'a>,
-    line: Line<'a>,
+    line: &mut Line<'a>,
     next: u64,
     physical: &'a [u8],
-) -> Result<Line<'a>, ManifestFault>
+) -> Result<(), ManifestFault>
     requires defaults { IsTrue (are_good (state_in reader.old).defaults) }
-    requires good { IsGoodOpen (line_in line) }
-    ensures reads { Gives (progress_in reader.new next) result (physical_taken next (state_in reader.old) (line_in line.entry) physical.entry.now) }
-    ensures defaults { IfOk result (λ _. IsTrue (are_good (state_in reader.new).defaults)) }
-    ensures good { IfOk result (λ more. IsGoodOpen (line_in more)) }
+    requires good { IsGoodOpen (line_in line.old) }
+    ensures reads { Ends result (physical_taken next (state_in reader.old) (line_in line.old) physical.entry.now) (progress_in reader.new next line.new) }
+    ensures defaults { OnOk result (IsTrue (are_good (state_in reader.new).defaults)) }
+    ensures good { OnOk result (IsGoodOpen (line_in line.new)) }
 {
-    let line = with_physical(reader.alloc, line, physical)?;
-    if goes_on(physical) {
-        return Ok(line);
+    add_physical(reader.alloc, line, physical)?;
+    if !goes_on(physical) {
+        reader.end_line(line)?;
+        *line = start_line(next, reader.defaults);
     }
-    reader.end_line(&line)?;
-    Ok(start_line(next, reader.defaults))
+    Ok(())
 }
 
 // Reads all lines of a text.
@@ -188,7 +188,7 @@ fn read_lines<'a>(reader: &mut Reader<'a>, text: &'a [u8]) -> Result<(), Manifes
     let mut next = 1;
     for physical in text.lines() {
         next += 1;
-        line = take_physical(reader, line, next, physical)?;
+        take_physical(reader, &mut line, next, physical)?;
     }
     reader.end_line(&line)
 }

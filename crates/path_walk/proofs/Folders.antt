@@ -1,9 +1,9 @@
 -- The bytes of a place before its last slash.
-use Rattle.std.proofs.Common.{◌≡◌, ◌<◌, ◌≤◌, ◌+◌, ℕ, suc, Bool, true, false, List, [], ◌∷◌, ◌++◌, length, take, get_or, Some, None, unwrap_or, refl, ap, sym, ◌∙◌, arith}
+use Rattle.std.proofs.Common.{◌≡◌, ◌≤◌, ◌+◌, ℕ, false, List, [], ◌∷◌, ◌++◌, length, take, get_or, Some, unwrap_or, refl, ap, sym, ◌∙◌, arith}
 use Rattle.std.proofs.lemmas.List.{take_more}
 use Rattle.lib_types.specs.Name.{slash}
-use Rattle.lib_types.proofs.SortedPairs.{by_test}
-use Rattle.path_walk.specs.Names.{is_slash, before_last, more_before}
+use Rattle.tree_face.specs.Paths.{is_slash}
+use Rattle.path_walk.specs.Names.{before_last, more_before}
 
 pub last_slash : (xs : List ℕ) → before_last (xs ++ slash ∷ []) ≡ Some xs
 last_slash [] = refl

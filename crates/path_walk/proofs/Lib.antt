@@ -1,4 +1,3 @@
 mod Folders
 mod Joining
-mod Parting
 mod Walks

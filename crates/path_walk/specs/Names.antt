@@ -1,20 +1,6 @@
--- The names of a path text, and the texts of places.
-use Rattle.std.specs.Prelude.{ℕ, Bool, List, [], ◌∷◌, ◌++◌, ◌==◌, ◌&&◌, not, if◌then◌else◌, length, codes, filter, unwrap_or, Option, Some, None, option_map}
-use Rattle.std.specs.List.{slice_split}
-use Rattle.std.specs.Str.{bytes_eq}
-use Rattle.lib_types.specs.Name.{slash}
-use Rattle.tree_face.specs.Paths.{root, folder}
-
-abbrev pub is_slash : ℕ → Bool
-is_slash b = b == slash
-
--- empty names and `.` lead nowhere
-abbrev pub is_kept : List ℕ → Bool
-is_kept name = not (length name == 0) && not (bytes_eq name (codes "."))
-
--- the names of a path text
-abbrev pub names_of : List ℕ → List (List ℕ)
-names_of text = filter is_kept (slice_split is_slash text)
+-- The texts of places.
+use Rattle.std.specs.Prelude.{ℕ, List, [], ◌∷◌, ◌++◌, if◌then◌else◌, unwrap_or, Option, Some, None}
+use Rattle.tree_face.specs.Paths.{root, is_slash, folder}
 
 -- the text before the last slash
 abbrev pub more_before : ℕ → Option (List ℕ) → Option (List ℕ)

@@ -1,7 +1,8 @@
 -- What private functions say of a text that is partly read.
 use Rattle.std.specs.Prelude.{◌≡◌, ℕ, List, [], filter, take, unwrap_or, Option, Some, None}
 use Rattle.std.specs.List.{slice_split}
-use Rattle.path_walk.specs.Names.{is_slash, is_kept, before_last}
+use Rattle.tree_face.specs.Paths.{is_slash, is_kept}
+use Rattle.path_walk.specs.Names.{before_last}
 
 -- the parts that are left
 abbrev pub parts_of : Option (List ℕ) → List (List ℕ)

@@ -1,12 +1,13 @@
 -- What private functions say of a walk that stops.
-use Rattle.std.specs.Prelude.{◌≡◌, ◌⊎◌, ◌++◌, ◌∷◌, ◌&&◌, ◌+◌, ℕ, Bool, true, false, List, length, Option, Some, None, Result, Ok, Err, option_map}
+use Rattle.std.specs.Prelude.{◌≡◌, ◌⊎◌, ◌++◌, ◌&&◌, ◌+◌, ℕ, true, false, List, length, Option, Some, None, Ok, Err}
 use Rattle.std.specs.Option.{option_copied}
 use Rattle.name_order.specs.LibraryName.{is_library_name}
 use Rattle.tree_face.specs.declared.tree.Kind.TheVariants as kinds
 use Rattle.tree_face.specs.Tree.{Nodes, kind_at}
-use Rattle.path_walk.specs.Names.{names_of, join}
+use Rattle.tree_face.specs.Paths.{components}
+use Rattle.path_walk.specs.Names.{join}
 use Rattle.path_walk.specs.Rest.{names_in}
-use Rattle.path_walk.specs.Walk.{Stop, Ends, Follows, is_plain, start_of, target_at}
+use Rattle.path_walk.specs.Walk.{Stop, Ends, Follows, steps, is_plain, start_of, target_at}
 use Rattle.path_walk.specs.declared.walk.Mode.{Mode}
 use Rattle.path_walk.specs.declared.walk.WalkFault.{WalkFault}
 use Rattle.path_walk.specs.declared.walk.WalkFault.TheVariants.{Absent, NoMemory}
@@ -18,7 +19,7 @@ use Rattle.path_walk.specs.declared.walk.Halt.TheVariants as halt
 -- the stop of a walk that halts at this place
 abbrev pub stop_of : Halt → List ℕ → Stop
 stop_of halt.Reached place = Ends (Ok place)
-stop_of (halt.Link target rest) place = Follows (names_of target.now ++ names_in (option_copied rest)) (start_of target.now place)
+stop_of (halt.Link target rest) place = Follows (components target.now ++ names_in (option_copied rest)) (start_of target.now place)
 
 -- in the folder `old` the name is this child, and `new` is the place from which the walk goes on
 abbrev pub IsChild : Nodes → Mode → List ℕ → List ℕ → List ℕ → Child → Type 0
@@ -38,6 +39,10 @@ IsNoChild t mode name old fault = (fault ≡ NoMemory) ⊎ ((fault ≡ Absent) �
 -- the walk stops so, or the walk is out of memory
 abbrev pub Fails : Stop → WalkFault → Type 0
 Fails stop fault = (fault ≡ NoMemory) ⊎ (stop ≡ Ends (Err fault))
+
+-- the walk by these names from the old place halts so at the new one
+abbrev pub StopsAt : Nodes → Mode → List (List ℕ) → List ℕ → List ℕ → Halt → Type 0
+StopsAt t mode names old new h = steps t mode names old ≡ stop_of h new
 
 -- how much is left of a text
 abbrev pub size_of : Option (List ℕ) → ℕ

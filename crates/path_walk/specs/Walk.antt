@@ -1,6 +1,6 @@
 -- Where a path text leads in an image's tree (path_resolution(7), symlink(7)). A walk goes from name to name, begins at the root,
 -- and follows at most 40 links.
-use Rattle.std.specs.Prelude.{ℕ, zero, suc, Bool, true, false, List, [], ◌∷◌, ◌++◌, ◌&&◌, nat_eq, if◌then◌else◌, codes, Option, Some, None, Result, Ok, Err}
+use Rattle.std.specs.Prelude.{◌≡◌, ◌⊎◌, ℕ, zero, suc, Bool, true, false, List, [], ◌∷◌, ◌++◌, ◌&&◌, nat_eq, if◌then◌else◌, codes, Option, Some, None, Result, Ok, Err}
 use Rattle.std.specs.List.{starts_with}
 use Rattle.std.specs.Str.{bytes_eq}
 use Rattle.name_order.specs.LibraryName.{is_library_name}
@@ -8,13 +8,13 @@ use Rattle.tree_face.specs.declared.node.Node.{Node}
 use Rattle.tree_face.specs.declared.node.Node.TheVariants.{Dir, File, Link}
 use Rattle.tree_face.specs.declared.tree.Kind.{Kind}
 use Rattle.tree_face.specs.declared.tree.Kind.TheVariants as kinds
-use Rattle.tree_face.specs.Paths.{root}
+use Rattle.tree_face.specs.Paths.{root, components}
 use Rattle.tree_face.specs.Tree.{Nodes, node_at, kind_at}
-use Rattle.path_walk.specs.Names.{names_of, parent, join}
+use Rattle.path_walk.specs.Names.{parent, join}
 use Rattle.path_walk.specs.declared.walk.Mode.{Mode}
 use Rattle.path_walk.specs.declared.walk.Mode.TheVariants.{Plain, Full}
 use Rattle.path_walk.specs.declared.walk.WalkFault.{WalkFault}
-use Rattle.path_walk.specs.declared.walk.WalkFault.TheVariants.{Absent, NotDir, TooManyLinks}
+use Rattle.path_walk.specs.declared.walk.WalkFault.TheVariants.{Absent, NotDir, TooManyLinks, NoMemory}
 use Rattle.path_walk.specs.declared.walk.TheConstants.{LINKS_MAX}
 
 -- where a walk without a further link ends, or the names that a link leaves, and the place from which they go on
@@ -43,7 +43,7 @@ start_of target place = if starts_with nat_eq target root then root else place
 -- In mode Plain a link with a library name counts as absent.
 abbrev pub at_link : Mode → List ℕ → List ℕ → List (List ℕ) → List ℕ → Stop
 at_link mode name target rest place =
-    if is_plain mode && is_library_name name then Ends (Err Absent) else Follows (names_of target ++ rest) (start_of target place)
+    if is_plain mode && is_library_name name then Ends (Err Absent) else Follows (components target ++ rest) (start_of target place)
 
 -- Nothing lies below a file, and it has no `..`.
 abbrev pub at_file : List (List ℕ) → List ℕ → Stop
@@ -72,6 +72,10 @@ walk t mode links (Ends result) = result
 walk t mode zero (Follows names place) = Err TooManyLinks
 walk t mode (suc links) (Follows names place) = walk t mode links (steps t mode names place)
 
+-- the fault is that of the walk, or memory is out
+abbrev pub LeadsNowhere : Result (List ℕ) WalkFault → WalkFault → Type 0
+LeadsNowhere walk fault = (fault ≡ NoMemory) ⊎ (walk ≡ Err fault)
+
 -- the place to which a path text leads, without links
 unfoldable pub resolution : Nodes → List ℕ → Mode → Result (List ℕ) WalkFault
-resolution t path mode = walk t mode LINKS_MAX (steps t mode (names_of path) root)
+resolution t path mode = walk t mode LINKS_MAX (steps t mode (components path) root)

@@ -3,13 +3,14 @@ ghost use Rattle.std.specs.Prelude.{◌≡◌, ◌<◌, ◌∷◌, ◌++◌, [],
 ghost use Rattle.std.specs.List.{slice_split};
 ghost use Rattle.std.specs.Option.{option_copied};
 ghost use Rattle.lib_types.specs.Name.{slash};
-ghost use Rattle.tree_face.specs.Paths.{root};
-ghost use Rattle.path_walk.specs.Names.{is_slash, is_kept, names_of, before_last, parent, join};
+ghost use Rattle.tree_face.specs.Paths.{is_slash, components};
+ghost use Rattle.path_walk.specs.Names.{parent, join};
 ghost use Rattle.path_walk.specs.Rest.{parts_of, names_in, ends_at};
 ghost use Rattle.path_walk.specs.Stops.{size_of};
 
 use lib_types::NoMemory;
 use std::alloc::Global;
+use tree_face::is_kept;
 
 fn first_slash(bytes: &[u8]) -> Option<usize>
     ensures index { result ≡ position is_slash bytes.now }
@@ -19,7 +20,7 @@ fn first_slash(bytes: &[u8]) -> Option<usize>
 }
 
 // The first part, and what is behind the slash that ends it.
-#[tactic(auto, using(crate::proofs::Parting::cut_at, crate::proofs::Parting::cut_nowhere))]
+#[tactic(auto, using(lib_types::proofs::Parting::cut_at, lib_types::proofs::Parting::cut_nowhere))]
 fn cut(bytes: &[u8]) -> (&[u8], Option<&[u8]>)
     ensures parts { slice_split is_slash bytes.now ≡ result.0.now ∷ parts_of (option_copied result.1) }
     ensures shorter { IfSome result.1 (λ rest. length rest.now < length bytes.now) }
@@ -28,12 +29,6 @@ fn cut(bytes: &[u8]) -> (&[u8], Option<&[u8]>)
         Some(n) => (&bytes[..n], Some(&bytes[n + 1..])),
         None => (bytes, None),
     }
-}
-
-fn is_kept(name: &[u8]) -> bool
-    ensures { result ≡ is_kept name.now }
-{
-    name.len() != 0 && name != b".".as_slice()
 }
 
 /// The first name of a path text, and the text that is left; None if it has no name.
@@ -105,7 +100,7 @@ fn with_slash(alloc: Global, first: &[u8], rest: &[u8]) -> Result<Vec<u8>, NoMem
 /// A text of the first one's names and then of those that are left.
 #[tactic(auto, using(crate::proofs::Joining::names_joined, crate::proofs::Joining::names_alone))]
 pub fn joined(alloc: Global, first: &[u8], rest: Option<&[u8]>) -> Result<Vec<u8>, NoMemory>
-    ensures { IfOk result (λ text. names_of text.items ≡ names_of first.now ++ names_in (option_copied rest.entry)) }
+    ensures { IfOk result (λ text. components text.items ≡ components first.now ++ names_in (option_copied rest.entry)) }
 {
     match rest {
         Some(rest) => with_slash(alloc, first, rest),

@@ -1,11 +1,10 @@
 //! The walk from name to name.
-ghost use Rattle.std.specs.Prelude.{◌≡◌, ◌⊎◌, ◌++◌, ◌∷◌, ℕ, List, IfOk, IfErr, Ok, Err, Some, MatchResult, MatchOption, OnOk};
+ghost use Rattle.std.specs.Prelude.{◌≡◌, ◌∷◌, ℕ, List, IfOk, IfErr, Ok, MatchResult, MatchOption, OnOk};
 ghost use Rattle.std.specs.Option.{option_copied};
-ghost use Rattle.tree_face.specs.Paths.{root};
+ghost use Rattle.tree_face.specs.Paths.{components};
 ghost use Rattle.tree_face.specs.Tree.{kind_at};
-ghost use Rattle.path_walk.specs.Names.{names_of, join};
-ghost use Rattle.path_walk.specs.Walk.{steps, walk, at_file, start_of, target_at, is_plain, resolution};
-ghost use Rattle.path_walk.specs.Stops.{stop_of, IsChild, IsNoChild, Fails};
+ghost use Rattle.path_walk.specs.Walk.{steps, walk, at_file, start_of, target_at, is_plain, LeadsNowhere, resolution};
+ghost use Rattle.path_walk.specs.Stops.{stop_of, StopsAt, IsChild, IsNoChild, Fails};
 ghost use Rattle.path_walk.specs.Rest.{names_in};
 ghost use Rattle.path_walk.specs.declared.walk.WalkFault.TheVariants as faults;
 
@@ -138,7 +137,7 @@ fn go<'t, 'p>(
 ) -> Result<Option<Halt<'t, 'p>>, WalkFault>
     ensures goes { IfOk result (λ stop. MatchOption stop
         (steps tree.now mode (name.now ∷ names_in (option_copied rest.entry)) place.old.items ≡ steps tree.now mode (names_in (option_copied rest.entry)) place.new.items)
-        (λ halt. steps tree.now mode (name.now ∷ names_in (option_copied rest.entry)) place.old.items ≡ stop_of halt place.new.items)) }
+        (StopsAt tree.now mode (name.now ∷ names_in (option_copied rest.entry)) place.old.items place.new.items)) }
     ensures fails { IfErr result (Fails (steps tree.now mode (name.now ∷ names_in (option_copied rest.entry)) place.old.items)) }
 {
     if name == b"..".as_slice() {
@@ -159,7 +158,7 @@ fn walk_names<'t, 'p>(
     place: &mut Vec<u8>,
     path: Option<&'p [u8]>,
 ) -> Result<Halt<'t, 'p>, WalkFault>
-    ensures halts { IfOk result (λ halt. steps tree.now mode (names_in (option_copied path.entry)) place.old.items ≡ stop_of halt place.new.items) }
+    ensures halts { IfOk result (StopsAt tree.now mode (names_in (option_copied path.entry)) place.old.items place.new.items) }
     ensures fails { IfErr result (Fails (steps tree.now mode (names_in (option_copied path.entry)) place.old.items)) }
 {
     let mut left = path;
@@ -192,8 +191,8 @@ fn follow(
     place: &mut Vec<u8>,
     path: Vec<u8>,
 ) -> Result<(), WalkFault>
-    ensures reached { OnOk result (walk tree.now mode LINKS_MAX (steps tree.now mode (names_of path.items) place.old.items) ≡ Ok place.new.items) }
-    ensures fails { IfErr result (λ fault. (fault ≡ faults.NoMemory) ⊎ (walk tree.now mode LINKS_MAX (steps tree.now mode (names_of path.items) place.old.items) ≡ Err fault)) }
+    ensures reached { OnOk result (walk tree.now mode LINKS_MAX (steps tree.now mode (components path.items) place.old.items) ≡ Ok place.new.items) }
+    ensures fails { IfErr result (LeadsNowhere (walk tree.now mode LINKS_MAX (steps tree.now mode (components path.items) place.old.items))) }
 {
     let mut path = path;
     for link in 0..LINKS_MAX {
@@ -218,7 +217,7 @@ fn follow(
 #[tactic(auto, unfolding(crate::specs::Walk::resolution))]
 pub fn resolve(alloc: Global, tree: &Tree, path: &[u8], mode: Mode) -> Result<Text, WalkFault>
     ensures place { IfOk result (λ place. resolution tree.now path.now mode ≡ Ok place) }
-    ensures fault { IfErr result (λ fault. (fault ≡ faults.NoMemory) ⊎ (resolution tree.now path.now mode ≡ Err fault)) }
+    ensures fault { IfErr result (LeadsNowhere (resolution tree.now path.now mode)) }
 {
     let mut place = Vec::from_slice(alloc, b"/")?;
     let left = Vec::from_slice(alloc, path)?;

@@ -7,14 +7,16 @@ use Rattle.std.proofs.lemmas.List.Sorted.{IsPermutation-insert, IsPermutation-pu
 use Rattle.std.proofs.lemmas.List.Sums.{prefix_len-le-length, fails_before_first, passes_at_first}
 use Rattle.std.specs.List.{insert, position_or_len}
 use Rattle.std.specs.List.Sorted.{IsSortedBy}
-use Rattle.std.specs.Ordering.{is_gt, is_lt, flip_args, ordering_reverse}
+use Rattle.std.specs.Cmp.{IsTotalOrder, back_total, int_cmp_total, on_total, then_total}
+use Rattle.std.specs.Ordering.{is_lt, ordering_reverse}
+use Rattle.std.specs.Prelude.{pos}
 use Rattle.std.specs.declared.cmp.Ordering.{Ordering}
 use Rattle.std.specs.declared.cmp.Ordering.TheVariants.{Less, Equal, Greater}
+use Rattle.lib_types.specs.Abi.{flags_of}
 use Rattle.lib_types.specs.declared.entry.Entry.{Entry}
-use Rattle.name_order.specs.Order.{name_order}
 use Rattle.name_order.proofs.Total.{name_order-total}
-use Rattle.ldconfig_cli.specs.Entries.{AreEntriesOf, cache_entry_of}
-use Rattle.ldconfig_cli.specs.Libraries.{NamedKey}
+use Rattle.ldconfig_cli.specs.Entries.{AreEntriesOf, cache_entry_of, entry_order}
+use Rattle.ldconfig_cli.specs.Found.{OwnLibrary}
 use Rattle.plain_update.specs.LibraryFile.{seen}
 use Rattle.plain_update.specs.declared.LibraryFile as declared
 
@@ -53,36 +55,45 @@ insert_sorted lt xs i y sorted within before after k d low high =
     both_above more =
         rw (above (k + 1) (k - 1 + 1) (omega arith) (omega arith), above k (k - 1) (omega arith) (omega arith)) (sorted (k - 1) d (omega arith) (omega (arith, long)))
 
-above_is : (r : Ordering) → not (is_gt r) ≡ false → is_lt r ≡ false
-above_is Less e = cc
-above_is Equal e = refl
-above_is Greater e = refl
+before_is : (r : Ordering) → is_lt r ≡ true → is_lt (ordering_reverse r) ≡ false
+before_is Less e = refl
+before_is Equal e = refl
+before_is Greater e = absurd (cc)
 
-not_above_is : (r : Ordering) → not (is_gt r) ≡ true → is_lt (ordering_reverse r) ≡ false
-not_above_is Less e = refl
-not_above_is Equal e = refl
-not_above_is Greater e = cc
+-- the entry doesn't stand before this one
+abbrev is_not_before : Entry → Entry → Bool
+is_not_before entry other = not (is_lt (entry_order other entry))
 
-abbrev is_not_above : List ℕ → Entry → Bool
-is_not_above soname entry = not (is_gt (name_order entry.soname soname))
+entry_total : IsTotalOrder entry_order
+entry_total = then_total (back_total (on_total (λ (e : Entry). e.soname) name_order-total)) (back_total (on_total (λ (e : Entry). pos (flags_of e.abi)) int_cmp_total))
 
--- the index for an entry of this soname
-abbrev place_of_soname : List Entry → List ℕ → ℕ
-place_of_soname entries soname = position_or_len (is_not_above soname) entries
+-- the index for an entry
+abbrev place_of : List Entry → Entry → ℕ
+place_of entries entry = position_or_len (is_not_before entry) entries
+
+not_false : (b : Bool) → not b ≡ false → b ≡ true
+not_false true e = refl
+not_false false e = cc
+
+not_before : (b : Bool) → not b ≡ true → b ≡ false
+not_before true e = cc
+not_before false e = refl
 
 -- the entries with that of one more library
-listed_more : (found : List NamedKey) (entries : List Entry) (library : NamedKey) → AreEntriesOf found entries
-    → AreEntriesOf (found ++ library ∷ []) (insert entries (place_of_soname entries library.0) (cache_entry_of library))
-listed_more found entries library are = record {
-  all = rw (map-append cache_entry_of found (library ∷ [])) (IsPermutation-push_more _ _ _ (cache_entry_of library) are.all (IsPermutation-insert entries _ (cache_entry_of library)));
-  descending = insert_sorted (λ a b. is_lt (flip_args name_order a.soname b.soname)) entries _ (cache_entry_of library) are.descending (prefix_len-le-length _ entries)
-      (λ j d e. above_is _ (fails_before_first (is_not_above library.0) entries j d (omega arith)))
-      (λ j d e within. rw (name_order-total.antisymm library.0 (get_or entries j d).soname, e) (not_above_is _ (passes_at_first (is_not_above library.0) entries d (omega arith))));
-}
+listed_more : (found : List OwnLibrary) (entries : List Entry) (library : OwnLibrary) → AreEntriesOf found entries
+    → AreEntriesOf (found ++ library ∷ []) (insert entries (place_of entries (cache_entry_of library)) (cache_entry_of library))
+listed_more found entries library are =
+    let entry = cache_entry_of library in
+    record {
+      all = rw (map-append cache_entry_of found (library ∷ [])) (IsPermutation-push_more _ _ _ (cache_entry_of library) are.all (IsPermutation-insert entries _ (cache_entry_of library)));
+      descending = insert_sorted (λ a b. is_lt (entry_order a b)) entries _ entry are.descending (prefix_len-le-length _ entries)
+          (λ j d e. rw (entry_total.antisymm entry (get_or entries j d)) (before_is _ (not_false _ (fails_before_first (is_not_before entry) entries j d (omega arith)))))
+          (λ j d e within. rw e (not_before _ (passes_at_first (is_not_before entry) entries d (omega arith))));
+    }
 
 -- a step of a loop that inserts the entry of each library
 pub library_more : (libraries : List declared.LibraryFile) (i : ℕ) (d : declared.LibraryFile) (entries more : List Entry) (place : ℕ) (entry : Entry) → i < length libraries
-    → AreEntriesOf (map seen (take i libraries)) entries → entry ≡ cache_entry_of (seen (get_or libraries i d)) → place ≡ place_of_soname entries (get_or libraries i d).name.now
+    → AreEntriesOf (map seen (take i libraries)) entries → entry ≡ cache_entry_of (seen (get_or libraries i d)) → place ≡ place_of entries (cache_entry_of (seen (get_or libraries i d)))
     → more ≡ insert entries place entry → AreEntriesOf (map seen (take (i + 1) libraries)) more
 library_more libraries i d entries more place entry within are made found put =
     rw (take_more libraries i d within, map-append seen (take i libraries) (get_or libraries i d ∷ []), put, made, found)

@@ -5,7 +5,7 @@ use Rattle.std.proofs.lemmas.List.{length-map, map-append, take-map}
 use Rattle.std.specs.Borrow.{Bor}
 use Rattle.std.specs.List.{list_any, position_or_len}
 use Rattle.indexmap.specs.IndexSet.{insert_key}
-use Rattle.ldconfig_cli.specs.CacheText.{offset_of, table_of}
+use Rattle.cache_writer.specs.CacheText.{offset_of, table_of}
 
 -- one is among them if its index is within them
 among : {X : Type 0} (p : X → Bool) (xs : List X) → list_any p xs ≡ not (position_or_len p xs == length xs)

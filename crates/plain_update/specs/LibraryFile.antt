@@ -1,6 +1,6 @@
 -- The library files that the plain program is given.
-use Rattle.ldconfig_cli.specs.Libraries as libraries
+use Rattle.ldconfig_cli.specs.Found.{OwnLibrary}
 use Rattle.plain_update.specs.declared.LibraryFile.{LibraryFile}
 
-abbrev pub seen : LibraryFile → libraries.NamedKey
-seen l = (l.name.now, l.key.now)
+abbrev pub seen : LibraryFile → OwnLibrary
+seen l = record { name = l.name.now; abi = l.abi }

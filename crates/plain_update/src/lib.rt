@@ -4,11 +4,10 @@
 
 ghost use Rattle.std.specs.Prelude.{◌≡◌, ◌+◌, ◌*◌, ◌^◌, ◌++◌, ◌<◌, ◌≤◌, length, map, not, All, None, IfOk, OnOk, flat_map, bytes_eq, replicate};
 ghost use Rattle.std.specs.List.{position_or_len};
-ghost use Rattle.std.specs.Ordering.{is_gt};
+ghost use Rattle.std.specs.Ordering.{is_lt};
 ghost use Rattle.indexmap.specs.IndexSet.{insert_key};
-ghost use Rattle.name_order.specs.Order.{name_order};
-ghost use Rattle.ldconfig_cli.specs.CacheText.{cache_text, strings, header, entry_bytes, extension, table_of, offset_of, u32_bytes};
-ghost use Rattle.ldconfig_cli.specs.Entries.{cache_entry_of, AreEntriesOf};
+ghost use Rattle.cache_writer.specs.CacheText.{cache_text, strings, header, entry_bytes, extension, table_of, offset_of, u32_bytes};
+ghost use Rattle.ldconfig_cli.specs.Entries.{cache_entry_of, entry_order, AreEntriesOf};
 ghost use Rattle.ldconfig_cli.specs.Cache.{IsCacheOf};
 ghost use Rattle.plain_update.specs.LibraryFile.{seen};
 
@@ -20,9 +19,9 @@ use std::cmp::Ordering;
 /// A library file of `/usr/lib`.
 #[derive(Clone, Copy)]
 pub struct LibraryFile<'a> {
+    /// Its name, which is its soname.
     pub name: &'a [u8],
-    /// What a store holds the file's content under.
-    pub key: &'a [u8],
+    pub abi: Abi,
 }
 
 /// The cache of these libraries.
@@ -36,7 +35,7 @@ pub fn plain_cache(alloc: Global, libraries: &[LibraryFile<'_>]) -> Result<Vec<u
 }
 
 /// The bytes of a cache of these entries.
-#[tactic(auto, unfolding(ldconfig_cli::specs::CacheText::cache_text, ldconfig_cli::specs::CacheText::generator))]
+#[tactic(auto, unfolding(cache_writer::specs::CacheText::cache_text, cache_writer::specs::CacheText::generator))]
 pub fn plain_cache_text(alloc: Global, entries: &Entries) -> Result<Vec<u8>, NoMemory>
     requires few { length entries.now ≤ 131072 }
     requires sonames { All (λ entry. length entry.soname ≤ 4700) entries.now }
@@ -60,7 +59,7 @@ pub fn plain_cache_text(alloc: Global, entries: &Entries) -> Result<Vec<u8>, NoM
 }
 
 // The strings of these entries.
-#[tactic(auto, using(ldconfig_cli::proofs::StringPool::strings_more, ldconfig_cli::proofs::StringPool::length_table_insert))]
+#[tactic(auto, using(cache_writer::proofs::StringPool::strings_more, cache_writer::proofs::StringPool::length_table_insert))]
 fn strings(alloc: Global, entries: &[Entry]) -> Result<Vec<&[u8]>, NoMemory>
     requires sonames { All (λ entry. length entry.soname ≤ 4700) entries.now }
     requires paths { All (λ entry. length entry.path ≤ 4700) entries.now }
@@ -100,7 +99,7 @@ fn position(texts: &[&[u8]], text: &[u8]) -> usize
 }
 
 // The bytes before a text.
-#[tactic(auto, using(crate::proofs::Positions::before, ldconfig_cli::proofs::StringPool::place_of_le))]
+#[tactic(auto, using(crate::proofs::Positions::before, cache_writer::proofs::StringPool::place_of_le))]
 fn offset_of(texts: &[&[u8]], text: &[u8]) -> u32
     requires { length (table_of (map (λ text. text.now) texts.now)) < 2 ^ 32 }
     ensures value { result ≡ offset_of (map (λ text. text.now) texts.now) text.now }
@@ -123,7 +122,7 @@ fn size_of(texts: &[&[u8]]) -> u32
 
 // The parts of the cache's text are put at the end of what is there.
 
-#[tactic(auto, unfolding(ldconfig_cli::specs::CacheText::u32_bytes))]
+#[tactic(auto, unfolding(cache_writer::specs::CacheText::u32_bytes))]
 fn put_numbers(out: &mut Vec<u8>, numbers: &[u32]) -> Result<(), NoMemory>
     ensures { OnOk result (out.new.items ≡ out.old.items ++ flat_map u32_bytes numbers.now) }
 {
@@ -133,7 +132,7 @@ fn put_numbers(out: &mut Vec<u8>, numbers: &[u32]) -> Result<(), NoMemory>
     Ok(())
 }
 
-#[tactic(auto, unfolding(ldconfig_cli::specs::CacheText::header, ldconfig_cli::specs::CacheText::u32_bytes))]
+#[tactic(auto, unfolding(cache_writer::specs::CacheText::header, cache_writer::specs::CacheText::u32_bytes))]
 fn put_header(out: &mut Vec<u8>, entries: u32, strings: u32, extension: u32) -> Result<(), NoMemory>
     ensures { OnOk result (out.new.items ≡ out.old.items ++ header entries strings extension) }
 {
@@ -141,7 +140,7 @@ fn put_header(out: &mut Vec<u8>, entries: u32, strings: u32, extension: u32) -> 
     put_numbers(out, &[entries, strings, 2, extension, 0, 0, 0])
 }
 
-#[tactic(auto, unfolding(ldconfig_cli::specs::CacheText::entry_bytes, ldconfig_cli::specs::CacheText::u32_bytes, ldconfig_cli::specs::CacheText::u64_bytes))]
+#[tactic(auto, unfolding(cache_writer::specs::CacheText::entry_bytes, cache_writer::specs::CacheText::u32_bytes, cache_writer::specs::CacheText::u64_bytes))]
 fn put_entry(out: &mut Vec<u8>, start: u32, texts: &[&[u8]], entry: &Entry) -> Result<(), NoMemory>
     requires { start + length (table_of (map (λ text. text.now) texts.now)) < 2 ^ 32 }
     ensures { OnOk result (out.new.items ≡ out.old.items ++ entry_bytes start (map (λ text. text.now) texts.now) entry.now) }
@@ -185,7 +184,7 @@ fn put_zeros(out: &mut Vec<u8>, count: u32) -> Result<(), NoMemory>
     Ok(())
 }
 
-#[tactic(auto, unfolding(ldconfig_cli::specs::CacheText::extension, ldconfig_cli::specs::CacheText::generator, ldconfig_cli::specs::CacheText::u32_bytes))]
+#[tactic(auto, unfolding(cache_writer::specs::CacheText::extension, cache_writer::specs::CacheText::generator, cache_writer::specs::CacheText::u32_bytes))]
 fn put_extension(out: &mut Vec<u8>, place: u32) -> Result<(), NoMemory>
     requires { place + 24 < 2 ^ 32 }
     ensures { OnOk result (out.new.items ≡ out.old.items ++ extension place) }
@@ -201,19 +200,30 @@ pub fn plain_entries(alloc: Global, libraries: &[LibraryFile<'_>]) -> Result<Ent
 {
     let mut entries = Vec::new(alloc);
     for library in libraries {
-        let place = place_below(&entries, library.name);
+        let place = place_below(&entries, library);
         entries.insert(place, cache_entry_of(alloc, library)?)?;
     }
     Ok(Entries::from_vec(entries))
 }
 
-// The first index whose soname isn't above this one.
-fn place_below(entries: &[Entry], soname: &[u8]) -> usize
-    ensures value { result ≡ position_or_len (λ entry. not (is_gt (name_order entry.soname soname.now))) entries.now }
+// Whether an entry stands before that of the library: its soname is greater, or it is the same and its flags are.
+fn is_before(entry: &Entry, library: &LibraryFile<'_>) -> bool
+    ensures { result ≡ is_lt (entry_order entry.now (cache_entry_of (seen library.now))) }
+{
+    match compare(library.name, entry.soname.as_bytes()) {
+        Ordering::Less => true,
+        Ordering::Equal => library.abi.flags() < entry.abi.flags(),
+        Ordering::Greater => false,
+    }
+}
+
+// The first index whose entry doesn't stand before that of the library.
+fn place_below(entries: &[Entry], library: &LibraryFile<'_>) -> usize
+    ensures value { result ≡ position_or_len (λ entry. not (is_lt (entry_order entry (cache_entry_of (seen library.now))))) entries.now }
     ensures within { result ≤ length entries.now }
 {
     for (i, entry) in entries.iter().enumerate() {
-        if compare(entry.soname.as_bytes(), soname) != Ordering::Greater {
+        if !is_before(entry, library) {
             return i;
         }
     }
@@ -227,7 +237,7 @@ fn cache_entry_of(alloc: Global, library: &LibraryFile<'_>) -> Result<Entry, NoM
     path.extend_from_slice(library.name)?;
     Ok(Entry {
         soname: Text::copy_of(alloc, library.name)?,
-        abi: Abi::X86_64,
+        abi: library.abi,
         cap: None,
         path: Text::from_vec(path),
         place: 0,

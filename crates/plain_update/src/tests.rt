@@ -97,23 +97,23 @@ const LISTS: [(&str, &str); 13] = [
     ),
 ];
 
-// The keys of the files of these names, which blanks separate.
-fn keys(alloc: Global, names: &str) -> Result<Vec<Text>, Fail> {
+// The names that blanks separate.
+fn texts(alloc: Global, names: &str) -> Result<Vec<Text>, Fail> {
     let mut found = Vec::new(alloc);
     for name in names.split_whitespace() {
-        let key = format!(in alloc; "usr/lib/{name}")?;
-        found.push(Text::copy_of(alloc, key.as_bytes())?)?;
+        found.push(Text::copy_of(alloc, name.as_bytes())?)?;
     }
     Ok(found)
 }
 
-// The libraries that these are the keys of.
-fn libraries(alloc: Global, keys: &[Text]) -> Result<Vec<LibraryFile<'_>>, NoMemory> {
+// The libraries of these names, all for one ABI.
+fn libraries(alloc: Global, names: &[Text]) -> Result<Vec<LibraryFile<'_>>, NoMemory> {
     let mut found = Vec::new(alloc);
-    for key in keys {
-        let key = key.as_bytes();
-        let name = key.strip_prefix(b"usr/lib/".as_slice()).unwrap_or(key);
-        found.push(LibraryFile { name, key })?;
+    for name in names {
+        found.push(LibraryFile {
+            name: name.as_bytes(),
+            abi: Abi::X86_64,
+        })?;
     }
     Ok(found)
 }
@@ -145,11 +145,12 @@ fn cache_by_update(
     let mut manifest = Vec::from_slice(alloc, b"#mtree\n")?;
     let mut held = Vec::new(alloc);
     for library in libraries {
+        let mut key = Vec::from_slice(alloc, b"usr/lib/")?;
+        key.extend_from_slice(library.name)?;
         manifest.extend_from_slice(b"./")?;
-        manifest.extend_from_slice(library.key)?;
+        manifest.extend_from_slice(&key)?;
         manifest.extend_from_slice(b" type=file\n")?;
-        let key = Text::copy_of(alloc, library.key)?;
-        held.push((key, Text::copy_of(alloc, &NAMELESS)?))?;
+        held.push((Text::from_vec(key), Text::copy_of(alloc, &NAMELESS)?))?;
     }
     let mut words = Vec::new(alloc);
     words.push(String::from_str(alloc, "update")?)?;
@@ -166,8 +167,8 @@ fn cache_by_update(
 fn the_command_writes_what_the_plain_program_does(rt: HostRuntime) -> Result<(), Fail> {
     let alloc = rt.alloc();
     for (names, listed) in LISTS {
-        let keys = keys(alloc, names)?;
-        let libraries = libraries(alloc, &keys)?;
+        let texts = texts(alloc, names)?;
+        let libraries = libraries(alloc, &texts)?;
         let entries = plain_entries(alloc, &libraries)?;
         assert_eq!(rt;
             sonames(alloc, &entries)?.as_slice(),

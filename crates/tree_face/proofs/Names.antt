@@ -6,7 +6,7 @@ use Rattle.std.proofs.lemmas.List.{get_or-drop, take_all}
 use Rattle.std.proofs.lemmas.List.Sums.{take_while-cons, AllPass-from_list_all}
 use Rattle.std.specs.List.{filter, take_while, AllWithin, list_all, position, position_or_len, before_first, starts_with, dedup, dedup_from}
 use Rattle.std.specs.Str.{bytes_eq}
-use Rattle.std.specs.List.Sorted.{IsPartitionedBy, IsPartitionPoint}
+use Rattle.std.specs.List.Sorted.{IsPartitionedBy}
 use Rattle.tree_face.proofs.Below.{below_as_later, none_before}
 use Rattle.lib_types.proofs.SortedPairs.{by_test}
 use Rattle.tree_face.specs.Paths.{is_path, is_below, root, name_behind}

@@ -1,10 +1,12 @@
 -- The order of paths.
-use Rattle.std.proofs.Common.{◌≡◌, ℕ, suc, zero, ◌<◌, ◌≤◌, List, [], ◌∷◌, length, drop, arith, Ordering, refl}
+use Rattle.std.proofs.Common.{◌≡◌, ℕ, suc, zero, ◌+◌, ◌<◌, ◌≤◌, List, [], ◌∷◌, length, drop, slice_index, arith, Ordering, refl, ap, subst, ◌∙◌}
 use Rattle.std.specs.declared.cmp.Ordering.TheVariants.{Less, Equal, Greater}
 use Rattle.std.specs.Ordering.{MatchOrdering, nat_cmp}
 use Rattle.std.specs.Cmp.{IsTotalOrder, nat_cmp_is}
 use Rattle.std.specs.Cmp.Lexicographic.{on_texts}
 use Rattle.std.specs.Prelude.{map}
+use Rattle.std.specs.Ordering.{ordering_then}
+use Rattle.byteorder.specs.Endian.{little_from}
 use Rattle.tree_face.specs.Paths.{path_rank, path_cmp}
 
 pub path_total : IsTotalOrder path_cmp
@@ -29,3 +31,24 @@ by_length (x ∷ a) (y ∷ b) (suc i) h k e = longer_by_one _ _ _ (by_length a b
 pub path_cmp-by_length : (a b : List ℕ) (i : ℕ) → i ≤ length a → i ≤ length b → (i < length a → i < length b → ⊥)
     → path_cmp (drop i a) (drop i b) ≡ nat_cmp (length a) (length b)
 path_cmp-by_length a b i h k e = nat_cmp_is _ _ _ (by_length a b i h k e)
+
+-- ---- equal bytes don't decide
+
+byte_passed : (a b : List ℕ) (i : ℕ) → i < length a → i < length b → slice_index a i ≡ slice_index b i → path_cmp (drop (suc i) a) (drop (suc i) b) ≡ path_cmp (drop i a) (drop i b)
+byte_passed [] b i h k e = absurd (omega arith)
+byte_passed (x ∷ a) [] i h k e = absurd (omega arith)
+byte_passed (x ∷ a) (y ∷ b) zero h k e =
+    let same : Equal ≡ nat_cmp (path_rank x) (path_rank y) = nat_cmp_is _ _ _ (ap path_rank e) in
+    ap (λ r. ordering_then r (path_cmp a b)) same
+byte_passed (x ∷ a) (y ∷ b) (suc i) h k e = byte_passed a b i (omega arith) (omega arith) e
+
+-- bytes with equal numbers are equal
+module _ (a b : List ℕ) (p : (k : ℕ) → slice_index a k < 256) (q : (k : ℕ) → slice_index b k < 256) where
+  pub words_passed : (n i : ℕ) → i + n ≤ length a → i + n ≤ length b → little_from i n a ≡ little_from i n b → path_cmp (drop (i + n) a) (drop (i + n) b) ≡ path_cmp (drop i a) (drop i b)
+  words_passed zero i h k e = let none : i ≡ i + zero = omega arith in subst (λ j. path_cmp (drop j a) (drop j b) ≡ path_cmp (drop i a) (drop i b)) none refl
+  words_passed (suc n) i h k e =
+      let first : slice_index a i ≡ slice_index b i = let x = p i in let y = q i in omega arith in
+      let rest : little_from (suc i) n a ≡ little_from (suc i) n b = let x = p i in let y = q i in omega arith in
+      let next : suc i + n ≡ i + suc n = omega arith in
+      subst (λ j. path_cmp (drop j a) (drop j b) ≡ path_cmp (drop i a) (drop i b)) next
+      (words_passed n (suc i) (omega arith) (omega arith) rest ∙ byte_passed a b i (omega arith) (omega arith) first)

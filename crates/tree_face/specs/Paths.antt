@@ -1,5 +1,5 @@
 -- Paths below the root of a tree, and their order.
-use Rattle.std.specs.Prelude.{ℕ, ◌+◌, Bool, List, [], ◌++◌, ◌==◌, ◌&&◌, nat_le, nat_eq, if◌then◌else◌, map, length, drop, codes}
+use Rattle.std.specs.Prelude.{ℕ, ◌+◌, Bool, List, [], ◌++◌, ◌==◌, ◌&&◌, not, nat_le, nat_eq, if◌then◌else◌, map, filter, length, drop, codes}
 use Rattle.std.specs.declared.cmp.Ordering.{Ordering}
 use Rattle.std.specs.Ordering.{nat_cmp}
 use Rattle.std.specs.Cmp.Lexicographic.{slice_cmp}
@@ -12,9 +12,19 @@ use Rattle.tree_face.specs.declared.path.TheConstants.{PATH_MAX}
 abbrev pub root : List ℕ
 root = codes "/"
 
+abbrev pub is_slash : ℕ → Bool
+is_slash b = b == slash
+
+-- the components of a path text between its slashes, of which empty ones and `.` lead nowhere
+abbrev pub is_kept : List ℕ → Bool
+is_kept component = not (length component == 0) && not (bytes_eq component (codes "."))
+
+abbrev pub components : List ℕ → List (List ℕ)
+components text = filter is_kept (slice_split is_slash text)
+
 -- names with a slash between each two
 abbrev pub are_names : List ℕ → Bool
-are_names bytes = list_all is_name (slice_split (λ b. b == slash) bytes)
+are_names bytes = list_all is_name (slice_split is_slash bytes)
 
 -- a slash and then names with a slash between each two, at most 4095 bytes in all
 abbrev pub is_path : List ℕ → Bool
@@ -42,4 +52,4 @@ is_below p q = starts_with nat_eq q (folder p)
 
 -- the name at the offset n of a path
 abbrev pub name_behind : ℕ → List ℕ → List ℕ
-name_behind n path = before_first (λ b. b == slash) (drop n path)
+name_behind n path = before_first is_slash (drop n path)

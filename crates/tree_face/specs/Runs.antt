@@ -1,6 +1,6 @@
 -- A tree's list in sorted runs of bounded length.
-use Rattle.std.specs.Prelude.{◌≡◌, ℕ, ◌+◌, ◌<◌, ◌≤◌, Bool, true, List, [], ◌∷◌, ◌&&◌, not, nat_le, nat_eq, map, length, take, drop, slice_index_or}
-use Rattle.std.specs.List.{flat_map, list_all, HoldsAt, take_while, starts_with}
+use Rattle.std.specs.Prelude.{◌≡◌, ℕ, ◌+◌, ◌<◌, ◌≤◌, Bool, true, List, [], ◌∷◌, ◌&&◌, not, nat_le, nat_eq, map, length, take, drop, slice_index_or, slice_set}
+use Rattle.std.specs.List.{flat_map, insert, list_all, HoldsAt, take_while, starts_with}
 use Rattle.std.specs.Ordering.{is_gt}
 use Rattle.tree_face.specs.Paths.{path_cmp, name_behind}
 use Rattle.tree_face.specs.Index.{IsIndexOf, IsGapFor}
@@ -13,7 +13,7 @@ use Rattle.tree_face.specs.declared.tree.runs.Place.{Place}
 abbrev pub joined : List Nodes → Nodes
 joined runs = flat_map (λ run. run) runs
 
--- a run has at least one entry, and at most 512
+-- a run has at least one entry, and at most RUN_MAX
 abbrev pub is_run : Nodes → Bool
 is_run run = nat_le 1 (length run) && nat_le (length run) RUN_MAX
 
@@ -68,6 +68,19 @@ pub record IsEntryBefore (t : Nodes) (index : ℕ) (e : List ℕ × Node) : Type
   pub i : ℕ
   pub next : index ≡ i + 1
   pub entry : IsEntryAt t i e
+
+-- the list with another node in the entry at this index
+abbrev pub IsWithNode : Nodes → ℕ → Node → Nodes → Type 0
+IsWithNode old index node new = (d : List ℕ × Node) → new ≡ slice_set old index ((slice_index_or old index d).0, node)
+
+-- the runs with another node in the entry at this index of a run
+abbrev pub IsRunWithNode : List Nodes → ℕ → ℕ → Node → List Nodes → Type 0
+IsRunWithNode old run at node new =
+    (d : List ℕ × Node) → new ≡ slice_set old run (slice_set (slice_index_or old run []) at ((slice_index_or (slice_index_or old run []) at d).0, node))
+
+-- the runs with this one divided at an index
+abbrev pub divided : List Nodes → ℕ → ℕ → List Nodes
+divided runs run at = insert (slice_set runs run (take at (slice_index_or runs run []))) (run + 1) (drop at (slice_index_or runs run []))
 
 -- the run begins at the path or before it
 abbrev pub begins_by : List ℕ → Nodes → Bool

@@ -1,5 +1,5 @@
 -- The tree of an image: nodes by their paths.
-use Rattle.std.specs.Prelude.{◌≡◌, ℕ, ◌≤◌, Bool, true, false, List, [], map, Option, Some, None, ◌==◌, ◌&&◌, ◌||◌, not, if◌then◌else◌, length}
+use Rattle.std.specs.Prelude.{◌≡◌, ℕ, ◌≤◌, Bool, true, false, List, [], map, Option, Some, None, ◌==◌, ◌&&◌, ◌||◌, not, if◌then◌else◌, IsTrue, length}
 use Rattle.std.specs.List.{list_any, list_all, filter, dedup}
 use Rattle.std.specs.List.Sorted.{IsStrictlySortedBy}
 use Rattle.std.specs.Option.{is_some}
@@ -48,6 +48,10 @@ clashes t path node = list_any (clash_with path node) t
 -- the path is new, and the tree has all the nodes that a tree may have
 abbrev pub has_no_room : Nodes → List ℕ → Bool
 has_no_room t path = not (is_some (node_at t path)) && (length t == NODES_MAX)
+
+-- nothing clashes, and there is no room
+abbrev pub IsFullFor : Nodes → List ℕ → Node → Type 0
+IsFullFor t path node = (clashes t path node ≡ false) × IsTrue (has_no_room t path)
 
 abbrev pub kind_of : Node → Kind
 kind_of node.Dir = kind.Dir

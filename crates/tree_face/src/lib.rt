@@ -14,7 +14,7 @@ pub use memory::{
     MemDisk, MemSink, MemSource, MemStore, SureDisk, SureSink, SureSource, SureStore,
 };
 pub use node::{Id, Node, TEXT_MAX, is_node};
-pub use path::{PATH_MAX, is_path};
+pub use path::{PATH_MAX, is_kept, is_path};
 pub use store::Store;
 pub use stream::{Sink, Source, put_all};
 pub use tree::{Children, Kind, NODES_MAX, Nodes, Tree, TreeFault};

@@ -1,8 +1,10 @@
 //! Paths of a tree and their order.
-ghost use Rattle.std.specs.Prelude.{◌≡◌, ℕ, ◌+◌, ◌==◌, ◌^◌, ◌<◌, IfSome, IsTrue, length};
-ghost use Rattle.tree_face.specs.Paths.{is_path, are_names, path_cmp, path_rank, stem, folder, is_below, name_behind};
+ghost use Rattle.std.specs.Prelude.{◌≡◌, ℕ, ◌+◌, ◌==◌, ◌^◌, ◌<◌, ◌≤◌, IfSome, IsTrue, length, drop};
+ghost use Rattle.byteorder.specs.Endian.{little_from};
+ghost use Rattle.tree_face.specs.Paths.{is_path, is_kept, is_slash, are_names, path_cmp, path_rank, stem, folder, is_below, name_behind};
 ghost use Rattle.std.specs.List.{before_first, position};
 
+use byteorder::{ByteOrder, LittleEndian};
 use lib_types::is_name;
 use std::cmp::Ordering;
 
@@ -23,6 +25,13 @@ fn are_names(bytes: &[u8]) -> bool
     bytes.split(|&b| b == b'/').all(|name| is_name(name))
 }
 
+/// Whether a component of a path text leads anywhere, as an empty one and `.` don't.
+pub fn is_kept(component: &[u8]) -> bool
+    ensures { result ≡ is_kept component.now }
+{
+    !component.is_empty() && component != b".".as_slice()
+}
+
 // The rank of a byte in the order of paths.
 fn rank(b: u8) -> u16
     ensures { result ≡ path_rank b }
@@ -30,11 +39,32 @@ fn rank(b: u8) -> u16
     if b == b'/' { 0 } else { u16::from(b) + 1 }
 }
 
+// The eight bytes at an offset as one number.
+fn word_at(bytes: &[u8], at: usize) -> u64
+    requires { at + 8 ≤ length bytes.now }
+    ensures { result ≡ little_from at 8 bytes.now }
+{
+    LittleEndian::read_u64(&bytes[at..])
+}
+
+// An offset up to which two paths are equal, eight bytes at a time: paths that a search compares have long prefixes in common.
+#[tactic(auto, using(crate::proofs::Order::words_passed))]
+fn equal_words(a: &[u8], b: &[u8]) -> usize
+    ensures within { (result ≤ length a.now) × (result ≤ length b.now) }
+    ensures rest { path_cmp (drop result a.now) (drop result b.now) ≡ path_cmp a.now b.now }
+{
+    let mut i = 0;
+    while a.len() - i >= 8 && b.len() - i >= 8 && word_at(a, i) == word_at(b, i) {
+        i += 8;
+    }
+    i
+}
+
 /// The order of the tree.
 pub(crate) fn compare(a: &[u8], b: &[u8]) -> Ordering
     ensures { result ≡ path_cmp a.now b.now }
 {
-    let mut i = 0;
+    let mut i = equal_words(a, b);
     while i < a.len() && i < b.len() {
         if a[i] != b[i] {
             return rank(a[i]).cmp(&rank(b[i]));
@@ -89,7 +119,7 @@ pub(crate) fn name_from(path: &[u8], start: usize) -> &[u8]
 }
 
 fn first_name(bytes: &[u8]) -> &[u8]
-    ensures { result.now ≡ before_first (λ b. b == 47) bytes.now }
+    ensures { result.now ≡ before_first is_slash bytes.now }
 {
     match first_slash(bytes) {
         Some(n) => &bytes[..n],
@@ -98,7 +128,7 @@ fn first_name(bytes: &[u8]) -> &[u8]
 }
 
 fn first_slash(bytes: &[u8]) -> Option<usize>
-    ensures index { result ≡ position (λ b. b == 47) bytes.now }
+    ensures index { result ≡ position is_slash bytes.now }
     ensures within { IfSome result (λ n. n < length bytes.now) }
 {
     bytes.iter().position(|&b| b == b'/')

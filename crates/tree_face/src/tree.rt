@@ -77,7 +77,7 @@ impl Tree {
     ghost use Rattle.std.specs.Cmp.Lexicographic.{slice_cmp};
     ghost use Rattle.std.specs.List.Sorted.{IsStrictlySortedBy};
     ghost use Rattle.std.specs.Ordering.{nat_cmp};
-    ghost use Rattle.tree_face.specs.Tree.{IsTree, IsPathSorted, put, remove, node_at, clashes, has_no_room, kind_at, children_of};
+    ghost use Rattle.tree_face.specs.Tree.{IsTree, IsPathSorted, put, remove, node_at, clashes, IsFullFor, kind_at, children_of};
     ghost use Rattle.tree_face.specs.Node.{is_node};
     ghost use Rattle.tree_face.specs.Paths.{is_path};
 
@@ -130,7 +130,7 @@ impl Tree {
         ensures done { OnOk result (self.new ≡ put self.old path.now node) }
         ensures refused { OnErr result (self.new ≡ self.old) }
         ensures clash { (result ≡ Err TreeFault.Clash) ↔ IsTrue (clashes self.old path.now node) }
-        ensures full { (result ≡ Err TreeFault.Full) ↔ ((clashes self.old path.now node ≡ false) × IsTrue (has_no_room self.old path.now)) }
+        ensures full { (result ≡ Err TreeFault.Full) ↔ IsFullFor self.old path.now node }
     {
         let found = entries::find_for(&self.runs, self.count, path, &node)?;
         self.count = entries::put_at(self.alloc, &mut self.runs, self.count, found, path, node)?;

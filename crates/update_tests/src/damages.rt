@@ -1,7 +1,10 @@
 //! The example's library with some of its bytes changed.
-use crate::updates::{assert_not_built, assert_update};
+use crate::updates::{assert_skipped, assert_update};
+use lib_types::Text;
 use std::test::Fail;
-use update_fixture::{LIBZ, LIBZ_KEY, LIBZ_MANIFEST, LIBZ_REPORT, ONE_CACHE, done, image, one};
+use update_fixture::{
+    EMPTY_CACHE, LIBZ, LIBZ_KEY, LIBZ_MANIFEST, LIBZ_REPORT, ONE_CACHE, done, image, one,
+};
 
 // The library with one byte changed.
 fn with_byte(at: usize, byte: u8) -> [u8; 251] {
@@ -13,40 +16,82 @@ fn with_byte(at: usize, byte: u8) -> [u8; 251] {
 }
 
 #[test]
-fn a_damaged_library_is_refused(rt: HostRuntime) -> Result<(), Fail> {
+fn a_damaged_library_is_a_line_of_the_report(rt: HostRuntime) -> Result<(), Fail> {
     let alloc = rt.alloc();
-    // what is damaged, at which byte, by which byte
+    // what is damaged, at which byte, by which byte, and the defect
     let damages = [
-        ("no ELF file", 0, 0),
-        ("class 1", 4, 1),
-        ("a class that no file has", 4, 3),
-        ("the other order of bytes", 5, 2),
-        ("another type", 16, 1),
-        ("a program", 16, 2),
-        ("machine 3", 18, 3),
-        ("machine 183", 18, 183),
-        ("program headers past the file", 39, 0xff),
-        ("program headers of 32 bytes", 54, 32),
-        ("more program headers than the file has", 56, 4),
-        ("no PT_DYNAMIC", 120, 0),
-        ("a dynamic section past the file", 129, 1),
-        ("no DT_STRSZ", 208, 11),
-        ("no DT_STRTAB", 192, 11),
-        ("a string table in no segment", 201, 0x20),
-        ("a string table past its segment", 216, 12),
-        ("a DT_SONAME past the string table", 184, 11),
-        ("a DT_SONAME without an end", 250, b'x'),
-        ("a DT_SONAME that is no name", 241, b'/'),
+        ("no ELF file", 0, 0, "NotElf"),
+        // the fields of class 1 say that there are no program headers
+        ("class 1", 4, 1, "NoDynamic"),
+        ("a class that no file has", 4, 3, "BadClass 3"),
+        ("the other order of bytes", 5, 2, "BadData 2"),
+        ("another type", 16, 1, "NotShared 1"),
+        ("a program", 16, 2, "NotShared 2"),
+        ("machine 3", 18, 3, "BadMachine 3"),
+        ("program headers past the file", 39, 0xff, "BadPhdrs"),
+        ("program headers of 32 bytes", 54, 32, "BadPhdrs"),
+        ("more program headers than the file has", 56, 4, "BadPhdrs"),
+        ("no PT_DYNAMIC", 120, 0, "NoDynamic"),
+        ("a dynamic section past the file", 129, 1, "DynOutside"),
+        ("no DT_STRSZ", 208, 11, "NoStrtab"),
+        ("no DT_STRTAB", 192, 11, "NoStrtab"),
+        ("a string table in no segment", 201, 0x20, "OutsideLoad"),
+        ("a string table past its segment", 216, 12, "OutsideLoad"),
+        ("a DT_SONAME past the string table", 184, 11, "BadString 14"),
+        ("a DT_SONAME without an end", 250, b'x', "BadString 14"),
+        ("a DT_SONAME that is no name", 241, b'/', "BadSoname"),
     ];
-    for (damage, at, byte) in damages {
-        assert_not_built(&rt, alloc, &with_byte(at, byte), damage)?;
+    for (damage, at, byte, defect) in damages {
+        assert_skipped(&rt, alloc, &with_byte(at, byte), defect, damage)?;
     }
     let mut many = with_byte(56, 0xff);
     many[57] = 0xff;
-    assert_not_built(&rt, alloc, &many, "PN_XNUM")?;
-    for size in [0, 10, 15, 16, 63, 175, 239, 250] {
-        assert_not_built(&rt, alloc, &LIBZ[..size], "cut")?;
+    assert_skipped(&rt, alloc, &many, "BadPhdrs", "PN_XNUM")
+}
+
+#[test]
+fn a_library_that_is_cut(rt: HostRuntime) -> Result<(), Fail> {
+    let alloc = rt.alloc();
+    let cuts = [
+        (0, "NotElf"),
+        (10, "TooShort 10"),
+        (15, "TooShort 15"),
+        (16, "TooShort 16"),
+        (63, "TooShort 63"),
+        (175, "BadPhdrs"),
+        (239, "DynOutside"),
+        (250, "OutsideLoad"),
+    ];
+    for (size, defect) in cuts {
+        assert_skipped(&rt, alloc, &LIBZ[..size], defect, "cut")?;
     }
+    assert_skipped(
+        &rt,
+        alloc,
+        b"GROUP ( libz.so.1 )\n",
+        "NotElf",
+        "a linker script",
+    )
+}
+
+// The files of one folder by their names, in the order of the names.
+#[test]
+fn files_that_are_no_libraries(rt: HostRuntime) -> Result<(), Fail> {
+    let alloc = rt.alloc();
+    let manifest = b"./usr/lib/libt.so.1\n./usr/lib/libc.so\n./usr/lib/libbe.so.1\n";
+    let mut held = one(alloc, b"usr/lib/libc.so", b"GROUP ( libc.so.6 )\n")?;
+    for (key, content) in [
+        (b"usr/lib/libt.so.1".as_slice(), &LIBZ[..10]),
+        (b"usr/lib/libbe.so.1", &with_byte(5, 2)),
+    ] {
+        held.push((Text::copy_of(alloc, key)?, Text::copy_of(alloc, content)?))?;
+    }
+    let report = b"skip: /usr/lib/libbe.so.1: BadData 2\n\
+        skip: /usr/lib/libc.so: NotElf\n\
+        skip: /usr/lib/libt.so.1: TooShort 10\n\
+        0 libs, 0 links, 3 files opened\n";
+    let devices = assert_update(&rt, alloc, image(manifest), held, done(report, EMPTY_CACHE))?;
+    assert_eq!(rt; devices.store.begun(), 3);
     Ok(())
 }
 

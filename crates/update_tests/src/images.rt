@@ -5,8 +5,8 @@ use lib_types::Text;
 use std::test::Fail;
 use tree_face::{Slot, SureDisk, SureSink, SureSource, SureStore};
 use update_fixture::{
-    EMPTY_CACHE, LIBZ, LIBZ_KEY, LIBZ_MANIFEST, LIBZ_REPORT, ONE_CACHE, THREE_CACHE, copy, done,
-    has, image, library, one, replacing_calls, strings,
+    EMPTY_CACHE, I386_LIBZ, LIBZ, LIBZ_KEY, LIBZ_MANIFEST, LIBZ_REPORT, ONE_CACHE, THREE_CACHE,
+    copy, done, has, image, library, one, replacing_calls, strings,
 };
 
 // A `run` that always returns NoMemory meets its contract. This test refuses it.
@@ -46,6 +46,38 @@ fn one_library(rt: HostRuntime) -> Result<(), Fail> {
     let devices = assert_update(&rt, alloc, image(LIBZ_MANIFEST), held, want)?;
     assert_eq!(rt; devices.store.begun(), 1);
     assert_eq!(rt; devices.disk.calls(), replacing_calls().as_slice());
+    Ok(())
+}
+
+// Each ABI by its class and machine, with its flags in the entry.
+#[test]
+fn a_library_of_each_abi(rt: HostRuntime) -> Result<(), Fail> {
+    let alloc = rt.alloc();
+    let mut aarch64 = LIBZ;
+    aarch64[18] = 183;
+    let mut x32 = I386_LIBZ;
+    x32[18] = 62;
+    let rows = [
+        (I386_LIBZ.as_slice(), 0x00),
+        (&LIBZ, 0x03),
+        (&x32, 0x08),
+        (&aarch64, 0x0a),
+    ];
+    for (content, flags) in rows {
+        let mut cache = Vec::from_slice(alloc, ONE_CACHE)?;
+        // the second byte of the entry's flags; the first is 3 for each
+        if cache.len() > 49 {
+            cache[49] = flags;
+        }
+        let held = one(alloc, LIBZ_KEY, content)?;
+        let _ = assert_update(
+            &rt,
+            alloc,
+            image(LIBZ_MANIFEST),
+            held,
+            done(LIBZ_REPORT, &cache),
+        )?;
+    }
     Ok(())
 }
 

@@ -5,8 +5,8 @@ use mtree_manifest::{LineKind, ManifestFault};
 use std::test::Fail;
 use tree_face::{Disk, Slot};
 use update_fixture::{
-    I386_LIBZ, LIBZ, LIBZ_KEY, LIBZ_MANIFEST, OLD, Setting, has, image, library, make_devices, one,
-    refused, run_words,
+    LIBZ, LIBZ_KEY, LIBZ_MANIFEST, OLD, Setting, has, image, library, make_devices, one, refused,
+    run_words,
 };
 
 // The kinds of line faults are tried by the tests of manifests; here one of each form of fault line.
@@ -93,9 +93,6 @@ fn other_libraries_are_not_built(rt: HostRuntime) -> Result<(), Fail> {
     for soname in [b"libz.so.2".as_slice(), b"libz.so", b"libz.so.10"] {
         assert_not_built(&rt, alloc, &library(alloc, soname)?, "another soname")?;
     }
-    for content in [b"GROUP ( libz.so.1 )\n".as_slice(), b"", &I386_LIBZ] {
-        assert_not_built(&rt, alloc, content, "no library")?;
-    }
     Ok(())
 }
 
@@ -107,7 +104,11 @@ fn the_first_library_by_name_decides(rt: HostRuntime) -> Result<(), Fail> {
     let not_built = refused(Status::NotBuilt, b"fault: NotBuilt\n");
     let held = one(alloc, b"usr/lib/libb.so.1", b"a text")?;
     let _ = assert_update(&rt, alloc, image(manifest), held, lacking)?;
+    // a file that is no library stops nothing
     let held = one(alloc, b"usr/lib/liba.so.1", b"a text")?;
+    let _ = assert_update(&rt, alloc, image(manifest), held, lacking)?;
+    let other = library(alloc, b"libother.so.1")?;
+    let held = one(alloc, b"usr/lib/liba.so.1", &other)?;
     let _ = assert_update(&rt, alloc, image(manifest), held, not_built)?;
     Ok(())
 }

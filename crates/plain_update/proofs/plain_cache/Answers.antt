@@ -2,14 +2,14 @@ use Rattle.std.proofs.Common.{List, ◌≤◌, length, map, arith}
 use Rattle.std.proofs.lemmas.List.{length-map}
 use Rattle.std.proofs.lemmas.List.Elements.{All-map}
 use Rattle.std.specs.List.{All}
-use Rattle.ldconfig_cli.specs.Libraries as libraries
+use Rattle.ldconfig_cli.specs.Found.{OwnLibrary}
 use Rattle.ldconfig_cli.proofs.Listing.{as_many, short_sonames, short_paths, plain_entries}
 use Rattle.plain_update.specs.LibraryFile.{seen}
 use Rattle.plain_update.specs.declared.LibraryFile.{LibraryFile}
 use Rattle.plain_update.proofs.plain_cache.Goals as goal
 
-short : (found : List LibraryFile) → All (λ library. length library.name.now ≤ 4095) found → All (λ library. length library.0 ≤ 4095) (map seen found)
-short found names = All-map (λ (library : libraries.NamedKey). length library.0 ≤ 4095) seen found names
+short : (found : List LibraryFile) → All (λ library. length library.name.now ≤ 4095) found → All (λ library. length library.name ≤ 4095) (map seen found)
+short found names = All-map (λ (library : OwnLibrary). length library.name ≤ 4095) seen found names
 
 pub plain_cache_text-requires-clause-few : goal.plain_cache_text-requires-clause-few
 plain_cache_text-requires-clause-few c = omega (arith, as_many _ _ c.in_ok-entries.ensures, length-map c.args.libraries.now seen, c.requires.few)

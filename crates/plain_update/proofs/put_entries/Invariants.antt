@@ -1,5 +1,5 @@
 use Rattle.std.proofs.Common.{◌≡◌, ◌++◌, flat_map, map, take}
-use Rattle.ldconfig_cli.specs.CacheText.{entry_bytes}
+use Rattle.cache_writer.specs.CacheText.{entry_bytes}
 use Rattle.plain_update.proofs.put_entries.Given as goal
 
 abbrev pub invariant-loop-entry : goal.invariant-loop-entry

@@ -1,5 +1,5 @@
 use Rattle.std.proofs.Common.{◌≡◌, ◌++◌, flat_map, take}
-use Rattle.ldconfig_cli.specs.CacheText.{u32_bytes}
+use Rattle.cache_writer.specs.CacheText.{u32_bytes}
 use Rattle.plain_update.proofs.put_numbers.Given as goal
 
 abbrev pub invariant-loop-number : goal.invariant-loop-number

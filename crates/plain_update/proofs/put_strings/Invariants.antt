@@ -1,5 +1,5 @@
 use Rattle.std.proofs.Common.{◌≡◌, ◌++◌, map, take}
-use Rattle.ldconfig_cli.specs.CacheText.{table_of}
+use Rattle.cache_writer.specs.CacheText.{table_of}
 use Rattle.plain_update.proofs.put_strings.Given as goal
 
 abbrev pub invariant-loop-text : goal.invariant-loop-text

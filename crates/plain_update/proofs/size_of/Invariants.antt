@@ -1,5 +1,5 @@
 use Rattle.std.proofs.Common.{◌≡◌, ◌+◌, drop, length, map}
-use Rattle.ldconfig_cli.specs.CacheText.{table_of}
+use Rattle.cache_writer.specs.CacheText.{table_of}
 use Rattle.plain_update.proofs.size_of.Given as goal
 
 -- the texts that are left give the rest

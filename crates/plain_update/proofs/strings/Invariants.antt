@@ -1,5 +1,5 @@
 use Rattle.std.proofs.Common.{◌≡◌, ◌*◌, ◌≤◌, length, map, take}
-use Rattle.ldconfig_cli.specs.CacheText.{strings, table_of}
+use Rattle.cache_writer.specs.CacheText.{strings, table_of}
 use Rattle.plain_update.proofs.strings.Given as goal
 
 abbrev pub invariant-loop-entry : goal.invariant-loop-entry

@@ -6,7 +6,8 @@ ghost use Rattle.std.specs.Option.{option_copied, is_some};
 ghost use Rattle.tree_face.specs.Paths.{path_cmp, root, is_path, is_below, name_behind};
 ghost use Rattle.tree_face.specs.Index.{IsBehind, is_file_above, has_file_above};
 ghost use Rattle.tree_face.specs.Runs.{joined, are_runs, index_of, names_behind, AreRuns, IsEntryPlace, IsPlace, IsPlaceOf, IsGapAt};
-ghost use Rattle.tree_face.specs.Tree.{IsPathSorted, IsTree, node_at, has_below, clashes, has_no_room, kind_of, kind_there, put, remove};
+ghost use Rattle.tree_face.specs.declared.tree.TheConstants.{NODES_MAX};
+ghost use Rattle.tree_face.specs.Tree.{IsPathSorted, IsTree, node_at, has_below, clashes, has_no_room, IsFullFor, kind_of, kind_there, put, remove};
 
 use super::rest::Rest;
 use super::run::{PathEntry, Run};
@@ -178,7 +179,7 @@ fn has_no_room(runs: &Vec<Run>, count: usize, path: &[u8], found: Result<Place, 
     requires count { count ≡ length (joined runs.now.items) }
     requires found { MatchResult found (IsPlaceOf runs.now.items path.now) (IsGapAt runs.now.items path.now) }
     ensures value { result ≡ has_no_room (joined runs.now.items) path.now }
-    ensures room { IfErr found (λ _. result ≡ false → length (joined runs.now.items) < 2 ^ 20) }
+    ensures room { IfErr found (λ _. result ≡ false → length (joined runs.now.items) < NODES_MAX) }
 {
     match found {
         Ok(_) => false,
@@ -197,11 +198,11 @@ pub(super) fn find_for(
     requires count { count ≡ length (joined runs.now.items) }
     requires path { IsTrue (is_path path.now) }
     ensures clash { (result ≡ Err TreeFault.Clash) ↔ IsTrue (clashes (joined runs.now.items) path.now node.now) }
-    ensures full { (result ≡ Err TreeFault.Full) ↔ ((clashes (joined runs.now.items) path.now node.now ≡ false) × IsTrue (has_no_room (joined runs.now.items) path.now)) }
+    ensures full { (result ≡ Err TreeFault.Full) ↔ IsFullFor (joined runs.now.items) path.now node.now }
     ensures free { OnOk result (clashes (joined runs.now.items) path.now node.now ≡ false) }
     ensures memory { result ≢ Err TreeFault.NoMemory }
     ensures found { IfOk result (λ found. MatchResult found (IsPlaceOf runs.now.items path.now) (IsGapAt runs.now.items path.now)) }
-    ensures room { IfOk result (λ found. IfErr found (λ _. length (joined runs.now.items) < 2 ^ 20)) }
+    ensures room { IfOk result (λ found. IfErr found (λ _. length (joined runs.now.items) < NODES_MAX)) }
 {
     let found = find(runs, path);
     if clashes(runs, path, node, found) {
@@ -258,7 +259,7 @@ pub(super) fn put_at(
     requires count { count ≡ length (joined runs.old.items) }
     requires sorted { IsPathSorted (joined runs.old.items) }
     requires found { MatchResult found (IsPlaceOf runs.old.items path.now) (IsGapAt runs.old.items path.now) }
-    requires room { IfErr found (λ _. length (joined runs.old.items) < 2 ^ 20) }
+    requires room { IfErr found (λ _. length (joined runs.old.items) < NODES_MAX) }
     ensures done { OnOk result (joined runs.new.items ≡ put (joined runs.old.items) path.now node) }
     ensures count { IfOk result (λ count. count ≡ length (joined runs.new.items)) }
     ensures refused { OnErr result (joined runs.new.items ≡ joined runs.old.items) }

@@ -16,8 +16,9 @@ use std::marker::Model;
 /// A path and its node.
 pub(super) type PathEntry = (Text, Node);
 
-/// The most entries of a run. What is put or removed moves no more entries than that.
-pub(super) const RUN_MAX: usize = 512;
+/// The most entries of a run. What is put or removed moves no more entries than that: fewer would make more runs, whose
+/// list is moved where a run is divided.
+pub(super) const RUN_MAX: usize = 128;
 
 /// Entries that stand in one block of memory, which contracts see as their list.
 #[derive(Drop)]

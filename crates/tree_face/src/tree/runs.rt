@@ -3,8 +3,9 @@ ghost use Rattle.std.specs.Prelude.{◌≡◌, ℕ, ◌<◌, ◌≤◌, [], IfOk
 ghost use Rattle.std.specs.List.{insert, remove};
 ghost use Rattle.std.specs.Vec.{vec_len, vec_capacity};
 ghost use Rattle.tree_face.specs.Index.{IsGapFor};
-ghost use Rattle.tree_face.specs.Runs.{joined, is_run, are_runs, index_of, run_length, begins_by, HasRoomAt, IsEntryPlace, IsPlace, IsPlaceOf, IsGapAt, IsEntryAt, IsEntryBefore};
+ghost use Rattle.tree_face.specs.Runs.{joined, is_run, are_runs, index_of, run_length, begins_by, divided, HasRoomAt, IsWithNode, IsRunWithNode, IsEntryPlace, IsPlace, IsPlaceOf, IsGapAt, IsEntryAt, IsEntryBefore};
 ghost use Rattle.tree_face.specs.Tree.{IsPathSorted};
+ghost use Rattle.tree_face.specs.declared.tree.run.TheConstants.{RUN_MAX};
 
 use super::run::{PathEntry, RUN_MAX, Run};
 use crate::node::Node;
@@ -171,7 +172,7 @@ pub(super) fn find(runs: &Vec<Run>, path: &[u8]) -> Result<Place, Place>
 fn set_in_run(runs: &mut Vec<Run>, run: usize, at: usize, node: Node)
     requires run { run < length runs.old.items }
     requires at { at < run_length runs.old.items run }
-    ensures { (d : _) → runs.new.items ≡ slice_set runs.old.items run (slice_set (slice_index_or runs.old.items run []) at ((slice_index_or (slice_index_or runs.old.items run []) at d).0, node)) }
+    ensures { IsRunWithNode runs.old.items run at node runs.new.items }
 {
     runs[run].set_node(at, node);
 }
@@ -180,7 +181,7 @@ fn set_in_run(runs: &mut Vec<Run>, run: usize, at: usize, node: Node)
 pub(super) fn set_node(runs: &mut Vec<Run>, place: Place, node: Node)
     requires runs { IsTrue (are_runs runs.old.items) }
     requires place { IsEntryPlace runs.old.items place }
-    ensures joined { (d : _) → joined runs.new.items ≡ slice_set (joined runs.old.items) (index_of runs.old.items place) ((slice_index_or (joined runs.old.items) (index_of runs.old.items place) d).0, node) }
+    ensures joined { IsWithNode (joined runs.old.items) (index_of runs.old.items place) node (joined runs.new.items) }
     ensures runs { IsTrue (are_runs runs.new.items) }
 {
     set_in_run(runs, place.run, place.at, node);
@@ -248,7 +249,7 @@ fn split_run(runs: &mut Vec<Run>, run: usize, at: usize) -> Result<Run, NoMemory
 fn divide(runs: &mut Vec<Run>, run: usize, at: usize) -> Result<(), NoMemory>
     requires run { run < length runs.old.items }
     requires at { at ≤ run_length runs.old.items run }
-    ensures done { OnOk result (runs.new.items ≡ insert (slice_set runs.old.items run (take at (slice_index_or runs.old.items run []))) (run + 1) (drop at (slice_index_or runs.old.items run []))) }
+    ensures done { OnOk result (runs.new.items ≡ divided runs.old.items run at) }
     ensures refused { OnErr result (runs.new.items ≡ runs.old.items) }
 {
     runs.try_reserve(1)?;
@@ -262,7 +263,7 @@ fn divide_at(runs: &mut Vec<Run>, place: Place) -> Result<Place, NoMemory>
     requires runs { IsTrue (are_runs runs.old.items) }
     requires run { place.run < length runs.old.items }
     requires at { place.at ≤ run_length runs.old.items place.run }
-    requires full { run_length runs.old.items place.run ≡ 512 }
+    requires full { run_length runs.old.items place.run ≡ RUN_MAX }
     ensures same { joined runs.new.items ≡ joined runs.old.items }
     ensures runs { IsTrue (are_runs runs.new.items) }
     ensures place { IfOk result (HasRoomAt runs.new.items) }

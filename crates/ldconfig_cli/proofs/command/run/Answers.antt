@@ -1,4 +1,4 @@
-use Rattle.std.proofs.Common.{◌≡◌, Some, None, sym, ◌∙◌}
+use Rattle.std.proofs.Common.{◌≡◌, Some, sym, ◌∙◌}
 use Rattle.ldconfig_cli.specs.Command.{command_of}
 use Rattle.ldconfig_cli.proofs.Unique.{one_cache}
 use Rattle.ldconfig_cli.proofs.command.run.Goals as goal

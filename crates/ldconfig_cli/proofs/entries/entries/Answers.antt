@@ -1,6 +1,5 @@
-use Rattle.ldconfig_cli.specs.Libraries.{seen}
 use Rattle.ldconfig_cli.proofs.Listing.{listed}
 use Rattle.ldconfig_cli.proofs.entries.entries.Goals as goal
 
 pub returns : goal.returns
-returns c = rw (c.in_ok-entries.ensures, c.deref.ensures.value) (listed seen c.args.libraries.items c.sort.new.self.items c.sort.ensures.permutation c.in_ok-sort.ensures.sorted)
+returns c = rw (c.in_ok-entries.ensures, c.deref.ensures.value) (listed c.args.libraries.items c.sort.new.self.items c.sort.ensures.permutation c.in_ok-sort.ensures.sorted)

@@ -1,9 +1,6 @@
-use Rattle.std.proofs.Common.{rules, ◌≡◌, [], ◌∷◌, Ok, Err, OnErr, Option, List}
+use Rattle.std.proofs.Common.{[], ◌∷◌}
 use Rattle.tree_face.specs.Calls.{made_call, settling}
-use Rattle.tree_face.specs.Disk.{Adds, MayAdd}
-use Rattle.tree_face.specs.Known.{Relates}
-use Rattle.tree_face.specs.Stream.{IsFollowedBy}
-use Rattle.tree_face.specs.declared.disk.Call.TheVariants.{Create, Append, Sync, Publish, Settle}
+use Rattle.tree_face.specs.declared.disk.Call.TheVariants.{Create, Append, Sync, Publish}
 use Rattle.ldconfig_cli.proofs.Calls.{grows, ends, on_err, on_err_by}
 use Rattle.ldconfig_cli.proofs.replace.replace.Goals as goal
 

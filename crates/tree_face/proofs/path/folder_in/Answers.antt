@@ -1,4 +1,4 @@
-use Rattle.std.proofs.Common.{◌≡◌, ◌≤◌, ◌++◌, length, take, drop, ap, ◌∙◌, arith, length-append}
+use Rattle.std.proofs.Common.{length, take, drop, ap, ◌∙◌}
 use Rattle.tree_face.proofs.Names.{folder_taken}
 use Rattle.tree_face.proofs.Rising.{below_rest}
 use Rattle.tree_face.specs.Paths.{folder}

@@ -1,4 +1,4 @@
-use Rattle.std.proofs.Common.{◌≡◌, ℕ, false, [], List, get_or, ap, sym, ◌∙◌}
+use Rattle.std.proofs.Common.{ℕ, [], List, ap, sym, ◌∙◌}
 use Rattle.tree_face.proofs.Below.{none_below_end, none_below_next, some_below_next}
 use Rattle.lib_types.proofs.SortedPairs.{by_test}
 use Rattle.tree_face.specs.Paths.{is_below}

@@ -1,6 +1,6 @@
-use Rattle.std.proofs.Common.{◌≡◌, [], sym}
+use Rattle.std.proofs.Common.{[], sym}
 use Rattle.tree_face.proofs.Above.{none_above_found}
-use Rattle.tree_face.specs.Runs.{joined, index_of, IsPlaceOf}
+use Rattle.tree_face.specs.Runs.{index_of, IsPlaceOf}
 use Rattle.tree_face.specs.declared.node.Node.TheVariants.{Dir}
 use Rattle.tree_face.proofs.tree.entries.has_file_above.Goals as goal
 

@@ -1,4 +1,4 @@
-use Rattle.std.proofs.Common.{◌≡◌, ◌^◌, [], not, ◌&&◌, ◌==◌, length, ap, sym, ◌∙◌}
+use Rattle.std.proofs.Common.{◌^◌, [], not, ◌&&◌, ◌==◌, length, ap, sym, ◌∙◌}
 use Rattle.std.specs.Option.{is_some}
 use Rattle.tree_face.proofs.Index.{found_node, absent_node}
 use Rattle.tree_face.specs.Runs.{joined, index_of, IsPlaceOf, IsGapAt}

@@ -1,4 +1,4 @@
-use Rattle.std.proofs.Common.{◌≡◌, ℕ, [], List, sym, ap, subst, ◌∙◌}
+use Rattle.std.proofs.Common.{ℕ, [], List, sym, ap, subst, ◌∙◌}
 use Rattle.tree_face.proofs.Above.{none_above_first, above_by_before}
 use Rattle.tree_face.specs.Index.{IsGapFor, is_file_above}
 use Rattle.tree_face.specs.Runs.{joined, index_of}

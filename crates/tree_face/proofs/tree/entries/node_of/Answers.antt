@@ -1,4 +1,4 @@
-use Rattle.std.proofs.Common.{sym, ap, List, ℕ, ◌∙◌}
+use Rattle.std.proofs.Common.{sym, ap, List, ℕ}
 use Rattle.tree_face.specs.declared.node.Node.{Node}
 use Rattle.tree_face.proofs.tree.entries.node_of.Goals as goal
 

@@ -1,4 +1,4 @@
-use Rattle.std.proofs.Common.{rules, ◌≡◌, true, List, ℕ, ap, sym, ◌∙◌}
+use Rattle.std.proofs.Common.{rules, ap, sym, ◌∙◌}
 use Rattle.std.specs.List.{dedup_from}
 use Rattle.std.specs.Str.{bytes_eq}
 use Rattle.tree_face.proofs.Names.{child_skipped}

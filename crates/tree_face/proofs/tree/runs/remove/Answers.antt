@@ -1,9 +1,8 @@
-use Rattle.std.proofs.Common.{◌≡◌, ◌<◌, true, [], sym, ap, subst, set, get_or, length, arith, ◌∙◌}
+use Rattle.std.proofs.Common.{◌<◌, [], set, get_or, length, arith, ◌∙◌}
 use Rattle.std.proofs.lemmas.List.{length-set}
 use Rattle.std.proofs.lemmas.List.Edits.{length-remove}
 use Rattle.std.specs.List.{remove}
 use Rattle.tree_face.proofs.Runs.{joined_tidied, runs_tidied, removed_in_run, run_bounds_at}
-use Rattle.tree_face.specs.Runs.{are_runs}
 use Rattle.tree_face.proofs.tree.runs.remove.Goals as goal
 
 pub returns-clause-joined : goal.returns-clause-joined

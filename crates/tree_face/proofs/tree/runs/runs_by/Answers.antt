@@ -1,6 +1,5 @@
-use Rattle.std.proofs.Common.{rules, refl, ◌≡◌, true, false, [], arith}
+use Rattle.std.proofs.Common.{rules, refl, ◌≡◌, [], arith}
 use Rattle.std.proofs.lemmas.Fn.{answers_by}
-use Rattle.std.specs.List.Sorted.{IsPartitionPoint}
 use Rattle.tree_face.proofs.Runs.{parted}
 use Rattle.tree_face.specs.Runs.{begins_by}
 use Rattle.tree_face.proofs.tree.runs.runs_by.Goals as goal

@@ -1,4 +1,4 @@
-use Rattle.std.proofs.Common.{◌≡◌, ◌+◌, ◌-◌, ◌<◌, length, refl, sym, subst, arith}
+use Rattle.std.proofs.Common.{◌-◌, ◌<◌, length, refl, sym, subst, arith}
 use Rattle.tree_face.proofs.Runs.{gap_first, gap_in_run, place_found, sorted_run}
 use Rattle.tree_face.specs.Index.{IsIndexOf, IsGapFor}
 use Rattle.tree_face.specs.Tree.{IsPathSorted}

@@ -1,7 +1,6 @@
 use Rattle.std.proofs.Common.{sym, ap, subst, ◌≡◌, true, set, get_or, [], List, ℕ, ◌∙◌, arith}
 use Rattle.std.proofs.lemmas.List.{length-set}
 use Rattle.tree_face.proofs.Runs.{set_in_run, entry_is, all_set, is_run_from, run_bounds_at}
-use Rattle.tree_face.specs.Node.{is_node}
 use Rattle.tree_face.specs.Runs.{joined, is_run, are_runs, index_of}
 use Rattle.tree_face.specs.declared.node.Node.{Node}
 use Rattle.tree_face.specs.declared.node.Node.TheVariants.{Dir}

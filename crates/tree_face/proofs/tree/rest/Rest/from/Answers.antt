@@ -1,4 +1,4 @@
-use Rattle.std.proofs.Common.{◌≡◌, ◌+◌, ◌<◌, ◌++◌, [], get_or, true, length, drop, refl, sym, ap, subst, ◌∙◌, arith}
+use Rattle.std.proofs.Common.{◌+◌, ◌<◌, ◌++◌, [], get_or, length, drop, refl, ap, ◌∙◌, arith}
 use Rattle.tree_face.proofs.Runs.{joined_from, all_dropped}
 use Rattle.tree_face.specs.Runs.{joined, are_runs, is_run}
 use Rattle.tree_face.proofs.tree.rest.Rest.from.Goals as goal

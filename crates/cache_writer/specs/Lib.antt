@@ -1,0 +1,2 @@
+pub mod CacheText
+pub mod StringPool

@@ -1,0 +1,7 @@
+//! The file of a cache, which glibc's loader reads.
+#![tactic(auto)]
+
+mod pool;
+mod writer;
+
+pub use writer::{ENTRIES_MAX, STRING_MAX, write};

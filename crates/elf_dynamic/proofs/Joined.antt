@@ -1,0 +1,59 @@
+-- What entries say, one after another.
+use Rattle.std.proofs.Common.{◌≡◌, ℕ, Bool, true, false, cond, ◌||◌, List, [], ◌∷◌, find, Option, Some, None, option_map, refl, ap, sym, ◌∙◌, arith}
+use Rattle.std.specs.List.{list_any}
+use Rattle.tree_face.specs.Known.{IfKnown}
+use Rattle.elf_dynamic.specs.declared.kinds.DynamicEntry.{DynamicEntry}
+use Rattle.elf_dynamic.specs.declared.values.Values.{Values}
+use Rattle.elf_dynamic.specs.Section.{strtab, strsz, flags_1, has_tag, value_of, has_text}
+use Rattle.elf_dynamic.specs.Values.{first_of, joined, values_of}
+use Rattle.elf_dynamic.proofs.Known.{with, both}
+
+first_by : (b : Bool) (o : Option ℕ) (e : DynamicEntry) (rest : Option DynamicEntry) →
+    first_of (first_of o (option_map (λ e. e.value) (cond b (Some e) None))) (option_map (λ e. e.value) rest) ≡ first_of o (option_map (λ e. e.value) (cond b (Some e) rest))
+first_by b (Some a) e rest = refl
+first_by true None e rest = refl
+first_by false None e rest = refl
+
+any_by : (v a b : Bool) → ((v || (a || false)) || b) ≡ (v || (a || b))
+any_by true a b = refl
+any_by false true b = refl
+any_by false false b = refl
+
+joined_on : (v : Values) (e : DynamicEntry) (rest : List DynamicEntry) → joined (joined v (e ∷ [])) rest ≡ joined v (e ∷ rest)
+joined_on v e rest =
+    rw (
+      any_by v.has_text (has_text e) (list_any has_text rest),
+      first_by (has_tag strtab e) v.strtab e (find (has_tag strtab) rest),
+      first_by (has_tag strsz e) v.strsz e (find (has_tag strsz) rest),
+      first_by (has_tag flags_1 e) v.flags_1 e (find (has_tag flags_1) rest),
+    )
+    refl
+
+first_none : (o : Option ℕ) → first_of o None ≡ o
+first_none (Some a) = refl
+first_none None = refl
+
+or_false : (b : Bool) → (b || false) ≡ b
+or_false true = refl
+or_false false = refl
+
+joined_end : (v : Values) → joined v [] ≡ v
+joined_end v = rw (or_false v.has_text, first_none v.strtab, first_none v.strsz, first_none v.flags_1) refl
+
+pub joined_known : (known : Option (List ℕ)) (v w : Values) (e : DynamicEntry) (before after : List ℕ → List DynamicEntry) (all : List ℕ → Values) → w ≡ joined v (e ∷ []) →
+    IfKnown known (λ bytes. before bytes ≡ e ∷ after bytes) → IfKnown known (λ bytes. joined v (before bytes) ≡ all bytes) → IfKnown known (λ bytes. joined w (after bytes) ≡ all bytes)
+joined_known known v w e before after all is on whole =
+    both {P = λ bytes. before bytes ≡ e ∷ after bytes} {Q = λ bytes. joined v (before bytes) ≡ all bytes} {R = λ bytes. joined w (after bytes) ≡ all bytes} known on whole
+    (λ bytes on whole. ap (λ w. joined w (after bytes)) is ∙ joined_on v e (after bytes) ∙ ap (joined v) (sym on) ∙ whole)
+
+pub joined_all : (known : Option (List ℕ)) (v : Values) (before : List ℕ → List DynamicEntry) (all : List ℕ → Values) →
+    IfKnown known (λ bytes. before bytes ≡ []) → IfKnown known (λ bytes. joined v (before bytes) ≡ all bytes) → IfKnown known (λ bytes. v ≡ all bytes)
+joined_all known v before all none whole =
+    both {P = λ bytes. before bytes ≡ []} {Q = λ bytes. joined v (before bytes) ≡ all bytes} {R = λ bytes. v ≡ all bytes} known none whole
+    (λ bytes none whole. sym (joined_end v) ∙ ap (joined v) (sym none) ∙ whole)
+
+pub joined_first : (known : Option (List ℕ)) (v : Values) (first all : List ℕ → List DynamicEntry) → v ≡ record { has_text = false; strtab = None; strsz = None; flags_1 = None } →
+    IfKnown known (λ bytes. first bytes ≡ all bytes) → IfKnown known (λ bytes. joined v (first bytes) ≡ values_of (all bytes))
+joined_first known v first all none same =
+    with {P = λ bytes. first bytes ≡ all bytes} {Q = λ bytes. joined v (first bytes) ≡ values_of (all bytes)} known same
+    (λ bytes same. ap (λ v. joined v (first bytes)) none ∙ ap values_of same)

@@ -1,0 +1,9 @@
+pub mod Known
+pub mod Found
+pub mod Live
+pub mod Joined
+pub mod Nuls
+pub mod Gathered
+pub mod Sections
+pub mod Files
+pub mod Objects

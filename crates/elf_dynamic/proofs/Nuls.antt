@@ -1,0 +1,143 @@
+-- The bytes before the first NUL, piece by piece.
+use Rattle.std.proofs.Common.{◌≡◌, Result, Ok, Err, IfOk, ◌⊎◌, inl, inr, ◌&&◌, length-take, length-drop, ℕ, zero, suc, ◌+◌, ◌-◌, ◌<◌, ◌≤◌, min, Bool, true, false, cond, not, nat_lt, ◌||◌, List, [], ◌∷◌, ◌++◌, length, take, drop, Option, Some, None, is_some, option_map, refl, ap, sym, ◌∙◌, arith, append_assoc}
+use Rattle.std.proofs.lemmas.Bool.{cases_lt}
+use Rattle.std.proofs.lemmas.Bool.Decides.{nat_tests}
+use Rattle.std.proofs.lemmas.List.{take-append-drop, take-take, take_all}
+use Rattle.std.proofs.lemmas.List.Folds.{list_any-append}
+use Rattle.std.specs.List.{list_any, position, prefix_len, take_while}
+use Rattle.tree_face.specs.Known.{IfKnown}
+use Rattle.elf_dynamic.specs.declared.table.Table.{Table}
+use Rattle.elf_dynamic.specs.Section.{is_nul, near}
+use Rattle.elf_dynamic.specs.Texts.{before_nul, bytes_of, text_found}
+use Rattle.elf_dynamic.proofs.Known.{with, both}
+use Rattle.elf_dynamic.proofs.Live.{while_true, while_false, part_on}
+
+-- ---- the first place at which a test passes
+
+passed : {X : Type 0} (p : X → Bool) → (xs : List X) → nat_lt (prefix_len (λ x. not (p x)) xs) (length xs) ≡ list_any p xs
+passed p [] = refl
+passed p (x ∷ xs) =
+    elim (p x) as (λ b. nat_lt (cond (not b) (1 + prefix_len (λ x. not (p x)) xs) 0) (suc (length xs)) ≡ (b || list_any p xs)) [ true ↦ grind (arith, nat_tests) | false ↦ let ih = passed p xs in grind (arith, nat_tests) ]
+
+is_some_cond : {A : Type 0} (b : Bool) (a : A) → is_some (cond b (Some a) None) ≡ b
+is_some_cond true a = refl
+is_some_cond false a = refl
+
+pub is_some_position : {X : Type 0} (p : X → Bool) → (xs : List X) → is_some (position p xs) ≡ list_any p xs
+is_some_position p xs = is_some_cond _ _ ∙ passed p xs
+
+-- ---- two pieces
+
+abbrev live : ℕ → Bool
+live b = not (is_nul b)
+
+while_none : (xs : List ℕ) → list_any is_nul xs ≡ false → take_while live xs ≡ xs
+while_none [] h = refl
+while_none (x ∷ xs) h = elim (is_nul x) as (λ b. is_nul x ≡ b → (b || list_any is_nul xs) ≡ false → take_while live (x ∷ xs) ≡ x ∷ xs) [
+  | true ↦ λ e k. absurd (cc)
+  | false ↦ λ e k. while_true live x xs (ap not e) ∙ ap (λ ys. x ∷ ys) (while_none xs k)
+] refl h
+
+while_there : (xs ys : List ℕ) → list_any is_nul xs ≡ true → take_while live (xs ++ ys) ≡ take_while live xs
+while_there [] ys h = absurd (cc)
+while_there (x ∷ xs) ys h = elim (is_nul x) as (λ b. is_nul x ≡ b → (b || list_any is_nul xs) ≡ true → take_while live (x ∷ (xs ++ ys)) ≡ take_while live (x ∷ xs)) [
+  | true ↦ λ e k. while_false live x (xs ++ ys) (ap not e) ∙ sym (while_false live x xs (ap not e))
+  | false ↦ λ e k. while_true live x (xs ++ ys) (ap not e) ∙ ap (λ zs. x ∷ zs) (while_there xs ys k) ∙ sym (while_true live x xs (ap not e))
+] refl h
+
+while_on : (xs ys : List ℕ) → list_any is_nul xs ≡ false → take_while live (xs ++ ys) ≡ xs ++ take_while live ys
+while_on [] ys h = refl
+while_on (x ∷ xs) ys h = elim (is_nul x) as (λ b. is_nul x ≡ b → (b || list_any is_nul xs) ≡ false → take_while live (x ∷ (xs ++ ys)) ≡ x ∷ (xs ++ take_while live ys)) [
+  | true ↦ λ e k. absurd (cc)
+  | false ↦ λ e k. while_true live x (xs ++ ys) (ap not e) ∙ ap (λ zs. x ∷ zs) (while_on xs ys k)
+] refl h
+
+nul_there : (xs ys : List ℕ) → list_any is_nul xs ≡ true → before_nul (xs ++ ys) ≡ Some (take_while live xs)
+nul_there xs ys h = rw (list_any-append is_nul xs ys, h, while_there xs ys h) refl
+
+some_if : (b : Bool) (xs ys : List ℕ) → cond b (Some (xs ++ ys)) None ≡ option_map (λ r. xs ++ r) (cond b (Some ys) None)
+some_if true xs ys = refl
+some_if false xs ys = refl
+
+nul_behind : (xs ys : List ℕ) → list_any is_nul xs ≡ false → before_nul (xs ++ ys) ≡ option_map (λ r. xs ++ r) (before_nul ys)
+nul_behind xs ys h = rw (list_any-append is_nul xs ys, h, while_on xs ys h) (some_if (list_any is_nul ys) xs (take_while live ys))
+
+-- ---- the pieces of a file
+
+pub cut : (count left at : ℕ) (bytes : List ℕ) → count ≤ left → take left (drop at bytes) ≡ take count (drop at bytes) ++ take (left - count) (drop (at + count) bytes)
+cut count left at bytes h =
+    let front = take-take count left (drop at bytes) h in
+    let rest = part_on count left at bytes h in
+    sym (take-append-drop count (take left (drop at bytes))) ∙ rw (front, rest) refl
+
+map_map : (xs ys : List ℕ) (o : Option (List ℕ)) → option_map (λ r. (xs ++ ys) ++ r) o ≡ option_map (λ r. xs ++ r) (option_map (λ r. ys ++ r) o)
+map_map xs ys None = refl
+map_map xs ys (Some zs) = rw append_assoc refl
+
+abbrev Is : List ℕ → ℕ → ℕ → (List ℕ → Option (List ℕ)) → List ℕ → Type 0
+Is found at left all bytes = option_map (λ r. found ++ r) (before_nul (take left (drop at bytes))) ≡ all bytes
+
+pub ended_here : (known : Option (List ℕ)) (found piece new : List ℕ) (at count left : ℕ) (all : List ℕ → Option (List ℕ)) → count ≤ left → list_any is_nul piece ≡ true → new ≡ found ++ take_while live piece →
+    IfKnown known (λ bytes. piece ≡ take count (drop at bytes)) → IfKnown known (Is found at left all) → IfKnown known (λ bytes. Some new ≡ all bytes)
+ended_here known found piece new at count left all h nul more read whole =
+    both {P = λ bytes. piece ≡ take count (drop at bytes)} {Q = Is found at left all} {R = λ bytes. Some new ≡ all bytes} known read whole
+    (λ bytes read whole.
+    let rest = take (left - count) (drop (at + count) bytes) in
+    let split : take left (drop at bytes) ≡ piece ++ rest = cut count left at bytes h ∙ ap (λ xs. xs ++ rest) (sym read) in
+    let here : before_nul (take left (drop at bytes)) ≡ Some (take_while live piece) = ap before_nul split ∙ nul_there piece rest nul in
+    ap Some more ∙ sym (ap (option_map (λ r. found ++ r)) here) ∙ whole)
+
+pub goes_on : (known : Option (List ℕ)) (found piece new : List ℕ) (at count left : ℕ) (all : List ℕ → Option (List ℕ)) → count ≤ left → list_any is_nul piece ≡ false → new ≡ found ++ take_while live piece →
+    IfKnown known (λ bytes. piece ≡ take count (drop at bytes)) → IfKnown known (Is found at left all) → IfKnown known (Is new (at + count) (left - count) all)
+goes_on known found piece new at count left all h none more read whole =
+    both {P = λ bytes. piece ≡ take count (drop at bytes)} {Q = Is found at left all} {R = Is new (at + count) (left - count) all} known read whole
+    (λ bytes read whole.
+    let rest = take (left - count) (drop (at + count) bytes) in
+    let split : take left (drop at bytes) ≡ piece ++ rest = cut count left at bytes h ∙ ap (λ xs. xs ++ rest) (sym read) in
+    let behind : before_nul (take left (drop at bytes)) ≡ option_map (λ r. piece ++ r) (before_nul rest) = ap before_nul split ∙ nul_behind piece rest none in
+    let all_of_it : new ≡ found ++ piece = more ∙ ap (λ xs. found ++ xs) (while_none piece none) in
+    ap (λ xs. option_map (λ r. xs ++ r) (before_nul rest)) all_of_it ∙ map_map found piece (before_nul rest) ∙ sym (ap (option_map (λ r. found ++ r)) behind) ∙ whole)
+
+pub ended_nowhere : (known : Option (List ℕ)) (found : List ℕ) (at left : ℕ) (all : List ℕ → Option (List ℕ)) → left ≡ 0 → IfKnown known (Is found at left all) → IfKnown known (λ bytes. None ≡ all bytes)
+ended_nowhere known found at left all h whole =
+    with {P = Is found at left all} {Q = λ bytes. None ≡ all bytes} known whole
+    (λ bytes whole. sym (ap (λ n. option_map (λ r. found ++ r) (before_nul (take n (drop at bytes)))) h) ∙ whole)
+
+-- ---- the text at an offset of a table
+
+near_is : (most offset at size : ℕ) (bytes : List ℕ) → offset < size → most ≡ min (size - offset) 65536 → take 65536 (drop offset (take size (drop at bytes))) ≡ take most (drop (at + offset) bytes)
+near_is most offset at size bytes h e =
+    let part = part_on offset size at bytes (omega arith) in
+    let rest = drop (at + offset) bytes in
+    let n = size - offset in
+    let by : (n < 65536) ⊎ (65536 ≤ n) → take 65536 (take n rest) ≡ take most rest =
+    λ c. elim c as (λ _. take 65536 (take n rest) ≡ take most rest) [
+      | inl less ↦ let same : n ≡ most = omega arith in take_all 65536 (take n rest) (omega (arith, length-take n rest)) ∙ ap (λ k. take k rest) same
+      | inr more ↦ let same : 65536 ≡ most = omega arith in take-take 65536 n rest more ∙ ap (λ k. take k rest) same
+    ] in
+    ap (take 65536) part ∙ by (cases_lt n 65536)
+
+text_by : (a : Bool) (b : Bool) (o : Option (List ℕ)) → a ≡ true → cond b o None ≡ cond (a && b) o None
+text_by a b o h = rw h refl
+
+pub text_is : (most offset : ℕ) (t : Table) (bytes : List ℕ) → offset < t.size → t.at + t.size ≤ length bytes → most ≡ min (t.size - offset) 65536 →
+    before_nul (take most (drop (t.at + offset) bytes)) ≡ text_found (bytes_of t bytes) offset
+unfolding near
+text_is most offset t bytes h inside e =
+    let near_here = near_is most offset t.at t.size bytes h e in
+    let size : length (take t.size (drop t.at bytes)) ≡ t.size = length-take t.size (drop t.at bytes) ∙ ap (min t.size) (length-drop t.at bytes) ∙ omega arith in
+    let within : nat_lt offset (length (take t.size (drop t.at bytes))) ≡ true = ap (nat_lt offset) size ∙ grind (arith, nat_tests) in
+    ap before_nul (sym near_here) ∙ text_by (nat_lt offset (length (bytes_of t bytes))) _ _ within
+
+pub text_known : {F : Type 0} (known : Option (List ℕ)) (most offset : ℕ) (t : Table) (size : ℕ) (r : Result (Option (List ℕ)) F) → offset < t.size → t.at + t.size ≤ size → most ≡ min (t.size - offset) 65536 →
+    IfKnown known (λ bytes. length bytes ≡ size) → IfOk r (λ o. IfKnown known (λ bytes. o ≡ before_nul (take most (drop (t.at + offset) bytes)))) →
+    IfOk r (λ o. IfKnown known (λ bytes. o ≡ text_found (bytes_of t bytes) offset))
+text_known known most offset t size (Err f) h inside e same read = tt
+text_known known most offset t size (Ok o) h inside e same read =
+    both {P = λ bytes. length bytes ≡ size} {Q = λ bytes. o ≡ before_nul (take most (drop (t.at + offset) bytes))} {R = λ bytes. o ≡ text_found (bytes_of t bytes) offset} known same read
+    (λ bytes same read. read ∙ text_is most offset t bytes h (omega arith) e)
+
+-- a piece that was read, by the number of its bytes
+pub piece_of : (known : Option (List ℕ)) (piece old : List ℕ) (at n : ℕ) → length old ≡ n → IfKnown known (λ bytes. piece ≡ take (length old) (drop at bytes)) → IfKnown known (λ bytes. piece ≡ take n (drop at bytes))
+piece_of known piece old at n e read =
+    with {P = λ bytes. piece ≡ take (length old) (drop at bytes)} {Q = λ bytes. piece ≡ take n (drop at bytes)} known read (λ bytes read. read ∙ ap (λ k. take k (drop at bytes)) e)

@@ -1,0 +1,9 @@
+pub mod Analysis
+pub mod Entries
+pub mod Faults
+pub mod Object
+pub mod Section
+pub mod Sections
+pub mod Texts
+pub mod Values
+pub mod Wanted

@@ -1,0 +1,119 @@
+-- The dynamic section of a file, in both classes (gABI, "Dynamic Section"; numbers are ELFDATA2LSB).
+-- `w` is the size of an address: 4 bytes in class 1, 8 bytes in class 2. No number has a bound.
+use Rattle.std.specs.Prelude.{ℕ, ◌+◌, ◌-◌, ◌*◌, ◌/◌, Bool, if◌then◌else◌, ◌==◌, ◌&&◌, ◌||◌, not, nat_le, nat_lt, List, [], ◌∷◌, map, filter, length, take, drop, find, take_while, Option, Some, None, option_map, option_and_then}
+use Rattle.std.specs.List.{list_any, range_with_len}
+use Rattle.lib_types.specs.Bytes.{field}
+use Rattle.elf_headers.specs.declared.kinds.Segment.{Segment}
+use Rattle.elf_headers.specs.Layout.{segments}
+use Rattle.elf_dynamic.specs.declared.kinds.DynamicEntry.{DynamicEntry}
+
+-- ---- segments: PT_LOAD and PT_DYNAMIC
+
+abbrev pub is_load : Segment → Bool
+is_load s = s.kind == 1
+
+abbrev pub is_dynamic : Segment → Bool
+is_dynamic s = s.kind == 2
+
+-- the first PT_DYNAMIC
+abbrev pub dynamic_segment : ℕ → List ℕ → Option Segment
+dynamic_segment w bytes = find is_dynamic (segments w bytes)
+
+-- the segment ends past the end of the file
+abbrev pub is_outside : List ℕ → Segment → Bool
+is_outside bytes s = nat_lt (length bytes) (s.offset + s.filesz)
+
+-- the address is in the segment's file part
+abbrev pub has_address : ℕ → Segment → Bool
+has_address address s = nat_le s.vaddr address && nat_lt address (s.vaddr + s.filesz)
+
+-- ---- the entries
+
+abbrev pub entry_at : ℕ → List ℕ → ℕ → DynamicEntry
+entry_at w bytes at = record { tag = field bytes at w; value = field bytes (at + w) w }
+
+-- the whole entries of the segment
+abbrev pub whole_entries : ℕ → List ℕ → Segment → List DynamicEntry
+whole_entries w bytes s = map (λ index. entry_at w bytes (s.offset + index * (2 * w))) (range_with_len 0 (s.filesz / (2 * w)))
+
+-- those before the first DT_NULL, or all of them
+unfoldable pub dynamic_entries : ℕ → List ℕ → Segment → List DynamicEntry
+dynamic_entries w bytes s = take_while (λ e. not (e.tag == 0)) (whole_entries w bytes s)
+
+abbrev pub needed : ℕ
+needed = 1
+
+abbrev pub strtab : ℕ
+strtab = 5
+
+abbrev pub strsz : ℕ
+strsz = 10
+
+abbrev pub soname : ℕ
+soname = 14
+
+abbrev pub rpath : ℕ
+rpath = 15
+
+abbrev pub runpath : ℕ
+runpath = 29
+
+abbrev pub flags_1 : ℕ
+flags_1 = 0x6ffffffb
+
+abbrev pub has_tag : ℕ → DynamicEntry → Bool
+has_tag tag e = e.tag == tag
+
+-- the value of the first entry with this tag
+abbrev pub value_of : ℕ → List DynamicEntry → Option ℕ
+value_of tag entries = option_map (λ e. e.value) (find (has_tag tag) entries)
+
+-- the entries whose value is the offset of a text in the string table
+abbrev pub has_text : DynamicEntry → Bool
+has_text e = has_tag needed e || has_tag soname e || has_tag rpath e || has_tag runpath e
+
+-- of these every DT_NEEDED counts, and of each other tag the first
+abbrev pub counts_after : List DynamicEntry → DynamicEntry → Bool
+counts_after earlier e = has_text e && (has_tag needed e || not (list_any (has_tag e.tag) earlier))
+
+abbrev pub counting_after : List DynamicEntry → List DynamicEntry → List DynamicEntry
+counting_after earlier [] = []
+counting_after earlier (e ∷ rest) =
+    if counts_after earlier e then e ∷ counting_after (e ∷ earlier) rest else counting_after (e ∷ earlier) rest
+
+unfoldable pub counting_entries : List DynamicEntry → List DynamicEntry
+counting_entries entries = counting_after [] entries
+
+-- ---- the string table: DT_STRTAB is an address, DT_STRSZ the number of bytes
+
+-- the bytes of the table whose address is in this segment, if they end neither past its file part nor past the file
+abbrev pub table_in : List ℕ → ℕ → ℕ → Segment → Option (List ℕ)
+table_in bytes address size s =
+    let at = s.offset + (address - s.vaddr) in
+    if nat_le (address + size) (s.vaddr + s.filesz) && nat_le (at + size) (length bytes)
+    then Some (take size (drop at bytes))
+    else None
+
+-- the first PT_LOAD with the address has the table
+abbrev pub table_at : List ℕ → List Segment → ℕ → ℕ → Option (List ℕ)
+table_at bytes segments address size =
+    option_and_then (table_in bytes address size) (find (λ s. is_load s && has_address address s) segments)
+
+abbrev pub string_table : List ℕ → List Segment → List DynamicEntry → Option (List ℕ)
+string_table bytes segments entries =
+    option_and_then (λ address. option_and_then (table_at bytes segments address) (value_of strsz entries)) (value_of strtab entries)
+
+abbrev pub is_nul : ℕ → Bool
+is_nul b = b == 0
+
+-- the bytes of the table from this offset on, of which 65536 are looked at
+unfoldable pub near : List ℕ → ℕ → List ℕ
+near table at = take 65536 (drop at table)
+
+-- a NUL ends the text at this offset of the table
+abbrev pub has_text_at : List ℕ → ℕ → Bool
+has_text_at table at = nat_lt at (length table) && list_any is_nul (near table at)
+
+-- the bytes from this offset up to the NUL
+abbrev pub text_at : List ℕ → ℕ → List ℕ
+text_at table at = take_while (λ b. not (is_nul b)) (near table at)

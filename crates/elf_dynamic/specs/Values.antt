@@ -1,0 +1,27 @@
+-- What the entries say beside their texts. The clauses of private functions cite these definitions.
+use Rattle.std.specs.Prelude.{ℕ, Bool, ◌||◌, List, Option, Some, None}
+use Rattle.std.specs.List.{list_any}
+use Rattle.elf_dynamic.specs.declared.kinds.DynamicEntry.{DynamicEntry}
+use Rattle.elf_dynamic.specs.declared.values.Values.{Values}
+use Rattle.elf_dynamic.specs.Section.{strtab, strsz, flags_1, value_of, has_text}
+
+abbrev pub first_of : Option ℕ → Option ℕ → Option ℕ
+first_of (Some a) b = Some a
+first_of None b = b
+
+-- with what further entries say
+abbrev pub joined : Values → List DynamicEntry → Values
+joined v es = record {
+  has_text = v.has_text || list_any has_text es;
+  strtab = first_of v.strtab (value_of strtab es);
+  strsz = first_of v.strsz (value_of strsz es);
+  flags_1 = first_of v.flags_1 (value_of flags_1 es);
+}
+
+abbrev pub values_of : List DynamicEntry → Values
+values_of es = record {
+  has_text = list_any has_text es;
+  strtab = value_of strtab es;
+  strsz = value_of strsz es;
+  flags_1 = value_of flags_1 es;
+}

@@ -1,0 +1,37 @@
+//! What the dynamic section says.
+use lib_types::{Abi, Text, Texts};
+
+/// An entry of the dynamic section.
+#[derive(Clone, Copy, Debug, PartialEq, Eq)]
+pub struct DynamicEntry {
+    /// `d_tag`, which is unsigned here: 4 bytes in class 1, 8 bytes in class 2.
+    pub tag: u64,
+    /// `d_val` or `d_ptr`.
+    pub value: u64,
+}
+
+/// What a dynamic section says of the libraries that the loader looks for.
+#[derive(Drop)]
+pub struct Dynamic {
+    /// `DT_SONAME`, if it isn't empty: a name.
+    pub soname: Option<Text>,
+    /// The texts of `DT_NEEDED` in their order.
+    pub needed: Texts,
+    /// `DT_RPATH`.
+    pub rpath: Option<Text>,
+    /// `DT_RUNPATH`.
+    pub runpath: Option<Text>,
+    /// `DF_1_NODEFLIB` of `DT_FLAGS_1`: the loader leaves out its own directories.
+    pub nodeflib: bool,
+}
+
+/// What a file says of itself to the loader.
+#[derive(Drop)]
+pub struct Object {
+    /// By `e_machine` and the class.
+    pub abi: Abi,
+    /// `e_type`: 2 of a program at fixed addresses, 3 of a shared object.
+    pub etype: u16,
+    /// None if the file has no dynamic section.
+    pub dynamic: Option<Dynamic>,
+}

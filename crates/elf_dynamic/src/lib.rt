@@ -1,0 +1,18 @@
+//! What ELF files say of themselves in their dynamic sections, read from a store in windows.
+#![tactic(auto)]
+
+mod entries;
+mod fault;
+mod gather;
+pub mod kinds;
+mod piece;
+mod reader;
+mod section;
+mod segments;
+mod table;
+mod tags;
+mod text;
+mod values;
+
+pub use fault::{AnalyseFault, ObjectFault};
+pub use reader::{analyse, object};

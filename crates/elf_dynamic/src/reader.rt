@@ -1,0 +1,87 @@
+//! Files in a store.
+ghost use Rattle.std.specs.Prelude.{◌≡◌, ◌⊎◌, ◌≤◌, Ok, Err, IfOk, IsErrOf};
+ghost use Rattle.lib_types.specs.Counts.{raised, HasRisen};
+ghost use Rattle.tree_face.specs.Store.{BeginsAtMost, Lacks};
+ghost use Rattle.elf_headers.specs.Range.{IsInRange};
+ghost use Rattle.elf_headers.specs.Reading.{OfContent, IfHeld};
+ghost use Rattle.elf_dynamic.specs.Analysis as analyses;
+ghost use Rattle.elf_dynamic.specs.Faults.{IfBad, HasName};
+ghost use Rattle.elf_dynamic.specs.Object.{most_taken};
+ghost use Rattle.elf_dynamic.specs.Object as objects;
+
+use crate::kinds::{Dynamic, Object};
+use crate::section::read_dynamic;
+use crate::{AnalyseFault, ObjectFault};
+use elf_headers::head;
+use lib_types::{Analysis, Defect};
+use std::alloc::Global;
+use tree_face::Store;
+
+const ET_EXEC: u16 = 2;
+
+/// Begins a key and reads what the file says of itself, in windows of at most 4096 bytes.
+pub fn object<S: Store>(alloc: Global, store: &mut S, key: &[u8]) -> Result<Object, ObjectFault>
+    ensures object { IfOk result (λ o. OfContent (S.state store.old).held key.now (λ bytes. objects.object bytes ≡ Ok o)) }
+    ensures defect { IfBad result (λ d. OfContent (S.state store.old).held key.now (λ bytes. objects.object bytes ≡ Err d)) }
+    ensures name { IfOk result HasName }
+    ensures range { IfBad result IsInRange }
+    ensures cause { IsErrOf result ObjectFault.StoreFault → HasRisen (S.state store.old).faults (S.state store.new).faults ⊎ Lacks (S.state store.old).held key.now }
+    ensures held { (S.state store.new).held ≡ (S.state store.old).held }
+    ensures begun { BeginsAtMost 1 (S.state store.old) (S.state store.new) }
+    ensures taken { IfHeld (S.state store.old).held key.now (λ bytes. (S.state store.new).taken ≤ raised (S.state store.old).taken (most_taken bytes)) }
+    ensures faults { (S.state store.old).faults ≤ (S.state store.new).faults }
+{
+    let head = match head(store, key) {
+        Ok(head) => head,
+        Err(fault) => return Err(ObjectFault::from(fault)),
+    };
+    match read_dynamic(alloc, store, &head) {
+        Ok(dynamic) => Ok(Object {
+            abi: head.abi,
+            etype: head.etype,
+            dynamic,
+        }),
+        Err(fault) => Err(fault),
+    }
+}
+
+// What an object is for the cache.
+fn analysis_of(object: Object) -> Analysis
+    ensures same { result ≡ analyses.library_of object.abi object.etype object.dynamic }
+    ensures name { HasName object → analyses.HasName result }
+    ensures range { analyses.IsDefectInRange result }
+{
+    let Object {
+        abi,
+        etype,
+        dynamic,
+    } = object;
+    let Some(Dynamic { soname, .. }) = dynamic else {
+        return Analysis::Not(Defect::NoDynamic);
+    };
+    if etype == ET_EXEC {
+        return Analysis::Not(Defect::NotShared {
+            etype: u64::from(etype),
+        });
+    }
+    Analysis::Lib { abi, soname }
+}
+
+/// Begins a key and reads what the file is for the cache.
+pub fn analyse<S: Store>(alloc: Global, store: &mut S, key: &[u8]) -> Result<Analysis, AnalyseFault>
+    ensures analysis { IfOk result (λ a. OfContent (S.state store.old).held key.now (λ bytes. analyses.analysis bytes ≡ a)) }
+    ensures name { IfOk result analyses.HasName }
+    ensures range { IfOk result analyses.IsDefectInRange }
+    ensures cause { IsErrOf result AnalyseFault.StoreFault → HasRisen (S.state store.old).faults (S.state store.new).faults ⊎ Lacks (S.state store.old).held key.now }
+    ensures held { (S.state store.new).held ≡ (S.state store.old).held }
+    ensures begun { BeginsAtMost 1 (S.state store.old) (S.state store.new) }
+    ensures taken { IfHeld (S.state store.old).held key.now (λ bytes. (S.state store.new).taken ≤ raised (S.state store.old).taken (most_taken bytes)) }
+    ensures faults { (S.state store.old).faults ≤ (S.state store.new).faults }
+{
+    match object(alloc, store, key) {
+        Ok(object) => Ok(analysis_of(object)),
+        Err(ObjectFault::Bad(defect)) => Ok(Analysis::Not(defect)),
+        Err(ObjectFault::StoreFault) => Err(AnalyseFault::StoreFault),
+        Err(ObjectFault::NoMemory) => Err(AnalyseFault::NoMemory),
+    }
+}

@@ -1,0 +1,220 @@
+//! The dynamic section of a file.
+ghost use Rattle.std.specs.Prelude.{◌≡◌, ◌⊎◌, ◌≤◌, ◌+◌, ◌*◌, ◌==◌, ℕ, Bool, true, false, not, nat_lt, bit_and, List, length, Some, None, Ok, Err, IfOk, IfErr, IfSome, IsErrOf, OnErr};
+ghost use Rattle.std.specs.Option.{option_map_or};
+ghost use Rattle.lib_types.specs.Counts.{raised, HasRisen};
+ghost use Rattle.lib_types.specs.Name.{is_name};
+ghost use Rattle.lib_types.specs.declared.analysis.Defect.TheVariants.{BadSoname};
+ghost use Rattle.tree_face.specs.Known.{IfKnown};
+ghost use Rattle.elf_headers.specs.Layout.{word_size};
+ghost use Rattle.elf_headers.specs.Range.{IsInRange};
+ghost use Rattle.elf_headers.specs.Reading.{known_content, OnlyReads, IsHeadOf};
+ghost use Rattle.elf_dynamic.specs.Faults.{IfBad, HasSoname};
+ghost use Rattle.elf_dynamic.specs.Object.{has_nodeflib, section_reading, readable_section};
+ghost use Rattle.elf_dynamic.specs.Section.{dynamic_entries};
+ghost use Rattle.elf_dynamic.specs.Sections.{section_in, sections_in, counting_in, table_by, name_of, has_good_name};
+ghost use Rattle.elf_dynamic.specs.Texts.{bytes_of};
+ghost use Rattle.elf_dynamic.specs.Values.{values_of};
+
+use crate::ObjectFault;
+use crate::gather::{gather, no_texts};
+use crate::kinds::Dynamic;
+use crate::segments::{Wanted, find_segment};
+use crate::table::{Table, find_table};
+use crate::values::{Values, read_values};
+use elf_headers::kinds::{Head, Segment};
+use lib_types::{Defect, Failed, Text, is_name};
+use std::alloc::Global;
+use tree_face::Store;
+
+/// DF_1_NODEFLIB of DT_FLAGS_1.
+const DF_1_NODEFLIB: u64 = 0x800;
+
+fn has_nodeflib(flags: Option<u64>) -> bool
+    ensures { result ≡ option_map_or has_nodeflib flags false }
+{
+    match flags {
+        Some(flags) => flags & DF_1_NODEFLIB != 0,
+        None => false,
+    }
+}
+
+// A DT_SONAME that isn't empty, if it is a name.
+fn name_of(soname: Option<Text>) -> Result<Option<Text>, Defect>
+    ensures name { IfOk result (λ name. name ≡ name_of soname) }
+    ensures good { IfOk result (λ name. has_good_name soname ≡ true) }
+    ensures is_name { IfOk result (λ name. IfSome name (λ name. is_name name ≡ true)) }
+    ensures bad { IfErr result (λ d. d ≡ BadSoname) }
+    ensures bad_name { OnErr result (has_good_name soname ≡ false) }
+{
+    let Some(text) = soname else {
+        return Ok(None);
+    };
+    if text.as_bytes().is_empty() {
+        return Ok(None);
+    }
+    if !is_name(text.as_bytes()) {
+        return Err(Defect::BadSoname);
+    }
+    Ok(Some(text))
+}
+
+// The texts with the name of the library.
+fn named(found: Dynamic) -> Result<Dynamic, Defect>
+    ensures named { IfOk result (λ d. d ≡ record found { soname = name_of found.soname }) }
+    ensures good { IfOk result (λ d. has_good_name found.soname ≡ true) }
+    ensures name { IfOk result HasSoname }
+    ensures bad { IfErr result (λ d. d ≡ BadSoname) }
+    ensures bad_name { OnErr result (has_good_name found.soname ≡ false) }
+{
+    let Dynamic {
+        soname,
+        needed,
+        rpath,
+        runpath,
+        nodeflib,
+    } = found;
+    match name_of(soname) {
+        Ok(soname) => Ok(Dynamic {
+            soname,
+            needed,
+            rpath,
+            runpath,
+            nodeflib,
+        }),
+        Err(defect) => Err(defect),
+    }
+}
+
+// The string table with the address and the size that the entries give.
+fn find_strings<S: Store>(
+    store: &mut S,
+    head: &Head,
+    strtab: Option<u64>,
+    strsz: Option<u64>,
+) -> Result<Table, ObjectFault>
+    requires { IsHeadOf (S.state store.old) head.now }
+    ensures found { IfOk result (λ t. IfKnown (known_content (S.state store.old)) (λ bytes. table_by (word_size head.now.wide) bytes strtab strsz ≡ Ok (bytes_of t bytes))) }
+    ensures within { IfOk result (λ t. t.at + t.size ≤ head.now.length) }
+    ensures bad { IfBad result (λ d. IfKnown (known_content (S.state store.old)) (λ bytes. table_by (word_size head.now.wide) bytes strtab strsz ≡ Err d)) }
+    ensures range { IfBad result IsInRange }
+    ensures begun_head { IsHeadOf (S.state store.new) head.now }
+    ensures cause { IsErrOf result ObjectFault.StoreFault → HasRisen (S.state store.old).faults (S.state store.new).faults }
+    ensures reads { OnlyReads (S.state store.old) (S.state store.new) }
+    ensures taken { (S.state store.new).taken ≤ raised (S.state store.old).taken (56 * head.now.phnum) }
+{
+    let Some(address) = strtab else {
+        return Err(ObjectFault::Bad(Defect::NoStrtab));
+    };
+    let Some(size) = strsz else {
+        return Err(ObjectFault::Bad(Defect::NoStrtab));
+    };
+    match find_table(store, head, address, size)? {
+        Some(table) => Ok(table),
+        None => Err(ObjectFault::Bad(Defect::OutsideLoad)),
+    }
+}
+
+// What a section says whose entries have texts.
+fn read_texts<S: Store>(
+    alloc: Global,
+    store: &mut S,
+    head: &Head,
+    dynamic: Segment,
+    values: Values,
+    window: &mut [u8],
+    buf: &mut [u8],
+) -> Result<Dynamic, ObjectFault>
+    requires head { IsHeadOf (S.state store.old) head.now }
+    requires inside { dynamic.offset + dynamic.filesz ≤ head.now.length }
+    requires window { 16 ≤ length window.old }
+    requires room { 16 ≤ length buf.old }
+    requires values { IfKnown (known_content (S.state store.old)) (λ bytes. values ≡ values_of (dynamic_entries (word_size head.now.wide) bytes dynamic)) }
+    requires texts { values.has_text ≡ true }
+    ensures section { IfOk result (λ d. IfKnown (known_content (S.state store.old)) (λ bytes. section_in (word_size head.now.wide) bytes dynamic ≡ Ok d)) }
+    ensures bad { IfBad result (λ d. IfKnown (known_content (S.state store.old)) (λ bytes. section_in (word_size head.now.wide) bytes dynamic ≡ Err d)) }
+    ensures name { IfOk result HasSoname }
+    ensures range { IfBad result IsInRange }
+    ensures begun_head { IsHeadOf (S.state store.new) head.now }
+    ensures cause { IsErrOf result ObjectFault.StoreFault → HasRisen (S.state store.old).faults (S.state store.new).faults }
+    ensures reads { OnlyReads (S.state store.old) (S.state store.new) }
+    ensures taken { IfKnown (known_content (S.state store.old)) (λ bytes. (S.state store.new).taken ≤ raised (S.state store.old).taken
+        (56 * head.now.phnum + 2 * dynamic.filesz + 65536 * counting_in (word_size head.now.wide) bytes dynamic)) }
+{
+    let table = match find_strings(store, head, values.strtab, values.strsz) {
+        Ok(table) => table,
+        Err(fault) => return Err(fault),
+    };
+    let nodeflib = has_nodeflib(values.flags_1);
+    let found = match gather(alloc, store, head, dynamic, table, nodeflib, window, buf) {
+        Ok(found) => found,
+        Err(fault) => return Err(fault),
+    };
+    match named(found) {
+        Ok(dynamic) => Ok(dynamic),
+        Err(defect) => Err(ObjectFault::Bad(defect)),
+    }
+}
+
+// What the section in a segment says.
+fn read_section<S: Store>(
+    alloc: Global,
+    store: &mut S,
+    head: &Head,
+    dynamic: Segment,
+) -> Result<Dynamic, ObjectFault>
+    requires head { IsHeadOf (S.state store.old) head.now }
+    requires inside { dynamic.offset + dynamic.filesz ≤ head.now.length }
+    ensures section { IfOk result (λ d. IfKnown (known_content (S.state store.old)) (λ bytes. section_in (word_size head.now.wide) bytes dynamic ≡ Ok d)) }
+    ensures bad { IfBad result (λ d. IfKnown (known_content (S.state store.old)) (λ bytes. section_in (word_size head.now.wide) bytes dynamic ≡ Err d)) }
+    ensures name { IfOk result HasSoname }
+    ensures range { IfBad result IsInRange }
+    ensures begun_head { IsHeadOf (S.state store.new) head.now }
+    ensures cause { IsErrOf result ObjectFault.StoreFault → HasRisen (S.state store.old).faults (S.state store.new).faults }
+    ensures reads { OnlyReads (S.state store.old) (S.state store.new) }
+    ensures taken { IfKnown (known_content (S.state store.old)) (λ bytes. (S.state store.new).taken ≤ raised (S.state store.old).taken
+        (56 * head.now.phnum + 4 * dynamic.filesz + 65536 * counting_in (word_size head.now.wide) bytes dynamic)) }
+{
+    let mut window = [0u8; 4096];
+    let values = read_values(store, head, dynamic, &mut window)?;
+    if !values.has_text {
+        return Ok(no_texts(alloc, has_nodeflib(values.flags_1)));
+    }
+    let mut buf = [0u8; 4096];
+    read_texts(alloc, store, head, dynamic, values, &mut window, &mut buf)
+}
+
+fn is_outside(head: &Head, s: Segment) -> bool
+    ensures outside { result ≡ nat_lt head.now.length (s.offset + s.filesz) }
+    ensures inside { result ≡ false → s.offset + s.filesz ≤ head.now.length }
+{
+    s.offset > head.length || s.filesz > head.length - s.offset
+}
+
+/// What the dynamic section of a file says, if it has one.
+pub fn read_dynamic<S: Store>(
+    alloc: Global,
+    store: &mut S,
+    head: &Head,
+) -> Result<Option<Dynamic>, ObjectFault>
+    requires { IsHeadOf (S.state store.old) head.now }
+    ensures dynamic { IfOk result (λ d. IfKnown (known_content (S.state store.old)) (λ bytes. sections_in (word_size head.now.wide) bytes ≡ Ok d)) }
+    ensures bad { IfBad result (λ d. IfKnown (known_content (S.state store.old)) (λ bytes. sections_in (word_size head.now.wide) bytes ≡ Err d)) }
+    ensures name { IfOk result (λ d. IfSome d HasSoname) }
+    ensures range { IfBad result IsInRange }
+    ensures begun_head { IsHeadOf (S.state store.new) head.now }
+    ensures cause { IsErrOf result ObjectFault.StoreFault → HasRisen (S.state store.old).faults (S.state store.new).faults }
+    ensures reads { OnlyReads (S.state store.old) (S.state store.new) }
+    ensures taken { IfKnown (known_content (S.state store.old)) (λ bytes. (S.state store.new).taken ≤ raised (S.state store.old).taken
+        (448 * head.now.phnum + section_reading (word_size head.now.wide) bytes (readable_section (word_size head.now.wide) bytes))) }
+{
+    let Some(dynamic) = find_segment(store, head, Wanted::DynamicSection)? else {
+        return Ok(None);
+    };
+    if is_outside(head, dynamic) {
+        return Err(ObjectFault::Bad(Defect::DynOutside));
+    }
+    match read_section(alloc, store, head, dynamic) {
+        Ok(dynamic) => Ok(Some(dynamic)),
+        Err(fault) => Err(fault),
+    }
+}

@@ -1,0 +1,101 @@
+//! The texts of a string table.
+ghost use Rattle.std.specs.Prelude.{◌≡◌, ◌⊎◌, ◌≤◌, ◌+◌, ◌++◌, not, length, take, drop, position, take_while, Ok, Err, IfOk, IsErrOf};
+ghost use Rattle.std.specs.List.{list_any};
+ghost use Rattle.lib_types.specs.Counts.{raised, HasRisen};
+ghost use Rattle.tree_face.specs.Known.{IfKnown};
+ghost use Rattle.elf_headers.specs.Reading.{known_content, OnlyReads, IsHeadOf};
+ghost use Rattle.elf_dynamic.specs.Section.{is_nul};
+ghost use Rattle.elf_dynamic.specs.Texts.{bytes_of, before_nul, text_found};
+
+use crate::AnalyseFault;
+use crate::piece::read_piece;
+use crate::table::Table;
+use elf_headers::kinds::Head;
+use lib_types::Text;
+use std::alloc::{AllocError, Global};
+use tree_face::Store;
+
+/// The most bytes of a text that are looked at, its NUL among them.
+const TEXT_LIMIT: u64 = 65536;
+
+fn first_nul(bytes: &[u8]) -> Option<usize>
+    ensures { result ≡ position is_nul bytes.now }
+{
+    bytes.iter().position(|&b| b == 0)
+}
+
+// Adds the bytes before the first NUL, and returns whether there is one.
+fn add_text(found: &mut Vec<u8>, piece: &[u8]) -> Result<bool, AllocError>
+    ensures ended { IfOk result (λ ended. ended ≡ list_any is_nul piece.now) }
+    ensures found { IfOk result (λ _. found.new.items ≡ found.old.items ++ take_while (λ b. not (is_nul b)) piece.now) }
+{
+    match first_nul(piece) {
+        Some(end) => {
+            found.extend_from_slice(&piece[..end])?;
+            Ok(true)
+        }
+        None => {
+            found.extend_from_slice(piece)?;
+            Ok(false)
+        }
+    }
+}
+
+// The bytes before the first NUL in a part of the file, if there is one.
+fn read_text<S: Store>(
+    alloc: Global,
+    store: &mut S,
+    head: &Head,
+    from: u64,
+    most: u64,
+    buf: &mut [u8],
+) -> Result<Option<Text>, AnalyseFault>
+    requires head { IsHeadOf (S.state store.old) head.now }
+    requires within { from + most ≤ head.now.length }
+    requires room { 16 ≤ length buf.old }
+    ensures text { IfOk result (λ t. IfKnown (known_content (S.state store.old)) (λ bytes. t ≡ before_nul (take most (drop from bytes)))) }
+    ensures begun_head { IsHeadOf (S.state store.new) head.now }
+    ensures cause { IsErrOf result AnalyseFault.StoreFault → HasRisen (S.state store.old).faults (S.state store.new).faults }
+    ensures reads { OnlyReads (S.state store.old) (S.state store.new) }
+    ensures taken { (S.state store.new).taken ≤ raised (S.state store.old).taken most }
+{
+    let mut found = Vec::new(alloc);
+    let mut at = from;
+    let mut left = most;
+    while left > 0 {
+        let count = left.min(buf.len() as u64);
+        let piece = &mut buf[..count as usize];
+        read_piece(store, head, at, piece)?;
+        if add_text(&mut found, piece)? {
+            return Ok(Some(Text::from_vec(found)));
+        }
+        at += count;
+        left -= count;
+    }
+    Ok(None)
+}
+
+/// The text at an offset of the table, if a NUL ends it.
+pub fn text_at<S: Store>(
+    alloc: Global,
+    store: &mut S,
+    head: &Head,
+    table: Table,
+    offset: u64,
+    buf: &mut [u8],
+) -> Result<Option<Text>, AnalyseFault>
+    requires head { IsHeadOf (S.state store.old) head.now }
+    requires within { table.at + table.size ≤ head.now.length }
+    requires room { 16 ≤ length buf.old }
+    ensures text { IfOk result (λ t. IfKnown (known_content (S.state store.old)) (λ bytes. t ≡ text_found (bytes_of table bytes) offset)) }
+    ensures begun_head { IsHeadOf (S.state store.new) head.now }
+    ensures cause { IsErrOf result AnalyseFault.StoreFault → HasRisen (S.state store.old).faults (S.state store.new).faults }
+    ensures reads { OnlyReads (S.state store.old) (S.state store.new) }
+    ensures taken { (S.state store.new).taken ≤ raised (S.state store.old).taken 65536 }
+{
+    if offset >= table.size {
+        return Ok(None);
+    }
+    let most = (table.size - offset).min(TEXT_LIMIT);
+    read_text(alloc, store, head, table.at + offset, most, buf)
+}

@@ -1,0 +1,26 @@
+-- Numbers in a part of a list of bytes.
+use Rattle.std.proofs.Common.{◌≡◌, ℕ, zero, suc, ◌+◌, ◌*◌, ◌<◌, ◌≤◌, List, length, take, drop, get_or, slice_index, refl, ap, sym, ◌∙◌, arith, get_or-drop, get_or-take}
+use Rattle.byteorder.specs.Numbers.{little_from-take}
+use Rattle.lib_types.specs.Bytes.{field}
+
+-- the number behind `at` bytes
+drop_from : (i n at : ℕ) (xs : List ℕ) → field (drop at xs) i n ≡ field xs (at + i) n
+drop_from i zero at xs = refl
+drop_from i (suc n) at xs =
+    let e : at + suc i ≡ suc (at + i) = omega arith in
+    rw (get_or-drop at xs i 0, drop_from (suc i) n at xs, e) refl
+
+pub field_drop : (n at : ℕ) (xs : List ℕ) → field (drop at xs) 0 n ≡ field xs at n
+field_drop n at xs = drop_from 0 n at xs ∙ ap (λ k. field xs k n) (omega arith)
+
+-- the number in a window
+pub field_window : (m at i j n : ℕ) (xs : List ℕ) → i + n ≤ m → j ≡ at + i → field (take m (drop at xs)) i n ≡ field xs j n
+field_window m at i j n xs h e = little_from-take i n m (drop at xs) h ∙ drop_from i n at xs ∙ ap (λ k. field xs k n) (sym e)
+
+-- two lists with the same bytes there have the same number there
+pub field_same : (n i j : ℕ) (xs ys : List ℕ) → ((k : ℕ) → k < n → get_or xs (i + k) 0 ≡ get_or ys (j + k) 0) → field xs i n ≡ field ys j n
+field_same zero i j xs ys h = refl
+field_same (suc n) i j xs ys h =
+    let first : get_or xs i 0 ≡ get_or ys j 0 = ap (λ k. get_or xs k 0) (omega arith) ∙ h 0 (omega arith) ∙ ap (λ k. get_or ys k 0) (omega arith) in
+    let rest = field_same n (suc i) (suc j) xs ys (λ k l. ap (λ k. get_or xs k 0) (omega arith) ∙ h (suc k) (omega arith) ∙ ap (λ k. get_or ys k 0) (omega arith)) in
+    rw (first, rest) refl

@@ -1,0 +1,12 @@
+-- Facts of what `head` returns.
+use Rattle.std.specs.Prelude.{Result, Ok, Err}
+use Rattle.lib_types.specs.declared.analysis.Defect.{Defect}
+use Rattle.elf_headers.specs.declared.kinds.Head.{Head}
+use Rattle.elf_headers.specs.declared.fault.HeadFault.{HeadFault}
+use Rattle.elf_headers.specs.declared.fault.HeadFault.TheVariants.{Bad, StoreFault}
+
+-- a fact of the defect that is returned
+abbrev pub IfBad : Result Head HeadFault → (Defect → Type 0) → Type 0
+IfBad (Ok h) P = Unit {0}
+IfBad (Err (Bad d)) P = P d
+IfBad (Err StoreFault) P = Unit {0}

@@ -1,0 +1,12 @@
+-- A file whose identification has no defect. The clauses of private functions cite it.
+use Rattle.std.specs.Prelude.{◌≡◌, ℕ, Bool, true, false, ◌==◌, nat_lt, List}
+use Rattle.elf_headers.specs.Layout.{encoding, is_wide, word_size}
+use Rattle.elf_headers.specs.Header.{has_magic, has_class}
+
+-- the first four sentences don't hold, and addresses have this size
+pub record IsIdentified (w size : ℕ) (bytes : List ℕ) : Type 0 where
+  pub width : word_size (is_wide bytes) ≡ w
+  pub magic : has_magic bytes ≡ true
+  pub long : nat_lt size 16 ≡ false
+  pub class : has_class bytes ≡ true
+  pub encoding : (encoding bytes == 1) ≡ true
