@@ -1,0 +1,8 @@
+pub mod Numbers
+pub mod Steps
+pub mod Lengths
+pub mod Makeable
+pub mod Reading
+pub mod Named
+pub mod Said
+pub mod ReadBack

@@ -1,0 +1,4 @@
+pub mod Fields
+pub mod Texts
+pub mod Made
+pub mod Parts

@@ -1,0 +1,56 @@
+//! What can be made.
+ghost use Rattle.std.specs.Prelude.{◌≡◌, true};
+ghost use Rattle.std.specs.List.{list_all};
+ghost use Rattle.std.specs.Option.{option_map_or};
+ghost use Rattle.lib_types.specs.Name.{is_name};
+ghost use Rattle.elf_maker.specs.Texts.{is_text};
+ghost use Rattle.elf_maker.specs.Made.{is_spec};
+
+use crate::kinds::Spec;
+use lib_types::{Text, is_name};
+
+// The most bytes of a text, one less than those that are searched for its NUL.
+const TEXT_MAX: usize = 65535;
+
+fn is_text(text: &[u8]) -> bool
+    ensures { result ≡ is_text text.now }
+{
+    !text.contains(&0) && text.len() <= TEXT_MAX
+}
+
+fn are_texts(texts: &[Text]) -> bool
+    ensures { result ≡ list_all is_text texts.now }
+{
+    texts.iter().all(|text| is_text(text.as_bytes()))
+}
+
+fn is_optional_text(text: &Option<Text>) -> bool
+    ensures { result ≡ option_map_or is_text text.now true }
+{
+    match text {
+        Some(text) => is_text(text.as_bytes()),
+        None => true,
+    }
+}
+
+fn is_optional_name(name: &Option<Text>) -> bool
+    ensures { result ≡ option_map_or is_name name.now true }
+{
+    match name {
+        Some(name) => is_name(name.as_bytes()),
+        None => true,
+    }
+}
+
+/// Whether `make` takes it: `etype` is 2 or 3, no text has a NUL or more than 65535 bytes, and a soname is a name.
+#[tactic(auto, unfolding(crate::specs::Made::is_spec))]
+pub fn is_spec(spec: &Spec) -> bool
+    ensures { result ≡ is_spec spec.now }
+{
+    let dynamic = &spec.dynamic;
+    matches!(spec.etype, 2 | 3)
+        && are_texts(dynamic.needed.as_slice())
+        && is_optional_name(&dynamic.soname)
+        && is_optional_text(&dynamic.rpath)
+        && is_optional_text(&dynamic.runpath)
+}

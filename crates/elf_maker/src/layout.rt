@@ -1,0 +1,143 @@
+//! How long the parts of a file are, and where they are.
+ghost use Rattle.std.specs.Prelude.{◌≡◌, ◌≤◌, ◌<◌, ◌+◌, ◌^◌, ◌==◌, All, length, map, IfSome};
+ghost use Rattle.std.specs.Option.{MatchOption};
+ghost use Rattle.lib_types.specs.Abi.{class_of, machine_of};
+ghost use Rattle.elf_headers.specs.Layout.{at_class, word_size};
+ghost use Rattle.elf_maker.specs.Texts.{ended_texts, tagged, strings, tagged_if};
+ghost use Rattle.elf_maker.specs.Made.{width, base, entry_count, size};
+ghost use Rattle.elf_maker.specs.Parts.{IsSizeIfFit, IsShort, AreShort, IsWidth, IsLayoutOf, needed_texts};
+
+use crate::kinds::Spec;
+use elf_dynamic::kinds::Dynamic;
+use lib_types::{Abi, Text};
+
+// The most bytes of a made file.
+const FILE_MAX: u64 = 1 << 24;
+
+// Where the parts of a file are.
+#[derive(Clone, Copy)]
+pub(crate) struct Layout {
+    // The size of an address.
+    pub w: usize,
+    // The offset of the dynamic entries, and how many bytes they have.
+    pub section: u64,
+    pub section_size: u64,
+    // The offset of the string table, and how many bytes it has.
+    pub strings: u64,
+    pub strings_size: u64,
+}
+
+// The machine and the class of an ABI.
+pub(crate) fn elf_row(abi: Abi) -> (u16, u8)
+    ensures { result ≡ (machine_of abi, class_of abi) }
+{
+    match abi {
+        Abi::I386 => (3, 1),
+        Abi::X86_64 => (62, 2),
+        Abi::X32 => (62, 1),
+        Abi::Aarch64 => (183, 2),
+    }
+}
+
+// The size of an address.
+fn width_of(abi: Abi) -> usize
+    ensures width { IsWidth result }
+    ensures abi { result ≡ word_size (class_of abi == 2) }
+{
+    let (_, class) = elf_row(abi);
+    if class == 2 { 8 } else { 4 }
+}
+
+// The address of a byte in memory, by its offset.
+pub(crate) fn address_of(offset: u64) -> u64
+    requires { offset ≤ 2 ^ 24 }
+    ensures { result ≡ offset + base }
+{
+    offset + 0x1000
+}
+
+// What the class with addresses of this size has of two numbers.
+pub(crate) fn at_class(w: usize, narrow: usize, wide: usize) -> usize
+    ensures { result ≡ at_class w narrow wide }
+{
+    if w == 8 { wide } else { narrow }
+}
+
+// The number of bytes of needed texts with their NULs; none if a file can't have so many.
+fn size_of_needed(texts: &[Text]) -> Option<u64>
+    requires { All IsShort texts.now }
+    ensures size { IsSizeIfFit result (ended_texts (needed_texts texts.now)) }
+    ensures small { IfSome result (λ n. n ≤ 2 ^ 24) }
+{
+    let mut size = 0;
+    for text in texts {
+        size += text.as_bytes().len() as u64 + 1;
+        if size > FILE_MAX {
+            return None;
+        }
+    }
+    Some(size)
+}
+
+// The same of a text that there may be.
+fn size_of_optional(text: &Option<Text>) -> u64
+    requires { IfSome text.now IsShort }
+    ensures size { result ≡ length (ended_texts (tagged_if 0 text.now)) }
+    ensures short { result ≤ 65536 }
+{
+    match text {
+        Some(text) => text.as_bytes().len() as u64 + 1,
+        None => 0,
+    }
+}
+
+// The number of bytes of the string table; none if a file can't have so many.
+#[tactic(auto, using(crate::proofs::Steps::strings_length, crate::proofs::Steps::few_texts))]
+fn size_of_strings(dynamic: &Dynamic) -> Option<u64>
+    requires { AreShort dynamic.now }
+    ensures size { IsSizeIfFit result (strings dynamic.now) }
+    ensures small { IfSome result (λ n. n ≤ 2 ^ 25) }
+    ensures few { IfSome result (λ n. length dynamic.now.needed < n) }
+{
+    let needed = size_of_needed(dynamic.needed.as_slice())?;
+    let others = size_of_optional(&dynamic.soname)
+        + size_of_optional(&dynamic.rpath)
+        + size_of_optional(&dynamic.runpath);
+    Some(1 + needed + others)
+}
+
+// The number of dynamic entries, with the DT_NULL.
+#[tactic(auto, using(crate::proofs::Steps::tagged_length))]
+fn entry_count(dynamic: &Dynamic) -> u64
+    requires { length dynamic.now.needed ≤ 2 ^ 25 }
+    ensures count { result ≡ entry_count dynamic.now }
+    ensures few { result ≤ 2 ^ 26 }
+{
+    let texts = u64::from(dynamic.soname.is_some())
+        + u64::from(dynamic.rpath.is_some())
+        + u64::from(dynamic.runpath.is_some());
+    dynamic.needed.len() as u64 + texts + u64::from(dynamic.nodeflib) + 3
+}
+
+// Where the parts are; none if the file would be too long.
+#[tactic(auto, using(crate::proofs::Steps::product))]
+pub(crate) fn layout_of(spec: &Spec) -> Option<Layout>
+    requires { AreShort spec.now.dynamic }
+    ensures { MatchOption result (2 ^ 24 < size (width spec.now) spec.now.dynamic) (λ l. IsLayoutOf l spec.now) }
+{
+    let w = width_of(spec.abi);
+    let strings_size = size_of_strings(&spec.dynamic)?;
+    let section = at_class(w, 52 + 2 * 32, 64 + 2 * 56) as u64;
+    let section_size = entry_count(&spec.dynamic) * (2 * w as u64);
+    let strings = section + section_size;
+    if strings + strings_size > FILE_MAX {
+        return None;
+    }
+    Some(Layout {
+        w,
+        section,
+        section_size,
+        strings,
+        strings_size,
+    })
+}

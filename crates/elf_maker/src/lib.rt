@@ -1,0 +1,16 @@
+//! Makes ELF files that have a dynamic section and nothing else: libraries and programs for tests and samples.
+#![tactic(auto)]
+
+mod conditions;
+mod fault;
+mod fields;
+mod file;
+mod kinds;
+mod layout;
+mod section;
+mod strings;
+
+pub use conditions::is_spec;
+pub use fault::MakeFault;
+pub use file::make;
+pub use kinds::Spec;

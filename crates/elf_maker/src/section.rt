@@ -1,0 +1,154 @@
+//! The dynamic entries.
+ghost use Rattle.std.specs.Prelude.{◌≡◌, ◌≤◌, ◌+◌, ◌^◌, ◌++◌, ◌∷◌, [], length, OnOk, IfOk};
+ghost use Rattle.elf_maker.specs.Texts.{ended_texts, tagged, tagged_if, strings, text_entries};
+ghost use Rattle.elf_maker.specs.Made.{flag_entries, entries};
+ghost use Rattle.elf_maker.specs.Parts.{IsWidth, needed_texts, entries_bytes};
+
+use crate::fields::put_fields;
+use elf_dynamic::kinds::{Dynamic, DynamicEntry};
+use lib_types::{NoMemory, Text};
+
+// Tags.
+const DT_NULL: u64 = 0;
+
+const DT_NEEDED: u64 = 1;
+
+const DT_STRTAB: u64 = 5;
+
+const DT_STRSZ: u64 = 10;
+
+const DT_SONAME: u64 = 14;
+
+const DT_RPATH: u64 = 15;
+
+const DT_RUNPATH: u64 = 29;
+
+const DT_FLAGS_1: u64 = 0x6ffffffb;
+
+// DF_1_NODEFLIB of DT_FLAGS_1.
+const NODEFLIB: u64 = 0x800;
+
+#[tactic(auto, unfolding(crate::specs::Parts::entries_bytes))]
+fn put_entry(out: &mut Vec<u8>, w: usize, entry: DynamicEntry) -> Result<(), NoMemory>
+    requires { IsWidth w }
+    ensures { OnOk result (out.new.items ≡ out.old.items ++ entries_bytes w (entry ∷ [])) }
+{
+    put_fields(out, &[(w, entry.tag), (w, entry.value)])
+}
+
+// The entries of needed texts, of which the first is at this offset of the string table; returns the offset behind them.
+fn put_needed(out: &mut Vec<u8>, w: usize, at: u64, texts: &[Text]) -> Result<u64, NoMemory>
+    requires width { IsWidth w }
+    requires short { at + length (ended_texts (needed_texts texts.now)) ≤ 2 ^ 24 }
+    ensures put { OnOk result (out.new.items ≡ out.old.items ++ entries_bytes w (text_entries at (needed_texts texts.now))) }
+    ensures behind { IfOk result (λ n. n ≡ at + length (ended_texts (needed_texts texts.now))) }
+{
+    let mut next = at;
+    for text in texts {
+        put_entry(
+            out,
+            w,
+            DynamicEntry {
+                tag: DT_NEEDED,
+                value: next,
+            },
+        )?;
+        next += text.as_bytes().len() as u64 + 1;
+    }
+    Ok(next)
+}
+
+// The same of a text that there may be.
+#[tactic(auto, unfolding(crate::specs::Parts::entries_bytes, crate::specs::Fields::bytes_of))]
+fn put_optional(
+    out: &mut Vec<u8>,
+    w: usize,
+    tag: u64,
+    at: u64,
+    text: &Option<Text>,
+) -> Result<u64, NoMemory>
+    requires width { IsWidth w }
+    requires short { at + length (ended_texts (tagged_if tag text.now)) ≤ 2 ^ 24 }
+    ensures put { OnOk result (out.new.items ≡ out.old.items ++ entries_bytes w (text_entries at (tagged_if tag text.now))) }
+    ensures behind { IfOk result (λ n. n ≡ at + length (ended_texts (tagged_if tag text.now))) }
+{
+    let Some(text) = text else {
+        return Ok(at);
+    };
+    put_entry(out, w, DynamicEntry { tag, value: at })?;
+    Ok(at + text.as_bytes().len() as u64 + 1)
+}
+
+// The entries of all texts.
+#[tactic(auto, using(crate::proofs::Steps::tagged_sizes, crate::proofs::Steps::texts_are))]
+fn put_texts(out: &mut Vec<u8>, w: usize, dynamic: &Dynamic) -> Result<(), NoMemory>
+    requires width { IsWidth w }
+    requires short { 1 + length (ended_texts (tagged dynamic.now)) ≤ 2 ^ 24 }
+    ensures { OnOk result (out.new.items ≡ out.old.items ++ entries_bytes w (text_entries 1 (tagged dynamic.now))) }
+{
+    let at = put_needed(out, w, 1, dynamic.needed.as_slice())?;
+    let at = put_optional(out, w, DT_SONAME, at, &dynamic.soname)?;
+    let at = put_optional(out, w, DT_RPATH, at, &dynamic.rpath)?;
+    put_optional(out, w, DT_RUNPATH, at, &dynamic.runpath)?;
+    Ok(())
+}
+
+#[tactic(auto, unfolding(crate::specs::Parts::entries_bytes, crate::specs::Fields::bytes_of))]
+fn put_flags(out: &mut Vec<u8>, w: usize, nodeflib: bool) -> Result<(), NoMemory>
+    requires { IsWidth w }
+    ensures { OnOk result (out.new.items ≡ out.old.items ++ entries_bytes w (flag_entries nodeflib)) }
+{
+    if nodeflib {
+        return put_entry(
+            out,
+            w,
+            DynamicEntry {
+                tag: DT_FLAGS_1,
+                value: NODEFLIB,
+            },
+        );
+    }
+    Ok(())
+}
+
+// All entries, if the string table is at this address and has so many bytes.
+#[tactic(auto, using(crate::proofs::Steps::strings_size, crate::proofs::Steps::section_is))]
+pub(crate) fn put_section(
+    out: &mut Vec<u8>,
+    w: usize,
+    address: u64,
+    size: u64,
+    dynamic: &Dynamic,
+) -> Result<(), NoMemory>
+    requires width { IsWidth w }
+    requires size { size ≡ length (strings dynamic.now) }
+    requires short { size ≤ 2 ^ 24 }
+    ensures { OnOk result (out.new.items ≡ out.old.items ++ entries_bytes w (entries address dynamic.now)) }
+{
+    put_texts(out, w, dynamic)?;
+    put_flags(out, w, dynamic.nodeflib)?;
+    put_entry(
+        out,
+        w,
+        DynamicEntry {
+            tag: DT_STRTAB,
+            value: address,
+        },
+    )?;
+    put_entry(
+        out,
+        w,
+        DynamicEntry {
+            tag: DT_STRSZ,
+            value: size,
+        },
+    )?;
+    put_entry(
+        out,
+        w,
+        DynamicEntry {
+            tag: DT_NULL,
+            value: 0,
+        },
+    )
+}
