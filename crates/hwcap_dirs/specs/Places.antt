@@ -1,0 +1,89 @@
+-- The directories in which libraries are looked for, in their order (ldconfig(8), ld.so(8): glibc-hwcaps subdirectories).
+use Rattle.std.specs.Prelude.{ℕ, Bool, true, false, List, [], ◌∷◌, ◌++◌, nat_eq, not, if◌then◌else◌, filter, flat_map, codes, Option, Some, None, option_map, is_none, Result, Ok, Err}
+use Rattle.std.specs.List.{filter_map, starts_with}
+use Rattle.std.specs.Str.{bytes_eq}
+use Rattle.path_walk.specs.Names.{join}
+use Rattle.path_walk.specs.Walk.{resolution}
+use Rattle.path_walk.specs.declared.walk.Mode.TheVariants.{Plain}
+use Rattle.path_walk.specs.declared.walk.WalkFault.{WalkFault}
+use Rattle.tree_face.specs.Tree.{Nodes, kind_at, children_of}
+use Rattle.tree_face.specs.declared.tree.Kind.{Kind}
+use Rattle.tree_face.specs.declared.tree.Kind.TheVariants as kinds
+use Rattle.hwcap_dirs.specs.declared.kinds.Place.{Place}
+
+-- ---- where a text leads
+
+abbrev pub is_dir : Kind → Bool
+is_dir kinds.Dir = true
+is_dir kinds.Absent = false
+is_dir kinds.File = false
+is_dir kinds.Link = false
+
+abbrev pub dir_by : Nodes → Result (List ℕ) WalkFault → Option (List ℕ)
+dir_by t (Ok place) = if is_dir (kind_at t place) then Some place else None
+dir_by t (Err fault) = None
+
+-- the directory to which a text leads, if it leads to one
+abbrev pub dir_at : Nodes → List ℕ → Option (List ℕ)
+dir_at t text = dir_by t (resolution t text Plain)
+
+-- ---- the directories
+
+-- those that are looked through after the conf file's
+abbrev pub system_dirs : List (List ℕ)
+system_dirs = codes "/lib" ∷ codes "/usr/lib" ∷ codes "/lib64" ∷ codes "/usr/lib64" ∷ []
+
+-- a text and the directory to which it leads
+abbrev pub Led : Type 0
+Led = List ℕ × List ℕ
+
+abbrev pub led_at : Nodes → List ℕ → Option Led
+led_at t text = option_map (λ dir. (text, dir)) (dir_at t text)
+
+abbrev pub leads_elsewhere : Led → Led → Bool
+leads_elsewhere a b = not (bytes_eq b.1 a.1)
+
+-- of those that lead to one directory the first
+abbrev pub firsts : List Led → List Led
+firsts [] = []
+firsts (led ∷ rest) = led ∷ filter (leads_elsewhere led) (firsts rest)
+
+abbrev pub kept : Nodes → List (List ℕ) → List Led
+kept t conf = firsts (filter_map (led_at t) (conf ++ system_dirs))
+
+-- ---- the subdirectories of a directory
+
+abbrev pub hwcaps : List ℕ
+hwcaps = codes "glibc-hwcaps"
+
+abbrev pub is_hidden : List ℕ → Bool
+is_hidden name = starts_with nat_eq name (codes ".")
+
+abbrev pub hwcap_place : List ℕ → List ℕ → Option (List ℕ) → Option Place
+hwcap_place text name (Some dir) = Some (record { spelled = text; real = dir; cap = Some name })
+hwcap_place text name None = None
+
+-- the place of a name in a folder, if that is a directory
+abbrev pub place_of_name : Nodes → List ℕ → List ℕ → Option Place
+place_of_name t folder name = if is_hidden name then None else hwcap_place (join folder name) name (dir_at t (join folder name))
+
+abbrev pub places_below : Nodes → List ℕ → Option (List ℕ) → List Place
+places_below t folder (Some dir) = filter_map (place_of_name t folder) (children_of t dir)
+places_below t folder None = []
+
+abbrev pub hwcap_places : Nodes → List ℕ → List Place
+hwcap_places t folder = places_below t folder (dir_at t folder)
+
+-- ---- the places
+
+-- a directory, and then its subdirectories in the order of their names' bytes
+abbrev pub places_of : Nodes → Led → List Place
+places_of t led = record { spelled = led.0; real = led.1; cap = None } ∷ hwcap_places t (join led.0 hwcaps)
+
+-- The places for the conf file's directories; a place's number is its index.
+unfoldable pub places : Nodes → List (List ℕ) → List Place
+places t conf = flat_map (places_of t) (kept t conf)
+
+-- The conf file's directories that lead to no directory.
+unfoldable pub absent : Nodes → List (List ℕ) → List (List ℕ)
+absent t conf = filter (λ text. is_none (dir_at t text)) conf

@@ -1,0 +1,192 @@
+//! The order of the directories.
+ghost use Rattle.std.specs.Prelude.{◌≡◌, ◌∷◌, ◌++◌, ℕ, List, IfOk, OnOk};
+ghost use Rattle.std.specs.Option.{is_some};
+ghost use Rattle.std.specs.Str.{bytes_eq};
+ghost use Rattle.indexmap.specs.IndexSet.{insert_key};
+ghost use Rattle.path_walk.specs.Names.{join};
+ghost use Rattle.hwcap_dirs.specs.Gathering.{new_places, all_places};
+ghost use Rattle.hwcap_dirs.specs.Places.{absent, dir_at, hwcap_places, is_dir, is_hidden, place_of_name, places, places_of, system_dirs};
+
+use crate::kinds::{Dirs, Place, Places};
+use lib_types::{NoMemory, Text, Texts};
+use path_walk::{Mode, WalkFault, resolve};
+use std::alloc::Global;
+use text_set::TextSet;
+use tree_face::{Kind, Tree};
+
+// The places so far, and the directories that were met.
+#[derive(Drop)]
+struct Gathering {
+    met: TextSet,
+    places: Places,
+}
+
+fn is_dir(kind: Kind) -> bool
+    ensures { result ≡ is_dir kind }
+{
+    match kind {
+        Kind::Dir => true,
+        Kind::Absent | Kind::File | Kind::Link => false,
+    }
+}
+
+// The directory to which a text leads, if it leads to one.
+fn dir_at(alloc: Global, tree: &Tree, text: &[u8]) -> Result<Option<Text>, NoMemory>
+    ensures { IfOk result (λ dir. dir ≡ dir_at tree.now text.now) }
+{
+    match resolve(alloc, tree, text, Mode::Plain) {
+        Ok(place) => {
+            if is_dir(tree.kind(place.as_bytes())) {
+                Ok(Some(place))
+            } else {
+                Ok(None)
+            }
+        }
+        Err(WalkFault::NoMemory) => Err(NoMemory),
+        Err(_) => Ok(None),
+    }
+}
+
+// The path of a name in a folder.
+fn joined(alloc: Global, folder: &[u8], name: &[u8]) -> Result<Text, NoMemory>
+    ensures { IfOk result (λ path. path ≡ join folder.now name.now) }
+{
+    let mut path = Vec::with_capacity(alloc, folder.len() + 1 + name.len())?;
+    if folder != b"/".as_slice() {
+        path.extend_from_slice(folder)?;
+    }
+    path.push(b'/')?;
+    path.extend_from_slice(name)?;
+    Ok(Text::from_vec(path))
+}
+
+fn is_hidden(name: &[u8]) -> bool
+    ensures { result ≡ is_hidden name.now }
+{
+    name.starts_with(b".")
+}
+
+// The place of a name in a folder of subdirectories, if it is one.
+fn place_of_name(
+    alloc: Global,
+    tree: &Tree,
+    folder: &[u8],
+    name: &[u8],
+) -> Result<Option<Place>, NoMemory>
+    ensures { IfOk result (λ place. place ≡ place_of_name tree.now folder.now name.now) }
+{
+    if is_hidden(name) {
+        return Ok(None);
+    }
+    let spelled = joined(alloc, folder, name)?;
+    let Some(real) = dir_at(alloc, tree, spelled.as_bytes())? else {
+        return Ok(None);
+    };
+    let cap = Some(Text::copy_of(alloc, name)?);
+    Ok(Some(Place { spelled, real, cap }))
+}
+
+// Adds the places in a folder of subdirectories.
+fn add_below(alloc: Global, tree: &Tree, places: &mut Places, folder: &[u8]) -> Result<(), NoMemory>
+    ensures { OnOk result (places.new ≡ places.old ++ hwcap_places tree.now folder.now) }
+{
+    let Some(dir) = dir_at(alloc, tree, folder)? else {
+        return Ok(());
+    };
+    for name in tree.children(dir.as_bytes()) {
+        if let Some(place) = place_of_name(alloc, tree, folder, name)? {
+            places.push(place)?;
+        }
+    }
+    Ok(())
+}
+
+// Adds the places of a directory, given where its text leads.
+fn add_places(
+    alloc: Global,
+    tree: &Tree,
+    places: &mut Places,
+    text: &[u8],
+    real: Text,
+) -> Result<(), NoMemory>
+    ensures { OnOk result (places.new ≡ places.old ++ places_of tree.now (text.now, real)) }
+{
+    let below = joined(alloc, text, b"glibc-hwcaps")?;
+    let spelled = Text::copy_of(alloc, text)?;
+    places.push(Place {
+        spelled,
+        real,
+        cap: None,
+    })?;
+    add_below(alloc, tree, places, below.as_bytes())?;
+    Ok(())
+}
+
+impl Gathering {
+    // Adds a directory with its subdirectories, unless it was met.
+    #[tactic(auto, using(crate::proofs::Firsts::new_here, crate::proofs::Firsts::old_here))]
+    fn add_dir(
+        &mut self,
+        alloc: Global,
+        tree: &Tree,
+        text: &[u8],
+        real: Text,
+    ) -> Result<(), NoMemory>
+        ensures met { OnOk result (self.new.met ≡ insert_key bytes_eq self.old.met real) }
+        ensures places { OnOk result (self.new.places ≡ self.old.places ++ new_places tree.now self.old.met (text.now, real)) }
+    {
+        if self.met.contains(real.as_bytes()) {
+            return Ok(());
+        }
+        self.met.insert(Text::copy_of(alloc, real.as_bytes())?)?;
+        add_places(alloc, tree, &mut self.places, text, real)?;
+        Ok(())
+    }
+
+    // Adds the directory to which a text leads, and returns whether it leads to one.
+    fn add(&mut self, alloc: Global, tree: &Tree, text: &[u8]) -> Result<bool, NoMemory>
+        ensures leads { IfOk result (λ leads. leads ≡ is_some (dir_at tree.now text.now)) }
+        ensures rest { IfOk result (λ _. (texts : List (List ℕ)) →
+            all_places tree.now self.new.met self.new.places texts ≡ all_places tree.now self.old.met self.old.places (text.now ∷ texts)) }
+    {
+        let Some(real) = dir_at(alloc, tree, text)? else {
+            return Ok(false);
+        };
+        self.add_dir(alloc, tree, text, real)?;
+        Ok(true)
+    }
+
+    // Adds the directories that every system has.
+    fn add_system(&mut self, alloc: Global, tree: &Tree) -> Result<(), NoMemory>
+        ensures { OnOk result (self.new.places ≡ all_places tree.now self.old.met self.old.places system_dirs) }
+    {
+        self.add(alloc, tree, b"/lib")?;
+        self.add(alloc, tree, b"/usr/lib")?;
+        self.add(alloc, tree, b"/lib64")?;
+        self.add(alloc, tree, b"/usr/lib64")?;
+        Ok(())
+    }
+}
+
+/// The places for the directories of the conf file, with those that every system has behind them.
+#[tactic(auto, unfolding(crate::specs::Places::places, crate::specs::Places::absent))]
+pub fn order(alloc: Global, tree: &Tree, conf: &Texts) -> Result<Dirs, NoMemory>
+    ensures places { IfOk result (λ dirs. dirs.places ≡ places tree.now conf.now) }
+    ensures absent { IfOk result (λ dirs. dirs.absent ≡ absent tree.now conf.now) }
+{
+    let mut gathering = Gathering {
+        met: TextSet::new(alloc),
+        places: Places::new(alloc),
+    };
+    let mut absent = Texts::new(alloc);
+    for dir in conf.as_slice() {
+        if !gathering.add(alloc, tree, dir.as_bytes())? {
+            absent.push(Text::copy_of(alloc, dir.as_bytes())?)?;
+        }
+    }
+    gathering.add_system(alloc, tree)?;
+    Ok(Dirs {
+        places: gathering.places,
+        absent,
+    })
+}

@@ -1,0 +1,9 @@
+mod Absent
+mod Begun
+mod Ends
+mod Growing
+mod Sets
+mod Skips
+mod Stars
+mod Visiting
+mod Whole

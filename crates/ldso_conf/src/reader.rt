@@ -1,0 +1,107 @@
+//! What has been read of the conf files so far.
+ghost use Rattle.std.specs.Prelude.{◌≡◌, ◌∷◌, ◌++◌, ◌+◌, ◌≤◌, [], false, length, All, OnOk};
+ghost use Rattle.ldso_conf.specs.Reading.{nothing_read, was_read, with_dir, with_read, with_report, IsConfOf};
+
+use crate::kinds::{Conf, ConfKind, ConfReport, ConfReports};
+use lib_types::{NoMemory, Text, Texts};
+use std::alloc::Global;
+use std::marker::Model;
+use text_set::TextSet;
+use tree_face::PATH_MAX;
+
+/// What has been read so far. Every directory has at most 4095 bytes, whatever a store holds.
+#[derive(Drop)]
+pub(crate) struct Reader {
+    dirs: Texts,
+    reports: ConfReports,
+    read: TextSet,
+    files: u32,
+}
+
+impl Model for Reader {
+    ghost use Rattle.std.specs.Prelude.{◌≤◌, All, false, length};
+    ghost use Rattle.tree_face.specs.declared.path.TheConstants.{PATH_MAX};
+    ghost use Rattle.ldso_conf.specs.Reading.{Reading};
+
+    ghost Value = { Reading };
+
+    ghost view = { λ s. record { dirs = s.dirs; reports = s.reports; read = s.read; files = s.files; lacks = false } };
+
+    ghost invariant = { λ s. All (λ dir. length dir ≤ PATH_MAX) s.dirs };
+}
+
+impl Reader {
+    /// Nothing is read so far.
+    pub(crate) fn new(alloc: Global) -> Reader
+        ensures { result ≡ nothing_read }
+    {
+        Reader {
+            dirs: Texts::new(alloc),
+            reports: ConfReports::new(alloc),
+            read: TextSet::new(alloc),
+            files: 0,
+        }
+    }
+
+    /// Adds a report.
+    pub(crate) fn add_report(&mut self, report: ConfReport) -> Result<(), NoMemory>
+        ensures { OnOk result (self.new ≡ record self.old { reports = self.old.reports ++ report ∷ [] }) }
+    {
+        self.reports.push(report)
+    }
+
+    /// Reports this place.
+    pub(crate) fn report(&mut self, place: Text, kind: ConfKind) -> Result<(), NoMemory>
+        ensures { OnOk result (self.new ≡ with_report self.old place kind) }
+    {
+        self.add_report(ConfReport { place, kind })
+    }
+
+    /// Adds a directory, or reports it if it is too long.
+    pub(crate) fn add_dir(&mut self, dir: Text) -> Result<(), NoMemory>
+        ensures { OnOk result (self.new ≡ with_dir self.old dir) }
+    {
+        if dir.as_bytes().len() > PATH_MAX {
+            return self.report(dir, ConfKind::LongPath);
+        }
+        self.dirs.push(dir)
+    }
+
+    /// Whether the file at this place was read.
+    pub(crate) fn was_read(&self, place: &[u8]) -> bool
+        ensures { result ≡ was_read self.now place.now }
+    {
+        self.read.contains(place)
+    }
+
+    /// Counts a file that is begun.
+    pub(crate) fn count_file(&mut self) -> Result<(), NoMemory>
+        ensures { OnOk result (self.new ≡ record self.old { files = self.old.files + 1 }) }
+    {
+        let Some(files) = self.files.checked_add(1) else {
+            return Err(NoMemory);
+        };
+        self.files = files;
+        Ok(())
+    }
+
+    /// Adds the place of a file that is read.
+    pub(crate) fn add_read(&mut self, place: Text) -> Result<(), NoMemory>
+        requires { was_read self.old place ≡ false }
+        ensures { OnOk result (self.new ≡ with_read self.old place) }
+    {
+        self.read.insert(place)
+    }
+
+    /// What was found.
+    pub(crate) fn into_conf(self) -> Conf
+        ensures conf { IsConfOf result self }
+        ensures short { All (λ dir. length dir ≤ PATH_MAX) result.dirs }
+    {
+        Conf {
+            dirs: self.dirs,
+            reports: self.reports,
+            files: self.files,
+        }
+    }
+}

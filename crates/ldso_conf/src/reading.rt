@@ -1,0 +1,164 @@
+//! The reading of the conf file, with the files that it includes.
+ghost use Rattle.std.specs.Prelude.{◌≡◌, ◌⊎◌, ◌≤◌, ◌+◌, ◌-◌, true, false, length, All, IfOk, OnOk, IsErrOf, IsSomeAnd};
+ghost use Rattle.std.specs.Option.{option_copied};
+ghost use Rattle.lib_types.specs.Counts.{raised, HasRisen};
+ghost use Rattle.tree_face.specs.Known.{IfKnown};
+ghost use Rattle.tree_face.specs.Store.{BeginsAtMost, Lacks};
+ghost use Rattle.tree_face.specs.Tree.{node_at};
+ghost use Rattle.ldso_conf.specs.Reading.{reading, key_in, visit, was_read, with_report, IsConfOf};
+ghost use Rattle.ldso_conf.specs.Visits.{IsToBegin, Loads};
+
+use crate::content::content_of;
+use crate::fault::ConfFault;
+use crate::kinds::{Conf, ConfKind};
+use crate::patterns::place_of;
+use crate::reader::Reader;
+use crate::steps::{Step, steps_of};
+use lib_types::{NoMemory, Text};
+use std::alloc::Global;
+use tree_face::{Node, PATH_MAX, Store, Tree};
+
+/// The most bytes of a conf file: far more than a real one has, and little enough to be read whole.
+pub const CONF_MAX: u64 = 1 << 20;
+
+/// The greatest depth of an included file, `/etc/ld.so.conf` itself having the depth 0.
+pub const DEPTH_MAX: u8 = 16;
+
+// The key of the file at a place, if there is one.
+fn key_at<'t>(tree: &'t Tree, place: &[u8]) -> Option<&'t [u8]>
+    ensures { option_copied result ≡ key_in (node_at tree.now place.now) }
+{
+    match tree.node(place) {
+        Some(Node::File { key, .. }) => Some(key.as_bytes()),
+        _ => None,
+    }
+}
+
+// Reports a place.
+fn report(alloc: Global, reader: &mut Reader, place: &Text, kind: ConfKind) -> Result<(), NoMemory>
+    ensures { OnOk result (reader.new ≡ with_report reader.old place.now kind) }
+{
+    reader.report(Text::copy_of(alloc, place.as_bytes())?, kind)
+}
+
+// The key of a file that is to be begun, or a report why it isn't.
+#[tactic(auto, using(crate::proofs::Visiting::not_file, crate::proofs::Visiting::repeated, crate::proofs::Visiting::too_deep, crate::proofs::Visiting::begins))]
+fn key_to_begin<'t>(
+    alloc: Global,
+    tree: &'t Tree,
+    reader: &mut Reader,
+    left: u8,
+    spelled: &Text,
+    real: &Text,
+) -> Result<Option<&'t [u8]>, NoMemory>
+    ensures visits { IfOk result (λ key. IsToBegin tree.now left reader.old (spelled.now, real.now) reader.new (option_copied key)) }
+{
+    let Some(key) = key_at(tree, real.as_bytes()) else {
+        report(alloc, reader, spelled, ConfKind::NotFile)?;
+        return Ok(None);
+    };
+    if reader.was_read(real.as_bytes()) {
+        report(alloc, reader, spelled, ConfKind::Repeated)?;
+        return Ok(None);
+    }
+    if left == 0 {
+        report(alloc, reader, spelled, ConfKind::TooDeep)?;
+        return Ok(None);
+    }
+    Ok(Some(key))
+}
+
+// Begins a file and reads it, or reports that it is too large; returns the steps of its lines.
+fn load<S: Store>(
+    alloc: Global,
+    tree: &Tree,
+    store: &mut S,
+    reader: &mut Reader,
+    key: &[u8],
+    spelled: Text,
+    real: Text,
+) -> Result<Vec<Step>, ConfFault>
+    requires { was_read reader.old real ≡ false }
+    ensures loads { IfOk result (λ steps. IfKnown (S.state store.old).held (λ held. Loads tree.now reader.old (spelled, real) (held key.now) reader.new steps.items)) }
+    ensures cause { IsErrOf result ConfFault.StoreFault → HasRisen (S.state store.old).faults (S.state store.new).faults ⊎ Lacks (S.state store.old).held key.now }
+    ensures held { (S.state store.new).held ≡ (S.state store.old).held }
+    ensures faults { (S.state store.old).faults ≤ (S.state store.new).faults }
+    ensures files { IfOk result (λ _. reader.new.files ≡ reader.old.files + 1) }
+    ensures begun { IfOk result (λ _. (S.state store.new).begun ≡ raised (S.state store.old).begun 1) }
+    ensures begun_at_most { BeginsAtMost 1 (S.state store.old) (S.state store.new) }
+{
+    reader.count_file()?;
+    let Some(content) = content_of(alloc, store, key)? else {
+        reader.report(spelled, ConfKind::TooLarge)?;
+        return Ok(Vec::new(alloc));
+    };
+    reader.add_read(real)?;
+    Ok(steps_of(alloc, tree, spelled.as_bytes(), &content)?)
+}
+
+// Visits a file: reads it and takes the steps of its lines, with at most so many files in a line from here on.
+fn visit<S: Store>(
+    alloc: Global,
+    tree: &Tree,
+    store: &mut S,
+    reader: &mut Reader,
+    left: u8,
+    spelled: Text,
+    real: Text,
+) -> Result<(), ConfFault>
+    ensures visits { OnOk result (IfKnown (S.state store.old).held (λ held. reader.new ≡ visit tree.now held left reader.old (spelled, real))) }
+    ensures cause { IsErrOf result ConfFault.StoreFault → HasRisen (S.state store.old).faults (S.state store.new).faults
+        ⊎ IsSomeAnd (S.state store.old).held (λ held. (visit tree.now held left reader.old (spelled, real)).lacks ≡ true) }
+    ensures held { (S.state store.new).held ≡ (S.state store.old).held }
+    ensures faults { (S.state store.old).faults ≤ (S.state store.new).faults }
+    ensures files { OnOk result (reader.old.files ≤ reader.new.files) }
+    ensures begun { OnOk result ((S.state store.new).begun ≡ raised (S.state store.old).begun (reader.new.files - reader.old.files)) }
+    ensures begun_at_most { IfKnown (S.state store.old).held
+        (λ held. BeginsAtMost ((visit tree.now held left reader.old (spelled, real)).files - reader.old.files) (S.state store.old) (S.state store.new)) }
+{
+    let Some(key) = key_to_begin(alloc, tree, reader, left, &spelled, &real)? else {
+        return Ok(());
+    };
+    for step in load(alloc, tree, store, reader, key, spelled, real)? {
+        match step {
+            Step::Directory(dir) => reader.add_dir(dir)?,
+            Step::Report(report) => reader.add_report(report)?,
+            Step::Include(spelled, real) => {
+                visit(alloc, tree, store, reader, left - 1, spelled, real)?
+            }
+        }
+    }
+    Ok(())
+}
+
+/// Reads `/etc/ld.so.conf` with all that it includes.
+///
+/// Takes memory for the content of the files that are open, at most 17 of them, and for what their lines ask for.
+#[tactic(auto, using(crate::proofs::Whole::no_conf), unfolding(crate::specs::Reading::reading))]
+pub fn read_conf<S: Store>(alloc: Global, tree: &Tree, store: &mut S) -> Result<Conf, ConfFault>
+    ensures conf { IfOk result (λ conf. IfKnown (S.state store.old).held (λ held. IsConfOf conf (reading tree.now held))) }
+    ensures short { IfOk result (λ conf. All (λ dir. length dir ≤ PATH_MAX) conf.dirs) }
+    ensures cause { IsErrOf result ConfFault.StoreFault → HasRisen (S.state store.old).faults (S.state store.new).faults
+        ⊎ IsSomeAnd (S.state store.old).held (λ held. (reading tree.now held).lacks ≡ true) }
+    ensures held { (S.state store.new).held ≡ (S.state store.old).held }
+    ensures faults { (S.state store.old).faults ≤ (S.state store.new).faults }
+    ensures begun { IfOk result (λ conf. (S.state store.new).begun ≡ raised (S.state store.old).begun conf.files) }
+    ensures begun_at_most { IfKnown (S.state store.old).held (λ held. BeginsAtMost (reading tree.now held).files (S.state store.old) (S.state store.new)) }
+{
+    let path = b"/etc/ld.so.conf";
+    let mut reader = Reader::new(alloc);
+    let Some(real) = place_of(alloc, tree, path)? else {
+        return Ok(reader.into_conf());
+    };
+    let spelled = Text::copy_of(alloc, path)?;
+    visit(
+        alloc,
+        tree,
+        store,
+        &mut reader,
+        DEPTH_MAX + 1,
+        spelled,
+        real,
+    )?;
+    Ok(reader.into_conf())
+}

@@ -1,0 +1,55 @@
+//! A set of texts, for what was met before.
+#![tactic(auto)]
+
+ghost use Rattle.std.specs.Prelude.{◌≡◌, [], OnOk, OnErr};
+ghost use Rattle.std.specs.List.{list_any};
+ghost use Rattle.std.specs.Str.{bytes_eq};
+ghost use Rattle.indexmap.specs.IndexSet.{insert_key};
+
+use indexmap::IndexSet;
+use lib_types::{NoMemory, Text};
+use std::alloc::Global;
+use std::marker::Model;
+
+/// Texts, each once. Contracts see a set as the list of its texts in the order in which they were put in.
+///
+/// A look-up takes the time of one text, however many there are.
+#[derive(Drop)]
+pub struct TextSet {
+    texts: IndexSet<Vec<u8>>,
+}
+
+impl Model for TextSet {
+    ghost use Rattle.std.specs.Prelude.{ℕ, List, map};
+
+    ghost Value = { List (List ℕ) };
+
+    ghost view = { λ s. map (λ v. v.items) s.texts.keys };
+}
+
+impl TextSet {
+    /// No texts. It keeps the allocator and takes no memory.
+    pub fn new(alloc: Global) -> TextSet
+        ensures { result ≡ [] }
+    {
+        TextSet {
+            texts: IndexSet::new(alloc),
+        }
+    }
+
+    /// Whether the text is in the set.
+    pub fn contains(&self, text: &[u8]) -> bool
+        ensures { result ≡ list_any (bytes_eq text.now) self.now }
+    {
+        self.texts.contains(text)
+    }
+
+    /// Puts the text in, if it isn't there.
+    pub fn insert(&mut self, text: Text) -> Result<(), NoMemory>
+        ensures done { OnOk result (self.new ≡ insert_key bytes_eq self.old text) }
+        ensures refused { OnErr result (self.new ≡ self.old) }
+    {
+        self.texts.insert(text.into_vec())?;
+        Ok(())
+    }
+}
