@@ -1,5 +1,5 @@
 // Large conf files and folders take time in proportion to their size.
-use crate::fixture::{put, tree_of};
+use conf_fixture::{put, tree_of};
 use ldso_conf::read_conf;
 use lib_types::Text;
 use std::test::Fail;
@@ -15,9 +15,9 @@ fn many_lines(rt: HostRuntime) -> Result<(), Fail> {
         content.extend_from_slice(line.as_bytes())?;
     }
     let path = b"/etc/ld.so.conf";
-    let mut tree = tree_of(&rt, alloc, &[], &[], &[])?;
+    let mut tree = tree_of(alloc, &[], &[], &[])?;
     let key = Text::copy_of(alloc, path)?;
-    put(&rt, &mut tree, path, Node::File { key, id: None })?;
+    put(&mut tree, path, Node::File { key, id: None })?;
     let mut pairs = Vec::new(alloc);
     pairs.push((Text::copy_of(alloc, path)?, Text::from_vec(content)))?;
     let conf = read_conf(alloc, &tree, &mut SureStore::new(pairs))?;
@@ -30,18 +30,13 @@ fn many_lines(rt: HostRuntime) -> Result<(), Fail> {
 fn many_files(rt: HostRuntime) -> Result<(), Fail> {
     let alloc = rt.alloc();
     let path = b"/etc/ld.so.conf";
-    let mut tree = tree_of(&rt, alloc, &[], &[], &[])?;
+    let mut tree = tree_of(alloc, &[], &[], &[])?;
     let key = Text::copy_of(alloc, path)?;
-    put(&rt, &mut tree, path, Node::File { key, id: None })?;
+    put(&mut tree, path, Node::File { key, id: None })?;
     for n in 0..5_000u32 {
         let path = format!(in alloc; "/etc/ld.so.conf.d/{n:010}.conf")?;
         let key = Text::copy_of(alloc, b"one")?;
-        put(
-            &rt,
-            &mut tree,
-            path.as_bytes(),
-            Node::File { key, id: None },
-        )?;
+        put(&mut tree, path.as_bytes(), Node::File { key, id: None })?;
     }
     let mut pairs = Vec::new(alloc);
     pairs.push((

@@ -1,5 +1,5 @@
 // What is read of conf files.
-use crate::fixture::{
+use conf_fixture::{
     Content, Link, are_reports, are_texts, conf_of, dirs_in, pairs_of, put, reports_in, tree_of,
 };
 use ldso_conf::{ConfFault, ConfKind, read_conf};
@@ -39,7 +39,7 @@ fn lines(rt: HostRuntime) -> Result<(), Fail> {
         ("include none.conf /etc/none/* */x\n", "", ""),
     ];
     for (content, dirs, reports) in rows {
-        let conf = conf_of(&rt, alloc, &[], &[("/etc/ld.so.conf", content.as_bytes())])?;
+        let conf = conf_of(alloc, &[], &[("/etc/ld.so.conf", content.as_bytes())])?;
         assert_eq!(rt;
             dirs_in(alloc, &conf)?.as_slice(),
             dirs.as_bytes(),
@@ -77,7 +77,7 @@ fn included_files(rt: HostRuntime) -> Result<(), Fail> {
         ("/etc/d/b.conf", b"/b\n"),
         ("/etc/d/[", b"/bracket\n"),
     ];
-    let conf = conf_of(&rt, alloc, &links, &files)?;
+    let conf = conf_of(alloc, &links, &files)?;
     let dirs = [
         "/first", "/two", "/one", "/last", "/a-b", "/a", "/c", "/bracket", "/hidden", "/b",
     ];
@@ -97,15 +97,14 @@ fn included_files(rt: HostRuntime) -> Result<(), Fail> {
 #[test]
 fn no_conf_file(rt: HostRuntime) -> Result<(), Fail> {
     let alloc = rt.alloc();
-    let none = conf_of(&rt, alloc, &[], &[])?;
+    let none = conf_of(alloc, &[], &[])?;
     assert!(rt; none.dirs.is_empty() && none.reports.is_empty() && none.files == 0);
-    let looped = conf_of(&rt, alloc, &[("/etc/ld.so.conf", "ld.so.conf")], &[])?;
+    let looped = conf_of(alloc, &[("/etc/ld.so.conf", "ld.so.conf")], &[])?;
     assert!(rt; looped.dirs.is_empty() && looped.reports.is_empty() && looped.files == 0);
-    let folder = conf_of(&rt, alloc, &[], &[("/etc/ld.so.conf/x", b"/a\n")])?;
+    let folder = conf_of(alloc, &[], &[("/etc/ld.so.conf/x", b"/a\n")])?;
     assert!(rt; folder.dirs.is_empty() && folder.files == 0);
     assert!(rt; are_reports(&folder.reports, &[("/etc/ld.so.conf", ConfKind::NotFile)]));
     let linked = conf_of(
-        &rt,
         alloc,
         &[("/etc/ld.so.conf", "../x")],
         &[("/x", b"include y\n/a\n"), ("/etc/y", b"/y\n")],
@@ -117,7 +116,7 @@ fn no_conf_file(rt: HostRuntime) -> Result<(), Fail> {
 #[test]
 fn depth_16_is_read_and_17_is_not(rt: HostRuntime) -> Result<(), Fail> {
     let alloc = rt.alloc();
-    let mut tree = tree_of(&rt, alloc, &[], &[], &[])?;
+    let mut tree = tree_of(alloc, &[], &[], &[])?;
     let mut pairs = Vec::new(alloc);
     for n in 0..18u32 {
         let next = n + 1;
@@ -128,12 +127,7 @@ fn depth_16_is_read_and_17_is_not(rt: HostRuntime) -> Result<(), Fail> {
         };
         let content = format!(in alloc; "include c{next}.conf\n/d{n}\n")?;
         let key = Text::copy_of(alloc, path.as_bytes())?;
-        put(
-            &rt,
-            &mut tree,
-            path.as_bytes(),
-            Node::File { key, id: None },
-        )?;
+        put(&mut tree, path.as_bytes(), Node::File { key, id: None })?;
         let key = Text::copy_of(alloc, path.as_bytes())?;
         pairs.push((key, Text::copy_of(alloc, content.as_bytes())?))?;
     }
@@ -154,12 +148,11 @@ fn the_largest_file(rt: HostRuntime) -> Result<(), Fail> {
     let mut content = vec![in alloc; b'#'; 1 << 20]?;
     content[0] = b'/';
     content[1] = b'a';
-    let whole = conf_of(&rt, alloc, &[], &[("/etc/ld.so.conf", &content)])?;
+    let whole = conf_of(alloc, &[], &[("/etc/ld.so.conf", &content)])?;
     assert!(rt; are_texts(&whole.dirs, &["/a"]));
     assert!(rt; whole.reports.is_empty() && whole.files == 1);
     content.push(b'#')?;
     let large = conf_of(
-        &rt,
         alloc,
         &[],
         &[("/etc/ld.so.conf", b"include x x\n"), ("/etc/x", &content)],
@@ -180,10 +173,10 @@ fn the_longest_directory(rt: HostRuntime) -> Result<(), Fail> {
     let mut content = vec![in alloc; b'a'; 4095]?;
     content[0] = b'/';
     content.extend_from_slice(b"//")?;
-    let conf = conf_of(&rt, alloc, &[], &[("/etc/ld.so.conf", &content)])?;
+    let conf = conf_of(alloc, &[], &[("/etc/ld.so.conf", &content)])?;
     assert_eq!(rt; conf.dirs.len(), 1);
     content[4095] = b'a';
-    let long = conf_of(&rt, alloc, &[], &[("/etc/ld.so.conf", &content)])?;
+    let long = conf_of(alloc, &[], &[("/etc/ld.so.conf", &content)])?;
     assert_eq!(rt; long.dirs.len(), 0);
     assert_eq!(rt; long.reports.len(), 1);
     assert!(rt;
@@ -198,7 +191,7 @@ fn the_longest_directory(rt: HostRuntime) -> Result<(), Fail> {
 fn faults_of_the_store(rt: HostRuntime) -> Result<(), Fail> {
     let alloc = rt.alloc();
     let files: [Content<'_>; 2] = [("/etc/ld.so.conf", b"include x\n"), ("/etc/x", b"/x\n")];
-    let tree = tree_of(&rt, alloc, &[], &[], &files)?;
+    let tree = tree_of(alloc, &[], &[], &files)?;
     for call in 0..4u64 {
         let mut fail = Vec::new(alloc);
         fail.push(call)?;

@@ -1,60 +1,72 @@
 -- The dynamic section of a file in known content.
-use Rattle.std.proofs.Common.{◌≡◌, ℕ, ◌+◌, ◌*◌, ◌≤◌, Bool, true, false, nat_lt, List, length, Option, Some, None, Result, Ok, Err, refl, ap, sym, subst, ◌∙◌, arith}
-use Rattle.lib_types.specs.Counts.{raised}
+use Rattle.std.proofs.Common.{◌≡◌, ℕ, ◌+◌, ◌*◌, ◌≤◌, Bool, true, false, nat_lt, List, length, Option, Some, None, Result, Ok, Err, refl, ap, sym, ◌∙◌, arith}
 use Rattle.lib_types.specs.declared.analysis.Defect.{Defect}
 use Rattle.lib_types.specs.declared.analysis.Defect.TheVariants.{DynOutside}
-use Rattle.tree_face.specs.Known.{IfKnown}
+use Rattle.tree_face.specs.Store.{StoreState}
+use Rattle.elf_headers.specs.declared.kinds.Head.{Head}
+use Rattle.elf_headers.specs.Layout.{word_size}
+use Rattle.elf_headers.specs.Reading.{known_content, OfKnown, OnlyReads, TakesAtMost, IsHeadOf}
 use Rattle.elf_headers.specs.declared.kinds.Segment.{Segment}
 use Rattle.elf_dynamic.specs.declared.fault.ObjectFault.{ObjectFault}
 use Rattle.elf_dynamic.specs.declared.fault.ObjectFault.TheVariants as faults
 use Rattle.elf_dynamic.specs.declared.kinds.Dynamic.{Dynamic}
 use Rattle.elf_dynamic.specs.Faults.{IfBad}
-use Rattle.elf_dynamic.specs.Section.{dynamic_segment, is_outside, dynamic_entries, counting_entries}
+use Rattle.elf_dynamic.specs.Section.{dynamic_segment, is_outside}
 use Rattle.elf_dynamic.specs.Object.{section_reading, readable_section}
 use Rattle.elf_dynamic.specs.Sections.{section_in, sections_in, counting_in}
-use Rattle.elf_dynamic.proofs.Known.{with, both, three}
+use Rattle.elf_dynamic.proofs.Known.{with, three, before, sized}
 use Rattle.elf_dynamic.proofs.Gathered.{raised_more, raised_less}
-use Rattle.elf_dynamic.proofs.Sections.{without, outside_file, in_file}
+use Rattle.elf_dynamic.proofs.Sections.{some_of, without, outside_file, in_file}
 
-pub file_without : (known : Option (List ℕ)) (w : ℕ) (o : Option Segment) → o ≡ None → IfKnown known (λ bytes. o ≡ dynamic_segment w bytes) → IfKnown known (λ bytes. sections_in w bytes ≡ Ok None)
-file_without known w o none found =
-    with {P = λ bytes. o ≡ dynamic_segment w bytes} {Q = λ bytes. sections_in w bytes ≡ Ok None} known found (λ bytes found. without w bytes (sym found ∙ none))
+module _ (s : StoreState) (h : Head) (o : Option Segment) (found : OfKnown s (λ bytes. o ≡ dynamic_segment (word_size h.wide) bytes)) where
+  pub file_without : o ≡ None → OfKnown s (λ bytes. sections_in (word_size h.wide) bytes ≡ Ok None)
+  file_without none =
+      let w = word_size h.wide in
+      with {P = λ bytes. o ≡ dynamic_segment w bytes} {Q = λ bytes. sections_in w bytes ≡ Ok None} (known_content s) found (λ bytes found. without w bytes (sym found ∙ none))
 
-module _ (known : Option (List ℕ)) (w size : ℕ) (o : Option Segment) (s : Segment) (is : o ≡ Some s) (found : IfKnown known (λ bytes. o ≡ dynamic_segment w bytes)) (sized : IfKnown known (λ bytes. length bytes ≡ size)) where
-  pub file_outside : nat_lt size (s.offset + s.filesz) ≡ true → IfKnown known (λ bytes. sections_in w bytes ≡ Err DynOutside)
-  file_outside h =
-      both {P = λ bytes. o ≡ dynamic_segment w bytes} {Q = λ bytes. length bytes ≡ size} {R = λ bytes. sections_in w bytes ≡ Err DynOutside} known found sized
-      (λ bytes found sized. outside_file w bytes s (sym found ∙ is) (ap (λ n. nat_lt n (s.offset + s.filesz)) sized ∙ h))
+module _ (s : StoreState) (h : Head) (o : Option Segment) (found : OfKnown s (λ bytes. o ≡ dynamic_segment (word_size h.wide) bytes)) (is_head : IsHeadOf s h) (d : Segment) (is : o ≡ Some d) where
+  -- what follows of the section's segment, if it ends in the file or past it as this says
+  here : (outside : Bool) (P Q : List ℕ → Type 0) → nat_lt h.length (d.offset + d.filesz) ≡ outside → OfKnown s P →
+      ((bytes : List ℕ) → dynamic_segment (word_size h.wide) bytes ≡ Some d → is_outside bytes d ≡ outside → P bytes → Q bytes) → OfKnown s Q
+  here outside P Q e read f =
+      three {P = λ bytes. o ≡ dynamic_segment (word_size h.wide) bytes} {Q = λ bytes. length bytes ≡ h.length} {R = P} {X = Q} (known_content s) found (sized s h is_head) read
+      (λ bytes found sized read. f bytes (sym found ∙ is) (ap (λ n. nat_lt n (d.offset + d.filesz)) sized ∙ e) read)
 
-  pub file_section : (d : Dynamic) → nat_lt size (s.offset + s.filesz) ≡ false → IfKnown known (λ bytes. section_in w bytes s ≡ Ok d) → IfKnown known (λ bytes. sections_in w bytes ≡ Ok (Some d))
-  file_section d h read =
-      three {P = λ bytes. o ≡ dynamic_segment w bytes} {Q = λ bytes. length bytes ≡ size} {R = λ bytes. section_in w bytes s ≡ Ok d} {X = λ bytes. sections_in w bytes ≡ Ok (Some d)} known found sized read
-      (λ bytes found sized read. in_file w bytes s (Ok d) (sym found ∙ is) (ap (λ n. nat_lt n (s.offset + s.filesz)) sized ∙ h) read)
+  pub file_outside : nat_lt h.length (d.offset + d.filesz) ≡ true → OfKnown s (λ bytes. sections_in (word_size h.wide) bytes ≡ Err DynOutside)
+  file_outside e =
+      let w = word_size h.wide in
+      here true (λ bytes. o ≡ dynamic_segment w bytes) (λ bytes. sections_in w bytes ≡ Err DynOutside) e found (λ bytes there outside _. outside_file w bytes d there outside)
 
-  pub file_bad : (x : Defect) → nat_lt size (s.offset + s.filesz) ≡ false → IfKnown known (λ bytes. section_in w bytes s ≡ Err x) → IfKnown known (λ bytes. sections_in w bytes ≡ Err x)
-  file_bad x h read =
-      three {P = λ bytes. o ≡ dynamic_segment w bytes} {Q = λ bytes. length bytes ≡ size} {R = λ bytes. section_in w bytes s ≡ Err x} {X = λ bytes. sections_in w bytes ≡ Err x} known found sized read
-      (λ bytes found sized read. in_file w bytes s (Err x) (sym found ∙ is) (ap (λ n. nat_lt n (s.offset + s.filesz)) sized ∙ h) read)
+  module _ (t : StoreState) (reads : OnlyReads s t) (e : nat_lt h.length (d.offset + d.filesz) ≡ false) where
+    file_is : (r : Result Dynamic Defect) → OfKnown t (λ bytes. section_in (word_size h.wide) bytes d ≡ r) → OfKnown s (λ bytes. sections_in (word_size h.wide) bytes ≡ some_of r)
+    file_is r read =
+        let w = word_size h.wide in
+        here false (λ bytes. section_in w bytes d ≡ r) (λ bytes. sections_in w bytes ≡ some_of r) e (before (λ bytes. section_in w bytes d ≡ r) s t reads read) (λ bytes there inside read. in_file w bytes d r there inside read)
 
-  pub file_fault : (mid : Option (List ℕ)) (fault : ObjectFault) → mid ≡ known → nat_lt size (s.offset + s.filesz) ≡ false →
-      IfBad {X = Dynamic} (Err fault) (λ d. IfKnown mid (λ bytes. section_in w bytes s ≡ Err d)) → IfBad {X = Option Dynamic} (Err fault) (λ d. IfKnown known (λ bytes. sections_in w bytes ≡ Err d))
-  file_fault mid (faults.Bad d) same h bad = file_bad d h (subst (λ o. IfKnown o (λ bytes. section_in w bytes s ≡ Err d)) same bad)
-  file_fault mid faults.StoreFault same h bad = tt
-  file_fault mid faults.NoMemory same h bad = tt
+    pub file_section : (new : Dynamic) → OfKnown t (λ bytes. section_in (word_size h.wide) bytes d ≡ Ok new) → OfKnown s (λ bytes. sections_in (word_size h.wide) bytes ≡ Ok (Some new))
+    file_section new read = file_is (Ok new) read
 
-  reading : (bytes : List ℕ) → dynamic_segment w bytes ≡ Some s → is_outside bytes s ≡ false → section_reading w bytes (readable_section w bytes) ≡ 8 * s.filesz + 131072 * counting_in w bytes s
-  unfolding counting_in
-  reading bytes there h = rw (there, h) refl
+    pub file_fault : (fault : ObjectFault) → IfBad {X = Dynamic} (Err fault) (λ x. OfKnown t (λ bytes. section_in (word_size h.wide) bytes d ≡ Err x)) →
+        IfBad {X = Option Dynamic} (Err fault) (λ x. OfKnown s (λ bytes. sections_in (word_size h.wide) bytes ≡ Err x))
+    file_fault (faults.Bad x) bad = file_is (Err x) bad
+    file_fault faults.StoreFault bad = tt
+    file_fault faults.NoMemory bad = tt
 
-  pub file_taken : (a b c p : ℕ) → nat_lt size (s.offset + s.filesz) ≡ false → b ≤ raised a (56 * p) → IfKnown known (λ bytes. c ≤ raised b (56 * p + 4 * s.filesz + 65536 * counting_in w bytes s)) →
-      IfKnown known (λ bytes. c ≤ raised a (448 * p + section_reading w bytes (readable_section w bytes)))
-  file_taken a b c p h first taken =
-      three {P = λ bytes. o ≡ dynamic_segment w bytes} {Q = λ bytes. length bytes ≡ size} {R = λ bytes. c ≤ raised b (56 * p + 4 * s.filesz + 65536 * counting_in w bytes s)}
-      {X = λ bytes. c ≤ raised a (448 * p + section_reading w bytes (readable_section w bytes))} known found sized taken
-      (λ bytes found sized taken.
-      let all = reading bytes (sym found ∙ is) (ap (λ n. nat_lt n (s.offset + s.filesz)) sized ∙ h) in
-      raised_less a c (56 * p + (56 * p + 4 * s.filesz + 65536 * counting_in w bytes s)) (448 * p + section_reading w bytes (readable_section w bytes))
-      (raised_more a b c (56 * p) (56 * p + 4 * s.filesz + 65536 * counting_in w bytes s) first taken) (rw all (below p s.filesz (counting_in w bytes s))))
-    where
-      below : (p f m : ℕ) → 56 * p + (56 * p + 4 * f + 65536 * m) ≤ 448 * p + (8 * f + 131072 * m)
-      below p f m = omega arith
+    reading : (w : ℕ) (bytes : List ℕ) → dynamic_segment w bytes ≡ Some d → is_outside bytes d ≡ false → section_reading w bytes (readable_section w bytes) ≡ 8 * d.filesz + 131072 * counting_in w bytes d
+    unfolding counting_in
+    reading w bytes there h = rw (there, h) refl
+
+    below : (p f m : ℕ) → 112 * p + (112 * p + 4 * f + 65536 * m) ≤ 448 * p + (8 * f + 131072 * m)
+    below p f m = omega arith
+
+    pub file_taken : (u : StoreState) → TakesAtMost (112 * h.phnum) s t → OfKnown t (λ bytes. TakesAtMost (112 * h.phnum + 4 * d.filesz + 65536 * counting_in (word_size h.wide) bytes d) t u) →
+        OfKnown s (λ bytes. TakesAtMost (448 * h.phnum + section_reading (word_size h.wide) bytes (readable_section (word_size h.wide) bytes)) s u)
+    file_taken u first taken =
+        let w = word_size h.wide in
+        let P = λ (bytes : List ℕ). TakesAtMost (112 * h.phnum + 4 * d.filesz + 65536 * counting_in w bytes d) t u in
+        let Q = λ (bytes : List ℕ). TakesAtMost (448 * h.phnum + section_reading w bytes (readable_section w bytes)) s u in
+        here false P Q e (before P s t reads taken)
+        (λ bytes there inside taken.
+        let all = reading w bytes there inside in
+        raised_less s.taken u.taken (112 * h.phnum + (112 * h.phnum + 4 * d.filesz + 65536 * counting_in w bytes d)) (448 * h.phnum + section_reading w bytes (readable_section w bytes))
+        (raised_more s.taken t.taken u.taken (112 * h.phnum) (112 * h.phnum + 4 * d.filesz + 65536 * counting_in w bytes d) first taken) (rw all (below h.phnum d.filesz (counting_in w bytes d))))

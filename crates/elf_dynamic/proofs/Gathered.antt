@@ -1,5 +1,5 @@
 -- The texts that are gathered one entry after another are those of the section.
-use Rattle.std.proofs.Common.{◌≡◌, ℕ, suc, ◌+◌, ◌-◌, ◌*◌, ◌≤◌, Bool, true, false, cond, not, ◌==◌, ◌&&◌, ◌||◌, List, [], ◌∷◌, ◌++◌, length, map, filter, find, Option, Some, None, is_some, is_none, option_map, Result, Ok, Err, refl, ap, sym, subst, ◌∙◌, arith, append_assoc, append-nil}
+use Rattle.std.proofs.Common.{◌≡◌, ℕ, suc, ◌+◌, ◌-◌, ◌*◌, ◌≤◌, Bool, true, false, cond, not, ◌==◌, List, [], ◌∷◌, ◌++◌, length, map, filter, find, Option, Some, None, is_some, Result, Ok, Err, refl, ap, sym, subst, ◌∙◌, arith, append_assoc, append-nil}
 use Rattle.std.proofs.lemmas.Bool.{eqb-true}
 use Rattle.std.specs.List.{list_any}
 use Rattle.lib_types.specs.declared.analysis.Defect.{Defect}
@@ -9,13 +9,12 @@ use Rattle.tree_face.specs.Known.{IfKnown}
 use Rattle.tree_face.specs.Store.{StoreState}
 use Rattle.elf_dynamic.specs.declared.kinds.DynamicEntry.{DynamicEntry}
 use Rattle.elf_dynamic.specs.declared.kinds.Dynamic.{Dynamic}
-use Rattle.elf_dynamic.specs.Section.{needed, soname, rpath, runpath, has_tag, value_of, has_text, counts_after, counting_after, counting_entries, has_text_at, text_at}
+use Rattle.elf_dynamic.specs.Section.{has_tag, value_of, counts_after, counting_after, counting_entries, has_text_at, text_at}
 use Rattle.elf_dynamic.specs.declared.fault.ObjectFault.{ObjectFault}
 use Rattle.elf_dynamic.specs.declared.fault.ObjectFault.TheVariants as faults
 use Rattle.elf_dynamic.specs.Faults.{IfBad}
 use Rattle.elf_dynamic.specs.Object.{text_in, text_of}
 use Rattle.elf_dynamic.specs.Texts.{counts, with_text, no_texts, add_one, gathered, counted}
-use Rattle.elf_dynamic.proofs.Known.{with, both}
 
 -- ---- one entry more
 

@@ -1,10 +1,10 @@
 -- What entries say, one after another.
-use Rattle.std.proofs.Common.{◌≡◌, ℕ, Bool, true, false, cond, ◌||◌, List, [], ◌∷◌, find, Option, Some, None, option_map, refl, ap, sym, ◌∙◌, arith}
+use Rattle.std.proofs.Common.{◌≡◌, ℕ, Bool, true, false, cond, ◌||◌, List, [], ◌∷◌, find, Option, Some, None, option_map, refl, ap, sym, ◌∙◌}
 use Rattle.std.specs.List.{list_any}
 use Rattle.tree_face.specs.Known.{IfKnown}
 use Rattle.elf_dynamic.specs.declared.kinds.DynamicEntry.{DynamicEntry}
 use Rattle.elf_dynamic.specs.declared.values.Values.{Values}
-use Rattle.elf_dynamic.specs.Section.{strtab, strsz, flags_1, has_tag, value_of, has_text}
+use Rattle.elf_dynamic.specs.Section.{strtab, strsz, flags_1, has_tag, has_text}
 use Rattle.elf_dynamic.specs.Values.{first_of, joined, values_of}
 use Rattle.elf_dynamic.proofs.Known.{with, both}
 

@@ -1,6 +1,7 @@
 pub mod Known
 pub mod Found
 pub mod Live
+pub mod Windows
 pub mod Joined
 pub mod Nuls
 pub mod Gathered

@@ -1,21 +1,20 @@
 -- The entries that are left to a reader, one entry on.
-use Rattle.std.proofs.Common.{◌≡◌, ℕ, zero, suc, ◌+◌, ◌-◌, ◌*◌, ◌/◌, ◌<◌, ◌≤◌, Bool, true, false, not, ◌==◌, List, [], ◌∷◌, length, map, take, drop, Option, Some, None, MatchOption, refl, ap, sym, subst, ◌∙◌, arith}
+use Rattle.std.proofs.Common.{◌≡◌, ℕ, zero, suc, ◌+◌, ◌-◌, ◌*◌, ◌/◌, ◌<◌, ◌≤◌, Bool, true, false, not, ◌==◌, List, [], ◌∷◌, map, take, drop, Option, Some, None, MatchOption, refl, ap, sym, subst, ◌∙◌, arith}
 use Rattle.std.proofs.lemmas.List.{drop-take, drop-drop}
 use Rattle.std.specs.List.{range_with_len, take_while, prefix_len}
-use Rattle.byteorder.specs.Numbers.{little_from-take}
-use Rattle.lib_types.specs.Bytes.{field}
 use Rattle.elf_headers.specs.declared.kinds.Segment.{Segment}
 use Rattle.elf_headers.specs.Layout.{word_size}
 use Rattle.elf_headers.proofs.Fields.{field_window}
 use Rattle.elf_dynamic.specs.declared.kinds.DynamicEntry.{DynamicEntry}
-use Rattle.elf_dynamic.specs.Section.{entry_at, whole_entries, dynamic_entries}
+use Rattle.elf_dynamic.specs.Section.{entry_at, dynamic_entries}
 use Rattle.tree_face.specs.Known.{IfKnown}
 use Rattle.tree_face.specs.Store.{StoreState}
+use Rattle.elf_headers.specs.Reading.{known_content, OfKnown, OnlyReads}
 use Rattle.elf_headers.specs.declared.kinds.Head.{Head}
-use Rattle.elf_headers.specs.Reading.{known_content, OnlyReads}
 use Rattle.elf_dynamic.specs.declared.entries.Entries.{Entries}
-use Rattle.elf_dynamic.specs.Entries.{entries_in, live_entries, rest_of, IsOpen, unread}
-use Rattle.elf_dynamic.proofs.Known.{with, after}
+use Rattle.elf_dynamic.specs.declared.window.Window.{Window}
+use Rattle.elf_dynamic.specs.Entries.{entries_in, live_entries, rest_of, IsIn, unread_in}
+use Rattle.elf_dynamic.proofs.Known.{before, with}
 
 -- ---- how many entries are left
 
@@ -70,15 +69,8 @@ live_all w bytes s =
 
 -- ---- the entry in a window
 
-pub entry_window : (w ready at : ℕ) (front bytes : List ℕ) → 2 * w ≤ ready → take ready front ≡ take ready (drop at bytes) → entry_at w front 0 ≡ entry_at w bytes at
-entry_window w ready at front bytes h e =
-    let tag_here = little_from-take 0 w ready front (omega arith) in
-    let value_here = little_from-take (0 + w) w ready front (omega arith) in
-    let tag_there = field_window ready at 0 at w bytes (omega arith) (omega arith) in
-    let value_there = field_window ready at (0 + w) (at + w) w bytes (omega arith) (omega arith) in
-    let tag : field front 0 w ≡ field bytes at w = sym tag_here ∙ ap (λ xs. field xs 0 w) e ∙ tag_there in
-    let value : field front (0 + w) w ≡ field bytes (at + w) w = sym value_here ∙ ap (λ xs. field xs (0 + w) w) e ∙ value_there in
-    rw (tag, value) refl
+entry_window : (w n at : ℕ) (bytes : List ℕ) → 2 * w ≤ n → entry_at w (take n (drop at bytes)) 0 ≡ entry_at w bytes at
+entry_window w n at bytes h = rw (field_window n at 0 at w bytes (omega arith) (omega arith), field_window n at (0 + w) (at + w) w bytes (omega arith) (omega arith)) refl
 
 -- ---- the reader's next entry, in known content
 
@@ -89,40 +81,36 @@ always (Some bytes) f = f bytes
 pub ended : (known : Option (List ℕ)) (c : Entries) → c.left < 2 * word_size c.wide → IfKnown known (λ bytes. rest_of c bytes ≡ [])
 ended known c h = always {P = λ bytes. rest_of c bytes ≡ []} known (λ bytes. live_short c.wide bytes (c.end - c.left) c.left h)
 
-abbrev Moved : Entries → Entries → Type 0
-Moved c m = m ≡ record c { from = m.from; ready = m.ready }
+-- so many of the next bytes
+abbrev Next : Entries → ℕ → List ℕ → List ℕ → Type 0
+Next c n front bytes = front ≡ take n (drop (c.end - c.left) bytes)
 
-abbrev Window : Entries → List ℕ → List ℕ → Type 0
-Window c buf bytes = take c.ready (drop c.from buf) ≡ take c.ready (drop (c.end - c.left) bytes)
-
--- the entry that was taken of the window is the next of the section
-here : (c m : Entries) (buf bytes : List ℕ) (e : DynamicEntry) → Moved c m → 2 * word_size c.wide ≤ m.ready → e ≡ entry_at (word_size m.wide) (drop m.from buf) 0 → Window m buf bytes →
+-- the entry that was taken of them is the next of the section
+here : (c : Entries) (n : ℕ) (front bytes : List ℕ) (e : DynamicEntry) → 2 * word_size c.wide ≤ n → e ≡ entry_at (word_size c.wide) front 0 → Next c n front bytes →
     e ≡ entry_at (word_size c.wide) bytes (c.end - c.left)
-here c m buf bytes e moved enough taken window =
-    let wide : m.wide ≡ c.wide = ap (λ x. x.wide) moved in
-    let end_is : m.end ≡ c.end = ap (λ x. x.end) moved in
-    let left_is : m.left ≡ c.left = ap (λ x. x.left) moved in
-    let at : m.end - m.left ≡ c.end - c.left = omega arith in
-    taken ∙ ap (λ b. entry_at (word_size b) (drop m.from buf) 0) wide ∙ entry_window (word_size c.wide) m.ready (m.end - m.left) (drop m.from buf) bytes enough window ∙ ap (entry_at (word_size c.wide) bytes) at
+here c n front bytes e enough taken next =
+    taken ∙ ap (λ xs. entry_at (word_size c.wide) xs 0) next ∙ entry_window (word_size c.wide) n (c.end - c.left) bytes enough
 
-pub ended_at : (known : Option (List ℕ)) (c m : Entries) (buf : List ℕ) (e : DynamicEntry) → Moved c m → 2 * word_size c.wide ≤ c.left → 2 * word_size c.wide ≤ m.ready →
-    e ≡ entry_at (word_size m.wide) (drop m.from buf) 0 → e.tag ≡ 0 → IfKnown known (Window m buf) → IfKnown known (λ bytes. rest_of c bytes ≡ [])
-ended_at known c m buf e moved long enough taken nul window =
-    with {P = Window m buf} {Q = λ bytes. rest_of c bytes ≡ []} known window
-    (λ bytes w. live_end c.wide bytes (c.end - c.left) c.left long (ap (λ e. e.tag) (sym (here c m buf bytes e moved enough taken w)) ∙ nul))
+pub ended_at : (known : Option (List ℕ)) (c : Entries) (n : ℕ) (front : List ℕ) (e : DynamicEntry) → 2 * word_size c.wide ≤ c.left → 2 * word_size c.wide ≤ n →
+    e ≡ entry_at (word_size c.wide) front 0 → e.tag ≡ 0 → IfKnown known (Next c n front) → IfKnown known (λ bytes. rest_of c bytes ≡ [])
+ended_at known c n front e long enough taken nul next =
+    with {P = Next c n front} {Q = λ bytes. rest_of c bytes ≡ []} known next
+    (λ bytes next. live_end c.wide bytes (c.end - c.left) c.left long (ap (λ e. e.tag) (sym (here c n front bytes e enough taken next)) ∙ nul))
 
-pub next_at : (known : Option (List ℕ)) (c m n : Entries) (buf : List ℕ) (e : DynamicEntry) → Moved c m → 2 * word_size c.wide ≤ c.left → c.left ≤ c.end → 2 * word_size c.wide ≤ m.ready →
-    e ≡ entry_at (word_size m.wide) (drop m.from buf) 0 → (e.tag == 0) ≡ false → n.wide ≡ c.wide → n.end ≡ c.end → n.left ≡ c.left - 2 * word_size c.wide →
-    IfKnown known (Window m buf) → IfKnown known (λ bytes. rest_of c bytes ≡ e ∷ rest_of n bytes)
-next_at known c m n buf e moved long within enough taken live wide end_is left_is window =
-    with {P = Window m buf} {Q = λ bytes. rest_of c bytes ≡ e ∷ rest_of n bytes} known window
-    (λ bytes w.
-    let at = here c m buf bytes e moved enough taken w in
+pub next_at : (known : Option (List ℕ)) (c new : Entries) (n : ℕ) (front : List ℕ) (e : DynamicEntry) → 2 * word_size c.wide ≤ c.left → c.left ≤ c.end → 2 * word_size c.wide ≤ n →
+    e ≡ entry_at (word_size c.wide) front 0 → (e.tag == 0) ≡ false → new ≡ record c { left = c.left - 2 * word_size c.wide } →
+    IfKnown known (Next c n front) → IfKnown known (λ bytes. rest_of c bytes ≡ e ∷ rest_of new bytes)
+next_at known c new n front e long within enough taken live is next =
+    with {P = Next c n front} {Q = λ bytes. rest_of c bytes ≡ e ∷ rest_of new bytes} known next
+    (λ bytes next.
+    let at = here c n front bytes e enough taken next in
     let alive = ap (λ e. not (e.tag == 0)) (sym at) ∙ ap not live in
-    let on : c.end - c.left + 2 * word_size c.wide ≡ n.end - n.left = omega arith in
+    let each = 2 * word_size c.wide in
+    let on : c.end - c.left + each ≡ c.end - (c.left - each) = omega arith in
     live_next c.wide bytes (c.end - c.left) c.left long alive
-    ∙ ap (λ x. x ∷ live_entries (word_size c.wide) bytes (c.end - c.left + 2 * word_size c.wide) (c.left - 2 * word_size c.wide)) (sym at)
-    ∙ ap (λ xs. e ∷ xs) (ap (λ k. live_entries (word_size c.wide) bytes k (c.left - 2 * word_size c.wide)) on ∙ rw (wide, left_is) refl))
+    ∙ ap (λ x. x ∷ live_entries (word_size c.wide) bytes (c.end - c.left + each) (c.left - each)) (sym at)
+    ∙ ap (λ k. e ∷ live_entries (word_size c.wide) bytes k (c.left - each)) on
+    ∙ ap (λ x. e ∷ rest_of x bytes) (sym is))
 
 -- ---- the rest of the window
 
@@ -131,35 +119,22 @@ part_on n r f xs h =
     let e : r ≡ n + (r - n) = omega arith in
     ap (λ k. drop n (take k (drop f xs))) e ∙ drop-take n (r - n) (drop f xs) ∙ ap (take (r - n)) (drop-drop n f xs ∙ ap (λ k. drop k xs) (omega arith))
 
-window_on : (n r f at : ℕ) (buf bytes : List ℕ) → n ≤ r → take r (drop f buf) ≡ take r (drop at bytes) → take (r - n) (drop (f + n) buf) ≡ take (r - n) (drop (at + n) bytes)
+pub window_on : (n r f at : ℕ) (buf bytes : List ℕ) → n ≤ r → take r (drop f buf) ≡ take r (drop at bytes) → take (r - n) (drop (f + n) buf) ≡ take (r - n) (drop (at + n) bytes)
 window_on n r f at buf bytes h e = sym (part_on n r f buf h) ∙ ap (drop n) e ∙ part_on n r at bytes h
-
-pub window_next : (known : Option (List ℕ)) (m n : Entries) (each : ℕ) (buf : List ℕ) → each ≤ m.ready → m.ready ≤ m.left → m.left ≤ m.end → n.from ≡ m.from + each → n.ready ≡ m.ready - each → n.end ≡ m.end → n.left ≡ m.left - each →
-    IfKnown known (Window m buf) → IfKnown known (Window n buf)
-window_next known m n each buf enough ready within from_is ready_is end_is left_is window =
-    with {P = Window m buf} {Q = Window n buf} known window
-    (λ bytes w.
-    let at : n.end - n.left ≡ m.end - m.left + each = omega arith in
-    rw (from_is, ready_is, at) (window_on each m.ready m.from (m.end - m.left) buf bytes enough w))
 
 -- ---- a new reader
 
 abbrev Begun : Head → Segment → Entries → Type 0
-Begun h d c = c ≡ record { wide = h.wide; end = d.offset + d.filesz; left = d.filesz; from = 0; ready = 0 }
+Begun h d c = c ≡ record { wide = h.wide; end = d.offset + d.filesz; left = d.filesz }
 
-pub opened : (s : StoreState) (h : Head) (d : Segment) (c : Entries) (buf : List ℕ) → Begun h d c → d.offset + d.filesz ≤ h.length → IsOpen s h c buf
-opened s h d c buf new inside =
+pub opened : (h : Head) (d : Segment) (c : Entries) → Begun h d c → d.offset + d.filesz ≤ h.length → IsIn h c
+opened h d c new inside =
     let end_is : c.end ≡ d.offset + d.filesz = ap (λ x. x.end) new in
     let left_is : c.left ≡ d.filesz = ap (λ x. x.left) new in
-    let from_is : c.from ≡ 0 = ap (λ x. x.from) new in
-    let ready_is : c.ready ≡ 0 = ap (λ x. x.ready) new in
     record {
       wide = ap (λ x. x.wide) new;
       within = omega arith;
       in_file = omega arith;
-      ready = omega arith;
-      inside = omega arith;
-      window = always {P = Window c buf} (known_content s) (λ bytes. rw ready_is refl);
     }
 
 pub begun : (known : Option (List ℕ)) (h : Head) (d : Segment) (c : Entries) → Begun h d c → IfKnown known (λ bytes. rest_of c bytes ≡ dynamic_entries (word_size h.wide) bytes d)
@@ -174,10 +149,10 @@ begun known h d c new =
     ∙ ap (live_entries (word_size h.wide) bytes d.offset) left_is
     ∙ sym (live_all (word_size h.wide) bytes d))
 
-pub begun_unread : (h : Head) (d : Segment) (c : Entries) → Begun h d c → unread c ≡ 2 * d.filesz
-begun_unread h d c new =
+pub begun_unread : (h : Head) (d : Segment) (c : Entries) (w : Window) → Begun h d c → unread_in w c ≤ 2 * d.filesz
+begun_unread h d c w new =
+    let end_is : c.end ≡ d.offset + d.filesz = ap (λ x. x.end) new in
     let left_is : c.left ≡ d.filesz = ap (λ x. x.left) new in
-    let ready_is : c.ready ≡ 0 = ap (λ x. x.ready) new in
     omega arith
 
 -- ---- what the reader returned
@@ -191,13 +166,6 @@ next_is known old new e o is h = subst (λ o. IfKnown known (IsNext old new o)) 
 pub none_is : (known : Option (List ℕ)) (old new : List ℕ → List DynamicEntry) (o : Option DynamicEntry) → o ≡ None → IfKnown known (IsNext old new o) → IfKnown known (λ bytes. old bytes ≡ [])
 none_is known old new o is h = subst (λ o. IfKnown known (IsNext old new o)) is h
 
--- other reading leaves the reader as it is
-pub opened_after : (s t : StoreState) (h : Head) (c : Entries) (buf : List ℕ) → OnlyReads s t → IsOpen s h c buf → IsOpen t h c buf
-opened_after s t h c buf r o = record {
-  wide = o.wide;
-  within = o.within;
-  in_file = o.in_file;
-  ready = o.ready;
-  inside = o.inside;
-  window = after (Window c buf) s t r o.window;
-}
+-- the same in the content before
+pub next_before : (s t : StoreState) (c new : Entries) (e : DynamicEntry) (o : Option DynamicEntry) → OnlyReads s t → o ≡ Some e → OfKnown t (IsNext (rest_of c) (rest_of new) o) → OfKnown s (λ bytes. rest_of c bytes ≡ e ∷ rest_of new bytes)
+next_before s t c new e o reads is h = before (λ bytes. rest_of c bytes ≡ e ∷ rest_of new bytes) s t reads (next_is (known_content t) (rest_of c) (rest_of new) e o is h)

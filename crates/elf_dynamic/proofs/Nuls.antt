@@ -1,8 +1,8 @@
 -- The bytes before the first NUL, piece by piece.
-use Rattle.std.proofs.Common.{◌≡◌, Result, Ok, Err, IfOk, ◌⊎◌, inl, inr, ◌&&◌, length-take, length-drop, ℕ, zero, suc, ◌+◌, ◌-◌, ◌<◌, ◌≤◌, min, Bool, true, false, cond, not, nat_lt, ◌||◌, List, [], ◌∷◌, ◌++◌, length, take, drop, Option, Some, None, is_some, option_map, refl, ap, sym, ◌∙◌, arith, append_assoc}
+use Rattle.std.proofs.Common.{◌≡◌, Result, Ok, Err, IfOk, ◌⊎◌, inl, inr, ◌&&◌, length-take, length-drop, ℕ, suc, ◌+◌, ◌-◌, ◌<◌, ◌≤◌, min, Bool, true, false, cond, not, nat_lt, ◌||◌, List, [], ◌∷◌, ◌++◌, length, take, drop, Option, Some, None, is_some, option_map, refl, ap, sym, ◌∙◌, arith, append_assoc}
 use Rattle.std.proofs.lemmas.Bool.{cases_lt}
 use Rattle.std.proofs.lemmas.Bool.Decides.{nat_tests}
-use Rattle.std.proofs.lemmas.List.{take-append-drop, take-take, take_all}
+use Rattle.std.proofs.lemmas.List.{take-append-drop, take-take, take_all, take_min}
 use Rattle.std.proofs.lemmas.List.Folds.{list_any-append}
 use Rattle.std.specs.List.{list_any, position, prefix_len, take_while}
 use Rattle.tree_face.specs.Known.{IfKnown}
@@ -137,7 +137,18 @@ text_known known most offset t size (Ok o) h inside e same read =
     both {P = λ bytes. length bytes ≡ size} {Q = λ bytes. o ≡ before_nul (take most (drop (t.at + offset) bytes))} {R = λ bytes. o ≡ text_found (bytes_of t bytes) offset} known same read
     (λ bytes same read. read ∙ text_is most offset t bytes h (omega arith) e)
 
--- a piece that was read, by the number of its bytes
-pub piece_of : (known : Option (List ℕ)) (piece old : List ℕ) (at n : ℕ) → length old ≡ n → IfKnown known (λ bytes. piece ≡ take (length old) (drop at bytes)) → IfKnown known (λ bytes. piece ≡ take n (drop at bytes))
-piece_of known piece old at n e read =
-    with {P = λ bytes. piece ≡ take (length old) (drop at bytes)} {Q = λ bytes. piece ≡ take n (drop at bytes)} known read (λ bytes read. read ∙ ap (λ k. take k (drop at bytes)) e)
+take_take_min : (n r : ℕ) (xs : List ℕ) → take n (take r xs) ≡ take (min n r) xs
+take_take_min n r xs = elim (cases_lt r n) as (λ _. take n (take r xs) ≡ take (min n r) xs) [
+  | inl less ↦ let same : r ≡ min n r = omega arith in take_all n (take r xs) (omega (arith, length-take r xs)) ∙ ap (λ k. take k xs) same
+  | inr more ↦ let same : n ≡ min n r = omega arith in take-take n r xs more ∙ ap (λ k. take k xs) same
+]
+
+-- the front of the bytes that a window holds
+pub front_of : (known : Option (List ℕ)) (piece part : List ℕ) (at ready left : ℕ) → piece ≡ take left part → IfKnown known (λ bytes. part ≡ take ready (drop at bytes)) → IfKnown known (λ bytes. piece ≡ take (length piece) (drop at bytes))
+front_of known piece part at ready left e read =
+    with {P = λ bytes. part ≡ take ready (drop at bytes)} {Q = λ bytes. piece ≡ take (length piece) (drop at bytes)} known read
+    (λ bytes read.
+    let rest = drop at bytes in
+    let is : piece ≡ take (min left ready) rest = e ∙ ap (take left) read ∙ take_take_min left ready rest in
+    let size : length piece ≡ min (min left ready) (length rest) = ap length is ∙ length-take (min left ready) rest in
+    is ∙ sym (take_min (min left ready) rest) ∙ ap (λ k. take k rest) (sym size))

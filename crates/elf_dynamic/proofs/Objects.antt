@@ -1,5 +1,5 @@
 -- The object and the analysis of a file, by its header and its dynamic section.
-use Rattle.std.proofs.Common.{◌≡◌, ℕ, ◌+◌, ◌*◌, ◌≤◌, Bool, true, false, cond, not, ◌==◌, List, [], ◌∷◌, ◌++◌, length, find, Option, Some, None, IfSome, IsSomeAnd, is_none, option_map, Result, Ok, Err, refl, ap, sym, subst, ◌∙◌, arith}
+use Rattle.std.proofs.Common.{◌≡◌, ℕ, ◌+◌, ◌*◌, ◌≤◌, Bool, true, false, cond, ◌==◌, List, [], ◌∷◌, ◌++◌, length, Option, Some, None, IfSome, IsSomeAnd, is_none, option_map, Result, Ok, Err, refl, ap, sym, subst, ◌∙◌, arith}
 use Rattle.std.specs.Option.{option_map_or}
 use Rattle.lib_types.specs.Counts.{raised}
 use Rattle.lib_types.specs.declared.abi.Abi.{Abi}
@@ -8,12 +8,12 @@ use Rattle.lib_types.specs.declared.analysis.Analysis.TheVariants.{Lib, Not}
 use Rattle.lib_types.specs.declared.analysis.Defect.{Defect}
 use Rattle.lib_types.specs.declared.analysis.Defect.TheVariants.{BadMachine, NotShared, NoDynamic}
 use Rattle.tree_face.specs.Known.{IfKnown}
-use Rattle.tree_face.specs.Store.{Contents, StoreState}
+use Rattle.tree_face.specs.Store.{Contents}
 use Rattle.elf_headers.specs.declared.kinds.Head.{Head}
 use Rattle.elf_headers.specs.declared.kinds.Segment.{Segment}
-use Rattle.elf_headers.specs.Layout.{is_wide, word_size, etype, machine, phnum}
+use Rattle.elf_headers.specs.Layout.{is_wide, word_size, etype, machine}
 use Rattle.elf_headers.specs.Header.{Sentence, first_defect, unless_defect, header_sentences, abi, head}
-use Rattle.elf_headers.specs.Reading.{known_content, OfContent, IfHeld}
+use Rattle.elf_headers.specs.Reading.{OfContent, IfHeld}
 use Rattle.elf_headers.proofs.Heads.{gives, defect_of, has_abi}
 use Rattle.elf_headers.proofs.Windows.{weaken}
 use Rattle.elf_dynamic.specs.declared.kinds.Dynamic.{Dynamic}
@@ -26,7 +26,7 @@ use Rattle.elf_headers.specs.declared.fault.HeadFault.TheVariants as head_faults
 use Rattle.elf_headers.specs.Faults as head_facts
 use Rattle.elf_dynamic.specs.Section.{dynamic_segment}
 use Rattle.elf_dynamic.specs.Object.{entries, table, soname_of, dynamic_of, dynamic_sentences, object_sentences, dynamic, as_object, object, section_reading, readable_section, reading_after, most_taken}
-use Rattle.elf_dynamic.specs.Analysis.{sentences, defect, as_library, analysis_by, analysis, library_of}
+use Rattle.elf_dynamic.specs.Analysis.{sentences, as_library, analysis_by, analysis, library_of}
 use Rattle.elf_dynamic.specs.Sections.{sections_in}
 use Rattle.elf_dynamic.proofs.Gathered.{raised_more, raised_less}
 use Rattle.elf_dynamic.proofs.Sections.{no_section}

@@ -1,5 +1,5 @@
 -- What a section says, by the first sentence that holds.
-use Rattle.std.proofs.Common.{◌≡◌, ℕ, ◌+◌, ◌*◌, ◌≤◌, length, subst, Bool, true, false, cond, not, ◌==◌, ◌&&◌, ◌||◌, List, [], ◌∷◌, map, filter, find, Option, Some, None, is_none, is_some, option_map, option_and_then, ok_or, Result, Ok, Err, refl, ap, sym, ◌∙◌, arith}
+use Rattle.std.proofs.Common.{◌≡◌, ℕ, ◌+◌, ◌*◌, ◌≤◌, length, subst, Bool, true, false, cond, not, ◌||◌, List, [], ◌∷◌, map, filter, find, Option, Some, None, is_none, is_some, ok_or, Result, Ok, Err, refl, ap, sym, ◌∙◌, arith}
 use Rattle.std.specs.List.{list_any}
 use Rattle.std.specs.Option.{option_map_or}
 use Rattle.lib_types.specs.Name.{is_name}
@@ -8,9 +8,9 @@ use Rattle.lib_types.specs.declared.analysis.Defect.TheVariants.{DynOutside, NoS
 use Rattle.elf_headers.specs.Header.{first_defect, unless_defect}
 use Rattle.elf_dynamic.specs.declared.kinds.DynamicEntry.{DynamicEntry}
 use Rattle.elf_dynamic.specs.declared.kinds.Dynamic.{Dynamic}
-use Rattle.elf_dynamic.specs.Section.{needed, strtab, strsz, soname, rpath, runpath, has_tag, value_of, has_text, string_table, table_at, dynamic_segment, is_outside, dynamic_entries, counting_after, counting_entries, has_text_at, text_at}
-use Rattle.elf_dynamic.specs.Object.{entries, table, section_sentences, dynamic_sentences, lacks_table, has_table_outside, bad_entry, text_in, text_of, unless_empty, soname_of, needed_of, has_nodeflib, nodeflib_of, dynamic_of}
-use Rattle.elf_dynamic.specs.Texts.{no_texts, gathered, counted}
+use Rattle.elf_dynamic.specs.Section.{strtab, strsz, has_tag, value_of, has_text, string_table, table_at, dynamic_segment, is_outside, dynamic_entries, counting_after, counting_entries, has_text_at, text_at}
+use Rattle.elf_dynamic.specs.Object.{entries, table, section_sentences, dynamic_sentences, bad_entry, text_in, soname_of, needed_of, has_nodeflib, nodeflib_of, dynamic_of}
+use Rattle.elf_dynamic.specs.Texts.{bytes_of, no_texts, gathered, counted}
 use Rattle.elf_dynamic.specs.Sections.{section_of, section_in, sections_in, counting_in, table_by, name_of, has_good_name}
 use Rattle.lib_types.specs.Counts.{raised}
 use Rattle.elf_dynamic.specs.declared.table.Table.{Table}
@@ -19,12 +19,12 @@ use Rattle.elf_dynamic.specs.declared.fault.ObjectFault.TheVariants as faults
 use Rattle.elf_dynamic.specs.Faults.{IfBad}
 use Rattle.tree_face.specs.Known.{IfKnown}
 use Rattle.tree_face.specs.Store.{StoreState}
-use Rattle.elf_headers.specs.Reading.{known_content, OnlyReads}
+use Rattle.elf_headers.specs.Reading.{known_content, OfKnown, OnlyReads, TakesAtMost}
 use Rattle.elf_headers.specs.declared.kinds.Segment.{Segment}
 use Rattle.elf_headers.specs.Layout.{segments}
 use Rattle.elf_dynamic.specs.declared.values.Values.{Values}
 use Rattle.elf_dynamic.specs.Values.{values_of}
-use Rattle.elf_dynamic.proofs.Known.{after, with, both, three}
+use Rattle.elf_dynamic.proofs.Known.{before, after, with, both, three}
 use Rattle.elf_dynamic.proofs.Gathered.{all_texts, picked, gathered_all, counted_all, raised_more, raised_less}
 
 -- ---- no entry has a text
@@ -176,6 +176,13 @@ known_taken (Some bytes) a b c n m w s f table h k =
     let count = counted_all (table bytes) f (dynamic_entries w bytes s) in
     raised_less a c (n + (m + 65536 * counted (table bytes) (no_texts f) (dynamic_entries w bytes s))) (n + m + 65536 * length (counting_entries (dynamic_entries w bytes s)))
     (raised_more a b c n (m + 65536 * counted (table bytes) (no_texts f) (dynamic_entries w bytes s)) h k) (omega (arith, count))
+
+-- the same of a store, with the table before the texts
+pub texts_taken_by : (s t u : StoreState) (n m w : ℕ) (d : Segment) (f : Bool) (table : Table) → OnlyReads s t → TakesAtMost n s t →
+    OfKnown t (λ bytes. TakesAtMost (m + 65536 * counted (bytes_of table bytes) (no_texts f) (dynamic_entries w bytes d)) t u) → OfKnown s (λ bytes. TakesAtMost (n + m + 65536 * counting_in w bytes d) s u)
+texts_taken_by s t u n m w d f table reads first taken =
+    known_taken (known_content s) s.taken t.taken u.taken n m w d f (bytes_of table) first
+    (before (λ bytes. TakesAtMost (m + 65536 * counted (bytes_of table bytes) (no_texts f) (dynamic_entries w bytes d)) t u) s t reads taken)
 
 -- ---- the section in known content
 

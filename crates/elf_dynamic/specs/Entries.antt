@@ -1,13 +1,12 @@
 -- A reader of the entries of a dynamic section, one after another. The clauses of private functions cite these definitions.
-use Rattle.std.specs.Prelude.{◌≡◌, ◌≤◌, ℕ, zero, suc, ◌+◌, ◌-◌, ◌*◌, ◌/◌, Bool, ◌==◌, not, List, [], ◌∷◌, length, take, drop, take_while, Option}
-use Rattle.tree_face.specs.Known.{IfKnown}
-use Rattle.tree_face.specs.Store.{StoreState}
+use Rattle.std.specs.Prelude.{◌≡◌, ◌≤◌, ℕ, zero, suc, ◌+◌, ◌-◌, ◌*◌, ◌/◌, ◌==◌, not, List, [], ◌∷◌, take_while}
 use Rattle.elf_headers.specs.declared.kinds.Head.{Head}
 use Rattle.elf_headers.specs.Layout.{word_size}
-use Rattle.elf_headers.specs.Reading.{known_content}
 use Rattle.elf_dynamic.specs.declared.kinds.DynamicEntry.{DynamicEntry}
 use Rattle.elf_dynamic.specs.declared.entries.Entries.{Entries}
+use Rattle.elf_dynamic.specs.declared.window.Window.{Window}
 use Rattle.elf_dynamic.specs.Section.{entry_at}
+use Rattle.elf_dynamic.specs.Windows.{unread}
 
 -- so many entries from an offset on
 abbrev pub entries_in : ℕ → List ℕ → ℕ → ℕ → List DynamicEntry
@@ -22,15 +21,12 @@ live_entries w bytes at left = take_while (λ e. not (e.tag == 0)) (entries_in w
 abbrev pub rest_of : Entries → List ℕ → List DynamicEntry
 rest_of c bytes = live_entries (word_size c.wide) bytes (c.end - c.left) c.left
 
--- the reader is in the file, and its window holds the next bytes of it
-pub record IsOpen (s : StoreState) (h : Head) (c : Entries) (buf : List ℕ) : Type 0 where
+-- the reader is in the file
+pub record IsIn (h : Head) (c : Entries) : Type 0 where
   pub wide : c.wide ≡ h.wide
   pub within : c.left ≤ c.end
   pub in_file : c.end ≤ h.length
-  pub ready : c.ready ≤ c.left
-  pub inside : c.from + c.ready ≤ length buf
-  pub window : IfKnown (known_content s) (λ bytes. take c.ready (drop c.from buf) ≡ take c.ready (drop (c.end - c.left) bytes))
 
 -- at most so many bytes are still read
-abbrev pub unread : Entries → ℕ
-unread c = 2 * c.left - c.ready
+abbrev pub unread_in : Window → Entries → ℕ
+unread_in w c = unread w c.end (c.end - c.left)

@@ -1,5 +1,5 @@
 -- Facts of what `object` returns.
-use Rattle.std.specs.Prelude.{◌≡◌, true, Option, Result, Ok, Err, IfSome}
+use Rattle.std.specs.Prelude.{◌≡◌, true, Result, Ok, Err, IfSome}
 use Rattle.lib_types.specs.Name.{is_name}
 use Rattle.lib_types.specs.declared.analysis.Defect.{Defect}
 use Rattle.lib_types.specs.declared.analysis.Defect.TheVariants.{BadString}

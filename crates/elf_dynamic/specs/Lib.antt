@@ -7,3 +7,4 @@ pub mod Sections
 pub mod Texts
 pub mod Values
 pub mod Wanted
+pub mod Windows

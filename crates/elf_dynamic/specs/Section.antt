@@ -1,6 +1,6 @@
 -- The dynamic section of a file, in both classes (gABI, "Dynamic Section"; numbers are ELFDATA2LSB).
 -- `w` is the size of an address: 4 bytes in class 1, 8 bytes in class 2. No number has a bound.
-use Rattle.std.specs.Prelude.{ℕ, ◌+◌, ◌-◌, ◌*◌, ◌/◌, Bool, if◌then◌else◌, ◌==◌, ◌&&◌, ◌||◌, not, nat_le, nat_lt, List, [], ◌∷◌, map, filter, length, take, drop, find, take_while, Option, Some, None, option_map, option_and_then}
+use Rattle.std.specs.Prelude.{ℕ, ◌+◌, ◌-◌, ◌*◌, ◌/◌, Bool, if◌then◌else◌, ◌==◌, ◌&&◌, ◌||◌, not, nat_le, nat_lt, List, [], ◌∷◌, map, length, take, drop, find, take_while, Option, Some, None, option_map, option_and_then}
 use Rattle.std.specs.List.{list_any, range_with_len}
 use Rattle.lib_types.specs.Bytes.{field}
 use Rattle.elf_headers.specs.declared.kinds.Segment.{Segment}

@@ -1,34 +1,30 @@
 //! The entries of a dynamic section, one after another.
 ghost use Rattle.std.specs.Prelude.{◌≡◌, ◌⊎◌, ◌≤◌, ◌<◌, ◌+◌, ◌-◌, ◌*◌, ◌∷◌, [], min, length, take, drop, IfOk, OnOk, OnErr, IfSome, MatchOption, ◌^◌};
-ghost use Rattle.lib_types.specs.Counts.{raised, HasRisen};
-ghost use Rattle.tree_face.specs.Known.{IfKnown};
 ghost use Rattle.elf_headers.specs.Layout.{word_size};
-ghost use Rattle.elf_headers.specs.Reading.{known_content, OnlyReads, IsHeadOf};
+ghost use Rattle.elf_headers.specs.Reading.{OnlyReads, IsHeadOf, OfKnown, TakesAtMost, StoreFails};
 ghost use Rattle.elf_dynamic.specs.Section.{entry_at};
-ghost use Rattle.elf_dynamic.specs.Entries.{live_entries, rest_of, IsOpen, unread};
+ghost use Rattle.elf_dynamic.specs.Entries.{rest_of, IsIn, unread_in};
+ghost use Rattle.elf_dynamic.specs.Windows.{IsWindowOf};
 
 use crate::kinds::DynamicEntry;
-use crate::piece::read_piece;
 use crate::tags::tag;
+use crate::window::Window;
 use elf_headers::Class;
 use elf_headers::kinds::{Head, Segment};
 use lib_types::Failed;
 use tree_face::Store;
 
-/// A reader of the entries. The bytes of a window are its caller's.
+/// A reader of the entries. The window that they are read through is its caller's.
 #[derive(Clone, Copy)]
 pub struct Entries {
     wide: bool,
     // Where the section ends, and how many bytes before that the next entry begins.
     end: u64,
     left: u64,
-    // Where it begins in the window, and how many bytes of the window begin there.
-    from: usize,
-    ready: usize,
 }
 
 // The length of an entry: its tag and its value.
-fn entry_length(wide: bool) -> usize
+fn entry_length(wide: bool) -> u64
     ensures { result ≡ 2 * word_size wide }
 {
     if wide { 16 } else { 8 }
@@ -61,75 +57,13 @@ impl Entries {
     /// The entries of a segment.
     pub fn new(wide: bool, dynamic: Segment) -> Entries
         requires { dynamic.offset + dynamic.filesz < 2 ^ 64 }
-        ensures { result ≡ record { wide = wide; end = dynamic.offset + dynamic.filesz; left = dynamic.filesz; from = 0; ready = 0 } }
+        ensures { result ≡ record { wide = wide; end = dynamic.offset + dynamic.filesz; left = dynamic.filesz } }
     {
         Entries {
             wide,
             end: dynamic.offset + dynamic.filesz,
             left: dynamic.filesz,
-            from: 0,
-            ready: 0,
         }
-    }
-
-    // Reads the next window.
-    fn fill<S: Store>(&mut self, store: &mut S, head: &Head, buf: &mut [u8]) -> Result<(), Failed>
-        requires head { IsHeadOf (S.state store.old) head.now }
-        requires opened { IsOpen (S.state store.old) head.now self.old buf.old }
-        ensures opened { OnOk result (IsOpen (S.state store.new) head.now self.new buf.new) }
-        ensures same { OnOk result (self.new ≡ record self.old { from = 0; ready = min (length buf.old) self.old.left }) }
-        ensures begun_head { IsHeadOf (S.state store.new) head.now }
-        ensures cause { OnErr result (HasRisen (S.state store.old).faults (S.state store.new).faults) }
-        ensures reads { OnlyReads (S.state store.old) (S.state store.new) }
-        ensures taken { (S.state store.new).taken ≤ raised (S.state store.old).taken (min (length buf.old) self.old.left) }
-    {
-        let count = if self.left < buf.len() as u64 {
-            self.left as usize
-        } else {
-            buf.len()
-        };
-        read_piece(store, head, self.end - self.left, &mut buf[..count])?;
-        self.from = 0;
-        self.ready = count;
-        Ok(())
-    }
-
-    // Has an entry in the window.
-    fn ready<S: Store>(&mut self, store: &mut S, head: &Head, buf: &mut [u8]) -> Result<(), Failed>
-        requires head { IsHeadOf (S.state store.old) head.now }
-        requires opened { IsOpen (S.state store.old) head.now self.old buf.old }
-        requires room { 16 ≤ length buf.old }
-        requires entry { 2 * word_size self.old.wide ≤ self.old.left }
-        ensures opened { OnOk result (IsOpen (S.state store.new) head.now self.new buf.new) }
-        ensures ready { OnOk result (2 * word_size self.old.wide ≤ self.new.ready) }
-        ensures same { OnOk result (self.new ≡ record self.old { from = self.new.from; ready = self.new.ready }) }
-        ensures begun_head { IsHeadOf (S.state store.new) head.now }
-        ensures cause { OnErr result (HasRisen (S.state store.old).faults (S.state store.new).faults) }
-        ensures reads { OnlyReads (S.state store.old) (S.state store.new) }
-        ensures taken { (S.state store.new).taken ≤ raised (S.state store.old).taken (2 * self.old.left - self.old.ready) }
-        ensures taken_ready { OnOk result ((S.state store.new).taken ≤ raised (S.state store.old).taken (self.new.ready + 2 * word_size self.old.wide - self.old.ready)) }
-        ensures more { OnOk result (self.old.ready ≤ self.new.ready) }
-    {
-        if self.ready < entry_length(self.wide) {
-            self.fill(store, head, buf)?;
-        }
-        Ok(())
-    }
-
-    // Takes the entry that the window begins with.
-    fn take(&mut self, buf: &[u8]) -> DynamicEntry
-        requires ready { 2 * word_size self.old.wide ≤ self.old.ready }
-        requires left { self.old.ready ≤ self.old.left }
-        requires inside { self.old.from + self.old.ready ≤ length buf.now }
-        ensures entry { result ≡ entry_at (word_size self.old.wide) (drop self.old.from buf.now) 0 }
-        ensures after { let each = 2 * word_size self.old.wide in self.new ≡ record self.old { left = self.old.left - each; from = self.old.from + each; ready = self.old.ready - each } }
-    {
-        let entry = entry(self.wide, &buf[self.from..]);
-        let each = entry_length(self.wide);
-        self.left -= each as u64;
-        self.from += each;
-        self.ready -= each;
-        entry
     }
 
     /// The next entry, or None at the end or at a DT_NULL.
@@ -137,30 +71,35 @@ impl Entries {
         &mut self,
         store: &mut S,
         head: &Head,
-        buf: &mut [u8],
+        window: &mut Window,
     ) -> Result<Option<DynamicEntry>, Failed>
         requires head { IsHeadOf (S.state store.old) head.now }
-        requires opened { IsOpen (S.state store.old) head.now self.old buf.old }
-        requires room { 16 ≤ length buf.old }
-        ensures entry { IfOk result (λ e. IfKnown (known_content (S.state store.old)) (λ bytes.
+        requires window { IsWindowOf (S.state store.old) head.now window.old }
+        requires inside { IsIn head.now self.old }
+        ensures entry { IfOk result (λ e. OfKnown (S.state store.old) (λ bytes.
             MatchOption e (rest_of self.old bytes ≡ []) (λ e. rest_of self.old bytes ≡ e ∷ rest_of self.new bytes))) }
-        ensures opened { IfOk result (λ e. IfSome e (λ _. IsOpen (S.state store.new) head.now self.new buf.new)) }
+        ensures window { OnOk result (IsWindowOf (S.state store.new) head.now window.new) }
+        ensures inside { IsIn head.now self.new }
         ensures fewer { IfOk result (λ e. IfSome e (λ _. self.new.left < self.old.left)) }
         ensures begun_head { IsHeadOf (S.state store.new) head.now }
-        ensures cause { OnErr result (HasRisen (S.state store.old).faults (S.state store.new).faults) }
+        ensures cause { OnErr result (StoreFails (S.state store.old) (S.state store.new)) }
         ensures reads { OnlyReads (S.state store.old) (S.state store.new) }
-        ensures taken { (S.state store.new).taken ≤ raised (S.state store.old).taken (unread self.old) }
-        ensures taken_entry { IfOk result (λ e. IfSome e (λ _. (S.state store.new).taken ≤ raised (S.state store.old).taken (unread self.old - unread self.new))) }
-        ensures unread { IfOk result (λ e. IfSome e (λ _. unread self.new ≤ unread self.old)) }
+        ensures taken { TakesAtMost (unread_in window.old self.old) (S.state store.old) (S.state store.new) }
+        ensures taken_entry { IfOk result (λ e. IfSome e (λ _.
+            TakesAtMost (unread_in window.old self.old - unread_in window.new self.new) (S.state store.old) (S.state store.new))) }
+        ensures unread { IfOk result (λ e. IfSome e (λ _. unread_in window.new self.new ≤ unread_in window.old self.old)) }
     {
-        if self.left < entry_length(self.wide) as u64 {
+        let each = entry_length(self.wide);
+        if self.left < each {
             return Ok(None);
         }
-        self.ready(store, head, buf)?;
-        let entry = self.take(buf);
+        let at = self.end - self.left;
+        window.hold(store, head, at, each, self.end)?;
+        let entry = entry(self.wide, window.from(at));
         if entry.tag == tag!(NULL) {
             return Ok(None);
         }
+        self.left -= each;
         Ok(Some(entry))
     }
 }

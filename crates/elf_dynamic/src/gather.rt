@@ -1,13 +1,12 @@
 //! The texts that the entries name.
 ghost use Rattle.std.specs.Prelude.{◌≡◌, ◌⊎◌, ◌≤◌, ◌+◌, ◌*◌, ◌∷◌, ℕ, List, length, Ok, Err, IfOk, OnOk, IfErr, IsErrOf, if◌then◌else◌};
-ghost use Rattle.lib_types.specs.Counts.{raised, HasRisen};
-ghost use Rattle.tree_face.specs.Known.{IfKnown};
 ghost use Rattle.elf_headers.specs.Layout.{word_size};
-ghost use Rattle.elf_headers.specs.Reading.{known_content, OnlyReads, IsHeadOf};
+ghost use Rattle.elf_headers.specs.Reading.{OnlyReads, IsHeadOf, OfKnown, TakesAtMost, StoreFails};
 ghost use Rattle.elf_dynamic.specs.declared.kinds.DynamicEntry.{DynamicEntry};
 ghost use Rattle.elf_dynamic.specs.Faults.{IfBad, IsBadString};
 ghost use Rattle.elf_dynamic.specs.Section.{dynamic_entries};
 ghost use Rattle.elf_dynamic.specs.Texts.{bytes_of, counts, with_text, no_texts, add_one, gathered, counted};
+ghost use Rattle.elf_dynamic.specs.Windows.{IsWindowOf};
 
 use crate::ObjectFault;
 use crate::entries::Entries;
@@ -15,6 +14,7 @@ use crate::kinds::{Dynamic, DynamicEntry};
 use crate::table::Table;
 use crate::tags::tag;
 use crate::text::text_at;
+use crate::window::Window;
 use elf_headers::kinds::{Head, Segment};
 use lib_types::{Defect, NoMemory, Seq, Text};
 use std::alloc::Global;
@@ -67,23 +67,24 @@ fn add<S: Store>(
     table: Table,
     found: &mut Dynamic,
     entry: DynamicEntry,
-    buf: &mut [u8],
+    window: &mut Window,
 ) -> Result<(), ObjectFault>
     requires head { IsHeadOf (S.state store.old) head.now }
     requires within { table.at + table.size ≤ head.now.length }
-    requires room { 16 ≤ length buf.old }
-    ensures added { OnOk result (IfKnown (known_content (S.state store.old)) (λ bytes. add_one (bytes_of table bytes) found.old entry ≡ Ok found.new)) }
-    ensures bad { IfBad result (λ d. IfKnown (known_content (S.state store.old)) (λ bytes. add_one (bytes_of table bytes) found.old entry ≡ Err d)) }
+    requires window { IsWindowOf (S.state store.old) head.now window.old }
+    ensures added { OnOk result (OfKnown (S.state store.old) (λ bytes. add_one (bytes_of table bytes) found.old entry ≡ Ok found.new)) }
+    ensures bad { IfBad result (λ d. OfKnown (S.state store.old) (λ bytes. add_one (bytes_of table bytes) found.old entry ≡ Err d)) }
     ensures range { IfBad result IsBadString }
+    ensures window { OnOk result (IsWindowOf (S.state store.new) head.now window.new) }
     ensures begun_head { IsHeadOf (S.state store.new) head.now }
-    ensures cause { IsErrOf result ObjectFault.StoreFault → HasRisen (S.state store.old).faults (S.state store.new).faults }
+    ensures cause { IsErrOf result ObjectFault.StoreFault → StoreFails (S.state store.old) (S.state store.new) }
     ensures reads { OnlyReads (S.state store.old) (S.state store.new) }
-    ensures taken { (S.state store.new).taken ≤ raised (S.state store.old).taken (if counts found.old entry.tag then 65536 else 0) }
+    ensures taken { TakesAtMost (if counts found.old entry.tag then 65536 else 0) (S.state store.old) (S.state store.new) }
 {
     if !counts(found, entry.tag) {
         return Ok(());
     }
-    let Some(text) = text_at(alloc, store, head, table, entry.value, buf)? else {
+    let Some(text) = text_at(alloc, store, head, table, entry.value, window)? else {
         return Err(ObjectFault::Bad(Defect::BadString { tag: entry.tag }));
     };
     put(found, entry.tag, text)?;
@@ -98,29 +99,29 @@ pub fn gather<S: Store>(
     dynamic: Segment,
     table: Table,
     nodeflib: bool,
-    window: &mut [u8],
-    buf: &mut [u8],
+    section: &mut Window,
+    window: &mut Window,
 ) -> Result<Dynamic, ObjectFault>
     requires head { IsHeadOf (S.state store.old) head.now }
     requires inside { dynamic.offset + dynamic.filesz ≤ head.now.length }
     requires within { table.at + table.size ≤ head.now.length }
-    requires window { 16 ≤ length window.old }
-    requires room { 16 ≤ length buf.old }
-    ensures gathered { IfOk result (λ d. IfKnown (known_content (S.state store.old)) (λ bytes.
+    requires section { IsWindowOf (S.state store.old) head.now section.old }
+    requires window { IsWindowOf (S.state store.old) head.now window.old }
+    ensures gathered { IfOk result (λ d. OfKnown (S.state store.old) (λ bytes.
         gathered (bytes_of table bytes) (no_texts nodeflib) (dynamic_entries (word_size head.now.wide) bytes dynamic) ≡ Ok d)) }
-    ensures bad { IfBad result (λ d. IfKnown (known_content (S.state store.old)) (λ bytes.
+    ensures bad { IfBad result (λ d. OfKnown (S.state store.old) (λ bytes.
         gathered (bytes_of table bytes) (no_texts nodeflib) (dynamic_entries (word_size head.now.wide) bytes dynamic) ≡ Err d)) }
     ensures range { IfBad result IsBadString }
     ensures begun_head { IsHeadOf (S.state store.new) head.now }
-    ensures cause { IsErrOf result ObjectFault.StoreFault → HasRisen (S.state store.old).faults (S.state store.new).faults }
+    ensures cause { IsErrOf result ObjectFault.StoreFault → StoreFails (S.state store.old) (S.state store.new) }
     ensures reads { OnlyReads (S.state store.old) (S.state store.new) }
-    ensures taken { IfKnown (known_content (S.state store.old)) (λ bytes. (S.state store.new).taken ≤ raised (S.state store.old).taken
-        (2 * dynamic.filesz + 65536 * counted (bytes_of table bytes) (no_texts nodeflib) (dynamic_entries (word_size head.now.wide) bytes dynamic))) }
+    ensures taken { OfKnown (S.state store.old) (λ bytes. TakesAtMost
+        (2 * dynamic.filesz + 65536 * counted (bytes_of table bytes) (no_texts nodeflib) (dynamic_entries (word_size head.now.wide) bytes dynamic)) (S.state store.old) (S.state store.new)) }
 {
     let mut found = no_texts(alloc, nodeflib);
     let mut entries = Entries::new(head.wide, dynamic);
-    while let Some(entry) = entries.next(store, head, window)? {
-        match add(alloc, store, head, table, &mut found, entry, buf) {
+    while let Some(entry) = entries.next(store, head, section)? {
+        match add(alloc, store, head, table, &mut found, entry, window) {
             Ok(()) => {}
             Err(fault) => return Err(fault),
         }

@@ -5,7 +5,6 @@ mod entries;
 mod fault;
 mod gather;
 pub mod kinds;
-mod piece;
 mod reader;
 mod section;
 mod segments;
@@ -13,6 +12,7 @@ mod table;
 mod tags;
 mod text;
 mod values;
+mod window;
 
 pub use fault::{AnalyseFault, ObjectFault};
 pub use reader::{analyse, object};

@@ -1,9 +1,8 @@
 //! Files in a store.
 ghost use Rattle.std.specs.Prelude.{◌≡◌, ◌⊎◌, ◌≤◌, Ok, Err, IfOk, IsErrOf};
-ghost use Rattle.lib_types.specs.Counts.{raised, HasRisen};
-ghost use Rattle.tree_face.specs.Store.{BeginsAtMost, Lacks};
+ghost use Rattle.tree_face.specs.Store.{BeginsAtMost};
 ghost use Rattle.elf_headers.specs.Range.{IsInRange};
-ghost use Rattle.elf_headers.specs.Reading.{OfContent, IfHeld};
+ghost use Rattle.elf_headers.specs.Reading.{OfContent, IfHeld, TakesAtMost, FailsAt};
 ghost use Rattle.elf_dynamic.specs.Analysis as analyses;
 ghost use Rattle.elf_dynamic.specs.Faults.{IfBad, HasName};
 ghost use Rattle.elf_dynamic.specs.Object.{most_taken};
@@ -19,16 +18,16 @@ use tree_face::Store;
 
 const ET_EXEC: u16 = 2;
 
-/// Begins a key and reads what the file says of itself, in windows of at most 4096 bytes.
+/// Begins a key and reads what the file says of itself, in windows of at most 1024 bytes.
 pub fn object<S: Store>(alloc: Global, store: &mut S, key: &[u8]) -> Result<Object, ObjectFault>
     ensures object { IfOk result (λ o. OfContent (S.state store.old).held key.now (λ bytes. objects.object bytes ≡ Ok o)) }
     ensures defect { IfBad result (λ d. OfContent (S.state store.old).held key.now (λ bytes. objects.object bytes ≡ Err d)) }
     ensures name { IfOk result HasName }
     ensures range { IfBad result IsInRange }
-    ensures cause { IsErrOf result ObjectFault.StoreFault → HasRisen (S.state store.old).faults (S.state store.new).faults ⊎ Lacks (S.state store.old).held key.now }
+    ensures cause { IsErrOf result ObjectFault.StoreFault → FailsAt key.now (S.state store.old) (S.state store.new) }
     ensures held { (S.state store.new).held ≡ (S.state store.old).held }
     ensures begun { BeginsAtMost 1 (S.state store.old) (S.state store.new) }
-    ensures taken { IfHeld (S.state store.old).held key.now (λ bytes. (S.state store.new).taken ≤ raised (S.state store.old).taken (most_taken bytes)) }
+    ensures taken { IfHeld (S.state store.old).held key.now (λ bytes. TakesAtMost (most_taken bytes) (S.state store.old) (S.state store.new)) }
     ensures faults { (S.state store.old).faults ≤ (S.state store.new).faults }
 {
     let head = match head(store, key) {
@@ -72,10 +71,10 @@ pub fn analyse<S: Store>(alloc: Global, store: &mut S, key: &[u8]) -> Result<Ana
     ensures analysis { IfOk result (λ a. OfContent (S.state store.old).held key.now (λ bytes. analyses.analysis bytes ≡ a)) }
     ensures name { IfOk result analyses.HasName }
     ensures range { IfOk result analyses.IsDefectInRange }
-    ensures cause { IsErrOf result AnalyseFault.StoreFault → HasRisen (S.state store.old).faults (S.state store.new).faults ⊎ Lacks (S.state store.old).held key.now }
+    ensures cause { IsErrOf result AnalyseFault.StoreFault → FailsAt key.now (S.state store.old) (S.state store.new) }
     ensures held { (S.state store.new).held ≡ (S.state store.old).held }
     ensures begun { BeginsAtMost 1 (S.state store.old) (S.state store.new) }
-    ensures taken { IfHeld (S.state store.old).held key.now (λ bytes. (S.state store.new).taken ≤ raised (S.state store.old).taken (most_taken bytes)) }
+    ensures taken { IfHeld (S.state store.old).held key.now (λ bytes. TakesAtMost (most_taken bytes) (S.state store.old) (S.state store.new)) }
     ensures faults { (S.state store.old).faults ≤ (S.state store.new).faults }
 {
     match object(alloc, store, key) {

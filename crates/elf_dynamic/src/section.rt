@@ -1,19 +1,18 @@
 //! The dynamic section of a file.
-ghost use Rattle.std.specs.Prelude.{◌≡◌, ◌⊎◌, ◌≤◌, ◌+◌, ◌*◌, ◌==◌, ℕ, Bool, true, false, not, nat_lt, bit_and, List, length, Some, None, Ok, Err, IfOk, IfErr, IfSome, IsErrOf, OnErr};
+ghost use Rattle.std.specs.Prelude.{◌≡◌, ◌⊎◌, ◌≤◌, ◌+◌, ◌*◌, ◌==◌, ℕ, Bool, true, false, not, nat_lt, bit_and, List, length, Some, None, Ok, Err, IfOk, IfErr, IfSome, IsErrOf, OnOk, OnErr};
 ghost use Rattle.std.specs.Option.{option_map_or};
-ghost use Rattle.lib_types.specs.Counts.{raised, HasRisen};
 ghost use Rattle.lib_types.specs.Name.{is_name};
 ghost use Rattle.lib_types.specs.declared.analysis.Defect.TheVariants.{BadSoname};
-ghost use Rattle.tree_face.specs.Known.{IfKnown};
 ghost use Rattle.elf_headers.specs.Layout.{word_size};
 ghost use Rattle.elf_headers.specs.Range.{IsInRange};
-ghost use Rattle.elf_headers.specs.Reading.{known_content, OnlyReads, IsHeadOf};
+ghost use Rattle.elf_headers.specs.Reading.{OnlyReads, IsHeadOf, OfKnown, TakesAtMost, StoreFails};
 ghost use Rattle.elf_dynamic.specs.Faults.{IfBad, HasSoname};
 ghost use Rattle.elf_dynamic.specs.Object.{has_nodeflib, section_reading, readable_section};
 ghost use Rattle.elf_dynamic.specs.Section.{dynamic_entries};
 ghost use Rattle.elf_dynamic.specs.Sections.{section_in, sections_in, counting_in, table_by, name_of, has_good_name};
 ghost use Rattle.elf_dynamic.specs.Texts.{bytes_of};
 ghost use Rattle.elf_dynamic.specs.Values.{values_of};
+ghost use Rattle.elf_dynamic.specs.Windows.{IsWindowOf};
 
 use crate::ObjectFault;
 use crate::gather::{gather, no_texts};
@@ -21,6 +20,7 @@ use crate::kinds::Dynamic;
 use crate::segments::{Wanted, find_segment};
 use crate::table::{Table, find_table};
 use crate::values::{Values, read_values};
+use crate::window::Window;
 use elf_headers::kinds::{Head, Segment};
 use lib_types::{Defect, Failed, Text, is_name};
 use std::alloc::Global;
@@ -89,18 +89,21 @@ fn named(found: Dynamic) -> Result<Dynamic, Defect>
 fn find_strings<S: Store>(
     store: &mut S,
     head: &Head,
+    window: &mut Window,
     strtab: Option<u64>,
     strsz: Option<u64>,
 ) -> Result<Table, ObjectFault>
-    requires { IsHeadOf (S.state store.old) head.now }
-    ensures found { IfOk result (λ t. IfKnown (known_content (S.state store.old)) (λ bytes. table_by (word_size head.now.wide) bytes strtab strsz ≡ Ok (bytes_of t bytes))) }
+    requires head { IsHeadOf (S.state store.old) head.now }
+    requires window { IsWindowOf (S.state store.old) head.now window.old }
+    ensures found { IfOk result (λ t. OfKnown (S.state store.old) (λ bytes. table_by (word_size head.now.wide) bytes strtab strsz ≡ Ok (bytes_of t bytes))) }
     ensures within { IfOk result (λ t. t.at + t.size ≤ head.now.length) }
-    ensures bad { IfBad result (λ d. IfKnown (known_content (S.state store.old)) (λ bytes. table_by (word_size head.now.wide) bytes strtab strsz ≡ Err d)) }
+    ensures bad { IfBad result (λ d. OfKnown (S.state store.old) (λ bytes. table_by (word_size head.now.wide) bytes strtab strsz ≡ Err d)) }
     ensures range { IfBad result IsInRange }
+    ensures window { OnOk result (IsWindowOf (S.state store.new) head.now window.new) }
     ensures begun_head { IsHeadOf (S.state store.new) head.now }
-    ensures cause { IsErrOf result ObjectFault.StoreFault → HasRisen (S.state store.old).faults (S.state store.new).faults }
+    ensures cause { IsErrOf result ObjectFault.StoreFault → StoreFails (S.state store.old) (S.state store.new) }
     ensures reads { OnlyReads (S.state store.old) (S.state store.new) }
-    ensures taken { (S.state store.new).taken ≤ raised (S.state store.old).taken (56 * head.now.phnum) }
+    ensures taken { TakesAtMost (112 * head.now.phnum) (S.state store.old) (S.state store.new) }
 {
     let Some(address) = strtab else {
         return Err(ObjectFault::Bad(Defect::NoStrtab));
@@ -108,7 +111,7 @@ fn find_strings<S: Store>(
     let Some(size) = strsz else {
         return Err(ObjectFault::Bad(Defect::NoStrtab));
     };
-    match find_table(store, head, address, size)? {
+    match find_table(store, head, window, address, size)? {
         Some(table) => Ok(table),
         None => Err(ObjectFault::Bad(Defect::OutsideLoad)),
     }
@@ -121,31 +124,33 @@ fn read_texts<S: Store>(
     head: &Head,
     dynamic: Segment,
     values: Values,
-    window: &mut [u8],
-    buf: &mut [u8],
+    section: &mut Window,
+    window: &mut Window,
 ) -> Result<Dynamic, ObjectFault>
     requires head { IsHeadOf (S.state store.old) head.now }
     requires inside { dynamic.offset + dynamic.filesz ≤ head.now.length }
-    requires window { 16 ≤ length window.old }
-    requires room { 16 ≤ length buf.old }
-    requires values { IfKnown (known_content (S.state store.old)) (λ bytes. values ≡ values_of (dynamic_entries (word_size head.now.wide) bytes dynamic)) }
+    requires section { IsWindowOf (S.state store.old) head.now section.old }
+    requires window { IsWindowOf (S.state store.old) head.now window.old }
+    requires values { OfKnown (S.state store.old) (λ bytes. values ≡ values_of (dynamic_entries (word_size head.now.wide) bytes dynamic)) }
     requires texts { values.has_text ≡ true }
-    ensures section { IfOk result (λ d. IfKnown (known_content (S.state store.old)) (λ bytes. section_in (word_size head.now.wide) bytes dynamic ≡ Ok d)) }
-    ensures bad { IfBad result (λ d. IfKnown (known_content (S.state store.old)) (λ bytes. section_in (word_size head.now.wide) bytes dynamic ≡ Err d)) }
+    ensures section { IfOk result (λ d. OfKnown (S.state store.old) (λ bytes. section_in (word_size head.now.wide) bytes dynamic ≡ Ok d)) }
+    ensures bad { IfBad result (λ d. OfKnown (S.state store.old) (λ bytes. section_in (word_size head.now.wide) bytes dynamic ≡ Err d)) }
     ensures name { IfOk result HasSoname }
     ensures range { IfBad result IsInRange }
     ensures begun_head { IsHeadOf (S.state store.new) head.now }
-    ensures cause { IsErrOf result ObjectFault.StoreFault → HasRisen (S.state store.old).faults (S.state store.new).faults }
+    ensures cause { IsErrOf result ObjectFault.StoreFault → StoreFails (S.state store.old) (S.state store.new) }
     ensures reads { OnlyReads (S.state store.old) (S.state store.new) }
-    ensures taken { IfKnown (known_content (S.state store.old)) (λ bytes. (S.state store.new).taken ≤ raised (S.state store.old).taken
-        (56 * head.now.phnum + 2 * dynamic.filesz + 65536 * counting_in (word_size head.now.wide) bytes dynamic)) }
+    ensures taken { OfKnown (S.state store.old) (λ bytes. TakesAtMost
+        (112 * head.now.phnum + 2 * dynamic.filesz + 65536 * counting_in (word_size head.now.wide) bytes dynamic) (S.state store.old) (S.state store.new)) }
 {
-    let table = match find_strings(store, head, values.strtab, values.strsz) {
+    let table = match find_strings(store, head, window, values.strtab, values.strsz) {
         Ok(table) => table,
         Err(fault) => return Err(fault),
     };
     let nodeflib = has_nodeflib(values.flags_1);
-    let found = match gather(alloc, store, head, dynamic, table, nodeflib, window, buf) {
+    let found = match gather(
+        alloc, store, head, dynamic, table, nodeflib, section, window,
+    ) {
         Ok(found) => found,
         Err(fault) => return Err(fault),
     };
@@ -161,26 +166,27 @@ fn read_section<S: Store>(
     store: &mut S,
     head: &Head,
     dynamic: Segment,
+    window: &mut Window,
 ) -> Result<Dynamic, ObjectFault>
     requires head { IsHeadOf (S.state store.old) head.now }
+    requires window { IsWindowOf (S.state store.old) head.now window.old }
     requires inside { dynamic.offset + dynamic.filesz ≤ head.now.length }
-    ensures section { IfOk result (λ d. IfKnown (known_content (S.state store.old)) (λ bytes. section_in (word_size head.now.wide) bytes dynamic ≡ Ok d)) }
-    ensures bad { IfBad result (λ d. IfKnown (known_content (S.state store.old)) (λ bytes. section_in (word_size head.now.wide) bytes dynamic ≡ Err d)) }
+    ensures section { IfOk result (λ d. OfKnown (S.state store.old) (λ bytes. section_in (word_size head.now.wide) bytes dynamic ≡ Ok d)) }
+    ensures bad { IfBad result (λ d. OfKnown (S.state store.old) (λ bytes. section_in (word_size head.now.wide) bytes dynamic ≡ Err d)) }
     ensures name { IfOk result HasSoname }
     ensures range { IfBad result IsInRange }
     ensures begun_head { IsHeadOf (S.state store.new) head.now }
-    ensures cause { IsErrOf result ObjectFault.StoreFault → HasRisen (S.state store.old).faults (S.state store.new).faults }
+    ensures cause { IsErrOf result ObjectFault.StoreFault → StoreFails (S.state store.old) (S.state store.new) }
     ensures reads { OnlyReads (S.state store.old) (S.state store.new) }
-    ensures taken { IfKnown (known_content (S.state store.old)) (λ bytes. (S.state store.new).taken ≤ raised (S.state store.old).taken
-        (56 * head.now.phnum + 4 * dynamic.filesz + 65536 * counting_in (word_size head.now.wide) bytes dynamic)) }
+    ensures taken { OfKnown (S.state store.old) (λ bytes. TakesAtMost
+        (112 * head.now.phnum + 4 * dynamic.filesz + 65536 * counting_in (word_size head.now.wide) bytes dynamic) (S.state store.old) (S.state store.new)) }
 {
-    let mut window = [0u8; 4096];
-    let values = read_values(store, head, dynamic, &mut window)?;
+    let mut section = Window::new();
+    let values = read_values(store, head, dynamic, &mut section)?;
     if !values.has_text {
         return Ok(no_texts(alloc, has_nodeflib(values.flags_1)));
     }
-    let mut buf = [0u8; 4096];
-    read_texts(alloc, store, head, dynamic, values, &mut window, &mut buf)
+    read_texts(alloc, store, head, dynamic, values, &mut section, window)
 }
 
 fn is_outside(head: &Head, s: Segment) -> bool
@@ -197,23 +203,24 @@ pub fn read_dynamic<S: Store>(
     head: &Head,
 ) -> Result<Option<Dynamic>, ObjectFault>
     requires { IsHeadOf (S.state store.old) head.now }
-    ensures dynamic { IfOk result (λ d. IfKnown (known_content (S.state store.old)) (λ bytes. sections_in (word_size head.now.wide) bytes ≡ Ok d)) }
-    ensures bad { IfBad result (λ d. IfKnown (known_content (S.state store.old)) (λ bytes. sections_in (word_size head.now.wide) bytes ≡ Err d)) }
+    ensures dynamic { IfOk result (λ d. OfKnown (S.state store.old) (λ bytes. sections_in (word_size head.now.wide) bytes ≡ Ok d)) }
+    ensures bad { IfBad result (λ d. OfKnown (S.state store.old) (λ bytes. sections_in (word_size head.now.wide) bytes ≡ Err d)) }
     ensures name { IfOk result (λ d. IfSome d HasSoname) }
     ensures range { IfBad result IsInRange }
     ensures begun_head { IsHeadOf (S.state store.new) head.now }
-    ensures cause { IsErrOf result ObjectFault.StoreFault → HasRisen (S.state store.old).faults (S.state store.new).faults }
+    ensures cause { IsErrOf result ObjectFault.StoreFault → StoreFails (S.state store.old) (S.state store.new) }
     ensures reads { OnlyReads (S.state store.old) (S.state store.new) }
-    ensures taken { IfKnown (known_content (S.state store.old)) (λ bytes. (S.state store.new).taken ≤ raised (S.state store.old).taken
-        (448 * head.now.phnum + section_reading (word_size head.now.wide) bytes (readable_section (word_size head.now.wide) bytes))) }
+    ensures taken { OfKnown (S.state store.old) (λ bytes. TakesAtMost
+        (448 * head.now.phnum + section_reading (word_size head.now.wide) bytes (readable_section (word_size head.now.wide) bytes)) (S.state store.old) (S.state store.new)) }
 {
-    let Some(dynamic) = find_segment(store, head, Wanted::DynamicSection)? else {
+    let mut window = Window::new();
+    let Some(dynamic) = find_segment(store, head, &mut window, Wanted::DynamicSection)? else {
         return Ok(None);
     };
     if is_outside(head, dynamic) {
         return Err(ObjectFault::Bad(Defect::DynOutside));
     }
-    match read_section(alloc, store, head, dynamic) {
+    match read_section(alloc, store, head, dynamic, &mut window) {
         Ok(dynamic) => Ok(Some(dynamic)),
         Err(fault) => Err(fault),
     }

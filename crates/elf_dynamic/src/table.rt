@@ -1,13 +1,13 @@
 //! The string table.
-ghost use Rattle.std.specs.Prelude.{◌≡◌, ◌≤◌, ◌+◌, ◌*◌, ℕ, List, length, option_map, IfOk, IfSome, OnErr};
-ghost use Rattle.lib_types.specs.Counts.{raised, HasRisen};
-ghost use Rattle.tree_face.specs.Known.{IfKnown};
+ghost use Rattle.std.specs.Prelude.{◌≡◌, ◌≤◌, ◌+◌, ◌*◌, ℕ, List, length, IfOk, IfSome, OnOk, OnErr};
 ghost use Rattle.elf_headers.specs.Layout.{word_size, segments};
-ghost use Rattle.elf_headers.specs.Reading.{known_content, OnlyReads, IsHeadOf};
+ghost use Rattle.elf_headers.specs.Reading.{OnlyReads, IsHeadOf, OfKnown, TakesAtMost, StoreFails};
 ghost use Rattle.elf_dynamic.specs.Section.{table_in, table_at};
-ghost use Rattle.elf_dynamic.specs.Texts.{bytes_of};
+ghost use Rattle.elf_dynamic.specs.Texts.{bytes_if};
+ghost use Rattle.elf_dynamic.specs.Windows.{IsWindowOf};
 
 use crate::segments::{Wanted, find_segment};
+use crate::window::Window;
 use elf_headers::kinds::{Head, Segment};
 use lib_types::Failed;
 use tree_face::Store;
@@ -23,7 +23,7 @@ pub struct Table {
 fn table_in(load: Segment, address: u64, size: u64, end: u64) -> Option<Table>
     requires { load.vaddr ≤ address }
     ensures within { IfSome result (λ t. t.at + t.size ≤ end) }
-    ensures same { (bytes : List ℕ) → length bytes ≡ end → option_map (λ t. bytes_of t bytes) result ≡ table_in bytes address size load }
+    ensures same { (bytes : List ℕ) → length bytes ≡ end → bytes_if result bytes ≡ table_in bytes address size load }
 {
     let from = address - load.vaddr;
     if from.checked_add(size)? > load.filesz {
@@ -40,18 +40,22 @@ fn table_in(load: Segment, address: u64, size: u64, end: u64) -> Option<Table>
 pub fn find_table<S: Store>(
     store: &mut S,
     head: &Head,
+    window: &mut Window,
     address: u64,
     size: u64,
 ) -> Result<Option<Table>, Failed>
-    requires { IsHeadOf (S.state store.old) head.now }
-    ensures found { IfOk result (λ t. IfKnown (known_content (S.state store.old)) (λ bytes. option_map (λ t. bytes_of t bytes) t ≡ table_at bytes (segments (word_size head.now.wide) bytes) address size)) }
+    requires head { IsHeadOf (S.state store.old) head.now }
+    requires window { IsWindowOf (S.state store.old) head.now window.old }
+    ensures found { IfOk result (λ t. OfKnown (S.state store.old) (λ bytes.
+        bytes_if t bytes ≡ table_at bytes (segments (word_size head.now.wide) bytes) address size)) }
     ensures within { IfOk result (λ t. IfSome t (λ t. t.at + t.size ≤ head.now.length)) }
+    ensures window { OnOk result (IsWindowOf (S.state store.new) head.now window.new) }
     ensures begun_head { IsHeadOf (S.state store.new) head.now }
-    ensures cause { OnErr result (HasRisen (S.state store.old).faults (S.state store.new).faults) }
+    ensures cause { OnErr result (StoreFails (S.state store.old) (S.state store.new)) }
     ensures reads { OnlyReads (S.state store.old) (S.state store.new) }
-    ensures taken { (S.state store.new).taken ≤ raised (S.state store.old).taken (56 * head.now.phnum) }
+    ensures taken { TakesAtMost (112 * head.now.phnum) (S.state store.old) (S.state store.new) }
 {
-    match find_segment(store, head, Wanted::LoadAt(address))? {
+    match find_segment(store, head, window, Wanted::LoadAt(address))? {
         Some(load) => Ok(table_in(load, address, size, head.length)),
         None => Ok(None),
     }

@@ -1,15 +1,14 @@
 //! The texts of a string table.
-ghost use Rattle.std.specs.Prelude.{◌≡◌, ◌⊎◌, ◌≤◌, ◌+◌, ◌++◌, not, length, take, drop, position, take_while, Ok, Err, IfOk, IsErrOf};
+ghost use Rattle.std.specs.Prelude.{◌≡◌, ◌⊎◌, ◌≤◌, ◌+◌, ◌++◌, not, length, take, drop, position, take_while, Ok, Err, IfOk, OnOk, IsErrOf};
 ghost use Rattle.std.specs.List.{list_any};
-ghost use Rattle.lib_types.specs.Counts.{raised, HasRisen};
-ghost use Rattle.tree_face.specs.Known.{IfKnown};
-ghost use Rattle.elf_headers.specs.Reading.{known_content, OnlyReads, IsHeadOf};
+ghost use Rattle.elf_headers.specs.Reading.{OnlyReads, IsHeadOf, OfKnown, TakesAtMost, StoreFails};
 ghost use Rattle.elf_dynamic.specs.Section.{is_nul};
 ghost use Rattle.elf_dynamic.specs.Texts.{bytes_of, before_nul, text_found};
+ghost use Rattle.elf_dynamic.specs.Windows.{IsWindowOf};
 
 use crate::AnalyseFault;
-use crate::piece::read_piece;
 use crate::table::Table;
+use crate::window::Window;
 use elf_headers::kinds::Head;
 use lib_types::Text;
 use std::alloc::{AllocError, Global};
@@ -41,6 +40,17 @@ fn add_text(found: &mut Vec<u8>, piece: &[u8]) -> Result<bool, AllocError>
     }
 }
 
+// So many of these bytes, or all if there are fewer.
+fn front(bytes: &[u8], most: u64) -> &[u8]
+    ensures { result.now ≡ take most bytes.now }
+{
+    if most < bytes.len() as u64 {
+        &bytes[..most as usize]
+    } else {
+        bytes
+    }
+}
+
 // The bytes before the first NUL in a part of the file, if there is one.
 fn read_text<S: Store>(
     alloc: Global,
@@ -48,27 +58,28 @@ fn read_text<S: Store>(
     head: &Head,
     from: u64,
     most: u64,
-    buf: &mut [u8],
+    window: &mut Window,
 ) -> Result<Option<Text>, AnalyseFault>
     requires head { IsHeadOf (S.state store.old) head.now }
     requires within { from + most ≤ head.now.length }
-    requires room { 16 ≤ length buf.old }
-    ensures text { IfOk result (λ t. IfKnown (known_content (S.state store.old)) (λ bytes. t ≡ before_nul (take most (drop from bytes)))) }
+    requires window { IsWindowOf (S.state store.old) head.now window.old }
+    ensures text { IfOk result (λ t. OfKnown (S.state store.old) (λ bytes. t ≡ before_nul (take most (drop from bytes)))) }
+    ensures window { OnOk result (IsWindowOf (S.state store.new) head.now window.new) }
     ensures begun_head { IsHeadOf (S.state store.new) head.now }
-    ensures cause { IsErrOf result AnalyseFault.StoreFault → HasRisen (S.state store.old).faults (S.state store.new).faults }
+    ensures cause { IsErrOf result AnalyseFault.StoreFault → StoreFails (S.state store.old) (S.state store.new) }
     ensures reads { OnlyReads (S.state store.old) (S.state store.new) }
-    ensures taken { (S.state store.new).taken ≤ raised (S.state store.old).taken most }
+    ensures taken { TakesAtMost most (S.state store.old) (S.state store.new) }
 {
     let mut found = Vec::new(alloc);
     let mut at = from;
     let mut left = most;
     while left > 0 {
-        let count = left.min(buf.len() as u64);
-        let piece = &mut buf[..count as usize];
-        read_piece(store, head, at, piece)?;
+        window.hold(store, head, at, 1, at + left)?;
+        let piece = front(window.from(at), left);
         if add_text(&mut found, piece)? {
             return Ok(Some(Text::from_vec(found)));
         }
+        let count = piece.len() as u64;
         at += count;
         left -= count;
     }
@@ -82,20 +93,21 @@ pub fn text_at<S: Store>(
     head: &Head,
     table: Table,
     offset: u64,
-    buf: &mut [u8],
+    window: &mut Window,
 ) -> Result<Option<Text>, AnalyseFault>
     requires head { IsHeadOf (S.state store.old) head.now }
     requires within { table.at + table.size ≤ head.now.length }
-    requires room { 16 ≤ length buf.old }
-    ensures text { IfOk result (λ t. IfKnown (known_content (S.state store.old)) (λ bytes. t ≡ text_found (bytes_of table bytes) offset)) }
+    requires window { IsWindowOf (S.state store.old) head.now window.old }
+    ensures text { IfOk result (λ t. OfKnown (S.state store.old) (λ bytes. t ≡ text_found (bytes_of table bytes) offset)) }
+    ensures window { OnOk result (IsWindowOf (S.state store.new) head.now window.new) }
     ensures begun_head { IsHeadOf (S.state store.new) head.now }
-    ensures cause { IsErrOf result AnalyseFault.StoreFault → HasRisen (S.state store.old).faults (S.state store.new).faults }
+    ensures cause { IsErrOf result AnalyseFault.StoreFault → StoreFails (S.state store.old) (S.state store.new) }
     ensures reads { OnlyReads (S.state store.old) (S.state store.new) }
-    ensures taken { (S.state store.new).taken ≤ raised (S.state store.old).taken 65536 }
+    ensures taken { TakesAtMost 65536 (S.state store.old) (S.state store.new) }
 {
     if offset >= table.size {
         return Ok(None);
     }
     let most = (table.size - offset).min(TEXT_LIMIT);
-    read_text(alloc, store, head, table.at + offset, most, buf)
+    read_text(alloc, store, head, table.at + offset, most, window)
 }

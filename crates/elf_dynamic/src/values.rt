@@ -1,16 +1,16 @@
 //! What the entries say beside their texts.
-ghost use Rattle.std.specs.Prelude.{◌≡◌, ◌≤◌, ◌*◌, ◌+◌, ◌∷◌, [], ◌==◌, ◌||◌, false, None, Some, if◌then◌else◌, ℕ, List, length, IfOk, OnErr};
-ghost use Rattle.lib_types.specs.Counts.{raised, HasRisen};
-ghost use Rattle.tree_face.specs.Known.{IfKnown};
+ghost use Rattle.std.specs.Prelude.{◌≡◌, ◌≤◌, ◌*◌, ◌+◌, ◌∷◌, [], ◌==◌, ◌||◌, false, None, Some, if◌then◌else◌, ℕ, List, IfOk, OnOk, OnErr};
 ghost use Rattle.elf_headers.specs.Layout.{word_size};
-ghost use Rattle.elf_headers.specs.Reading.{known_content, OnlyReads, IsHeadOf};
+ghost use Rattle.elf_headers.specs.Reading.{OnlyReads, IsHeadOf, OfKnown, TakesAtMost, StoreFails};
 ghost use Rattle.elf_dynamic.specs.declared.kinds.DynamicEntry.{DynamicEntry};
 ghost use Rattle.elf_dynamic.specs.Section.{strtab, strsz, flags_1, has_tag, has_text, dynamic_entries};
 ghost use Rattle.elf_dynamic.specs.Values.{first_of, joined, values_of};
+ghost use Rattle.elf_dynamic.specs.Windows.{IsWindowOf};
 
 use crate::entries::Entries;
 use crate::kinds::DynamicEntry;
 use crate::tags::tag;
+use crate::window::Window;
 use elf_headers::kinds::{Head, Segment};
 use lib_types::Failed;
 use tree_face::Store;
@@ -71,20 +71,21 @@ pub fn read_values<S: Store>(
     store: &mut S,
     head: &Head,
     dynamic: Segment,
-    buf: &mut [u8],
+    window: &mut Window,
 ) -> Result<Values, Failed>
     requires head { IsHeadOf (S.state store.old) head.now }
     requires within { dynamic.offset + dynamic.filesz ≤ head.now.length }
-    requires room { 16 ≤ length buf.old }
-    ensures values { IfOk result (λ v. IfKnown (known_content (S.state store.old)) (λ bytes. v ≡ values_of (dynamic_entries (word_size head.now.wide) bytes dynamic))) }
+    requires window { IsWindowOf (S.state store.old) head.now window.old }
+    ensures values { IfOk result (λ v. OfKnown (S.state store.old) (λ bytes. v ≡ values_of (dynamic_entries (word_size head.now.wide) bytes dynamic))) }
+    ensures window { OnOk result (IsWindowOf (S.state store.new) head.now window.new) }
     ensures begun_head { IsHeadOf (S.state store.new) head.now }
-    ensures cause { OnErr result (HasRisen (S.state store.old).faults (S.state store.new).faults) }
+    ensures cause { OnErr result (StoreFails (S.state store.old) (S.state store.new)) }
     ensures reads { OnlyReads (S.state store.old) (S.state store.new) }
-    ensures taken { (S.state store.new).taken ≤ raised (S.state store.old).taken (2 * dynamic.filesz) }
+    ensures taken { TakesAtMost (2 * dynamic.filesz) (S.state store.old) (S.state store.new) }
 {
     let mut values = Values::none();
     let mut entries = Entries::new(head.wide, dynamic);
-    while let Some(entry) = entries.next(store, head, buf)? {
+    while let Some(entry) = entries.next(store, head, window)? {
         values = values.with(entry);
     }
     Ok(values)

@@ -1,5 +1,5 @@
 -- Numbers in a part of a list of bytes.
-use Rattle.std.proofs.Common.{◌≡◌, ℕ, zero, suc, ◌+◌, ◌*◌, ◌<◌, ◌≤◌, List, length, take, drop, get_or, slice_index, refl, ap, sym, ◌∙◌, arith, get_or-drop, get_or-take}
+use Rattle.std.proofs.Common.{◌≡◌, ℕ, zero, suc, ◌+◌, ◌<◌, ◌≤◌, List, take, drop, get_or, refl, ap, sym, ◌∙◌, arith, get_or-drop}
 use Rattle.byteorder.specs.Numbers.{little_from-take}
 use Rattle.lib_types.specs.Bytes.{field}
 

@@ -1,5 +1,5 @@
 -- What the header of a file is, by the first sentence that holds.
-use Rattle.std.proofs.Common.{◌≡◌, ℕ, ◌+◌, ◌*◌, ◌⊎◌, ◌<◌, ◌≤◌, take, lit<, lit≤, get_or-take, Bool, true, false, cond, not, ◌&&◌, ◌||◌, ◌==◌, nat_lt, List, Option, Some, None, is_none, Result, Ok, Err, [], ◌∷◌, refl, ap, sym, ◌∙◌, arith}
+use Rattle.std.proofs.Common.{◌≡◌, ℕ, ◌+◌, ◌*◌, ◌⊎◌, ◌≤◌, take, lit<, lit≤, get_or-take, Bool, true, false, cond, not, ◌&&◌, ◌||◌, ◌==◌, nat_lt, List, Option, Some, None, is_none, Result, Ok, Err, [], ◌∷◌, refl, ap, sym, ◌∙◌, arith}
 use Rattle.std.proofs.lemmas.Bool.Decides.{nat_tests}
 use Rattle.std.specs.List.{list_any}
 use Rattle.std.specs.Option.{option_map_or}

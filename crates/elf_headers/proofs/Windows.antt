@@ -133,14 +133,24 @@ fits : (b : Bool) → Fits (word_size b)
 fits true = (lit≤ tt, lit≤ tt, lit≤ tt, lit≤ tt)
 fits false = (lit≤ tt, lit≤ tt, lit≤ tt, lit≤ tt)
 
-segment_window : (w at : ℕ) (bytes : List ℕ) → Fits w → segment_at w (take (program_header_length w) (drop at bytes)) 0 ≡ segment_at w bytes at
-segment_window w at bytes within =
-    let m = program_header_length w in
-    let kind = field_window m at 0 at 4 bytes (omega (arith, within.3)) (omega arith) in
-    let offset = field_window m at (0 + at_class w 4 8) (at + at_class w 4 8) w bytes (omega (arith, within.0)) (omega arith) in
-    let vaddr = field_window m at (0 + at_class w 8 16) (at + at_class w 8 16) w bytes (omega (arith, within.1)) (omega arith) in
-    let filesz = field_window m at (0 + at_class w 16 32) (at + at_class w 16 32) w bytes (omega (arith, within.2)) (omega arith) in
+-- of the bytes that begin at it
+segment_window : (w n at : ℕ) (bytes : List ℕ) → Fits w → program_header_length w ≤ n → segment_at w (take n (drop at bytes)) 0 ≡ segment_at w bytes at
+segment_window w n at bytes within enough =
+    let kind = field_window n at 0 at 4 bytes (omega (arith, within.3)) (omega arith) in
+    let offset = field_window n at (0 + at_class w 4 8) (at + at_class w 4 8) w bytes (omega (arith, within.0)) (omega arith) in
+    let vaddr = field_window n at (0 + at_class w 8 16) (at + at_class w 8 16) w bytes (omega (arith, within.1)) (omega arith) in
+    let filesz = field_window n at (0 + at_class w 16 32) (at + at_class w 16 32) w bytes (omega (arith, within.2)) (omega arith) in
     rw (kind, offset, vaddr, filesz) refl
+
+pub segment_here : (w : ℕ) (h : Head) (index n : ℕ) (front bytes : List ℕ) → word_size h.wide ≡ w → head bytes ≡ Ok h → program_header_length w ≤ n → front ≡ take n (drop (h.phoff + index * program_header_length w) bytes) →
+    segment_at w front 0 ≡ segment w bytes index
+segment_here w h index n front bytes width e enough read =
+    let given = gives {size = length bytes} {bytes = bytes} {h = h} e in
+    let wide : word_size (is_wide bytes) ≡ w = ap word_size (sym given.wide_is) ∙ width in
+    let phoff_is : phoff w bytes ≡ h.phoff = ap (λ w. phoff w bytes) (sym wide) ∙ sym given.phoff_is in
+    ap (λ b. segment_at w b 0) read
+    ∙ segment_window w n (h.phoff + index * program_header_length w) bytes (subst Fits width (fits h.wide)) enough
+    ∙ ap (λ k. segment_at w bytes (k + index * program_header_length w)) (sym phoff_is)
 
 within_by : (at phoff index each n size : ℕ) → at ≡ phoff + index * each → index < n → (n ≡ 0) ⊎ (phoff + n * each ≤ size) → at + each ≤ size
 within_by at phoff index each n size e h (inl none) = absurd (omega arith)
@@ -151,16 +161,13 @@ pub segment_read : (w : ℕ) (h : Head) (s0 s1 : StoreState) (at index n : ℕ) 
     at ≡ h.phoff + index * program_header_length w → length before ≡ program_header_length w → length buf ≡ length before → known_content s0 ≡ Some bytes → head bytes ≡ Ok h → segment_at w buf 0 ≡ segment w bytes index
 segment_read w h s0 s1 at index n before buf bytes width r is_head in_range place full kept content e =
     let given = gives {size = length bytes} {bytes = bytes} {h = h} e in
-    let wide : word_size (is_wide bytes) ≡ w = ap word_size (sym given.wide_is) ∙ width in
-    let phoff_is : phoff w bytes ≡ h.phoff = ap (λ w. phoff w bytes) (sym wide) ∙ sym given.phoff_is in
-    let all : (h.phnum ≡ 0) ⊎ (h.phoff + h.phnum * program_header_length w ≤ h.length) =
+    let each = program_header_length w in
+    let all : (h.phnum ≡ 0) ⊎ (h.phoff + h.phnum * each ≤ h.length) =
     subst (λ w. (h.phnum ≡ 0) ⊎ (h.phoff + h.phnum * program_header_length w ≤ h.length)) width is_head.headers in
-    let within : at + program_header_length w ≤ h.length = within_by at h.phoff index (program_header_length w) h.phnum h.length place in_range all in
+    let within : at + each ≤ h.length = within_by at h.phoff index each h.phnum h.length place in_range all in
     let read = filled_known s0 s1 at n h.length before buf bytes r is_head.size (omega arith) kept content (sym given.size_is) in
-    let here : at ≡ phoff w bytes + index * program_header_length w = place ∙ ap (λ k. k + index * program_header_length w) (sym phoff_is) in
-    ap (λ b. segment_at w b 0) (read ∙ ap (λ m. take m (drop at bytes)) full)
-    ∙ segment_window w at bytes (subst Fits width (fits h.wide))
-    ∙ ap (segment_at w bytes) here
+    let here : take (length before) (drop at bytes) ≡ take each (drop (h.phoff + index * each) bytes) = ap (λ m. take m (drop at bytes)) full ∙ ap (λ k. take each (drop k bytes)) place in
+    segment_here w h index each buf bytes width e (omega arith) (read ∙ here)
 
 -- a program header fits a buffer of 56 bytes
 pub least : (each : ℕ) (b : Bool) → each ≡ cond b 56 32 → min each 56 ≡ cond b 56 32

@@ -1,5 +1,5 @@
 -- A file whose identification has no defect. The clauses of private functions cite it.
-use Rattle.std.specs.Prelude.{◌≡◌, ℕ, Bool, true, false, ◌==◌, nat_lt, List}
+use Rattle.std.specs.Prelude.{◌≡◌, ℕ, true, false, ◌==◌, nat_lt, List}
 use Rattle.elf_headers.specs.Layout.{encoding, is_wide, word_size}
 use Rattle.elf_headers.specs.Header.{has_magic, has_class}
 

@@ -1,7 +1,8 @@
 -- A store from which a file is read in windows.
 use Rattle.std.specs.Prelude.{◌≡◌, ◌⊎◌, ◌≤◌, ◌<◌, ◌^◌, ◌+◌, ◌*◌, ℕ, List, Option, Some, IfSome, IsSomeAnd, option_and_then, Ok}
+use Rattle.lib_types.specs.Counts.{raised, HasRisen}
 use Rattle.tree_face.specs.Known.{IfKnown}
-use Rattle.tree_face.specs.Store.{Contents, StoreState}
+use Rattle.tree_face.specs.Store.{Contents, StoreState, Lacks}
 use Rattle.elf_headers.specs.declared.kinds.Head.{Head}
 use Rattle.elf_headers.specs.Layout.{word_size, program_header_length}
 use Rattle.elf_headers.specs.Header.{head}
@@ -9,6 +10,22 @@ use Rattle.elf_headers.specs.Header.{head}
 -- the content of the begun key, if the store makes contents known
 abbrev pub known_content : StoreState → Option (List ℕ)
 known_content s = option_and_then (λ _. s.content) s.held
+
+-- a fact of that content, if it is known
+abbrev pub OfKnown : StoreState → (List ℕ → Type 0) → Type 0
+OfKnown s P = IfKnown (known_content s) P
+
+-- at most so many bytes were taken
+abbrev pub TakesAtMost : ℕ → StoreState → StoreState → Type 0
+TakesAtMost n old new = new.taken ≤ raised old.taken n
+
+-- the store has failed
+abbrev pub StoreFails : StoreState → StoreState → Type 0
+StoreFails old new = HasRisen old.faults new.faults
+
+-- the store has failed, or doesn't hold the key
+abbrev pub FailsAt : List ℕ → StoreState → StoreState → Type 0
+FailsAt key old new = StoreFails old new ⊎ Lacks old.held key
 
 -- if contents are known, the key has one, and the fact holds of it
 abbrev pub OfContent : Option Contents → List ℕ → (List ℕ → Type 0) → Type 0

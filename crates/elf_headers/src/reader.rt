@@ -1,14 +1,12 @@
 //! The headers of a file in a store.
 ghost use Rattle.std.specs.Prelude.{◌≡◌, ◌⊎◌, ◌≤◌, ◌<◌, Some, Ok, Err, IfOk, OnErr, IsErrOf};
-ghost use Rattle.lib_types.specs.Counts.{raised, HasRisen};
-ghost use Rattle.tree_face.specs.Known.{IfKnown};
-ghost use Rattle.tree_face.specs.Store.{BeginsAtMost, Lacks};
+ghost use Rattle.tree_face.specs.Store.{BeginsAtMost};
 ghost use Rattle.elf_headers.specs.Faults.{IfBad};
 ghost use Rattle.elf_headers.specs.Header as spec;
 ghost use Rattle.elf_headers.specs.Layout.{word_size};
 ghost use Rattle.elf_headers.specs.Layout as layout;
 ghost use Rattle.elf_headers.specs.Range.{IsInRange};
-ghost use Rattle.elf_headers.specs.Reading.{known_content, OfContent, OnlyReads, IsHeadOf};
+ghost use Rattle.elf_headers.specs.Reading.{known_content, OfContent, OnlyReads, IsHeadOf, OfKnown, TakesAtMost, StoreFails, FailsAt};
 
 use crate::HeadFault;
 use crate::class::{Class, head_of};
@@ -23,10 +21,10 @@ pub fn head<S: Store>(store: &mut S, key: &[u8]) -> Result<Head, HeadFault>
     ensures content { IfOk result (λ _. OfContent (S.state store.old).held key.now (λ bytes. known_content (S.state store.new) ≡ Some bytes)) }
     ensures defect { IfBad result (λ d. OfContent (S.state store.old).held key.now (λ bytes. spec.head bytes ≡ Err d)) }
     ensures range { IfBad result IsInRange }
-    ensures cause { IsErrOf result HeadFault.StoreFault → HasRisen (S.state store.old).faults (S.state store.new).faults ⊎ Lacks (S.state store.old).held key.now }
+    ensures cause { IsErrOf result HeadFault.StoreFault → FailsAt key.now (S.state store.old) (S.state store.new) }
     ensures held { (S.state store.new).held ≡ (S.state store.old).held }
     ensures begun { BeginsAtMost 1 (S.state store.old) (S.state store.new) }
-    ensures taken { (S.state store.new).taken ≤ raised (S.state store.old).taken 64 }
+    ensures taken { TakesAtMost 64 (S.state store.old) (S.state store.new) }
     ensures faults { (S.state store.old).faults ≤ (S.state store.new).faults }
 {
     let size = store.begin(key)?;
@@ -42,11 +40,11 @@ pub fn head<S: Store>(store: &mut S, key: &[u8]) -> Result<Head, HeadFault>
 pub fn segment<S: Store>(store: &mut S, head: &Head, index: u16) -> Result<Segment, Failed>
     requires head { IsHeadOf (S.state store.old) head.now }
     requires index { index < head.now.phnum }
-    ensures segment { IfOk result (λ s. IfKnown (known_content (S.state store.old)) (λ bytes. s ≡ layout.segment (word_size head.now.wide) bytes index)) }
+    ensures segment { IfOk result (λ s. OfKnown (S.state store.old) (λ bytes. s ≡ layout.segment (word_size head.now.wide) bytes index)) }
     ensures begun_head { IsHeadOf (S.state store.new) head.now }
-    ensures cause { OnErr result (HasRisen (S.state store.old).faults (S.state store.new).faults) }
+    ensures cause { OnErr result (StoreFails (S.state store.old) (S.state store.new)) }
     ensures reads { OnlyReads (S.state store.old) (S.state store.new) }
-    ensures taken { (S.state store.new).taken ≤ raised (S.state store.old).taken 56 }
+    ensures taken { TakesAtMost 56 (S.state store.old) (S.state store.new) }
 {
     if head.wide {
         segment_of_class::<S, 8>(store, head, index)
@@ -64,11 +62,11 @@ fn segment_of_class<S: Store, const W: usize>(
     requires width { word_size head.now.wide ≡ W }
     requires head { IsHeadOf (S.state store.old) head.now }
     requires index { index < head.now.phnum }
-    ensures segment { IfOk result (λ s. IfKnown (known_content (S.state store.old)) (λ bytes. s ≡ layout.segment W bytes index)) }
+    ensures segment { IfOk result (λ s. OfKnown (S.state store.old) (λ bytes. s ≡ layout.segment W bytes index)) }
     ensures begun_head { IsHeadOf (S.state store.new) head.now }
-    ensures cause { OnErr result (HasRisen (S.state store.old).faults (S.state store.new).faults) }
+    ensures cause { OnErr result (StoreFails (S.state store.old) (S.state store.new)) }
     ensures reads { OnlyReads (S.state store.old) (S.state store.new) }
-    ensures taken { (S.state store.new).taken ≤ raised (S.state store.old).taken 56 }
+    ensures taken { TakesAtMost 56 (S.state store.old) (S.state store.new) }
 {
     let each = Class::<W>::program_header_length();
     let at = head.phoff + u64::from(index) * each as u64;

@@ -1,79 +1,10 @@
 // Made files, byte by byte and field by field. Expected bytes and numbers are written down from the gABI.
-use crate::specs::{full, library};
-use elf_maker::{MakeFault, Spec, is_spec, make};
+use elf_samples::{I386_LIBZ, LIBZ, file_of, full, library};
 use lib_types::Abi;
-use std::alloc::Global;
-use std::process::Abort;
 use std::test::Fail;
-
-// The library for x86-64 with the soname libz.so.1.
-const LIBZ: [u8; 251] = [
-    // identification
-    0x7f, 0x45, 0x4c, 0x46, 2, 1, 1, 0, 0, 0, 0, 0, 0, 0, 0, 0,
-    // e_type, e_machine, e_version, e_entry
-    3, 0, 62, 0, 1, 0, 0, 0, 0, 0, 0, 0, 0, 0, 0, 0,
-    // e_phoff, e_shoff
-    64, 0, 0, 0, 0, 0, 0, 0, 0, 0, 0, 0, 0, 0, 0, 0,
-    // e_flags, e_ehsize, e_phentsize, e_phnum, and the section headers' three
-    0, 0, 0, 0, 64, 0, 56, 0, 2, 0, 0, 0, 0, 0, 0, 0,
-    // 64: PT_LOAD, p_flags, p_offset
-    1, 0, 0, 0, 4, 0, 0, 0, 0, 0, 0, 0, 0, 0, 0, 0,
-    // p_vaddr, p_paddr
-    0, 0x10, 0, 0, 0, 0, 0, 0, 0, 0x10, 0, 0, 0, 0, 0, 0,
-    // p_filesz, p_memsz
-    251, 0, 0, 0, 0, 0, 0, 0, 251, 0, 0, 0, 0, 0, 0, 0,
-    // p_align; 120: PT_DYNAMIC, p_flags
-    0, 0x10, 0, 0, 0, 0, 0, 0, 2, 0, 0, 0, 4, 0, 0, 0,
-    // p_offset, p_vaddr
-    176, 0, 0, 0, 0, 0, 0, 0, 0xb0, 0x10, 0, 0, 0, 0, 0, 0,
-    // p_paddr, p_filesz
-    0xb0, 0x10, 0, 0, 0, 0, 0, 0, 64, 0, 0, 0, 0, 0, 0, 0,
-    // p_memsz, p_align
-    64, 0, 0, 0, 0, 0, 0, 0, 8, 0, 0, 0, 0, 0, 0, 0,
-    // 176: DT_SONAME
-    14, 0, 0, 0, 0, 0, 0, 0, 1, 0, 0, 0, 0, 0, 0, 0,
-    // DT_STRTAB
-    5, 0, 0, 0, 0, 0, 0, 0, 0xf0, 0x10, 0, 0, 0, 0, 0, 0,
-    // DT_STRSZ
-    10, 0, 0, 0, 0, 0, 0, 0, 11, 0, 0, 0, 0, 0, 0, 0,
-    // DT_NULL
-    0, 0, 0, 0, 0, 0, 0, 0, 0, 0, 0, 0, 0, 0, 0, 0,
-    // 240: the string table
-    0, b'l', b'i', b'b', b'z', b'.', b's', b'o', b'.', b'1', 0,
-];
-
-// The same for i386.
-const LIBZ_I386: [u8; 159] = [
-    // identification
-    0x7f, 0x45, 0x4c, 0x46, 1, 1, 1, 0, 0, 0, 0, 0, 0, 0, 0, 0,
-    // e_type, e_machine, e_version, e_entry, e_phoff
-    3, 0, 3, 0, 1, 0, 0, 0, 0, 0, 0, 0, 52, 0, 0, 0,
-    // e_shoff, e_flags, e_ehsize, e_phentsize, e_phnum, and the section headers' three
-    0, 0, 0, 0, 0, 0, 0, 0, 52, 0, 32, 0, 2, 0, 0, 0, 0, 0, 0, 0,
-    // 52: PT_LOAD, p_offset, p_vaddr, p_paddr
-    1, 0, 0, 0, 0, 0, 0, 0, 0, 0x10, 0, 0, 0, 0x10, 0, 0,
-    // p_filesz, p_memsz, p_flags, p_align
-    159, 0, 0, 0, 159, 0, 0, 0, 4, 0, 0, 0, 0, 0x10, 0, 0,
-    // 84: PT_DYNAMIC, p_offset, p_vaddr, p_paddr
-    2, 0, 0, 0, 116, 0, 0, 0, 0x74, 0x10, 0, 0, 0x74, 0x10, 0, 0,
-    // p_filesz, p_memsz, p_flags, p_align
-    32, 0, 0, 0, 32, 0, 0, 0, 4, 0, 0, 0, 4, 0, 0, 0,
-    // 116: DT_SONAME, DT_STRTAB
-    14, 0, 0, 0, 1, 0, 0, 0, 5, 0, 0, 0, 0x94, 0x10, 0, 0,
-    // DT_STRSZ, DT_NULL
-    10, 0, 0, 0, 11, 0, 0, 0, 0, 0, 0, 0, 0, 0, 0, 0,
-    // 148: the string table
-    0, b'l', b'i', b'b', b'z', b'.', b's', b'o', b'.', b'1', 0,
-];
 
 // The strings of a full section.
 const FULL_STRINGS: &[u8] = b"\0libc.so.6\0libm.so.6\0libfull.so.2\0/r\0/run\0";
-
-// The file of what can be made.
-pub fn made(rt: &impl Abort, alloc: Global, spec: &Spec) -> Result<Vec<u8>, MakeFault> {
-    assert!(rt; is_spec(spec));
-    make(alloc, spec)
-}
 
 // The number of so many bytes at an offset, least byte first.
 fn number(bytes: &[u8], at: usize, size: usize) -> Option<u64> {
@@ -87,7 +18,7 @@ fn number(bytes: &[u8], at: usize, size: usize) -> Option<u64> {
 #[test]
 fn a_library_for_x86_64_has_these_bytes(rt: HostRuntime) -> Result<(), Fail> {
     let alloc = rt.alloc();
-    let bytes = made(&rt, alloc, &library(alloc, Abi::X86_64, "libz.so.1")?)?;
+    let bytes = file_of(alloc, &library(alloc, Abi::X86_64, b"libz.so.1")?)?;
     assert!(rt; bytes.as_slice() == LIBZ.as_slice());
     Ok(())
 }
@@ -95,8 +26,8 @@ fn a_library_for_x86_64_has_these_bytes(rt: HostRuntime) -> Result<(), Fail> {
 #[test]
 fn a_library_for_i386_has_these_bytes(rt: HostRuntime) -> Result<(), Fail> {
     let alloc = rt.alloc();
-    let bytes = made(&rt, alloc, &library(alloc, Abi::I386, "libz.so.1")?)?;
-    assert!(rt; bytes.as_slice() == LIBZ_I386.as_slice());
+    let bytes = file_of(alloc, &library(alloc, Abi::I386, b"libz.so.1")?)?;
+    assert!(rt; bytes.as_slice() == I386_LIBZ.as_slice());
     Ok(())
 }
 
@@ -125,7 +56,7 @@ fn each_abi_has_its_class_and_machine(rt: HostRuntime) -> Result<(), Fail> {
         (Abi::Aarch64, 2, 183, 2),
     ];
     for (abi, class, machine, etype) in rows {
-        let bytes = made(&rt, alloc, &full(alloc, abi, etype)?)?;
+        let bytes = file_of(alloc, &full(alloc, abi, etype)?)?;
         assert!(rt; bytes.starts_with(b"\x7fELF"));
         assert!(rt;
             has_numbers(
@@ -144,7 +75,7 @@ fn each_abi_has_its_class_and_machine(rt: HostRuntime) -> Result<(), Fail> {
 #[test]
 fn a_full_file_of_class_1_has_these_fields(rt: HostRuntime) -> Result<(), Fail> {
     let alloc = rt.alloc();
-    let file = made(&rt, alloc, &full(alloc, Abi::X32, 3)?)?;
+    let file = file_of(alloc, &full(alloc, Abi::X32, 3)?)?;
     let bytes = file.as_slice();
     assert!(rt; bytes.len() == 230);
 
@@ -164,7 +95,7 @@ fn a_full_file_of_class_1_has_these_fields(rt: HostRuntime) -> Result<(), Fail> 
 #[test]
 fn a_full_file_of_class_2_has_these_fields(rt: HostRuntime) -> Result<(), Fail> {
     let alloc = rt.alloc();
-    let file = made(&rt, alloc, &full(alloc, Abi::Aarch64, 2)?)?;
+    let file = file_of(alloc, &full(alloc, Abi::Aarch64, 2)?)?;
     let bytes = file.as_slice();
     assert!(rt; bytes.len() == 362);
 

@@ -5,5 +5,3 @@
 mod files;
 #[cfg(test)]
 mod limits;
-#[cfg(test)]
-mod specs;

@@ -1,7 +1,6 @@
 // The longest files and texts.
-use crate::files::made;
-use crate::specs::{library, needing};
-use elf_maker::{MakeFault, is_spec};
+use elf_maker::is_spec;
+use elf_samples::{SampleFault, file_of, library, needing};
 use lib_types::{Abi, NoMemory, Text, Texts};
 use std::alloc::Global;
 use std::test::Fail;
@@ -30,9 +29,9 @@ fn a_file_of_class_1_has_at_most_2_24_bytes(rt: HostRuntime) -> Result<(), Fail>
 
     // Headers, 259 entries of 8 bytes, one NUL, and 256 texts with theirs.
     let longest = needing(Abi::I386, long_texts(alloc, 255, 63346)?);
-    assert!(rt; made(&rt, alloc, &longest)?.len() == 1 << 24);
+    assert!(rt; file_of(alloc, &longest)?.len() == 1 << 24);
     let longer = needing(Abi::I386, long_texts(alloc, 255, 63347)?);
-    assert!(rt; matches!(made(&rt, alloc, &longer), Err(MakeFault::TooLong)));
+    assert!(rt; matches!(file_of(alloc, &longer), Err(SampleFault::TooLong)));
     Ok(())
 }
 
@@ -42,9 +41,9 @@ fn a_file_of_class_2_has_at_most_2_24_bytes(rt: HostRuntime) -> Result<(), Fail>
 
     // Headers, 259 entries of 16 bytes, one NUL, and 256 texts with theirs.
     let longest = needing(Abi::X86_64, long_texts(alloc, 255, 61214)?);
-    assert!(rt; made(&rt, alloc, &longest)?.len() == 1 << 24);
+    assert!(rt; file_of(alloc, &longest)?.len() == 1 << 24);
     let longer = needing(Abi::X86_64, long_texts(alloc, 255, 61215)?);
-    assert!(rt; matches!(made(&rt, alloc, &longer), Err(MakeFault::TooLong)));
+    assert!(rt; matches!(file_of(alloc, &longer), Err(SampleFault::TooLong)));
     Ok(())
 }
 
@@ -52,7 +51,7 @@ fn a_file_of_class_2_has_at_most_2_24_bytes(rt: HostRuntime) -> Result<(), Fail>
 fn needed_texts_of_2_24_bytes_are_too_many(rt: HostRuntime) -> Result<(), Fail> {
     let alloc = rt.alloc();
     let spec = needing(Abi::X86_64, long_texts(alloc, 256, 256)?);
-    assert!(rt; matches!(made(&rt, alloc, &spec), Err(MakeFault::TooLong)));
+    assert!(rt; matches!(file_of(alloc, &spec), Err(SampleFault::TooLong)));
     Ok(())
 }
 
@@ -60,10 +59,15 @@ fn needed_texts_of_2_24_bytes_are_too_many(rt: HostRuntime) -> Result<(), Fail> 
 fn what_cannot_be_made_is_told(rt: HostRuntime) -> Result<(), Fail> {
     let alloc = rt.alloc();
     for soname in ["", ".", "..", "a/b", "a\0b"] {
-        assert!(rt; !is_spec(&library(alloc, Abi::X86_64, soname)?), "{soname}");
+        let spec = library(alloc, Abi::X86_64, soname.as_bytes())?;
+        assert!(rt; !is_spec(&spec), "{soname}");
+        assert!(rt;
+            matches!(file_of(alloc, &spec), Err(SampleFault::NoSpec)),
+            "{soname}"
+        );
     }
     for etype in [0, 1, 4, 258] {
-        let mut spec = library(alloc, Abi::X86_64, "libz.so.1")?;
+        let mut spec = library(alloc, Abi::X86_64, b"libz.so.1")?;
         spec.etype = etype;
         assert!(rt; !is_spec(&spec), "{etype}");
     }

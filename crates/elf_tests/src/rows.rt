@@ -1,6 +1,6 @@
 // What the two libraries are with some of their bytes changed.
-use crate::{I386_LIBZ, LIBZ};
 use elf_dynamic::analyse;
+use elf_samples::{SampleFault, library_file};
 use lib_types::{Abi, Analysis, Defect, Text};
 use std::alloc::Global;
 use std::process::Abort;
@@ -256,6 +256,11 @@ const SIZES: &[Row] = &[
     ),
 ];
 
+// A shared object whose DT_SONAME is `libz.so.1`: 251 bytes in class 2, 159 in class 1.
+pub fn libz(alloc: Global, abi: Abi) -> Result<Vec<u8>, SampleFault> {
+    library_file(alloc, abi, b"libz.so.1")
+}
+
 pub fn changed(alloc: Global, base: &[u8], changes: &[Change]) -> Result<Vec<u8>, Fail> {
     let mut bytes = Vec::from_slice(alloc, base)?;
     for (at, new) in changes {
@@ -297,12 +302,12 @@ pub fn is(analysis: &Option<Analysis>, abi: Abi, want: Option<Defect>) -> bool {
 // Whether both files are what the row says.
 fn check(rt: &impl Abort, alloc: Global, row: &Row) -> Result<(), Fail> {
     let (wide, narrow, want) = row;
-    let found = analysis(alloc, changed(alloc, &LIBZ, wide)?)?;
+    let found = analysis(alloc, changed(alloc, &libz(alloc, Abi::X86_64)?, wide)?)?;
     assert!(rt;
         is(&found, Abi::X86_64, *want),
         "class 2: {wide:?} {want:?}"
     );
-    let found = analysis(alloc, changed(alloc, &I386_LIBZ, narrow)?)?;
+    let found = analysis(alloc, changed(alloc, &libz(alloc, Abi::I386)?, narrow)?)?;
     assert!(rt;
         is(&found, Abi::I386, *want),
         "class 1: {narrow:?} {want:?}"

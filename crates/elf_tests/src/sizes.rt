@@ -1,6 +1,6 @@
 // Files that are cut, and files that are long.
-use super::rows::{analysis, changed, is};
-use crate::{I386_LIBZ, LIBZ, Sparse};
+use super::rows::{analysis, changed, is, libz};
+use crate::Sparse;
 use elf_dynamic::analyse;
 use lib_types::{Abi, Analysis, Defect};
 use std::alloc::Global;
@@ -16,10 +16,8 @@ fn cut(alloc: Global, bytes: &[u8], length: usize) -> Result<Vec<u8>, Fail> {
 #[test]
 fn short_files_say_their_length(rt: HostRuntime) -> Result<(), Fail> {
     let alloc = rt.alloc();
-    for (base, abi, header) in [
-        (&LIBZ as &[u8], Abi::X86_64, 64),
-        (&I386_LIBZ, Abi::I386, 52),
-    ] {
+    for (abi, header) in [(Abi::X86_64, 64), (Abi::I386, 52)] {
+        let base = libz(alloc, abi)?;
         for length in 0..header {
             let want = if length < 4 {
                 Defect::NotElf
@@ -30,14 +28,14 @@ fn short_files_say_their_length(rt: HostRuntime) -> Result<(), Fail> {
             };
             assert!(rt;
                 is(
-                    &analysis(alloc, cut(alloc, base, length)?)?,
+                    &analysis(alloc, cut(alloc, &base, length)?)?,
                     abi,
                     Some(want)
                 ),
                 "{length}"
             );
         }
-        let found = analysis(alloc, cut(alloc, base, header)?)?;
+        let found = analysis(alloc, cut(alloc, &base, header)?)?;
         assert!(rt; is(&found, abi, Some(Defect::BadPhdrs)), "{header}");
     }
     Ok(())
@@ -47,9 +45,10 @@ fn short_files_say_their_length(rt: HostRuntime) -> Result<(), Fail> {
 fn the_first_defect_of_a_short_file_counts(rt: HostRuntime) -> Result<(), Fail> {
     let alloc = rt.alloc();
     let short = Defect::TooShort { length: 15 };
-    let bytes = cut(alloc, &changed(alloc, &LIBZ, &[(4, &[3])])?, 15)?;
+    let wide = libz(alloc, Abi::X86_64)?;
+    let bytes = cut(alloc, &changed(alloc, &wide, &[(4, &[3])])?, 15)?;
     assert!(rt; is(&analysis(alloc, bytes)?, Abi::X86_64, Some(short)));
-    let bytes = cut(alloc, &changed(alloc, &LIBZ, &[(5, &[2])])?, 20)?;
+    let bytes = cut(alloc, &changed(alloc, &wide, &[(5, &[2])])?, 20)?;
     assert!(rt;
         is(
             &analysis(alloc, bytes)?,
@@ -57,7 +56,7 @@ fn the_first_defect_of_a_short_file_counts(rt: HostRuntime) -> Result<(), Fail> 
             Some(Defect::BadData { value: 2 })
         )
     );
-    let bytes = cut(alloc, &changed(alloc, &LIBZ, &[(18, &[0])])?, 63)?;
+    let bytes = cut(alloc, &changed(alloc, &wide, &[(18, &[0])])?, 63)?;
     assert!(rt;
         is(
             &analysis(alloc, bytes)?,
@@ -71,11 +70,13 @@ fn the_first_defect_of_a_short_file_counts(rt: HostRuntime) -> Result<(), Fail> 
 #[test]
 fn machine_and_class_give_the_abi(rt: HostRuntime) -> Result<(), Fail> {
     let alloc = rt.alloc();
-    let bytes = changed(alloc, &LIBZ, &[(18, &[183])])?;
+    let wide = libz(alloc, Abi::X86_64)?;
+    let narrow = libz(alloc, Abi::I386)?;
+    let bytes = changed(alloc, &wide, &[(18, &[183])])?;
     assert!(rt; is(&analysis(alloc, bytes)?, Abi::Aarch64, None));
-    let bytes = changed(alloc, &I386_LIBZ, &[(18, &[62])])?;
+    let bytes = changed(alloc, &narrow, &[(18, &[62])])?;
     assert!(rt; is(&analysis(alloc, bytes)?, Abi::X32, None));
-    let bytes = changed(alloc, &LIBZ, &[(18, &[3])])?;
+    let bytes = changed(alloc, &wide, &[(18, &[3])])?;
     assert!(rt;
         is(
             &analysis(alloc, bytes)?,
@@ -83,7 +84,7 @@ fn machine_and_class_give_the_abi(rt: HostRuntime) -> Result<(), Fail> {
             Some(Defect::BadMachine { number: 3 })
         )
     );
-    let bytes = changed(alloc, &I386_LIBZ, &[(18, &[183])])?;
+    let bytes = changed(alloc, &narrow, &[(18, &[183])])?;
     assert!(rt;
         is(
             &analysis(alloc, bytes)?,
@@ -96,16 +97,20 @@ fn machine_and_class_give_the_abi(rt: HostRuntime) -> Result<(), Fail> {
 
 #[test]
 fn a_file_of_2_to_the_40_bytes_is_read_in_windows(rt: HostRuntime) -> Result<(), Fail> {
-    let mut store = Sparse::new();
-    let found = analyse(rt.alloc(), &mut store, b"libz.so.1").ok();
+    let alloc = rt.alloc();
+    let mut store = Sparse::new(libz(alloc, Abi::X86_64)?);
+    let found = analyse(alloc, &mut store, b"libz.so.1").ok();
     assert!(rt; is(&found, Abi::X86_64, None));
     assert!(rt; store.taken() <= 1024);
+
+    // The header, both program headers, the section, and the text.
+    assert!(rt; store.readings() == 4);
     Ok(())
 }
 
 // A file of class 2 with so many program headers, of which the last is that of the dynamic section.
 fn many_headers(alloc: Global, count: u16) -> Result<Vec<u8>, Fail> {
-    let mut bytes = changed(alloc, &cut(alloc, &LIBZ, 64)?, &[])?;
+    let mut bytes = cut(alloc, &libz(alloc, Abi::X86_64)?, 64)?;
     for _ in 1..count {
         bytes.extend_from_slice(&[0; 56])?;
     }
@@ -136,14 +141,21 @@ fn as_many_program_headers_as_there_can_be_are_read(rt: HostRuntime) -> Result<(
     Ok(())
 }
 
+// The headers, and the section with its strings.
+fn parts(bytes: &[u8]) -> (&[u8], &[u8]) {
+    bytes.split_at_checked(176).unwrap_or((bytes, &[]))
+}
+
 // A file of class 2 whose dynamic section has 2^20 entries, the DT_SONAME and the string table's last.
 fn many_entries(alloc: Global) -> Result<Vec<u8>, Fail> {
     let entries: u64 = 1 << 20;
-    let mut bytes = cut(alloc, &LIBZ, 176)?;
+    let base = libz(alloc, Abi::X86_64)?;
+    let (front, back) = parts(&base);
+    let mut bytes = Vec::from_slice(alloc, front)?;
     for _ in 4..entries {
         bytes.extend_from_slice(&[9, 0, 0, 0, 0, 0, 0, 0, 9, 0, 0, 0, 0, 0, 0, 0])?;
     }
-    bytes.extend_from_slice(&LIBZ[176..])?;
+    bytes.extend_from_slice(back)?;
     let size = 16 * entries;
     let strings = 0x1000 + 176 + size;
     let length = 176 + size + 11;

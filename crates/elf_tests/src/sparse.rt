@@ -1,25 +1,28 @@
 //! A store of one very long file, of which only the front isn't zero.
-use crate::LIBZ;
 use lib_types::Failed;
 use tree_face::Store;
 
-/// A store whose every key has the bytes of `LIBZ` followed by zeros, 2^40 bytes in all. Its content isn't known.
+/// A store whose every key has these bytes followed by zeros, 2^40 bytes in all. Its content isn't known.
 #[derive(Drop)]
 pub struct Sparse {
+    front: Vec<u8>,
     size: Option<u64>,
     faults: u64,
     begun: u64,
     taken: u64,
+    readings: u64,
 }
 
 impl Sparse {
     /// A store from which nothing was read.
-    pub fn new() -> Sparse {
+    pub fn new(front: Vec<u8>) -> Sparse {
         Sparse {
+            front,
             size: None,
             faults: 0,
             begun: 0,
             taken: 0,
+            readings: 0,
         }
     }
 
@@ -27,16 +30,17 @@ impl Sparse {
     pub fn taken(&self) -> u64 {
         self.taken
     }
+
+    /// How many times it was read from.
+    pub fn readings(&self) -> u64 {
+        self.readings
+    }
 }
 
-fn byte_at(at: u64) -> u8 {
-    if at < 251 { LIBZ[at as usize] } else { 0 }
-}
-
-fn fill(buf: &mut [u8], at: u64) {
+fn fill(buf: &mut [u8], front: &[u8], at: u64) {
     let mut next = at;
     for place in buf.iter_mut() {
-        *place = byte_at(next);
+        *place = front.get(next as usize).copied().unwrap_or(0);
         next = next.saturating_add(1);
     }
 }
@@ -53,12 +57,13 @@ impl Store for Sparse {
     }
 
     fn read_at(&mut self, at: u64, buf: &mut [u8]) -> Result<usize, Failed> {
+        self.readings = self.readings.saturating_add(1);
         let Some(size) = self.size else {
             self.faults = self.faults.saturating_add(1);
             return Err(Failed);
         };
         let count = size.saturating_sub(at).min(buf.len() as u64) as usize;
-        fill(&mut buf[..count], at);
+        fill(&mut buf[..count], &self.front, at);
         self.taken = self.taken.saturating_add(count as u64);
         Ok(count)
     }

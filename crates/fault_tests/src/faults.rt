@@ -9,8 +9,8 @@ use std::process::Abort;
 use std::test::Fail;
 use tree_face::{Disk, MemSink, Sink, Slot};
 use update_fixture::{
-    Devices, LIBZ, LIBZ_KEY, LIBZ_MANIFEST, OLD, ONE_CACHE, Pairs, Setting, Wanted, done, has,
-    image, is_left, make_devices, number, one, refused, replacing_calls, run_words, strings,
+    Devices, LIBZ_MANIFEST, OLD, ONE_CACHE, Pairs, Setting, Wanted, done, has, image, is_left,
+    libz_held, make_devices, number, refused, replacing_calls, run_words, strings,
 };
 
 // Runs an update and compares all that it leaves.
@@ -31,9 +31,9 @@ fn assert_update(
 fn the_store_fails(rt: HostRuntime) -> Result<(), Fail> {
     let alloc = rt.alloc();
     let want = refused(Status::StoreFault, b"fault: StoreFault\n");
-    // the key is begun; then header, program headers, dynamic entries and the text are read
-    for call in 0..6 {
-        let held = one(alloc, LIBZ_KEY, &LIBZ)?;
+    // the key is begun; then header, program headers, dynamic entries and the text are read, in one call each
+    for call in 0..5 {
+        let held = libz_held(alloc)?;
         let setting = Setting {
             store_fails: Some(call),
             ..image(LIBZ_MANIFEST)
@@ -84,7 +84,7 @@ fn the_disk_fails(rt: HostRuntime) -> Result<(), Fail> {
             disk_fails: Some(call),
             ..image(LIBZ_MANIFEST)
         };
-        let mut devices = make_devices(alloc, setting, one(alloc, LIBZ_KEY, &LIBZ)?)?;
+        let mut devices = make_devices(alloc, setting, libz_held(alloc)?)?;
         let status = run_words(alloc, &["update"], &mut devices)?;
         assert_disk_fault(&rt, alloc, status, &mut devices, call)?;
     }
@@ -95,7 +95,7 @@ fn the_disk_fails(rt: HostRuntime) -> Result<(), Fail> {
 fn the_disk_stops(rt: HostRuntime) -> Result<(), Fail> {
     let alloc = rt.alloc();
     for calls in 0..5 {
-        let held = one(alloc, LIBZ_KEY, &LIBZ)?;
+        let held = libz_held(alloc)?;
         let mut devices = make_devices(alloc, image(LIBZ_MANIFEST), held)?;
         devices.disk.stop_after(calls);
         let status = run_words(alloc, &["update"], &mut devices)?;
@@ -141,7 +141,7 @@ fn the_sink_fails(rt: HostRuntime) -> Result<(), Fail> {
             out_fails: Some(0),
             ..image(manifest)
         };
-        assert_update(&rt, alloc, setting, one(alloc, LIBZ_KEY, &LIBZ)?, want)?;
+        assert_update(&rt, alloc, setting, libz_held(alloc)?, want)?;
     }
     Ok(())
 }
@@ -176,7 +176,7 @@ fn a_sink_takes_parts(rt: HostRuntime) -> Result<(), Fail> {
         (0, Status::OutputFault, b""),
     ];
     for (call, want, written) in rows {
-        let mut devices = make_devices(alloc, image(LIBZ_MANIFEST), one(alloc, LIBZ_KEY, &LIBZ)?)?;
+        let mut devices = make_devices(alloc, image(LIBZ_MANIFEST), libz_held(alloc)?)?;
         let mut out = NarrowSink {
             sink: MemSink::new(alloc, number(alloc, Some(call))?),
         };

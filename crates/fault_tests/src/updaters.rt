@@ -2,15 +2,13 @@
 use ldconfig_cli::{Status, run};
 use std::test::Fail;
 use tree_face::{Disk, Slot, Tag};
-use update_fixture::{
-    LIBZ, LIBZ_KEY, LIBZ_MANIFEST, ONE_CACHE, has, image, make_devices, one, strings,
-};
+use update_fixture::{LIBZ_MANIFEST, ONE_CACHE, has, image, libz_held, make_devices, strings};
 
 #[test]
 fn an_update_between_two_calls_of_another(rt: HostRuntime) -> Result<(), Fail> {
     let alloc = rt.alloc();
     let words = strings(alloc, &["update"])?;
-    let devices = make_devices(alloc, image(LIBZ_MANIFEST), one(alloc, LIBZ_KEY, &LIBZ)?)?;
+    let devices = make_devices(alloc, image(LIBZ_MANIFEST), libz_held(alloc)?)?;
     let mut store = devices.store;
     let mut disk = devices.disk;
     let mut input = devices.input;

@@ -8,6 +8,7 @@ use ldconfig_cli::{Status, run};
 use lib_types::NoMemory;
 use std::alloc::AllocError;
 use std::io::{Error, ErrorKind};
+use std::os::unix::fs::FileExt;
 use std::process::ExitCode;
 use std::random::RandomSource;
 use std::rt::Runtime;
@@ -127,10 +128,10 @@ fn advice(status: Status, wrote_cache: bool) -> Option<&'static str>
 }
 
 // Runs the command in the current folder, and returns its exit status.
-fn run_here<R: Runtime + AllocGlobal + RandomSource>(
-    rt: &R,
-    process: u32,
-) -> Result<u8, StartFault> {
+fn run_here<R: Runtime + AllocGlobal + RandomSource>(rt: &R, process: u32) -> Result<u8, StartFault>
+where
+    R::File: FileExt,
+{
     let arguments = match arguments(rt) {
         Ok(arguments) => arguments,
         Err(error) => return Err(fault_of(rt, "arguments", error)),

@@ -4,9 +4,9 @@ use Rattle.mtree_manifest.specs.declared.fault.ManifestFault.{ManifestFault}
 use Rattle.tree_face.specs.Disk.{DiskContent}
 use Rattle.tree_face.specs.Store.{Contents}
 use Rattle.ldconfig_cli.specs.Devices.{IfBothKnown}
-use Rattle.ldconfig_cli.specs.Manifest.{manifest_of}
-use Rattle.ldconfig_cli.specs.Outcome.{outcome}
-use Rattle.ldconfig_cli.specs.Outcome as outcomes
+use Rattle.ldconfig_core.specs.Manifest.{manifest_of}
+use Rattle.ldconfig_core.specs.Outcome.{outcome}
+use Rattle.ldconfig_core.specs.Outcome as outcomes
 use Rattle.ldconfig_cli.specs.Update.{ComesTo, HasFault, HasNoManifest, LacksLibrary, Returns, status_of}
 use Rattle.ldconfig_cli.specs.declared.status.Status.{Status}
 use Rattle.ldconfig_cli.specs.declared.status.Status.TheVariants.{Done, Usage, BadManifest, StoreFault, DiskFault, OutputFault, NoMemory, NoManifest, NotBuilt}

@@ -1,14 +1,5 @@
-pub mod Cache
 pub mod Command
 pub mod Devices
-pub mod Entries
-pub mod Found
-pub mod Libraries
-pub mod Manifest
-pub mod Outcome
-pub mod Refusal
-pub mod Replace
-pub mod Report
 pub mod Status
 pub mod Update
 pub mod Usage

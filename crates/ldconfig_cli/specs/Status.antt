@@ -1,5 +1,5 @@
 -- The exit status of each status, and the fault line on the output.
-use Rattle.std.specs.Prelude.{◌⊎◌, ℕ, Bool, true, false, List, [], ◌∷◌, ◌++◌, codes}
+use Rattle.std.specs.Prelude.{◌⊎◌, ℕ, Bool, true, false, List, [], ◌++◌, codes}
 use Rattle.std.specs.Fmt.{decimal}
 use Rattle.lib_types.specs.Counts.{HasRisen}
 use Rattle.mtree_manifest.specs.declared.fault.LineKind.{LineKind}
@@ -8,6 +8,11 @@ use Rattle.mtree_manifest.specs.declared.fault.ManifestFault.{ManifestFault}
 use Rattle.mtree_manifest.specs.declared.fault.ManifestFault.TheVariants as manifest_faults
 use Rattle.tree_face.specs.Known.{Relates}
 use Rattle.tree_face.specs.Stream.{SinkState, IsFollowedBy, IsFollowedByPart}
+use Rattle.ldconfig_core.specs.Report.{line}
+use Rattle.ldconfig_core.specs.declared.fault.LoadFault.{LoadFault}
+use Rattle.ldconfig_core.specs.declared.fault.LoadFault.TheVariants as loading
+use Rattle.ldconfig_core.specs.declared.fault.UpdateFault.{UpdateFault}
+use Rattle.ldconfig_core.specs.declared.fault.UpdateFault.TheVariants as updating
 use Rattle.ldconfig_cli.specs.declared.status.Status.{Status}
 use Rattle.ldconfig_cli.specs.declared.status.Status.TheVariants.{Done, Usage, BadManifest, StoreFault, DiskFault, OutputFault, NoMemory, NoManifest, NotBuilt}
 
@@ -22,8 +27,18 @@ code_of NoMemory = 14
 code_of NoManifest = 16
 code_of NotBuilt = 18
 
-abbrev pub line : List ℕ → List ℕ
-line text = text ++ 10 ∷ []
+-- the status of a fault
+abbrev pub of_load : LoadFault → Status
+of_load (loading.DiskFailed slot) = DiskFault
+of_load loading.NoManifest = NoManifest
+of_load (loading.BadManifest fault) = BadManifest fault
+of_load loading.NoMemory = NoMemory
+
+abbrev pub of_update : UpdateFault → Status
+of_update updating.NotBuilt = NotBuilt
+of_update updating.StoreFault = StoreFault
+of_update updating.DiskFault = DiskFault
+of_update updating.NoMemory = NoMemory
 
 abbrev pub kind_text : LineKind → List ℕ
 kind_text kinds.BadLine = codes "BadLine"

@@ -1,6 +1,5 @@
 -- The command `update`: which status it returns, and what it leaves on the devices.
-use Rattle.std.specs.Prelude.{◌≡◌, ◌⊎◌, ◌<◌, ◌-◌, ℕ, Bool, true, false, List, Option, Some, None, IsSome, length, take}
-use Rattle.std.specs.List.{list_all}
+use Rattle.std.specs.Prelude.{◌≡◌, ◌⊎◌, ◌<◌, ℕ, Bool, true, false, List, Option, Some, None, IsSome, length}
 use Rattle.lib_types.specs.Counts.{HasRisen}
 use Rattle.tree_face.specs.Calls.{replacement}
 use Rattle.tree_face.specs.declared.disk.DoneCall.{DoneCall}
@@ -9,13 +8,14 @@ use Rattle.tree_face.specs.Disk.{DiskContent, Touches, KeepsAll, KeepsOthersMade
 use Rattle.tree_face.specs.Known.{IfKnown, Relates, IsSame}
 use Rattle.tree_face.specs.Store.{Contents, StoreState, BeginsAtMost}
 use Rattle.tree_face.specs.Stream.{SinkState, IsFollowedBy, IsFollowedByPart}
-use Rattle.ldconfig_cli.specs.Cache.{IsUpdateOf, IsReport}
+use Rattle.ldconfig_core.specs.Cache.{IsUpdateOf, IsReport}
+use Rattle.ldconfig_core.specs.Update.{AreFineBefore}
 use Rattle.ldconfig_cli.specs.Devices.{Devices, IfBothKnown}
-use Rattle.ldconfig_cli.specs.Libraries.{NamedFile}
-use Rattle.ldconfig_cli.specs.Manifest.{manifest_of, Faulty}
-use Rattle.ldconfig_cli.specs.Outcome.{Outcome, outcome, files_to_read, begun_of, is_fine}
-use Rattle.ldconfig_cli.specs.Outcome as outcomes
-use Rattle.ldconfig_cli.specs.Replace.{Replaces, MayReplace}
+use Rattle.ldconfig_core.specs.Libraries.{NamedFile}
+use Rattle.ldconfig_core.specs.Manifest.{manifest_of, Faulty}
+use Rattle.ldconfig_core.specs.Outcome.{Outcome, outcome, files_to_read, begun_of, is_fine}
+use Rattle.ldconfig_core.specs.Outcome as outcomes
+use Rattle.ldconfig_core.specs.Replace.{Replaces, MayReplace}
 use Rattle.ldconfig_cli.specs.Status.{fault_line, Says}
 use Rattle.ldconfig_cli.specs.declared.status.Status.{Status}
 use Rattle.ldconfig_cli.specs.declared.status.Status.TheVariants.{Done, Usage, BadManifest, StoreFault, DiskFault, OutputFault, NoMemory, NoManifest, NotBuilt}
@@ -89,9 +89,6 @@ abbrev pub BeginsUpToFirst : Option DiskContent → StoreState → StoreState �
 BeginsUpToFirst disk old new = IfBothKnown old.held disk (λ contents content. BeginsAtMost (begun_of contents (files_of content)) old new)
 
 -- the files that were begun are fine, but for the last of them
-abbrev pub AreFineBefore : Contents → List NamedFile → StoreState → StoreState → Type 0
-AreFineBefore contents files old new = list_all (is_fine contents) (take (new.begun - old.begun - 1) files) ≡ true
-
 abbrev pub AreBegunFine : Option DiskContent → StoreState → StoreState → Type 0
 AreBegunFine disk old new = IfBothKnown old.held disk (λ contents content. AreFineBefore contents (files_of content) old new)
 

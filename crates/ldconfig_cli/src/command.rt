@@ -3,23 +3,22 @@ ghost use Rattle.std.specs.Prelude.{◌≡◌, ◌↔◌, ◌⊎◌, ◌<◌, �
 ghost use Rattle.lib_types.specs.Counts.{HasRisen};
 ghost use Rattle.tree_face.specs.Disk.{KeepsAll, KeepsOthersMade};
 ghost use Rattle.tree_face.specs.Known.{IfKnown, Relates};
-ghost use Rattle.ldconfig_cli.specs.Cache.{IsCacheOf};
+ghost use Rattle.ldconfig_core.specs.Cache.{IsCacheOf};
 ghost use Rattle.ldconfig_cli.specs.Command.{command_of};
 ghost use Rattle.ldconfig_cli.specs.Devices.{devices, IfBothKnown};
-ghost use Rattle.ldconfig_cli.specs.Found.{OwnLibrary};
-ghost use Rattle.ldconfig_cli.specs.Manifest.{manifest_of};
+ghost use Rattle.ldconfig_core.specs.Found.{OwnLibrary};
+ghost use Rattle.ldconfig_core.specs.Manifest.{manifest_of};
 ghost use Rattle.mtree_manifest.specs.declared.fault.ManifestFault.{ManifestFault};
-ghost use Rattle.ldconfig_cli.specs.Outcome as outcomes;
-ghost use Rattle.ldconfig_cli.specs.Outcome.{outcome};
+ghost use Rattle.ldconfig_core.specs.Outcome as outcomes;
+ghost use Rattle.ldconfig_core.specs.Outcome.{outcome};
 ghost use Rattle.ldconfig_cli.specs.Update.{AreBegunFine, BeginsFiles, BeginsUpToFirst, CallsAfter, ComesTo, DiskAfter, HasFault, HasManifest, HasNoManifest, LacksLibrary, OutputBefore, UpdateRun, needs_no_manifest, status_of, tag};
 ghost use Rattle.ldconfig_cli.specs.Status.{Says, fault_line, is_fixed};
 ghost use Rattle.ldconfig_cli.specs.Usage.{UsageRun};
 ghost use Rattle.tree_face.specs.Stream.{SourceState};
 
 use crate::arguments::{Command, command_of};
-use crate::prepare::prepare;
-use crate::replace::replace;
 use crate::status::{Status, manifest_text};
+use ldconfig_core::Session;
 use lib_types::NoMemory;
 use std::alloc::Global;
 use tree_face::{Disk, Sink, Slot, Source, Store, Tag, put_all};
@@ -58,14 +57,15 @@ fn update<S: Store, D: Disk, O: Sink>(
     ensures disk_faults { (D.state disk.old).faults ≤ (D.state disk.new).faults }
     ensures out_faults { (O.state out.old).faults ≤ (O.state out.new).faults }
 {
-    let prepared = match prepare(alloc, store, disk) {
-        Ok(prepared) => prepared,
-        Err(refusal) => return Status::from(refusal),
+    let session = match Session::load(alloc, disk) {
+        Ok(session) => session,
+        Err(fault) => return Status::from(fault),
     };
-    if replace(disk, Tag(0), Slot::Cache, &prepared.cache).is_err() {
-        return Status::DiskFault;
-    }
-    if put_all(out, &prepared.report).is_err() {
+    let report = match ldconfig_core::update(alloc, session, store, disk, Tag(0)) {
+        Ok((_, report)) => report,
+        Err(fault) => return Status::from(fault),
+    };
+    if put_all(out, report.text.as_bytes()).is_err() {
         return Status::OutputFault;
     }
     Status::Done

@@ -2,14 +2,7 @@
 #![tactic(auto)]
 
 mod arguments;
-mod check;
 mod command;
-mod entries;
-mod libraries;
-mod prepare;
-mod refusal;
-mod replace;
-mod report;
 mod status;
 
 pub use arguments::Command;

@@ -1,9 +1,10 @@
 //! How a command ends.
 ghost use Rattle.std.specs.Prelude.{◌≡◌, true, IfOk};
-ghost use Rattle.ldconfig_cli.specs.Status.{code_of, fault_line, kind_text, line_text, manifest_text};
+ghost use Rattle.ldconfig_cli.specs.Status.{code_of, fault_line, kind_text, line_text, manifest_text, of_load, of_update};
 ghost use Rattle.std.specs.String.{string_bytes};
 ghost use Rattle.mtree_manifest.specs.declared.fault.ManifestFault.{ManifestFault};
 
+use ldconfig_core::{LoadFault, UpdateFault};
 use lib_types::NoMemory;
 use mtree_manifest::{LineKind, ManifestFault};
 use std::alloc::Global;
@@ -60,6 +61,32 @@ impl Status {
             Status::NoManifest => b"fault: NoManifest\n",
             Status::NotBuilt => b"fault: NotBuilt\n",
             Status::Done | Status::OutputFault | Status::NoMemory | Status::BadManifest(_) => b"",
+        }
+    }
+}
+
+impl From<LoadFault> for Status {
+    ghost from_gives = { λ fault status. status ≡ of_load fault };
+
+    fn from(fault: LoadFault) -> Self {
+        match fault {
+            LoadFault::DiskFailed { .. } => Status::DiskFault,
+            LoadFault::NoManifest => Status::NoManifest,
+            LoadFault::BadManifest(fault) => Status::BadManifest(fault),
+            LoadFault::NoMemory => Status::NoMemory,
+        }
+    }
+}
+
+impl From<UpdateFault> for Status {
+    ghost from_gives = { λ fault status. status ≡ of_update fault };
+
+    fn from(fault: UpdateFault) -> Self {
+        match fault {
+            UpdateFault::NotBuilt => Status::NotBuilt,
+            UpdateFault::StoreFault => Status::StoreFault,
+            UpdateFault::DiskFault => Status::DiskFault,
+            UpdateFault::NoMemory => Status::NoMemory,
         }
     }
 }

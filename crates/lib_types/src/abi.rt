@@ -11,67 +11,96 @@ pub enum Abi {
     Aarch64,
 }
 
+// The table, a row for each ABI: the variant, its name in arguments, `e_machine`, the class, the flags of a cache entry, and what
+// `$LIB` stands for. Each function below expands the rows in its body.
+macro_rules! rows {
+    ($expand:ident, $value:expr) => {
+        $expand!(
+            $value,
+            (I386, b"i386", 3, 1, 0x0003, b"lib"),
+            (X86_64, b"x86-64", 62, 2, 0x0303, b"lib64"),
+            (X32, b"x32", 62, 1, 0x0803, b"libx32"),
+            (Aarch64, b"aarch64", 183, 2, 0x0a03, b"lib64")
+        )
+    };
+}
+
+macro_rules! flags_of {
+    ($abi:expr, $(($name:ident, $word:literal, $machine:literal, $class:literal, $flags:literal, $lib:literal)),*) => {
+        match $abi {
+            $(Abi::$name => $flags,)*
+        }
+    };
+}
+
+macro_rules! lib_of {
+    ($abi:expr, $(($name:ident, $word:literal, $machine:literal, $class:literal, $flags:literal, $lib:literal)),*) => {
+        match $abi {
+            $(Abi::$name => $lib,)*
+        }
+    };
+}
+
+macro_rules! with_flags {
+    ($value:expr, $(($name:ident, $word:literal, $machine:literal, $class:literal, $flags:literal, $lib:literal)),*) => {
+        match $value {
+            $($flags => Some(Abi::$name),)*
+            _ => None,
+        }
+    };
+}
+
+macro_rules! of_elf_file {
+    ($value:expr, $(($name:ident, $word:literal, $machine:literal, $class:literal, $flags:literal, $lib:literal)),*) => {
+        match $value {
+            $(($machine, $class) => Some(Abi::$name),)*
+            _ => None,
+        }
+    };
+}
+
+macro_rules! with_name {
+    ($value:expr, $(($name:ident, $word:literal, $machine:literal, $class:literal, $flags:literal, $lib:literal)),*) => {
+        match $value {
+            $($word => Some(Abi::$name),)*
+            _ => None,
+        }
+    };
+}
+
 impl Abi {
     /// The flags of a cache entry of this ABI.
     pub fn flags(self) -> i32
         ensures { result ≡ pos (flags_of self) }
     {
-        match self {
-            Abi::I386 => 0x0003,
-            Abi::X86_64 => 0x0303,
-            Abi::X32 => 0x0803,
-            Abi::Aarch64 => 0x0a03,
-        }
+        rows!(flags_of, self)
     }
 
     /// The ABI with these flags of a cache entry.
     pub fn of_flags(flags: i32) -> Option<Abi>
         ensures { result ≡ abi_of_flags flags }
     {
-        match flags {
-            0x0003 => Some(Abi::I386),
-            0x0303 => Some(Abi::X86_64),
-            0x0803 => Some(Abi::X32),
-            0x0a03 => Some(Abi::Aarch64),
-            _ => None,
-        }
+        rows!(with_flags, flags)
     }
 
     /// The ABI of an ELF file, by its `e_machine`, its class byte and its `e_flags`.
     pub fn of_elf(machine: u16, class: u8, _eflags: u32) -> Option<Abi>
         ensures { result ≡ abi_of_elf machine class }
     {
-        match (machine, class) {
-            (3, 1) => Some(Abi::I386),
-            (62, 2) => Some(Abi::X86_64),
-            (62, 1) => Some(Abi::X32),
-            (183, 2) => Some(Abi::Aarch64),
-            _ => None,
-        }
+        rows!(of_elf_file, (machine, class))
     }
 
     /// The ABI that has this name in the arguments of a command.
     pub fn of_word(word: &[u8]) -> Option<Abi>
         ensures { result ≡ abi_of_word word.now }
     {
-        match word {
-            b"i386" => Some(Abi::I386),
-            b"x86-64" => Some(Abi::X86_64),
-            b"x32" => Some(Abi::X32),
-            b"aarch64" => Some(Abi::Aarch64),
-            _ => None,
-        }
+        rows!(with_name, word)
     }
 
     /// What the loader replaces `$LIB` by.
     pub fn lib(self) -> &'static [u8]
         ensures { result.now ≡ lib_of self }
     {
-        match self {
-            Abi::I386 => b"lib",
-            Abi::X86_64 => b"lib64",
-            Abi::X32 => b"libx32",
-            Abi::Aarch64 => b"lib64",
-        }
+        rows!(lib_of, self)
     }
 }

@@ -15,8 +15,8 @@ use Rattle.std.specs.declared.cmp.Ordering.TheVariants.{Less, Equal, Greater}
 use Rattle.lib_types.specs.Abi.{flags_of}
 use Rattle.lib_types.specs.declared.entry.Entry.{Entry}
 use Rattle.name_order.proofs.Total.{name_order-total}
-use Rattle.ldconfig_cli.specs.Entries.{AreEntriesOf, cache_entry_of, entry_order}
-use Rattle.ldconfig_cli.specs.Found.{OwnLibrary}
+use Rattle.ldconfig_core.specs.Entries.{AreEntriesOf, cache_entry_of, entry_order}
+use Rattle.ldconfig_core.specs.Found.{OwnLibrary}
 use Rattle.plain_update.specs.LibraryFile.{seen}
 use Rattle.plain_update.specs.declared.LibraryFile as declared
 

@@ -1,5 +1,5 @@
 -- The library files that the plain program is given.
-use Rattle.ldconfig_cli.specs.Found.{OwnLibrary}
+use Rattle.ldconfig_core.specs.Found.{OwnLibrary}
 use Rattle.plain_update.specs.declared.LibraryFile.{LibraryFile}
 
 abbrev pub seen : LibraryFile → OwnLibrary

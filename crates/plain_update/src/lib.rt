@@ -7,8 +7,8 @@ ghost use Rattle.std.specs.List.{position_or_len};
 ghost use Rattle.std.specs.Ordering.{is_lt};
 ghost use Rattle.indexmap.specs.IndexSet.{insert_key};
 ghost use Rattle.cache_writer.specs.CacheText.{cache_text, strings, header, entry_bytes, extension, table_of, offset_of, u32_bytes};
-ghost use Rattle.ldconfig_cli.specs.Entries.{cache_entry_of, entry_order, AreEntriesOf};
-ghost use Rattle.ldconfig_cli.specs.Cache.{IsCacheOf};
+ghost use Rattle.ldconfig_core.specs.Entries.{cache_entry_of, entry_order, AreEntriesOf};
+ghost use Rattle.ldconfig_core.specs.Cache.{IsCacheOf};
 ghost use Rattle.plain_update.specs.LibraryFile.{seen};
 
 use lib_types::{Abi, Entries, Entry, NoMemory, Text};

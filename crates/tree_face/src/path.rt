@@ -53,8 +53,9 @@ fn equal_words(a: &[u8], b: &[u8]) -> usize
     ensures within { (result ≤ length a.now) × (result ≤ length b.now) }
     ensures rest { path_cmp (drop result a.now) (drop result b.now) ≡ path_cmp a.now b.now }
 {
+    let shorter = a.len().min(b.len());
     let mut i = 0;
-    while a.len() - i >= 8 && b.len() - i >= 8 && word_at(a, i) == word_at(b, i) {
+    while shorter - i >= 8 && word_at(a, i) == word_at(b, i) {
         i += 8;
     }
     i
@@ -64,8 +65,9 @@ fn equal_words(a: &[u8], b: &[u8]) -> usize
 pub(crate) fn compare(a: &[u8], b: &[u8]) -> Ordering
     ensures { result ≡ path_cmp a.now b.now }
 {
+    let shorter = a.len().min(b.len());
     let mut i = equal_words(a, b);
-    while i < a.len() && i < b.len() {
+    while i < shorter {
         if a[i] != b[i] {
             return rank(a[i]).cmp(&rank(b[i]));
         }

@@ -198,7 +198,7 @@ impl<'a> Iterator for Nodes<'a> {
     fn next(&mut self) -> Option<(&'a [u8], &'a Node)> {
         let (first, rest) = self.rest.split_first()?;
         self.rest = rest;
-        Some((first.0.as_bytes(), &first.1))
+        Some((first.path(), first.node()))
     }
 }
 
@@ -243,8 +243,8 @@ impl<'a> Children<'a> {
         ensures { result ≡ dedup bytes_eq (map (λ e. name_behind (length (folder path.now)) e.0) (take_while (λ e. is_below path.now e.0) rest.entry)) }
     {
         match rest.split_first() {
-            Some((first, _)) if is_below(path, first.0.as_bytes()) => {
-                let folder = folder_in(path, first.0.as_bytes());
+            Some((first, _)) if is_below(path, first.path()) => {
+                let folder = folder_in(path, first.path());
                 Children { rest, folder }
             }
             _ => Children::none(),

@@ -3,9 +3,10 @@ ghost use Rattle.std.specs.Prelude.{◌≡◌, IfOk};
 ghost use Rattle.tree_real.specs.Unknown.{no_counts, unknown_store};
 
 use crate::counts::{StoreCounts, one_more};
-use crate::image_folder::{ImageFolder, read_whole};
+use crate::image_folder::{ImageFolder, shorter};
 use lib_types::{Failed, NoMemory};
-use std::io::{self, Error, ErrorKind, Read, Seek, SeekFrom};
+use std::io::{self, Error, ErrorKind};
+use std::os::unix::fs::FileExt;
 use std::rt::Runtime;
 use tree_face::Store;
 
@@ -47,13 +48,10 @@ fn open_key<R: Runtime>(image: &mut ImageFolder<R>, key: &[u8]) -> io::Result<(R
     }
 }
 
-// Fills the buffer with what a file has from an offset on.
-fn fill<F: Read + Seek>(file: &mut F, at: u64, buf: &mut [u8]) -> io::Result<()> {
-    file.seek(SeekFrom::Start(at))?;
-    read_whole(file, buf)
-}
-
-impl<R: Runtime> Store for FolderStore<R> {
+impl<R: Runtime> Store for FolderStore<R>
+where
+    R::File: FileExt,
+{
     ghost state = { λ s. unknown_store s.counts };
 
     fn begin(&mut self, key: &[u8]) -> Result<u64, Failed> {
@@ -77,8 +75,9 @@ impl<R: Runtime> Store for FolderStore<R> {
     fn read_at(&mut self, at: u64, buf: &mut [u8]) -> Result<usize, Failed> {
         let size = self.counts.size.unwrap_or(0);
         let count = (size.saturating_sub(at)).min(buf.len() as u64) as usize;
-        let filled = match &mut self.file {
-            Some(file) => fill(file, at, &mut buf[..count]),
+        // One system call, which needs no position of the file.
+        let filled = match &self.file {
+            Some(file) => file.read_exact_at(&mut buf[..count], at).map_err(shorter),
             None => Err(Error::new(ErrorKind::InvalidInput, "no file is open")),
         };
         if let Err(error) = filled {

@@ -131,11 +131,15 @@ impl<R: Runtime> ImageFolder<R> {
 
 /// Fills the buffer with the file's next bytes.
 pub fn read_whole<F: Read>(file: &mut F, buf: &mut [u8]) -> io::Result<()> {
-    match file.read_exact(buf) {
-        Err(error) if error.kind() == ErrorKind::UnexpectedEof => {
-            Err(Error::new(error.kind(), "the file ends before its length"))
-        }
-        done => done,
+    file.read_exact(buf).map_err(shorter)
+}
+
+/// The error of reading a file, which names it if the file became shorter while it was read.
+pub fn shorter(error: Error) -> Error {
+    if error.kind() == ErrorKind::UnexpectedEof {
+        Error::new(error.kind(), "the file ends before its length")
+    } else {
+        error
     }
 }
 

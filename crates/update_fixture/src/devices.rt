@@ -1,5 +1,6 @@
 //! Devices in memory for one run of the command, and what they have to hold after it.
-use crate::samples::LIBZ;
+ghost use Rattle.std.specs.Prelude.{◌≡◌, ◌∷◌, [], Some, None, IfOk, IfSome, option_map, option_copied};
+
 use ldconfig_cli::{Status, run};
 use lib_types::{NoMemory, Text};
 use std::alloc::Global;
@@ -53,7 +54,11 @@ pub fn image(manifest: &[u8]) -> Setting<'_> {
 }
 
 /// What a run that is done leaves.
-pub fn done<'a>(written: &'a [u8], cache: &'a [u8]) -> Wanted<'a> {
+pub fn done<'a>(written: &'a [u8], cache: &'a [u8]) -> Wanted<'a>
+    ensures status { result.status ≡ Status.Done }
+    ensures written { result.written.now ≡ written.entry.now }
+    ensures cache { result.cache.now ≡ cache.entry.now }
+{
     Wanted {
         status: Status::Done,
         written,
@@ -62,7 +67,11 @@ pub fn done<'a>(written: &'a [u8], cache: &'a [u8]) -> Wanted<'a> {
 }
 
 /// What a refused run leaves: the old cache.
-pub fn refused(status: Status, written: &[u8]) -> Wanted<'_> {
+pub fn refused(status: Status, written: &[u8]) -> Wanted<'_>
+    ensures status { result.status ≡ status }
+    ensures written { result.written.now ≡ written.entry.now }
+    ensures cache { result.cache.now ≡ OLD.now }
+{
     Wanted {
         status,
         written,
@@ -80,7 +89,9 @@ pub fn strings(alloc: Global, texts: &[&str]) -> Result<Vec<String>, NoMemory> {
 }
 
 /// What holds only this.
-pub fn one(alloc: Global, key: &[u8], content: &[u8]) -> Result<Pairs, NoMemory> {
+pub fn one(alloc: Global, key: &[u8], content: &[u8]) -> Result<Pairs, NoMemory>
+    ensures { IfOk result (λ held. held.items ≡ (key.now, content.now) ∷ []) }
+{
     let mut held = Vec::new(alloc);
     held.push((Text::copy_of(alloc, key)?, Text::copy_of(alloc, content)?))?;
     Ok(held)
@@ -170,18 +181,4 @@ pub fn replacing_calls() -> [DoneCall; 5] {
         slot: Slot::Cache,
         call,
     })
-}
-
-/// The example's library under another DT_SONAME.
-pub fn library(alloc: Global, soname: &[u8]) -> Result<Vec<u8>, NoMemory> {
-    let table = 2 + soname.len() as u64;
-    let size = 240 + table;
-    let mut front = LIBZ;
-    front[96..104].copy_from_slice(&size.to_le_bytes());
-    front[104..112].copy_from_slice(&size.to_le_bytes());
-    front[216..224].copy_from_slice(&table.to_le_bytes());
-    let mut bytes = Vec::from_slice(alloc, &front[..241])?;
-    bytes.extend_from_slice(soname)?;
-    bytes.push(0)?;
-    Ok(bytes)
 }

@@ -1,13 +1,15 @@
-//! Devices in memory for one run of the command, what they have to hold after it, and files that several tests speak of.
+//! Devices in memory for one run of the command, what they have to hold after it, and libraries and caches that several
+//! tests speak of.
 //! Tests of the command use it in crates of their own, so that no check of them is long.
 #![tactic(auto)]
 
 mod devices;
+mod libraries;
 mod samples;
 
 pub use devices::{
     Devices, LIBZ_KEY, LIBZ_MANIFEST, LIBZ_REPORT, OLD, Pairs, Setting, Wanted, copy, done, has,
-    image, is_left, library, make_devices, number, one, refused, replacing_calls, run_words,
-    strings,
+    image, is_left, make_devices, number, one, refused, replacing_calls, run_words, strings,
 };
-pub use samples::{EMPTY_CACHE, I386_LIBZ, LIBZ, ONE_CACHE, THREE_CACHE};
+pub use libraries::{library, libz, libz_held};
+pub use samples::{EMPTY_CACHE, ONE_CACHE, THREE_CACHE};

@@ -1,18 +1,28 @@
 //! The example's library with some of its bytes changed.
 use crate::updates::{assert_skipped, assert_update};
-use lib_types::Text;
+use lib_types::{Abi, Text};
+use std::alloc::Global;
 use std::test::Fail;
 use update_fixture::{
-    EMPTY_CACHE, LIBZ, LIBZ_KEY, LIBZ_MANIFEST, LIBZ_REPORT, ONE_CACHE, done, image, one,
+    EMPTY_CACHE, LIBZ_KEY, LIBZ_MANIFEST, LIBZ_REPORT, ONE_CACHE, done, image, libz, one,
 };
 
-// The library with one byte changed.
-fn with_byte(at: usize, byte: u8) -> [u8; 251] {
-    let mut bytes = LIBZ;
-    if at < bytes.len() {
-        bytes[at] = byte;
+// The library with these bytes changed.
+fn with_bytes(alloc: Global, changes: &[(usize, u8)]) -> Result<Vec<u8>, Fail> {
+    let mut bytes = libz(alloc, Abi::X86_64)?;
+    for (at, byte) in changes {
+        if *at < bytes.len() {
+            bytes[*at] = *byte;
+        }
     }
-    bytes
+    Ok(bytes)
+}
+
+// The library's first bytes.
+fn cut(alloc: Global, size: usize) -> Result<Vec<u8>, Fail> {
+    let mut bytes = libz(alloc, Abi::X86_64)?;
+    bytes.truncate(size);
+    Ok(bytes)
 }
 
 #[test]
@@ -42,10 +52,10 @@ fn a_damaged_library_is_a_line_of_the_report(rt: HostRuntime) -> Result<(), Fail
         ("a DT_SONAME that is no name", 241, b'/', "BadSoname"),
     ];
     for (damage, at, byte, defect) in damages {
-        assert_skipped(&rt, alloc, &with_byte(at, byte), defect, damage)?;
+        let content = with_bytes(alloc, &[(at, byte)])?;
+        assert_skipped(&rt, alloc, &content, defect, damage)?;
     }
-    let mut many = with_byte(56, 0xff);
-    many[57] = 0xff;
+    let many = with_bytes(alloc, &[(56, 0xff), (57, 0xff)])?;
     assert_skipped(&rt, alloc, &many, "BadPhdrs", "PN_XNUM")
 }
 
@@ -63,7 +73,7 @@ fn a_library_that_is_cut(rt: HostRuntime) -> Result<(), Fail> {
         (250, "OutsideLoad"),
     ];
     for (size, defect) in cuts {
-        assert_skipped(&rt, alloc, &LIBZ[..size], defect, "cut")?;
+        assert_skipped(&rt, alloc, &cut(alloc, size)?, defect, "cut")?;
     }
     assert_skipped(
         &rt,
@@ -80,12 +90,10 @@ fn files_that_are_no_libraries(rt: HostRuntime) -> Result<(), Fail> {
     let alloc = rt.alloc();
     let manifest = b"./usr/lib/libt.so.1\n./usr/lib/libc.so\n./usr/lib/libbe.so.1\n";
     let mut held = one(alloc, b"usr/lib/libc.so", b"GROUP ( libc.so.6 )\n")?;
-    for (key, content) in [
-        (b"usr/lib/libt.so.1".as_slice(), &LIBZ[..10]),
-        (b"usr/lib/libbe.so.1", &with_byte(5, 2)),
-    ] {
-        held.push((Text::copy_of(alloc, key)?, Text::copy_of(alloc, content)?))?;
-    }
+    let short = Text::from_vec(cut(alloc, 10)?);
+    held.push((Text::copy_of(alloc, b"usr/lib/libt.so.1")?, short))?;
+    let big_endian = Text::from_vec(with_bytes(alloc, &[(5, 2)])?);
+    held.push((Text::copy_of(alloc, b"usr/lib/libbe.so.1")?, big_endian))?;
     let report = b"skip: /usr/lib/libbe.so.1: BadData 2\n\
         skip: /usr/lib/libc.so: NotElf\n\
         skip: /usr/lib/libt.so.1: TooShort 10\n\
@@ -99,13 +107,12 @@ fn files_that_are_no_libraries(rt: HostRuntime) -> Result<(), Fail> {
 fn what_does_not_count_is_not_read(rt: HostRuntime) -> Result<(), Fail> {
     let alloc = rt.alloc();
     // tag 30 instead of DT_SONAME, and an empty DT_SONAME: the library's name is that of its file
-    let unnamed = with_byte(176, 30);
-    let empty = with_byte(184, 0);
+    let unnamed = [(176, 30)].as_slice();
+    let empty = [(184, 0)].as_slice();
     // a second DT_SONAME, outside of the string table, instead of the DT_NULL
-    let mut second = with_byte(224, 14);
-    second[232] = 99;
-    for content in [unnamed.as_slice(), &empty, &second] {
-        let held = one(alloc, LIBZ_KEY, content)?;
+    let second = [(224, 14), (232, 99)].as_slice();
+    for changes in [unnamed, empty, second] {
+        let held = one(alloc, LIBZ_KEY, &with_bytes(alloc, changes)?)?;
         let want = done(LIBZ_REPORT, ONE_CACHE);
         let _ = assert_update(&rt, alloc, image(LIBZ_MANIFEST), held, want)?;
     }

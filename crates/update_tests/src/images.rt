@@ -1,12 +1,12 @@
 //! Images that an update makes a cache of.
 use crate::updates::assert_update;
 use ldconfig_cli::{Status, run};
-use lib_types::Text;
+use lib_types::{Abi, Text};
 use std::test::Fail;
 use tree_face::{Slot, SureDisk, SureSink, SureSource, SureStore};
 use update_fixture::{
-    EMPTY_CACHE, I386_LIBZ, LIBZ, LIBZ_KEY, LIBZ_MANIFEST, LIBZ_REPORT, ONE_CACHE, THREE_CACHE,
-    copy, done, has, image, library, one, replacing_calls, strings,
+    EMPTY_CACHE, LIBZ_KEY, LIBZ_MANIFEST, LIBZ_REPORT, ONE_CACHE, THREE_CACHE, copy, done, has,
+    image, library, libz, libz_held, one, replacing_calls, strings,
 };
 
 // A `run` that always returns NoMemory meets its contract. This test refuses it.
@@ -41,7 +41,7 @@ fn an_image_without_libraries_has_an_empty_cache(rt: HostRuntime) -> Result<(), 
 #[test]
 fn one_library(rt: HostRuntime) -> Result<(), Fail> {
     let alloc = rt.alloc();
-    let held = one(alloc, LIBZ_KEY, &LIBZ)?;
+    let held = libz_held(alloc)?;
     let want = done(LIBZ_REPORT, ONE_CACHE);
     let devices = assert_update(&rt, alloc, image(LIBZ_MANIFEST), held, want)?;
     assert_eq!(rt; devices.store.begun(), 1);
@@ -53,23 +53,19 @@ fn one_library(rt: HostRuntime) -> Result<(), Fail> {
 #[test]
 fn a_library_of_each_abi(rt: HostRuntime) -> Result<(), Fail> {
     let alloc = rt.alloc();
-    let mut aarch64 = LIBZ;
-    aarch64[18] = 183;
-    let mut x32 = I386_LIBZ;
-    x32[18] = 62;
     let rows = [
-        (I386_LIBZ.as_slice(), 0x00),
-        (&LIBZ, 0x03),
-        (&x32, 0x08),
-        (&aarch64, 0x0a),
+        (Abi::I386, 0x00),
+        (Abi::X86_64, 0x03),
+        (Abi::X32, 0x08),
+        (Abi::Aarch64, 0x0a),
     ];
-    for (content, flags) in rows {
+    for (abi, flags) in rows {
         let mut cache = Vec::from_slice(alloc, ONE_CACHE)?;
         // the second byte of the entry's flags; the first is 3 for each
         if cache.len() > 49 {
             cache[49] = flags;
         }
-        let held = one(alloc, LIBZ_KEY, content)?;
+        let held = one(alloc, LIBZ_KEY, &libz(alloc, abi)?)?;
         let _ = assert_update(
             &rt,
             alloc,
@@ -87,7 +83,7 @@ fn a_folder_that_is_a_link(rt: HostRuntime) -> Result<(), Fail> {
     let alloc = rt.alloc();
     let manifest =
         b"usr type=dir\n lib type=link link=../x\n..\n./x/libz.so.1 inode=1 ctime=2 size=251\n";
-    let held = one(alloc, b"x/libz.so.1", &LIBZ)?;
+    let held = one(alloc, b"x/libz.so.1", &libz(alloc, Abi::X86_64)?)?;
     let want = done(LIBZ_REPORT, ONE_CACHE);
     let _ = assert_update(&rt, alloc, image(manifest), held, want)?;
     Ok(())
@@ -118,7 +114,7 @@ fn three_libraries_stand_by_descending_names(rt: HostRuntime) -> Result<(), Fail
 fn devices_that_never_fail(rt: HostRuntime) -> Result<(), Fail> {
     let alloc = rt.alloc();
     let words = strings(alloc, &["update"])?;
-    let mut store = SureStore::new(one(alloc, LIBZ_KEY, &LIBZ)?);
+    let mut store = SureStore::new(libz_held(alloc)?);
     let mut disk = SureDisk::new(alloc, copy(alloc, Some(LIBZ_MANIFEST))?, None, None);
     let mut input = SureSource::new(Vec::new(alloc));
     let mut out = SureSink::new(alloc);

@@ -5,8 +5,8 @@ use mtree_manifest::{LineKind, ManifestFault};
 use std::test::Fail;
 use tree_face::{Disk, Slot};
 use update_fixture::{
-    LIBZ, LIBZ_KEY, LIBZ_MANIFEST, OLD, Setting, has, image, library, make_devices, one, refused,
-    run_words,
+    LIBZ_KEY, LIBZ_MANIFEST, OLD, Setting, has, image, library, libz_held, make_devices, one,
+    refused, run_words,
 };
 
 // The kinds of line faults are tried by the tests of manifests; here one of each form of fault line.
@@ -78,8 +78,9 @@ fn other_places_are_not_built(rt: HostRuntime) -> Result<(), Fail> {
         let mut manifest = Vec::from_slice(alloc, LIBZ_MANIFEST)?;
         manifest.extend_from_slice(line)?;
         // with the library, and without it: its own fault would come later
+        let libz = library(alloc, b"libz.so.1")?;
         for key in [LIBZ_KEY, b"other"] {
-            let held = one(alloc, key, &LIBZ)?;
+            let held = one(alloc, key, &libz)?;
             let devices = assert_update(&rt, alloc, image(&manifest), held, want)?;
             assert_eq!(rt; devices.store.begun(), 0);
         }
@@ -133,7 +134,7 @@ fn other_words_touch_nothing(rt: HostRuntime) -> Result<(), Fail> {
         &[""],
     ];
     for words in cases {
-        let mut devices = make_devices(alloc, setting, one(alloc, LIBZ_KEY, &LIBZ)?)?;
+        let mut devices = make_devices(alloc, setting, libz_held(alloc)?)?;
         let status = run_words(alloc, words, &mut devices)?;
         assert_eq!(rt; status, Status::Usage, "{words:?}");
         assert_eq!(rt;

@@ -1,7 +1,7 @@
 use Rattle.std.proofs.Common.{◌≡◌, ◌+◌, drop, not}
 use Rattle.std.specs.List.{position_or_len}
 use Rattle.std.specs.Ordering.{is_lt}
-use Rattle.ldconfig_cli.specs.Entries.{cache_entry_of, entry_order}
+use Rattle.ldconfig_core.specs.Entries.{cache_entry_of, entry_order}
 use Rattle.plain_update.specs.LibraryFile.{seen}
 use Rattle.plain_update.proofs.place_below.Given as goal
 

@@ -2,8 +2,8 @@ use Rattle.std.proofs.Common.{List, ◌≤◌, length, map, arith}
 use Rattle.std.proofs.lemmas.List.{length-map}
 use Rattle.std.proofs.lemmas.List.Elements.{All-map}
 use Rattle.std.specs.List.{All}
-use Rattle.ldconfig_cli.specs.Found.{OwnLibrary}
-use Rattle.ldconfig_cli.proofs.Listing.{as_many, short_sonames, short_paths, plain_entries}
+use Rattle.ldconfig_core.specs.Found.{OwnLibrary}
+use Rattle.ldconfig_core.proofs.Listing.{as_many, short_sonames, short_paths, plain_entries}
 use Rattle.plain_update.specs.LibraryFile.{seen}
 use Rattle.plain_update.specs.declared.LibraryFile.{LibraryFile}
 use Rattle.plain_update.proofs.plain_cache.Goals as goal

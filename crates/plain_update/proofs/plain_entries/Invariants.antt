@@ -1,5 +1,5 @@
 use Rattle.std.proofs.Common.{map, take}
-use Rattle.ldconfig_cli.specs.Entries.{AreEntriesOf}
+use Rattle.ldconfig_core.specs.Entries.{AreEntriesOf}
 use Rattle.plain_update.specs.LibraryFile.{seen}
 use Rattle.plain_update.proofs.plain_entries.Given as goal
 

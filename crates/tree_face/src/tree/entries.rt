@@ -23,7 +23,7 @@ fn node_of(runs: &Vec<Run>, place: Place) -> &Node
     requires { IsEntryPlace runs.now.items place }
     ensures { (d : _) → result.now ≡ (slice_index_or (joined runs.now.items) (index_of runs.now.items place) d).1 }
 {
-    &entry_at(runs, place).1
+    entry_at(runs, place).node()
 }
 
 /// The node of the path.
@@ -79,7 +79,7 @@ fn has_below(runs: &Vec<Run>, path: &[u8], behind: Place) -> bool
     ensures { result ≡ has_below (joined runs.now.items) path.now }
 {
     match entry_from(runs, behind) {
-        Some(next) => is_below(path, next.0.as_bytes()),
+        Some(next) => is_below(path, next.path()),
         None => false,
     }
 }
@@ -117,7 +117,7 @@ pub(super) fn kind(runs: &Vec<Run>, path: &[u8]) -> Kind
 fn is_file_above(entry: &PathEntry, path: &[u8]) -> bool
     ensures { result ≡ is_file_above path.now (entry.now.0, entry.now.1) }
 {
-    is_below(entry.0.as_bytes(), path) && !is_dir(&entry.1)
+    is_below(entry.path(), path) && !is_dir(entry.node())
 }
 
 // Whether the entry directly before the place is a file or a link above the path.
@@ -242,7 +242,7 @@ fn insert(
     ensures runs { IsTrue (are_runs runs.new.items) }
 {
     let path = Text::copy_of(alloc, path)?;
-    places::insert(alloc, runs, place, (path, node))?;
+    places::insert(alloc, runs, place, PathEntry::new(alloc, path, node)?)?;
     Ok(())
 }
 
@@ -313,7 +313,7 @@ fn skip_child<'a>(entries: Rest<'a>, folder: &[u8], name: &[u8]) -> Rest<'a>
 {
     let mut rest = entries;
     while let Some((entry, more)) = rest.split_first() {
-        if !is_child(folder, name, entry.0.as_bytes()) {
+        if !is_child(folder, name, entry.path()) {
             break;
         }
         rest = more;
@@ -327,10 +327,10 @@ pub(super) fn first_child<'a>(rest: &Rest<'a>, folder: &[u8]) -> Option<(&'a [u8
         (λ r. dedup bytes_eq (names_behind folder.now rest.now) ≡ r.0.now ∷ dedup bytes_eq (names_behind folder.now r.1)) }
 {
     let (first, others) = rest.split_first()?;
-    if !first.0.as_bytes().starts_with(folder) {
+    if !first.path().starts_with(folder) {
         return None;
     }
-    let name = name_from(first.0.as_bytes(), folder.len());
+    let name = name_from(first.path(), folder.len());
     let rest = skip_child(others, folder, name);
     Some((name, rest))
 }

@@ -13,8 +13,51 @@ use std::alloc::Global;
 use std::cmp::Ordering;
 use std::marker::Model;
 
-/// A path and its node.
-pub(super) type PathEntry = (Text, Node);
+/// A path and its node, in a block of memory of their own: within a run an entry moves as one pointer.
+#[derive(Drop)]
+pub(super) struct PathEntry {
+    entry: Box<(Text, Node)>,
+}
+
+impl Model for PathEntry {
+    ghost use Rattle.std.specs.Prelude.{List, ℕ};
+    ghost use Rattle.tree_face.specs.declared.node.Node.{Node};
+
+    ghost Value = { List ℕ × Node };
+
+    ghost view = { λ e. (e.entry.value.0, e.entry.value.1) };
+}
+
+impl PathEntry {
+    /// The entry of a path and its node.
+    pub(super) fn new(alloc: Global, path: Text, node: Node) -> Result<PathEntry, NoMemory>
+        ensures { IfOk result (λ e. e ≡ (path, node)) }
+    {
+        let entry = Box::new(alloc, (path, node))?;
+        Ok(PathEntry { entry })
+    }
+
+    /// The path.
+    pub(super) fn path(&self) -> &[u8]
+        ensures { result.now ≡ self.now.0 }
+    {
+        self.entry.0.as_bytes()
+    }
+
+    /// The node.
+    pub(super) fn node(&self) -> &Node
+        ensures { result.now ≡ self.now.1 }
+    {
+        &self.entry.1
+    }
+
+    // Overwrites the node.
+    fn set_node(&mut self, node: Node)
+        ensures { self.new ≡ (self.old.0, node) }
+    {
+        self.entry.1 = node;
+    }
+}
 
 /// The most entries of a run. What is put or removed moves no more entries than that: fewer would make more runs, whose
 /// list is moved where a run is divided.
@@ -63,7 +106,7 @@ impl Run {
         ensures { result ≡ begins_by path.now self.now }
     {
         match self.entries.as_slice().split_first() {
-            Some((first, _)) => !compare(first.0.as_bytes(), path).is_gt(),
+            Some((first, _)) => !compare(first.path(), path).is_gt(),
             None => true,
         }
     }
@@ -123,7 +166,7 @@ fn search(entries: &Vec<PathEntry>, path: &[u8]) -> Result<usize, usize>
     entries.binary_search_by(
         |entry: &PathEntry| -> Ordering
             ensures { result ≡ path_cmp entry.now.0 path.entry.now }
-        { compare(entry.0.as_bytes(), path) },
+        { compare(entry.path(), path) },
     )
 }
 
@@ -132,5 +175,5 @@ fn set_node(entries: &mut Vec<PathEntry>, index: usize, node: Node)
     requires { index < length entries.old.items }
     ensures { (d : _) → entries.new.items ≡ slice_set entries.old.items index ((slice_index_or entries.old.items index d).0, node) }
 {
-    entries[index].1 = node;
+    entries[index].set_node(node);
 }

@@ -117,7 +117,7 @@ fn is_after_all(runs: &Vec<Run>, path: &[u8], end: Place) -> bool
 {
     match entry_before(runs, end) {
         None => true,
-        Some(last) => compare(last.0.as_bytes(), path).is_lt(),
+        Some(last) => compare(last.path(), path).is_lt(),
     }
 }
 

@@ -1,12 +1,13 @@
-use Rattle.std.proofs.Common.{◌≡◌, ℕ, List, ◌≤◌, ◌+◌, ◌*◌, ◌-◌, ◌∷◌, if◌then◌else◌, Ok, Err, refl, ap, sym, ◌∙◌, arith, rules}
+use Rattle.std.proofs.Common.{◌≡◌, ℕ, List, ◌≤◌, ◌*◌, ◌-◌, Ok, arith, rules}
 use Rattle.lib_types.specs.Counts.{raised}
 use Rattle.elf_headers.specs.Layout.{word_size}
 use Rattle.elf_headers.specs.Reading.{known_content}
 use Rattle.elf_dynamic.specs.Section.{dynamic_entries}
-use Rattle.elf_dynamic.specs.Entries.{IsOpen, rest_of, unread}
+use Rattle.elf_dynamic.specs.Entries.{rest_of, unread_in}
 use Rattle.elf_dynamic.specs.Texts.{bytes_of, no_texts, add_one, gathered}
 use Rattle.elf_dynamic.proofs.Known.{before, same, chain, at_some}
-use Rattle.elf_dynamic.proofs.Live.{opened, opened_after, begun, begun_unread, next_is}
+use Rattle.elf_dynamic.proofs.Live.{opened, begun, begun_unread, next_before}
+use Rattle.elf_dynamic.proofs.Windows.{window_after}
 use Rattle.elf_dynamic.proofs.Gathered.{rests_first, rests_on, fault_on, stays_first, stays_on, stays_fault}
 use Rattle.elf_dynamic.proofs.gather.gather.Goals as goal
 
@@ -16,20 +17,20 @@ loop-found-init g c =
     let h = c.args.head.now in
     let d = c.args.dynamic in
     let new = c.new-entries.ensures in
-    let unread_is = begun_unread h d c.new-entries.result new in
+    let unread_is = begun_unread h d c.new-entries.result c.args.section.now new in
     let table = bytes_of c.args.table in
     let all = λ (bytes : List ℕ). dynamic_entries (word_size h.wide) bytes d in
     let first = no_texts c.args.nodeflib in
     let same = begun (known_content s) h d c.new-entries.result new in
     record {
       is_head = c.requires.head;
-      opened = opened s h d c.new-entries.result c.args.window.now new c.requires.inside;
+      section = c.requires.section;
       window = c.requires.window;
-      room = c.requires.room;
+      inside = opened h d c.new-entries.result new c.requires.inside;
       reads = search rules;
       rest = rests_first (known_content s) table (rest_of c.new-entries.result) all c.no_texts-found.result first c.no_texts-found.ensures same;
       still = omega arith;
-      taken = stays_first (known_content s) s (2 * d.filesz) (unread c.new-entries.result) table (rest_of c.new-entries.result) all c.no_texts-found.result first c.no_texts-found.ensures same;
+      taken = stays_first (known_content s) s (2 * d.filesz) (unread_in c.args.section.now c.new-entries.result) table (rest_of c.new-entries.result) all c.no_texts-found.result first c.no_texts-found.ensures same;
     }
 
 pub loop-found-preserved : goal.loop-found-preserved
@@ -45,20 +46,19 @@ loop-found-preserved g c =
     let table = bytes_of c.args.table in
     let all = λ (bytes : List ℕ). dynamic_entries (word_size h.wide) bytes d in
     let first = no_texts c.args.nodeflib in
-    let there = at_some (λ _. IsOpen mid h c.next.new.self c.next.new.buf) _ _ c.in-Some.is e.opened in
-    let less = at_some (λ _. unread c.next.new.self ≤ unread l.entries) _ _ c.in-Some.is e.unread in
-    let taken = at_some (λ _. mid.taken ≤ raised (g.S.Store.state l.store).taken (unread l.entries - unread c.next.new.self)) _ _ c.in-Some.is e.taken_entry in
-    let on = before (λ bytes. rest_of l.entries bytes ≡ c.in-Some.entry ∷ rest_of c.next.new.self bytes) _ _ l.invariant.reads (next_is _ _ _ c.in-Some.entry _ c.in-Some.is e.entry) in
+    let less = at_some (λ _. unread_in c.next.new.window c.next.new.self ≤ unread_in l.section l.entries) _ _ c.in-Some.is e.unread in
+    let taken = at_some (λ _. mid.taken ≤ raised (g.S.Store.state l.store).taken (unread_in l.section l.entries - unread_in c.next.new.window c.next.new.self)) _ _ c.in-Some.is e.taken_entry in
+    let on = next_before _ _ l.entries c.next.new.self c.in-Some.entry _ l.invariant.reads c.in-Some.is e.entry in
     let added = before (λ bytes. add_one (table bytes) l.found c.in-Some.entry ≡ Ok c.add.new.found) s mid (chain s _ mid l.invariant.reads e.reads) a.added in
     record {
       is_head = a.begun_head;
-      opened = opened_after mid new h c.next.new.self c.next.new.buf a.reads there;
-      window = omega arith;
-      room = omega arith;
+      section = window_after mid new h c.next.new.window a.reads e.window;
+      window = a.window;
+      inside = e.inside;
       reads = search rules;
       rest = rests_on (known_content s) table (rest_of l.entries) (rest_of c.next.new.self) (λ bytes. gathered (table bytes) first (all bytes)) l.found c.add.new.found c.in-Some.entry on added l.invariant.rest;
       still = omega (arith, less, l.invariant.still);
-      taken = stays_on (known_content s) s (g.S.Store.state l.store) mid new (2 * d.filesz) (unread l.entries) (unread c.next.new.self) table (rest_of l.entries) (rest_of c.next.new.self) all l.found c.add.new.found first c.in-Some.entry
+      taken = stays_on (known_content s) s (g.S.Store.state l.store) mid new (2 * d.filesz) (unread_in l.section l.entries) (unread_in c.next.new.window c.next.new.self) table (rest_of l.entries) (rest_of c.next.new.self) all l.found c.add.new.found first c.in-Some.entry
           l.invariant.taken on added l.invariant.still less taken a.taken;
     }
 
@@ -71,7 +71,7 @@ returns-in-Err-clause-bad g c =
     let e = c.in_ok-entry.ensures in
     let table = bytes_of c.args.table in
     let all = λ (bytes : List ℕ). gathered (table bytes) (no_texts c.args.nodeflib) (dynamic_entries (word_size h.wide) bytes c.args.dynamic) in
-    let on = before (λ bytes. rest_of l.entries bytes ≡ c.in-Some.entry ∷ rest_of c.next.new.self bytes) _ _ l.invariant.reads (next_is _ _ _ c.in-Some.entry _ c.in-Some.is e.entry) in
+    let on = next_before _ _ l.entries c.next.new.self c.in-Some.entry _ l.invariant.reads c.in-Some.is e.entry in
     fault_on (known_content s) (known_content mid) table (rest_of l.entries) (rest_of c.next.new.self) all l.found c.in-Some.entry c.in-Err.fault (same s mid (chain s _ mid l.invariant.reads e.reads)) on l.invariant.rest c.in-Err.ensures.bad
 
 pub returns-in-Err-clause-taken : goal.returns-in-Err-clause-taken
@@ -84,8 +84,8 @@ returns-in-Err-clause-taken g c =
     let d = c.args.dynamic in
     let e = c.in_ok-entry.ensures in
     let all = λ (bytes : List ℕ). dynamic_entries (word_size h.wide) bytes d in
-    let less = at_some (λ _. unread c.next.new.self ≤ unread l.entries) _ _ c.in-Some.is e.unread in
-    let taken = at_some (λ _. mid.taken ≤ raised (g.S.Store.state l.store).taken (unread l.entries - unread c.next.new.self)) _ _ c.in-Some.is e.taken_entry in
-    let on = before (λ bytes. rest_of l.entries bytes ≡ c.in-Some.entry ∷ rest_of c.next.new.self bytes) _ _ l.invariant.reads (next_is _ _ _ c.in-Some.entry _ c.in-Some.is e.entry) in
-    stays_fault (known_content s) s (g.S.Store.state l.store) mid new (2 * d.filesz) (unread l.entries) (unread c.next.new.self) (bytes_of c.args.table) (rest_of l.entries) (rest_of c.next.new.self) all l.found
+    let less = at_some (λ _. unread_in c.next.new.window c.next.new.self ≤ unread_in l.section l.entries) _ _ c.in-Some.is e.unread in
+    let taken = at_some (λ _. mid.taken ≤ raised (g.S.Store.state l.store).taken (unread_in l.section l.entries - unread_in c.next.new.window c.next.new.self)) _ _ c.in-Some.is e.taken_entry in
+    let on = next_before _ _ l.entries c.next.new.self c.in-Some.entry _ l.invariant.reads c.in-Some.is e.entry in
+    stays_fault (known_content s) s (g.S.Store.state l.store) mid new (2 * d.filesz) (unread_in l.section l.entries) (unread_in c.next.new.window c.next.new.self) (bytes_of c.args.table) (rest_of l.entries) (rest_of c.next.new.self) all l.found
     (no_texts c.args.nodeflib) c.in-Some.entry l.invariant.taken on l.invariant.still less taken c.add.ensures.taken

@@ -1,10 +1,10 @@
-use Rattle.std.proofs.Common.{◌≡◌, ◌≤◌, ◌+◌, ◌*◌, ◌-◌, length}
-use Rattle.lib_types.specs.Counts.{raised}
+use Rattle.std.proofs.Common.{◌≡◌, ◌≤◌, ◌*◌}
 use Rattle.tree_face.specs.Known.{IfKnown}
 use Rattle.elf_headers.specs.Layout.{word_size}
 use Rattle.elf_headers.specs.Reading.{known_content, OnlyReads, IsHeadOf}
 use Rattle.elf_dynamic.specs.Section.{dynamic_entries}
-use Rattle.elf_dynamic.specs.Entries.{rest_of, IsOpen, unread}
+use Rattle.elf_dynamic.specs.Entries.{rest_of, IsIn, unread_in}
+use Rattle.elf_dynamic.specs.Windows.{IsWindowOf}
 use Rattle.elf_dynamic.specs.Texts.{bytes_of, no_texts, gathered}
 use Rattle.elf_dynamic.proofs.Gathered.{Stays}
 use Rattle.elf_dynamic.proofs.gather.gather.Given as goal
@@ -16,16 +16,16 @@ invariant-loop-found g l =
     let new = g.S.Store.state l.store in
     record {
       is_head : IsHeadOf new l.head;
-      opened : IsOpen new l.head l.entries l.window;
-      window : 16 ≤ length l.window;
-      room : 16 ≤ length l.buf;
+      section : IsWindowOf new l.head l.section;
+      window : IsWindowOf new l.head l.window;
+      inside : IsIn l.head l.entries;
       reads : OnlyReads old new;
       rest : IfKnown (known_content old) (λ bytes.
           gathered (bytes_of l.fn.table bytes) l.found (rest_of l.entries bytes)
           ≡ gathered (bytes_of l.fn.table bytes) (no_texts l.fn.nodeflib) (dynamic_entries (word_size l.head.wide) bytes l.fn.dynamic));
-      still : unread l.entries ≤ 2 * l.fn.dynamic.filesz;
+      still : unread_in l.section l.entries ≤ 2 * l.fn.dynamic.filesz;
       taken : IfKnown (known_content old) (λ bytes.
-          Stays old new (2 * l.fn.dynamic.filesz) (unread l.entries) (bytes_of l.fn.table bytes) l.found (rest_of l.entries bytes) (no_texts l.fn.nodeflib) (dynamic_entries (word_size l.head.wide) bytes l.fn.dynamic));
+          Stays old new (2 * l.fn.dynamic.filesz) (unread_in l.section l.entries) (bytes_of l.fn.table bytes) l.found (rest_of l.entries bytes) (no_texts l.fn.nodeflib) (dynamic_entries (word_size l.head.wide) bytes l.fn.dynamic));
     }
 
 abbrev pub decreases-loop-found : goal.decreases-loop-found

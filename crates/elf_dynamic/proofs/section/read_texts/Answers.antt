@@ -1,13 +1,12 @@
-use Rattle.std.proofs.Common.{◌≡◌, ◌≤◌, ◌+◌, ◌*◌, ℕ, List, Ok, Err, sym, subst}
-use Rattle.lib_types.specs.Counts.{raised}
+use Rattle.std.proofs.Common.{◌≡◌, Ok, Err, sym, subst}
 use Rattle.elf_headers.specs.Layout.{word_size}
 use Rattle.elf_headers.specs.Reading.{known_content}
 use Rattle.elf_dynamic.specs.Section.{dynamic_entries}
 use Rattle.tree_face.specs.Known.{IfKnown}
 use Rattle.elf_dynamic.specs.Sections.{section_in}
-use Rattle.elf_dynamic.specs.Texts.{bytes_of, no_texts, gathered, counted}
+use Rattle.elf_dynamic.specs.Texts.{bytes_of, no_texts, gathered}
 use Rattle.elf_dynamic.proofs.Known.{same, before}
-use Rattle.elf_dynamic.proofs.Sections.{table_fault, text_fault, known_taken, known_bad_name, known_good, flagged}
+use Rattle.elf_dynamic.proofs.Sections.{table_fault, text_fault, texts_taken_by, known_bad_name, known_good, flagged}
 use Rattle.elf_dynamic.proofs.section.read_texts.Goals as goal
 
 pub returns-in-Err-clause-bad : goal.returns-in-Err-clause-bad
@@ -23,39 +22,15 @@ returns-in-Err-gather-clause-bad g c =
 
 pub returns-in-Err-gather-clause-taken : goal.returns-in-Err-gather-clause-taken
 returns-in-Err-gather-clause-taken g c =
-    let s = g.S.Store.state c.args.store.now in
-    let mid = g.S.Store.state c.find_strings.new.store in
-    let new = g.S.Store.state c.gather.new.store in
-    let w = word_size c.args.head.now.wide in
-    let d = c.args.dynamic in
-    let table = bytes_of c.in-Ok.table in
-    let f = c.has_nodeflib-nodeflib.result in
-    known_taken (known_content s) s.taken mid.taken new.taken (56 * c.args.head.now.phnum) (2 * d.filesz) w d f table c.in-Ok.ensures.taken
-    (before (λ bytes. new.taken ≤ raised mid.taken (2 * d.filesz + 65536 * counted (table bytes) (no_texts f) (dynamic_entries w bytes d))) s mid c.in-Ok.ensures.reads c.gather.ensures.taken)
+    texts_taken_by (g.S.Store.state c.args.store.now) (g.S.Store.state c.find_strings.new.store) (g.S.Store.state c.gather.new.store) _ _ _ c.args.dynamic c.has_nodeflib-nodeflib.result c.in-Ok.table c.in-Ok.ensures.reads c.in-Ok.ensures.taken c.gather.ensures.taken
 
 pub returns-in-Ok-named-clause-taken : goal.returns-in-Ok-named-clause-taken
 returns-in-Ok-named-clause-taken g c =
-    let s = g.S.Store.state c.args.store.now in
-    let mid = g.S.Store.state c.find_strings.new.store in
-    let new = g.S.Store.state c.gather.new.store in
-    let w = word_size c.args.head.now.wide in
-    let d = c.args.dynamic in
-    let table = bytes_of c.in-Ok.table in
-    let f = c.has_nodeflib-nodeflib.result in
-    known_taken (known_content s) s.taken mid.taken new.taken (56 * c.args.head.now.phnum) (2 * d.filesz) w d f table c.in-Ok.ensures.taken
-    (before (λ bytes. new.taken ≤ raised mid.taken (2 * d.filesz + 65536 * counted (table bytes) (no_texts f) (dynamic_entries w bytes d))) s mid c.in-Ok.ensures.reads c.gather.ensures.taken)
+    texts_taken_by (g.S.Store.state c.args.store.now) (g.S.Store.state c.find_strings.new.store) (g.S.Store.state c.gather.new.store) _ _ _ c.args.dynamic c.has_nodeflib-nodeflib.result c.in-Ok.table c.in-Ok.ensures.reads c.in-Ok.ensures.taken c.gather.ensures.taken
 
 pub returns-in-Err-named-clause-taken : goal.returns-in-Err-named-clause-taken
 returns-in-Err-named-clause-taken g c =
-    let s = g.S.Store.state c.args.store.now in
-    let mid = g.S.Store.state c.find_strings.new.store in
-    let new = g.S.Store.state c.gather.new.store in
-    let w = word_size c.args.head.now.wide in
-    let d = c.args.dynamic in
-    let table = bytes_of c.in-Ok.table in
-    let f = c.has_nodeflib-nodeflib.result in
-    known_taken (known_content s) s.taken mid.taken new.taken (56 * c.args.head.now.phnum) (2 * d.filesz) w d f table c.in-Ok.ensures.taken
-    (before (λ bytes. new.taken ≤ raised mid.taken (2 * d.filesz + 65536 * counted (table bytes) (no_texts f) (dynamic_entries w bytes d))) s mid c.in-Ok.ensures.reads c.gather.ensures.taken)
+    texts_taken_by (g.S.Store.state c.args.store.now) (g.S.Store.state c.find_strings.new.store) (g.S.Store.state c.gather.new.store) _ _ _ c.args.dynamic c.has_nodeflib-nodeflib.result c.in-Ok.table c.in-Ok.ensures.reads c.in-Ok.ensures.taken c.gather.ensures.taken
 
 pub returns-in-Ok-named-clause-section : goal.returns-in-Ok-named-clause-section
 returns-in-Ok-named-clause-section g c =

@@ -1,4 +1,4 @@
-use Rattle.std.proofs.Common.{◌≡◌, ℕ, Bool, List, length, Some, Ok, option_map, find, sym, ap, subst, ◌∙◌, ◌&&◌}
+use Rattle.std.proofs.Common.{◌≡◌, Bool, length, Some, Ok, option_map, find, sym, ap, subst, ◌∙◌, ◌&&◌}
 use Rattle.std.specs.Option.{option_and_then}
 use Rattle.elf_headers.specs.declared.kinds.Segment.{Segment}
 use Rattle.tree_face.specs.Known.{IfKnown}
@@ -18,7 +18,7 @@ returns-in-Some-clause-found g c =
     let n = c.args.size in
     let p : Segment → Bool = λ s. is_load s && has_address a s in
     both {P = λ bytes. Some c.in-Some.load ≡ find p (segments (word_size h.wide) bytes)} {Q = λ bytes. head bytes ≡ Ok h}
-    {R = λ bytes. option_map (λ t. bytes_of t bytes) c.table_in.result ≡ table_at bytes (segments (word_size h.wide) bytes) a n} _ (subst (λ o. IfKnown (known_content (g.S.Store.state c.args.store.now)) (λ bytes. o ≡ find p (segments (word_size h.wide) bytes))) c.in-Some.is c.in_ok-load.ensures.found) c.requires.content
+    {R = λ bytes. option_map (λ t. bytes_of t bytes) c.table_in.result ≡ table_at bytes (segments (word_size h.wide) bytes) a n} _ (subst (λ o. IfKnown (known_content (g.S.Store.state c.args.store.now)) (λ bytes. o ≡ find p (segments (word_size h.wide) bytes))) c.in-Some.is c.in_ok-load.ensures.found) c.requires.head.content
     (λ bytes found is_head.
     let given = gives {size = length bytes} {bytes = bytes} {h = h} is_head in
     c.table_in.ensures.same bytes (sym given.size_is) ∙ ap (λ o. option_and_then (table_in bytes a n) o) found)

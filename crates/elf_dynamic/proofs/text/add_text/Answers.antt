@@ -1,4 +1,4 @@
-use Rattle.std.proofs.Common.{is_some, ap, sym, ◌∙◌}
+use Rattle.std.proofs.Common.{is_some, ap, ◌∙◌}
 use Rattle.elf_dynamic.specs.Section.{is_nul}
 use Rattle.elf_dynamic.proofs.Nuls.{is_some_position}
 use Rattle.elf_dynamic.proofs.text.add_text.Goals as goal

@@ -1,8 +1,9 @@
-use Rattle.std.proofs.Common.{◌≡◌, ◌≤◌, ◌+◌, ◌-◌, ◌++◌, length, take, drop, option_map}
+use Rattle.std.proofs.Common.{◌≡◌, ◌≤◌, ◌+◌, ◌-◌, ◌++◌, take, drop, option_map}
 use Rattle.lib_types.specs.Counts.{raised}
 use Rattle.tree_face.specs.Known.{IfKnown}
 use Rattle.elf_headers.specs.Reading.{known_content, OnlyReads, IsHeadOf}
 use Rattle.elf_dynamic.specs.Texts.{before_nul}
+use Rattle.elf_dynamic.specs.Windows.{IsWindowOf}
 use Rattle.elf_dynamic.proofs.text.read_text.Given as goal
 
 -- the bytes so far, with those before the first NUL of the rest, are the text
@@ -12,7 +13,7 @@ invariant-loop-left g l =
     let new = g.S.Store.state l.store in
     record {
       is_head : IsHeadOf new l.head;
-      room : 16 ≤ length l.buf;
+      window : IsWindowOf new l.head l.window;
       reads : OnlyReads old new;
       within : l.at + l.left ≤ l.head.length;
       less : l.left ≤ l.fn.most;

@@ -1,7 +1,4 @@
-use Rattle.std.proofs.Common.{◌≡◌, ◌≤◌, ◌<◌, ◌+◌, ◌-◌, min, length, List, Option, Result, Ok, Err, IfOk, take, drop, refl, ap, sym, ◌∙◌, arith}
-use Rattle.tree_face.specs.Known.{IfKnown}
-use Rattle.elf_headers.specs.Reading.{known_content}
-use Rattle.elf_dynamic.specs.Texts.{before_nul, bytes_of, text_found}
+use Rattle.std.proofs.Common.{arith}
 use Rattle.elf_dynamic.proofs.Known.{sized}
 use Rattle.elf_dynamic.proofs.Nuls.{text_known}
 use Rattle.elf_dynamic.proofs.text.text_at.Goals as goal

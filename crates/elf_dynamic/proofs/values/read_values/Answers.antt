@@ -1,14 +1,13 @@
-use Rattle.std.proofs.Common.{◌≡◌, ◌≤◌, ◌*◌, ◌-◌, ◌∷◌, [], MatchOption, length, take, drop, refl, ap, sym, subst, ◌∙◌, arith, rules}
+use Rattle.std.proofs.Common.{◌≤◌, ◌-◌, arith, rules}
 use Rattle.lib_types.specs.Counts.{raised}
-use Rattle.tree_face.specs.Known.{IfKnown}
 use Rattle.elf_headers.specs.Layout.{word_size}
 use Rattle.elf_headers.specs.Reading.{known_content}
 use Rattle.elf_dynamic.specs.Section.{dynamic_entries}
-use Rattle.elf_dynamic.specs.Entries.{IsOpen, rest_of, unread}
+use Rattle.elf_dynamic.specs.Entries.{rest_of, unread_in}
 use Rattle.elf_dynamic.specs.Values.{values_of}
-use Rattle.elf_dynamic.proofs.Known.{before, at_some}
+use Rattle.elf_dynamic.proofs.Known.{at_some}
 use Rattle.elf_dynamic.proofs.Joined.{joined_first, joined_known}
-use Rattle.elf_dynamic.proofs.Live.{opened, begun, begun_unread, next_is}
+use Rattle.elf_dynamic.proofs.Live.{opened, begun, begun_unread, next_before}
 use Rattle.elf_dynamic.proofs.values.read_values.Goals as goal
 
 pub loop-entry-init : goal.loop-entry-init
@@ -17,11 +16,11 @@ loop-entry-init g c =
     let h = c.args.head.now in
     let d = c.args.dynamic in
     let new = c.new-entries.ensures in
-    let all = begun_unread h d c.new-entries.result new in
+    let all = begun_unread h d c.new-entries.result c.args.window.now new in
     record {
       is_head = c.requires.head;
-      opened = opened s h d c.new-entries.result c.args.buf.now new c.requires.within;
-      room = c.requires.room;
+      window = c.requires.window;
+      inside = opened h d c.new-entries.result new c.requires.within;
       reads = search rules;
       rest = joined_first (known_content s) c.none-values.result (rest_of c.new-entries.result) (λ bytes. dynamic_entries (word_size h.wide) bytes d) c.none-values.ensures
           (begun (known_content s) h d c.new-entries.result new);
@@ -36,18 +35,16 @@ loop-entry-preserved g c =
     let d = c.args.dynamic in
     let e = c.in_ok-entry.ensures in
     let new = g.S.Store.state c.next.new.store in
-    let there = at_some (λ _. IsOpen new h c.next.new.self c.next.new.buf) _ _ c.in-Some.is e.opened in
-    let less = at_some (λ _. unread c.next.new.self ≤ unread c.loop-entry.entries) _ _ c.in-Some.is e.unread in
-    let taken = at_some (λ _. new.taken ≤ raised (g.S.Store.state c.loop-entry.store).taken (unread c.loop-entry.entries - unread c.next.new.self)) _ _ c.in-Some.is e.taken_entry in
+    let less = at_some (λ _. unread_in c.next.new.window c.next.new.self ≤ unread_in c.loop-entry.window c.loop-entry.entries) _ _ c.in-Some.is e.unread in
+    let taken = at_some (λ _. new.taken ≤ raised (g.S.Store.state c.loop-entry.store).taken (unread_in c.loop-entry.window c.loop-entry.entries - unread_in c.next.new.window c.next.new.self)) _ _ c.in-Some.is e.taken_entry in
     record {
       is_head = e.begun_head;
-      opened = there;
-      room = omega arith;
+      window = e.window;
+      inside = e.inside;
       reads = search rules;
       rest = joined_known (known_content s) c.loop-entry.values c.with-values.result c.in-Some.entry (rest_of c.loop-entry.entries) (rest_of c.next.new.self)
           (λ bytes. values_of (dynamic_entries (word_size h.wide) bytes d)) c.with-values.ensures
-          (before (λ bytes. rest_of c.loop-entry.entries bytes ≡ c.in-Some.entry ∷ rest_of c.next.new.self bytes) _ _ c.loop-entry.invariant.reads
-          (next_is _ _ _ c.in-Some.entry _ c.in-Some.is e.entry)) c.loop-entry.invariant.rest;
+          (next_before _ _ c.loop-entry.entries c.next.new.self c.in-Some.entry _ c.loop-entry.invariant.reads c.in-Some.is e.entry) c.loop-entry.invariant.rest;
       still = omega arith;
       taken = omega arith;
     }

@@ -1,10 +1,11 @@
-use Rattle.std.proofs.Common.{◌≡◌, ◌≤◌, ◌*◌, ◌-◌, length}
+use Rattle.std.proofs.Common.{◌≡◌, ◌≤◌, ◌*◌, ◌-◌}
 use Rattle.lib_types.specs.Counts.{raised}
 use Rattle.tree_face.specs.Known.{IfKnown}
 use Rattle.elf_headers.specs.Layout.{word_size}
 use Rattle.elf_headers.specs.Reading.{known_content, OnlyReads, IsHeadOf}
 use Rattle.elf_dynamic.specs.Section.{dynamic_entries}
-use Rattle.elf_dynamic.specs.Entries.{rest_of, IsOpen, unread}
+use Rattle.elf_dynamic.specs.Entries.{rest_of, IsIn, unread_in}
+use Rattle.elf_dynamic.specs.Windows.{IsWindowOf}
 use Rattle.elf_dynamic.specs.Values.{joined, values_of}
 use Rattle.elf_dynamic.proofs.values.read_values.Given as goal
 
@@ -15,12 +16,12 @@ invariant-loop-entry g l =
     let new = g.S.Store.state l.store in
     record {
       is_head : IsHeadOf new l.head;
-      opened : IsOpen new l.head l.entries l.buf;
-      room : 16 ≤ length l.buf;
+      window : IsWindowOf new l.head l.window;
+      inside : IsIn l.head l.entries;
       reads : OnlyReads old new;
       rest : IfKnown (known_content old) (λ bytes. joined l.values (rest_of l.entries bytes) ≡ values_of (dynamic_entries (word_size l.head.wide) bytes l.fn.dynamic));
-      still : unread l.entries ≤ 2 * l.fn.dynamic.filesz;
-      taken : new.taken ≤ raised old.taken (2 * l.fn.dynamic.filesz - unread l.entries);
+      still : unread_in l.window l.entries ≤ 2 * l.fn.dynamic.filesz;
+      taken : new.taken ≤ raised old.taken (2 * l.fn.dynamic.filesz - unread_in l.window l.entries);
     }
 
 abbrev pub decreases-loop-entry : goal.decreases-loop-entry

@@ -1,4 +1,4 @@
-use Rattle.std.proofs.Common.{◌≡◌, ◌⊎◌, ℕ, Some, Ok, Err, refl, sym, ap, ◌∙◌, arith}
+use Rattle.std.proofs.Common.{Some, Ok, Err, refl, sym, ap, ◌∙◌, arith}
 use Rattle.elf_headers.proofs.Heads.{gives, inside}
 use Rattle.elf_headers.proofs.Windows.{head_of_content, head_of_known, content_known}
 use Rattle.elf_headers.proofs.reader.head.Goals as goal

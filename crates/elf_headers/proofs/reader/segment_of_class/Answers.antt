@@ -1,6 +1,6 @@
-use Rattle.std.proofs.Common.{◌≡◌, ◌+◌, ◌*◌, Ok, ◌∙◌, length-take}
+use Rattle.std.proofs.Common.{◌≡◌, Ok, ◌∙◌, length-take}
 use Rattle.elf_headers.specs.Header.{head}
-use Rattle.elf_headers.specs.Layout.{program_header_length, segment}
+use Rattle.elf_headers.specs.Layout.{segment}
 use Rattle.elf_headers.specs.Reading.{known_content}
 use Rattle.elf_headers.proofs.Windows.{weaken_known, segment_read, least}
 use Rattle.elf_headers.proofs.reader.segment_of_class.Goals as goal

@@ -1,6 +1,6 @@
 use Rattle.std.proofs.Common.{◌≡◌, Some, sym, ◌∙◌}
 use Rattle.ldconfig_cli.specs.Command.{command_of}
-use Rattle.ldconfig_cli.proofs.Unique.{one_cache}
+use Rattle.ldconfig_core.proofs.Unique.{one_cache}
 use Rattle.ldconfig_cli.proofs.command.run.Goals as goal
 
 pub returns-in-Some-Update-clause-usage : goal.returns-in-Some-Update-clause-usage

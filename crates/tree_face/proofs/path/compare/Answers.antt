@@ -1,10 +1,9 @@
 use Rattle.std.proofs.Common.{◌<◌, length, sym, ◌∙◌, arith}
 use Rattle.tree_face.proofs.Order.{path_cmp-by_length}
 use Rattle.tree_face.proofs.path.compare.Goals as goal
-use Rattle.tree_face.proofs.path.compare.Goals.{then-loop-i-test+else-i-b, else-loop-i-test}
 
 pub returns : goal.returns
 returns c =
     let ended : c.loop-i.i < length c.args.a.now → c.loop-i.i < length c.args.b.now → ⊥
-    = λ p q. elim c.loop-i-test.branch [ then-loop-i-test+else-i-b w ↦ omega arith | else-loop-i-test w ↦ omega arith ] in
-    c.cmp-2.ensures ∙ sym (path_cmp-by_length c.args.a.now c.args.b.now c.loop-i.i (omega arith) (omega arith) ended) ∙ c.loop-i.invariant.2
+    = λ p q. omega arith in
+    c.cmp-2.ensures ∙ sym (path_cmp-by_length c.args.a.now c.args.b.now c.loop-i.i (omega arith) (omega arith) ended) ∙ c.loop-i.invariant.3

@@ -4,7 +4,7 @@ use Rattle.tree_face.proofs.path.equal_words.Given as goal
 
 -- what is left compares as the whole
 abbrev pub invariant-loop-i : goal.invariant-loop-i
-invariant-loop-i l = (l.i ≤ length l.a) × (l.i ≤ length l.b) × (path_cmp (drop l.i l.a) (drop l.i l.b) ≡ path_cmp l.a l.b)
+invariant-loop-i l = (l.i ≤ l.shorter) × (l.shorter ≤ length l.a) × (l.shorter ≤ length l.b) × (path_cmp (drop l.i l.a) (drop l.i l.b) ≡ path_cmp l.a l.b)
 
 abbrev pub decreases-loop-i : goal.decreases-loop-i
-decreases-loop-i l = length l.a - l.i
+decreases-loop-i l = l.shorter - l.i

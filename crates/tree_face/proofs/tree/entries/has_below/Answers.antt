@@ -13,7 +13,7 @@ returns-in-Some c =
     let path = c.args.path.now in
     let at = index_of c.args.runs.now.items c.args.behind in
     let there = c.in-Some.ensures in
-    let next = λ (d : List ℕ × Node). ap (λ (e : List ℕ × Node). is_below path e.0) (there.same d) ∙ sym (c.is_below.ensures ∙ ap (is_below path) c.as_bytes.ensures) in
+    let next = λ (d : List ℕ × Node). ap (λ (e : List ℕ × Node). is_below path e.0) (there.same d) ∙ sym (c.is_below.ensures ∙ ap (is_below path) c.path.ensures) in
     by_test c.is_below.result
     (λ e. e ∙ sym (some_below_next t path at c.requires.path c.requires.behind ([], Dir) there.within (next ([], Dir) ∙ e)))
     (λ e. e ∙ sym (none_below_next t path at c.requires.path c.requires.behind c.requires.sorted there.within (λ d. next d ∙ e)))

@@ -1,4 +1,4 @@
-use Rattle.std.proofs.Common.{length, ap, ◌∙◌}
+use Rattle.std.proofs.Common.{List, ℕ, length, ap, ◌∙◌}
 use Rattle.std.specs.List.{insert}
 use Rattle.std.proofs.lemmas.List.Edits.{length-insert}
 use Rattle.tree_face.proofs.Index.{inserted}
@@ -8,7 +8,7 @@ use Rattle.tree_face.proofs.tree.entries.insert.Goals as goal
 pub returns-clause-done : goal.returns-clause-done
 returns-clause-done c =
     c.in_ok-insert.ensures.done
-    ∙ ap (λ p. insert (joined c.args.runs.now.items) (index_of c.args.runs.now.items c.args.place) (p, c.args.node)) c.in_ok-path.ensures
+    ∙ ap (insert (joined c.args.runs.now.items) (index_of c.args.runs.now.items c.args.place)) (c.in_ok-new.ensures ∙ ap (λ (p : List ℕ). (p, c.args.node)) c.in_ok-path.ensures)
     ∙ inserted _ _ _ c.args.node c.requires.gap.gap
 
 pub returns-clause-count : goal.returns-clause-count

@@ -1,0 +1,36 @@
+-- Windows of a file: bytes that were read and are kept. The clauses of private functions cite these definitions.
+use Rattle.std.specs.Prelude.{◌≡◌, ◌≤◌, ℕ, ◌+◌, ◌-◌, ◌*◌, if◌then◌else◌, nat_lt, List, length, take, drop}
+use Rattle.tree_face.specs.Known.{IfKnown}
+use Rattle.tree_face.specs.Store.{StoreState}
+use Rattle.elf_headers.specs.declared.kinds.Head.{Head}
+use Rattle.elf_headers.specs.Layout.{word_size, program_header_length}
+use Rattle.elf_headers.specs.Reading.{known_content}
+use Rattle.elf_dynamic.specs.declared.window.TheConstants.{WINDOW}
+use Rattle.elf_dynamic.specs.declared.window.Window.{Window}
+
+-- how many bytes it holds from an offset on
+unfoldable pub ready : Window → ℕ → ℕ
+ready w at = if nat_lt at w.at then 0 else w.count - (at - w.at)
+
+-- these bytes
+abbrev pub part : Window → ℕ → List ℕ
+part w at = take (ready w at) (drop (at - w.at) w.bytes)
+
+-- at most so many bytes are read on the way from an offset to an end, if a window that ends amid an item is read again
+abbrev pub unread : Window → ℕ → ℕ → ℕ
+unread w end at = 2 * (end - at) - ready w at
+
+-- where the program header with an index begins
+abbrev pub header_at : Head → ℕ → ℕ
+header_at h index = h.phoff + index * program_header_length (word_size h.wide)
+
+-- the same of the program headers from an index on
+abbrev pub unread_from : Window → Head → ℕ → ℕ
+unread_from w h index = unread w (header_at h h.phnum) (header_at h index)
+
+-- the window holds bytes of the begun file
+pub record IsWindowOf (s : StoreState) (h : Head) (w : Window) : Type 0 where
+  pub room : length w.bytes ≡ WINDOW
+  pub count : w.count ≤ WINDOW
+  pub in_file : w.at + w.count ≤ h.length
+  pub bytes : IfKnown (known_content s) (λ bytes. take w.count w.bytes ≡ take w.count (drop w.at bytes))

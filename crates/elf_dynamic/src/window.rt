@@ -1,0 +1,131 @@
+//! Windows of a file: bytes that were read and are kept, so that what lies near them isn't read again.
+ghost use Rattle.std.specs.Prelude.{◌≡◌, ◌≤◌, ◌<◌, ◌+◌, ◌-◌, ◌^◌, min, length, take, drop, OnOk, OnErr};
+ghost use Rattle.elf_headers.specs.Reading.{OnlyReads, IsHeadOf, OfKnown, TakesAtMost, StoreFails};
+ghost use Rattle.elf_dynamic.specs.Windows.{ready, part, unread, IsWindowOf};
+ghost use Rattle.elf_dynamic.specs.declared.window.TheConstants.{WINDOW};
+
+use elf_headers::kinds::Head;
+use lib_types::Failed;
+use tree_face::Store;
+
+/// The most bytes of a window. The headers, the section and the string table of a library mostly fit in one each; a larger
+/// one would cost each library the bytes that it clears.
+pub(crate) const WINDOW: usize = 1024;
+
+/// A window of the file.
+#[derive(Drop)]
+pub struct Window {
+    // Where it begins in the file, and how many bytes of the file it holds.
+    at: u64,
+    count: usize,
+    bytes: [u8; WINDOW],
+}
+
+// Fills a piece with the bytes of the file from an offset on.
+fn read_piece<S: Store>(store: &mut S, head: &Head, at: u64, piece: &mut [u8]) -> Result<(), Failed>
+    requires head { IsHeadOf (S.state store.old) head.now }
+    requires within { at + length piece.old ≤ head.now.length }
+    ensures piece { OnOk result (OfKnown (S.state store.old) (λ bytes. piece.new ≡ take (length piece.old) (drop at bytes))) }
+    ensures begun_head { IsHeadOf (S.state store.new) head.now }
+    ensures cause { OnErr result (StoreFails (S.state store.old) (S.state store.new)) }
+    ensures reads { OnlyReads (S.state store.old) (S.state store.new) }
+    ensures taken { TakesAtMost (length piece.old) (S.state store.old) (S.state store.new) }
+{
+    store.read_at(at, piece)?;
+    Ok(())
+}
+
+impl Window {
+    /// A window that holds nothing.
+    pub fn new() -> Window
+        ensures begin { result.at ≡ 0 }
+        ensures count { result.count ≡ 0 }
+        ensures room { length result.bytes ≡ WINDOW }
+    {
+        Window {
+            at: 0,
+            count: 0,
+            bytes: [0; WINDOW],
+        }
+    }
+
+    // How many bytes it holds from an offset on.
+    #[tactic(auto, unfolding(crate::specs::Windows::ready))]
+    fn ready(&self, at: u64) -> u64
+        ensures { result ≡ ready self.now at }
+    {
+        if at < self.at {
+            return 0;
+        }
+        (self.count as u64).saturating_sub(at - self.at)
+    }
+
+    /// The bytes that it holds from an offset on.
+    #[tactic(auto, unfolding(crate::specs::Windows::ready))]
+    pub fn from(&self, at: u64) -> &[u8]
+        requires room { length self.now.bytes ≡ WINDOW }
+        requires count { self.now.count ≤ WINDOW }
+        requires some { 0 < ready self.now at }
+        ensures part { result.now ≡ part self.now at }
+        ensures length { length result.now ≡ ready self.now at }
+    {
+        &self.bytes[(at - self.at) as usize..self.count]
+    }
+
+    // Reads the next bytes from an offset on, and none behind the end of a part of the file.
+    #[tactic(auto, unfolding(crate::specs::Windows::ready))]
+    fn fill<S: Store>(
+        &mut self,
+        store: &mut S,
+        head: &Head,
+        at: u64,
+        end: u64,
+    ) -> Result<(), Failed>
+        requires head { IsHeadOf (S.state store.old) head.now }
+        requires window { IsWindowOf (S.state store.old) head.now self.old }
+        requires before { at ≤ end }
+        requires in_file { end ≤ head.now.length }
+        ensures window { OnOk result (IsWindowOf (S.state store.new) head.now self.new) }
+        ensures ready { OnOk result (ready self.new at ≡ min WINDOW (end - at)) }
+        ensures begun_head { IsHeadOf (S.state store.new) head.now }
+        ensures cause { OnErr result (StoreFails (S.state store.old) (S.state store.new)) }
+        ensures reads { OnlyReads (S.state store.old) (S.state store.new) }
+        ensures taken { TakesAtMost (min WINDOW (end - at)) (S.state store.old) (S.state store.new) }
+    {
+        let count = (end - at).min(WINDOW as u64) as usize;
+        read_piece(store, head, at, &mut self.bytes[..count])?;
+        self.at = at;
+        self.count = count;
+        Ok(())
+    }
+
+    /// Has at least so many bytes from an offset on, and reads none behind the end of a part of the file.
+    pub fn hold<S: Store>(
+        &mut self,
+        store: &mut S,
+        head: &Head,
+        at: u64,
+        least: u64,
+        end: u64,
+    ) -> Result<(), Failed>
+        requires head { IsHeadOf (S.state store.old) head.now }
+        requires window { IsWindowOf (S.state store.old) head.now self.old }
+        requires least { least ≤ WINDOW }
+        requires within { at + least ≤ end }
+        requires in_file { end ≤ head.now.length }
+        ensures window { OnOk result (IsWindowOf (S.state store.new) head.now self.new) }
+        ensures ready { OnOk result (least ≤ ready self.new at) }
+        ensures begun_head { IsHeadOf (S.state store.new) head.now }
+        ensures cause { OnErr result (StoreFails (S.state store.old) (S.state store.new)) }
+        ensures reads { OnlyReads (S.state store.old) (S.state store.new) }
+        ensures taken { TakesAtMost (min (unread self.old end at) (end - at)) (S.state store.old) (S.state store.new) }
+        ensures taken_held { OnOk result (TakesAtMost (min (ready self.new at) (end - at)) (S.state store.old) (S.state store.new)) }
+        ensures taken_item { OnOk result (TakesAtMost (unread self.old end at - unread self.new end (at + least)) (S.state store.old) (S.state store.new)) }
+        ensures unread { OnOk result (unread self.new end (at + least) ≤ unread self.old end at) }
+    {
+        if self.ready(at) < least {
+            self.fill(store, head, at, end)?;
+        }
+        Ok(())
+    }
+}

@@ -1,0 +1,5 @@
+//! Tests of the order of directories, with their subdirectories for processors.
+#![tactic(auto)]
+
+#[cfg(test)]
+mod places;

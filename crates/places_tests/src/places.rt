@@ -1,0 +1,163 @@
+// The order of directories, with their subdirectories for processors.
+use conf_fixture::{Content, Link, are_texts, pairs_of, tree_of};
+use hwcap_dirs::{Places, order};
+use ldso_conf::read_conf;
+use lib_types::{Text, Texts};
+use std::alloc::Global;
+use std::test::Fail;
+use tree_face::SureStore;
+
+fn texts_of(alloc: Global, list: &[&str]) -> Result<Texts, Fail> {
+    let mut texts = Texts::new(alloc);
+    for text in list {
+        texts.push(Text::copy_of(alloc, text.as_bytes())?)?;
+    }
+    Ok(texts)
+}
+
+// The name of a subdirectory, or nothing.
+fn cap_of(cap: &Option<Text>) -> &[u8] {
+    match cap {
+        Some(name) => name.as_bytes(),
+        None => b"",
+    }
+}
+
+// Whether these are the places: spelled path, real path, name of the subdirectory or nothing.
+fn are_places(places: &Places, want: &[(&str, &str, &str)]) -> bool {
+    let mut left = want;
+    for place in places.as_slice() {
+        if left.is_empty()
+            || place.spelled.as_bytes() != left[0].0.as_bytes()
+            || place.real.as_bytes() != left[0].1.as_bytes()
+            || cap_of(&place.cap) != left[0].2.as_bytes()
+        {
+            return false;
+        }
+        left = &left[1..];
+    }
+    left.is_empty()
+}
+
+#[test]
+fn an_ordinary_image(rt: HostRuntime) -> Result<(), Fail> {
+    let alloc = rt.alloc();
+    let links: [Link<'_>; 2] = [
+        ("/lib", "usr/lib"),
+        ("/usr/lib/x86_64-linux-gnu/libz.so.1", "libz.so.1.3.1"),
+    ];
+    let files: [Content<'_>; 6] = [
+        ("/etc/ld.so.conf", b"include /etc/ld.so.conf.d/*.conf\n"),
+        ("/etc/ld.so.conf.d/fakeroot.conf", b"/usr/local/lib\n"),
+        (
+            "/etc/ld.so.conf.d/libc.conf",
+            b"# libc default configuration\n/usr/local/lib\n",
+        ),
+        (
+            "/etc/ld.so.conf.d/x86_64-linux-gnu.conf",
+            b"/usr/local/lib/x86_64-linux-gnu\n/lib/x86_64-linux-gnu\n/usr/lib/x86_64-linux-gnu\n",
+        ),
+        ("/usr/lib/x86_64-linux-gnu/libc.so.6", b""),
+        ("/usr/lib/x86_64-linux-gnu/libz.so.1.3.1", b""),
+    ];
+    let tree = tree_of(alloc, &links, &["/usr/local/lib"], &files)?;
+    let mut store = SureStore::new(pairs_of(alloc, &files)?);
+    let conf = read_conf(alloc, &tree, &mut store)?;
+    assert_eq!(rt; conf.files, 4);
+    assert_eq!(rt; store.begun(), 4);
+    assert!(rt; conf.reports.is_empty());
+    let dirs = order(alloc, &tree, &conf.dirs)?;
+    let places = [
+        ("/usr/local/lib", "/usr/local/lib", ""),
+        ("/lib/x86_64-linux-gnu", "/usr/lib/x86_64-linux-gnu", ""),
+        ("/lib", "/usr/lib", ""),
+    ];
+    assert!(rt; are_places(&dirs.places, &places));
+    assert!(rt; are_texts(&dirs.absent, &["/usr/local/lib/x86_64-linux-gnu"]));
+    Ok(())
+}
+
+#[test]
+fn subdirectories_follow_their_directory(rt: HostRuntime) -> Result<(), Fail> {
+    let alloc = rt.alloc();
+    let links: [Link<'_>; 6] = [
+        ("/opt/a/glibc-hwcaps", "../caps"),
+        ("/opt/caps/linked", "x86-64-v2"),
+        ("/opt/caps/nowhere", "none"),
+        ("/opt/caps/libx.so", "x86-64-v2"),
+        ("/opt/same", "a"),
+        ("/opt/libdir.so", "b"),
+    ];
+    let dirs = [
+        "/opt/a",
+        "/opt/b",
+        "/opt/caps/x86-64-v3",
+        "/opt/caps/x86-64-v2",
+        "/opt/caps/.hidden",
+        "/usr/lib/glibc-hwcaps/x86-64-v3",
+    ];
+    let files: [Content<'_>; 2] = [("/opt/caps/file", b""), ("/opt/file", b"")];
+    let tree = tree_of(alloc, &links, &dirs, &files)?;
+    let list = [
+        "/opt/same",
+        "/opt/a",
+        "/none",
+        "/opt/file",
+        "/opt/libdir.so",
+        "/opt//b/",
+        "/none",
+        "/",
+    ];
+    let found = order(alloc, &tree, &texts_of(alloc, &list)?)?;
+    let places = [
+        ("/opt/same", "/opt/a", ""),
+        (
+            "/opt/same/glibc-hwcaps/linked",
+            "/opt/caps/x86-64-v2",
+            "linked",
+        ),
+        (
+            "/opt/same/glibc-hwcaps/x86-64-v2",
+            "/opt/caps/x86-64-v2",
+            "x86-64-v2",
+        ),
+        (
+            "/opt/same/glibc-hwcaps/x86-64-v3",
+            "/opt/caps/x86-64-v3",
+            "x86-64-v3",
+        ),
+        ("/opt//b/", "/opt/b", ""),
+        ("/", "/", ""),
+        ("/usr/lib", "/usr/lib", ""),
+        (
+            "/usr/lib/glibc-hwcaps/x86-64-v3",
+            "/usr/lib/glibc-hwcaps/x86-64-v3",
+            "x86-64-v3",
+        ),
+    ];
+    assert!(rt; are_places(&found.places, &places));
+    assert!(rt;
+        are_texts(
+            &found.absent,
+            &["/none", "/opt/file", "/opt/libdir.so", "/none"]
+        )
+    );
+    Ok(())
+}
+
+#[test]
+fn the_system_has_four(rt: HostRuntime) -> Result<(), Fail> {
+    let alloc = rt.alloc();
+    let dirs = ["/usr/lib64", "/lib64", "/usr/lib", "/lib"];
+    let tree = tree_of(alloc, &[], &dirs, &[])?;
+    let found = order(alloc, &tree, &Texts::new(alloc))?;
+    let places = [
+        ("/lib", "/lib", ""),
+        ("/usr/lib", "/usr/lib", ""),
+        ("/lib64", "/lib64", ""),
+        ("/usr/lib64", "/usr/lib64", ""),
+    ];
+    assert!(rt; are_places(&found.places, &places));
+    assert!(rt; found.absent.is_empty());
+    Ok(())
+}
