@@ -17,12 +17,18 @@ use tree_real::{FolderDisk, FolderStore, RunId, StdinSource, StdoutSink, write_e
 
 // A line for each command.
 const USAGE: &str =
-    "usage: ldconfig update: makes etc/ld.so.cache of the libraries in image.mtree, in the folder of an image";
+    "usage: ldconfig update: makes etc/ld.so.cache of the libraries in image.mtree, in the folder of an image\nusage: ldconfig print: prints that cache";
 
 const NO_MANIFEST: &str =
     "ldconfig: image.mtree: No such file or directory\nldconfig: this makes one: (echo '#mtree'; find usr -type f -printf './%p type=file\\n') >image.mtree";
 
 const OUT_OF_MEMORY: &str = "ldconfig: out of memory";
+
+const NO_CACHE: &str =
+    "ldconfig: etc/ld.so.cache: No such file or directory\nldconfig: ldconfig update makes it";
+
+const BAD_CACHE: &str =
+    "ldconfig: etc/ld.so.cache: the line on the output says what is wrong; docs/FORMATS.md explains it";
 
 const BAD_MANIFEST: &str =
     "ldconfig: image.mtree: the line on the output says where and what; docs/FORMATS.md explains it";
@@ -120,6 +126,8 @@ fn advice(status: Status, wrote_cache: bool) -> Option<&'static str>
         Status::Usage => Some(USAGE),
         Status::NoManifest => Some(NO_MANIFEST),
         Status::BadManifest(_) => Some(BAD_MANIFEST),
+        Status::NoCache => Some(NO_CACHE),
+        Status::BadCache(_) => Some(BAD_CACHE),
         Status::NotBuilt => Some(NOT_BUILT),
         Status::NoMemory => Some(OUT_OF_MEMORY),
         Status::OutputFault if wrote_cache => Some("ldconfig: etc/ld.so.cache was written"),

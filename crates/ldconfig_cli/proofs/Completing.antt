@@ -1,5 +1,5 @@
 -- An update's status is that of its outcome, or memory or a device has failed.
-use Rattle.std.proofs.Common.{◌≡◌, ◌⊎◌, Option, Some, None, refl, sym, ap, inl, inr}
+use Rattle.std.proofs.Common.{◌≡◌, ◌⊎◌, true, Option, Some, None, refl, sym, ap, inl, inr}
 use Rattle.mtree_manifest.specs.declared.fault.ManifestFault.{ManifestFault}
 use Rattle.tree_face.specs.Disk.{DiskContent}
 use Rattle.tree_face.specs.Store.{Contents}
@@ -7,14 +7,14 @@ use Rattle.ldconfig_cli.specs.Devices.{IfBothKnown}
 use Rattle.ldconfig_core.specs.Manifest.{manifest_of}
 use Rattle.ldconfig_core.specs.Outcome.{outcome}
 use Rattle.ldconfig_core.specs.Outcome as outcomes
-use Rattle.ldconfig_cli.specs.Update.{ComesTo, HasFault, HasNoManifest, LacksLibrary, Returns, status_of}
+use Rattle.ldconfig_cli.specs.Update.{ComesTo, HasFault, HasNoManifest, LacksLibrary, Returns, is_of_update, status_of}
 use Rattle.ldconfig_cli.specs.declared.status.Status.{Status}
-use Rattle.ldconfig_cli.specs.declared.status.Status.TheVariants.{Done, Usage, BadManifest, StoreFault, DiskFault, OutputFault, NoMemory, NoManifest, NotBuilt}
+use Rattle.ldconfig_cli.specs.declared.status.Status.TheVariants.{Done, Usage, BadManifest, NoCache, BadCache, StoreFault, DiskFault, OutputFault, NoMemory, NoManifest, NotBuilt}
 
 module _ (held : Option Contents) (disk : Option DiskContent) (failed : Type 0) where
   -- what is known of the causes of a status
   pub record Causes (status : Status) : Type 0 where
-    pub no_usage : status ≡ Usage → ⊥
+    pub own : is_of_update status ≡ true
     pub no_manifest : status ≡ NoManifest → HasNoManifest disk
     pub bad_manifest : (fault : ManifestFault) → status ≡ BadManifest fault → HasFault disk fault
     pub not_built : status ≡ NotBuilt → ComesTo held disk outcomes.NotBuilt
@@ -28,7 +28,9 @@ pub completes : (held : Option Contents) (disk : Option DiskContent) (failed : T
 completes None disk failed status causes = tt
 completes (Some c) None failed status causes = tt
 completes (Some c) (Some d) failed Done causes = inl (sym (causes.done refl))
-completes (Some c) (Some d) failed Usage causes = absurd (causes.no_usage refl)
+completes (Some c) (Some d) failed Usage causes = let e = causes.own in absurd (cc e)
+completes (Some c) (Some d) failed NoCache causes = let e = causes.own in absurd (cc e)
+completes (Some c) (Some d) failed (BadCache defect) causes = let e = causes.own in absurd (cc e)
 completes (Some c) (Some d) failed (BadManifest fault) causes = inl (sym (ap (λ m. status_of (outcome c m)) (causes.bad_manifest fault refl)))
 completes (Some c) (Some d) failed StoreFault causes = elim (causes.store_fault refl) [ inl risen ↦ inr (inr risen) | inr lacks ↦ inl (sym (ap status_of lacks)) ]
 completes (Some c) (Some d) failed DiskFault causes = inr (inr (causes.disk_fault refl))
@@ -36,3 +38,7 @@ completes (Some c) (Some d) failed OutputFault causes = inr (inr (causes.output_
 completes (Some c) (Some d) failed NoMemory causes = inr (inl refl)
 completes (Some c) (Some d) failed NoManifest causes = inl (sym (ap (λ m. status_of (outcome c (manifest_of m))) (causes.no_manifest refl)))
 completes (Some c) (Some d) failed NotBuilt causes = inl (sym (ap status_of (causes.not_built refl)))
+
+-- an update doesn't end with Usage
+pub not_usage : (status : Status) → is_of_update status ≡ true → status ≡ Usage → ⊥
+not_usage status own is = let e = rw is at own in absurd (cc e)

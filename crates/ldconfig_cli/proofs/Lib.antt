@@ -1,4 +1,5 @@
 pub mod Completing
 pub mod Lacking
 pub mod OnlyArgument
+pub mod Printing
 pub mod Slots

@@ -1,11 +1,11 @@
 -- The commands, by their arguments.
-use Rattle.std.specs.Prelude.{◌==◌, ◌&&◌, ℕ, Bool, List, length, codes, map, String, Vec, Option, Some, None, if◌then◌else◌}
+use Rattle.std.specs.Prelude.{◌==◌, ◌&&◌, ◌||◌, ℕ, Bool, List, length, codes, map, String, Vec, Option, Some, None, if◌then◌else◌}
 use Rattle.std.specs.List.{list_all}
 use Rattle.std.specs.Str.{bytes_eq}
 use Rattle.std.specs.String.{string_bytes}
 use Rattle.std.specs.declared.alloc.Global.{Global}
 use Rattle.ldconfig_cli.specs.declared.arguments.Command.{Command}
-use Rattle.ldconfig_cli.specs.declared.arguments.Command.TheVariants.{Update}
+use Rattle.ldconfig_cli.specs.declared.arguments.Command.TheVariants.{Update, Print}
 
 -- there is one argument, and it has this text
 abbrev pub is_only : List ℕ → List (List ℕ) → Bool
@@ -13,7 +13,10 @@ is_only text arguments = (length arguments == 1) && list_all (bytes_eq text) arg
 
 -- the command of these arguments, if they are those of one
 abbrev pub command_in : List (List ℕ) → Option Command
-command_in arguments = if is_only (codes "update") arguments then Some Update else None
+command_in arguments =
+    if is_only (codes "update") arguments then Some Update
+    else if is_only (codes "print") arguments || is_only (codes "-p") arguments then Some Print
+    else None
 
 abbrev pub command_of : Vec (String Global) Global → Option Command
 command_of arguments = command_in (map string_bytes arguments.items)

@@ -13,13 +13,16 @@ use Rattle.ldconfig_core.specs.declared.fault.LoadFault.{LoadFault}
 use Rattle.ldconfig_core.specs.declared.fault.LoadFault.TheVariants as loading
 use Rattle.ldconfig_core.specs.declared.fault.UpdateFault.{UpdateFault}
 use Rattle.ldconfig_core.specs.declared.fault.UpdateFault.TheVariants as updating
+use Rattle.ldconfig_cli.specs.CacheFault.{cache_fault}
 use Rattle.ldconfig_cli.specs.declared.status.Status.{Status}
-use Rattle.ldconfig_cli.specs.declared.status.Status.TheVariants.{Done, Usage, BadManifest, StoreFault, DiskFault, OutputFault, NoMemory, NoManifest, NotBuilt}
+use Rattle.ldconfig_cli.specs.declared.status.Status.TheVariants.{Done, Usage, BadManifest, NoCache, BadCache, StoreFault, DiskFault, OutputFault, NoMemory, NoManifest, NotBuilt}
 
 abbrev pub code_of : Status → ℕ
 code_of Done = 0
 code_of Usage = 2
 code_of (BadManifest fault) = 3
+code_of NoCache = 5
+code_of (BadCache defect) = 6
 code_of StoreFault = 10
 code_of DiskFault = 11
 code_of OutputFault = 13
@@ -60,11 +63,14 @@ manifest_text manifest_faults.NoMemory = []
 -- the fault line is the same for each such status
 abbrev pub is_fixed : Status → Bool
 is_fixed (BadManifest fault) = false
+is_fixed (BadCache defect) = false
 is_fixed _ = true
 
 -- the fault line, empty for a status that has none
 abbrev pub fault_line : Status → List ℕ
 fault_line (BadManifest fault) = manifest_text fault
+fault_line (BadCache defect) = cache_fault defect
+fault_line NoCache = line (codes "fault: NoCache")
 fault_line Usage = line (codes "fault: Usage")
 fault_line StoreFault = line (codes "fault: StoreFault")
 fault_line DiskFault = line (codes "fault: DiskFault")

@@ -18,7 +18,7 @@ use Rattle.ldconfig_core.specs.Outcome as outcomes
 use Rattle.ldconfig_core.specs.Replace.{Replaces, MayReplace}
 use Rattle.ldconfig_cli.specs.Status.{fault_line, Says}
 use Rattle.ldconfig_cli.specs.declared.status.Status.{Status}
-use Rattle.ldconfig_cli.specs.declared.status.Status.TheVariants.{Done, Usage, BadManifest, StoreFault, DiskFault, OutputFault, NoMemory, NoManifest, NotBuilt}
+use Rattle.ldconfig_cli.specs.declared.status.Status.TheVariants.{Done, Usage, BadManifest, NoCache, BadCache, StoreFault, DiskFault, OutputFault, NoMemory, NoManifest, NotBuilt}
 use Rattle.mtree_manifest.specs.declared.fault.ManifestFault.{ManifestFault}
 
 -- the number of the updater
@@ -38,6 +38,13 @@ status_of (outcomes.BadManifest fault) = BadManifest fault
 status_of outcomes.NotBuilt = NotBuilt
 status_of outcomes.Lacking = StoreFault
 status_of (outcomes.Writes files) = Done
+
+-- the statuses that an update may end with
+abbrev pub is_of_update : Status → Bool
+is_of_update Usage = false
+is_of_update NoCache = false
+is_of_update (BadCache defect) = false
+is_of_update _ = true
 
 -- the statuses that may come without a manifest
 abbrev pub needs_no_manifest : Status → Bool
@@ -145,7 +152,7 @@ OutputBefore _ held disk old new = new ≡ old
 
 pub record UpdateRun (old new : Devices) (status : Status) : Type 0 where
   -- The slots, the contents and the counts say when each status comes.
-  pub no_usage : status ≡ Usage → ⊥
+  pub own : is_of_update status ≡ true
   pub no_manifest : status ≡ NoManifest → HasNoManifest old.disk.contents
   pub manifest : needs_no_manifest status ≡ false → HasManifest old.disk.contents
   pub bad_manifest : (fault : ManifestFault) → status ≡ BadManifest fault → HasFault old.disk.contents fault

@@ -8,6 +8,8 @@ ghost use Rattle.ldconfig_cli.specs.Command.{command_of, are_only, has_text};
 pub enum Command {
     /// To write the cache of the image.
     Update,
+    /// To print the cache.
+    Print,
 }
 
 /// The command of these arguments, if they are those of one.
@@ -17,6 +19,8 @@ pub fn command_of(arguments: &Vec<String>) -> Option<Command>
 {
     if are_only(arguments, "update") {
         Some(Command::Update)
+    } else if are_only(arguments, "print") || are_only(arguments, "-p") {
+        Some(Command::Print)
     } else {
         None
     }

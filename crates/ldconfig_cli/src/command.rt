@@ -1,5 +1,5 @@
 //! The top call.
-ghost use Rattle.std.specs.Prelude.{◌≡◌, ◌↔◌, ◌⊎◌, ◌<◌, ◌≤◌, ℕ, List, Some, None, false, OnOk, OnErr};
+ghost use Rattle.std.specs.Prelude.{◌≡◌, ◌↔◌, ◌⊎◌, ◌<◌, ◌≤◌, ℕ, List, Some, None, true, false, OnOk, OnErr};
 ghost use Rattle.lib_types.specs.Counts.{HasRisen};
 ghost use Rattle.tree_face.specs.Disk.{KeepsAll, KeepsOthersMade};
 ghost use Rattle.tree_face.specs.Known.{IfKnown, Relates};
@@ -11,12 +11,16 @@ ghost use Rattle.ldconfig_core.specs.Manifest.{manifest_of};
 ghost use Rattle.mtree_manifest.specs.declared.fault.ManifestFault.{ManifestFault};
 ghost use Rattle.ldconfig_core.specs.Outcome as outcomes;
 ghost use Rattle.ldconfig_core.specs.Outcome.{outcome};
-ghost use Rattle.ldconfig_cli.specs.Update.{AreBegunFine, BeginsFiles, BeginsUpToFirst, CallsAfter, ComesTo, DiskAfter, HasFault, HasManifest, HasNoManifest, LacksLibrary, OutputBefore, UpdateRun, needs_no_manifest, status_of, tag};
+ghost use Rattle.ldconfig_cli.specs.Update.{AreBegunFine, BeginsFiles, BeginsUpToFirst, CallsAfter, ComesTo, DiskAfter, HasFault, HasManifest, HasNoManifest, LacksLibrary, OutputBefore, UpdateRun, is_of_update, needs_no_manifest, status_of, tag};
+ghost use Rattle.ldconfig_cli.specs.Print.{PrintRun};
 ghost use Rattle.ldconfig_cli.specs.Status.{Says, fault_line, is_fixed};
 ghost use Rattle.ldconfig_cli.specs.Usage.{UsageRun};
+ghost use Rattle.tree_face.specs.Store.{StoreState};
 ghost use Rattle.tree_face.specs.Stream.{SourceState};
 
 use crate::arguments::{Command, command_of};
+use crate::cache_fault::cache_fault;
+use crate::print::print;
 use crate::status::{Status, manifest_text};
 use ldconfig_core::Session;
 use lib_types::NoMemory;
@@ -30,7 +34,7 @@ fn update<S: Store, D: Disk, O: Sink>(
     disk: &mut D,
     out: &mut O,
 ) -> Status
-    ensures no_usage { result ≡ Status.Usage → ⊥ }
+    ensures own { is_of_update result ≡ true }
     ensures no_manifest { result ≡ Status.NoManifest → HasNoManifest (D.state disk.old).contents }
     ensures manifest { needs_no_manifest result ≡ false → HasManifest (D.state disk.old).contents }
     ensures bad_manifest { (fault : ManifestFault) → result ≡ Status.BadManifest fault → HasFault (D.state disk.old).contents fault }
@@ -95,7 +99,23 @@ fn run_update<S: Store, D: Disk, O: Sink>(
     }
 }
 
-// Writes the fault line of a status that has one. That of a manifest has a number, so it takes memory.
+// The command `print`. The states of the store and the input are any, since nothing is read from them.
+fn run_print<D: Disk, O: Sink>(alloc: Global, disk: &mut D, out: &mut O) -> Status
+    ensures print { (store : StoreState) (input : SourceState) → PrintRun
+        (devices store (D.state disk.old) input (O.state out.old))
+        (devices store (D.state disk.new) input (O.state out.new))
+        result }
+    ensures disk_faults { (D.state disk.old).faults ≤ (D.state disk.new).faults }
+    ensures out_faults { (O.state out.old).faults ≤ (O.state out.new).faults }
+{
+    let status = print(alloc, disk, out);
+    match put_fault_line(alloc, out, status) {
+        Ok(()) => status,
+        Err(NoMemory) => Status::NoMemory,
+    }
+}
+
+// Writes the fault line of a status that has one. That of a manifest or a cache may have a number, so it takes memory.
 fn put_fault_line<O: Sink>(alloc: Global, out: &mut O, status: Status) -> Result<(), NoMemory>
     ensures said { OnOk result (Says (fault_line status) (O.state out.old) (O.state out.new)) }
     ensures kept { OnErr result (O.state out.new ≡ O.state out.old) }
@@ -105,6 +125,10 @@ fn put_fault_line<O: Sink>(alloc: Global, out: &mut O, status: Status) -> Result
     match status {
         Status::BadManifest(fault) => {
             let line = manifest_text(alloc, fault)?;
+            let _ = put_all(out, line.as_bytes());
+        }
+        Status::BadCache(defect) => {
+            let line = cache_fault(alloc, defect)?;
             let _ = put_all(out, line.as_bytes());
         }
         _ => {
@@ -126,9 +150,9 @@ fn refuse_arguments<O: Sink>(out: &mut O) -> Status
 
 /// Runs the command of these arguments, the program's name not among them.
 ///
-/// So far the one command is `update`: it makes the cache of the libraries of the manifest's tree, puts it into the
-/// Cache slot, and writes a report. Every other status but OutputFault and NoMemory writes its fault line. Nothing is
-/// read from the input.
+/// `update` makes the cache of the libraries of the manifest's tree, puts it into the Cache slot, and writes a report.
+/// `print` writes the entries of the cache as text. Every other status than Done but OutputFault and NoMemory writes its
+/// fault line. Nothing is read from the input.
 pub fn run<S: Store, D: Disk, I: Source, O: Sink>(
     alloc: Global,
     words: &Vec<String>,
@@ -146,6 +170,10 @@ pub fn run<S: Store, D: Disk, I: Source, O: Sink>(
         (devices (S.state store.old) (D.state disk.old) (I.state input.old) (O.state out.old))
         (devices (S.state store.new) (D.state disk.new) (I.state input.new) (O.state out.new))
         result }
+    ensures print { command_of words.now ≡ Some Command.Print → PrintRun
+        (devices (S.state store.old) (D.state disk.old) (I.state input.old) (O.state out.old))
+        (devices (S.state store.new) (D.state disk.new) (I.state input.new) (O.state out.new))
+        result }
     ensures one_cache { (found : List OwnLibrary) (bytes others : List ℕ) → IsCacheOf found bytes → IsCacheOf found others → bytes ≡ others }
 
     // What no command changes.
@@ -158,6 +186,7 @@ pub fn run<S: Store, D: Disk, I: Source, O: Sink>(
 {
     match command_of(words) {
         Some(Command::Update) => run_update(alloc, store, disk, out),
+        Some(Command::Print) => run_print(alloc, disk, out),
         None => refuse_arguments(out),
     }
 }

@@ -2,7 +2,9 @@
 #![tactic(auto)]
 
 mod arguments;
+mod cache_fault;
 mod command;
+mod print;
 mod status;
 
 pub use arguments::Command;

@@ -1,9 +1,9 @@
 //! How a command ends.
 ghost use Rattle.std.specs.Prelude.{◌≡◌, true, IfOk};
-ghost use Rattle.ldconfig_cli.specs.Status.{code_of, fault_line, kind_text, line_text, manifest_text, of_load, of_update};
+ghost use Rattle.ldconfig_cli.specs.Status.{code_of, fault_line, is_fixed, kind_text, line_text, manifest_text, of_load, of_update};
 ghost use Rattle.std.specs.String.{string_bytes};
-ghost use Rattle.mtree_manifest.specs.declared.fault.ManifestFault.{ManifestFault};
 
+use cache_reader::CacheDefect;
 use ldconfig_core::{LoadFault, UpdateFault};
 use lib_types::NoMemory;
 use mtree_manifest::{LineKind, ManifestFault};
@@ -18,6 +18,10 @@ pub enum Status {
     Usage,
     /// The manifest has no tree. This fault is never NoMemory.
     BadManifest(ManifestFault),
+    /// The Cache slot holds nothing.
+    NoCache,
+    /// The first defect of the cache.
+    BadCache(CacheDefect),
     /// The store has failed, or doesn't hold a file that had to be read.
     StoreFault,
     /// The disk has failed.
@@ -41,6 +45,8 @@ impl Status {
             Status::Done => 0,
             Status::Usage => 2,
             Status::BadManifest(_) => 3,
+            Status::NoCache => 5,
+            Status::BadCache(_) => 6,
             Status::StoreFault => 10,
             Status::DiskFault => 11,
             Status::OutputFault => 13,
@@ -52,15 +58,20 @@ impl Status {
 
     // The fault line of a status that has always the same, empty if it has none.
     pub(crate) fn fault_line(self) -> &'static [u8]
-        ensures { ((fault : ManifestFault) → self ≡ Status.BadManifest fault → ⊥) → result.now ≡ fault_line self }
+        ensures { is_fixed self ≡ true → result.now ≡ fault_line self }
     {
         match self {
             Status::Usage => b"fault: Usage\n",
+            Status::NoCache => b"fault: NoCache\n",
             Status::StoreFault => b"fault: StoreFault\n",
             Status::DiskFault => b"fault: DiskFault\n",
             Status::NoManifest => b"fault: NoManifest\n",
             Status::NotBuilt => b"fault: NotBuilt\n",
-            Status::Done | Status::OutputFault | Status::NoMemory | Status::BadManifest(_) => b"",
+            Status::Done
+            | Status::OutputFault
+            | Status::NoMemory
+            | Status::BadManifest(_)
+            | Status::BadCache(_) => b"",
         }
     }
 }

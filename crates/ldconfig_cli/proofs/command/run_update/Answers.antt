@@ -9,7 +9,7 @@ pub returns-in-Ok-clause-update : goal.returns-in-Ok-clause-update
 returns-in-Ok-clause-update g c = λ input.
     let output_fault : c.update-status.result ≡ OutputFault → HasRisen (g.O.Sink.state c.args.out.now).faults (g.O.Sink.state c.put_fault_line.new.out).faults = grind (arith, common_steps) in
     record {
-      no_usage = c.update-status.ensures.no_usage;
+      own = c.update-status.ensures.own;
       no_manifest = c.update-status.ensures.no_manifest;
       manifest = c.update-status.ensures.manifest;
       bad_manifest = c.update-status.ensures.bad_manifest;
@@ -20,7 +20,7 @@ returns-in-Ok-clause-update g c = λ input.
       disk_read_fault = c.update-status.ensures.disk_read_fault;
       output_fault = output_fault;
       complete = completes _ _ _ c.update-status.result (record {
-        no_usage = c.update-status.ensures.no_usage;
+        own = c.update-status.ensures.own;
         no_manifest = c.update-status.ensures.no_manifest;
         bad_manifest = c.update-status.ensures.bad_manifest;
         not_built = c.update-status.ensures.not_built;

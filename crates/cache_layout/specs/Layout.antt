@@ -1,0 +1,65 @@
+-- The layout of a cache file, as glibc's dl-cache.h has it: struct cache_file_new, struct file_entry_new, struct cache_extension and
+-- struct cache_extension_section. Numbers have their lowest byte first. Each struct is the list of its fields' sizes; what is written
+-- and what is read are stated over these lists.
+use Rattle.std.specs.Prelude.{ℕ, ◌/◌, ◌%◌, ◌^◌, ◌==◌, Bool, List, [], ◌∷◌, ◌++◌, take, sum, slice_index, codes}
+use Rattle.byteorder.specs.Endian.{little_bytes}
+use Rattle.lib_types.specs.Bytes.{field}
+
+-- numbers one after another, each in as many bytes as its field has
+abbrev pub laid_out : List ℕ → List ℕ → List ℕ
+laid_out [] numbers = []
+laid_out (size ∷ sizes) [] = []
+laid_out (size ∷ sizes) (number ∷ numbers) = little_bytes size number ++ laid_out sizes numbers
+
+-- the number in the field with this index, in bytes that begin with fields of these sizes
+abbrev pub number : List ℕ → ℕ → List ℕ → ℕ
+number sizes index bytes = field bytes (sum (take index sizes)) (slice_index sizes index)
+
+-- ---- the header
+
+-- the magic and the version
+abbrev pub magic : List ℕ
+magic = codes "glibc-ld.so.cache" ++ codes "1.1"
+
+-- what a file of the older format begins with
+abbrev pub old_magic : List ℕ
+old_magic = codes "ld.so-1.7.0"
+
+-- behind magic and version: the number of entries, the length of the strings, the flags, three unused bytes, the offset of the
+-- extension directory, and three unused numbers
+abbrev pub header_fields : List ℕ
+header_fields = 4 ∷ 4 ∷ 1 ∷ 3 ∷ 4 ∷ 4 ∷ 4 ∷ 4 ∷ []
+
+-- ---- an entry
+
+-- the flags, the offsets of the name and of the path in the file, an unused number, and the hwcap
+abbrev pub entry_fields : List ℕ
+entry_fields = 4 ∷ 4 ∷ 4 ∷ 4 ∷ 8 ∷ []
+
+-- whether a hwcap is the index of a hwcaps name: its bit 62
+abbrev pub is_named : ℕ → Bool
+is_named hwcap = hwcap / 2 ^ 62 % 2 == 1
+
+-- that index: its low half
+abbrev pub name_index : ℕ → ℕ
+name_index hwcap = hwcap % 2 ^ 32
+
+-- ---- the extension directory
+
+abbrev pub extension_magic : ℕ
+extension_magic = 0xeaa42174
+
+-- its magic, and the number of its sections
+abbrev pub directory_fields : List ℕ
+directory_fields = 4 ∷ 4 ∷ []
+
+-- a section's tag, flags, offset and size
+abbrev pub section_fields : List ℕ
+section_fields = 4 ∷ 4 ∷ 4 ∷ 4 ∷ []
+
+-- the tag of the generator's text, and that of the offsets of the hwcaps names
+abbrev pub generator_tag : ℕ
+generator_tag = 0
+
+abbrev pub names_tag : ℕ
+names_tag = 1

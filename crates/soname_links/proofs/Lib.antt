@@ -1,0 +1,4 @@
+mod Choosing
+mod Mapped
+mod Ordered
+mod Targets

@@ -1,0 +1,72 @@
+-- Ordered maps: their keys after an insertion, and their values by their keys.
+use Rattle.std.proofs.Common.{◌≡◌, Bool, true, false, cond, ◌||◌, List, [], ◌∷◌, ◌++◌, append_assoc, refl, ap, sym, ◌∙◌, Option, Some, None, Ordering}
+use Rattle.std.proofs.lemmas.List.Elements.{filter_map-append}
+use Rattle.std.proofs.lemmas.Map.Keys.{sorted_head, sorted_tail}
+use Rattle.std.specs.BTreeMap.{insert_entry, is_at}
+use Rattle.std.specs.BTreeSet.{insert_key}
+use Rattle.std.specs.Cmp.{IsTotalOrder}
+use Rattle.std.specs.List.{AllByRecursion, cons_option, filter_map, list_any}
+use Rattle.std.specs.List.Sorted.{IsStrictlySortedBy}
+use Rattle.std.specs.Map.{keys_of, values_of, lookup}
+use Rattle.std.specs.Ordering.{is_eq, match_ordering, ordering_reverse}
+use Rattle.std.specs.Option.{is_some}
+use Rattle.std.specs.declared.cmp.Ordering.TheVariants.{Less, Equal, Greater}
+use Rattle.lib_types.proofs.SortedPairs.{by_ordering, flipped}
+
+module _ {K : Type 0} {X : Type 0} (cmp : K → K → Ordering) where
+  put : (r : Ordering) (k : K) (v : X) (e : K × X) (es more : List (K × X)) (rest : List K) → keys_of more ≡ rest
+      → keys_of (match_ordering r ((k, v) ∷ e ∷ es) ((e.0, v) ∷ es) (e ∷ more)) ≡ match_ordering r (k ∷ e.0 ∷ keys_of es) (e.0 ∷ keys_of es) (e.0 ∷ rest)
+  put Less k v e es more rest h = refl
+  put Equal k v e es more rest h = refl
+  put Greater k v e es more rest h = ap (λ r. e.0 ∷ r) h
+
+  pub keys_put : (es : List (K × X)) (k : K) (v : X) → keys_of (insert_entry cmp es k v) ≡ insert_key cmp (keys_of es) k
+  keys_put [] k v = refl
+  keys_put (e ∷ es) k v = put (cmp k e.0) k v e es _ _ (keys_put es k v)
+
+module _ {K : Type 0} {cmp : K → K → Ordering} (o : IsTotalOrder cmp) where
+  tied : (x : K) → cmp x x ≡ Equal
+  tied x = by_ordering (cmp x x) (λ a. absurd (cc (a, flipped o x x Less a))) (λ a. a) (λ a. absurd (cc (a, flipped o x x Greater a)))
+
+  all_below : (k x : K) (ks : List K) → cmp k x ≡ Less → AllByRecursion (λ y. cmp x y ≡ Less) ks → AllByRecursion (λ y. cmp k y ≡ Less) ks
+  all_below k x [] h a = tt
+  all_below k x (y ∷ ks) h a = (o.trans k x y h a.0, all_below k x ks h a.1)
+
+module _ {K : Type 0} {X : Type 0} {cmp : K → K → Ordering} (o : IsTotalOrder cmp) where
+  -- a key below all is not there
+  none_below : (k : K) (es : List (K × X)) → AllByRecursion (λ y. cmp k y ≡ Less) (keys_of es) → is_some (lookup (is_at (cmp k)) es) ≡ false
+  none_below k [] a = refl
+  none_below k (e ∷ es) a = rw a.0 (none_below k es a.1)
+
+  -- the keys stay if one that is there is put in again
+  pub keys_stay : (k : K) (es : List (K × X)) → IsStrictlySortedBy cmp (keys_of es) → is_some (lookup (is_at (cmp k)) es) ≡ true → keys_of es ≡ insert_key cmp (keys_of es) k
+  keys_stay k [] s h = cc
+  keys_stay k (e ∷ es) s h = by_ordering (cmp k e.0)
+      (λ a. let none = none_below k es (all_below o k e.0 (keys_of es) a (sorted_head cmp e.0 (keys_of es) s)) in
+      let there : is_some (lookup (is_at (cmp k)) es) ≡ true = (rw a at h) in
+      cc)
+      (λ a. rw a refl)
+      (λ a. let there : is_some (lookup (is_at (cmp k)) es) ≡ true = (rw a at h) in
+      rw a (ap (λ ks. e.0 ∷ ks) (keys_stay k es (sorted_tail cmp e.0 (keys_of es) s) there)))
+
+  -- a key behind the first is not the first
+  passes : (e : K × X) (es : List (K × X)) (ks : List K) → AllByRecursion (λ y. cmp e.0 y ≡ Less) ks
+      → filter_map (λ k. lookup (is_at (cmp k)) (e ∷ es)) ks ≡ filter_map (λ k. lookup (is_at (cmp k)) es) ks
+  passes e es [] a = refl
+  passes e es (k ∷ ks) a =
+      let behind : cmp k e.0 ≡ Greater = flipped o e.0 k Less a.0 in
+      rw behind (ap (cons_option (lookup (is_at (cmp k)) es)) (passes e es ks a.1))
+
+  -- the values are those at the keys
+  pub by_keys : (es : List (K × X)) → IsStrictlySortedBy cmp (keys_of es) → filter_map (λ k. lookup (is_at (cmp k)) es) (keys_of es) ≡ values_of es
+  by_keys [] s = refl
+  by_keys (e ∷ es) s =
+      rw (tied o e.0) (ap (λ vs. e.1 ∷ vs) (passes e es (keys_of es) (sorted_head cmp e.0 (keys_of es) s) ∙ by_keys es (sorted_tail cmp e.0 (keys_of es) s)))
+
+pub filtered_same : {X Y : Type 0} (f g : X → Option Y) → ((x : X) → f x ≡ g x) → (xs : List X) → filter_map f xs ≡ filter_map g xs
+filtered_same f g same [] = refl
+filtered_same f g same (x ∷ xs) = rw (same x) (ap (cons_option (g x)) (filtered_same f g same xs))
+
+-- what an item gives, and what is left
+pub one_then : {X Y : Type 0} (f : X → Option Y) (ys : List Y) (x : X) (xs : List X) → (ys ++ filter_map f (x ∷ [])) ++ filter_map f xs ≡ ys ++ filter_map f (x ∷ xs)
+one_then f ys x xs = append_assoc ys (filter_map f (x ∷ [])) (filter_map f xs) ∙ ap (λ zs. ys ++ zs) (sym (filter_map-append f (x ∷ []) xs))

@@ -1,0 +1,46 @@
+-- The name of a file as the text of a link, and the links of a plan.
+use Rattle.std.proofs.Common.{◌≡◌, ℕ, Bool, true, false, not, ◌&&◌, ◌==◌, nat_le, List, [], ◌∷◌, length, refl, arith}
+use Rattle.std.proofs.lemmas.Bool.{and_from, and_parts}
+use Rattle.std.proofs.lemmas.List.Elements.{All-cons, All-nil}
+use Rattle.std.specs.Bool.{IsTrue}
+use Rattle.std.specs.List.{All}
+use Rattle.lib_types.specs.Name.{have_no_slash, is_name, slash}
+use Rattle.tree_face.specs.Node.{has_no_nul, is_target}
+use Rattle.tree_face.specs.Paths.{is_path}
+use Rattle.soname_links.specs.Apply.{is_link, is_plan}
+use Rattle.soname_links.specs.declared.kinds.Planned.{Planned}
+
+no_nul : (name : List ℕ) → have_no_slash name ≡ true → has_no_nul name ≡ true
+no_nul [] h = refl
+no_nul (b ∷ name) h =
+    let parts = and_parts (not (b == slash) && not (b == 0)) (have_no_slash name) h in
+    and_from (not (b == 0)) (has_no_nul name) (and_parts (not (b == slash)) (not (b == 0)) parts.0).1 (no_nul name parts.1)
+
+longer : (n : ℕ) → nat_le n 255 ≡ true → nat_le n 4095 ≡ true
+longer n h = grind arith
+
+pub name_is_target : (name : List ℕ) → is_name name ≡ true → is_target name ≡ true
+name_is_target name h =
+    let a = and_parts _ _ h in
+    let b = and_parts _ _ a.0 in
+    let c = and_parts _ _ b.0 in
+    let d = and_parts _ _ c.0 in
+    and_from _ _ (and_from _ _ d.0 (longer (length name) d.1)) (no_nul name b.1)
+
+abbrev HasPath : Planned → Type 0
+HasPath planned = IsTrue (is_path planned.path)
+
+abbrev HasFile : Planned → Type 0
+HasFile planned = IsTrue (is_name planned.file)
+
+pub paths_of : (plan : List Planned) → is_plan plan ≡ true → All HasPath plan
+paths_of [] h = All-nil HasPath
+paths_of (planned ∷ plan) h =
+    let parts = and_parts (is_link planned) (is_plan plan) h in
+    All-cons HasPath planned plan (and_parts (is_path planned.path) (is_name planned.file) parts.0).0 (paths_of plan parts.1)
+
+pub files_of : (plan : List Planned) → is_plan plan ≡ true → All HasFile plan
+files_of [] h = All-nil HasFile
+files_of (planned ∷ plan) h =
+    let parts = and_parts (is_link planned) (is_plan plan) h in
+    All-cons HasFile planned plan (and_parts (is_path planned.path) (is_name planned.file) parts.0).1 (files_of plan parts.1)

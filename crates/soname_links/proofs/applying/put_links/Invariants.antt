@@ -1,0 +1,10 @@
+use Rattle.std.proofs.Common.{◌≡◌, drop, take}
+use Rattle.soname_links.specs.Plan.{with_links}
+use Rattle.soname_links.proofs.applying.put_links.Given as goal
+
+-- the first links were put, and those that are left give the whole
+abbrev pub invariant-loop-planned : goal.invariant-loop-planned
+invariant-loop-planned l = record {
+  first : l.tree ≡ with_links l.fn.tree (take l.planned-index l.plan);
+  rest : with_links l.tree (drop l.planned-index l.plan) ≡ with_links l.fn.tree l.plan;
+}

@@ -1,0 +1,41 @@
+-- The tree with the links that are planned, and how many nodes it has.
+use Rattle.std.specs.Prelude.{◌≡◌, ◌<◌, ◌+◌, ◌&&◌, ℕ, Bool, List, if◌then◌else◌, length, take, Option, Some, None}
+use Rattle.std.specs.List.{filter_map, list_all}
+use Rattle.std.specs.Option.{is_none}
+use Rattle.lib_types.specs.Name.{is_name}
+use Rattle.tree_face.specs.Paths.{is_path}
+use Rattle.tree_face.specs.Tree.{Nodes, node_at}
+use Rattle.tree_face.specs.declared.tree.TheConstants.{NODES_MAX}
+use Rattle.soname_links.specs.Order.{ascending}
+use Rattle.soname_links.specs.Plan.{with_links}
+use Rattle.soname_links.specs.declared.kinds.ApplyFault.{ApplyFault}
+use Rattle.soname_links.specs.declared.kinds.ApplyFault.TheVariants.{TooLarge, NoMemory}
+use Rattle.soname_links.specs.declared.kinds.Planned.{Planned}
+
+-- it has a path, and the name of a file as its text
+abbrev pub is_link : Planned → Bool
+is_link planned = is_path planned.path && is_name planned.file
+
+abbrev pub is_plan : List Planned → Bool
+is_plan plan = list_all is_link plan
+
+-- the path of a link, if the tree has no node there
+abbrev pub new_path : Nodes → Planned → Option (List ℕ)
+new_path t planned = if is_none (node_at t planned.path) then Some planned.path else None
+
+-- the paths at which the tree gets a node, each once
+abbrev pub new_paths : Nodes → List Planned → List (List ℕ)
+new_paths t plan = ascending (filter_map (new_path t) plan)
+
+-- the number of nodes of the tree with these links
+abbrev pub nodes_with : Nodes → List Planned → ℕ
+nodes_with t plan = length t + length (new_paths t plan)
+
+-- the first of these links were put into the tree
+abbrev pub HasSome : Nodes → List Planned → Nodes → Type 0
+HasSome t plan new = (n : ℕ) × (new ≡ with_links t (take n plan))
+
+-- the tree would have more nodes than a tree may have, and is unchanged; or memory is out, and some links were put
+abbrev pub IsApplyFault : Nodes → List Planned → Nodes → ApplyFault → Type 0
+IsApplyFault t plan new (TooLarge nodes) = (nodes ≡ nodes_with t plan) × (NODES_MAX < nodes) × (new ≡ t)
+IsApplyFault t plan new NoMemory = HasSome t plan new

@@ -1,0 +1,37 @@
+-- The best library of a soname: the one with the soname as its name, or else the one with the greatest name.
+use Rattle.std.specs.Prelude.{ℕ, Bool, true, List, ◌&&◌, ◌||◌, not, if◌then◌else◌, map, filter, fold, Option, Some, None}
+use Rattle.std.specs.List.{filter_map}
+use Rattle.std.specs.Ordering.{is_gt}
+use Rattle.std.specs.Str.{bytes_eq}
+use Rattle.name_order.specs.Order.{name_order}
+use Rattle.soname_links.specs.Order.{ascending}
+use Rattle.soname_links.specs.declared.kinds.Library.{Library}
+
+-- its name is its soname
+abbrev pub is_own : Library → Bool
+is_own library = bytes_eq library.name library.soname
+
+-- of two libraries of one soname the first is better
+abbrev pub is_preferred : Library → Library → Bool
+is_preferred library other = not (is_own other) && (is_own library || is_gt (name_order library.name other.name))
+
+abbrev pub is_better : Library → Option Library → Bool
+is_better library None = true
+is_better library (Some other) = is_preferred library other
+
+abbrev pub better : Option Library → Library → Option Library
+better best library = if is_better library best then Some library else best
+
+abbrev pub has_soname : List ℕ → Library → Bool
+has_soname soname library = bytes_eq library.soname soname
+
+-- the best of the libraries with this soname, if there is one
+abbrev pub best : List Library → List ℕ → Option Library
+best libraries soname = fold better None (filter (has_soname soname) libraries)
+
+abbrev pub sonames : List Library → List (List ℕ)
+sonames libraries = ascending (map (λ library. library.soname) libraries)
+
+-- The best library of each soname, by the bytes of the sonames.
+abbrev pub bests : List Library → List Library
+bests libraries = filter_map (best libraries) (sonames libraries)

@@ -1,0 +1,11 @@
+pub mod Apply
+pub mod Best
+pub mod Entries
+pub mod Libraries
+pub mod Marks
+pub mod Order
+pub mod Parts
+pub mod Plan
+pub mod Search
+pub mod Table
+pub mod Winner

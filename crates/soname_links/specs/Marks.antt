@@ -1,0 +1,48 @@
+-- The sonames that are reported.
+use Rattle.std.specs.Prelude.{ℕ, Bool, false, List, [], ◌&&◌, not, nat_eq, if◌then◌else◌, map, Option, Some, None}
+use Rattle.std.specs.List.{filter_map}
+use Rattle.hwcap_dirs.specs.declared.kinds.Place.{Place}
+use Rattle.lib_types.specs.Abi.{flags_of}
+use Rattle.path_walk.specs.Names.{join}
+use Rattle.tree_face.specs.Tree.{Nodes}
+use Rattle.soname_links.specs.Best.{best, bests}
+use Rattle.soname_links.specs.Libraries.{libraries_in}
+use Rattle.soname_links.specs.Order.{ascending}
+use Rattle.soname_links.specs.Plan.{by_place, is_blocked, is_plain, is_regarded}
+use Rattle.soname_links.specs.Table.{Analyses}
+use Rattle.soname_links.specs.declared.kinds.Library.{Library}
+use Rattle.soname_links.specs.declared.kinds.Mark.{Mark}
+
+abbrev pub mark : ℕ → List ℕ → Mark
+mark number soname = record { place = number; soname = soname }
+
+-- ---- blocked sonames: no link can be where one is wanted
+
+abbrev pub blocked_for : Nodes → ℕ → Place → Library → Option Mark
+blocked_for t number place best = if is_regarded best && is_blocked t (join place.real best.soname) then Some (mark number best.soname) else None
+
+abbrev pub blocked_in : Analyses → Nodes → ℕ → Place → List Mark
+blocked_in table t number place = if is_plain place then filter_map (blocked_for t number place) (bests (libraries_in table t place)) else []
+
+unfoldable pub blocked : Analyses → Nodes → List Place → List Mark
+blocked table t places = by_place (blocked_in table t) 0 places
+
+-- ---- mixed sonames: libraries with this soname in one place have different ABIs
+
+-- it has another ABI than the best library of its soname
+abbrev pub is_odd : Option Library → Library → Bool
+is_odd (Some best) library = not (nat_eq (flags_of best.abi) (flags_of library.abi))
+is_odd None library = false
+
+abbrev pub odd_soname : Option Library → Library → Option (List ℕ)
+odd_soname best library = if is_odd best library then Some library.soname else None
+
+-- the sonames of libraries with another ABI than the best ones of their sonames
+abbrev pub mixed_among : List Library → List (List ℕ)
+mixed_among libraries = ascending (filter_map (λ library. odd_soname (best libraries library.soname) library) libraries)
+
+abbrev pub mixed_in : Analyses → Nodes → ℕ → Place → List Mark
+mixed_in table t number place = map (mark number) (mixed_among (libraries_in table t place))
+
+unfoldable pub mixed : Analyses → Nodes → List Place → List Mark
+mixed table t places = by_place (mixed_in table t) 0 places

@@ -1,0 +1,76 @@
+-- The links that are planned (ldconfig(8): a link of the soname's name to the library's file).
+use Rattle.std.specs.Prelude.{ℕ, ◌+◌, Bool, true, false, List, [], ◌∷◌, ◌++◌, ◌&&◌, ◌||◌, not, nat_lt, if◌then◌else◌, length, fold, Option, Some, None}
+use Rattle.std.specs.List.{filter_map}
+use Rattle.std.specs.Option.{is_none}
+use Rattle.std.specs.Str.{bytes_eq}
+use Rattle.hwcap_dirs.specs.declared.kinds.Place.{Place}
+use Rattle.name_order.specs.LibraryName.{is_library_name}
+use Rattle.path_walk.specs.Names.{join}
+use Rattle.tree_face.specs.Tree.{Nodes, kind_at, node_at, put}
+use Rattle.tree_face.specs.declared.node.Node.{Node}
+use Rattle.tree_face.specs.declared.node.Node.TheVariants.{Dir, File, Link}
+use Rattle.tree_face.specs.declared.path.TheConstants.{PATH_MAX}
+use Rattle.tree_face.specs.declared.tree.Kind.{Kind}
+use Rattle.tree_face.specs.declared.tree.Kind.TheVariants as kinds
+use Rattle.soname_links.specs.Best.{is_own, bests}
+use Rattle.soname_links.specs.Libraries.{libraries_in}
+use Rattle.soname_links.specs.Table.{Analyses}
+use Rattle.soname_links.specs.declared.kinds.Library.{Library}
+use Rattle.soname_links.specs.declared.kinds.Planned.{Planned}
+
+-- what each place has, with its number, in their order
+abbrev pub by_place : {A : Type 0} → (ℕ → Place → List A) → ℕ → List Place → List A
+by_place has number [] = []
+by_place has number (place ∷ places) = has number place ++ by_place has (number + 1) places
+
+-- not a subdirectory for processors
+abbrev pub is_plain : Place → Bool
+is_plain place = is_none place.cap
+
+-- the best library of its soname wants a link: the soname is a library name, and no file of that soname has it as its name
+abbrev pub is_regarded : Library → Bool
+is_regarded best = is_library_name best.soname && not (is_own best)
+
+-- a file or a directory is there
+abbrev pub is_taken : Kind → Bool
+is_taken kinds.File = true
+is_taken kinds.Dir = true
+is_taken kinds.Absent = false
+is_taken kinds.Link = false
+
+-- no link can be at this path
+abbrev pub is_blocked : Nodes → List ℕ → Bool
+is_blocked t path = nat_lt PATH_MAX (length path) || is_taken (kind_at t path)
+
+abbrev pub is_link_to : List ℕ → Option Node → Bool
+is_link_to text (Some (Link target)) = bytes_eq target text
+is_link_to text (Some Dir) = false
+is_link_to text (Some (File key id)) = false
+is_link_to text None = false
+
+-- there is a link with this text at the path
+abbrev pub links_to : Nodes → List ℕ → List ℕ → Bool
+links_to t path text = is_link_to text (node_at t path)
+
+-- the link for the best library of a soname, if it isn't there and isn't blocked
+abbrev pub link_for : Nodes → ℕ → Place → Library → Option Planned
+link_for t number place best =
+    if is_regarded best && not (is_blocked t (join place.real best.soname) || links_to t (join place.real best.soname) best.name)
+    then Some (record { place = number; soname = best.soname; file = best.name; path = join place.real best.soname })
+    else None
+
+abbrev pub links_in : Analyses → Nodes → ℕ → Place → List Planned
+links_in table t number place = if is_plain place then filter_map (link_for t number place) (bests (libraries_in table t place)) else []
+
+-- The links that are planned, by place and then by the bytes of the sonames.
+unfoldable pub links : Analyses → Nodes → List Place → List Planned
+links table t places = by_place (links_in table t) 0 places
+
+-- ---- the planned tree
+
+abbrev pub with_link : Nodes → Planned → Nodes
+with_link t planned = put t planned.path (Link planned.file)
+
+-- the tree with these links
+abbrev pub with_links : Nodes → List Planned → Nodes
+with_links t plan = fold with_link t plan

@@ -1,0 +1,28 @@
+-- The analyses of files by their paths.
+use Rattle.std.specs.Prelude.{ℕ, Bool, true, List, Option, Some, None}
+use Rattle.std.specs.Map.{lookup}
+use Rattle.std.specs.Str.{bytes_eq}
+use Rattle.indexmap.specs.IndexMap.{insert_entry}
+use Rattle.lib_types.specs.Name.{is_name}
+use Rattle.lib_types.specs.declared.analysis.Analysis.{Analysis}
+use Rattle.lib_types.specs.declared.analysis.Analysis.TheVariants.{Lib, Not}
+
+abbrev pub Analyses : Type 0
+Analyses = List (List ℕ × Analysis)
+
+-- the analysis of the file at a path, if there is one
+abbrev pub analysis_at : Analyses → List ℕ → Option Analysis
+analysis_at table path = lookup (bytes_eq path) table
+
+-- with the analysis of the file at a path, instead of the one that was there
+abbrev pub with_analysis : Analyses → List ℕ → Analysis → Analyses
+with_analysis table path analysis = insert_entry bytes_eq table path analysis
+
+abbrev pub is_soname : Option (List ℕ) → Bool
+is_soname (Some soname) = is_name soname
+is_soname None = true
+
+-- a soname in the analysis is a name
+abbrev pub has_name : Analysis → Bool
+has_name (Lib abi soname) = is_soname soname
+has_name (Not defect) = true

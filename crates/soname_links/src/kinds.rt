@@ -1,0 +1,74 @@
+//! What is planned for an image, and what is reported of its sonames.
+ghost use Rattle.std.specs.Prelude.{◌≡◌};
+
+use lib_types::{Abi, NoMemory, Seq, Text};
+
+/// A link that is planned.
+#[derive(Drop)]
+pub struct Planned {
+    /// The number of the place that gets it.
+    pub place: u32,
+    pub soname: Text,
+    /// The name of the file to which it leads, which is its text.
+    pub file: Text,
+    /// Its path in the tree, without links.
+    pub path: Text,
+}
+
+/// The links that are planned, by place and then by the bytes of their sonames.
+pub type Plan = Seq<Planned>;
+
+/// A soname in a place.
+#[derive(Drop)]
+pub struct Mark {
+    /// The number of the place.
+    pub place: u32,
+    pub soname: Text,
+}
+
+/// Sonames in places, by place and then by the bytes of the sonames.
+pub type Marks = Seq<Mark>;
+
+/// A library of a place: the name of its file or of a link to it, and the soname by which it is looked up.
+#[derive(Drop)]
+pub struct Library {
+    pub name: Text,
+    pub soname: Text,
+    pub abi: Abi,
+}
+
+/// Why an image has no list of entries.
+#[derive(Clone, Copy, Debug, PartialEq, Eq)]
+pub enum EntryFault {
+    /// More entries than a cache may have.
+    TooMany { count: u64 },
+    NoMemory,
+}
+
+impl From<NoMemory> for EntryFault {
+    ghost use Rattle.soname_links.specs.declared.kinds.EntryFault.TheVariants as faults;
+
+    ghost from_gives = { λ _ e. e ≡ faults.NoMemory };
+
+    fn from(_: NoMemory) -> Self {
+        EntryFault::NoMemory
+    }
+}
+
+/// Why links weren't all put into a tree.
+#[derive(Clone, Copy, Debug, PartialEq, Eq)]
+pub enum ApplyFault {
+    /// The tree would have more nodes than a tree may have.
+    TooLarge { nodes: u64 },
+    NoMemory,
+}
+
+impl From<NoMemory> for ApplyFault {
+    ghost use Rattle.soname_links.specs.declared.kinds.ApplyFault.TheVariants as faults;
+
+    ghost from_gives = { λ _ e. e ≡ faults.NoMemory };
+
+    fn from(_: NoMemory) -> Self {
+        ApplyFault::NoMemory
+    }
+}

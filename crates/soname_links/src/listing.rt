@@ -1,0 +1,256 @@
+//! The entries of a cache.
+ghost use Rattle.std.specs.Prelude.{◌≡◌, ◌≤◌, ◌++◌, IfErr, IfOk, OnOk, length, unwrap_or};
+ghost use Rattle.std.proofs.Common.{refl};
+ghost use Rattle.std.specs.Cmp.{eq_by_cmp_equiv, partial_equiv_from_equiv, partial_order_from_total};
+ghost use Rattle.std.specs.Ordering.{as_partial_cmp, eq_by_cmp};
+ghost use Rattle.cache_writer.specs.declared.writer.TheConstants.{ENTRIES_MAX};
+ghost use Rattle.path_walk.specs.Names.{join};
+ghost use Rattle.soname_links.specs.Plan.{links_to};
+ghost use Rattle.soname_links.specs.Entries.{cap_of, entries_in, entry_of, entry_order, entry_order-total, found, is_by_soname, AreEntriesOf, IsEntryFault};
+
+use crate::best::is_own;
+use crate::kinds::{EntryFault, Library};
+use crate::planning::{is_plain, links_to};
+use crate::search::joined;
+use crate::table::Table;
+use crate::winner::winners_in;
+use cache_writer::ENTRIES_MAX;
+use hwcap_dirs::{Dirs, Place};
+use lib_types::{Entries, Entry, NoMemory, Seq, Text};
+use name_order::compare;
+use std::alloc::Global;
+use std::cmp::Ordering;
+use std::marker::Model;
+use tree_face::Tree;
+
+// ---- the order of entries
+
+// The name of the subdirectory that an entry's library is in, or nothing.
+fn cap_of(entry: &Entry) -> &[u8]
+    ensures { result.now ≡ cap_of entry.now }
+{
+    match &entry.cap {
+        Some(cap) => cap.as_bytes(),
+        None => b"",
+    }
+}
+
+/// An entry that is sorted, which contracts see as the entry.
+#[derive(Drop)]
+struct Ranked {
+    entry: Entry,
+}
+
+impl Model for Ranked {
+    ghost use Rattle.lib_types.specs.declared.entry.Entry.{Entry};
+
+    ghost Value = { Entry };
+
+    ghost view = { λ r. r.entry };
+}
+
+impl PartialEq for Ranked {
+    ghost eq = { eq_by_cmp entry_order };
+
+    ghost laws = { partial_equiv_from_equiv (eq_by_cmp_equiv entry_order-total) };
+
+    fn eq(&self, other: &Self) -> bool {
+        self.cmp(other).is_eq()
+    }
+}
+
+impl Eq for Ranked {
+    ghost laws = { eq_by_cmp_equiv entry_order-total };
+}
+
+impl PartialOrd for Ranked {
+    ghost partial_cmp = { as_partial_cmp entry_order };
+
+    ghost laws = { partial_order_from_total entry_order-total };
+
+    fn partial_cmp(&self, other: &Self) -> Option<Ordering> {
+        Some(self.cmp(other))
+    }
+}
+
+impl Ord for Ranked {
+    ghost cmp = { entry_order };
+
+    ghost total = { entry_order-total };
+
+    ghost matches_partial_cmp = { λ a b. refl };
+
+    ghost matches_eq = { λ a b. refl };
+
+    fn cmp(&self, other: &Self) -> Ordering {
+        let (a, b) = (&self.entry, &other.entry);
+        compare(b.soname.as_bytes(), a.soname.as_bytes()).then(
+            b.abi.flags().cmp(&a.abi.flags()).then(
+                a.cap
+                    .is_none()
+                    .cmp(&b.cap.is_none())
+                    .then(cap_of(a).cmp(cap_of(b)).then(a.place.cmp(&b.place))),
+            ),
+        )
+    }
+}
+
+// ---- the entries of the places
+
+// Whether there is a link of the first name with the second as its text.
+fn has_link(
+    alloc: Global,
+    tree: &Tree,
+    folder: &[u8],
+    name: &[u8],
+    text: &[u8],
+) -> Result<bool, NoMemory>
+    ensures { IfOk result (λ leads. leads ≡ links_to tree.now (join folder.now name.now) text.now) }
+{
+    let path = joined(alloc, folder, name)?;
+    Ok(links_to(tree, path.as_bytes(), text))
+}
+
+// Whether the soname leads to the winner.
+fn is_by_soname(
+    alloc: Global,
+    tree: &Tree,
+    place: &Place,
+    winner: &Library,
+) -> Result<bool, NoMemory>
+    ensures { IfOk result (λ leads. leads ≡ is_by_soname tree.now place.now winner.now) }
+{
+    if !is_plain(place) {
+        return Ok(false);
+    }
+    if is_own(winner) {
+        return Ok(true);
+    }
+    let folder = place.real.as_bytes();
+    has_link(
+        alloc,
+        tree,
+        folder,
+        winner.soname.as_bytes(),
+        winner.name.as_bytes(),
+    )
+}
+
+fn copy_of_cap(alloc: Global, cap: &Option<Text>) -> Result<Option<Text>, NoMemory>
+    ensures { IfOk result (λ copy. copy ≡ cap.now) }
+{
+    match cap {
+        Some(cap) => Ok(Some(Text::copy_of(alloc, cap.as_bytes())?)),
+        None => Ok(None),
+    }
+}
+
+// The entry of a winner.
+fn entry_of(
+    alloc: Global,
+    tree: &Tree,
+    number: u32,
+    place: &Place,
+    winner: Library,
+) -> Result<Entry, NoMemory>
+    ensures { IfOk result (λ entry. entry ≡ entry_of tree.now number place.now winner) }
+{
+    let leads = is_by_soname(alloc, tree, place, &winner)?;
+    let cap = copy_of_cap(alloc, &place.cap)?;
+    let spelled = place.spelled.as_bytes();
+    let path = if leads {
+        joined(alloc, spelled, winner.soname.as_bytes())?
+    } else {
+        joined(alloc, spelled, winner.name.as_bytes())?
+    };
+    Ok(Entry {
+        soname: winner.soname,
+        abi: winner.abi,
+        cap,
+        path,
+        place: number,
+    })
+}
+
+// Adds the entries of a place.
+fn add_entries(
+    alloc: Global,
+    tree: &Tree,
+    table: &Table,
+    number: u32,
+    place: &Place,
+    found: &mut Vec<Entry>,
+) -> Result<(), NoMemory>
+    ensures { OnOk result (found.new.items ≡ found.old.items ++ entries_in table.now tree.now number place.now) }
+{
+    for winner in winners_in(alloc, tree, table, place)? {
+        found.push(entry_of(alloc, tree, number, place, winner)?)?;
+    }
+    Ok(())
+}
+
+// All entries, place by place.
+#[tactic(auto, unfolding(crate::specs::Entries::found))]
+fn found(alloc: Global, tree: &Tree, dirs: &Dirs, table: &Table) -> Result<Vec<Entry>, NoMemory>
+    ensures { IfOk result (λ entries. entries.items ≡ found table.now tree.now dirs.now.places) }
+{
+    let mut found = Vec::new(alloc);
+    let mut number: u32 = 0;
+    for place in dirs.places.as_slice() {
+        add_entries(alloc, tree, table, number, place, &mut found)?;
+        number = number.checked_add(1).ok_or(NoMemory)?;
+    }
+    Ok(found)
+}
+
+// ---- their list
+
+fn to_rank(alloc: Global, found: Vec<Entry>) -> Result<Vec<Ranked>, NoMemory>
+    ensures { IfOk result (λ entries. entries.items ≡ found.items) }
+{
+    let mut entries = Vec::with_capacity(alloc, found.len())?;
+    for entry in found {
+        entries.push(Ranked { entry })?;
+    }
+    Ok(entries)
+}
+
+fn listed(alloc: Global, ranked: Vec<Ranked>) -> Result<Entries, NoMemory>
+    ensures { IfOk result (λ entries. entries ≡ ranked.items) }
+{
+    let mut entries = Seq::new(alloc);
+    for Ranked { entry } in ranked {
+        entries.push(entry)?;
+    }
+    Ok(entries)
+}
+
+// These entries in their order.
+fn sorted(alloc: Global, found: Vec<Entry>) -> Result<Entries, NoMemory>
+    ensures { IfOk result (AreEntriesOf found.items) }
+{
+    let mut entries = to_rank(alloc, found)?;
+    entries.sort()?;
+    listed(alloc, entries)
+}
+
+/// The entries of a cache, one for each place and soname with a winner. The tree is one that has all planned links.
+pub fn entries(
+    alloc: Global,
+    tree: &Tree,
+    dirs: &Dirs,
+    table: &Table,
+) -> Result<Entries, EntryFault>
+    ensures entries { IfOk result (AreEntriesOf (found table.now tree.now dirs.now.places)) }
+    ensures few { IfOk result (λ _. length (found table.now tree.now dirs.now.places) ≤ ENTRIES_MAX) }
+    ensures fault { IfErr result (IsEntryFault (found table.now tree.now dirs.now.places)) }
+{
+    let found = found(alloc, tree, dirs, table)?;
+    if found.len() > ENTRIES_MAX {
+        return Err(EntryFault::TooMany {
+            count: found.len() as u64,
+        });
+    }
+    let entries = sorted(alloc, found)?;
+    Ok(entries)
+}
