@@ -1,5 +1,9 @@
 -- Numbers behind a number of bytes, and numbers that are read where they were laid out.
-use Rattle.std.proofs.Common.{◌≡◌, ℕ, zero, suc, ◌+◌, List, drop, refl, ap, ◌∙◌, arith, get_or-drop}
+use Rattle.std.proofs.Common.{◌≡◌, ℕ, zero, suc, ◌+◌, ◌<◌, ◌^◌, List, [], ◌∷◌, ◌++◌, length, drop, take, fold, sum, slice_index, refl, sym, ap, ◌∙◌, append_assoc, arith, get_or-drop}
+use Rattle.std.proofs.lemmas.List.{drop_at}
+use Rattle.byteorder.specs.Endian.{little_bytes}
+use Rattle.byteorder.specs.Numbers.{little_number-reads_back, length-bytes_low_first}
+use Rattle.cache_layout.specs.Layout.{laid_out, number}
 use Rattle.lib_types.specs.Bytes.{field}
 
 drop_from : (i n at : ℕ) (xs : List ℕ) → field (drop at xs) i n ≡ field xs (at + i) n
@@ -11,3 +15,33 @@ drop_from i (suc n) at xs =
 -- the number behind `at` bytes
 pub field_drop : (n at : ℕ) (xs : List ℕ) → field (drop at xs) 0 n ≡ field xs at n
 field_drop n at xs = drop_from 0 n at xs ∙ ap (λ k. field xs k n) (omega arith)
+
+-- ---- numbers that are read where they were laid out
+
+-- each number fits its field
+abbrev pub Fit : List ℕ → List ℕ → Type 0
+Fit [] [] = Unit {0}
+Fit [] (n ∷ ns) = ⊥
+Fit (size ∷ sizes) [] = ⊥
+Fit (size ∷ sizes) (n ∷ ns) = (n < 256 ^ size) × Fit sizes ns
+
+sum_from : (a : ℕ) (xs : List ℕ) → fold (◌+◌) a xs ≡ a + sum xs
+sum_from a [] = omega arith
+sum_from a (x ∷ xs) = omega (arith, sum_from (a + x) xs, sum_from (0 + x) xs)
+
+pub reads_back : (sizes numbers rest : List ℕ) (i : ℕ) → Fit sizes numbers → i < length sizes → number sizes i (laid_out sizes numbers ++ rest) ≡ slice_index numbers i
+reads_back [] numbers rest i fit h = absurd (omega arith)
+reads_back (size ∷ sizes) [] rest i fit h = absurd fit
+reads_back (size ∷ sizes) (n ∷ ns) rest zero fit h =
+    ap (λ xs. field xs 0 size) (append_assoc (little_bytes size n) (laid_out sizes ns) rest) ∙ little_number-reads_back size n (laid_out sizes ns ++ rest) fit.0
+reads_back (size ∷ sizes) (n ∷ ns) rest (suc i) fit h =
+    let tail = laid_out sizes ns ++ rest in
+    let place = sum (take i sizes) in
+    let width = slice_index sizes i in
+    let zero_add : 0 + size ≡ size = omega arith in
+    let behind : drop size (little_bytes size n ++ tail) ≡ tail = drop_at (little_bytes size n) tail size (length-bytes_low_first 0 size n) in
+    ap (λ k. field ((little_bytes size n ++ laid_out sizes ns) ++ rest) k width) (sum_from (0 + size) (take i sizes) ∙ ap (λ k. k + place) zero_add)
+    ∙ ap (λ xs. field xs (size + place) width) (append_assoc (little_bytes size n) (laid_out sizes ns) rest)
+    ∙ sym (drop_from place width size (little_bytes size n ++ tail))
+    ∙ ap (λ xs. field xs place width) behind
+    ∙ reads_back sizes ns rest i fit.1 (omega arith)

@@ -1,7 +1,7 @@
 -- The layout of a cache file, as glibc's dl-cache.h has it: struct cache_file_new, struct file_entry_new, struct cache_extension and
 -- struct cache_extension_section. Numbers have their lowest byte first. Each struct is the list of its fields' sizes; what is written
 -- and what is read are stated over these lists.
-use Rattle.std.specs.Prelude.{ℕ, ◌/◌, ◌%◌, ◌^◌, ◌==◌, Bool, List, [], ◌∷◌, ◌++◌, take, sum, slice_index, codes}
+use Rattle.std.specs.Prelude.{ℕ, ◌+◌, ◌/◌, ◌%◌, ◌^◌, ◌==◌, Bool, List, [], ◌∷◌, ◌++◌, length, take, sum, slice_index, codes}
 use Rattle.byteorder.specs.Endian.{little_bytes}
 use Rattle.lib_types.specs.Bytes.{field}
 
@@ -30,11 +30,21 @@ old_magic = codes "ld.so-1.7.0"
 abbrev pub header_fields : List ℕ
 header_fields = 4 ∷ 4 ∷ 1 ∷ 3 ∷ 4 ∷ 4 ∷ 4 ∷ 4 ∷ []
 
+abbrev pub header_size : ℕ
+header_size = length magic + sum header_fields
+
+-- the flags of a cache whose numbers have their lowest byte first
+abbrev pub little_endian : ℕ
+little_endian = 2
+
 -- ---- an entry
 
 -- the flags, the offsets of the name and of the path in the file, an unused number, and the hwcap
 abbrev pub entry_fields : List ℕ
 entry_fields = 4 ∷ 4 ∷ 4 ∷ 4 ∷ 8 ∷ []
+
+abbrev pub entry_size : ℕ
+entry_size = sum entry_fields
 
 -- whether a hwcap is the index of a hwcaps name: its bit 62
 abbrev pub is_named : ℕ → Bool
@@ -43,6 +53,10 @@ is_named hwcap = hwcap / 2 ^ 62 % 2 == 1
 -- that index: its low half
 abbrev pub name_index : ℕ → ℕ
 name_index hwcap = hwcap % 2 ^ 32
+
+-- the hwcap for an index
+abbrev pub named_hwcap : ℕ → ℕ
+named_hwcap index = 2 ^ 62 + index
 
 -- ---- the extension directory
 
@@ -53,9 +67,15 @@ extension_magic = 0xeaa42174
 abbrev pub directory_fields : List ℕ
 directory_fields = 4 ∷ 4 ∷ []
 
+abbrev pub directory_size : ℕ
+directory_size = sum directory_fields
+
 -- a section's tag, flags, offset and size
 abbrev pub section_fields : List ℕ
 section_fields = 4 ∷ 4 ∷ 4 ∷ 4 ∷ []
+
+abbrev pub section_size : ℕ
+section_size = sum section_fields
 
 -- the tag of the generator's text, and that of the offsets of the hwcaps names
 abbrev pub generator_tag : ℕ

@@ -5,7 +5,7 @@ use Rattle.std.specs.List.{starts_with, list_all, list_any, before_first, range_
 use Rattle.std.specs.Option.{option_map_or}
 use Rattle.std.specs.Int.{cast_signed, w32}
 use Rattle.lib_types.specs.Bytes.{field}
-use Rattle.cache_layout.specs.Layout.{number, magic, old_magic, header_fields, entry_fields, is_named, name_index, extension_magic, directory_fields, section_fields, generator_tag, names_tag}
+use Rattle.cache_layout.specs.Layout.{number, magic, old_magic, header_fields, header_size, entry_fields, entry_size, is_named, name_index, extension_magic, directory_fields, directory_size, section_fields, section_size, generator_tag, names_tag}
 use Rattle.cache_reader.specs.declared.extension.Section.{Section}
 use Rattle.cache_reader.specs.declared.defect.CacheDefect.{CacheDefect}
 use Rattle.cache_reader.specs.declared.defect.CacheDefect.TheVariants.{OldFormat, Short, BadMagic, BadEndian, EntriesOutside, StringOutside, NoNul, BadExtension, BadHwcap}
@@ -13,7 +13,7 @@ use Rattle.cache_reader.specs.declared.defect.CacheDefect.TheVariants.{OldFormat
 -- ---- the header
 
 abbrev pub header : ℕ → List ℕ → ℕ
-header index bytes = number header_fields index (drop 20 bytes)
+header index bytes = number header_fields index (drop (length magic) bytes)
 
 abbrev pub nlibs : List ℕ → ℕ
 nlibs bytes = header 0 bytes
@@ -32,7 +32,7 @@ extension bytes = header 4 bytes
 
 -- the bytes from the entry with this index on
 abbrev pub from_entry : List ℕ → ℕ → List ℕ
-from_entry bytes index = drop (48 + 24 * index) bytes
+from_entry bytes index = drop (header_size + entry_size * index) bytes
 
 abbrev pub key : List ℕ → ℕ → ℕ
 key bytes index = number entry_fields 1 (from_entry bytes index)
@@ -62,7 +62,7 @@ section_count bytes at = number directory_fields 1 (drop at bytes)
 -- the section with this index, if the directory is at this offset
 unfoldable pub section_at : List ℕ → ℕ → ℕ → Section
 section_at bytes at index =
-    let here = drop (at + 8 + 16 * index) bytes in
+    let here = drop (at + directory_size + section_size * index) bytes in
     record {
       tag = number section_fields 0 here;
       offset = number section_fields 2 here;
@@ -113,7 +113,7 @@ first_defect sentences = option_map (λ s. s.1) (find (λ s. s.0) sentences)
 abbrev pub magic_sentences : List ℕ → List Sentence
 magic_sentences bytes =
     (starts_with nat_eq bytes old_magic, OldFormat)
-    ∷ (nat_lt (length bytes) 48, Short (length bytes))
+    ∷ (nat_lt (length bytes) header_size, Short (length bytes))
     ∷ (not (starts_with nat_eq bytes magic), BadMagic)
     ∷ []
 
@@ -121,7 +121,7 @@ abbrev pub header_sentences : List ℕ → List Sentence
 header_sentences bytes =
     -- 1 is invalid, 3 is big endian
     (flags bytes % 2 == 1, BadEndian (flags bytes))
-    ∷ (nat_lt (length bytes) (48 + 24 * nlibs bytes + strings_length bytes), EntriesOutside (nlibs bytes))
+    ∷ (nat_lt (length bytes) (header_size + entry_size * nlibs bytes + strings_length bytes), EntriesOutside (nlibs bytes))
     ∷ []
 
 abbrev pub entry_sentences : List ℕ → ℕ → List Sentence
@@ -139,9 +139,9 @@ has_bad_offsets bytes s =
 abbrev pub is_no_directory : List ℕ → ℕ → Bool
 is_no_directory bytes at =
     not (at % 4 == 0)
-    || nat_lt (length bytes) (at + 8)
+    || nat_lt (length bytes) (at + directory_size)
     || not (number directory_fields 0 (drop at bytes) == extension_magic)
-    || nat_lt (length bytes) (at + 8 + 16 * section_count bytes at)
+    || nat_lt (length bytes) (at + directory_size + section_size * section_count bytes at)
 
 -- no directory is there, or a section of it isn't in the file, or its offsets of hwcaps names are bad
 abbrev pub is_bad_directory : List ℕ → ℕ → Bool

@@ -2,7 +2,7 @@
 use Rattle.std.specs.Prelude.{◌≡◌, ◌≤◌, ◌<◌, ◌+◌, ◌-◌, ◌*◌, ℕ, true, nat_lt, List, length, map, flat_map, Option, Some, None, Result, Ok, Err}
 use Rattle.std.specs.List.{range_with_len, list_all}
 use Rattle.cache_reader.specs.declared.defect.CacheDefect.{CacheDefect}
-use Rattle.cache_layout.specs.Layout.{names_tag, generator_tag, is_named, name_index}
+use Rattle.cache_layout.specs.Layout.{header_size, entry_size, directory_size, section_size, names_tag, generator_tag, is_named, name_index}
 use Rattle.cache_reader.specs.declared.extension.Section.{Section}
 use Rattle.cache_reader.specs.declared.extension.Sections.{Sections}
 use Rattle.cache_reader.specs.Cache.{Sentence, first_defect, nlibs, is_ended, section_count, sections_at, sections, with_tag, names_section, name_offsets, numbers_in, is_inside, key, value, hwcap}
@@ -23,11 +23,11 @@ pub record EndsAt (bytes : List ℕ) (end : ℕ) : Type 0 where
 
 -- the header and the entries are in the file
 abbrev pub HasEntries : List ℕ → Type 0
-HasEntries bytes = 48 + 24 * nlibs bytes ≤ length bytes
+HasEntries bytes = header_size + entry_size * nlibs bytes ≤ length bytes
 
 -- the directory at this offset is in the file
 abbrev pub HasSections : List ℕ → ℕ → Type 0
-HasSections bytes at = at + 8 + 16 * section_count bytes at ≤ length bytes
+HasSections bytes at = at + directory_size + section_size * section_count bytes at ≤ length bytes
 
 -- the items that a function gives for the indexes from one on, of n in all
 abbrev pub items_from : {X : Type 0} → (ℕ → X) → ℕ → ℕ → List X

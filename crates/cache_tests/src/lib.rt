@@ -11,3 +11,5 @@ mod defects;
 mod plain;
 #[cfg(test)]
 mod prints;
+#[cfg(test)]
+mod writes;

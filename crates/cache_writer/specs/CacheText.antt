@@ -1,49 +1,67 @@
 -- The file of a cache, as glibc's dl-cache.h lays it out: struct cache_file_new, struct file_entry_new for each entry, the strings, and
--- struct cache_extension with the generator's section. All numbers have their lowest byte first.
-use Rattle.std.specs.Prelude.{ℕ, ◌+◌, ◌-◌, ◌*◌, ◌%◌, List, [], ◌∷◌, ◌++◌, length, filter, flat_map, replicate, not, codes}
-use Rattle.std.specs.List.{before_first}
+-- struct cache_extension with its sections. All numbers have their lowest byte first.
+use Rattle.std.specs.Prelude.{ℕ, ◌+◌, ◌-◌, ◌*◌, ◌%◌, ◌==◌, List, [], ◌∷◌, ◌++◌, length, flat_map, fold, replicate, Option, Some, None, codes, if◌then◌else◌}
+use Rattle.std.specs.BTreeSet.{insert_key}
+use Rattle.std.specs.Cmp.Lexicographic.{slice_cmp}
+use Rattle.std.specs.List.{position_or_len}
+use Rattle.std.specs.Option.{option_map_or}
+use Rattle.std.specs.Ordering.{nat_cmp}
 use Rattle.std.specs.Str.{bytes_eq}
 use Rattle.byteorder.specs.Endian.{little_bytes}
 use Rattle.lib_types.specs.declared.entry.Entry.{Entry}
 use Rattle.lib_types.specs.Abi.{flags_of}
+use Rattle.string_pool.specs.Strings.{Strings, distinct, table_of, place_of}
+use Rattle.cache_layout.specs.Layout.{laid_out, magic, header_fields, header_size, little_endian, entry_fields, entry_size, named_hwcap, extension_magic, directory_fields, directory_size, section_fields, section_size, generator_tag, names_tag}
 
--- each text once, in the order of first use
-abbrev pub distinct : List (List ℕ) → List (List ℕ)
-distinct [] = []
-distinct (text ∷ texts) = text ∷ filter (λ other. not (bytes_eq text other)) (distinct texts)
+-- ---- the hwcaps names and the strings
 
--- the strings of a cache: the soname and the path of each entry, each string once
+-- with the hwcaps name of an entry, at its place in the order of the bytes
+abbrev pub with_name : List (List ℕ) → Entry → List (List ℕ)
+with_name names entry = option_map_or (insert_key (slice_cmp nat_cmp) names) entry.cap names
+
+-- the hwcaps names of entries, each once, in the order of their bytes
+unfoldable pub hwcaps_names : List Entry → List (List ℕ)
+hwcaps_names entries = fold with_name [] entries
+
+-- the soname and the path of an entry
+abbrev pub own_strings : Entry → List (List ℕ)
+own_strings entry = entry.soname ∷ entry.path ∷ []
+
+-- the strings of a cache, each once: those of each entry, and then the hwcaps names
 abbrev pub strings : List Entry → List (List ℕ)
-strings entries = distinct (flat_map (λ entry. entry.soname ∷ entry.path ∷ []) entries)
+strings entries = distinct (flat_map own_strings entries ++ hwcaps_names entries)
 
--- a string as it is in the file
-abbrev pub with_nul : List ℕ → List ℕ
-with_nul text = text ++ 0 ∷ []
+-- they begin behind the entries
+abbrev pub strings_start : List Entry → ℕ
+strings_start entries = header_size + entry_size * length entries
 
--- strings one after the other, as they are in the file
-abbrev pub table_of : List (List ℕ) → List ℕ
-table_of texts = flat_map with_nul texts
-
--- the offset of a string among others: the bytes of those before it
-abbrev pub offset_of : List (List ℕ) → List ℕ → ℕ
-offset_of texts text = length (table_of (before_first (bytes_eq text) texts))
-
--- numbers of four and of eight bytes
-unfoldable pub u32_bytes : ℕ → List ℕ
-u32_bytes number = little_bytes 4 number
-
-unfoldable pub u64_bytes : ℕ → List ℕ
-u64_bytes number = little_bytes 8 number
+abbrev pub pool : List Entry → Strings
+pool entries = record { base = strings_start entries; texts = strings entries }
 
 abbrev pub strings_bytes : List Entry → List ℕ
 strings_bytes entries = table_of (strings entries)
 
--- the offset of the strings: after the 48 bytes of the header and the 24 of each entry
-abbrev pub strings_start : List Entry → ℕ
-strings_start entries = 48 + 24 * length entries
-
 abbrev pub strings_end : List Entry → ℕ
 strings_end entries = strings_start entries + length (strings_bytes entries)
+
+-- ---- the header and the entries
+
+-- the magic and the version, the number of entries, the length of the strings, and the offset of the extension directory
+unfoldable pub header : ℕ → ℕ → ℕ → List ℕ
+header entries strings extension =
+    magic ++ laid_out header_fields (entries ∷ strings ∷ little_endian ∷ 0 ∷ extension ∷ 0 ∷ 0 ∷ 0 ∷ [])
+
+-- the hwcap of an entry: the index of its name among these, or 0
+abbrev pub hwcap_of : List (List ℕ) → Option (List ℕ) → ℕ
+hwcap_of names None = 0
+hwcap_of names (Some cap) = named_hwcap (position_or_len (bytes_eq cap) names)
+
+-- the flags, the offsets of the soname and of the path in the file, an unused number, and the hwcap
+unfoldable pub entry_bytes : Strings → List (List ℕ) → Entry → List ℕ
+entry_bytes strings names entry =
+    laid_out entry_fields (flags_of entry.abi ∷ place_of strings entry.soname ∷ place_of strings entry.path ∷ 0 ∷ hwcap_of names entry.cap ∷ [])
+
+-- ---- the extension
 
 -- the zero bytes from this offset to a multiple of four
 abbrev pub padding : ℕ → List ℕ
@@ -52,46 +70,45 @@ padding place = replicate ((4 - place % 4) % 4) 0
 abbrev pub extension_start : List Entry → ℕ
 extension_start entries = strings_end entries + length (padding (strings_end entries))
 
--- the magic and the version, the number of entries, the length of the strings, the flag for little endian, the extension directory's
--- offset, and unused bytes
-unfoldable pub header : ℕ → ℕ → ℕ → List ℕ
-header entries strings extension =
-    codes "glibc-ld.so.cache" ++ codes "1.1"
-    ++ u32_bytes entries
-    ++ u32_bytes strings
-    ++ 2 ∷ 0 ∷ 0 ∷ 0 ∷ []
-    ++ u32_bytes extension
-    ++ replicate 12 0
-
--- the flags, the offsets of the soname and of the path in the file, an unused number, and no hwcaps name
-unfoldable pub entry_bytes : ℕ → List (List ℕ) → Entry → List ℕ
-entry_bytes start texts entry =
-    u32_bytes (flags_of entry.abi)
-    ++ u32_bytes (start + offset_of texts entry.soname)
-    ++ u32_bytes (start + offset_of texts entry.path)
-    ++ u32_bytes 0
-    ++ u64_bytes 0
-
 -- the text of the section with tag 0
 unfoldable pub generator : List ℕ
 generator = codes "ldconfig (image profile) release version 1"
 
--- the extension directory at this offset: its magic, the number of its sections, and the one section's tag, flags, offset and size
-unfoldable pub extension : ℕ → List ℕ
-extension place =
-    u32_bytes 0xeaa42174
-    ++ u32_bytes 1
-    ++ u32_bytes 0
-    ++ u32_bytes 0
-    ++ u32_bytes (place + 24)
-    ++ u32_bytes (length generator)
-    ++ generator
+-- the generator's section, and that of the hwcaps names if there are any
+abbrev pub section_count : ℕ → ℕ
+section_count names = if names == 0 then 1 else 2
 
--- the cache of these entries, if none of them has a hwcaps name
+-- behind the sections of a directory at this offset, the offsets of so many hwcaps names, and then the generator's text
+abbrev pub names_start : ℕ → ℕ → ℕ
+names_start place names = place + directory_size + section_size * section_count names
+
+abbrev pub generator_start : ℕ → ℕ → ℕ
+generator_start place names = names_start place names + 4 * names
+
+-- a section's tag, unused flags, offset and size
+abbrev pub section : ℕ → ℕ → ℕ → List ℕ
+section tag offset size = laid_out section_fields (tag ∷ 0 ∷ offset ∷ size ∷ [])
+
+-- the extension directory at this offset, for so many hwcaps names
+unfoldable pub directory : ℕ → ℕ → List ℕ
+directory place names =
+    laid_out directory_fields (extension_magic ∷ section_count names ∷ [])
+    ++ section generator_tag (generator_start place names) (length generator)
+    ++ (if names == 0 then [] else section names_tag (names_start place names) (4 * names))
+
+-- the offset of a hwcaps name
+unfoldable pub name_bytes : Strings → List ℕ → List ℕ
+name_bytes strings name = little_bytes 4 (place_of strings name)
+
+-- ---- the file
+
+-- the cache of these entries
 unfoldable pub cache_text : List Entry → List ℕ
 cache_text entries =
     header (length entries) (length (strings_bytes entries)) (extension_start entries)
-    ++ flat_map (entry_bytes (strings_start entries) (strings entries)) entries
+    ++ flat_map (entry_bytes (pool entries) (hwcaps_names entries)) entries
     ++ strings_bytes entries
     ++ padding (strings_end entries)
-    ++ extension (extension_start entries)
+    ++ directory (extension_start entries) (length (hwcaps_names entries))
+    ++ flat_map (name_bytes (pool entries)) (hwcaps_names entries)
+    ++ generator

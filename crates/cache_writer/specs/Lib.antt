@@ -1,2 +1,3 @@
 pub mod CacheText
-pub mod StringPool
+pub mod Parts
+pub mod ReadBack

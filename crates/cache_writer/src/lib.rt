@@ -1,7 +1,7 @@
 //! The file of a cache, which glibc's loader reads.
 #![tactic(auto)]
 
-mod pool;
+mod names;
 mod writer;
 
 pub use writer::{ENTRIES_MAX, STRING_MAX, write};

@@ -1,1 +1,4 @@
+pub mod Children
 mod Firsts
+pub mod Reals
+pub mod Spelled

@@ -1,15 +1,18 @@
 -- The directories in which libraries are looked for, in their order (ldconfig(8), ld.so(8): glibc-hwcaps subdirectories).
-use Rattle.std.specs.Prelude.{ℕ, Bool, true, false, List, [], ◌∷◌, ◌++◌, nat_eq, not, if◌then◌else◌, filter, flat_map, codes, Option, Some, None, option_map, is_none, Result, Ok, Err}
-use Rattle.std.specs.List.{filter_map, starts_with}
+use Rattle.std.specs.Prelude.{ℕ, Bool, true, false, List, [], ◌∷◌, ◌++◌, ◌&&◌, nat_eq, nat_le, length, not, if◌then◌else◌, filter, flat_map, codes, Option, Some, None, option_map, is_none, Result, Ok, Err}
+use Rattle.std.specs.List.{filter_map, list_all, starts_with}
 use Rattle.std.specs.Str.{bytes_eq}
+use Rattle.lib_types.specs.Name.{is_name}
 use Rattle.path_walk.specs.Names.{join}
 use Rattle.path_walk.specs.Walk.{resolution}
 use Rattle.path_walk.specs.declared.walk.Mode.TheVariants.{Plain}
 use Rattle.path_walk.specs.declared.walk.WalkFault.{WalkFault}
+use Rattle.tree_face.specs.Node.{has_no_nul}
 use Rattle.tree_face.specs.Tree.{Nodes, kind_at, children_of}
 use Rattle.tree_face.specs.declared.tree.Kind.{Kind}
 use Rattle.tree_face.specs.declared.tree.Kind.TheVariants as kinds
 use Rattle.hwcap_dirs.specs.declared.kinds.Place.{Place}
+use Rattle.hwcap_dirs.specs.declared.kinds.TheConstants.{SPELLED_MAX}
 
 -- ---- where a text leads
 
@@ -83,6 +86,22 @@ places_of t led = record { spelled = led.0; real = led.1; cap = None } ∷ hwcap
 -- The places for the conf file's directories; a place's number is its index.
 unfoldable pub places : Nodes → List (List ℕ) → List Place
 places t conf = flat_map (places_of t) (kept t conf)
+
+-- each place is a directory of the tree
+abbrev pub are_dirs : Nodes → List Place → Bool
+are_dirs t places = list_all (λ place. is_dir (kind_at t place.real)) places
+
+-- a hwcaps name is a name
+abbrev pub is_cap : Option (List ℕ) → Bool
+is_cap None = true
+is_cap (Some name) = is_name name
+
+-- the place's text is short and has no NUL
+abbrev pub is_spelled : Place → Bool
+is_spelled place = nat_le (length place.spelled) SPELLED_MAX && has_no_nul place.spelled && is_cap place.cap
+
+abbrev pub are_spelled : List Place → Bool
+are_spelled places = list_all is_spelled places
 
 -- The conf file's directories that lead to no directory.
 unfoldable pub absent : Nodes → List (List ℕ) → List (List ℕ)

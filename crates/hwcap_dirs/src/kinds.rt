@@ -1,5 +1,9 @@
 //! The places in which libraries are looked for.
-use lib_types::{Seq, Text, Texts};
+use lib_types::{NAME_MAX, Seq, Text, Texts};
+use tree_face::PATH_MAX;
+
+/// The most bytes of a place as it is spelled: a directory of the conf file, `/glibc-hwcaps/` and a name.
+pub const SPELLED_MAX: usize = PATH_MAX + 14 + NAME_MAX;
 
 /// One place. Its number is its index in the list.
 #[derive(Drop)]

@@ -4,5 +4,5 @@
 mod kinds;
 mod listing;
 
-pub use kinds::{Dirs, Place, Places};
+pub use kinds::{Dirs, Place, Places, SPELLED_MAX};
 pub use listing::order;

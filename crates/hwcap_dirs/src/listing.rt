@@ -1,11 +1,13 @@
 //! The order of the directories.
-ghost use Rattle.std.specs.Prelude.{◌≡◌, ◌∷◌, ◌++◌, ℕ, List, IfOk, OnOk};
+ghost use Rattle.std.specs.Prelude.{◌≡◌, ◌≤◌, ◌∷◌, ◌++◌, ℕ, All, List, IfOk, IsTrue, OnOk, length};
 ghost use Rattle.std.specs.Option.{is_some};
 ghost use Rattle.std.specs.Str.{bytes_eq};
 ghost use Rattle.indexmap.specs.IndexSet.{insert_key};
 ghost use Rattle.path_walk.specs.Names.{join};
 ghost use Rattle.hwcap_dirs.specs.Gathering.{new_places, all_places};
-ghost use Rattle.hwcap_dirs.specs.Places.{absent, dir_at, hwcap_places, is_dir, is_hidden, place_of_name, places, places_of, system_dirs};
+ghost use Rattle.tree_face.specs.Tree.{IsTree};
+ghost use Rattle.tree_face.specs.declared.path.TheConstants.{PATH_MAX};
+ghost use Rattle.hwcap_dirs.specs.Places.{absent, are_dirs, are_spelled, dir_at, hwcap_places, is_dir, is_hidden, place_of_name, places, places_of, system_dirs};
 
 use crate::kinds::{Dirs, Place, Places};
 use lib_types::{NoMemory, Text, Texts};
@@ -168,12 +170,22 @@ impl Gathering {
     }
 }
 
+// Lets contracts know what each tree meets. It goes over nothing.
+fn know(tree: &Tree)
+    ensures { IsTree tree.now }
+{
+    let _ = tree.nodes();
+}
+
 /// The places for the directories of the conf file, with those that every system has behind them.
 #[tactic(auto, unfolding(crate::specs::Places::places, crate::specs::Places::absent))]
 pub fn order(alloc: Global, tree: &Tree, conf: &Texts) -> Result<Dirs, NoMemory>
     ensures places { IfOk result (λ dirs. dirs.places ≡ places tree.now conf.now) }
+    ensures real { IfOk result (λ dirs. IsTrue (are_dirs tree.now dirs.places)) }
     ensures absent { IfOk result (λ dirs. dirs.absent ≡ absent tree.now conf.now) }
+    ensures spelled { IfOk result (λ dirs. All (λ dir. length dir ≤ PATH_MAX) conf.now → IsTrue (are_spelled dirs.places)) }
 {
+    know(tree);
     let mut gathering = Gathering {
         met: TextSet::new(alloc),
         places: Places::new(alloc),

@@ -33,8 +33,11 @@ const BAD_CACHE: &str =
 const BAD_MANIFEST: &str =
     "ldconfig: image.mtree: the line on the output says where and what; docs/FORMATS.md explains it";
 
-const NOT_BUILT: &str =
-    "ldconfig: the image asks for what this version does not build: README.md lists what it does";
+const TOO_LARGE: &str =
+    "ldconfig: image.mtree: there is no room for the links of its libraries: it would have more than 1048576 nodes or 67108864 bytes";
+
+const TOO_MANY: &str =
+    "ldconfig: etc/ld.so.cache: the image has more libraries than the 131072 that a cache may have";
 
 /// Why no command was run.
 #[derive(Clone, Copy, Debug, PartialEq, Eq)]
@@ -128,7 +131,8 @@ fn advice(status: Status, wrote_cache: bool) -> Option<&'static str>
         Status::BadManifest(_) => Some(BAD_MANIFEST),
         Status::NoCache => Some(NO_CACHE),
         Status::BadCache(_) => Some(BAD_CACHE),
-        Status::NotBuilt => Some(NOT_BUILT),
+        Status::TooLarge { .. } => Some(TOO_LARGE),
+        Status::TooMany { .. } => Some(TOO_MANY),
         Status::NoMemory => Some(OUT_OF_MEMORY),
         Status::OutputFault if wrote_cache => Some("ldconfig: etc/ld.so.cache was written"),
         _ => None,

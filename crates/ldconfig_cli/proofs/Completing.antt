@@ -1,5 +1,5 @@
 -- An update's status is that of its outcome, or memory or a device has failed.
-use Rattle.std.proofs.Common.{◌≡◌, ◌⊎◌, true, Option, Some, None, refl, sym, ap, inl, inr}
+use Rattle.std.proofs.Common.{◌≡◌, ◌⊎◌, ℕ, true, Option, Some, None, refl, sym, ap, inl, inr}
 use Rattle.mtree_manifest.specs.declared.fault.ManifestFault.{ManifestFault}
 use Rattle.tree_face.specs.Disk.{DiskContent}
 use Rattle.tree_face.specs.Store.{Contents}
@@ -7,9 +7,9 @@ use Rattle.ldconfig_cli.specs.Devices.{IfBothKnown}
 use Rattle.ldconfig_core.specs.Manifest.{manifest_of}
 use Rattle.ldconfig_core.specs.Outcome.{outcome}
 use Rattle.ldconfig_core.specs.Outcome as outcomes
-use Rattle.ldconfig_cli.specs.Update.{ComesTo, HasFault, HasNoManifest, LacksLibrary, Returns, is_of_update, status_of}
+use Rattle.ldconfig_cli.specs.Update.{ComesTo, HasFault, HasNoManifest, LacksFile, Returns, is_of_update, status_of}
 use Rattle.ldconfig_cli.specs.declared.status.Status.{Status}
-use Rattle.ldconfig_cli.specs.declared.status.Status.TheVariants.{Done, Usage, BadManifest, NoCache, BadCache, StoreFault, DiskFault, OutputFault, NoMemory, NoManifest, NotBuilt}
+use Rattle.ldconfig_cli.specs.declared.status.Status.TheVariants.{Done, Usage, BadManifest, NoCache, BadCache, StoreFault, DiskFault, OutputFault, NoMemory, NoManifest, TooLarge, TooMany}
 
 module _ (held : Option Contents) (disk : Option DiskContent) (failed : Type 0) where
   -- what is known of the causes of a status
@@ -17,9 +17,10 @@ module _ (held : Option Contents) (disk : Option DiskContent) (failed : Type 0) 
     pub own : is_of_update status ≡ true
     pub no_manifest : status ≡ NoManifest → HasNoManifest disk
     pub bad_manifest : (fault : ManifestFault) → status ≡ BadManifest fault → HasFault disk fault
-    pub not_built : status ≡ NotBuilt → ComesTo held disk outcomes.NotBuilt
+    pub too_large : (nodes bytes : ℕ) → status ≡ TooLarge nodes bytes → ComesTo held disk (outcomes.TooLarge nodes bytes)
+    pub too_many : (count : ℕ) → status ≡ TooMany count → ComesTo held disk (outcomes.TooMany count)
     pub done : status ≡ Done → IfBothKnown held disk (λ contents content. status_of (outcome contents (manifest_of content.now.manifest)) ≡ Done)
-    pub store_fault : status ≡ StoreFault → failed ⊎ LacksLibrary held disk
+    pub store_fault : status ≡ StoreFault → failed ⊎ LacksFile held disk
     pub disk_fault : status ≡ DiskFault → failed
     pub output_fault : status ≡ OutputFault → failed
 
@@ -37,7 +38,8 @@ completes (Some c) (Some d) failed DiskFault causes = inr (inr (causes.disk_faul
 completes (Some c) (Some d) failed OutputFault causes = inr (inr (causes.output_fault refl))
 completes (Some c) (Some d) failed NoMemory causes = inr (inl refl)
 completes (Some c) (Some d) failed NoManifest causes = inl (sym (ap (λ m. status_of (outcome c (manifest_of m))) (causes.no_manifest refl)))
-completes (Some c) (Some d) failed NotBuilt causes = inl (sym (ap status_of (causes.not_built refl)))
+completes (Some c) (Some d) failed (TooLarge nodes bytes) causes = inl (sym (ap status_of (causes.too_large nodes bytes refl)))
+completes (Some c) (Some d) failed (TooMany count) causes = inl (sym (ap status_of (causes.too_many count refl)))
 
 -- an update doesn't end with Usage
 pub not_usage : (status : Status) → is_of_update status ≡ true → status ≡ Usage → ⊥

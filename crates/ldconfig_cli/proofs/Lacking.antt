@@ -1,4 +1,4 @@
--- A library file whose content isn't held, and a manifest that is there.
+-- A file whose content isn't held, and a manifest that is there.
 use Rattle.std.proofs.Common.{◌≡◌, false, Option, Some, None, refl, ap, ◌∙◌}
 use Rattle.std.specs.Prelude.{IsSome, IsSomeAnd}
 use Rattle.tree_face.specs.Disk.{DiskContent}
@@ -11,15 +11,15 @@ use Rattle.ldconfig_core.specs.Session.{IsLoaded, Says}
 use Rattle.ldconfig_core.specs.declared.fault.LoadFault.{LoadFault}
 use Rattle.ldconfig_core.specs.declared.fault.LoadFault.TheVariants as loading
 use Rattle.ldconfig_cli.specs.Status.{of_load}
-use Rattle.ldconfig_cli.specs.Update.{HasManifest, LacksLibrary, needs_no_manifest}
+use Rattle.ldconfig_cli.specs.Update.{HasManifest, LacksFile, needs_no_manifest}
 use Rattle.ldconfig_cli.specs.declared.status.Status.{Status}
 use Rattle.ldconfig_cli.proofs.Slots.{loaded}
 
-pub lacks_library : (held : Option Contents) (disk : Option DiskContent) (t : Nodes) → IsLoaded disk t →
-    IsSomeAnd held (λ contents. outcome contents (HasTree t) ≡ Lacking) → LacksLibrary held disk
-lacks_library None disk t is lacking = lacking
-lacks_library (Some contents) None t is lacking = (Some is.text, ap (outcome contents) is.reads ∙ lacking)
-lacks_library (Some contents) (Some content) t is lacking = ap (outcome contents) (loaded content t is) ∙ lacking
+pub lacks_file : (held : Option Contents) (disk : Option DiskContent) (t : Nodes) → IsLoaded disk t →
+    IsSomeAnd held (λ contents. outcome contents (HasTree t) ≡ Lacking) → LacksFile held disk
+lacks_file None disk t is lacking = lacking
+lacks_file (Some contents) None t is lacking = (Some is.text, ap (outcome contents) is.reads ∙ lacking)
+lacks_file (Some contents) (Some content) t is lacking = ap (outcome contents) (loaded content t is) ∙ lacking
 
 -- a slot whose text has a fault isn't empty
 pub has_text : (disk : Option DiskContent) (fault : ManifestFault) → Says disk (Faulty fault) → HasManifest disk

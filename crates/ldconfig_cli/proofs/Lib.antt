@@ -2,4 +2,5 @@ pub mod Completing
 pub mod Lacking
 pub mod OnlyArgument
 pub mod Printing
+pub mod Saying
 pub mod Slots

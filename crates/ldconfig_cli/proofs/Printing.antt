@@ -6,7 +6,7 @@ use Rattle.tree_face.specs.Disk.{DiskContent}
 use Rattle.tree_face.specs.Known.{IfKnown, Relates}
 use Rattle.ldconfig_cli.specs.Print.{IsBySlot, Prints, cache_name, is_of_print, status_by}
 use Rattle.ldconfig_cli.specs.declared.status.Status.{Status}
-use Rattle.ldconfig_cli.specs.declared.status.Status.TheVariants.{Done, Usage, BadManifest, NoCache, BadCache, StoreFault, DiskFault, OutputFault, NoMemory, NoManifest, NotBuilt}
+use Rattle.ldconfig_cli.specs.declared.status.Status.TheVariants.{Done, Usage, BadManifest, NoCache, BadCache, StoreFault, DiskFault, OutputFault, NoMemory, NoManifest, TooLarge, TooMany}
 
 from_slot : (disk : Option DiskContent) (bytes : List ℕ) → IfKnown disk (λ content. Some bytes ≡ content.now.cache) → IfKnown disk (λ content. content.now.cache ≡ Some bytes)
 from_slot None bytes is = tt
@@ -42,7 +42,8 @@ module _ (failed : Type 0) where
   completes (Some content) (BadManifest fault) causes = let e = causes.only in absurd (cc e)
   completes (Some content) StoreFault causes = let e = causes.only in absurd (cc e)
   completes (Some content) NoManifest causes = let e = causes.only in absurd (cc e)
-  completes (Some content) NotBuilt causes = let e = causes.only in absurd (cc e)
+  completes (Some content) (TooLarge nodes bytes) causes = let e = causes.only in absurd (cc e)
+  completes (Some content) (TooMany count) causes = let e = causes.only in absurd (cc e)
 
 -- a print doesn't end with Usage
 pub not_usage : (status : Status) → is_of_print status ≡ true → status ≡ Usage → ⊥

@@ -1,45 +1,103 @@
--- What the replacement of the Cache slot leaves.
-use Rattle.std.proofs.Common.{◌≡◌, List, ℕ, Option, Some, None, inl, inr, refl, ap, sym, subst, ◌∙◌}
-use Rattle.tree_face.specs.declared.disk.Slot.TheVariants.{Cache}
+-- What the update of a loaded tree leaves is what the update of the manifest leaves.
+use Rattle.std.proofs.Common.{◌≡◌, ◌⊎◌, true, List, ℕ, Option, Some, None, inl, inr, refl, ap, sym, subst, ◌∙◌}
+use Rattle.tree_face.specs.declared.disk.DoneCall.{DoneCall}
+use Rattle.tree_face.specs.declared.disk.Slot.{Slot}
 use Rattle.tree_face.specs.Disk.{DiskContent}
-use Rattle.tree_face.specs.Store.{Contents}
+use Rattle.tree_face.specs.Store.{Contents, StoreState, BeginsAtMost}
 use Rattle.tree_face.specs.Known.{IfKnown, Relates, IsSame}
 use Rattle.tree_face.specs.Tree.{Nodes}
-use Rattle.ldconfig_core.specs.Cache.{IsUpdateOf}
+use Rattle.ldconfig_core.specs.Cache.{AreTextsOf, IsReport, Texts}
+use Rattle.ldconfig_core.specs.Faults.{is_of_preparing}
+use Rattle.ldconfig_core.specs.Image.{begun_in}
 use Rattle.ldconfig_core.specs.Manifest.{Manifest, HasTree, manifest_of}
-use Rattle.ldconfig_core.specs.Replace.{MayReplace}
+use Rattle.ldconfig_core.specs.Outcome.{Outcome, outcome}
 use Rattle.ldconfig_core.specs.Session.{IsLoaded}
-use Rattle.ldconfig_core.specs.Faults.{IsOfPreparing}
-use Rattle.ldconfig_core.specs.Update.{LeavesUpdate, MayLeaveUpdate}
+use Rattle.ldconfig_core.specs.Update as core
+use Rattle.ldconfig_core.specs.Update.{AreTexts, AreTextsFor, IsNewManifest, IsReportFor, begun_for}
+use Rattle.ldconfig_core.specs.declared.fault.DiskFault as disks
 use Rattle.ldconfig_core.specs.declared.fault.UpdateFault.{UpdateFault}
 use Rattle.ldconfig_core.specs.declared.fault.UpdateFault.TheVariants as updating
-use Rattle.ldconfig_cli.specs.Status.{of_update}
-use Rattle.ldconfig_cli.specs.Update.{DiskAfter, LeavesCache, MayLeaveCache, tag}
+use Rattle.ldconfig_core.specs.declared.report.Report.{Report}
+use Rattle.ldconfig_cli.specs.Devices.{IfBothKnown}
+use Rattle.ldconfig_core.specs.declared.fault.LoadFault.{LoadFault}
+use Rattle.ldconfig_core.specs.declared.fault.LoadFault.TheVariants as loading
+use Rattle.ldconfig_cli.specs.Status.{of_load, of_update}
+use Rattle.ldconfig_cli.specs.declared.status.Status.TheVariants.{DiskFault, TooLarge, TooMany}
+use Rattle.tree_face.specs.Stream.{IsFollowedByPart}
+use Rattle.ldconfig_cli.specs.Update.{BeginsFiles, CallsAfter, ComesTo, DiskAfter, LeavesUpdate, MakesCalls, MayHaveWritten, Reports, tag}
 use Rattle.ldconfig_cli.specs.declared.status.Status.{Status}
 
 -- what is loaded is what the slot says
 pub loaded : (a : DiskContent) (t : Nodes) → IsLoaded (Some a) t → manifest_of a.now.manifest ≡ HasTree t
 loaded a t is = ap manifest_of is.in_slot ∙ is.reads
 
-by_slot : (held : Option Contents) (m : Manifest) (n : Manifest) (cache report : List ℕ) → m ≡ n → IfKnown held (λ contents. IsUpdateOf contents n cache report) →
-    IfKnown held (λ contents. IsUpdateOf contents m cache report)
-by_slot held m n cache report same update = subst (λ x. IfKnown held (λ contents. IsUpdateOf contents x cache report)) (sym same) update
+-- a fact of the loaded tree's update is one of the manifest's
+by_slot : (P : Contents → Manifest → Type 0) (held : Option Contents) (a : DiskContent) (t : Nodes) → IsLoaded (Some a) t
+    → IfKnown held (λ contents. P contents (HasTree t)) → IfKnown held (λ contents. P contents (manifest_of a.now.manifest))
+by_slot P None a t is fact = tt
+by_slot P (Some contents) a t is fact = subst (P contents) (sym (loaded a t is)) fact
+
+by_disk : (P : Contents → Manifest → Type 0) (held : Option Contents) (disk : Option DiskContent) (t : Nodes) → IsLoaded disk t
+    → IfKnown held (λ contents. P contents (HasTree t)) → IfBothKnown held disk (λ contents content. P contents (manifest_of content.now.manifest))
+by_disk P None disk t is fact = tt
+by_disk P (Some contents) None t is fact = tt
+by_disk P (Some contents) (Some a) t is fact = subst (P contents) (sym (loaded a t is)) fact
 
 module _ (held : Option Contents) (t : Nodes) where
-  pub leaves_cache : (Writes : List ℕ → DiskContent → DiskContent → Type 0) (report : List ℕ) (a b : Option DiskContent) → IsLoaded a t →
-      Relates (LeavesUpdate Writes held t report) a b → Relates (LeavesCache Writes held) a b
-  leaves_cache Writes report None None is leaves = tt
-  leaves_cache Writes report None (Some b) is leaves = leaves
-  leaves_cache Writes report (Some a) None is leaves = leaves
-  leaves_cache Writes report (Some a) (Some b) is leaves =
-      record { cache = leaves.cache; report = report; written = leaves.written; is_cache = by_slot held _ _ leaves.cache report (loaded a t is) leaves.is_update }
+  pub leaves_update : (report : List ℕ) (a b : Option DiskContent) → IsLoaded a t → Relates (core.LeavesUpdate tag held t report) a b → Relates (LeavesUpdate held) a b
+  leaves_update report None None is leaves = tt
+  leaves_update report None (Some b) is leaves = leaves
+  leaves_update report (Some a) None is leaves = leaves
+  leaves_update report (Some a) (Some b) is leaves =
+      record { texts = leaves.texts; are = by_slot (λ contents m. AreTextsFor contents m leaves.texts) held a t is leaves.are; written = leaves.written }
 
-  pub may_leave_cache : (a b : Option DiskContent) → IsLoaded a t → Relates (MayLeaveUpdate tag held t) a b → Relates (MayLeaveCache held) a b
-  may_leave_cache None None is leaves = tt
-  may_leave_cache None (Some b) is leaves = leaves
-  may_leave_cache (Some a) None is leaves = leaves
-  may_leave_cache (Some a) (Some b) is leaves =
-      inr (leaves_cache (MayReplace tag Cache) leaves.report (Some a) (Some b) is leaves.leaves)
+  pub may_leave_update : (slot : Slot) (a b : Option DiskContent) → IsLoaded a t → Relates (core.MayLeaveUpdate tag held t slot) a b → Relates (MayHaveWritten held) a b
+  may_leave_update slot None None is leaves = tt
+  may_leave_update slot None (Some b) is leaves = leaves
+  may_leave_update slot (Some a) None is leaves = leaves
+  may_leave_update slot (Some a) (Some b) is leaves =
+      inr (record { texts = leaves.texts; are = by_slot (λ contents m. AreTextsFor contents m leaves.texts) held a t is leaves.are; slot = slot; written = leaves.written })
+
+  module _ (disk : Option DiskContent) (is : IsLoaded disk t) where
+    pub makes_calls : (P : List DoneCall → List DoneCall → List DoneCall → Type 0) (a b : Option (List DoneCall))
+        → Relates (core.MakesCalls P (record { 0 = tag }) held t) a b → Relates (MakesCalls P held disk) a b
+    makes_calls P None None calls = tt
+    makes_calls P None (Some b) calls = calls
+    makes_calls P (Some a) None calls = calls
+    makes_calls P (Some a) (Some b) calls = record {
+      manifest = calls.manifest;
+      is_new = by_disk (λ contents m. IsNewManifest contents m calls.manifest) held disk t is calls.is_new;
+      calls = calls.calls;
+    }
+
+    pub makes_part : (P : List DoneCall → List DoneCall → List DoneCall → Type 0) (a b : Option (List DoneCall))
+        → Relates (core.MakesCalls P (record { 0 = tag }) held t) a b → Relates (λ x y. IsSame x y ⊎ MakesCalls P held disk x y) a b
+    makes_part P None None calls = tt
+    makes_part P None (Some b) calls = calls
+    makes_part P (Some a) None calls = calls
+    makes_part P (Some a) (Some b) calls = inr (makes_calls P (Some a) (Some b) calls)
+
+    pub begins_files : (old new : StoreState) → old.held ≡ held → IfKnown held (λ contents. BeginsAtMost (begun_in contents t) old new) → BeginsFiles disk old new
+    begins_files old new same begun = rw same (by_disk (λ contents m. BeginsAtMost (begun_for contents m) old new) held disk t is begun)
+
+    pub comes_to : (end : Outcome) → IfKnown held (λ contents. outcome contents (HasTree t) ≡ end) → ComesTo held disk end
+    comes_to end fact = by_disk (λ contents m. outcome contents m ≡ end) held disk t is fact
+
+    pub reports : (P : List ℕ → List ℕ → List ℕ → Type 0) (report : Report) (a b : Option (List ℕ)) → IsReport report.text
+        → IfKnown held (λ contents. IsReportFor contents t report) → Relates (P report.text) a b → Relates (Reports P held disk) a b
+    reports P report None None is_report own written = tt
+    reports P report None (Some b) is_report own written = written
+    reports P report (Some a) None is_report own written = written
+    reports P report (Some a) (Some b) is_report own written = record {
+      report = report.text;
+      is_report = is_report;
+      written = written;
+      is_own = by_disk (λ contents m. (texts : Texts) × (AreTextsFor contents m texts × (report.text ≡ texts.report))) held disk t is (own_texts held own);
+    } where
+      own_texts : (known : Option Contents) → IfKnown known (λ contents. IsReportFor contents t report)
+          → IfKnown known (λ contents. (texts : Texts) × (AreTextsOf contents t texts × (report.text ≡ texts.report)))
+      own_texts None fact = tt
+      own_texts (Some contents) fact = (fact.texts, (fact.are, fact.text_is))
 
 same_slots : (a b : Option DiskContent) → b ≡ a → Relates IsSame a b
 same_slots None None e = tt
@@ -47,10 +105,67 @@ same_slots None (Some b) e = absurd (cc e)
 same_slots (Some a) None e = absurd (cc e)
 same_slots (Some a) (Some b) e = cc
 
--- an update that isn't made leaves the slots, or may have replaced the cache
+-- an update that isn't made leaves the slots, or may have replaced them
 pub refused_disk : (held : Option Contents) (fault : UpdateFault) (status : Status) → status ≡ of_update fault → (a b : Option DiskContent) →
-    (fault ≡ updating.DiskFault → Relates (MayLeaveCache held) a b) → (IsOfPreparing fault → b ≡ a) → Relates (DiskAfter status held) a b
-refused_disk held updating.NotBuilt status is a b may same = rw is (same_slots a b (same (inl refl)))
-refused_disk held updating.StoreFault status is a b may same = rw is (same_slots a b (same (inr (inl refl))))
-refused_disk held updating.DiskFault status is a b may same = rw is (may refl)
-refused_disk held updating.NoMemory status is a b may same = rw is (same_slots a b (same (inr (inr refl))))
+    ((f : disks.DiskFault) → fault ≡ updating.DiskFault f → Relates (MayHaveWritten held) a b) → (is_of_preparing fault ≡ true → b ≡ a) → Relates (DiskAfter status held) a b
+refused_disk held updating.StoreFault status is a b may same = rw is (same_slots a b (same refl))
+refused_disk held (updating.TooLarge nodes bytes) status is a b may same = rw is (same_slots a b (same refl))
+refused_disk held (updating.TooMany count) status is a b may same = rw is (same_slots a b (same refl))
+refused_disk held (updating.DiskFault f) status is a b may same = rw is (may f refl)
+refused_disk held updating.NoMemory status is a b may same = rw is (same_slots a b (same refl))
+
+same_or : (P : List DoneCall → List DoneCall → Type 0) (a b : Option (List DoneCall)) → b ≡ a → Relates (λ x y. IsSame x y ⊎ P x y) a b
+same_or P None None e = tt
+same_or P None (Some b) e = absurd (cc e)
+same_or P (Some a) None e = absurd (cc e)
+same_or P (Some a) (Some b) e = inl (cc)
+
+same_calls : (a b : Option (List DoneCall)) → b ≡ a → Relates IsSame a b
+same_calls None None e = tt
+same_calls None (Some b) e = absurd (cc e)
+same_calls (Some a) None e = absurd (cc e)
+same_calls (Some a) (Some b) e = cc
+
+-- an update that isn't made makes no call, or a prefix of them
+pub refused_calls : (held : Option Contents) (disk : Option DiskContent) (fault : UpdateFault) (status : Status) → status ≡ of_update fault → (a b : Option (List DoneCall)) →
+    ((f : disks.DiskFault) → fault ≡ updating.DiskFault f → Relates (CallsAfter DiskFault held disk) a b) → (is_of_preparing fault ≡ true → b ≡ a) → Relates (CallsAfter status held disk) a b
+refused_calls held disk updating.StoreFault status is a b may same = rw is (same_calls a b (same refl))
+refused_calls held disk (updating.TooLarge nodes bytes) status is a b may same = rw is (same_calls a b (same refl))
+refused_calls held disk (updating.TooMany count) status is a b may same = rw is (same_calls a b (same refl))
+refused_calls held disk (updating.DiskFault f) status is a b may same = rw is (may f refl)
+refused_calls held disk updating.NoMemory status is a b may same = rw is (same_calls a b (same refl))
+
+-- nothing is written if the image isn't loaded
+pub unloaded_calls : (held : Option Contents) (disk : Option DiskContent) (fault : LoadFault) (status : Status) → status ≡ of_load fault → (a b : Option (List DoneCall)) → b ≡ a
+    → Relates (CallsAfter status held disk) a b
+unloaded_calls held disk (loading.DiskFailed slot) status is a b same = rw is (same_or (MakesCalls IsFollowedByPart held disk) a b same)
+unloaded_calls held disk loading.NoManifest status is a b same = rw is (same_calls a b same)
+unloaded_calls held disk (loading.BadManifest fault) status is a b same = rw is (same_calls a b same)
+unloaded_calls held disk loading.NoMemory status is a b same = rw is (same_calls a b same)
+
+same_or_may : (held : Option Contents) (a b : Option DiskContent) → b ≡ a → Relates (MayHaveWritten held) a b
+same_or_may held None None e = tt
+same_or_may held None (Some b) e = absurd (cc e)
+same_or_may held (Some a) None e = absurd (cc e)
+same_or_may held (Some a) (Some b) e = inl (cc)
+
+pub unloaded_disk : (held : Option Contents) (fault : LoadFault) (status : Status) → status ≡ of_load fault → (a b : Option DiskContent) → b ≡ a → Relates (DiskAfter status held) a b
+unloaded_disk held (loading.DiskFailed slot) status is a b same = rw is (same_or_may held a b same)
+unloaded_disk held loading.NoManifest status is a b same = rw is (same_slots a b same)
+unloaded_disk held (loading.BadManifest fault) status is a b same = rw is (same_slots a b same)
+unloaded_disk held loading.NoMemory status is a b same = rw is (same_slots a b same)
+
+-- which refusal a status is of
+pub large_of : (fault : UpdateFault) (status : Status) (nodes bytes : ℕ) → status ≡ of_update fault → status ≡ TooLarge nodes bytes → fault ≡ updating.TooLarge nodes bytes
+large_of updating.StoreFault status nodes bytes of is = let e : of_update updating.StoreFault ≡ TooLarge nodes bytes = sym of ∙ is in absurd (cc e)
+large_of (updating.TooLarge n b) status nodes bytes of is = let e : of_update (updating.TooLarge n b) ≡ TooLarge nodes bytes = sym of ∙ is in cc (e)
+large_of (updating.TooMany n) status nodes bytes of is = let e : of_update (updating.TooMany n) ≡ TooLarge nodes bytes = sym of ∙ is in absurd (cc e)
+large_of (updating.DiskFault f) status nodes bytes of is = let e : of_update (updating.DiskFault f) ≡ TooLarge nodes bytes = sym of ∙ is in absurd (cc e)
+large_of updating.NoMemory status nodes bytes of is = let e : of_update updating.NoMemory ≡ TooLarge nodes bytes = sym of ∙ is in absurd (cc e)
+
+pub many_of : (fault : UpdateFault) (status : Status) (count : ℕ) → status ≡ of_update fault → status ≡ TooMany count → fault ≡ updating.TooMany count
+many_of updating.StoreFault status count of is = let e : of_update updating.StoreFault ≡ TooMany count = sym of ∙ is in absurd (cc e)
+many_of (updating.TooLarge n b) status count of is = let e : of_update (updating.TooLarge n b) ≡ TooMany count = sym of ∙ is in absurd (cc e)
+many_of (updating.TooMany n) status count of is = let e : of_update (updating.TooMany n) ≡ TooMany count = sym of ∙ is in cc (e)
+many_of (updating.DiskFault f) status count of is = let e : of_update (updating.DiskFault f) ≡ TooMany count = sym of ∙ is in absurd (cc e)
+many_of updating.NoMemory status count of is = let e : of_update updating.NoMemory ≡ TooMany count = sym of ∙ is in absurd (cc e)

@@ -10,7 +10,7 @@ use Rattle.cache_reader.specs.declared.defect.CacheDefect.{CacheDefect}
 use Rattle.ldconfig_cli.specs.Devices.{Devices}
 use Rattle.ldconfig_cli.specs.Status.{fault_line, Says}
 use Rattle.ldconfig_cli.specs.declared.status.Status.{Status}
-use Rattle.ldconfig_cli.specs.declared.status.Status.TheVariants.{Done, Usage, BadManifest, NoCache, BadCache, StoreFault, DiskFault, OutputFault, NoMemory, NoManifest, NotBuilt}
+use Rattle.ldconfig_cli.specs.declared.status.Status.TheVariants.{Done, NoCache, BadCache, DiskFault, OutputFault, NoMemory}
 
 -- the name of the cache on the first line
 abbrev pub cache_name : List ℕ

@@ -8,14 +8,14 @@ use Rattle.mtree_manifest.specs.declared.fault.ManifestFault.{ManifestFault}
 use Rattle.mtree_manifest.specs.declared.fault.ManifestFault.TheVariants as manifest_faults
 use Rattle.tree_face.specs.Known.{Relates}
 use Rattle.tree_face.specs.Stream.{SinkState, IsFollowedBy, IsFollowedByPart}
-use Rattle.ldconfig_core.specs.Report.{line}
+use Rattle.update_report.specs.Lines.{line}
 use Rattle.ldconfig_core.specs.declared.fault.LoadFault.{LoadFault}
 use Rattle.ldconfig_core.specs.declared.fault.LoadFault.TheVariants as loading
 use Rattle.ldconfig_core.specs.declared.fault.UpdateFault.{UpdateFault}
 use Rattle.ldconfig_core.specs.declared.fault.UpdateFault.TheVariants as updating
 use Rattle.ldconfig_cli.specs.CacheFault.{cache_fault}
 use Rattle.ldconfig_cli.specs.declared.status.Status.{Status}
-use Rattle.ldconfig_cli.specs.declared.status.Status.TheVariants.{Done, Usage, BadManifest, NoCache, BadCache, StoreFault, DiskFault, OutputFault, NoMemory, NoManifest, NotBuilt}
+use Rattle.ldconfig_cli.specs.declared.status.Status.TheVariants.{Done, Usage, BadManifest, NoCache, BadCache, StoreFault, DiskFault, OutputFault, NoMemory, NoManifest, TooLarge, TooMany}
 
 abbrev pub code_of : Status → ℕ
 code_of Done = 0
@@ -23,12 +23,13 @@ code_of Usage = 2
 code_of (BadManifest fault) = 3
 code_of NoCache = 5
 code_of (BadCache defect) = 6
+code_of (TooMany count) = 9
 code_of StoreFault = 10
 code_of DiskFault = 11
 code_of OutputFault = 13
 code_of NoMemory = 14
 code_of NoManifest = 16
-code_of NotBuilt = 18
+code_of (TooLarge nodes bytes) = 17
 
 -- the status of a fault
 abbrev pub of_load : LoadFault → Status
@@ -38,9 +39,10 @@ of_load (loading.BadManifest fault) = BadManifest fault
 of_load loading.NoMemory = NoMemory
 
 abbrev pub of_update : UpdateFault → Status
-of_update updating.NotBuilt = NotBuilt
 of_update updating.StoreFault = StoreFault
-of_update updating.DiskFault = DiskFault
+of_update (updating.TooLarge nodes bytes) = TooLarge nodes bytes
+of_update (updating.TooMany count) = TooMany count
+of_update (updating.DiskFault fault) = DiskFault
 of_update updating.NoMemory = NoMemory
 
 abbrev pub kind_text : LineKind → List ℕ
@@ -60,10 +62,14 @@ manifest_text (manifest_faults.Clash number) = line_text number (codes "Clash")
 manifest_text (manifest_faults.TooMany number) = line_text number (codes "TooMany")
 manifest_text manifest_faults.NoMemory = []
 
+abbrev pub count_text : ℕ → List ℕ
+count_text count = line (codes "fault: TooMany " ++ decimal count)
+
 -- the fault line is the same for each such status
 abbrev pub is_fixed : Status → Bool
 is_fixed (BadManifest fault) = false
 is_fixed (BadCache defect) = false
+is_fixed (TooMany count) = false
 is_fixed _ = true
 
 -- the fault line, empty for a status that has none
@@ -75,7 +81,8 @@ fault_line Usage = line (codes "fault: Usage")
 fault_line StoreFault = line (codes "fault: StoreFault")
 fault_line DiskFault = line (codes "fault: DiskFault")
 fault_line NoManifest = line (codes "fault: NoManifest")
-fault_line NotBuilt = line (codes "fault: NotBuilt")
+fault_line (TooLarge nodes bytes) = line (codes "fault: TooLarge")
+fault_line (TooMany count) = count_text count
 fault_line _ = []
 
 -- a line is written, or a prefix of it if the sink has failed

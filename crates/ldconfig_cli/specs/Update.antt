@@ -1,24 +1,22 @@
 -- The command `update`: which status it returns, and what it leaves on the devices.
-use Rattle.std.specs.Prelude.{◌≡◌, ◌⊎◌, ◌<◌, ℕ, Bool, true, false, List, Option, Some, None, IsSome, length}
+use Rattle.std.specs.Prelude.{◌≡◌, ◌⊎◌, ◌<◌, ℕ, Bool, true, false, List, Option, Some, None, IsSome}
 use Rattle.lib_types.specs.Counts.{HasRisen}
-use Rattle.tree_face.specs.Calls.{replacement}
 use Rattle.tree_face.specs.declared.disk.DoneCall.{DoneCall}
-use Rattle.tree_face.specs.declared.disk.Slot.TheVariants.{Cache}
-use Rattle.tree_face.specs.Disk.{DiskContent, Touches, KeepsAll, KeepsOthersMade}
+use Rattle.tree_face.specs.declared.disk.Slot.{Slot}
+use Rattle.tree_face.specs.Disk.{DiskContent, KeepsAll}
 use Rattle.tree_face.specs.Known.{IfKnown, Relates, IsSame}
 use Rattle.tree_face.specs.Store.{Contents, StoreState, BeginsAtMost}
 use Rattle.tree_face.specs.Stream.{SinkState, IsFollowedBy, IsFollowedByPart}
-use Rattle.ldconfig_core.specs.Cache.{IsUpdateOf, IsReport}
-use Rattle.ldconfig_core.specs.Update.{AreFineBefore}
+use Rattle.ldconfig_core.specs.Cache.{IsReport, Texts}
 use Rattle.ldconfig_cli.specs.Devices.{Devices, IfBothKnown}
-use Rattle.ldconfig_core.specs.Libraries.{NamedFile}
 use Rattle.ldconfig_core.specs.Manifest.{manifest_of, Faulty}
-use Rattle.ldconfig_core.specs.Outcome.{Outcome, outcome, files_to_read, begun_of, is_fine}
+use Rattle.ldconfig_core.specs.Outcome.{Outcome, outcome}
 use Rattle.ldconfig_core.specs.Outcome as outcomes
-use Rattle.ldconfig_core.specs.Replace.{Replaces, MayReplace}
+use Rattle.ldconfig_core.specs.Replace.{FailsToReplace, KeepsRestMade, ReplacesBoth, calls_for}
+use Rattle.ldconfig_core.specs.Update.{AreTextsFor, IsNewManifest, begun_for}
 use Rattle.ldconfig_cli.specs.Status.{fault_line, Says}
 use Rattle.ldconfig_cli.specs.declared.status.Status.{Status}
-use Rattle.ldconfig_cli.specs.declared.status.Status.TheVariants.{Done, Usage, BadManifest, NoCache, BadCache, StoreFault, DiskFault, OutputFault, NoMemory, NoManifest, NotBuilt}
+use Rattle.ldconfig_cli.specs.declared.status.Status.TheVariants.{Done, Usage, BadManifest, NoCache, BadCache, StoreFault, DiskFault, OutputFault, NoMemory, NoManifest, TooLarge, TooMany}
 use Rattle.mtree_manifest.specs.declared.fault.ManifestFault.{ManifestFault}
 
 -- the number of the updater
@@ -35,9 +33,10 @@ ComesTo held disk end = IfBothKnown held disk (λ contents content. outcome cont
 abbrev pub status_of : Outcome → Status
 status_of outcomes.NoManifest = NoManifest
 status_of (outcomes.BadManifest fault) = BadManifest fault
-status_of outcomes.NotBuilt = NotBuilt
 status_of outcomes.Lacking = StoreFault
-status_of (outcomes.Writes files) = Done
+status_of (outcomes.TooLarge nodes bytes) = TooLarge nodes bytes
+status_of (outcomes.TooMany count) = TooMany count
+status_of outcomes.Writes = Done
 
 -- the statuses that an update may end with
 abbrev pub is_of_update : Status → Bool
@@ -66,11 +65,11 @@ HasNoManifest disk = IfKnown disk (λ content. content.now.manifest ≡ None)
 abbrev pub HasFault : Option DiskContent → ManifestFault → Type 0
 HasFault disk fault = IfKnown disk (λ content. manifest_of content.now.manifest ≡ Faulty fault)
 
--- the content of a library file isn't held: one of the manifest's tree, or of some manifest if the disk's contents are unknown
-abbrev pub LacksLibrary : Option Contents → Option DiskContent → Type 0
-LacksLibrary None disk = ⊥
-LacksLibrary (Some contents) None = (manifest : Option (List ℕ)) × (outcome contents (manifest_of manifest) ≡ outcomes.Lacking)
-LacksLibrary (Some contents) (Some content) = outcome contents (manifest_of content.now.manifest) ≡ outcomes.Lacking
+-- the content of a file isn't held: one of the manifest's tree, or of some manifest if the disk's contents are unknown
+abbrev pub LacksFile : Option Contents → Option DiskContent → Type 0
+LacksFile None disk = ⊥
+LacksFile (Some contents) None = (manifest : Option (List ℕ)) × (outcome contents (manifest_of manifest) ≡ outcomes.Lacking)
+LacksFile (Some contents) (Some content) = outcome contents (manifest_of content.now.manifest) ≡ outcomes.Lacking
 
 -- a device has failed in this call
 abbrev pub HasFailed : Devices → Devices → Type 0
@@ -83,48 +82,52 @@ Returns status end failed = (status ≡ status_of end) ⊎ ((status ≡ NoMemory
 
 -- ---- the store
 
--- the files that an update reads, by the content of the Manifest slot
-abbrev pub files_of : DiskContent → List NamedFile
-files_of content = files_to_read (manifest_of content.now.manifest)
-
--- at most one key was begun for each file that an update reads
+-- at most so many files were begun as an update of the manifest begins
 abbrev pub BeginsFiles : Option DiskContent → StoreState → StoreState → Type 0
-BeginsFiles disk old new = IfKnown disk (λ content. BeginsAtMost (length (files_of content)) old new)
-
--- at most one for each up to and with the first that stops the update
-abbrev pub BeginsUpToFirst : Option DiskContent → StoreState → StoreState → Type 0
-BeginsUpToFirst disk old new = IfBothKnown old.held disk (λ contents content. BeginsAtMost (begun_of contents (files_of content)) old new)
-
--- the files that were begun are fine, but for the last of them
-abbrev pub AreBegunFine : Option DiskContent → StoreState → StoreState → Type 0
-AreBegunFine disk old new = IfBothKnown old.held disk (λ contents content. AreFineBefore contents (files_of content) old new)
+BeginsFiles disk old new = IfBothKnown old.held disk (λ contents content. BeginsAtMost (begun_for contents (manifest_of content.now.manifest)) old new)
 
 -- ---- the disk
 
--- the cache of the manifest's libraries is written, as this relation says of bytes
-pub record LeavesCache (Writes : List ℕ → DiskContent → DiskContent → Type 0) (held : Option Contents) (a b : DiskContent) : Type 0 where
-  pub cache : List ℕ
-  pub report : List ℕ
-  pub written : Writes cache a b
-  pub is_cache : IfKnown held (λ contents. IsUpdateOf contents (manifest_of a.now.manifest) cache report)
+-- the texts are those of the update of the manifest, if the store's contents are known
+abbrev pub AreTextsIn : Option Contents → DiskContent → Texts → Type 0
+AreTextsIn held content texts = IfKnown held (λ contents. AreTextsFor contents (manifest_of content.now.manifest) texts)
 
--- nothing was written but the temporary file, or a replacement by the cache of the manifest's libraries failed
-abbrev pub MayLeaveCache : Option Contents → DiskContent → DiskContent → Type 0
-MayLeaveCache held a b = Touches tag Cache a b ⊎ LeavesCache (MayReplace tag Cache) held a b
+-- the manifest is written if links are planned, and then the cache
+pub record LeavesUpdate (held : Option Contents) (a b : DiskContent) : Type 0 where
+  pub texts : Texts
+  pub are : AreTextsIn held a texts
+  pub written : ReplacesBoth tag texts.manifest texts.cache a b
+
+-- the replacement of a slot failed
+pub record MayLeaveUpdate (held : Option Contents) (a b : DiskContent) : Type 0 where
+  pub texts : Texts
+  pub are : AreTextsIn held a texts
+  pub slot : Slot
+  pub written : FailsToReplace tag texts.manifest texts.cache slot a b
+
+-- nothing was written, or a replacement failed
+abbrev pub MayHaveWritten : Option Contents → DiskContent → DiskContent → Type 0
+MayHaveWritten held a b = IsSame a b ⊎ MayLeaveUpdate held a b
 
 -- only an update that was made writes, or may have written if the disk has failed
 abbrev pub DiskAfter : Status → Option Contents → DiskContent → DiskContent → Type 0
-DiskAfter Done held = LeavesCache (Replaces tag Cache) held
-DiskAfter OutputFault held = LeavesCache (Replaces tag Cache) held
-DiskAfter DiskFault held = MayLeaveCache held
+DiskAfter Done held = LeavesUpdate held
+DiskAfter OutputFault held = LeavesUpdate held
+DiskAfter DiskFault held = MayHaveWritten held
 DiskAfter _ held = IsSame
 
--- the five writing calls of the Cache slot in their order, a prefix of them if the disk has failed, and no others
-abbrev pub CallsAfter : Status → List DoneCall → List DoneCall → Type 0
-CallsAfter Done = IsFollowedBy (replacement (record { 0 = tag }) Cache)
-CallsAfter OutputFault = IsFollowedBy (replacement (record { 0 = tag }) Cache)
-CallsAfter DiskFault = IsFollowedByPart (replacement (record { 0 = tag }) Cache)
-CallsAfter _ = IsSame
+-- the five writing calls of each slot that is replaced, in their order
+pub record MakesCalls (P : List DoneCall → List DoneCall → List DoneCall → Type 0) (held : Option Contents) (disk : Option DiskContent) (a b : List DoneCall) : Type 0 where
+  pub manifest : Option (List ℕ)
+  pub is_new : IfBothKnown held disk (λ contents content. IsNewManifest contents (manifest_of content.now.manifest) manifest)
+  pub calls : P (calls_for (record { 0 = tag }) manifest) a b
+
+-- all calls, a prefix of them if the disk has failed, and no others
+abbrev pub CallsAfter : Status → Option Contents → Option DiskContent → List DoneCall → List DoneCall → Type 0
+CallsAfter Done held disk = MakesCalls IsFollowedBy held disk
+CallsAfter OutputFault held disk = MakesCalls IsFollowedBy held disk
+CallsAfter DiskFault held disk = λ a b. IsSame a b ⊎ MakesCalls IsFollowedByPart held disk a b
+CallsAfter _ held disk = IsSame
 
 -- ---- the output
 
@@ -133,7 +136,7 @@ pub record Reports (P : List ℕ → List ℕ → List ℕ → Type 0) (held : O
   pub report : List ℕ
   pub is_report : IsReport report
   pub written : P report a b
-  pub is_own : IfBothKnown held disk (λ contents content. (cache : List ℕ) × IsUpdateOf contents (manifest_of content.now.manifest) cache report)
+  pub is_own : IfBothKnown held disk (λ contents content. (texts : Texts) × (AreTextsFor contents (manifest_of content.now.manifest) texts × (report ≡ texts.report)))
 
 -- the report, a prefix of it if the output has failed, or the fault line
 abbrev pub OutputAfter : Status → Option Contents → Option DiskContent → SinkState → SinkState → Type 0
@@ -156,9 +159,9 @@ pub record UpdateRun (old new : Devices) (status : Status) : Type 0 where
   pub no_manifest : status ≡ NoManifest → HasNoManifest old.disk.contents
   pub manifest : needs_no_manifest status ≡ false → HasManifest old.disk.contents
   pub bad_manifest : (fault : ManifestFault) → status ≡ BadManifest fault → HasFault old.disk.contents fault
-  pub not_built : status ≡ NotBuilt → ComesTo old.store.held old.disk.contents outcomes.NotBuilt
-  pub store_fault : status ≡ StoreFault → HasRisen old.store.faults new.store.faults ⊎ LacksLibrary old.store.held old.disk.contents
-  pub store_fault_first : status ≡ StoreFault → AreBegunFine old.disk.contents old.store new.store
+  pub too_large : (nodes bytes : ℕ) → status ≡ TooLarge nodes bytes → ComesTo old.store.held old.disk.contents (outcomes.TooLarge nodes bytes)
+  pub too_many : (count : ℕ) → status ≡ TooMany count → ComesTo old.store.held old.disk.contents (outcomes.TooMany count)
+  pub store_fault : status ≡ StoreFault → HasRisen old.store.faults new.store.faults ⊎ LacksFile old.store.held old.disk.contents
   pub disk_fault : status ≡ DiskFault → HasRisen old.disk.faults new.disk.faults
   pub disk_read_fault : status ≡ DiskFault → old.disk.read_faults < new.disk.read_faults → KeepsAll old.disk new.disk
   pub output_fault : status ≡ OutputFault → HasRisen old.output.faults new.output.faults
@@ -167,8 +170,7 @@ pub record UpdateRun (old new : Devices) (status : Status) : Type 0 where
   pub absent : IfKnown old.disk.contents (λ content. content.now.manifest ≡ None → (status ≡ NoManifest) ⊎ ((status ≡ NoMemory) ⊎ HasRisen old.disk.faults new.disk.faults))
   -- What is left on the devices.
   pub begun : BeginsFiles old.disk.contents old.store new.store
-  pub begun_first : BeginsUpToFirst old.disk.contents old.store new.store
   pub disk : Relates (DiskAfter status old.store.held) old.disk.contents new.disk.contents
-  pub calls : Relates (CallsAfter status) old.disk.calls new.disk.calls
-  pub made : KeepsOthersMade tag Cache old.disk new.disk
+  pub calls : Relates (CallsAfter status old.store.held old.disk.contents) old.disk.calls new.disk.calls
+  pub made : KeepsRestMade tag old.disk new.disk
   pub output : OutputAfter status old.store.held old.disk.contents old.output new.output

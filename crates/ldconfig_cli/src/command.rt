@@ -1,31 +1,32 @@
 //! The top call.
 ghost use Rattle.std.specs.Prelude.{◌≡◌, ◌↔◌, ◌⊎◌, ◌<◌, ◌≤◌, ℕ, List, Some, None, true, false, OnOk, OnErr};
 ghost use Rattle.lib_types.specs.Counts.{HasRisen};
-ghost use Rattle.tree_face.specs.Disk.{KeepsAll, KeepsOthersMade};
+ghost use Rattle.tree_face.specs.Disk.{KeepsAll};
 ghost use Rattle.tree_face.specs.Known.{IfKnown, Relates};
-ghost use Rattle.ldconfig_core.specs.Cache.{IsCacheOf};
+ghost use Rattle.ldconfig_core.specs.Cache.{AreTextsOf, Texts};
+ghost use Rattle.ldconfig_core.specs.Replace.{KeepsRestMade};
 ghost use Rattle.ldconfig_cli.specs.Command.{command_of};
 ghost use Rattle.ldconfig_cli.specs.Devices.{devices, IfBothKnown};
-ghost use Rattle.ldconfig_core.specs.Found.{OwnLibrary};
 ghost use Rattle.ldconfig_core.specs.Manifest.{manifest_of};
 ghost use Rattle.mtree_manifest.specs.declared.fault.ManifestFault.{ManifestFault};
 ghost use Rattle.ldconfig_core.specs.Outcome as outcomes;
 ghost use Rattle.ldconfig_core.specs.Outcome.{outcome};
-ghost use Rattle.ldconfig_cli.specs.Update.{AreBegunFine, BeginsFiles, BeginsUpToFirst, CallsAfter, ComesTo, DiskAfter, HasFault, HasManifest, HasNoManifest, LacksLibrary, OutputBefore, UpdateRun, is_of_update, needs_no_manifest, status_of, tag};
+ghost use Rattle.ldconfig_cli.specs.Update.{BeginsFiles, CallsAfter, ComesTo, DiskAfter, HasFault, HasManifest, HasNoManifest, LacksFile, OutputBefore, UpdateRun, is_of_update, needs_no_manifest, status_of, tag};
 ghost use Rattle.ldconfig_cli.specs.Print.{PrintRun};
 ghost use Rattle.ldconfig_cli.specs.Status.{Says, fault_line, is_fixed};
 ghost use Rattle.ldconfig_cli.specs.Usage.{UsageRun};
-ghost use Rattle.tree_face.specs.Store.{StoreState};
+ghost use Rattle.tree_face.specs.Store.{Contents, StoreState};
+ghost use Rattle.tree_face.specs.Tree.{Nodes};
 ghost use Rattle.tree_face.specs.Stream.{SourceState};
 
 use crate::arguments::{Command, command_of};
 use crate::cache_fault::cache_fault;
 use crate::print::print;
-use crate::status::{Status, manifest_text};
+use crate::status::{Status, count_text, manifest_text};
 use ldconfig_core::Session;
 use lib_types::NoMemory;
 use std::alloc::Global;
-use tree_face::{Disk, Sink, Slot, Source, Store, Tag, put_all};
+use tree_face::{Disk, Sink, Source, Store, Tag, put_all};
 
 // One update, which writes its report but no fault line.
 fn update<S: Store, D: Disk, O: Sink>(
@@ -38,10 +39,11 @@ fn update<S: Store, D: Disk, O: Sink>(
     ensures no_manifest { result ≡ Status.NoManifest → HasNoManifest (D.state disk.old).contents }
     ensures manifest { needs_no_manifest result ≡ false → HasManifest (D.state disk.old).contents }
     ensures bad_manifest { (fault : ManifestFault) → result ≡ Status.BadManifest fault → HasFault (D.state disk.old).contents fault }
-    ensures not_built { result ≡ Status.NotBuilt → ComesTo (S.state store.old).held (D.state disk.old).contents outcomes.NotBuilt }
+    ensures too_large { (nodes bytes : ℕ) → result ≡ Status.TooLarge nodes bytes →
+        ComesTo (S.state store.old).held (D.state disk.old).contents (outcomes.TooLarge nodes bytes) }
+    ensures too_many { (count : ℕ) → result ≡ Status.TooMany count → ComesTo (S.state store.old).held (D.state disk.old).contents (outcomes.TooMany count) }
     ensures store_fault { result ≡ Status.StoreFault → HasRisen (S.state store.old).faults (S.state store.new).faults
-        ⊎ LacksLibrary (S.state store.old).held (D.state disk.old).contents }
-    ensures store_fault_first { result ≡ Status.StoreFault → AreBegunFine (D.state disk.old).contents (S.state store.old) (S.state store.new) }
+        ⊎ LacksFile (S.state store.old).held (D.state disk.old).contents }
     ensures disk_fault { result ≡ Status.DiskFault → HasRisen (D.state disk.old).faults (D.state disk.new).faults }
     ensures disk_read_fault { result ≡ Status.DiskFault →
         (D.state disk.old).read_faults < (D.state disk.new).read_faults → KeepsAll (D.state disk.old) (D.state disk.new) }
@@ -50,12 +52,11 @@ fn update<S: Store, D: Disk, O: Sink>(
         (λ contents content. status_of (outcome contents (manifest_of content.now.manifest)) ≡ Status.Done) }
 
     ensures disk { Relates (DiskAfter result (S.state store.old).held) (D.state disk.old).contents (D.state disk.new).contents }
-    ensures calls { Relates (CallsAfter result) (D.state disk.old).calls (D.state disk.new).calls }
-    ensures made { KeepsOthersMade tag Slot.Cache (D.state disk.old) (D.state disk.new) }
+    ensures calls { Relates (CallsAfter result (S.state store.old).held (D.state disk.old).contents) (D.state disk.old).calls (D.state disk.new).calls }
+    ensures made { KeepsRestMade tag (D.state disk.old) (D.state disk.new) }
     ensures output { OutputBefore result (S.state store.old).held (D.state disk.old).contents (O.state out.old) (O.state out.new) }
     ensures held { (S.state store.new).held ≡ (S.state store.old).held }
     ensures begun { BeginsFiles (D.state disk.old).contents (S.state store.old) (S.state store.new) }
-    ensures begun_first { BeginsUpToFirst (D.state disk.old).contents (S.state store.old) (S.state store.new) }
 
     ensures store_faults { (S.state store.old).faults ≤ (S.state store.new).faults }
     ensures disk_faults { (D.state disk.old).faults ≤ (D.state disk.new).faults }
@@ -86,7 +87,7 @@ fn run_update<S: Store, D: Disk, O: Sink>(
         (devices (S.state store.old) (D.state disk.old) input (O.state out.old))
         (devices (S.state store.new) (D.state disk.new) input (O.state out.new))
         result }
-    ensures made { KeepsOthersMade tag Slot.Cache (D.state disk.old) (D.state disk.new) }
+    ensures made { KeepsRestMade tag (D.state disk.old) (D.state disk.new) }
     ensures held { (S.state store.new).held ≡ (S.state store.old).held }
     ensures store_faults { (S.state store.old).faults ≤ (S.state store.new).faults }
     ensures disk_faults { (D.state disk.old).faults ≤ (D.state disk.new).faults }
@@ -115,7 +116,7 @@ fn run_print<D: Disk, O: Sink>(alloc: Global, disk: &mut D, out: &mut O) -> Stat
     }
 }
 
-// Writes the fault line of a status that has one. That of a manifest or a cache may have a number, so it takes memory.
+// Writes the fault line of a status that has one. That of a manifest, a cache or too many entries may have a number, so it takes memory.
 fn put_fault_line<O: Sink>(alloc: Global, out: &mut O, status: Status) -> Result<(), NoMemory>
     ensures said { OnOk result (Says (fault_line status) (O.state out.old) (O.state out.new)) }
     ensures kept { OnErr result (O.state out.new ≡ O.state out.old) }
@@ -129,6 +130,10 @@ fn put_fault_line<O: Sink>(alloc: Global, out: &mut O, status: Status) -> Result
         }
         Status::BadCache(defect) => {
             let line = cache_fault(alloc, defect)?;
+            let _ = put_all(out, line.as_bytes());
+        }
+        Status::TooMany { count } => {
+            let line = count_text(alloc, count)?;
             let _ = put_all(out, line.as_bytes());
         }
         _ => {
@@ -150,7 +155,8 @@ fn refuse_arguments<O: Sink>(out: &mut O) -> Status
 
 /// Runs the command of these arguments, the program's name not among them.
 ///
-/// `update` makes the cache of the libraries of the manifest's tree, puts it into the Cache slot, and writes a report.
+/// `update` plans the links of the libraries of the manifest's tree, puts them into the Manifest slot, the cache of the entries into
+/// the Cache slot, and writes a report.
 /// `print` writes the entries of the cache as text. Every other status than Done but OutputFault and NoMemory writes its
 /// fault line. Nothing is read from the input.
 pub fn run<S: Store, D: Disk, I: Source, O: Sink>(
@@ -174,10 +180,10 @@ pub fn run<S: Store, D: Disk, I: Source, O: Sink>(
         (devices (S.state store.old) (D.state disk.old) (I.state input.old) (O.state out.old))
         (devices (S.state store.new) (D.state disk.new) (I.state input.new) (O.state out.new))
         result }
-    ensures one_cache { (found : List OwnLibrary) (bytes others : List ℕ) → IsCacheOf found bytes → IsCacheOf found others → bytes ≡ others }
+    ensures one_update { (held : Contents) (t : Nodes) (texts others : Texts) → AreTextsOf held t texts → AreTextsOf held t others → texts ≡ others }
 
     // What no command changes.
-    ensures made { KeepsOthersMade tag Slot.Cache (D.state disk.old) (D.state disk.new) }
+    ensures made { KeepsRestMade tag (D.state disk.old) (D.state disk.new) }
     ensures held { (S.state store.new).held ≡ (S.state store.old).held }
     ensures input { I.state input.new ≡ I.state input.old }
     ensures store_faults { (S.state store.old).faults ≤ (S.state store.new).faults }

@@ -1,6 +1,6 @@
 //! How a command ends.
 ghost use Rattle.std.specs.Prelude.{◌≡◌, true, IfOk};
-ghost use Rattle.ldconfig_cli.specs.Status.{code_of, fault_line, is_fixed, kind_text, line_text, manifest_text, of_load, of_update};
+ghost use Rattle.ldconfig_cli.specs.Status.{code_of, count_text, fault_line, is_fixed, kind_text, line_text, manifest_text, of_load, of_update};
 ghost use Rattle.std.specs.String.{string_bytes};
 
 use cache_reader::CacheDefect;
@@ -22,6 +22,8 @@ pub enum Status {
     NoCache,
     /// The first defect of the cache.
     BadCache(CacheDefect),
+    /// More entries than a cache may have.
+    TooMany { count: u64 },
     /// The store has failed, or doesn't hold a file that had to be read.
     StoreFault,
     /// The disk has failed.
@@ -32,8 +34,8 @@ pub enum Status {
     NoMemory,
     /// The disk has no manifest.
     NoManifest,
-    /// The image asks for what isn't built yet.
-    NotBuilt,
+    /// The tree with the planned links has more nodes than a tree may have, or its manifest more bytes than a manifest may have.
+    TooLarge { nodes: u64, bytes: u64 },
 }
 
 impl Status {
@@ -47,12 +49,13 @@ impl Status {
             Status::BadManifest(_) => 3,
             Status::NoCache => 5,
             Status::BadCache(_) => 6,
+            Status::TooMany { .. } => 9,
             Status::StoreFault => 10,
             Status::DiskFault => 11,
             Status::OutputFault => 13,
             Status::NoMemory => 14,
             Status::NoManifest => 16,
-            Status::NotBuilt => 18,
+            Status::TooLarge { .. } => 17,
         }
     }
 
@@ -66,12 +69,13 @@ impl Status {
             Status::StoreFault => b"fault: StoreFault\n",
             Status::DiskFault => b"fault: DiskFault\n",
             Status::NoManifest => b"fault: NoManifest\n",
-            Status::NotBuilt => b"fault: NotBuilt\n",
+            Status::TooLarge { .. } => b"fault: TooLarge\n",
             Status::Done
             | Status::OutputFault
             | Status::NoMemory
             | Status::BadManifest(_)
-            | Status::BadCache(_) => b"",
+            | Status::BadCache(_)
+            | Status::TooMany { .. } => b"",
         }
     }
 }
@@ -94,9 +98,10 @@ impl From<UpdateFault> for Status {
 
     fn from(fault: UpdateFault) -> Self {
         match fault {
-            UpdateFault::NotBuilt => Status::NotBuilt,
             UpdateFault::StoreFault => Status::StoreFault,
-            UpdateFault::DiskFault => Status::DiskFault,
+            UpdateFault::TooLarge { nodes, bytes } => Status::TooLarge { nodes, bytes },
+            UpdateFault::TooMany { count } => Status::TooMany { count },
+            UpdateFault::DiskFault(_) => Status::DiskFault,
             UpdateFault::NoMemory => Status::NoMemory,
         }
     }
@@ -134,4 +139,12 @@ pub(crate) fn manifest_text(alloc: Global, fault: ManifestFault) -> Result<Strin
         ManifestFault::TooMany { line } => line_text(alloc, line, "TooMany"),
         ManifestFault::NoMemory => Ok(String::new(alloc)),
     }
+}
+
+/// The fault line of too many entries.
+pub(crate) fn count_text(alloc: Global, count: u64) -> Result<String, NoMemory>
+    ensures { IfOk result (λ line. string_bytes line ≡ count_text count) }
+{
+    let line = format!(in alloc; "fault: TooMany {count}\n")?;
+    Ok(line)
 }

@@ -1,34 +1,38 @@
--- What the replacement of the Cache slot leaves.
-use Rattle.std.proofs.Common.{List, ℕ, Option, Some, None}
-use Rattle.tree_face.specs.declared.disk.Slot.TheVariants.{Cache}
+-- What the replacement of the slots by an update's texts leaves.
+use Rattle.std.proofs.Common.{◌≡◌, List, ℕ, Option, Some, None, refl}
+use Rattle.tree_face.specs.declared.disk.DoneCall.{DoneCall}
+use Rattle.tree_face.specs.declared.disk.Slot.{Slot}
+use Rattle.tree_face.specs.declared.disk.Tag.{Tag}
 use Rattle.tree_face.specs.Disk.{DiskContent}
+use Rattle.tree_face.specs.Known.{IfKnown, Relates}
 use Rattle.tree_face.specs.Store.{Contents}
 use Rattle.tree_face.specs.Tree.{Nodes}
-use Rattle.tree_face.specs.Known.{IfKnown, Relates}
-use Rattle.ldconfig_core.specs.Cache.{IsUpdateOf}
-use Rattle.ldconfig_core.specs.Manifest.{HasTree}
-use Rattle.ldconfig_core.specs.Replace.{MayReplace}
-use Rattle.ldconfig_core.specs.Update.{IsReportFor, LeavesUpdate, MayLeaveUpdate}
+use Rattle.ldconfig_core.specs.Cache.{AreTextsOf, Texts}
+use Rattle.ldconfig_core.specs.Outcome.{new_manifest}
+use Rattle.ldconfig_core.specs.Replace.{FailsToReplace, ReplacesBoth, calls_for}
+use Rattle.ldconfig_core.specs.Update.{LeavesUpdate, MakesCalls, MayLeaveUpdate}
 
-module _ (held : Option Contents) (t : Nodes) (cache report : List ℕ) where
-  -- the bytes are the update of the tree
-  abbrev pub IsUpdate : Type 0
-  IsUpdate = IfKnown held (λ contents. IsUpdateOf contents (HasTree t) cache report)
+module _ (held : Option Contents) (t : Nodes) (texts : Texts) (are : IfKnown held (λ contents. AreTextsOf contents t texts)) where
+  pub leaves_update : (tag : ℕ) (a b : Option DiskContent) → Relates (ReplacesBoth tag texts.manifest texts.cache) a b → Relates (LeavesUpdate tag held t texts.report) a b
+  leaves_update tag None None written = tt
+  leaves_update tag None (Some b) written = written
+  leaves_update tag (Some a) None written = written
+  leaves_update tag (Some a) (Some b) written = record { texts = texts; are = are; report_is = refl; written = written }
 
-  pub leaves_update : (Writes : List ℕ → DiskContent → DiskContent → Type 0) (a b : Option DiskContent) → IsUpdate →
-      Relates (Writes cache) a b → Relates (LeavesUpdate Writes held t report) a b
-  leaves_update Writes None None update written = tt
-  leaves_update Writes None (Some b) update written = written
-  leaves_update Writes (Some a) None update written = written
-  leaves_update Writes (Some a) (Some b) update written = record { cache = cache; written = written; is_update = update }
+  pub may_leave_update : (tag : ℕ) (slot : Slot) (a b : Option DiskContent) → Relates (FailsToReplace tag texts.manifest texts.cache slot) a b
+      → Relates (MayLeaveUpdate tag held t slot) a b
+  may_leave_update tag slot None None written = tt
+  may_leave_update tag slot None (Some b) written = written
+  may_leave_update tag slot (Some a) None written = written
+  may_leave_update tag slot (Some a) (Some b) written = record { texts = texts; are = are; written = written }
 
-  pub may_leave_update : (tag : ℕ) (a b : Option DiskContent) → IsUpdate → Relates (MayReplace tag Cache cache) a b → Relates (MayLeaveUpdate tag held t) a b
-  may_leave_update tag None None update written = tt
-  may_leave_update tag None (Some b) update written = written
-  may_leave_update tag (Some a) None update written = written
-  may_leave_update tag (Some a) (Some b) update written = record { report = report; leaves = record { cache = cache; written = written; is_update = update } }
+  is_new : (known : Option Contents) → IfKnown known (λ contents. AreTextsOf contents t texts) → IfKnown known (λ contents. texts.manifest ≡ new_manifest contents t)
+  is_new None are = tt
+  is_new (Some contents) are = are.manifest_is
 
-pub report_for : (held : Option Contents) (t : Nodes) (cache report : List ℕ) → IfKnown held (λ contents. IsUpdateOf contents (HasTree t) cache report) →
-    IfKnown held (λ contents. IsReportFor contents t report)
-report_for None t cache report update = tt
-report_for (Some contents) t cache report update = record { cache = cache; is_update = update }
+  pub makes_calls : (tag : Tag) (P : List DoneCall → List DoneCall → List DoneCall → Type 0) (a b : Option (List DoneCall)) → Relates (P (calls_for tag texts.manifest)) a b
+      → Relates (MakesCalls P tag held t) a b
+  makes_calls tag P None None calls = tt
+  makes_calls tag P None (Some b) calls = calls
+  makes_calls tag P (Some a) None calls = calls
+  makes_calls tag P (Some a) (Some b) calls = record { manifest = texts.manifest; is_new = is_new held are; calls = calls }

@@ -1,5 +1,7 @@
+pub mod Both
 pub mod Calls
+pub mod Known
 pub mod Leaving
-pub mod Listing
-pub mod Short
-pub mod Unique
+pub mod Preparing
+pub mod Searching
+pub mod Single

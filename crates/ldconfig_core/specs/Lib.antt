@@ -1,11 +1,9 @@
 pub mod Cache
-pub mod Entries
 pub mod Faults
-pub mod Found
-pub mod Libraries
+pub mod Image
 pub mod Manifest
 pub mod Outcome
 pub mod Replace
-pub mod Report
 pub mod Session
+pub mod Stages
 pub mod Update

@@ -1,93 +1,69 @@
 -- What an update of a manifest comes to, for given contents.
-use Rattle.std.specs.Prelude.{ℕ, ◌+◌, min, Bool, false, List, [], ◌∷◌, ◌||◌, not, nat_lt, if◌then◌else◌, length, map, codes, Option, Some, None, is_none, unwrap_or}
-use Rattle.std.specs.List.{list_any, filter_map, prefix_len}
-use Rattle.std.specs.Str.{bytes_eq}
-use Rattle.lib_types.specs.declared.analysis.Analysis.{Analysis}
-use Rattle.lib_types.specs.declared.analysis.Analysis.TheVariants.{Lib}
+use Rattle.std.specs.Prelude.{ℕ, Bool, false, List, [], ◌∷◌, nat_lt, if◌then◌else◌, length, Option, Some, None}
+use Rattle.cache_writer.specs.declared.writer.TheConstants.{ENTRIES_MAX}
+use Rattle.mtree_manifest.specs.Canon.{canon}
 use Rattle.mtree_manifest.specs.declared.fault.ManifestFault.{ManifestFault}
-use Rattle.path_walk.specs.Walk.{resolution}
-use Rattle.path_walk.specs.declared.walk.Mode.TheVariants.{Plain}
-use Rattle.std.specs.Result.{is_ok}
+use Rattle.mtree_manifest.specs.declared.fault.TheConstants.{TEXT_MAX}
+use Rattle.soname_links.specs.Apply.{nodes_with}
+use Rattle.soname_links.specs.declared.kinds.Planned.{Planned}
 use Rattle.tree_face.specs.Store.{Contents}
 use Rattle.tree_face.specs.Tree.{Nodes}
-use Rattle.elf_dynamic.specs.Analysis.{analysis}
-use Rattle.ldconfig_core.specs.Found.{Analysed}
-use Rattle.ldconfig_core.specs.Libraries.{NamedFile, libraries, has_library_links}
+use Rattle.ldconfig_core.specs.Image.{conf_in, wanted_in, links_in, planned_in, files_in, entries_in, has_too_many_nodes}
 use Rattle.ldconfig_core.specs.Manifest.{Manifest, Empty, Faulty, HasTree}
-use Rattle.cache_writer.specs.declared.writer.TheConstants.{ENTRIES_MAX}
 
 pub data Outcome : Type 0 where
   -- there is no manifest
   NoManifest : Outcome
   -- the manifest has no tree
   BadManifest : ManifestFault → Outcome
-  -- the image asks for what isn't built yet
-  NotBuilt : Outcome
-  -- the content of a library file isn't held
+  -- the content of a conf file or of a library file isn't held
   Lacking : Outcome
-  -- a cache of the libraries among these files
-  Writes : List Analysed → Outcome
+  -- the tree with the planned links has more nodes than a tree may have, or its manifest more bytes than a manifest may have
+  TooLarge : ℕ → ℕ → Outcome
+  -- there are more entries than a cache may have
+  TooMany : ℕ → Outcome
+  -- the cache is written, and the manifest too if links are planned
+  Writes : Outcome
 
--- paths that ldconfig(8) reads too
-abbrev pub other_places : List (List ℕ)
-other_places =
-    codes "/etc/ld.so.conf" ∷ codes "/lib" ∷ codes "/lib64" ∷ codes "/usr/lib64" ∷ codes "/usr/lib/glibc-hwcaps" ∷ []
+-- the manifest that is written for these links and the tree with them
+abbrev pub manifest_with : Nodes → List Planned → Option (List ℕ)
+manifest_with t [] = None
+manifest_with t (planned ∷ plan) = Some (canon t)
 
-abbrev pub is_there : Nodes → List ℕ → Bool
-is_there t path = is_ok (resolution t path Plain)
+unfoldable pub new_manifest : Contents → Nodes → Option (List ℕ)
+new_manifest held t = manifest_with (planned_in held t) (links_in held t)
 
-abbrev pub has_other_places : Nodes → Bool
-has_other_places t = list_any (is_there t) other_places
+abbrev pub is_too_long : Option (List ℕ) → Bool
+is_too_long None = false
+is_too_long (Some text) = nat_lt TEXT_MAX (length text)
 
--- the image has what isn't built: another folder, more library files than a cache may have entries, or a library's link
-abbrev pub is_unbuilt : Nodes → Bool
-is_unbuilt t = has_other_places t || nat_lt ENTRIES_MAX (length (libraries t)) || has_library_links t
+abbrev pub size_of : Option (List ℕ) → ℕ
+size_of None = 0
+size_of (Some text) = length text
 
--- a library whose soname isn't the name of its file
-abbrev pub has_another_name : List ℕ → Analysis → Bool
-has_another_name name (Lib abi (Some soname)) = not (bytes_eq soname name)
-has_another_name name _ = false
+-- why no cache is written, if the condition holds
+abbrev pub Refusal : Type 0
+Refusal = Bool × Outcome
 
--- why a library file stops the update
-abbrev pub fault_by : List ℕ → Option (List ℕ) → Option Outcome
-fault_by name None = Some Lacking
-fault_by name (Some bytes) = if has_another_name name (analysis bytes) then Some NotBuilt else None
+abbrev pub refusals : Contents → Nodes → List Refusal
+refusals held t =
+    ((conf_in held t).lacks, Lacking)
+    ∷ ((wanted_in held t).lacks, Lacking)
+    ∷ (has_too_many_nodes held t, TooLarge (nodes_with t (links_in held t)) 0)
+    ∷ ((files_in held t).lacks, Lacking)
+    ∷ (is_too_long (new_manifest held t), TooLarge (length (planned_in held t)) (size_of (new_manifest held t)))
+    ∷ (nat_lt ENTRIES_MAX (length (entries_in held t)), TooMany (length (entries_in held t)))
+    ∷ []
 
-abbrev pub fault_of : Contents → NamedFile → Option Outcome
-fault_of held file = fault_by file.name (held file.key)
+-- the first whose condition holds
+abbrev pub first_refusal : List Refusal → Outcome
+first_refusal [] = Writes
+first_refusal (refusal ∷ rest) = if refusal.0 then refusal.1 else first_refusal rest
 
-abbrev pub is_fine : Contents → NamedFile → Bool
-is_fine held file = is_none (fault_of held file)
-
-abbrev pub first : {A : Type 0} → List A → Option A
-first [] = None
-first (x ∷ rest) = Some x
-
--- the first file in the order of their names that stops the update
-abbrev pub first_fault : Contents → List NamedFile → Option Outcome
-first_fault held found = first (filter_map (fault_of held) found)
-
--- ---- what the files are
-
-abbrev pub analysis_in : Contents → NamedFile → Analysis
-analysis_in held file = analysis (unwrap_or (held file.key) [])
-
-abbrev pub analysed_by : Contents → NamedFile → Analysed
-analysed_by held file = record { file = file; analysis = analysis_in held file }
-
--- ---- the whole
-
--- the library files that an update reads: those of a tree that is built
-abbrev pub files_to_read : Manifest → List NamedFile
-files_to_read (HasTree t) = if is_unbuilt t then [] else libraries t
-files_to_read (Faulty fault) = []
-files_to_read Empty = []
-
--- of these files an update begins those up to and with the first that stops it
-abbrev pub begun_of : Contents → List NamedFile → ℕ
-begun_of held files = min (length files) (prefix_len (is_fine held) files + 1)
+unfoldable pub update_outcome : Contents → Nodes → Outcome
+update_outcome held t = first_refusal (refusals held t)
 
 abbrev pub outcome : Contents → Manifest → Outcome
 outcome held Empty = NoManifest
 outcome held (Faulty fault) = BadManifest fault
-outcome held (HasTree t) = if is_unbuilt t then NotBuilt else unwrap_or (first_fault held (libraries t)) (Writes (map (analysed_by held) (libraries t)))
+outcome held (HasTree t) = update_outcome held t

@@ -1,37 +1,71 @@
--- What an update leaves on the disk, and what it begins in the store.
-use Rattle.std.specs.Prelude.{◌≡◌, ◌-◌, ℕ, true, List, Option, take}
-use Rattle.std.specs.List.{list_all}
-use Rattle.tree_face.specs.declared.disk.Slot.TheVariants.{Cache}
+-- What an update leaves on the disk, and what it returns.
+use Rattle.std.specs.Prelude.{◌≡◌, ℕ, List, Option, length}
+use Rattle.tree_face.specs.declared.disk.DoneCall.{DoneCall}
+use Rattle.tree_face.specs.declared.disk.Slot.{Slot}
+use Rattle.tree_face.specs.declared.disk.Tag.{Tag}
 use Rattle.tree_face.specs.Disk.{DiskContent}
 use Rattle.tree_face.specs.Known.{IfKnown}
-use Rattle.tree_face.specs.Store.{Contents, StoreState}
+use Rattle.tree_face.specs.Store.{Contents}
 use Rattle.tree_face.specs.Tree.{Nodes}
-use Rattle.ldconfig_core.specs.Cache.{IsUpdateOf}
-use Rattle.ldconfig_core.specs.Libraries.{NamedFile}
-use Rattle.ldconfig_core.specs.Manifest.{HasTree}
-use Rattle.ldconfig_core.specs.Outcome.{Outcome, outcome, is_fine}
-use Rattle.ldconfig_core.specs.Replace.{MayReplace}
+use Rattle.ldconfig_core.specs.Cache.{AreTextsOf, Texts}
+use Rattle.ldconfig_core.specs.Image.{begun_in, links_in, entries_in, files_in}
+use Rattle.ldconfig_core.specs.Manifest.{Manifest, Empty, Faulty, HasTree}
+use Rattle.ldconfig_core.specs.Outcome.{Outcome, outcome, new_manifest}
+use Rattle.ldconfig_core.specs.Replace.{FailsToReplace, ReplacesBoth, calls_for}
+use Rattle.ldconfig_core.specs.declared.report.Report.{Report}
 
 -- what the update of a tree comes to, if the store's contents are known
 abbrev pub ComesTo : Option Contents → Nodes → Outcome → Type 0
 ComesTo held t end = IfKnown held (λ contents. outcome contents (HasTree t) ≡ end)
 
--- the cache of the tree's libraries is written, as this relation says of bytes, and this is the report of their files
-pub record LeavesUpdate (Writes : List ℕ → DiskContent → DiskContent → Type 0) (held : Option Contents) (t : Nodes) (report : List ℕ) (a b : DiskContent) : Type 0 where
-  pub cache : List ℕ
-  pub written : Writes cache a b
-  pub is_update : IfKnown held (λ contents. IsUpdateOf contents (HasTree t) cache report)
+-- the texts are those of the update of a tree, if the store's contents are known
+abbrev pub AreTexts : Option Contents → Nodes → Texts → Type 0
+AreTexts held t texts = IfKnown held (λ contents. AreTextsOf contents t texts)
 
--- a replacement by the cache of the tree's libraries failed
-pub record MayLeaveUpdate (tag : ℕ) (held : Option Contents) (t : Nodes) (a b : DiskContent) : Type 0 where
-  pub report : List ℕ
-  pub leaves : LeavesUpdate (MayReplace tag Cache) held t report a b
+-- the slots are replaced by the texts of the tree's update, and this is its report
+pub record LeavesUpdate (tag : ℕ) (held : Option Contents) (t : Nodes) (report : List ℕ) (a b : DiskContent) : Type 0 where
+  pub texts : Texts
+  pub are : AreTexts held t texts
+  pub report_is : texts.report ≡ report
+  pub written : ReplacesBoth tag texts.manifest texts.cache a b
 
--- the report of the update of a tree
-pub record IsReportFor (contents : Contents) (t : Nodes) (report : List ℕ) : Type 0 where
-  pub cache : List ℕ
-  pub is_update : IsUpdateOf contents (HasTree t) cache report
+-- the replacement of this slot by the texts of the tree's update failed
+pub record MayLeaveUpdate (tag : ℕ) (held : Option Contents) (t : Nodes) (slot : Slot) (a b : DiskContent) : Type 0 where
+  pub texts : Texts
+  pub are : AreTexts held t texts
+  pub written : FailsToReplace tag texts.manifest texts.cache slot a b
 
--- the files that were begun are fine, but for the last of them
-abbrev pub AreFineBefore : Contents → List NamedFile → StoreState → StoreState → Type 0
-AreFineBefore contents files old new = list_all (is_fine contents) (take (new.begun - old.begun - 1) files) ≡ true
+-- the writing calls are those of the two replacements
+pub record MakesCalls (P : List DoneCall → List DoneCall → List DoneCall → Type 0) (tag : Tag) (held : Option Contents) (t : Nodes) (a b : List DoneCall) : Type 0 where
+  pub manifest : Option (List ℕ)
+  pub is_new : IfKnown held (λ contents. manifest ≡ new_manifest contents t)
+  pub calls : P (calls_for tag manifest) a b
+
+-- the report and its numbers are those of the update of a tree
+pub record IsReportFor (contents : Contents) (t : Nodes) (report : Report) : Type 0 where
+  pub texts : Texts
+  pub are : AreTextsOf contents t texts
+  pub text_is : report.text ≡ texts.report
+  pub libs : report.libs ≡ length (entries_in contents t)
+  pub links : report.links ≡ length (links_in contents t)
+  pub opened : report.opened ≡ (files_in contents t).begun
+
+-- ---- by the manifest
+
+-- the texts of the update of a manifest that has a tree
+abbrev pub AreTextsFor : Contents → Manifest → Texts → Type 0
+AreTextsFor held (HasTree t) texts = AreTextsOf held t texts
+AreTextsFor held (Faulty fault) texts = ⊥
+AreTextsFor held Empty texts = ⊥
+
+-- the manifest that the update of a manifest with a tree writes, if any
+abbrev pub IsNewManifest : Contents → Manifest → Option (List ℕ) → Type 0
+IsNewManifest held (HasTree t) manifest = manifest ≡ new_manifest held t
+IsNewManifest held (Faulty fault) manifest = ⊥
+IsNewManifest held Empty manifest = ⊥
+
+-- how many files are begun for a manifest
+abbrev pub begun_for : Contents → Manifest → ℕ
+begun_for held (HasTree t) = begun_in held t
+begun_for held (Faulty fault) = 0
+begun_for held Empty = 0

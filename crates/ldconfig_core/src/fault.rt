@@ -1,35 +1,58 @@
 //! Why an image isn't loaded or updated.
 ghost use Rattle.std.specs.Prelude.{◌≡◌};
-ghost use Rattle.ldconfig_core.specs.Faults.{of_manifest, of_reading};
+ghost use Rattle.ldconfig_core.specs.Faults.{of_apply, of_conf, of_entries, of_manifest, of_reading};
 ghost use Rattle.ldconfig_core.specs.declared.fault.UpdateFault.TheVariants as update_faults;
 
 use elf_dynamic::AnalyseFault;
+use ldso_conf::ConfFault;
 use lib_types::NoMemory;
 use mtree_manifest::ManifestFault;
+use soname_links::{ApplyFault, EntryFault};
 use std::alloc::{AllocError, AllocFailed};
-use tree_face::Slot;
+use thiserror::Error;
+use tree_face::{Call, Slot};
 
 /// Why an image isn't loaded.
-#[derive(Clone, Copy, Debug, PartialEq, Eq)]
+#[derive(Clone, Copy, Debug, PartialEq, Eq, Error)]
 pub enum LoadFault {
     /// A slot can't be read.
+    #[error("a slot of the disk can't be read")]
     DiskFailed { slot: Slot },
     /// The Manifest slot holds nothing.
+    #[error("there is no manifest")]
     NoManifest,
     /// The manifest has no tree. This fault is never NoMemory.
+    #[error("the manifest has no tree")]
     BadManifest(ManifestFault),
+    #[error("out of memory")]
     NoMemory,
 }
 
-/// Why an image isn't updated.
+/// The writing call that failed.
 #[derive(Clone, Copy, Debug, PartialEq, Eq)]
+pub struct DiskFault {
+    pub call: Call,
+    /// The slot that was to be replaced.
+    pub slot: Slot,
+}
+
+/// Why an image isn't updated.
+#[derive(Clone, Copy, Debug, PartialEq, Eq, Error)]
 pub enum UpdateFault {
-    /// The image has what isn't built yet.
-    NotBuilt,
-    /// A library file can't be read.
+    /// A conf file or a library file can't be read.
+    #[error("the content of a file can't be read")]
     StoreFault,
+    /// The tree with the planned links has more nodes than a tree may have, or its manifest more bytes than a manifest may have.
+    /// The bytes are 0 where the nodes are too many.
+    #[error("the image is too large with its planned links")]
+    TooLarge { nodes: u64, bytes: u64 },
+    /// More entries than a cache may have.
+    #[error("the cache has too many entries")]
+    TooMany { count: u64 },
     /// A writing call failed.
-    DiskFault,
+    #[error("a slot of the disk can't be written")]
+    DiskFault(DiskFault),
+    #[error("out of memory")]
     NoMemory,
 }
 
@@ -68,6 +91,17 @@ impl<T: Drop> From<AllocFailed<T>> for UpdateFault {
     }
 }
 
+impl From<ConfFault> for UpdateFault {
+    ghost from_gives = { λ fault e. e ≡ of_conf fault };
+
+    fn from(fault: ConfFault) -> Self {
+        match fault {
+            ConfFault::StoreFault => UpdateFault::StoreFault,
+            ConfFault::NoMemory => UpdateFault::NoMemory,
+        }
+    }
+}
+
 impl From<AnalyseFault> for UpdateFault {
     ghost from_gives = { λ fault e. e ≡ of_reading fault };
 
@@ -75,6 +109,28 @@ impl From<AnalyseFault> for UpdateFault {
         match fault {
             AnalyseFault::StoreFault => UpdateFault::StoreFault,
             AnalyseFault::NoMemory => UpdateFault::NoMemory,
+        }
+    }
+}
+
+impl From<ApplyFault> for UpdateFault {
+    ghost from_gives = { λ fault e. e ≡ of_apply fault };
+
+    fn from(fault: ApplyFault) -> Self {
+        match fault {
+            ApplyFault::TooLarge { nodes } => UpdateFault::TooLarge { nodes, bytes: 0 },
+            ApplyFault::NoMemory => UpdateFault::NoMemory,
+        }
+    }
+}
+
+impl From<EntryFault> for UpdateFault {
+    ghost from_gives = { λ fault e. e ≡ of_entries fault };
+
+    fn from(fault: EntryFault) -> Self {
+        match fault {
+            EntryFault::TooMany { count } => UpdateFault::TooMany { count },
+            EntryFault::NoMemory => UpdateFault::NoMemory,
         }
     }
 }

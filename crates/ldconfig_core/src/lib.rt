@@ -1,17 +1,18 @@
-//! An image that is loaded, and its update: the cache of its libraries and the report.
+//! An image that is loaded, and its update: the links of its libraries, the cache of their entries, and the report.
 #![tactic(auto)]
 
-mod check;
-mod entries;
 mod fault;
+mod finding;
+mod following;
 mod image;
-mod libraries;
+mod planning;
 mod prepare;
 mod replace;
 mod report;
+mod search;
 mod session;
 
-pub use fault::{LoadFault, UpdateFault};
+pub use fault::{DiskFault, LoadFault, UpdateFault};
 pub use image::update;
 pub use report::Report;
 pub use session::Session;

@@ -1,103 +1,146 @@
-//! What an update is about to write, made before it writes.
-ghost use Rattle.std.specs.Prelude.{◌≡◌, ◌⊎◌, ◌≤◌, None, Some, All, length, map, true, false, IfOk, IfErr, IsErrOf, OnOk, IsSomeAnd, MatchResult};
+//! What an update is about to write.
+ghost use Rattle.std.specs.Prelude.{◌≡◌, ◌⊎◌, ◌<◌, ◌≤◌, ℕ, false, true, length, IfErr, IfOk, IsErrOf, IsSomeAnd, IsTrue};
 ghost use Rattle.lib_types.specs.Counts.{HasRisen};
 ghost use Rattle.tree_face.specs.Known.{IfKnown};
 ghost use Rattle.tree_face.specs.Store.{BeginsAtMost};
-ghost use Rattle.ldconfig_core.specs.Cache.{IsCacheOf, IsReport, IsUpdateOf};
-ghost use Rattle.ldconfig_core.specs.Entries.{own_library};
-ghost use Rattle.ldconfig_core.specs.Found.{analysed_in, libraries_among};
-ghost use Rattle.ldconfig_core.specs.Libraries.{libraries, seen};
-ghost use Rattle.ldconfig_core.specs.Manifest.{HasTree};
+ghost use Rattle.ldconfig_core.specs.Cache.{IsReport, AreTextsOf};
+ghost use Rattle.cache_writer.specs.declared.writer.TheConstants.{ENTRIES_MAX};
+ghost use Rattle.hwcap_dirs.specs.Places.{are_spelled};
+ghost use Rattle.ldconfig_core.specs.Faults.{is_of_making, is_of_preparing, is_size_fault};
+ghost use Rattle.ldconfig_core.specs.Image.{begun_in, planned_in};
 ghost use Rattle.ldconfig_core.specs.Outcome as outcomes;
-ghost use Rattle.ldconfig_core.specs.Outcome.{outcome, files_to_read, begun_of, is_unbuilt};
-ghost use Rattle.ldconfig_core.specs.Faults.{IsOrNoMemory, IsOfPreparing};
-ghost use Rattle.ldconfig_core.specs.Report.{report_of};
-ghost use Rattle.ldconfig_core.specs.Update.{AreFineBefore, ComesTo};
+ghost use Rattle.ldconfig_core.specs.Outcome.{is_too_long, manifest_with, size_of, update_outcome};
+ghost use Rattle.ldconfig_core.specs.Replace.{manifest_bytes};
+ghost use Rattle.ldconfig_core.specs.Stages.{entries_of, said_of, texts_of, IsMadeOf};
+ghost use Rattle.ldconfig_core.specs.Update.{IsReportFor};
+ghost use Rattle.update_report.specs.Report.{report_text};
 
-use crate::check::{AnalysedFile, check_libraries, has_other_places, libraries_among};
-use crate::entries::{Library, entries};
 use crate::fault::UpdateFault;
-use crate::libraries::{LibraryFile, has_links_in, libraries_in, library_prefix};
-use crate::report::{Report, report_of};
-use cache_writer::ENTRIES_MAX;
-use lib_types::NoMemory;
+use crate::finding::{Found, find};
+use crate::report::Report;
+use lib_types::{Entries, NoMemory};
+use mtree_manifest::TEXT_MAX;
+use soname_links::kinds::Plan;
+use soname_links::{entries, union};
 use std::alloc::Global;
-use tree_face::{PATH_MAX, Store, Tree};
+use tree_face::{Store, Tree};
+use update_report::{Findings, report, skips};
 
-/// What an update is about to write.
+/// What an update is about to write, and its report.
 #[derive(Drop)]
 pub struct Prepared {
+    /// The new manifest, if links are planned.
+    pub manifest: Option<Vec<u8>>,
     pub cache: Vec<u8>,
     pub report: Report,
 }
 
-// The cache of these libraries.
-#[tactic(auto, using(crate::proofs::Listing::as_many, crate::proofs::Listing::short_sonames, crate::proofs::Listing::short_paths, crate::proofs::Listing::plain_entries))]
-fn cache_of(alloc: Global, libraries: Vec<Library<'_>>) -> Result<Vec<u8>, NoMemory>
-    requires few { length libraries.items ≤ ENTRIES_MAX }
-    requires short { All (λ library. length library.name ≤ PATH_MAX) (map own_library libraries.items) }
-    ensures { IfOk result (λ cache. IsCacheOf (map own_library libraries.entry.items) cache.items) }
+// The manifest of the tree with these links, if there are any.
+fn new_manifest(alloc: Global, tree: &Tree, plan: &Plan) -> Result<Option<Vec<u8>>, UpdateFault>
+    ensures text { IfOk result (λ text. manifest_bytes text ≡ manifest_with tree.now plan.now) }
+    ensures short { IfOk result (λ _. is_too_long (manifest_with tree.now plan.now) ≡ false) }
+    ensures too_large { (nodes bytes : ℕ) → IsErrOf result (UpdateFault.TooLarge nodes bytes) →
+        (nodes ≡ length tree.now) × ((bytes ≡ size_of (manifest_with tree.now plan.now)) × (is_too_long (manifest_with tree.now plan.now) ≡ true)) }
+    ensures others { IfErr result (λ fault. is_size_fault fault ≡ true) }
 {
-    let entries = entries(alloc, libraries)?;
-    cache_writer::write(alloc, &entries)
-}
-
-// The cache of the libraries among these files, and the report.
-#[tactic(auto, using(crate::proofs::Listing::few_among, crate::proofs::Listing::short_among))]
-fn prepare_files(alloc: Global, files: &[AnalysedFile<'_>]) -> Result<Prepared, NoMemory>
-    requires few { length files.now ≤ ENTRIES_MAX }
-    requires short { All (λ file. length file.name ≤ PATH_MAX) (map (λ a. seen a.file) files.now) }
-    ensures cache { IfOk result (λ prepared. IsCacheOf (libraries_among (map analysed_in files.now)) prepared.cache.items) }
-    ensures report { IfOk result (λ prepared. prepared.report.text ≡ report_of (map analysed_in files.now)) }
-{
-    let libraries = libraries_among(alloc, files)?;
-    let report = report_of(alloc, files, libraries.len())?;
-    let cache = cache_of(alloc, libraries)?;
-    Ok(Prepared { cache, report })
-}
-
-// The library files of a tree that is built.
-#[tactic(auto, unfolding(crate::specs::Libraries::libraries, crate::specs::Libraries::has_library_links))]
-fn find_libraries<'a>(alloc: Global, tree: &'a Tree) -> Result<Vec<LibraryFile<'a>>, UpdateFault>
-    ensures found { IfOk result (λ found. map seen found.items ≡ libraries tree.now) }
-    ensures built { OnOk result (is_unbuilt tree.now ≡ false) }
-    ensures few { IfOk result (λ found. length found.items ≤ ENTRIES_MAX) }
-    ensures short { IfOk result (λ found. All (λ file. length file.name ≤ PATH_MAX) (map seen found.items)) }
-    ensures not_built { IsErrOf result UpdateFault.NotBuilt → is_unbuilt tree.now ≡ true }
-    ensures refusals { IfErr result (IsOrNoMemory UpdateFault.NotBuilt) }
-{
-    if has_other_places(alloc, tree)? {
-        return Err(UpdateFault::NotBuilt);
+    if plan.is_empty() {
+        return Ok(None);
     }
-    let Some(prefix) = library_prefix(alloc, tree)? else {
-        return Ok(Vec::new(alloc));
-    };
-    let found = libraries_in(alloc, tree, &prefix)?;
-    if found.len() > ENTRIES_MAX || has_links_in(tree, &prefix) {
-        return Err(UpdateFault::NotBuilt);
+    let text = mtree_manifest::write(alloc, tree)?;
+    if text.len() > TEXT_MAX {
+        return Err(UpdateFault::TooLarge {
+            nodes: tree.len() as u64,
+            bytes: text.len() as u64,
+        });
     }
-    Ok(found)
+    Ok(Some(text))
 }
 
-/// What the update of a tree is about to write.
-pub fn prepare<S: Store>(alloc: Global, store: &mut S, tree: &Tree) -> Result<Prepared, UpdateFault>
-    ensures update { IfOk result (λ prepared. IfKnown (S.state store.old).held
-        (λ contents. IsUpdateOf contents (HasTree tree.now) prepared.cache.items prepared.report.text)) }
+// The report of what was found.
+fn report_of(alloc: Global, found: &Found, entries: &Entries) -> Result<Report, NoMemory>
+    ensures text { IfOk result (λ report. report.text ≡ report_text (said_of found.now entries.now)) }
+    ensures libs { IfOk result (λ report. report.libs ≡ length entries.now) }
+    ensures links { IfOk result (λ report. report.links ≡ length found.now.links.plan) }
+    ensures opened { IfOk result (λ report. report.opened ≡ found.now.search.files.begun) }
+{
+    let search = &found.search;
+    let files = union(alloc, &search.wanted, &found.followed.reached)?;
+    let skips = skips(alloc, &search.files.table, &files)?;
+    let text = report(
+        alloc,
+        &Findings {
+            conf: &search.conf.reports,
+            dirs: &search.dirs,
+            plan: &found.links.plan,
+            blocked: &found.links.blocked,
+            mixed: &found.links.mixed,
+            skips: &skips,
+            dangling: &found.followed.dangling,
+            entries,
+            opened: search.files.begun,
+        },
+    )?;
+    Ok(Report {
+        text,
+        libs: count(entries.len())?,
+        links: count(found.links.plan.len())?,
+        opened: search.files.begun as u64,
+    })
+}
+
+fn count(items: usize) -> Result<u32, NoMemory>
+    ensures { IfOk result (λ n. n ≡ items) }
+{
+    match u32::try_from(items) {
+        Ok(n) => Ok(n),
+        Err(_) => Err(NoMemory),
+    }
+}
+
+// Makes what is written of what was found in the tree with its planned links.
+fn make(alloc: Global, tree: &Tree, found: &Found) -> Result<Prepared, UpdateFault>
+    requires { IsTrue (are_spelled found.now.search.dirs.places) }
+    ensures made { IfOk result (IsMadeOf found.now tree.now) }
+    ensures too_large { (nodes bytes : ℕ) → IsErrOf result (UpdateFault.TooLarge nodes bytes) →
+        (nodes ≡ length tree.now) × ((bytes ≡ size_of (manifest_with tree.now found.now.links.plan)) × (is_too_long (manifest_with tree.now found.now.links.plan) ≡ true)) }
+    ensures too_many { (count : ℕ) → IsErrOf result (UpdateFault.TooMany count) →
+        (is_too_long (manifest_with tree.now found.now.links.plan) ≡ false) × ((count ≡ length (entries_of found.now tree.now)) × (ENTRIES_MAX < count)) }
+    ensures others { IfErr result (λ fault. is_of_making fault ≡ true) }
+{
+    let manifest = new_manifest(alloc, tree, &found.links.plan)?;
+    let entries = entries(alloc, tree, &found.search.dirs, &found.search.files.table)?;
+    let cache = cache_writer::write(alloc, &entries)?;
+    let report = report_of(alloc, found, &entries)?;
+    Ok(Prepared {
+        manifest,
+        cache,
+        report,
+    })
+}
+
+/// Makes what the update of a tree writes, and puts the planned links into the tree.
+pub fn prepare<S: Store>(
+    alloc: Global,
+    tree: &mut Tree,
+    store: &mut S,
+) -> Result<Prepared, UpdateFault>
+    ensures tree { IfOk result (λ _. IfKnown (S.state store.old).held (λ held. tree.new ≡ planned_in held tree.old)) }
+    ensures texts { IfOk result (λ prepared. IfKnown (S.state store.old).held (λ held. AreTextsOf held tree.old (texts_of prepared))) }
     ensures report { IfOk result (λ prepared. IsReport prepared.report.text) }
-    ensures not_built { IsErrOf result UpdateFault.NotBuilt → ComesTo (S.state store.old).held tree.now outcomes.NotBuilt }
+    ensures report_of { IfOk result (λ prepared. IfKnown (S.state store.old).held (λ held. IsReportFor held tree.old prepared.report)) }
     ensures store_fault { IsErrOf result UpdateFault.StoreFault → HasRisen (S.state store.old).faults (S.state store.new).faults
-        ⊎ IsSomeAnd (S.state store.old).held (λ contents. outcome contents (HasTree tree.now) ≡ outcomes.Lacking) }
-    ensures fine { IsErrOf result UpdateFault.StoreFault →
-        IfKnown (S.state store.old).held (λ held. AreFineBefore held (files_to_read (HasTree tree.now)) (S.state store.old) (S.state store.new)) }
-    ensures others { IfErr result IsOfPreparing }
+        ⊎ IsSomeAnd (S.state store.old).held (λ held. update_outcome held tree.old ≡ outcomes.Lacking) }
+    ensures too_large { (nodes bytes : ℕ) → IsErrOf result (UpdateFault.TooLarge nodes bytes) →
+        IfKnown (S.state store.old).held (λ held. update_outcome held tree.old ≡ outcomes.TooLarge nodes bytes) }
+    ensures too_many { (count : ℕ) → IsErrOf result (UpdateFault.TooMany count) →
+        IfKnown (S.state store.old).held (λ held. update_outcome held tree.old ≡ outcomes.TooMany count) }
+    ensures writes { IfOk result (λ _. IfKnown (S.state store.old).held (λ held. update_outcome held tree.old ≡ outcomes.Writes)) }
+    ensures others { IfErr result (λ fault. is_of_preparing fault ≡ true) }
     ensures held { (S.state store.new).held ≡ (S.state store.old).held }
-    ensures begun { BeginsAtMost (length (files_to_read (HasTree tree.now))) (S.state store.old) (S.state store.new) }
-    ensures begun_first { IfKnown (S.state store.old).held
-        (λ held. BeginsAtMost (begun_of held (files_to_read (HasTree tree.now))) (S.state store.old) (S.state store.new)) }
     ensures faults { (S.state store.old).faults ≤ (S.state store.new).faults }
+    ensures begun { IfKnown (S.state store.old).held (λ held. BeginsAtMost (begun_in held tree.old) (S.state store.old) (S.state store.new)) }
 {
-    let found = find_libraries(alloc, tree)?;
-    let files = check_libraries(alloc, store, &found)?;
-    let prepared = prepare_files(alloc, &files)?;
+    let found = find(alloc, tree, store)?;
+    let prepared = make(alloc, tree, &found)?;
     Ok(prepared)
 }

@@ -12,7 +12,7 @@ onto_front : (x : ℕ) (a b : List (List ℕ)) → 0 < length a → onto_first x
 onto_front x [] b h = absurd (omega arith)
 onto_front x (part ∷ a) b h = refl
 
-parts_joined : (xs ys : List ℕ) → slice_split is_slash (xs ++ slash ∷ ys) ≡ slice_split is_slash xs ++ slice_split is_slash ys
+pub parts_joined : (xs ys : List ℕ) → slice_split is_slash (xs ++ slash ∷ ys) ≡ slice_split is_slash xs ++ slice_split is_slash ys
 parts_joined [] ys = slice_split-cons_yes is_slash slash ys refl
 parts_joined (x ∷ xs) ys = by_test (is_slash x)
     (λ e.

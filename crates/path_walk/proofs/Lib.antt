@@ -1,3 +1,4 @@
 mod Folders
-mod Joining
+pub mod Joining
+pub mod NoNul
 mod Walks

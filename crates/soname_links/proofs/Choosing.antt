@@ -1,5 +1,5 @@
 -- One library more among the best ones.
-use Rattle.std.proofs.Common.{◌≡◌, ℕ, Bool, true, false, cond, List, [], ◌∷◌, map, refl, ap, sym, subst, ◌∙◌, Option, Some, None}
+use Rattle.std.proofs.Common.{◌≡◌, ℕ, Bool, true, false, cond, List, ◌∷◌, refl, ap, sym, subst, ◌∙◌, Option, Some, None}
 use Rattle.std.proofs.lemmas.Slice.Eq.{bytes_eq-Decides}
 use Rattle.std.specs.BTreeMap.{is_at}
 use Rattle.std.specs.Cmp.Lexicographic.{nat_list_cmp_total, slice_cmp, texts_ties}
@@ -11,7 +11,7 @@ use Rattle.std.specs.Ordering.{nat_cmp}
 use Rattle.std.specs.Str.{bytes_eq}
 use Rattle.lib_types.proofs.SortedPairs.{by_test}
 use Rattle.soname_links.specs.Best.{best, bests, better, has_soname, is_better, sonames}
-use Rattle.soname_links.specs.Order.{ascending, with_text}
+use Rattle.soname_links.specs.Order.{with_text}
 use Rattle.soname_links.specs.declared.kinds.Library.{Library}
 use Rattle.soname_links.proofs.Ordered.{by_keys, filtered_same, keys_stay}
 

@@ -1,20 +1,15 @@
 -- The name of a file as the text of a link, and the links of a plan.
-use Rattle.std.proofs.Common.{◌≡◌, ℕ, Bool, true, false, not, ◌&&◌, ◌==◌, nat_le, List, [], ◌∷◌, length, refl, arith}
+use Rattle.std.proofs.Common.{◌≡◌, ℕ, true, nat_le, List, [], ◌∷◌, length, arith}
 use Rattle.std.proofs.lemmas.Bool.{and_from, and_parts}
 use Rattle.std.proofs.lemmas.List.Elements.{All-cons, All-nil}
 use Rattle.std.specs.Bool.{IsTrue}
 use Rattle.std.specs.List.{All}
-use Rattle.lib_types.specs.Name.{have_no_slash, is_name, slash}
-use Rattle.tree_face.specs.Node.{has_no_nul, is_target}
+use Rattle.lib_types.specs.Name.{is_name}
+use Rattle.path_walk.proofs.NoNul.{name_clean}
+use Rattle.tree_face.specs.Node.{is_target}
 use Rattle.tree_face.specs.Paths.{is_path}
 use Rattle.soname_links.specs.Apply.{is_link, is_plan}
 use Rattle.soname_links.specs.declared.kinds.Planned.{Planned}
-
-no_nul : (name : List ℕ) → have_no_slash name ≡ true → has_no_nul name ≡ true
-no_nul [] h = refl
-no_nul (b ∷ name) h =
-    let parts = and_parts (not (b == slash) && not (b == 0)) (have_no_slash name) h in
-    and_from (not (b == 0)) (has_no_nul name) (and_parts (not (b == slash)) (not (b == 0)) parts.0).1 (no_nul name parts.1)
 
 longer : (n : ℕ) → nat_le n 255 ≡ true → nat_le n 4095 ≡ true
 longer n h = grind arith
@@ -25,7 +20,7 @@ name_is_target name h =
     let b = and_parts _ _ a.0 in
     let c = and_parts _ _ b.0 in
     let d = and_parts _ _ c.0 in
-    and_from _ _ (and_from _ _ d.0 (longer (length name) d.1)) (no_nul name b.1)
+    and_from _ _ (and_from _ _ d.0 (longer (length name) d.1)) (name_clean name h)
 
 abbrev HasPath : Planned → Type 0
 HasPath planned = IsTrue (is_path planned.path)

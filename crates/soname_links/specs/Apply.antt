@@ -1,13 +1,14 @@
 -- The tree with the links that are planned, and how many nodes it has.
-use Rattle.std.specs.Prelude.{◌≡◌, ◌<◌, ◌+◌, ◌&&◌, ℕ, Bool, List, if◌then◌else◌, length, take, Option, Some, None}
+use Rattle.std.specs.Prelude.{◌≡◌, ◌<◌, ◌+◌, ◌&&◌, not, ℕ, Bool, true, List, [], ◌∷◌, if◌then◌else◌, length, take, Option, Some, None}
 use Rattle.std.specs.List.{filter_map, list_all}
 use Rattle.std.specs.Option.{is_none}
 use Rattle.lib_types.specs.Name.{is_name}
 use Rattle.tree_face.specs.Paths.{is_path}
-use Rattle.tree_face.specs.Tree.{Nodes, node_at}
+use Rattle.tree_face.specs.Tree.{Nodes, clashes, node_at}
+use Rattle.tree_face.specs.declared.node.Node.TheVariants.{Link}
 use Rattle.tree_face.specs.declared.tree.TheConstants.{NODES_MAX}
 use Rattle.soname_links.specs.Order.{ascending}
-use Rattle.soname_links.specs.Plan.{with_links}
+use Rattle.soname_links.specs.Plan.{with_link, with_links}
 use Rattle.soname_links.specs.declared.kinds.ApplyFault.{ApplyFault}
 use Rattle.soname_links.specs.declared.kinds.ApplyFault.TheVariants.{TooLarge, NoMemory}
 use Rattle.soname_links.specs.declared.kinds.Planned.{Planned}
@@ -30,6 +31,11 @@ new_paths t plan = ascending (filter_map (new_path t) plan)
 -- the number of nodes of the tree with these links
 abbrev pub nodes_with : Nodes → List Planned → ℕ
 nodes_with t plan = length t + length (new_paths t plan)
+
+-- when a link is put after those before it, nothing lies below it, and no file or link above it
+abbrev pub are_clear : Nodes → List Planned → Bool
+are_clear t [] = true
+are_clear t (planned ∷ plan) = not (clashes t planned.path (Link planned.file)) && are_clear (with_link t planned) plan
 
 -- the first of these links were put into the tree
 abbrev pub HasSome : Nodes → List Planned → Nodes → Type 0

@@ -1,18 +1,21 @@
 -- The entries of a cache: one for each place and soname with a winner (ldconfig(8), dl-cache.h).
-use Rattle.std.specs.Prelude.{◌≡◌, ◌<◌, ℕ, ℤ, pos, Bool, List, [], ◌&&◌, ◌||◌, if◌then◌else◌, length, map, unwrap_or, Option}
+use Rattle.std.specs.Prelude.{◌≡◌, ◌<◌, ℕ, ℤ, pos, Bool, List, [], ◌&&◌, ◌||◌, if◌then◌else◌, length, map, nat_le, unwrap_or}
 use Rattle.std.specs.Cmp.{IsTotalOrder, back_total, bool_cmp_total, int_cmp_total, nat_cmp_total, on_total, then_total}
 use Rattle.std.specs.Cmp.Lexicographic.{nat_list_cmp_total, slice_cmp}
 use Rattle.std.specs.List.Sorted.{IsPermutation, IsSorted}
 use Rattle.std.specs.Option.{is_none}
 use Rattle.std.specs.Ordering.{bool_cmp, flip_args, int_cmp, nat_cmp, on, then_cmp}
 use Rattle.std.specs.declared.cmp.Ordering.{Ordering}
-use Rattle.cache_writer.specs.declared.writer.TheConstants.{ENTRIES_MAX}
+use Rattle.cache_writer.specs.declared.writer.TheConstants.{ENTRIES_MAX, STRING_MAX}
+use Rattle.lib_types.specs.Name.{is_name}
+use Rattle.hwcap_dirs.specs.Places.{is_cap}
 use Rattle.hwcap_dirs.specs.declared.kinds.Place.{Place}
 use Rattle.lib_types.specs.Abi.{flags_of}
 use Rattle.lib_types.specs.declared.entry.Entry.{Entry}
 use Rattle.name_order.proofs.Total.{name_order-total}
 use Rattle.name_order.specs.Order.{name_order}
 use Rattle.path_walk.specs.Names.{join}
+use Rattle.tree_face.specs.Node.{has_no_nul}
 use Rattle.tree_face.specs.Tree.{Nodes}
 use Rattle.soname_links.specs.Best.{is_own}
 use Rattle.soname_links.specs.Plan.{by_place, is_plain, links_to}
@@ -72,6 +75,14 @@ pub entry_order-total : IsTotalOrder entry_order
 entry_order-total =
     then_total (back_total (on_total soname_of name_order-total)) (then_total (back_total (on_total flags_in int_cmp_total))
     (then_total (on_total has_no_cap bool_cmp_total) (then_total (on_total cap_of nat_list_cmp_total) (on_total place_of nat_cmp_total))))
+
+-- ---- their sizes
+
+-- the entry fits a cache: its names are names, and its path is short and has no NUL
+abbrev pub is_fit : Entry → Bool
+is_fit entry = is_name entry.soname && is_cap entry.cap && nat_le (length entry.path) STRING_MAX && has_no_nul entry.path
+
+-- ---- the list
 
 -- all entries in their order
 pub record AreEntriesOf (found : List Entry) (entries : List Entry) : Type 0 where

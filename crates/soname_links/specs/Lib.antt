@@ -7,5 +7,6 @@ pub mod Order
 pub mod Parts
 pub mod Plan
 pub mod Search
+pub mod Settled
 pub mod Table
 pub mod Winner

@@ -1,5 +1,6 @@
 -- The analyses of files by their paths.
 use Rattle.std.specs.Prelude.{ℕ, Bool, true, List, Option, Some, None}
+use Rattle.std.specs.List.{list_all}
 use Rattle.std.specs.Map.{lookup}
 use Rattle.std.specs.Str.{bytes_eq}
 use Rattle.indexmap.specs.IndexMap.{insert_entry}
@@ -26,3 +27,7 @@ is_soname None = true
 abbrev pub has_name : Analysis → Bool
 has_name (Lib abi soname) = is_soname soname
 has_name (Not defect) = true
+
+-- each soname in the analyses is a name
+abbrev pub have_names : Analyses → Bool
+have_names table = list_all (λ e. has_name e.1) table

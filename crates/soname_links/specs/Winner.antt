@@ -1,5 +1,5 @@
 -- Which file or link of a place a soname is looked up at: the winner (ldconfig(8); names of links count as ld(1) and the loader use them).
-use Rattle.std.specs.Prelude.{ℕ, Bool, List, [], ◌++◌, ◌&&◌, ◌||◌, not, nat_eq, nat_lt, if◌then◌else◌, length, fold, filter, codes, Option, Some, None}
+use Rattle.std.specs.Prelude.{ℕ, Bool, List, [], ◌++◌, ◌&&◌, ◌||◌, nat_eq, nat_lt, if◌then◌else◌, length, fold, codes, Option, Some, None}
 use Rattle.std.specs.List.{ends_with, filter_map, slice_split, starts_with}
 use Rattle.std.specs.Option.{option_and_then}
 use Rattle.hwcap_dirs.specs.declared.kinds.Place.{Place}

@@ -1,13 +1,17 @@
 //! The tree with the links that are planned.
-ghost use Rattle.std.specs.Prelude.{◌≡◌, ◌≤◌, ◌++◌, All, IfErr, IfOk, IsTrue, OnErr, OnOk, length};
+ghost use Rattle.std.specs.Prelude.{◌≡◌, ◌≤◌, ◌++◌, false, All, IfErr, IfOk, IsTrue, OnErr, OnOk, length};
 ghost use Rattle.lib_types.specs.Name.{is_name};
 ghost use Rattle.tree_face.specs.Paths.{is_path};
+ghost use Rattle.tree_face.specs.Tree.{clashes};
+ghost use Rattle.tree_face.specs.declared.node.Node.TheVariants.{Link};
 ghost use Rattle.tree_face.specs.declared.tree.TheConstants.{NODES_MAX};
-ghost use Rattle.soname_links.specs.Apply.{is_link, is_plan, new_path, new_paths, nodes_with, HasSome, IsApplyFault};
+ghost use Rattle.soname_links.specs.Apply.{are_clear, is_link, is_plan, new_path, new_paths, nodes_with, HasSome, IsApplyFault};
 ghost use Rattle.soname_links.specs.Plan.{with_link, with_links};
+ghost use Rattle.soname_links.specs.Settled.{Settles};
 
 use crate::key::ascending;
 use crate::kinds::{ApplyFault, Plan, Planned};
+use crate::planning::know;
 use lib_types::{NoMemory, Text, Texts, is_name};
 use std::alloc::Global;
 use tree_face::{NODES_MAX, Node, Tree, is_path};
@@ -41,6 +45,7 @@ fn put_link(alloc: Global, tree: &mut Tree, planned: &Planned) -> Result<(), NoM
     requires path { IsTrue (is_path planned.now.path) }
     requires file { IsTrue (is_name planned.now.file) }
     ensures done { OnOk result (tree.new ≡ with_link tree.old planned.now) }
+    ensures clear { OnOk result (clashes tree.old planned.now.path (Link planned.now.file) ≡ false) }
     ensures refused { OnErr result (tree.new ≡ tree.old) }
 {
     let target = Text::copy_of(alloc, planned.file.as_bytes())?;
@@ -55,6 +60,7 @@ fn put_links(alloc: Global, tree: &mut Tree, plan: &[Planned]) -> Result<(), NoM
     requires paths { All (λ planned. IsTrue (is_path planned.path)) plan.now }
     requires files { All (λ planned. IsTrue (is_name planned.file)) plan.now }
     ensures done { OnOk result (tree.new ≡ with_links tree.old plan.now) }
+    ensures clear { OnOk result (IsTrue (are_clear tree.old plan.now)) }
     ensures refused { OnErr result (HasSome tree.old plan.now tree.new) }
 {
     for planned in plan {
@@ -83,14 +89,18 @@ pub fn is_plan(plan: &Plan) -> bool
 
 /// Puts the links of a plan into the tree.
 ///
-/// A plan that was made for this tree has links only where there is a link or nothing, in its directories.
-#[tactic(auto, using(crate::proofs::Targets::paths_of, crate::proofs::Targets::files_of))]
+/// A plan that was made for this tree has links only where there is a link or nothing, in its directories. Once they are put,
+/// a plan for the same places and analyses has none.
+#[tactic(auto, using(crate::proofs::Counted::nodes_counted, crate::proofs::Targets::paths_of, crate::proofs::Targets::files_of))]
 pub fn apply(alloc: Global, tree: &mut Tree, plan: &Plan) -> Result<(), ApplyFault>
     requires { IsTrue (is_plan plan.now) }
     ensures done { OnOk result (tree.new ≡ with_links tree.old plan.now) }
+    ensures settled { OnOk result (Settles tree.old plan.now tree.new) }
+    ensures nodes { nodes_with tree.old plan.now ≡ length (with_links tree.old plan.now) }
     ensures few { OnOk result (nodes_with tree.old plan.now ≤ NODES_MAX) }
     ensures fault { IfErr result (IsApplyFault tree.old plan.now tree.new) }
 {
+    know(tree);
     let more = new_paths(alloc, tree, plan.as_slice())?;
     let Some(nodes) = tree.len().checked_add(more.len()) else {
         return Err(ApplyFault::NoMemory);

@@ -18,5 +18,5 @@ pub use kinds::{ApplyFault, EntryFault, Mark, Marks, Planned};
 pub use listing::entries;
 pub use marks::{blocked, mixed};
 pub use planning::plan;
-pub use search::{dangling, reached, wanted};
+pub use search::{dangling, reached, union, wanted};
 pub use table::Table;

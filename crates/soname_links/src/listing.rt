@@ -1,16 +1,17 @@
 //! The entries of a cache.
-ghost use Rattle.std.specs.Prelude.{◌≡◌, ◌≤◌, ◌++◌, IfErr, IfOk, OnOk, length, unwrap_or};
+ghost use Rattle.std.specs.Prelude.{◌≡◌, ◌≤◌, ◌++◌, All, IfErr, IfOk, IsTrue, List, OnOk, length, unwrap_or};
 ghost use Rattle.std.proofs.Common.{refl};
 ghost use Rattle.std.specs.Cmp.{eq_by_cmp_equiv, partial_equiv_from_equiv, partial_order_from_total};
 ghost use Rattle.std.specs.Ordering.{as_partial_cmp, eq_by_cmp};
 ghost use Rattle.cache_writer.specs.declared.writer.TheConstants.{ENTRIES_MAX};
+ghost use Rattle.hwcap_dirs.specs.Places.{are_spelled};
 ghost use Rattle.path_walk.specs.Names.{join};
 ghost use Rattle.soname_links.specs.Plan.{links_to};
-ghost use Rattle.soname_links.specs.Entries.{cap_of, entries_in, entry_of, entry_order, entry_order-total, found, is_by_soname, AreEntriesOf, IsEntryFault};
+ghost use Rattle.soname_links.specs.Entries.{cap_of, entries_in, entry_of, entry_order, entry_order-total, found, is_by_soname, is_fit, AreEntriesOf, IsEntryFault};
 
 use crate::best::is_own;
 use crate::kinds::{EntryFault, Library};
-use crate::planning::{is_plain, links_to};
+use crate::planning::{is_plain, know, links_to};
 use crate::search::joined;
 use crate::table::Table;
 use crate::winner::winners_in;
@@ -242,9 +243,13 @@ pub fn entries(
     table: &Table,
 ) -> Result<Entries, EntryFault>
     ensures entries { IfOk result (AreEntriesOf (found table.now tree.now dirs.now.places)) }
+    ensures single { IfOk result (λ entries. (others : List Entry) → AreEntriesOf (found table.now tree.now dirs.now.places) others → others ≡ entries) }
+    ensures fit { IfOk result (λ entries. IsTrue (are_spelled dirs.now.places) → All (λ entry. IsTrue (is_fit entry)) entries) }
     ensures few { IfOk result (λ _. length (found table.now tree.now dirs.now.places) ≤ ENTRIES_MAX) }
     ensures fault { IfErr result (IsEntryFault (found table.now tree.now dirs.now.places)) }
 {
+    know(tree);
+    table.know();
     let found = found(alloc, tree, dirs, table)?;
     if found.len() > ENTRIES_MAX {
         return Err(EntryFault::TooMany {

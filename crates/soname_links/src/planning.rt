@@ -1,6 +1,10 @@
 //! The links that are planned.
-ghost use Rattle.std.specs.Prelude.{◌≡◌, ◌∷◌, ◌++◌, [], IfOk, OnOk};
+ghost use Rattle.std.specs.Prelude.{◌≡◌, ◌∷◌, ◌++◌, [], IfOk, IsTrue, OnOk};
 ghost use Rattle.std.specs.List.{filter_map};
+ghost use Rattle.hwcap_dirs.specs.Places.{are_dirs};
+ghost use Rattle.tree_face.specs.Tree.{IsTree};
+ghost use Rattle.soname_links.specs.Apply.{is_plan};
+ghost use Rattle.soname_links.specs.Table.{have_names};
 ghost use Rattle.soname_links.specs.Plan.{is_blocked, is_plain, is_regarded, is_taken, link_for, links, links_in, links_to};
 
 use crate::best::{bests, is_own};
@@ -118,9 +122,9 @@ fn add_links(
     Ok(())
 }
 
-/// The links that are planned, by place and then by the bytes of the sonames.
+// The links of one place after the other.
 #[tactic(auto, unfolding(crate::specs::Plan::links))]
-pub fn plan(alloc: Global, tree: &Tree, dirs: &Dirs, table: &Table) -> Result<Plan, NoMemory>
+fn links(alloc: Global, tree: &Tree, dirs: &Dirs, table: &Table) -> Result<Plan, NoMemory>
     ensures { IfOk result (λ plan. plan ≡ links table.now tree.now dirs.now.places) }
 {
     let mut plan = Seq::new(alloc);
@@ -129,5 +133,26 @@ pub fn plan(alloc: Global, tree: &Tree, dirs: &Dirs, table: &Table) -> Result<Pl
         add_links(alloc, tree, table, number, place, &mut plan)?;
         number = number.checked_add(1).ok_or(NoMemory)?;
     }
+    Ok(plan)
+}
+
+/// Lets contracts know what each tree meets. It goes over nothing.
+pub(crate) fn know(tree: &Tree)
+    ensures { IsTree tree.now }
+{
+    let _ = tree.nodes();
+}
+
+/// The links that are planned, by place and then by the bytes of the sonames. They can be put into the tree if the places
+/// are directories of it.
+#[tactic(auto, using(crate::proofs::Named::links_named))]
+pub fn plan(alloc: Global, tree: &Tree, dirs: &Dirs, table: &Table) -> Result<Plan, NoMemory>
+    ensures links { IfOk result (λ plan. plan ≡ links table.now tree.now dirs.now.places) }
+    ensures is_plan { IfOk result (λ plan. IsTrue (are_dirs tree.now dirs.now.places) → IsTrue (is_plan plan)) }
+    ensures names { IsTrue (have_names table.now) }
+{
+    know(tree);
+    table.know();
+    let plan = links(alloc, tree, dirs, table)?;
     Ok(plan)
 }

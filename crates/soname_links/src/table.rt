@@ -1,26 +1,29 @@
 //! The analyses of files by their paths.
 ghost use Rattle.std.specs.Prelude.{◌≡◌, [], IsTrue, OnOk, OnErr};
 ghost use Rattle.std.specs.Option.{option_copied};
-ghost use Rattle.soname_links.specs.Table.{analysis_at, has_name, with_analysis};
+ghost use Rattle.soname_links.specs.Table.{analysis_at, has_name, have_names, with_analysis};
 
 use indexmap::IndexMap;
 use lib_types::{Analysis, NoMemory, Text};
 use std::alloc::Global;
 use std::marker::Model;
 
-/// A map from paths without links to the analyses of the files there. Contracts see it as the list of both, each path once.
+/// A map from paths without links to the analyses of the files there, in which each soname is a name. Contracts see it as the
+/// list of both, each path once.
 #[derive(Drop)]
 pub struct Table {
     analyses: IndexMap<Vec<u8>, Analysis>,
 }
 
 impl Model for Table {
-    ghost use Rattle.std.specs.Prelude.{map};
-    ghost use Rattle.soname_links.specs.Table.{Analyses};
+    ghost use Rattle.std.specs.Prelude.{map, IsTrue};
+    ghost use Rattle.soname_links.specs.Table.{Analyses, have_names};
 
     ghost Value = { Analyses };
 
     ghost view = { λ t. map (λ e. (e.0.items, e.1)) t.analyses.entries };
+
+    ghost invariant = { λ t. IsTrue (have_names (map (λ e. (e.0.items, e.1)) t.analyses.entries)) };
 }
 
 impl Table {
@@ -48,5 +51,12 @@ impl Table {
         ensures { option_copied result ≡ analysis_at self.now path.now }
     {
         self.analyses.get(path)
+    }
+
+    /// Lets contracts know what each table meets. It does nothing.
+    pub(crate) fn know(&self)
+        ensures { IsTrue (have_names self.now) }
+    {
+        let _ = &self.analyses;
     }
 }

@@ -1,12 +1,12 @@
 -- What the string pool holds after each string, and the offset that it finds for one.
 use Rattle.std.proofs.Common.{◌≡◌, ℕ, ◌+◌, ◌-◌, ◌≤◌, Bool, true, false, cond, not, ◌||◌, List, [], ◌∷◌, ◌++◌, length, filter, take, drop, Some, is_some, unwrap_or, refl, sym, ap, subst, ◌∙◌, true≢false, Bor, add_assoc, suc, arith, bytes_eq, if◌then◌else◌}
 use Rattle.std.proofs.Math.Seq.{take-append_seam, drop-append-add}
-use Rattle.std.proofs.lemmas.List.{append-nil, length-append, map-append}
+use Rattle.std.proofs.lemmas.List.{append_assoc, append-nil, length-append, map-append}
 use Rattle.std.proofs.lemmas.List.Concat.{flat_map-append}
 use Rattle.std.proofs.lemmas.List.Elements.{filter-append}
 use Rattle.std.proofs.lemmas.Bool.Decides.{same_from_decides, Decides-like}
 use Rattle.std.proofs.lemmas.Slice.Eq.{bytes_eq-Decides}
-use Rattle.std.specs.List.{list_any, before_first, position_or_len}
+use Rattle.std.specs.List.{list_any, before_first, position_or_len, fold}
 use Rattle.std.specs.Map.{lookup, values_of}
 use Rattle.indexmap.specs.IndexMap.{insert_entry}
 use Rattle.indexmap.specs.IndexSet.{insert_key}
@@ -203,3 +203,45 @@ new_stands base es new bytes key at h place none made =
     let e : at - base ≡ offset_of (texts new) key.now = omega (arith, spot) in
     let there : list_any (bytes_eq key.now) (texts new) ≡ true = rw (pushed base es new bytes key at h place none made).1 (among (texts es) key.now) in
     (spot, rw e (stands (texts new) key.now there))
+
+-- ---- strings that are added move none of those before
+
+-- a string is still among the strings
+pub among_more : (ts : List (List ℕ)) (t u : List ℕ) → list_any (bytes_eq t) ts ≡ true → list_any (bytes_eq t) (insert_key bytes_eq ts u) ≡ true
+among_more ts t u h = elim (list_any (bytes_eq u) ts) as (λ b. list_any (bytes_eq t) (if b then ts else ts ++ u ∷ []) ≡ true) [ true ↦ h | false ↦ behind ts h ]
+  where
+    behind : (xs : List (List ℕ)) → list_any (bytes_eq t) xs ≡ true → list_any (bytes_eq t) (xs ++ u ∷ []) ≡ true
+    behind [] e = absurd (true≢false (sym e))
+    behind (x ∷ xs) e = by (bytes_eq t x) e (behind xs)
+      where
+        by : (b : Bool) → (b || list_any (bytes_eq t) xs) ≡ true → (list_any (bytes_eq t) xs ≡ true → list_any (bytes_eq t) (xs ++ u ∷ []) ≡ true)
+            → (b || list_any (bytes_eq t) (xs ++ u ∷ [])) ≡ true
+        by true e rest = refl
+        by false e rest = rest e
+
+-- its offset stays if one is added
+pub offset_more : (ts : List (List ℕ)) (t u : List ℕ) → list_any (bytes_eq t) ts ≡ true → offset_of (insert_key bytes_eq ts u) t ≡ offset_of ts t
+offset_more ts t u h = elim (list_any (bytes_eq u) ts) as (λ b. offset_of (if b then ts else ts ++ u ∷ []) t ≡ offset_of ts t) [ true ↦ refl | false ↦ before ts h ]
+  where
+    before : (xs : List (List ℕ)) → list_any (bytes_eq t) xs ≡ true → offset_of (xs ++ u ∷ []) t ≡ offset_of xs t
+    before [] e = absurd (true≢false (sym e))
+    before (x ∷ xs) e = rw (offset_of_cons x (xs ++ u ∷ []) t, offset_of_cons x xs t) (by (bytes_eq t x) e (before xs))
+      where
+        by : (b : Bool) → (b || list_any (bytes_eq t) xs) ≡ true → (list_any (bytes_eq t) xs ≡ true → offset_of (xs ++ u ∷ []) t ≡ offset_of xs t)
+            → cond b 0 (length (with_nul x) + offset_of (xs ++ u ∷ []) t) ≡ cond b 0 (length (with_nul x) + offset_of xs t)
+        by true e rest = refl
+        by false e rest = ap (λ n. length (with_nul x) + n) (rest e)
+
+-- it stays if several are added
+pub offset_stays : (ts us : List (List ℕ)) (t : List ℕ) → list_any (bytes_eq t) ts ≡ true → offset_of (fold (insert_key bytes_eq) ts us) t ≡ offset_of ts t
+offset_stays ts [] t h = refl
+offset_stays ts (u ∷ us) t h = offset_stays (insert_key bytes_eq ts u) us t (among_more ts t u h) ∙ offset_more ts t u h
+
+pub among_all : (ts us : List (List ℕ)) (t : List ℕ) → list_any (bytes_eq t) ts ≡ true → list_any (bytes_eq t) (fold (insert_key bytes_eq) ts us) ≡ true
+among_all ts [] t h = h
+among_all ts (u ∷ us) t h = among_all (insert_key bytes_eq ts u) us t (among_more ts t u h)
+
+-- strings that are added one after the other
+pub distinct_append : (ts us : List (List ℕ)) → distinct (ts ++ us) ≡ fold (insert_key bytes_eq) (distinct ts) us
+distinct_append ts [] = ap distinct (append-nil ts)
+distinct_append ts (u ∷ us) = ap distinct (sym (append_assoc ts (u ∷ []) us)) ∙ distinct_append (ts ++ u ∷ []) us ∙ ap (λ xs. fold (insert_key bytes_eq) xs us) (distinct_push ts u)

@@ -25,6 +25,10 @@ table_of texts = flat_map with_nul texts
 abbrev pub offset_of : List (List ℕ) → List ℕ → ℕ
 offset_of texts text = length (table_of (before_first (bytes_eq text) texts))
 
+-- the offset of a string in the file
+abbrev pub place_of : Strings → List ℕ → ℕ
+place_of strings text = strings.base + offset_of strings.texts text
+
 -- a text with its NUL is at this offset
 abbrev pub StandsAt : List ℕ → ℕ → List ℕ → Type 0
 StandsAt bytes at text = take (length text + 1) (drop at bytes) ≡ with_nul text

@@ -27,11 +27,13 @@ pub struct Setting<'a> {
     pub out_fails: Option<u64>,
 }
 
-/// What a run has to leave. Of the three slots it writes only the Cache slot.
+/// What a run has to leave. It never writes the Aux slot.
 #[derive(Clone, Copy)]
 pub struct Wanted<'a> {
     pub status: Status,
     pub written: &'a [u8],
+    /// The new manifest, if one is written.
+    pub manifest: Option<&'a [u8]>,
     pub cache: &'a [u8],
 }
 
@@ -53,28 +55,32 @@ pub fn image(manifest: &[u8]) -> Setting<'_> {
     }
 }
 
-/// What a run that is done leaves.
+/// What a run that is done leaves, if no links are planned.
 pub fn done<'a>(written: &'a [u8], cache: &'a [u8]) -> Wanted<'a>
     ensures status { result.status ≡ Status.Done }
     ensures written { result.written.now ≡ written.entry.now }
+    ensures manifest { result.manifest ≡ None }
     ensures cache { result.cache.now ≡ cache.entry.now }
 {
     Wanted {
         status: Status::Done,
         written,
+        manifest: None,
         cache,
     }
 }
 
-/// What a refused run leaves: the old cache.
+/// What a refused run leaves: the old slots.
 pub fn refused(status: Status, written: &[u8]) -> Wanted<'_>
     ensures status { result.status ≡ status }
     ensures written { result.written.now ≡ written.entry.now }
+    ensures manifest { result.manifest ≡ None }
     ensures cache { result.cache.now ≡ OLD.now }
 {
     Wanted {
         status,
         written,
+        manifest: None,
         cache: OLD,
     }
 }
@@ -162,23 +168,33 @@ pub fn is_left(
 ) -> bool {
     status == want.status
         && devices.out.written() == want.written
-        && has(alloc, &mut devices.disk, Slot::Manifest, setting.manifest)
+        && has(
+            alloc,
+            &mut devices.disk,
+            Slot::Manifest,
+            want.manifest.or(setting.manifest),
+        )
         && has(alloc, &mut devices.disk, Slot::Cache, Some(want.cache))
         && has(alloc, &mut devices.disk, Slot::Aux, None)
 }
 
-/// The calls that replace the Cache slot.
-pub fn replacing_calls() -> [DoneCall; 5] {
-    [
-        Call::Create,
-        Call::Append,
-        Call::Sync,
-        Call::Publish,
-        Call::Settle,
-    ]
-    .map(|call| DoneCall {
-        tag: Tag(0),
-        slot: Slot::Cache,
-        call,
-    })
+/// The calls that replace these slots, one slot after another.
+pub fn replacing_calls(alloc: Global, slots: &[Slot]) -> Result<Vec<DoneCall>, NoMemory> {
+    let mut calls = Vec::new(alloc);
+    for slot in slots {
+        for call in [
+            Call::Create,
+            Call::Append,
+            Call::Sync,
+            Call::Publish,
+            Call::Settle,
+        ] {
+            calls.push(DoneCall {
+                tag: Tag(0),
+                slot: *slot,
+                call,
+            })?;
+        }
+    }
+    Ok(calls)
 }

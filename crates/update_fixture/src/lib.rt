@@ -11,5 +11,5 @@ pub use devices::{
     Devices, LIBZ_KEY, LIBZ_MANIFEST, LIBZ_REPORT, OLD, Pairs, Setting, Wanted, copy, done, has,
     image, is_left, make_devices, number, one, refused, replacing_calls, run_words, strings,
 };
-pub use libraries::{library, libz, libz_held};
+pub use libraries::{Held, all, library, libz, libz_held, nameless};
 pub use samples::{EMPTY_CACHE, ONE_CACHE, THREE_CACHE};

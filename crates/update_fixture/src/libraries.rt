@@ -1,13 +1,25 @@
 //! The libraries of the images.
-ghost use Rattle.std.specs.Prelude.{◌≡◌, codes, IfOk};
+ghost use Rattle.std.specs.Prelude.{◌≡◌, ◌+◌, codes, length, IfOk, OnOk};
 ghost use Rattle.lib_types.specs.declared.abi.Abi.TheVariants.{X86_64};
 ghost use Rattle.elf_maker.specs.Made.{made};
 ghost use Rattle.elf_samples.specs.Samples as samples;
 
 use crate::devices::{LIBZ_KEY, Pairs, one};
-use elf_samples::{SampleFault, library_file};
-use lib_types::Abi;
+use elf_samples::{SampleFault, file_of, library_file, needing};
+use lib_types::{Abi, NoMemory, Text, Texts};
 use std::alloc::Global;
+
+/// What a store holds under a key.
+#[derive(Clone, Copy)]
+pub enum Held<'a> {
+    /// A shared object for x86-64 with this DT_SONAME alone.
+    Library(&'a str, &'a str),
+    /// A shared object for another ABI.
+    LibraryFor(Abi, &'a str, &'a str),
+    /// A shared object for x86-64 without a DT_SONAME.
+    Nameless(&'a str),
+    Text(&'a str, &'a str),
+}
 
 /// A shared object for x86-64 with this DT_SONAME alone.
 pub fn library(alloc: Global, soname: &[u8]) -> Result<Vec<u8>, SampleFault>
@@ -27,4 +39,49 @@ pub fn libz(alloc: Global, abi: Abi) -> Result<Vec<u8>, SampleFault>
 pub fn libz_held(alloc: Global) -> Result<Pairs, SampleFault> {
     let content = libz(alloc, Abi::X86_64)?;
     Ok(one(alloc, LIBZ_KEY, &content)?)
+}
+
+/// A shared object for x86-64 without a DT_SONAME.
+pub fn nameless(alloc: Global) -> Result<Vec<u8>, SampleFault> {
+    let spec = needing(Abi::X86_64, Texts::new(alloc));
+    file_of(alloc, &spec)
+}
+
+fn content_of(alloc: Global, held: Held<'_>) -> Result<Text, SampleFault> {
+    let bytes = match held {
+        Held::Library(_, soname) => library(alloc, soname.as_bytes())?,
+        Held::LibraryFor(abi, _, soname) => library_file(alloc, abi, soname.as_bytes())?,
+        Held::Nameless(_) => nameless(alloc)?,
+        Held::Text(_, text) => return Ok(Text::copy_of(alloc, text.as_bytes())?),
+    };
+    Ok(Text::from_vec(bytes))
+}
+
+fn key_of(held: Held<'_>) -> &str {
+    match held {
+        Held::Library(key, _)
+        | Held::LibraryFor(_, key, _)
+        | Held::Nameless(key)
+        | Held::Text(key, _) => key,
+    }
+}
+
+// Adds a pair.
+fn push(pairs: &mut Pairs, key: Text, content: Text) -> Result<(), NoMemory>
+    ensures { OnOk result (length pairs.new.items ≡ length pairs.old.items + 1) }
+{
+    pairs.push((key, content))?;
+    Ok(())
+}
+
+/// What holds all of these.
+pub fn all(alloc: Global, held: &[Held<'_>]) -> Result<Pairs, SampleFault>
+    ensures { IfOk result (λ pairs. length pairs.items ≡ length held.now) }
+{
+    let mut pairs = Vec::new(alloc);
+    for one in held {
+        let key = Text::copy_of(alloc, key_of(*one).as_bytes())?;
+        push(&mut pairs, key, content_of(alloc, *one)?)?;
+    }
+    Ok(pairs)
 }

@@ -1,5 +1,5 @@
 //! The example's library with some of its bytes changed.
-use crate::updates::{assert_skipped, assert_update};
+use crate::updates::{assert_again, assert_skipped, assert_update};
 use lib_types::{Abi, Text};
 use std::alloc::Global;
 use std::test::Fail;
@@ -98,9 +98,10 @@ fn files_that_are_no_libraries(rt: HostRuntime) -> Result<(), Fail> {
         skip: /usr/lib/libc.so: NotElf\n\
         skip: /usr/lib/libt.so.1: TooShort 10\n\
         0 libs, 0 links, 3 files opened\n";
-    let devices = assert_update(&rt, alloc, image(manifest), held, done(report, EMPTY_CACHE))?;
+    let want = done(report, EMPTY_CACHE);
+    let devices = assert_update(&rt, alloc, image(manifest), held, want)?;
     assert_eq!(rt; devices.store.begun(), 3);
-    Ok(())
+    assert_again(&rt, alloc, image(manifest), devices, want)
 }
 
 #[test]

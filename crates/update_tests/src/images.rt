@@ -1,5 +1,5 @@
 //! Images that an update makes a cache of.
-use crate::updates::assert_update;
+use crate::updates::{assert_again, assert_update};
 use ldconfig_cli::{Status, run};
 use lib_types::{Abi, Text};
 use std::test::Fail;
@@ -23,7 +23,7 @@ fn an_image_without_libraries_has_an_empty_cache(rt: HostRuntime) -> Result<(), 
         // no files of /usr/lib itself with library names
         b"#mtree\n./libz.so.1 type=file\n./usr/lib/libz.a type=file\n",
         b"#mtree\n./usr/lib/sub/libz.so.1 type=file\n./usr/lib/libz.so.1 type=dir\n",
-        // neighbours of the paths that aren't built
+        // neighbours of the paths that are searched
         b"#mtree\n./etc/ld.so.conf.d type=dir\n./lib6 type=dir\n./lib64.so type=file\n",
         b"#mtree\n./usr/lib6 type=dir\n./usr/lib/glibc-hwcaps.d type=dir\n",
         // links that lead nowhere, and links that are no library's
@@ -34,6 +34,7 @@ fn an_image_without_libraries_has_an_empty_cache(rt: HostRuntime) -> Result<(), 
     for manifest in manifests {
         let devices = assert_update(&rt, alloc, image(manifest), Vec::new(alloc), want)?;
         assert_eq!(rt; devices.store.begun(), 0);
+        assert_again(&rt, alloc, image(manifest), devices, want)?;
     }
     Ok(())
 }
@@ -45,7 +46,44 @@ fn one_library(rt: HostRuntime) -> Result<(), Fail> {
     let want = done(LIBZ_REPORT, ONE_CACHE);
     let devices = assert_update(&rt, alloc, image(LIBZ_MANIFEST), held, want)?;
     assert_eq!(rt; devices.store.begun(), 1);
-    assert_eq!(rt; devices.disk.calls(), replacing_calls().as_slice());
+    let calls = replacing_calls(alloc, &[Slot::Cache])?;
+    assert_eq!(rt; devices.disk.calls(), calls.as_slice());
+    assert_again(&rt, alloc, image(LIBZ_MANIFEST), devices, want)
+}
+
+// What stands in the image beside the example's library, with what is held of it, and what the report says of that. A line
+// that isn't empty stands before the report's last.
+const BESIDE: &[(&str, &str)] = &[
+    ("./etc/ld.so.conf type=file contents=conf\n", ""),
+    (
+        "./etc/ld.so.conf/a type=file\n",
+        "conf: /etc/ld.so.conf: NotFile\n",
+    ),
+    ("./lib type=dir\n", ""),
+    ("./lib type=file\n", ""),
+    ("./lib type=link link=usr\n", ""),
+    ("./lib64/a type=file\n", ""),
+    ("./usr/lib64 type=dir\n", ""),
+    ("./usr/lib/glibc-hwcaps type=dir\n", ""),
+    ("./usr/lib/glibc-hwcaps/.v3/libz.so.1 type=file\n", ""),
+    (
+        "./usr/lib/libz.so type=link link=none\n",
+        "dangling: /usr/lib/libz.so\n",
+    ),
+];
+
+#[test]
+fn other_nodes_leave_the_cache(rt: HostRuntime) -> Result<(), Fail> {
+    let alloc = rt.alloc();
+    for (line, said) in BESIDE {
+        let manifest = format!(in alloc; "#mtree\n./usr/lib/libz.so.1 type=file\n{line}")?;
+        let report = format!(in alloc; "{said}1 libs, 0 links, 1 files opened\n")?;
+        let mut held = libz_held(alloc)?;
+        let conf = Text::copy_of(alloc, b"# nothing\n")?;
+        held.push((Text::copy_of(alloc, b"conf")?, conf))?;
+        let want = done(report.as_bytes(), ONE_CACHE);
+        let _ = assert_update(&rt, alloc, image(manifest.as_bytes()), held, want)?;
+    }
     Ok(())
 }
 
@@ -107,7 +145,7 @@ fn three_libraries_stand_by_descending_names(rt: HostRuntime) -> Result<(), Fail
     let want = done(b"3 libs, 0 links, 3 files opened\n", THREE_CACHE);
     let devices = assert_update(&rt, alloc, image(&manifest), held, want)?;
     assert_eq!(rt; devices.store.begun(), 3);
-    Ok(())
+    assert_again(&rt, alloc, image(&manifest), devices, want)
 }
 
 #[test]

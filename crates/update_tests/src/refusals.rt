@@ -1,12 +1,11 @@
 //! Arguments, manifests and libraries that are refused.
-use crate::updates::{assert_not_built, assert_update};
+use crate::updates::assert_update;
 use ldconfig_cli::Status;
 use mtree_manifest::{LineKind, ManifestFault};
 use std::test::Fail;
 use tree_face::{Disk, Slot};
 use update_fixture::{
-    LIBZ_KEY, LIBZ_MANIFEST, OLD, Setting, has, image, library, libz_held, make_devices, one,
-    refused, run_words,
+    Held, LIBZ_MANIFEST, OLD, Setting, all, has, image, libz_held, make_devices, refused, run_words,
 };
 
 // The kinds of line faults are tried by the tests of manifests; here one of each form of fault line.
@@ -57,60 +56,48 @@ fn bad(line: u64, kind: LineKind) -> ManifestFault {
     ManifestFault::Bad { line, kind }
 }
 
+// Manifests of files that are held under the keys `held` and `conf`, and of one that isn't held; and how many files are begun up
+// to that one.
+const LACKING: &[(&[u8], u64)] = &[
+    // the greater of two names, and the lesser
+    (
+        b"./usr/lib/libb.so.1 type=file\n./usr/lib/liba.so.1 contents=held\n",
+        2,
+    ),
+    (
+        b"./usr/lib/libb.so.1 contents=held\n./usr/lib/liba.so.1 type=file\n",
+        1,
+    ),
+    // the conf file, and one that it includes
+    (
+        b"./usr/lib/liba.so.1 contents=held\n./etc/ld.so.conf type=file\n",
+        1,
+    ),
+    (b"./a type=file\n./etc/ld.so.conf contents=conf\n", 2),
+    // a file to which only a link leads
+    (
+        b"./usr/lib/liba.so.1 contents=held\n./usr/lib/liba.so type=link link=/a\n./a type=file\n",
+        2,
+    ),
+];
+
 #[test]
-fn other_places_are_not_built(rt: HostRuntime) -> Result<(), Fail> {
+fn files_that_are_not_held(rt: HostRuntime) -> Result<(), Fail> {
     let alloc = rt.alloc();
-    let lines = [
-        b"./etc/ld.so.conf type=file\n".as_slice(),
-        b"./etc/ld.so.conf/a type=file\n",
-        b"./lib type=dir\n",
-        b"./lib type=file\n",
-        b"./lib type=link link=usr\n",
-        b"./lib64/a type=file\n",
-        b"./usr/lib64 type=dir\n",
-        b"./usr/lib/glibc-hwcaps type=dir\n",
-        b"./usr/lib/glibc-hwcaps/x86-64-v3/libz.so.1 type=file\n",
-        // a library's link
-        b"./usr/lib/libz.so type=link link=none\n",
+    let want = refused(Status::StoreFault, b"fault: StoreFault\n");
+    // neither a library for which a link is planned nor a file that is no library stops an update
+    let contents = [
+        Held::Library("held", "libother.so.1"),
+        Held::Text("held", "a text"),
     ];
-    let want = refused(Status::NotBuilt, b"fault: NotBuilt\n");
-    for line in lines {
-        let mut manifest = Vec::from_slice(alloc, LIBZ_MANIFEST)?;
-        manifest.extend_from_slice(line)?;
-        // with the library, and without it: its own fault would come later
-        let libz = library(alloc, b"libz.so.1")?;
-        for key in [LIBZ_KEY, b"other"] {
-            let held = one(alloc, key, &libz)?;
-            let devices = assert_update(&rt, alloc, image(&manifest), held, want)?;
-            assert_eq!(rt; devices.store.begun(), 0);
+    for (manifest, begun) in LACKING {
+        for content in contents {
+            let held = all(alloc, &[content, Held::Text("conf", "include /a\n")])?;
+            let devices = assert_update(&rt, alloc, image(manifest), held, want)?;
+            assert!(rt; devices.disk.calls().is_empty());
+            assert_eq!(rt; devices.store.begun(), *begun);
         }
     }
-    Ok(())
-}
-
-#[test]
-fn other_libraries_are_not_built(rt: HostRuntime) -> Result<(), Fail> {
-    let alloc = rt.alloc();
-    for soname in [b"libz.so.2".as_slice(), b"libz.so", b"libz.so.10"] {
-        assert_not_built(&rt, alloc, &library(alloc, soname)?, "another soname")?;
-    }
-    Ok(())
-}
-
-#[test]
-fn the_first_library_by_name_decides(rt: HostRuntime) -> Result<(), Fail> {
-    let alloc = rt.alloc();
-    let manifest = b"#mtree\n./usr/lib/libb.so.1 type=file\n./usr/lib/liba.so.1 type=file\n";
-    let lacking = refused(Status::StoreFault, b"fault: StoreFault\n");
-    let not_built = refused(Status::NotBuilt, b"fault: NotBuilt\n");
-    let held = one(alloc, b"usr/lib/libb.so.1", b"a text")?;
-    let _ = assert_update(&rt, alloc, image(manifest), held, lacking)?;
-    // a file that is no library stops nothing
-    let held = one(alloc, b"usr/lib/liba.so.1", b"a text")?;
-    let _ = assert_update(&rt, alloc, image(manifest), held, lacking)?;
-    let other = library(alloc, b"libother.so.1")?;
-    let held = one(alloc, b"usr/lib/liba.so.1", &other)?;
-    let _ = assert_update(&rt, alloc, image(manifest), held, not_built)?;
     Ok(())
 }
 
@@ -171,12 +158,19 @@ fn the_exit_statuses(rt: HostRuntime) {
         (Status::Done, 0),
         (Status::Usage, 2),
         (Status::BadManifest(bad(1, LineKind::BadType)), 3),
+        (Status::TooMany { count: 131073 }, 9),
         (Status::StoreFault, 10),
         (Status::DiskFault, 11),
         (Status::OutputFault, 13),
         (Status::NoMemory, 14),
         (Status::NoManifest, 16),
-        (Status::NotBuilt, 18),
+        (
+            Status::TooLarge {
+                nodes: 1048577,
+                bytes: 0,
+            },
+            17,
+        ),
     ] {
         assert_eq!(rt; status.code(), code);
     }

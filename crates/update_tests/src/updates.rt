@@ -3,9 +3,10 @@ use ldconfig_cli::Status;
 use std::alloc::Global;
 use std::process::Abort;
 use std::test::Fail;
+use tree_face::{MemSink, Slot};
 use update_fixture::{
     Devices, EMPTY_CACHE, LIBZ_KEY, LIBZ_MANIFEST, Pairs, Setting, Wanted, done, image, is_left,
-    make_devices, one, refused, run_words,
+    make_devices, one, replacing_calls, run_words,
 };
 
 /// Runs an update, compares all that it leaves, and returns the devices.
@@ -26,23 +27,19 @@ pub(crate) fn assert_update(
     Ok(devices)
 }
 
-/// Runs an update of the example with this content in the library's file, which has to be refused.
-pub(crate) fn assert_not_built(
+/// Runs the same update once more, which has to leave the same, and to write the Cache slot alone.
+pub(crate) fn assert_again(
     rt: &impl Abort,
     alloc: Global,
-    content: &[u8],
-    what: &str,
+    setting: Setting<'_>,
+    mut devices: Devices,
+    want: Wanted<'_>,
 ) -> Result<(), Fail> {
-    let held = one(alloc, LIBZ_KEY, content)?;
-    let setting = image(LIBZ_MANIFEST);
-    let mut devices = make_devices(alloc, setting, held)?;
+    devices.out = MemSink::new(alloc, Vec::new(alloc));
     let status = run_words(alloc, &["update"], &mut devices)?;
-    let want = refused(Status::NotBuilt, b"fault: NotBuilt\n");
-    assert!(rt;
-        is_left(alloc, setting, status, &mut devices, want),
-        "{what}"
-    );
-    assert!(rt; devices.disk.calls().is_empty(), "{what}");
+    assert!(rt; is_left(alloc, setting, status, &mut devices, want));
+    let calls = replacing_calls(alloc, &[Slot::Cache, Slot::Cache])?;
+    assert_eq!(rt; devices.disk.calls(), calls.as_slice());
     Ok(())
 }
 

@@ -1,6 +1,6 @@
 use Rattle.std.proofs.Common.{◌≡◌, Some, sym, ◌∙◌}
 use Rattle.ldconfig_cli.specs.Command.{command_of}
-use Rattle.ldconfig_core.proofs.Unique.{one_cache}
+use Rattle.ldconfig_core.proofs.Single.{one_update}
 use Rattle.ldconfig_cli.proofs.Completing.{not_usage}
 use Rattle.ldconfig_cli.proofs.Printing as printing
 use Rattle.ldconfig_cli.proofs.command.run.Goals as goal
@@ -14,8 +14,8 @@ returns-in-Some-Update-clause-usage g c =
 pub returns-in-Some-Update-clause-update : goal.returns-in-Some-Update-clause-update
 returns-in-Some-Update-clause-update g c = λ is. c.run_update.ensures.update (g.I.Source.state c.args.input.now)
 
-pub returns-in-Some-Update-clause-one_cache : goal.returns-in-Some-Update-clause-one_cache
-returns-in-Some-Update-clause-one_cache g c found bytes others is are = one_cache found bytes others is are
+pub returns-in-Some-Update-clause-one_update : goal.returns-in-Some-Update-clause-one_update
+returns-in-Some-Update-clause-one_update g c held t texts others is are = one_update held t texts others is are
 
 pub returns-in-Some-Print-clause-usage : goal.returns-in-Some-Print-clause-usage
 returns-in-Some-Print-clause-usage g c =
@@ -26,11 +26,11 @@ returns-in-Some-Print-clause-usage g c =
 pub returns-in-Some-Print-clause-print : goal.returns-in-Some-Print-clause-print
 returns-in-Some-Print-clause-print g c = λ is. c.run_print.ensures.print (g.S.Store.state c.args.store.now) (g.I.Source.state c.args.input.now)
 
-pub returns-in-Some-Print-clause-one_cache : goal.returns-in-Some-Print-clause-one_cache
-returns-in-Some-Print-clause-one_cache g c found bytes others is are = one_cache found bytes others is are
+pub returns-in-Some-Print-clause-one_update : goal.returns-in-Some-Print-clause-one_update
+returns-in-Some-Print-clause-one_update g c held t texts others is are = one_update held t texts others is are
+
+pub returns-in-None-clause-one_update : goal.returns-in-None-clause-one_update
+returns-in-None-clause-one_update g c held t texts others is are = one_update held t texts others is are
 
 pub returns-in-Some-Print-clause-made : goal.returns-in-Some-Print-clause-made
 returns-in-Some-Print-clause-made g c t s other = (c.run_print.ensures.print (g.S.Store.state c.args.store.now) (g.I.Source.state c.args.input.now)).disk.made t s
-
-pub returns-in-None-clause-one_cache : goal.returns-in-None-clause-one_cache
-returns-in-None-clause-one_cache g c found bytes others is are = one_cache found bytes others is are

@@ -1,4 +1,4 @@
-use Rattle.std.proofs.Common.{◌≡◌, ℕ}
+use Rattle.std.proofs.Common.{◌≡◌}
 use Rattle.std.specs.List.{fold}
 use Rattle.std.specs.Option.{option_copied}
 use Rattle.soname_links.specs.Parts.{parts_of, size_of}

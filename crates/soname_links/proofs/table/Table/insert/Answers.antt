@@ -2,8 +2,16 @@ use Rattle.std.proofs.Common.{◌∙◌, ap, map}
 use Rattle.std.specs.Str.{bytes_eq}
 use Rattle.indexmap.specs.IndexMap.{insert_entry}
 use Rattle.soname_links.proofs.Mapped.{insert_mapped, seen}
-use Rattle.soname_links.specs.Table.{with_analysis}
+use Rattle.soname_links.proofs.Named.{still_named}
+use Rattle.soname_links.specs.Table.{have_names, with_analysis}
 use Rattle.soname_links.proofs.table.Table.insert.Goals as goal
+
+pub invariant_of-self-2 : goal.invariant_of-self-2
+invariant_of-self-2 c =
+    let put = ap (map (seen (λ v. v.items))) c.in_ok-insert.ensures.entries
+    ∙ insert_mapped (λ v. v.items) bytes_eq c.into_vec.result c.args.analysis c.self.inside.analyses.entries in
+    let all = still_named (map (seen (λ v. v.items)) c.self.inside.analyses.entries) c.into_vec.result.items c.args.analysis c.self.invariant c.requires in
+    ap have_names put ∙ all
 
 pub returns-clause-done : goal.returns-clause-done
 returns-clause-done c =

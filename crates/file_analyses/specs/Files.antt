@@ -1,0 +1,50 @@
+-- Which files of an image are read for its cache, and what they are (ldconfig(8)).
+use Rattle.std.specs.Prelude.{ℕ, ◌+◌, Bool, false, List, [], if◌then◌else◌, fold, Option, Some, None, is_none, unwrap_or}
+use Rattle.elf_dynamic.specs.Analysis.{analysis}
+use Rattle.soname_links.specs.Table.{Analyses, analysis_at, with_analysis}
+use Rattle.tree_face.specs.declared.node.Node.{Node}
+use Rattle.tree_face.specs.declared.node.Node.TheVariants as node
+use Rattle.tree_face.specs.Store.{Contents}
+use Rattle.tree_face.specs.Tree.{Nodes, node_at}
+use Rattle.file_analyses.specs.declared.files.Files.{Files}
+
+-- what has been read so far
+pub record Reading : Type 0 where
+  -- what each file is, by its path
+  pub table : Analyses
+  -- how many files were begun
+  pub begun : ℕ
+  -- the last of them isn't held, and no other is begun
+  pub lacks : Bool
+
+abbrev pub key_in : Option Node → Option (List ℕ)
+key_in (Some (node.File key id)) = Some key
+key_in (Some node.Dir) = None
+key_in (Some (node.Link target)) = None
+key_in None = None
+
+-- the key of a file that has no analysis yet
+abbrev pub unread_key : Nodes → Analyses → List ℕ → Option (List ℕ)
+unread_key t table path = if is_none (analysis_at table path) then key_in (node_at t path) else None
+
+-- a file is begun, with its content if that is held
+abbrev pub with_begun : Reading → List ℕ → Option (List ℕ) → Reading
+with_begun r path content = record {
+  table = with_analysis r.table path (analysis (unwrap_or content []));
+  begun = r.begun + 1;
+  lacks = is_none content;
+}
+
+abbrev pub with_unread : Contents → Reading → List ℕ → Option (List ℕ) → Reading
+with_unread held r path None = r
+with_unread held r path (Some key) = with_begun r path (held key)
+
+abbrev pub with_file : Contents → Nodes → Reading → List ℕ → Reading
+with_file held t r path = if r.lacks then r else with_unread held r path (unread_key t r.table path)
+
+-- The files at these paths are read in their order, each that has no analysis yet.
+abbrev pub with_files : Contents → Nodes → Reading → List (List ℕ) → Reading
+with_files held t r paths = fold (with_file held t) r paths
+
+abbrev pub seen : Files → Reading
+seen files = record { table = files.table; begun = files.begun; lacks = false }

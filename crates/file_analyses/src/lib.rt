@@ -1,0 +1,6 @@
+//! What the files of an image are, each read once.
+#![tactic(auto)]
+
+mod files;
+
+pub use files::{Files, read_files};

@@ -1,0 +1,49 @@
+//! All that an update finds.
+ghost use Rattle.std.specs.Prelude.{◌≡◌, ◌⊎◌, ◌≤◌, ℕ, true, IfErr, IfOk, IsErrOf, IsSomeAnd, IsTrue};
+ghost use Rattle.hwcap_dirs.specs.Places.{are_spelled};
+ghost use Rattle.lib_types.specs.Counts.{HasRisen};
+ghost use Rattle.tree_face.specs.Known.{IfKnown};
+ghost use Rattle.tree_face.specs.Store.{BeginsAtMost};
+ghost use Rattle.ldconfig_core.specs.Faults.{is_of_finding};
+ghost use Rattle.ldconfig_core.specs.Image.{begun_in};
+ghost use Rattle.ldconfig_core.specs.Outcome as outcomes;
+ghost use Rattle.ldconfig_core.specs.Outcome.{update_outcome};
+ghost use Rattle.ldconfig_core.specs.Stages.{IsFound};
+
+use crate::fault::UpdateFault;
+use crate::following::{Followed, follow_links};
+use crate::planning::{Links, plan_links};
+use crate::search::{Search, search_image};
+use std::alloc::Global;
+use tree_face::{Store, Tree};
+
+/// All that an update finds. The files are all that were read.
+#[derive(Drop)]
+pub struct Found {
+    pub search: Search,
+    pub links: Links,
+    pub followed: Followed,
+}
+
+/// Looks through an image, and puts the planned links into its tree.
+pub fn find<S: Store>(alloc: Global, tree: &mut Tree, store: &mut S) -> Result<Found, UpdateFault>
+    ensures found { IfOk result (λ found. IfKnown (S.state store.old).held (λ held. IsFound held tree.old found tree.new)) }
+    ensures spelled { IfOk result (λ found. IsTrue (are_spelled found.search.dirs.places)) }
+    ensures store_fault { IsErrOf result UpdateFault.StoreFault → HasRisen (S.state store.old).faults (S.state store.new).faults
+        ⊎ IsSomeAnd (S.state store.old).held (λ held. update_outcome held tree.old ≡ outcomes.Lacking) }
+    ensures too_large { (nodes bytes : ℕ) → IsErrOf result (UpdateFault.TooLarge nodes bytes) →
+        IfKnown (S.state store.old).held (λ held. update_outcome held tree.old ≡ outcomes.TooLarge nodes bytes) }
+    ensures others { IfErr result (λ fault. is_of_finding fault ≡ true) }
+    ensures held { (S.state store.new).held ≡ (S.state store.old).held }
+    ensures faults { (S.state store.old).faults ≤ (S.state store.new).faults }
+    ensures begun { IfKnown (S.state store.old).held (λ held. BeginsAtMost (begun_in held tree.old) (S.state store.old) (S.state store.new)) }
+{
+    let mut search = search_image(alloc, tree, store)?;
+    let links = plan_links(alloc, tree, &search.dirs, &search.files.table)?;
+    let followed = follow_links(alloc, tree, store, &search.dirs, &mut search.files)?;
+    Ok(Found {
+        search,
+        links,
+        followed,
+    })
+}

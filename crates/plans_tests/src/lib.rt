@@ -1,0 +1,7 @@
+//! The tests of planned links and of reported sonames.
+#![tactic(auto)]
+
+#[cfg(test)]
+mod plans;
+#[cfg(test)]
+mod searches;

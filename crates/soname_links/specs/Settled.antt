@@ -1,0 +1,22 @@
+-- The tree with the planned links is settled: the same files count, and no further link is planned.
+use Rattle.std.specs.Prelude.{◌≡◌, IsTrue, List, [], map}
+use Rattle.hwcap_dirs.specs.Places.{are_dirs}
+use Rattle.hwcap_dirs.specs.declared.kinds.Place.{Place}
+use Rattle.tree_face.specs.Tree.{Nodes}
+use Rattle.soname_links.specs.Libraries.{libraries_in}
+use Rattle.soname_links.specs.Plan.{links}
+use Rattle.soname_links.specs.Search.{wanted}
+use Rattle.soname_links.specs.Table.{Analyses, have_names}
+use Rattle.soname_links.specs.declared.kinds.Planned.{Planned}
+
+-- the places are directories still, have the same files and libraries, and want no link
+pub record IsSettled (table : Analyses) (t : Nodes) (places : List Place) (new : Nodes) : Type 0 where
+  pub dirs : IsTrue (are_dirs new places)
+  pub files : wanted new places ≡ wanted t places
+  pub libraries : map (libraries_in table new) places ≡ map (libraries_in table t) places
+  pub none : links table new places ≡ []
+
+-- whichever places and analyses the plan was made for are settled
+abbrev pub Settles : Nodes → List Planned → Nodes → Type 0
+Settles t plan new =
+    (table : Analyses) (places : List Place) → IsTrue (have_names table) → IsTrue (are_dirs t places) → plan ≡ links table t places → IsSettled table t places new

@@ -1,0 +1,5 @@
+pub mod Defects
+pub mod Lines
+pub mod Report
+pub mod Skips
+pub mod Twins

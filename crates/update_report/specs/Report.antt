@@ -1,0 +1,62 @@
+-- The report of an update: a line for each finding, kind by kind, and one of numbers.
+use Rattle.std.specs.Prelude.{ℕ, List, ◌++◌, drop, flat_map, length, map}
+use Rattle.std.specs.List.{zip}
+use Rattle.hwcap_dirs.specs.declared.kinds.Place.{Place}
+use Rattle.ldso_conf.specs.declared.kinds.ConfReport.{ConfReport}
+use Rattle.lib_types.specs.declared.entry.Entry.{Entry}
+use Rattle.soname_links.specs.declared.kinds.Mark.{Mark}
+use Rattle.soname_links.specs.declared.kinds.Planned.{Planned}
+use Rattle.update_report.specs.Lines.{absent_line, blocked_line, conf_line, dangling_line, last_line, line_of_twins, link_line, mixed_line, skip_line}
+use Rattle.update_report.specs.declared.kinds.Findings.{Findings}
+use Rattle.update_report.specs.declared.kinds.Skipped.{Skipped}
+
+-- what is said of an image
+pub record Said : Type 0 where
+  pub conf : List ConfReport
+  pub places : List Place
+  -- the conf file's directories that lead to none
+  pub absent : List (List ℕ)
+  pub plan : List Planned
+  pub blocked : List Mark
+  pub mixed : List Mark
+  pub skips : List Skipped
+  pub dangling : List (List ℕ)
+  pub entries : List Entry
+  -- how many library files were begun
+  pub opened : ℕ
+
+abbrev pub findings_of : Findings → Said
+findings_of findings = record {
+  conf = findings.conf.now;
+  places = findings.dirs.now.places;
+  absent = findings.dirs.now.absent;
+  plan = findings.plan.now;
+  blocked = findings.blocked.now;
+  mixed = findings.mixed.now;
+  skips = findings.skips.now;
+  dangling = findings.dangling.now;
+  entries = findings.entries.now;
+  opened = findings.opened;
+}
+
+abbrev pub sonames_of : List Entry → List (List ℕ)
+sonames_of entries = map (λ entry. entry.soname) entries
+
+-- the sonames that stand next to each other, from the first
+abbrev pub neighbours : List (List ℕ) → List (List ℕ × List ℕ)
+neighbours sonames = zip sonames (drop 1 sonames)
+
+abbrev pub twin_lines : List (List ℕ) → List ℕ
+twin_lines sonames = flat_map line_of_twins (neighbours sonames)
+
+unfoldable pub report_text : Said → List ℕ
+report_text said =
+    flat_map conf_line said.conf
+    ++ flat_map absent_line said.absent
+    ++ flat_map (link_line said.places) said.plan
+    ++ flat_map (blocked_line said.places) said.blocked
+    ++ flat_map (mixed_line said.places) said.mixed
+    ++ flat_map skip_line said.skips
+    ++ flat_map dangling_line said.dangling
+    ++ twin_lines (sonames_of said.entries)
+    ++ last_line (length said.entries) (length said.plan) said.opened

@@ -1,0 +1,15 @@
+-- The library files that are no libraries.
+use Rattle.std.specs.Prelude.{ℕ, List, Option, Some, None}
+use Rattle.std.specs.Option.{option_and_then}
+use Rattle.lib_types.specs.declared.analysis.Analysis.{Analysis}
+use Rattle.lib_types.specs.declared.analysis.Analysis.TheVariants.{Lib, Not}
+use Rattle.soname_links.specs.Table.{Analyses, analysis_at}
+use Rattle.update_report.specs.declared.kinds.Skipped.{Skipped}
+
+abbrev pub skip_by : List ℕ → Analysis → Option Skipped
+skip_by path (Not defect) = Some (record { path = path; defect = defect })
+skip_by path (Lib abi soname) = None
+
+-- the file at a path, if its analysis is a defect
+abbrev pub skip_at : Analyses → List ℕ → Option Skipped
+skip_at table path = option_and_then (skip_by path) (analysis_at table path)

@@ -1,0 +1,166 @@
+"""Copies the part of a root tree in which ldconfig looks for libraries: conf files, directories, libraries and links.
+
+`copy_root` copies what /etc/ld.so.conf, its includes and the four system folders lead to, with the links on the way. Of each of
+these directories the files with library names, all links, and the directories below are taken (of these the names alone, but for
+glibc-hwcaps). Files are hard links where that can be, so nothing may be written into them.
+"""
+
+import fnmatch
+import mmap
+import os
+import shutil
+import stat
+import struct
+
+SYSTEM_DIRS = ["/lib", "/usr/lib", "/lib64", "/usr/lib64"]
+MOST_LINKS = 40
+
+
+def is_library_name(name):
+    """Whether ldconfig(8) takes a file of this name for a library's."""
+    unfinished = name.endswith((".dpkg-new", ".dpkg-tmp", ".#prelink#"))
+    return name.startswith(("lib", "ld-")) and ".so" in name and ";" not in name and not unfinished
+
+
+def mode_at(root, place):
+    """What stands at a place below the root, 0 if nothing does."""
+    try:
+        return os.lstat(root + (place or "/")).st_mode
+    except OSError:
+        return 0
+
+
+def resolve(root, text, passed=lambda place: None):
+    """The place to which a text leads in a root tree, without links; None if it leads nowhere. Links are followed inside of the
+    tree. Calls `passed` with each link and directory on the way."""
+    left, place, followed = text.split("/"), "", 0
+    while left:
+        name = left.pop(0)
+        if name in ("", "."):
+            continue
+        if name == "..":
+            place = place.rpartition("/")[0]
+            continue
+        there = f"{place}/{name}"
+        mode = mode_at(root, there)
+        if not mode or not stat.S_ISDIR(mode_at(root, place)):
+            return None
+        passed(there)
+        if not stat.S_ISLNK(mode):
+            place = there
+            continue
+        followed += 1
+        target = os.readlink(root + there)
+        if followed > MOST_LINKS:
+            return None
+        left = target.split("/") + left
+        place = "" if target.startswith("/") else place
+    return place or "/"
+
+
+class Copy:
+    """A copy of some of a root tree in a folder."""
+
+    def __init__(self, root, folder):
+        self.root, self.folder = str(root).rstrip("/"), str(folder)
+        self.listed = set()
+
+    def take(self, place):
+        """Copies what stands at a place: a link, the name of a directory, or a file."""
+        source, mode = self.root + place, mode_at(self.root, place)
+        if os.path.lexists(self.folder + place):
+            return
+        os.makedirs(os.path.dirname(self.folder + place), exist_ok=True)
+        if stat.S_ISLNK(mode):
+            os.symlink(os.readlink(source), self.folder + place)
+        elif stat.S_ISDIR(mode):
+            os.mkdir(self.folder + place)
+        elif stat.S_ISREG(mode):
+            try:
+                os.link(source, self.folder + place)
+            except OSError:
+                shutil.copy2(source, self.folder + place)
+
+    def walk(self, text):
+        """Copies all on the way of a text and what it leads to. Gives the place."""
+        place = resolve(self.root, text, self.take)
+        if place and place != "/":
+            self.take(place)
+        return place
+
+    def names(self, text):
+        """The names in a directory."""
+        place = self.walk(text)
+        return sorted(os.listdir(self.root + place)) if place and stat.S_ISDIR(mode_at(self.root, place)) else []
+
+    def directory(self, text):
+        """Copies a directory of libraries, and those of processors below it."""
+        place = self.walk(text)
+        if place is None or place in self.listed:
+            return
+        self.listed.add(place)
+        for name in self.names(text):
+            there = f"{place.rstrip('/')}/{name}"
+            mode = mode_at(self.root, there)
+            if stat.S_ISDIR(mode) or stat.S_ISLNK(mode) or is_library_name(name):
+                self.take(there)
+            if stat.S_ISLNK(mode) and is_library_name(name):
+                self.walk(there)
+        for name in self.names(f"{text}/glibc-hwcaps"):
+            self.directory(f"{text}/glibc-hwcaps/{name}")
+
+    def results(self, pattern):
+        """The texts that a pattern gives."""
+        texts = [""]
+        for part in filter(None, pattern.split("/")):
+            plain = not set("*?[") & set(part)
+            texts = [f"{text}/{name}" for text in texts for name in ([part] if plain else fnmatch.filter(self.names(text), part))]
+        return texts
+
+    def conf(self, text, met):
+        """Copies a conf file and what it names."""
+        place = self.walk(text)
+        if place is None or place in met or not stat.S_ISREG(mode_at(self.root, place)):
+            return
+        met.add(place)
+        with open(self.root + place, encoding="utf-8", errors="surrogateescape") as file:
+            lines = [line.partition("#")[0].split() for line in file]
+        for words in filter(None, lines):
+            if words[0] == "include":
+                for pattern in words[1:]:
+                    whole = pattern if pattern.startswith("/") else f"{os.path.dirname(text)}/{pattern}"
+                    for result in self.results(whole):
+                        self.conf(result, met)
+            else:
+                self.directory(" ".join(words).partition("=")[0].rstrip())
+
+
+def copy_root(root, folder):
+    """Copies what ldconfig looks at in a root tree into a folder."""
+    copy = Copy(root, folder)
+    copy.conf("/etc/ld.so.conf", set())
+    for text in SYSTEM_DIRS:
+        copy.directory(text)
+
+
+def library_in(path):
+    """The e_machine and the DT_SONAME (perhaps empty) of a shared object; None for another file."""
+    try:
+        with open(path, "rb") as file:
+            data = mmap.mmap(file.fileno(), 0, prot=mmap.PROT_READ)
+        wide, order, etype, machine = struct.unpack_from("<4xBB10xHH", data)
+        if data[:4] != b"\x7fELF" or order != 1 or etype != 3:
+            return None
+        table, size, count = struct.unpack_from("<32xQ14xHH" if wide == 2 else "<28xI10xHH", data)
+        header = "<I4xQQ8xQ" if wide == 2 else "<III4xI"
+        segments = [struct.unpack_from(header, data, table + size * i) for i in range(count)]
+        start, length = [(at, length) for kind, at, _, length in segments if kind == 2][0]
+        entries = list(struct.iter_unpack("<QQ" if wide == 2 else "<II", data[start : start + length]))
+        dynamic = dict(reversed(entries[: entries.index((0, 0)) if (0, 0) in entries else None]))
+        if 14 not in dynamic:
+            return machine, ""
+        place = dynamic[5] + dynamic[14]
+        start = [place - address + at for kind, at, address, length in segments if kind == 1 and address <= place < address + length][0]
+        return machine, data[start : data.find(b"\0", start)].decode()
+    except (OSError, LookupError, ValueError, struct.error):
+        return None
