@@ -9,7 +9,7 @@ use Rattle.tree_face.specs.Tree.{Nodes, node_at}
 use Rattle.file_analyses.specs.declared.files.Files.{Files}
 
 -- what has been read so far
-pub record Reading : Type 0 where
+pub record FilesRead : Type 0 where
   -- what each file is, by its path
   pub table : Analyses
   -- how many files were begun
@@ -28,23 +28,23 @@ abbrev pub unread_key : Nodes → Analyses → List ℕ → Option (List ℕ)
 unread_key t table path = if is_none (analysis_at table path) then key_in (node_at t path) else None
 
 -- a file is begun, with its content if that is held
-abbrev pub with_begun : Reading → List ℕ → Option (List ℕ) → Reading
+abbrev pub with_begun : FilesRead → List ℕ → Option (List ℕ) → FilesRead
 with_begun r path content = record {
   table = with_analysis r.table path (analysis (unwrap_or content []));
   begun = r.begun + 1;
   lacks = is_none content;
 }
 
-abbrev pub with_unread : Contents → Reading → List ℕ → Option (List ℕ) → Reading
+abbrev pub with_unread : Contents → FilesRead → List ℕ → Option (List ℕ) → FilesRead
 with_unread held r path None = r
 with_unread held r path (Some key) = with_begun r path (held key)
 
-abbrev pub with_file : Contents → Nodes → Reading → List ℕ → Reading
+abbrev pub with_file : Contents → Nodes → FilesRead → List ℕ → FilesRead
 with_file held t r path = if r.lacks then r else with_unread held r path (unread_key t r.table path)
 
 -- The files at these paths are read in their order, each that has no analysis yet.
-abbrev pub with_files : Contents → Nodes → Reading → List (List ℕ) → Reading
+abbrev pub with_files : Contents → Nodes → FilesRead → List (List ℕ) → FilesRead
 with_files held t r paths = fold (with_file held t) r paths
 
-abbrev pub seen : Files → Reading
+abbrev pub seen : Files → FilesRead
 seen files = record { table = files.table; begun = files.begun; lacks = false }

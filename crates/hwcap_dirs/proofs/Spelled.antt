@@ -11,12 +11,11 @@ use Rattle.lib_types.proofs.SortedPairs.{by_test}
 use Rattle.lib_types.specs.Name.{is_name}
 use Rattle.lib_types.specs.declared.name.TheConstants.{NAME_MAX}
 use Rattle.path_walk.proofs.NoNul.{led_clean}
-use Rattle.path_walk.specs.Names.{join}
 use Rattle.path_walk.specs.Walk.{resolution}
 use Rattle.path_walk.specs.declared.walk.Mode.TheVariants.{Plain}
 use Rattle.path_walk.specs.declared.walk.WalkFault.{WalkFault}
 use Rattle.tree_face.specs.Node.{has_no_nul}
-use Rattle.tree_face.specs.Paths.{folder, root}
+use Rattle.tree_face.specs.Paths.{folder, join, root}
 use Rattle.tree_face.specs.Tree.{Nodes, children_of, is_entry}
 use Rattle.tree_face.specs.declared.path.TheConstants.{PATH_MAX}
 use Rattle.hwcap_dirs.proofs.Children.{children_named}

@@ -3,7 +3,7 @@ use Rattle.std.specs.Prelude.{ℕ, Bool, true, false, List, [], ◌∷◌, ◌++
 use Rattle.std.specs.List.{filter_map, list_all, starts_with}
 use Rattle.std.specs.Str.{bytes_eq}
 use Rattle.lib_types.specs.Name.{is_name}
-use Rattle.path_walk.specs.Names.{join}
+use Rattle.tree_face.specs.Paths.{join}
 use Rattle.path_walk.specs.Walk.{resolution}
 use Rattle.path_walk.specs.declared.walk.Mode.TheVariants.{Plain}
 use Rattle.path_walk.specs.declared.walk.WalkFault.{WalkFault}

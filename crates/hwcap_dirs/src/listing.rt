@@ -3,15 +3,13 @@ ghost use Rattle.std.specs.Prelude.{◌≡◌, ◌≤◌, ◌∷◌, ◌++◌, �
 ghost use Rattle.std.specs.Option.{is_some};
 ghost use Rattle.std.specs.Str.{bytes_eq};
 ghost use Rattle.indexmap.specs.IndexSet.{insert_key};
-ghost use Rattle.path_walk.specs.Names.{join};
 ghost use Rattle.hwcap_dirs.specs.Gathering.{new_places, all_places};
-ghost use Rattle.tree_face.specs.Tree.{IsTree};
 ghost use Rattle.tree_face.specs.declared.path.TheConstants.{PATH_MAX};
 ghost use Rattle.hwcap_dirs.specs.Places.{absent, are_dirs, are_spelled, dir_at, hwcap_places, is_dir, is_hidden, place_of_name, places, places_of, system_dirs};
 
 use crate::kinds::{Dirs, Place, Places};
 use lib_types::{NoMemory, Text, Texts};
-use path_walk::{Mode, WalkFault, resolve};
+use path_walk::{Mode, WalkFault, join, resolve};
 use std::alloc::Global;
 use text_set::TextSet;
 use tree_face::{Kind, Tree};
@@ -49,19 +47,6 @@ fn dir_at(alloc: Global, tree: &Tree, text: &[u8]) -> Result<Option<Text>, NoMem
     }
 }
 
-// The path of a name in a folder.
-fn joined(alloc: Global, folder: &[u8], name: &[u8]) -> Result<Text, NoMemory>
-    ensures { IfOk result (λ path. path ≡ join folder.now name.now) }
-{
-    let mut path = Vec::with_capacity(alloc, folder.len() + 1 + name.len())?;
-    if folder != b"/".as_slice() {
-        path.extend_from_slice(folder)?;
-    }
-    path.push(b'/')?;
-    path.extend_from_slice(name)?;
-    Ok(Text::from_vec(path))
-}
-
 fn is_hidden(name: &[u8]) -> bool
     ensures { result ≡ is_hidden name.now }
 {
@@ -80,7 +65,7 @@ fn place_of_name(
     if is_hidden(name) {
         return Ok(None);
     }
-    let spelled = joined(alloc, folder, name)?;
+    let spelled = join(alloc, folder, name)?;
     let Some(real) = dir_at(alloc, tree, spelled.as_bytes())? else {
         return Ok(None);
     };
@@ -113,7 +98,7 @@ fn add_places(
 ) -> Result<(), NoMemory>
     ensures { OnOk result (places.new ≡ places.old ++ places_of tree.now (text.now, real)) }
 {
-    let below = joined(alloc, text, b"glibc-hwcaps")?;
+    let below = join(alloc, text, b"glibc-hwcaps")?;
     let spelled = Text::copy_of(alloc, text)?;
     places.push(Place {
         spelled,
@@ -170,13 +155,6 @@ impl Gathering {
     }
 }
 
-// Lets contracts know what each tree meets. It goes over nothing.
-fn know(tree: &Tree)
-    ensures { IsTree tree.now }
-{
-    let _ = tree.nodes();
-}
-
 /// The places for the directories of the conf file, with those that every system has behind them.
 #[tactic(auto, unfolding(crate::specs::Places::places, crate::specs::Places::absent))]
 pub fn order(alloc: Global, tree: &Tree, conf: &Texts) -> Result<Dirs, NoMemory>
@@ -185,7 +163,7 @@ pub fn order(alloc: Global, tree: &Tree, conf: &Texts) -> Result<Dirs, NoMemory>
     ensures absent { IfOk result (λ dirs. dirs.absent ≡ absent tree.now conf.now) }
     ensures spelled { IfOk result (λ dirs. All (λ dir. length dir ≤ PATH_MAX) conf.now → IsTrue (are_spelled dirs.places)) }
 {
-    know(tree);
+    tree.know();
     let mut gathering = Gathering {
         met: TextSet::new(alloc),
         places: Places::new(alloc),

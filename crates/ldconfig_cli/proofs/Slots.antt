@@ -6,14 +6,13 @@ use Rattle.tree_face.specs.Disk.{DiskContent}
 use Rattle.tree_face.specs.Store.{Contents, StoreState, BeginsAtMost}
 use Rattle.tree_face.specs.Known.{IfKnown, Relates, IsSame}
 use Rattle.tree_face.specs.Tree.{Nodes}
-use Rattle.ldconfig_core.specs.Cache.{AreTextsOf, IsReport, Texts}
+use Rattle.ldconfig_core.specs.Cache.{AreTextsOf, IsReport, UpdateTexts}
 use Rattle.ldconfig_core.specs.Faults.{is_of_preparing}
 use Rattle.ldconfig_core.specs.Image.{begun_in}
 use Rattle.ldconfig_core.specs.Manifest.{Manifest, HasTree, manifest_of}
 use Rattle.ldconfig_core.specs.Outcome.{Outcome, outcome}
-use Rattle.ldconfig_core.specs.Session.{IsLoaded}
-use Rattle.ldconfig_core.specs.Update as core
-use Rattle.ldconfig_core.specs.Update.{AreTexts, AreTextsFor, IsNewManifest, IsReportFor, begun_for}
+use Rattle.ldconfig_core.specs.Session.{IsLoaded, Says}
+use Rattle.ldconfig_core.specs.Update.{AreTextsFor, IsReportFor, LeavesUpdate, MakesCalls, MayLeaveUpdate, begun_for}
 use Rattle.ldconfig_core.specs.declared.fault.DiskFault as disks
 use Rattle.ldconfig_core.specs.declared.fault.UpdateFault.{UpdateFault}
 use Rattle.ldconfig_core.specs.declared.fault.UpdateFault.TheVariants as updating
@@ -24,19 +23,18 @@ use Rattle.ldconfig_core.specs.declared.fault.LoadFault.TheVariants as loading
 use Rattle.ldconfig_cli.specs.Status.{of_load, of_update}
 use Rattle.ldconfig_cli.specs.declared.status.Status.TheVariants.{DiskFault, TooLarge, TooMany}
 use Rattle.tree_face.specs.Stream.{IsFollowedByPart}
-use Rattle.ldconfig_cli.specs.Update.{BeginsFiles, CallsAfter, ComesTo, DiskAfter, LeavesUpdate, MakesCalls, MayHaveWritten, Reports, tag}
+use Rattle.ldconfig_cli.specs.Update.{BeginsFiles, CallsAfter, ComesTo, DiskAfter, LeavesItsUpdate, MakesItsCalls, MayHaveWritten, Reports, tag}
 use Rattle.ldconfig_cli.specs.declared.status.Status.{Status}
 
 -- what is loaded is what the slot says
 pub loaded : (a : DiskContent) (t : Nodes) → IsLoaded (Some a) t → manifest_of a.now.manifest ≡ HasTree t
 loaded a t is = ap manifest_of is.in_slot ∙ is.reads
 
--- a fact of the loaded tree's update is one of the manifest's
-by_slot : (P : Contents → Manifest → Type 0) (held : Option Contents) (a : DiskContent) (t : Nodes) → IsLoaded (Some a) t
-    → IfKnown held (λ contents. P contents (HasTree t)) → IfKnown held (λ contents. P contents (manifest_of a.now.manifest))
-by_slot P None a t is fact = tt
-by_slot P (Some contents) a t is fact = subst (P contents) (sym (loaded a t is)) fact
+says : (disk : Option DiskContent) (t : Nodes) → IsLoaded disk t → Says disk (HasTree t)
+says None t is = tt
+says (Some a) t is = loaded a t is
 
+-- a fact of the loaded tree's update is one of the manifest's
 by_disk : (P : Contents → Manifest → Type 0) (held : Option Contents) (disk : Option DiskContent) (t : Nodes) → IsLoaded disk t
     → IfKnown held (λ contents. P contents (HasTree t)) → IfBothKnown held disk (λ contents content. P contents (manifest_of content.now.manifest))
 by_disk P None disk t is fact = tt
@@ -44,34 +42,28 @@ by_disk P (Some contents) None t is fact = tt
 by_disk P (Some contents) (Some a) t is fact = subst (P contents) (sym (loaded a t is)) fact
 
 module _ (held : Option Contents) (t : Nodes) where
-  pub leaves_update : (report : List ℕ) (a b : Option DiskContent) → IsLoaded a t → Relates (core.LeavesUpdate tag held t report) a b → Relates (LeavesUpdate held) a b
+  pub leaves_update : (report : List ℕ) (a b : Option DiskContent) → IsLoaded a t → Relates (LeavesUpdate tag held (HasTree t) report) a b → Relates (LeavesItsUpdate held) a b
   leaves_update report None None is leaves = tt
   leaves_update report None (Some b) is leaves = leaves
   leaves_update report (Some a) None is leaves = leaves
-  leaves_update report (Some a) (Some b) is leaves =
-      record { texts = leaves.texts; are = by_slot (λ contents m. AreTextsFor contents m leaves.texts) held a t is leaves.are; written = leaves.written }
+  leaves_update report (Some a) (Some b) is leaves = (report, subst (λ (m : Manifest). LeavesUpdate tag held m report a b) (sym (loaded a t is)) leaves)
 
-  pub may_leave_update : (slot : Slot) (a b : Option DiskContent) → IsLoaded a t → Relates (core.MayLeaveUpdate tag held t slot) a b → Relates (MayHaveWritten held) a b
+  pub may_leave_update : (slot : Slot) (a b : Option DiskContent) → IsLoaded a t → Relates (MayLeaveUpdate tag held (HasTree t) slot) a b → Relates (MayHaveWritten held) a b
   may_leave_update slot None None is leaves = tt
   may_leave_update slot None (Some b) is leaves = leaves
   may_leave_update slot (Some a) None is leaves = leaves
-  may_leave_update slot (Some a) (Some b) is leaves =
-      inr (record { texts = leaves.texts; are = by_slot (λ contents m. AreTextsFor contents m leaves.texts) held a t is leaves.are; slot = slot; written = leaves.written })
+  may_leave_update slot (Some a) (Some b) is leaves = inr (slot, subst (λ (m : Manifest). MayLeaveUpdate tag held m slot a b) (sym (loaded a t is)) leaves)
 
   module _ (disk : Option DiskContent) (is : IsLoaded disk t) where
     pub makes_calls : (P : List DoneCall → List DoneCall → List DoneCall → Type 0) (a b : Option (List DoneCall))
-        → Relates (core.MakesCalls P (record { 0 = tag }) held t) a b → Relates (MakesCalls P held disk) a b
+        → Relates (MakesCalls P (record { 0 = tag }) held (HasTree t)) a b → Relates (MakesItsCalls P held disk) a b
     makes_calls P None None calls = tt
     makes_calls P None (Some b) calls = calls
     makes_calls P (Some a) None calls = calls
-    makes_calls P (Some a) (Some b) calls = record {
-      manifest = calls.manifest;
-      is_new = by_disk (λ contents m. IsNewManifest contents m calls.manifest) held disk t is calls.is_new;
-      calls = calls.calls;
-    }
+    makes_calls P (Some a) (Some b) calls = (HasTree t, (says disk t is, calls))
 
     pub makes_part : (P : List DoneCall → List DoneCall → List DoneCall → Type 0) (a b : Option (List DoneCall))
-        → Relates (core.MakesCalls P (record { 0 = tag }) held t) a b → Relates (λ x y. IsSame x y ⊎ MakesCalls P held disk x y) a b
+        → Relates (MakesCalls P (record { 0 = tag }) held (HasTree t)) a b → Relates (λ x y. IsSame x y ⊎ MakesItsCalls P held disk x y) a b
     makes_part P None None calls = tt
     makes_part P None (Some b) calls = calls
     makes_part P (Some a) None calls = calls
@@ -92,10 +84,10 @@ module _ (held : Option Contents) (t : Nodes) where
       report = report.text;
       is_report = is_report;
       written = written;
-      is_own = by_disk (λ contents m. (texts : Texts) × (AreTextsFor contents m texts × (report.text ≡ texts.report))) held disk t is (own_texts held own);
+      is_own = by_disk (λ contents m. (texts : UpdateTexts) × (AreTextsFor contents m texts × (report.text ≡ texts.report))) held disk t is (own_texts held own);
     } where
       own_texts : (known : Option Contents) → IfKnown known (λ contents. IsReportFor contents t report)
-          → IfKnown known (λ contents. (texts : Texts) × (AreTextsOf contents t texts × (report.text ≡ texts.report)))
+          → IfKnown known (λ contents. (texts : UpdateTexts) × (AreTextsOf contents t texts × (report.text ≡ texts.report)))
       own_texts None fact = tt
       own_texts (Some contents) fact = (fact.texts, (fact.are, fact.text_is))
 
@@ -138,7 +130,7 @@ refused_calls held disk updating.NoMemory status is a b may same = rw is (same_c
 -- nothing is written if the image isn't loaded
 pub unloaded_calls : (held : Option Contents) (disk : Option DiskContent) (fault : LoadFault) (status : Status) → status ≡ of_load fault → (a b : Option (List DoneCall)) → b ≡ a
     → Relates (CallsAfter status held disk) a b
-unloaded_calls held disk (loading.DiskFailed slot) status is a b same = rw is (same_or (MakesCalls IsFollowedByPart held disk) a b same)
+unloaded_calls held disk (loading.DiskFailed slot) status is a b same = rw is (same_or (MakesItsCalls IsFollowedByPart held disk) a b same)
 unloaded_calls held disk loading.NoManifest status is a b same = rw is (same_calls a b same)
 unloaded_calls held disk (loading.BadManifest fault) status is a b same = rw is (same_calls a b same)
 unloaded_calls held disk loading.NoMemory status is a b same = rw is (same_calls a b same)

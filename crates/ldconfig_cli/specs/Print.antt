@@ -40,6 +40,20 @@ is_of_print OutputFault = true
 is_of_print NoMemory = true
 is_of_print _ = false
 
+-- the statuses of a print that has no bytes to print
+abbrev pub is_of_reading : Status → Bool
+is_of_reading NoCache = true
+is_of_reading DiskFault = true
+is_of_reading NoMemory = true
+is_of_reading _ = false
+
+-- these bytes are printed, or have this defect, or the output has failed behind a prefix of their text
+abbrev pub IsPrinted : List ℕ → SinkState → SinkState → Status → Type 0
+IsPrinted bytes old new Done = (defect bytes ≡ None) × Relates (IsFollowedBy (printed bytes cache_name)) old.written new.written
+IsPrinted bytes old new OutputFault = HasRisen old.faults new.faults × Relates (IsFollowedByPart (printed bytes cache_name)) old.written new.written
+IsPrinted bytes old new (BadCache d) = (defect bytes ≡ Some d) × (new ≡ old)
+IsPrinted bytes old new _ = ⊥
+
 -- the text of a cache follows what was written, in full or as this relation says; it is that of the slot
 pub record Prints (P : List ℕ → List ℕ → List ℕ → Type 0) (disk : Option DiskContent) (a b : List ℕ) : Type 0 where
   pub bytes : List ℕ

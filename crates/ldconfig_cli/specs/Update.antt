@@ -7,13 +7,14 @@ use Rattle.tree_face.specs.Disk.{DiskContent, KeepsAll}
 use Rattle.tree_face.specs.Known.{IfKnown, Relates, IsSame}
 use Rattle.tree_face.specs.Store.{Contents, StoreState, BeginsAtMost}
 use Rattle.tree_face.specs.Stream.{SinkState, IsFollowedBy, IsFollowedByPart}
-use Rattle.ldconfig_core.specs.Cache.{IsReport, Texts}
+use Rattle.ldconfig_core.specs.Cache.{IsReport, UpdateTexts}
 use Rattle.ldconfig_cli.specs.Devices.{Devices, IfBothKnown}
-use Rattle.ldconfig_core.specs.Manifest.{manifest_of, Faulty}
+use Rattle.ldconfig_core.specs.Manifest.{Manifest, manifest_of, Faulty}
 use Rattle.ldconfig_core.specs.Outcome.{Outcome, outcome}
 use Rattle.ldconfig_core.specs.Outcome as outcomes
-use Rattle.ldconfig_core.specs.Replace.{FailsToReplace, KeepsRestMade, ReplacesBoth, calls_for}
-use Rattle.ldconfig_core.specs.Update.{AreTextsFor, IsNewManifest, begun_for}
+use Rattle.ldconfig_core.specs.Replace.{KeepsRestMade}
+use Rattle.ldconfig_core.specs.Session as session
+use Rattle.ldconfig_core.specs.Update.{AreTextsFor, LeavesUpdate, MakesCalls, MayLeaveUpdate, begun_for}
 use Rattle.ldconfig_cli.specs.Status.{fault_line, Says}
 use Rattle.ldconfig_cli.specs.declared.status.Status.{Status}
 use Rattle.ldconfig_cli.specs.declared.status.Status.TheVariants.{Done, Usage, BadManifest, NoCache, BadCache, StoreFault, DiskFault, OutputFault, NoMemory, NoManifest, TooLarge, TooMany}
@@ -88,45 +89,30 @@ BeginsFiles disk old new = IfBothKnown old.held disk (λ contents content. Begin
 
 -- ---- the disk
 
--- the texts are those of the update of the manifest, if the store's contents are known
-abbrev pub AreTextsIn : Option Contents → DiskContent → Texts → Type 0
-AreTextsIn held content texts = IfKnown held (λ contents. AreTextsFor contents (manifest_of content.now.manifest) texts)
+-- the slots are replaced by the texts of the update of the manifest that was there
+abbrev pub LeavesItsUpdate : Option Contents → DiskContent → DiskContent → Type 0
+LeavesItsUpdate held a b = (report : List ℕ) × LeavesUpdate tag held (manifest_of a.now.manifest) report a b
 
--- the manifest is written if links are planned, and then the cache
-pub record LeavesUpdate (held : Option Contents) (a b : DiskContent) : Type 0 where
-  pub texts : Texts
-  pub are : AreTextsIn held a texts
-  pub written : ReplacesBoth tag texts.manifest texts.cache a b
-
--- the replacement of a slot failed
-pub record MayLeaveUpdate (held : Option Contents) (a b : DiskContent) : Type 0 where
-  pub texts : Texts
-  pub are : AreTextsIn held a texts
-  pub slot : Slot
-  pub written : FailsToReplace tag texts.manifest texts.cache slot a b
-
--- nothing was written, or a replacement failed
+-- nothing was written, or the replacement of a slot failed
 abbrev pub MayHaveWritten : Option Contents → DiskContent → DiskContent → Type 0
-MayHaveWritten held a b = IsSame a b ⊎ MayLeaveUpdate held a b
+MayHaveWritten held a b = IsSame a b ⊎ ((slot : Slot) × MayLeaveUpdate tag held (manifest_of a.now.manifest) slot a b)
 
 -- only an update that was made writes, or may have written if the disk has failed
 abbrev pub DiskAfter : Status → Option Contents → DiskContent → DiskContent → Type 0
-DiskAfter Done held = LeavesUpdate held
-DiskAfter OutputFault held = LeavesUpdate held
+DiskAfter Done held = LeavesItsUpdate held
+DiskAfter OutputFault held = LeavesItsUpdate held
 DiskAfter DiskFault held = MayHaveWritten held
 DiskAfter _ held = IsSame
 
--- the five writing calls of each slot that is replaced, in their order
-pub record MakesCalls (P : List DoneCall → List DoneCall → List DoneCall → Type 0) (held : Option Contents) (disk : Option DiskContent) (a b : List DoneCall) : Type 0 where
-  pub manifest : Option (List ℕ)
-  pub is_new : IfBothKnown held disk (λ contents content. IsNewManifest contents (manifest_of content.now.manifest) manifest)
-  pub calls : P (calls_for (record { 0 = tag }) manifest) a b
+-- the writing calls are those of the update of the manifest that was there: five of each slot that is replaced, in their order
+abbrev pub MakesItsCalls : (List DoneCall → List DoneCall → List DoneCall → Type 0) → Option Contents → Option DiskContent → List DoneCall → List DoneCall → Type 0
+MakesItsCalls P held disk a b = (m : Manifest) × (session.Says disk m × MakesCalls P (record { 0 = tag }) held m a b)
 
 -- all calls, a prefix of them if the disk has failed, and no others
 abbrev pub CallsAfter : Status → Option Contents → Option DiskContent → List DoneCall → List DoneCall → Type 0
-CallsAfter Done held disk = MakesCalls IsFollowedBy held disk
-CallsAfter OutputFault held disk = MakesCalls IsFollowedBy held disk
-CallsAfter DiskFault held disk = λ a b. IsSame a b ⊎ MakesCalls IsFollowedByPart held disk a b
+CallsAfter Done held disk = MakesItsCalls IsFollowedBy held disk
+CallsAfter OutputFault held disk = MakesItsCalls IsFollowedBy held disk
+CallsAfter DiskFault held disk = λ a b. IsSame a b ⊎ MakesItsCalls IsFollowedByPart held disk a b
 CallsAfter _ held disk = IsSame
 
 -- ---- the output
@@ -136,7 +122,7 @@ pub record Reports (P : List ℕ → List ℕ → List ℕ → Type 0) (held : O
   pub report : List ℕ
   pub is_report : IsReport report
   pub written : P report a b
-  pub is_own : IfBothKnown held disk (λ contents content. (texts : Texts) × (AreTextsFor contents (manifest_of content.now.manifest) texts × (report ≡ texts.report)))
+  pub is_own : IfBothKnown held disk (λ contents content. (texts : UpdateTexts) × (AreTextsFor contents (manifest_of content.now.manifest) texts × (report ≡ texts.report)))
 
 -- the report, a prefix of it if the output has failed, or the fault line
 abbrev pub OutputAfter : Status → Option Contents → Option DiskContent → SinkState → SinkState → Type 0

@@ -3,7 +3,7 @@ ghost use Rattle.std.specs.Prelude.{◌≡◌, ◌↔◌, ◌⊎◌, ◌<◌, �
 ghost use Rattle.lib_types.specs.Counts.{HasRisen};
 ghost use Rattle.tree_face.specs.Disk.{KeepsAll};
 ghost use Rattle.tree_face.specs.Known.{IfKnown, Relates};
-ghost use Rattle.ldconfig_core.specs.Cache.{AreTextsOf, Texts};
+ghost use Rattle.ldconfig_core.specs.Cache.{AreTextsOf, UpdateTexts};
 ghost use Rattle.ldconfig_core.specs.Replace.{KeepsRestMade};
 ghost use Rattle.ldconfig_cli.specs.Command.{command_of};
 ghost use Rattle.ldconfig_cli.specs.Devices.{devices, IfBothKnown};
@@ -180,7 +180,7 @@ pub fn run<S: Store, D: Disk, I: Source, O: Sink>(
         (devices (S.state store.old) (D.state disk.old) (I.state input.old) (O.state out.old))
         (devices (S.state store.new) (D.state disk.new) (I.state input.new) (O.state out.new))
         result }
-    ensures one_update { (held : Contents) (t : Nodes) (texts others : Texts) → AreTextsOf held t texts → AreTextsOf held t others → texts ≡ others }
+    ensures one_update { (held : Contents) (t : Nodes) (texts others : UpdateTexts) → AreTextsOf held t texts → AreTextsOf held t others → texts ≡ others }
 
     // What no command changes.
     ensures made { KeepsRestMade tag (D.state disk.old) (D.state disk.new) }

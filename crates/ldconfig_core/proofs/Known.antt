@@ -8,6 +8,7 @@ use Rattle.soname_links.specs.Apply.{nodes_with}
 use Rattle.soname_links.specs.Marks.{blocked, mixed}
 use Rattle.soname_links.specs.Plan.{links, with_links}
 use Rattle.soname_links.specs.Search.{dangling, reached}
+use Rattle.soname_links.specs.declared.kinds.Survey.{Survey}
 use Rattle.tree_face.specs.Known.{IfKnown}
 use Rattle.tree_face.specs.Store.{Contents, StoreState, BeginsAtMost}
 use Rattle.tree_face.specs.Tree.{Nodes}
@@ -19,7 +20,6 @@ use Rattle.ldconfig_core.specs.Outcome.{Lacking, TooLarge, TooMany, Writes, is_t
 use Rattle.ldconfig_core.specs.Stages.{begun_searching, entries_of, texts_of, IsFollowed, IsFound, IsMadeOf, IsPlanned, IsSearched}
 use Rattle.ldconfig_core.specs.Update.{IsReportFor}
 use Rattle.ldconfig_core.specs.declared.following.Followed.{Followed}
-use Rattle.ldconfig_core.specs.declared.planning.Links.{Links}
 use Rattle.ldconfig_core.specs.declared.finding.Found.{Found}
 use Rattle.ldconfig_core.specs.declared.prepare.Prepared.{Prepared}
 use Rattle.ldconfig_core.specs.declared.search.Search.{Search}
@@ -30,7 +30,7 @@ begins_searched t None old new begun = tt
 begins_searched t (Some held) old new begun = omega (arith, begun, parts.searching_part held t)
 
 module _ (t : Nodes) (search : Search) where
-  pub planned : (known : Option Contents) → IfKnown known (λ held. IsSearched held t search) → (made : Links) (tree : Nodes)
+  pub planned : (known : Option Contents) → IfKnown known (λ held. IsSearched held t search) → (made : Survey) (tree : Nodes)
       → made.plan ≡ links search.files.table t search.dirs.places → tree ≡ with_links t (links search.files.table t search.dirs.places)
       → made.blocked ≡ blocked search.files.table t search.dirs.places → made.mixed ≡ mixed search.files.table t search.dirs.places
       → nodes_with t (links search.files.table t search.dirs.places) ≤ NODES_MAX → IfKnown known (λ held. IsPlanned held t made tree)
@@ -42,7 +42,7 @@ module _ (t : Nodes) (search : Search) where
   too_many_nodes None s nodes bytes large = tt
   too_many_nodes (Some held) s nodes bytes large = rw large.0 (parts.too_many_nodes held t search s nodes large.1.0 large.1.1)
 
-  module _ (made : Links) (tree : Nodes) where
+  module _ (made : Survey) (tree : Nodes) where
     pub followed : (known : Option Contents) → IfKnown known (λ held. IsSearched held t search) → IfKnown known (λ held. IsPlanned held t made tree) → (found : Followed) (files : Files)
         → found.reached ≡ reached tree search.dirs.places → found.dangling ≡ dangling tree search.dirs.places
         → IfKnown known (λ held. seen files ≡ with_files held tree (seen search.files) (reached tree search.dirs.places)) → IfKnown known (λ held. IsFollowed held t found files)

@@ -7,20 +7,21 @@ use Rattle.tree_face.specs.Disk.{DiskContent}
 use Rattle.tree_face.specs.Known.{IfKnown, Relates}
 use Rattle.tree_face.specs.Store.{Contents}
 use Rattle.tree_face.specs.Tree.{Nodes}
-use Rattle.ldconfig_core.specs.Cache.{AreTextsOf, Texts}
+use Rattle.ldconfig_core.specs.Cache.{AreTextsOf, UpdateTexts}
+use Rattle.ldconfig_core.specs.Manifest.{HasTree}
 use Rattle.ldconfig_core.specs.Outcome.{new_manifest}
 use Rattle.ldconfig_core.specs.Replace.{FailsToReplace, ReplacesBoth, calls_for}
 use Rattle.ldconfig_core.specs.Update.{LeavesUpdate, MakesCalls, MayLeaveUpdate}
 
-module _ (held : Option Contents) (t : Nodes) (texts : Texts) (are : IfKnown held (λ contents. AreTextsOf contents t texts)) where
-  pub leaves_update : (tag : ℕ) (a b : Option DiskContent) → Relates (ReplacesBoth tag texts.manifest texts.cache) a b → Relates (LeavesUpdate tag held t texts.report) a b
+module _ (held : Option Contents) (t : Nodes) (texts : UpdateTexts) (are : IfKnown held (λ contents. AreTextsOf contents t texts)) where
+  pub leaves_update : (tag : ℕ) (a b : Option DiskContent) → Relates (ReplacesBoth tag texts.manifest texts.cache) a b → Relates (LeavesUpdate tag held (HasTree t) texts.report) a b
   leaves_update tag None None written = tt
   leaves_update tag None (Some b) written = written
   leaves_update tag (Some a) None written = written
   leaves_update tag (Some a) (Some b) written = record { texts = texts; are = are; report_is = refl; written = written }
 
   pub may_leave_update : (tag : ℕ) (slot : Slot) (a b : Option DiskContent) → Relates (FailsToReplace tag texts.manifest texts.cache slot) a b
-      → Relates (MayLeaveUpdate tag held t slot) a b
+      → Relates (MayLeaveUpdate tag held (HasTree t) slot) a b
   may_leave_update tag slot None None written = tt
   may_leave_update tag slot None (Some b) written = written
   may_leave_update tag slot (Some a) None written = written
@@ -31,7 +32,7 @@ module _ (held : Option Contents) (t : Nodes) (texts : Texts) (are : IfKnown hel
   is_new (Some contents) are = are.manifest_is
 
   pub makes_calls : (tag : Tag) (P : List DoneCall → List DoneCall → List DoneCall → Type 0) (a b : Option (List DoneCall)) → Relates (P (calls_for tag texts.manifest)) a b
-      → Relates (MakesCalls P tag held t) a b
+      → Relates (MakesCalls P tag held (HasTree t)) a b
   makes_calls tag P None None calls = tt
   makes_calls tag P None (Some b) calls = calls
   makes_calls tag P (Some a) None calls = calls

@@ -12,6 +12,7 @@ use Rattle.soname_links.specs.Entries.{AreEntriesOf}
 use Rattle.soname_links.specs.Marks.{blocked, mixed}
 use Rattle.soname_links.specs.Plan.{links, with_links}
 use Rattle.soname_links.specs.Search.{dangling, reached}
+use Rattle.soname_links.specs.declared.kinds.Survey.{Survey}
 use Rattle.tree_face.specs.Store.{Contents, StoreState, BeginsAtMost}
 use Rattle.tree_face.specs.Tree.{Nodes}
 use Rattle.tree_face.specs.declared.tree.TheConstants.{NODES_MAX}
@@ -23,7 +24,6 @@ use Rattle.ldconfig_core.specs.Outcome.{Lacking, TooLarge, TooMany, Writes, is_t
 use Rattle.ldconfig_core.specs.Stages.{begun_searching, entries_of, said_of, texts_of, IsFollowed, IsFound, IsMadeOf, IsPlanned, IsSearched}
 use Rattle.ldconfig_core.specs.Update.{IsReportFor}
 use Rattle.ldconfig_core.specs.declared.following.Followed.{Followed}
-use Rattle.ldconfig_core.specs.declared.planning.Links.{Links}
 use Rattle.ldconfig_core.specs.declared.finding.Found.{Found}
 use Rattle.ldconfig_core.specs.declared.prepare.Prepared.{Prepared}
 use Rattle.ldconfig_core.specs.declared.search.Search.{Search}
@@ -57,7 +57,7 @@ module _ (held : Contents) (t : Nodes) (search : Search) (s : IsSearched held t 
   unfolding planned_in
   tree_is = ap (with_links t) links_are
 
-  pub is_planned : (made : Links) (tree : Nodes) → made.plan ≡ links search.files.table t search.dirs.places → tree ≡ with_links t (links search.files.table t search.dirs.places)
+  pub is_planned : (made : Survey) (tree : Nodes) → made.plan ≡ links search.files.table t search.dirs.places → tree ≡ with_links t (links search.files.table t search.dirs.places)
       → made.blocked ≡ blocked search.files.table t search.dirs.places → made.mixed ≡ mixed search.files.table t search.dirs.places
       → nodes_with t (links search.files.table t search.dirs.places) ≤ NODES_MAX → IsPlanned held t made tree
   is_planned made tree p w b m few = record {
@@ -75,7 +75,7 @@ module _ (held : Contents) (t : Nodes) (search : Search) (s : IsSearched held t 
       let large : has_too_many_nodes held t ≡ true = rw (← size) (over NODES_MAX nodes over_max) in
       rw (s.conf.held, s.held_files, large, size) refl
 
-  module _ (links : Links) (tree : Nodes) (p : IsPlanned held t links tree) where
+  module _ (links : Survey) (tree : Nodes) (p : IsPlanned held t links tree) where
     followed_files : (paths : List (List ℕ)) → paths ≡ reached tree search.dirs.places → with_files held tree (seen search.files) paths ≡ files_in held t
     unfolding files_in
     followed_files paths e = rw (e, p.tree_is, s.places, s.files) refl

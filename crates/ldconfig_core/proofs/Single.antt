@@ -7,10 +7,10 @@ use Rattle.soname_links.specs.Entries.{AreEntriesOf}
 use Rattle.tree_face.specs.Store.{Contents}
 use Rattle.tree_face.specs.Tree.{Nodes}
 use Rattle.update_report.specs.Report.{report_text}
-use Rattle.ldconfig_core.specs.Cache.{AreTextsOf, Texts, said_with}
+use Rattle.ldconfig_core.specs.Cache.{AreTextsOf, UpdateTexts, said_with}
 use Rattle.ldconfig_core.specs.Image.{entries_in, files_in, places_in, planned_in}
 
-abbrev texts_with : Option (List ℕ) → List ℕ → List ℕ → Texts
+abbrev texts_with : Option (List ℕ) → List ℕ → List ℕ → UpdateTexts
 texts_with m c r = record { manifest = m; cache = c; report = r }
 
 module _ (held : Contents) (t : Nodes) where
@@ -18,7 +18,7 @@ module _ (held : Contents) (t : Nodes) where
   unfolding entries_in
   one_entries a b are is = one_list (files_in held t).table (planned_in held t) (places_in held t) a b are is
 
-  pub one_update : (texts others : Texts) → AreTextsOf held t texts → AreTextsOf held t others → texts ≡ others
+  pub one_update : (texts others : UpdateTexts) → AreTextsOf held t texts → AreTextsOf held t others → texts ≡ others
   one_update texts others are is =
       let same : are.entries ≡ is.entries = one_entries are.entries is.entries are.are is.are in
       let manifest : texts.manifest ≡ others.manifest = are.manifest_is ∙ sym is.manifest_is in

@@ -41,13 +41,13 @@ said_with held t entries = record {
 }
 
 -- the manifest, if it is written, the cache, and the report of an update
-pub record Texts : Type 0 where
+pub record UpdateTexts : Type 0 where
   pub manifest : Option (List ℕ)
   pub cache : List ℕ
   pub report : List ℕ
 
 -- the texts of the update of a tree
-pub record AreTextsOf (held : Contents) (t : Nodes) (texts : Texts) : Type 0 where
+pub record AreTextsOf (held : Contents) (t : Nodes) (texts : UpdateTexts) : Type 0 where
   pub entries : List Entry
   pub are : AreEntriesOf (entries_in held t) entries
   pub manifest_is : texts.manifest ≡ new_manifest held t

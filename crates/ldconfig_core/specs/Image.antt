@@ -1,7 +1,6 @@
 -- What an update finds in an image, for given contents (ldconfig(8)): conf file, places, files, links, and entries of the cache.
 use Rattle.std.specs.Prelude.{ℕ, ◌+◌, Bool, false, List, [], if◌then◌else◌, nat_lt}
-use Rattle.file_analyses.specs.Files as files
-use Rattle.file_analyses.specs.Files.{with_files}
+use Rattle.file_analyses.specs.Files.{FilesRead, with_files}
 use Rattle.hwcap_dirs.specs.declared.kinds.Place.{Place}
 use Rattle.hwcap_dirs.specs.Places.{places}
 use Rattle.ldso_conf.specs.Reading.{Reading, reading}
@@ -23,11 +22,11 @@ conf_in held t = reading t held
 unfoldable pub places_in : Contents → Nodes → List Place
 places_in held t = places t (conf_in held t).dirs
 
-abbrev pub nothing_read : files.Reading
+abbrev pub nothing_read : FilesRead
 nothing_read = record { table = []; begun = 0; lacks = false }
 
 -- the files with library names
-unfoldable pub wanted_in : Contents → Nodes → files.Reading
+unfoldable pub wanted_in : Contents → Nodes → FilesRead
 wanted_in held t = with_files held t nothing_read (wanted t (places_in held t))
 
 -- the links that are planned
@@ -39,7 +38,7 @@ unfoldable pub planned_in : Contents → Nodes → Nodes
 planned_in held t = with_links t (links_in held t)
 
 -- the files with library names, and then those to which links with library names lead
-unfoldable pub files_in : Contents → Nodes → files.Reading
+unfoldable pub files_in : Contents → Nodes → FilesRead
 files_in held t = with_files held (planned_in held t) (wanted_in held t) (reached (planned_in held t) (places_in held t))
 
 -- the entries of the cache, in no order

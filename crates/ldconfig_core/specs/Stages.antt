@@ -12,18 +12,18 @@ use Rattle.soname_links.specs.Entries as entries
 use Rattle.soname_links.specs.Entries.{AreEntriesOf}
 use Rattle.soname_links.specs.Order.{ascending}
 use Rattle.soname_links.specs.Search.{dangling, reached, wanted}
+use Rattle.soname_links.specs.declared.kinds.Survey.{Survey}
 use Rattle.lib_types.specs.declared.entry.Entry.{Entry}
 use Rattle.tree_face.specs.Store.{Contents}
 use Rattle.tree_face.specs.Tree.{Nodes}
 use Rattle.update_report.specs.Report.{Said, report_text}
 use Rattle.update_report.specs.Skips.{skip_at}
-use Rattle.ldconfig_core.specs.Cache.{Texts}
+use Rattle.ldconfig_core.specs.Cache.{UpdateTexts}
 use Rattle.ldconfig_core.specs.Image.{conf_in, places_in, wanted_in, links_in, planned_in, files_in, has_too_many_nodes}
 use Rattle.ldconfig_core.specs.Outcome.{is_too_long, manifest_with}
 use Rattle.ldconfig_core.specs.Replace.{manifest_bytes}
 use Rattle.ldconfig_core.specs.declared.finding.Found.{Found}
 use Rattle.ldconfig_core.specs.declared.following.Followed.{Followed}
-use Rattle.ldconfig_core.specs.declared.planning.Links.{Links}
 use Rattle.ldconfig_core.specs.declared.prepare.Prepared.{Prepared}
 use Rattle.ldconfig_core.specs.declared.search.Search.{Search}
 
@@ -41,7 +41,7 @@ unfoldable pub begun_searching : Contents → Nodes → ℕ
 begun_searching held t = (conf_in held t).files + (if (conf_in held t).lacks then 0 else (wanted_in held t).begun)
 
 -- the links that are planned, and the tree with them
-pub record IsPlanned (held : Contents) (t : Nodes) (found : Links) (tree : Nodes) : Type 0 where
+pub record IsPlanned (held : Contents) (t : Nodes) (found : Survey) (tree : Nodes) : Type 0 where
   pub plan : found.plan ≡ links_in held t
   pub tree_is : tree ≡ planned_in held t
   pub blocked_is : found.blocked ≡ blocked (wanted_in held t).table t (places_in held t)
@@ -97,5 +97,5 @@ pub record IsMadeOf (found : Found) (tree : Nodes) (prepared : Prepared) : Type 
   pub links : prepared.report.links ≡ length found.links.plan
   pub opened : prepared.report.opened ≡ found.search.files.begun
 
-abbrev pub texts_of : Prepared → Texts
+abbrev pub texts_of : Prepared → UpdateTexts
 texts_of prepared = record { manifest = manifest_bytes prepared.manifest; cache = prepared.cache.items; report = prepared.report.text }

@@ -12,8 +12,9 @@ ghost use Rattle.ldconfig_core.specs.Stages.{IsFound};
 
 use crate::fault::UpdateFault;
 use crate::following::{Followed, follow_links};
-use crate::planning::{Links, plan_links};
+use crate::planning::plan_links;
 use crate::search::{Search, search_image};
+use soname_links::Survey;
 use std::alloc::Global;
 use tree_face::{Store, Tree};
 
@@ -21,7 +22,7 @@ use tree_face::{Store, Tree};
 #[derive(Drop)]
 pub struct Found {
     pub search: Search,
-    pub links: Links,
+    pub links: Survey,
     pub followed: Followed,
 }
 

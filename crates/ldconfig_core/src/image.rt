@@ -7,6 +7,7 @@ ghost use Rattle.tree_face.specs.Stream.{IsFollowedBy, IsFollowedByPart};
 ghost use Rattle.ldconfig_core.specs.Cache.{IsReport};
 ghost use Rattle.ldconfig_core.specs.Faults.{is_of_preparing};
 ghost use Rattle.ldconfig_core.specs.Image.{begun_in, planned_in};
+ghost use Rattle.ldconfig_core.specs.Manifest.{HasTree};
 ghost use Rattle.ldconfig_core.specs.Outcome as outcomes;
 ghost use Rattle.ldconfig_core.specs.Outcome.{update_outcome};
 ghost use Rattle.ldconfig_core.specs.Replace.{KeepsRestMade};
@@ -35,20 +36,20 @@ pub fn update<S: Store, D: Disk>(
     ensures store_fault { IsErrOf result UpdateFault.StoreFault → HasRisen (S.state store.old).faults (S.state store.new).faults
         ⊎ IsSomeAnd (S.state store.old).held (λ held. update_outcome held session ≡ outcomes.Lacking) }
     ensures too_large { (nodes bytes : ℕ) → IsErrOf result (UpdateFault.TooLarge nodes bytes) →
-        ComesTo (S.state store.old).held session (outcomes.TooLarge nodes bytes) }
-    ensures too_many { (count : ℕ) → IsErrOf result (UpdateFault.TooMany count) → ComesTo (S.state store.old).held session (outcomes.TooMany count) }
+        ComesTo (S.state store.old).held (HasTree session) (outcomes.TooLarge nodes bytes) }
+    ensures too_many { (count : ℕ) → IsErrOf result (UpdateFault.TooMany count) → ComesTo (S.state store.old).held (HasTree session) (outcomes.TooMany count) }
     ensures disk_fault { (fault : DiskFault) → IsErrOf result (UpdateFault.DiskFault fault) →
-        HasRisen (D.state disk.old).faults (D.state disk.new).faults × ComesTo (S.state store.old).held session outcomes.Writes }
-    ensures made { OnOk result (ComesTo (S.state store.old).held session outcomes.Writes) }
+        HasRisen (D.state disk.old).faults (D.state disk.new).faults × ComesTo (S.state store.old).held (HasTree session) outcomes.Writes }
+    ensures made { OnOk result (ComesTo (S.state store.old).held (HasTree session) outcomes.Writes) }
 
     ensures written { IfOk result (λ r. Relates
-        (LeavesUpdate tag.0 (S.state store.old).held session r.1.text) (D.state disk.old).contents (D.state disk.new).contents) }
+        (LeavesUpdate tag.0 (S.state store.old).held (HasTree session) r.1.text) (D.state disk.old).contents (D.state disk.new).contents) }
     ensures may_write { (fault : DiskFault) → IsErrOf result (UpdateFault.DiskFault fault) → Relates
-        (MayLeaveUpdate tag.0 (S.state store.old).held session fault.slot) (D.state disk.old).contents (D.state disk.new).contents }
+        (MayLeaveUpdate tag.0 (S.state store.old).held (HasTree session) fault.slot) (D.state disk.old).contents (D.state disk.new).contents }
     ensures calls { OnOk result (Relates
-        (MakesCalls IsFollowedBy tag (S.state store.old).held session) (D.state disk.old).calls (D.state disk.new).calls) }
+        (MakesCalls IsFollowedBy tag (S.state store.old).held (HasTree session)) (D.state disk.old).calls (D.state disk.new).calls) }
     ensures calls_failed { (fault : DiskFault) → IsErrOf result (UpdateFault.DiskFault fault) → Relates
-        (MakesCalls IsFollowedByPart tag (S.state store.old).held session) (D.state disk.old).calls (D.state disk.new).calls }
+        (MakesCalls IsFollowedByPart tag (S.state store.old).held (HasTree session)) (D.state disk.old).calls (D.state disk.new).calls }
     ensures refused { IfErr result (λ fault. is_of_preparing fault ≡ true → D.state disk.new ≡ D.state disk.old) }
     ensures kept { KeepsRestMade tag.0 (D.state disk.old) (D.state disk.new) }
 

@@ -9,18 +9,9 @@ ghost use Rattle.ldconfig_core.specs.Faults.{is_size_fault};
 
 use crate::fault::UpdateFault;
 use hwcap_dirs::Dirs;
-use soname_links::kinds::Plan;
-use soname_links::{Marks, Table, apply, blocked, mixed, plan};
+use soname_links::{Survey, Table, apply, survey};
 use std::alloc::Global;
 use tree_face::Tree;
-
-/// The links that are planned, and the sonames that are reported.
-#[derive(Drop)]
-pub struct Links {
-    pub plan: Plan,
-    pub blocked: Marks,
-    pub mixed: Marks,
-}
 
 /// Plans the links of a tree and puts them into it.
 pub fn plan_links(
@@ -28,7 +19,7 @@ pub fn plan_links(
     tree: &mut Tree,
     dirs: &Dirs,
     table: &Table,
-) -> Result<Links, UpdateFault>
+) -> Result<Survey, UpdateFault>
     requires { IsTrue (are_dirs tree.old dirs.now.places) }
     ensures plan { IfOk result (λ found. found.plan ≡ links table.now tree.old dirs.now.places) }
     ensures tree { IfOk result (λ found. tree.new ≡ with_links tree.old (links table.now tree.old dirs.now.places)) }
@@ -39,13 +30,7 @@ pub fn plan_links(
         (bytes ≡ 0) × ((nodes ≡ nodes_with tree.old (links table.now tree.old dirs.now.places)) × (NODES_MAX < nodes)) }
     ensures others { IfErr result (λ fault. is_size_fault fault ≡ true) }
 {
-    let plan = plan(alloc, tree, dirs, table)?;
-    let blocked = blocked(alloc, tree, dirs, table)?;
-    let mixed = mixed(alloc, tree, dirs, table)?;
-    apply(alloc, tree, &plan)?;
-    Ok(Links {
-        plan,
-        blocked,
-        mixed,
-    })
+    let found = survey(alloc, tree, dirs, table)?;
+    apply(alloc, tree, &found.plan)?;
+    Ok(found)
 }

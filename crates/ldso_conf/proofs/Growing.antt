@@ -5,7 +5,7 @@ use Rattle.lib_types.proofs.SortedPairs.{by_test}
 use Rattle.tree_face.specs.Store.{Contents}
 use Rattle.tree_face.specs.Tree.{Nodes, node_at}
 use Rattle.tree_face.specs.declared.path.TheConstants.{PATH_MAX}
-use Rattle.ldso_conf.specs.Patterns.{Found}
+use Rattle.conf_patterns.specs.Patterns.{Found}
 use Rattle.ldso_conf.specs.Reading.{Reading, with_report, with_dir, was_read, with_begun, with_read, with_content, with_file, step_by, key_in, by_key, visit}
 use Rattle.ldso_conf.specs.Steps.{steps_of}
 use Rattle.ldso_conf.specs.Visits.{Grows, taken}

@@ -1,9 +1,4 @@
-mod Absent
 mod Begun
-mod Ends
 mod Growing
-mod Sets
-mod Skips
-mod Stars
 mod Visiting
 mod Whole

@@ -4,7 +4,7 @@ use Rattle.std.specs.Prelude.{IsSomeAnd}
 use Rattle.tree_face.specs.Known.{IfKnown}
 use Rattle.tree_face.specs.Store.{Contents, Lacks}
 use Rattle.tree_face.specs.Tree.{Nodes, node_at}
-use Rattle.ldso_conf.specs.Patterns.{Found}
+use Rattle.conf_patterns.specs.Patterns.{Found}
 use Rattle.ldso_conf.specs.Reading.{Reading, with_report, was_read, with_begun, with_read, with_file, step_by, key_in, visit}
 use Rattle.ldso_conf.specs.Visits.{Grows, HasEnded, IsToBeginAs, taken, HasContent, Loads}
 use Rattle.ldso_conf.specs.Steps.{steps_of}

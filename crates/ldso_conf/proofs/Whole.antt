@@ -3,7 +3,7 @@ use Rattle.std.proofs.Common.{◌≡◌, ◌+◌, ◌-◌, List, ℕ, Option, So
 use Rattle.tree_face.specs.Known.{IfKnown}
 use Rattle.tree_face.specs.Store.{Contents, StoreState, BeginsAtMost}
 use Rattle.tree_face.specs.Tree.{Nodes}
-use Rattle.ldso_conf.specs.Patterns.{place_at}
+use Rattle.conf_patterns.specs.Patterns.{place_at}
 use Rattle.ldso_conf.specs.Reading.{Reading, nothing_read, visit, conf_path, reading, IsConfOf}
 use Rattle.ldso_conf.specs.declared.kinds.Conf.{Conf}
 use Rattle.ldso_conf.specs.declared.reading.TheConstants.{DEPTH_MAX}

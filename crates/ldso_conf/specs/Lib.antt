@@ -1,11 +1,4 @@
-pub mod Bytes
-pub mod Finding
-pub mod Glob
 pub mod Lines
-pub mod Matching
-pub mod Parts
-pub mod Patterns
-pub mod Pieces
 pub mod Reading
 pub mod Steps
 pub mod Visits

@@ -7,7 +7,7 @@ use Rattle.tree_face.specs.declared.node.Node.TheVariants as node
 use Rattle.tree_face.specs.declared.path.TheConstants.{PATH_MAX}
 use Rattle.tree_face.specs.Store.{Contents}
 use Rattle.tree_face.specs.Tree.{Nodes, node_at}
-use Rattle.ldso_conf.specs.Patterns.{Found, found_at}
+use Rattle.conf_patterns.specs.Patterns.{Found, found_at}
 use Rattle.ldso_conf.specs.Steps.{steps_of}
 use Rattle.ldso_conf.specs.declared.kinds.Conf.{Conf}
 use Rattle.ldso_conf.specs.declared.kinds.ConfKind.{ConfKind}

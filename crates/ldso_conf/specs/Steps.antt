@@ -3,9 +3,9 @@ use Rattle.std.specs.Prelude.{ℕ, List, [], ◌∷◌, ◌==◌, if◌then◌el
 use Rattle.std.specs.List.{list_any}
 use Rattle.tree_face.specs.Paths.{root}
 use Rattle.tree_face.specs.Tree.{Nodes}
-use Rattle.ldso_conf.specs.Bytes.{is_in, slashes, without_end}
+use Rattle.conf_patterns.specs.Bytes.{is_in, slashes, without_end}
 use Rattle.ldso_conf.specs.Lines.{lines_of, text_of, words_of, arguments_of, include, hwcap, equals, before_equals}
-use Rattle.ldso_conf.specs.Patterns.{Found, is_absolute, results}
+use Rattle.conf_patterns.specs.Patterns.{Found, is_absolute, results}
 use Rattle.ldso_conf.specs.declared.kinds.ConfKind.{ConfKind}
 use Rattle.ldso_conf.specs.declared.kinds.ConfKind.TheVariants.{Relative, Equals, Hwcap}
 use Rattle.ldso_conf.specs.declared.steps.Step.{Step}

@@ -3,7 +3,7 @@ use Rattle.std.specs.Prelude.{◌≡◌, ◌≤◌, ◌<◌, ℕ, true, false, L
 use Rattle.std.specs.declared.alloc.Global.{Global}
 use Rattle.tree_face.specs.Store.{Contents}
 use Rattle.tree_face.specs.Tree.{Nodes, node_at}
-use Rattle.ldso_conf.specs.Patterns.{Found}
+use Rattle.conf_patterns.specs.Patterns.{Found}
 use Rattle.ldso_conf.specs.Reading.{Reading, key_in, step_by, visit, was_read, with_file}
 use Rattle.ldso_conf.specs.declared.reading.TheConstants.{CONF_MAX}
 use Rattle.ldso_conf.specs.declared.steps.Step.{Step}

@@ -3,20 +3,13 @@
 
 mod content;
 mod fault;
-mod glob;
 mod kinds;
 mod lines;
-mod parts;
-mod patterns;
-mod pieces;
 mod reader;
 mod reading;
-mod set;
-mod spelled;
 mod steps;
-mod trim;
 
+pub use conf_patterns::glob_match;
 pub use fault::ConfFault;
-pub use glob::glob_match;
 pub use kinds::{Conf, ConfKind, ConfReport, ConfReports};
 pub use reading::{CONF_MAX, DEPTH_MAX, read_conf};

@@ -4,9 +4,9 @@ ghost use Rattle.ldso_conf.specs.Steps.{directory_steps, include_steps, included
 
 use crate::kinds::{ConfKind, ConfReport};
 use crate::lines::{arguments_of, before_equals, text_of};
-use crate::parts::split;
-use crate::patterns::{Results, is_absolute, results};
-use crate::trim::{has_one, without_end};
+use conf_patterns::parts::split;
+use conf_patterns::patterns::{Results, is_absolute, results};
+use conf_patterns::trim::{has_one, without_end};
 use lib_types::{NoMemory, Text};
 use std::alloc::Global;
 use tree_face::Tree;

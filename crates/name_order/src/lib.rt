@@ -1,7 +1,7 @@
 //! The order in which the loader sorts library names, and which names are library names.
 #![tactic(auto)]
 
-ghost use Rattle.std.specs.Prelude.{◌≡◌, ◌↔◌, codes};
+ghost use Rattle.std.specs.Prelude.{◌≡◌, ◌≤◌, ◌↔◌, codes, drop, length};
 ghost use Rattle.std.specs.Cmp.{IsTotalOrder};
 ghost use Rattle.name_order.specs.Order.{name_order, token_order};
 ghost use Rattle.name_order.specs.LibraryName.{contains, has_library_prefix, has_temporary_suffix, is_library_name};
@@ -11,13 +11,29 @@ mod part;
 use part::{compare_parts, next_part};
 use std::cmp::Ordering;
 
+// How many bytes both names begin with that are equal and no digits, up to the first that isn't: names that are compared are long and
+// mostly differ behind the first few, and a number may have begun before the byte at which they differ.
+#[tactic(auto, using(crate::proofs::Runs::byte_passed))]
+fn equal_front(a: &[u8], b: &[u8]) -> usize
+    ensures within { (result ≤ length a.now) × (result ≤ length b.now) }
+    ensures rest { token_order (drop result a.now) (drop result b.now) ≡ token_order a.now b.now }
+{
+    let shorter = a.len().min(b.len());
+    let mut i = 0;
+    while i < shorter && a[i] == b[i] && !a[i].is_ascii_digit() {
+        i += 1;
+    }
+    i
+}
+
 /// The loader's order of two names. Names that differ only in the zeros before a number are equal in it.
 #[tactic(auto, using(crate::proofs::Runs::end_laws), unfolding(crate::specs::Order::tokens))]
 pub fn compare_tokens(a: &[u8], b: &[u8]) -> Ordering
     ensures { result ≡ token_order a.now b.now }
 {
-    let mut left = a;
-    let mut right = b;
+    let front = equal_front(a, b);
+    let mut left = &a[front..];
+    let mut right = &b[front..];
     while let Some((part, left_rest)) = next_part(left) {
         let Some((other, right_rest)) = next_part(right) else {
             return Ordering::Greater;

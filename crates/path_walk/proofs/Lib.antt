@@ -1,4 +1,6 @@
 mod Folders
 pub mod Joining
+pub mod KindsAt
+pub mod Linked
 pub mod NoNul
 mod Walks

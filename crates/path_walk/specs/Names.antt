@@ -1,6 +1,6 @@
 -- The texts of places.
-use Rattle.std.specs.Prelude.{ℕ, List, [], ◌∷◌, ◌++◌, if◌then◌else◌, unwrap_or, Option, Some, None}
-use Rattle.tree_face.specs.Paths.{root, is_slash, folder}
+use Rattle.std.specs.Prelude.{ℕ, List, [], ◌∷◌, if◌then◌else◌, unwrap_or, Option, Some, None}
+use Rattle.tree_face.specs.Paths.{root, is_slash}
 
 -- the text before the last slash
 abbrev pub more_before : ℕ → Option (List ℕ) → Option (List ℕ)
@@ -18,7 +18,3 @@ unless_empty (b ∷ rest) = b ∷ rest
 
 abbrev pub parent : List ℕ → List ℕ
 parent place = unless_empty (unwrap_or (before_last place) [])
-
--- the place of this name in a folder
-abbrev pub join : List ℕ → List ℕ → List ℕ
-join place name = folder place ++ name

@@ -4,8 +4,7 @@ use Rattle.std.specs.Option.{option_copied}
 use Rattle.name_order.specs.LibraryName.{is_library_name}
 use Rattle.tree_face.specs.declared.tree.Kind.TheVariants as kinds
 use Rattle.tree_face.specs.Tree.{Nodes, kind_at}
-use Rattle.tree_face.specs.Paths.{components}
-use Rattle.path_walk.specs.Names.{join}
+use Rattle.tree_face.specs.Paths.{components, join}
 use Rattle.path_walk.specs.Rest.{names_in}
 use Rattle.path_walk.specs.Walk.{Stop, Ends, Follows, steps, is_plain, start_of, target_at}
 use Rattle.path_walk.specs.declared.walk.Mode.{Mode}
@@ -13,13 +12,21 @@ use Rattle.path_walk.specs.declared.walk.WalkFault.{WalkFault}
 use Rattle.path_walk.specs.declared.walk.WalkFault.TheVariants.{Absent, NoMemory}
 use Rattle.path_walk.specs.declared.walk.Child.{Child}
 use Rattle.path_walk.specs.declared.walk.Child.TheVariants as child
+use Rattle.path_walk.specs.declared.walk.End.{End}
+use Rattle.path_walk.specs.declared.walk.End.TheVariants as end
 use Rattle.path_walk.specs.declared.walk.Halt.{Halt}
 use Rattle.path_walk.specs.declared.walk.Halt.TheVariants as halt
 
 -- the stop of a walk that halts at this place
 abbrev pub stop_of : Halt → List ℕ → Stop
-stop_of halt.Reached place = Ends (Ok place)
+stop_of (halt.Reached e) place = Ends (Ok place)
 stop_of (halt.Link target rest) place = Follows (components target.now ++ names_in (option_copied rest)) (start_of target.now place)
+
+-- this stands at the place
+abbrev pub IsAt : Nodes → List ℕ → Child → Type 0
+IsAt t place child.Dir = kind_at t place ≡ kinds.Dir
+IsAt t place child.File = kind_at t place ≡ kinds.File
+IsAt t place (child.Link target) = (kind_at t place ≡ kinds.Link) × (target.now ≡ target_at t place)
 
 -- in the folder `old` the name is this child, and `new` is the place from which the walk goes on
 abbrev pub IsChild : Nodes → Mode → List ℕ → List ℕ → List ℕ → Child → Type 0
@@ -43,6 +50,19 @@ Fails stop fault = (fault ≡ NoMemory) ⊎ (stop ≡ Ends (Err fault))
 -- the walk by these names from the old place halts so at the new one
 abbrev pub StopsAt : Nodes → Mode → List (List ℕ) → List ℕ → List ℕ → Halt → Type 0
 StopsAt t mode names old new h = steps t mode names old ≡ stop_of h new
+
+-- a walk leads from directories to directories
+abbrev pub KeepsDir : Nodes → List ℕ → List ℕ → Type 0
+KeepsDir t old new = kind_at t old ≡ kinds.Dir → kind_at t new ≡ kinds.Dir
+
+-- the walk from the old place ends at this, or at a directory if it began at one
+abbrev pub EndsAt : Nodes → List ℕ → List ℕ → End → Type 0
+EndsAt t old new end.Dir = KeepsDir t old new
+EndsAt t old new end.File = kind_at t new ≡ kinds.File
+
+abbrev pub HaltsAt : Nodes → List ℕ → List ℕ → Halt → Type 0
+HaltsAt t old new (halt.Reached e) = EndsAt t old new e
+HaltsAt t old new (halt.Link target rest) = KeepsDir t old new
 
 -- how much is left of a text
 abbrev pub size_of : Option (List ℕ) → ℕ

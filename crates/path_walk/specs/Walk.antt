@@ -8,9 +8,9 @@ use Rattle.tree_face.specs.declared.node.Node.{Node}
 use Rattle.tree_face.specs.declared.node.Node.TheVariants.{Dir, File, Link}
 use Rattle.tree_face.specs.declared.tree.Kind.{Kind}
 use Rattle.tree_face.specs.declared.tree.Kind.TheVariants as kinds
-use Rattle.tree_face.specs.Paths.{root, components}
+use Rattle.tree_face.specs.Paths.{root, components, join}
 use Rattle.tree_face.specs.Tree.{Nodes, node_at, kind_at}
-use Rattle.path_walk.specs.Names.{parent, join}
+use Rattle.path_walk.specs.Names.{parent}
 use Rattle.path_walk.specs.declared.walk.Mode.{Mode}
 use Rattle.path_walk.specs.declared.walk.Mode.TheVariants.{Plain, Full}
 use Rattle.path_walk.specs.declared.walk.WalkFault.{WalkFault}

@@ -1,7 +1,10 @@
 //! Where paths lead in the tree of an image.
 #![tactic(auto)]
 
+mod files;
 mod names;
 mod walk;
 
+pub use files::{file_at, linked_file};
+pub use names::join;
 pub use walk::{LINKS_MAX, Mode, WalkFault, resolve};

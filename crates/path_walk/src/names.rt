@@ -3,12 +3,12 @@ ghost use Rattle.std.specs.Prelude.{◌≡◌, ◌<◌, ◌∷◌, ◌++◌, [],
 ghost use Rattle.std.specs.List.{slice_split};
 ghost use Rattle.std.specs.Option.{option_copied};
 ghost use Rattle.lib_types.specs.Name.{slash};
-ghost use Rattle.tree_face.specs.Paths.{is_slash, components};
-ghost use Rattle.path_walk.specs.Names.{parent, join};
+ghost use Rattle.tree_face.specs.Paths.{is_slash, components, join};
+ghost use Rattle.path_walk.specs.Names.{parent};
 ghost use Rattle.path_walk.specs.Rest.{parts_of, names_in, ends_at};
 ghost use Rattle.path_walk.specs.Stops.{size_of};
 
-use lib_types::NoMemory;
+use lib_types::{NoMemory, Text};
 use std::alloc::Global;
 use tree_face::is_kept;
 
@@ -46,6 +46,16 @@ pub fn next_name(text: Option<&[u8]>) -> Option<(&[u8], Option<&[u8]>)>
         left = rest;
     }
     None
+}
+
+/// The path of a name in a directory.
+pub fn join(alloc: Global, folder: &[u8], name: &[u8]) -> Result<Text, NoMemory>
+    ensures { IfOk result (λ path. path ≡ join folder.now name.now) }
+{
+    let mut path = Vec::with_capacity(alloc, folder.len() + 1 + name.len())?;
+    path.extend_from_slice(folder)?;
+    enter(&mut path, name)?;
+    Ok(Text::from_vec(path))
 }
 
 /// Goes to the place of this name in the folder.

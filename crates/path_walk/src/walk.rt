@@ -1,10 +1,11 @@
 //! The walk from name to name.
-ghost use Rattle.std.specs.Prelude.{◌≡◌, ◌∷◌, ℕ, List, IfOk, IfErr, Ok, MatchResult, MatchOption, OnOk};
+ghost use Rattle.std.specs.Prelude.{◌≡◌, ◌∷◌, ℕ, List, None, IfOk, IfErr, Ok, MatchResult, MatchOption, OnOk};
 ghost use Rattle.std.specs.Option.{option_copied};
 ghost use Rattle.tree_face.specs.Paths.{components};
-ghost use Rattle.tree_face.specs.Tree.{kind_at};
-ghost use Rattle.path_walk.specs.Walk.{steps, walk, at_file, start_of, target_at, is_plain, LeadsNowhere, resolution};
-ghost use Rattle.path_walk.specs.Stops.{stop_of, StopsAt, IsChild, IsNoChild, Fails};
+ghost use Rattle.tree_face.specs.Tree.{IsTree, kind_at, node_at};
+ghost use Rattle.tree_face.specs.declared.tree.Kind.TheVariants as kinds;
+ghost use Rattle.path_walk.specs.Walk.{steps, walk, at_file, start_of, is_plain, LeadsNowhere, Ends, resolution};
+ghost use Rattle.path_walk.specs.Stops.{StopsAt, IsAt, IsChild, IsNoChild, KeepsDir, EndsAt, HaltsAt, Fails};
 ghost use Rattle.path_walk.specs.Rest.{names_in};
 ghost use Rattle.path_walk.specs.declared.walk.WalkFault.TheVariants as faults;
 
@@ -54,17 +55,24 @@ impl From<AllocError> for WalkFault {
 /// The most links that one walk follows (as Linux does, path_resolution(7)).
 pub const LINKS_MAX: usize = 40;
 
+// What a walk ends at.
+#[derive(Clone, Copy)]
+pub(crate) enum End {
+    Dir,
+    File,
+}
+
 // Where a walk halts: at its end, or at a link that is followed.
 #[derive(Clone, Copy)]
 enum Halt<'t, 'p> {
-    Reached,
+    Reached(End),
     Link {
         target: &'t [u8],
         rest: Option<&'p [u8]>,
     },
 }
 
-// What a name in a folder is, a link with its target.
+// What stands at a place, a link with its target.
 #[derive(Clone, Copy)]
 enum Child<'t> {
     Dir,
@@ -72,12 +80,28 @@ enum Child<'t> {
     Link(&'t [u8]),
 }
 
-fn target_at<'t>(tree: &'t Tree, path: &[u8]) -> &'t [u8]
-    ensures { result.now ≡ target_at tree.now path.now }
+// What stands at a place without a node: a directory if something lies below it.
+#[tactic(auto, using(crate::proofs::KindsAt::absent_else))]
+fn dir_at<'t>(tree: &'t Tree, place: &[u8]) -> Option<Child<'t>>
+    requires { node_at tree.now place.now ≡ None }
+    ensures { MatchOption result (kind_at tree.now place.now ≡ kinds.Absent) (IsAt tree.now place.now) }
 {
-    match tree.node(path) {
-        Some(Node::Link { target }) => target.as_bytes(),
-        _ => b"",
+    match tree.kind(place) {
+        Kind::Dir => Some(Child::Dir),
+        _ => None,
+    }
+}
+
+// What stands at a place, by one search if a node does.
+#[tactic(auto, using(crate::proofs::KindsAt::kind_of_node))]
+fn child_at<'t>(tree: &'t Tree, place: &[u8]) -> Option<Child<'t>>
+    ensures { MatchOption result (kind_at tree.now place.now ≡ kinds.Absent) (IsAt tree.now place.now) }
+{
+    match tree.node(place) {
+        Some(Node::Dir) => Some(Child::Dir),
+        Some(Node::File { .. }) => Some(Child::File),
+        Some(Node::Link { target }) => Some(Child::Link(target.as_bytes())),
+        None => dir_at(tree, place),
     }
 }
 
@@ -102,32 +126,28 @@ fn step<'t>(
 {
     let folder = place.len();
     enter(place, name)?;
-    match tree.kind(place) {
-        Kind::Absent => Err(WalkFault::Absent),
-        Kind::Dir => Ok(Child::Dir),
-        Kind::File => Ok(Child::File),
-        Kind::Link => {
-            if is_plain(mode) && is_library_name(name) {
-                return Err(WalkFault::Absent);
-            }
-            let target = target_at(tree, place);
-            place.truncate(folder);
-            Ok(Child::Link(target))
+    let child = child_at(tree, place).ok_or(WalkFault::Absent)?;
+    if let Child::Link(_) = child {
+        if is_plain(mode) && is_library_name(name) {
+            return Err(WalkFault::Absent);
         }
+        place.truncate(folder);
     }
+    Ok(child)
 }
 
-// Where a walk ends at a file with this text left.
-fn at_file<'t, 'p>(rest: Option<&'p [u8]>) -> Result<Halt<'t, 'p>, WalkFault>
-    ensures { (place : List ℕ) → MatchResult result (λ halt. at_file (names_in (option_copied rest.entry)) place ≡ stop_of halt place) (Fails (at_file (names_in (option_copied rest.entry)) place)) }
+// Ends a walk at a file, behind which no name may be left.
+fn end_at_file(rest: Option<&[u8]>) -> Result<(), WalkFault>
+    ensures { (place : List ℕ) → MatchResult result (λ _. at_file (names_in (option_copied rest.entry)) place ≡ Ends (Ok place)) (Fails (at_file (names_in (option_copied rest.entry)) place)) }
 {
     match next_name(rest) {
         Some(_) => Err(WalkFault::NotDir),
-        None => Ok(Halt::Reached),
+        None => Ok(()),
     }
 }
 
 // Goes on by one name, with this text left behind it: None if the walk goes on from the new place.
+#[tactic(auto, using(crate::proofs::KindsAt::folder_dir))]
 fn go<'t, 'p>(
     tree: &'t Tree,
     mode: Mode,
@@ -135,9 +155,11 @@ fn go<'t, 'p>(
     name: &[u8],
     rest: Option<&'p [u8]>,
 ) -> Result<Option<Halt<'t, 'p>>, WalkFault>
+    requires { IsTree tree.now }
     ensures goes { IfOk result (λ stop. MatchOption stop
         (steps tree.now mode (name.now ∷ names_in (option_copied rest.entry)) place.old.items ≡ steps tree.now mode (names_in (option_copied rest.entry)) place.new.items)
         (StopsAt tree.now mode (name.now ∷ names_in (option_copied rest.entry)) place.old.items place.new.items)) }
+    ensures stands { IfOk result (λ stop. MatchOption stop (KeepsDir tree.now place.old.items place.new.items) (HaltsAt tree.now place.old.items place.new.items)) }
     ensures fails { IfErr result (Fails (steps tree.now mode (name.now ∷ names_in (option_copied rest.entry)) place.old.items)) }
 {
     if name == b"..".as_slice() {
@@ -146,7 +168,10 @@ fn go<'t, 'p>(
     }
     match step(tree, mode, place, name)? {
         Child::Dir => Ok(None),
-        Child::File => Ok(Some(at_file(rest)?)),
+        Child::File => {
+            end_at_file(rest)?;
+            Ok(Some(Halt::Reached(End::File)))
+        }
         Child::Link(target) => Ok(Some(Halt::Link { target, rest })),
     }
 }
@@ -158,7 +183,9 @@ fn walk_names<'t, 'p>(
     place: &mut Vec<u8>,
     path: Option<&'p [u8]>,
 ) -> Result<Halt<'t, 'p>, WalkFault>
+    requires { IsTree tree.now }
     ensures halts { IfOk result (StopsAt tree.now mode (names_in (option_copied path.entry)) place.old.items place.new.items) }
+    ensures stands { IfOk result (HaltsAt tree.now place.old.items place.new.items) }
     ensures fails { IfErr result (Fails (steps tree.now mode (names_in (option_copied path.entry)) place.old.items)) }
 {
     let mut left = path;
@@ -168,11 +195,11 @@ fn walk_names<'t, 'p>(
         }
         left = rest;
     }
-    Ok(Halt::Reached)
+    Ok(Halt::Reached(End::Dir))
 }
 
 // Goes to the place from which the walk goes on by a target.
-fn restart(place: &mut Vec<u8>, target: &[u8]) -> Result<(), NoMemory>
+pub(crate) fn restart(place: &mut Vec<u8>, target: &[u8]) -> Result<(), NoMemory>
     ensures { OnOk result (place.new.items ≡ start_of target.now place.old.items) }
 {
     if target.starts_with(b"/") {
@@ -182,22 +209,25 @@ fn restart(place: &mut Vec<u8>, target: &[u8]) -> Result<(), NoMemory>
     Ok(())
 }
 
-// The walk by this path text from the place, which follows at most LINKS_MAX links.
-#[tactic(auto, using(crate::proofs::Walks::walk_ends, crate::proofs::Walks::walk_follows, crate::proofs::Walks::walk_stops))]
-fn follow(
+// The walk by this path text from the place, which follows at most so many links.
+#[tactic(auto, using(crate::proofs::Walks::walk_ends, crate::proofs::Walks::walk_follows, crate::proofs::Walks::walk_stops, crate::proofs::KindsAt::start_dir))]
+pub(crate) fn follow(
     alloc: Global,
     tree: &Tree,
     mode: Mode,
     place: &mut Vec<u8>,
     path: Vec<u8>,
-) -> Result<(), WalkFault>
-    ensures reached { OnOk result (walk tree.now mode LINKS_MAX (steps tree.now mode (components path.items) place.old.items) ≡ Ok place.new.items) }
-    ensures fails { IfErr result (LeadsNowhere (walk tree.now mode LINKS_MAX (steps tree.now mode (components path.items) place.old.items))) }
+    links: usize,
+) -> Result<End, WalkFault>
+    requires { IsTree tree.now }
+    ensures reached { OnOk result (walk tree.now mode links (steps tree.now mode (components path.items) place.old.items) ≡ Ok place.new.items) }
+    ensures stands { IfOk result (EndsAt tree.now place.old.items place.new.items) }
+    ensures fails { IfErr result (LeadsNowhere (walk tree.now mode links (steps tree.now mode (components path.items) place.old.items))) }
 {
     let mut path = path;
-    for link in 0..LINKS_MAX {
+    for link in 0..links {
         let more = match walk_names(tree, mode, place, Some(&path))? {
-            Halt::Reached => return Ok(()),
+            Halt::Reached(end) => return Ok(end),
             Halt::Link { target, rest } => {
                 restart(place, target)?;
                 joined(alloc, target, rest)?
@@ -206,7 +236,7 @@ fn follow(
         path = more;
     }
     match walk_names(tree, mode, place, Some(&path))? {
-        Halt::Reached => Ok(()),
+        Halt::Reached(end) => Ok(end),
         Halt::Link { .. } => Err(WalkFault::TooManyLinks),
     }
 }
@@ -219,8 +249,9 @@ pub fn resolve(alloc: Global, tree: &Tree, path: &[u8], mode: Mode) -> Result<Te
     ensures place { IfOk result (λ place. resolution tree.now path.now mode ≡ Ok place) }
     ensures fault { IfErr result (LeadsNowhere (resolution tree.now path.now mode)) }
 {
+    tree.know();
     let mut place = Vec::from_slice(alloc, b"/")?;
     let left = Vec::from_slice(alloc, path)?;
-    follow(alloc, tree, mode, &mut place, left)?;
+    follow(alloc, tree, mode, &mut place, left, LINKS_MAX)?;
     Ok(Text::from_vec(place))
 }

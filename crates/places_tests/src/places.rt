@@ -77,65 +77,71 @@ fn an_ordinary_image(rt: HostRuntime) -> Result<(), Fail> {
     Ok(())
 }
 
+const LINKS: [Link<'static>; 6] = [
+    ("/opt/a/glibc-hwcaps", "../caps"),
+    ("/opt/caps/linked", "x86-64-v2"),
+    ("/opt/caps/nowhere", "none"),
+    ("/opt/caps/libx.so", "x86-64-v2"),
+    ("/opt/same", "a"),
+    ("/opt/libdir.so", "b"),
+];
+
+const DIRS: [&str; 6] = [
+    "/opt/a",
+    "/opt/b",
+    "/opt/caps/x86-64-v3",
+    "/opt/caps/x86-64-v2",
+    "/opt/caps/.hidden",
+    "/usr/lib/glibc-hwcaps/x86-64-v3",
+];
+
+const FILES: [Content<'static>; 2] = [("/opt/caps/file", b""), ("/opt/file", b"")];
+
+// The directories of the conf files.
+const LIST: [&str; 8] = [
+    "/opt/same",
+    "/opt/a",
+    "/none",
+    "/opt/file",
+    "/opt/libdir.so",
+    "/opt//b/",
+    "/none",
+    "/",
+];
+
+const PLACES: [(&str, &str, &str); 8] = [
+    ("/opt/same", "/opt/a", ""),
+    (
+        "/opt/same/glibc-hwcaps/linked",
+        "/opt/caps/x86-64-v2",
+        "linked",
+    ),
+    (
+        "/opt/same/glibc-hwcaps/x86-64-v2",
+        "/opt/caps/x86-64-v2",
+        "x86-64-v2",
+    ),
+    (
+        "/opt/same/glibc-hwcaps/x86-64-v3",
+        "/opt/caps/x86-64-v3",
+        "x86-64-v3",
+    ),
+    ("/opt//b/", "/opt/b", ""),
+    ("/", "/", ""),
+    ("/usr/lib", "/usr/lib", ""),
+    (
+        "/usr/lib/glibc-hwcaps/x86-64-v3",
+        "/usr/lib/glibc-hwcaps/x86-64-v3",
+        "x86-64-v3",
+    ),
+];
+
 #[test]
 fn subdirectories_follow_their_directory(rt: HostRuntime) -> Result<(), Fail> {
     let alloc = rt.alloc();
-    let links: [Link<'_>; 6] = [
-        ("/opt/a/glibc-hwcaps", "../caps"),
-        ("/opt/caps/linked", "x86-64-v2"),
-        ("/opt/caps/nowhere", "none"),
-        ("/opt/caps/libx.so", "x86-64-v2"),
-        ("/opt/same", "a"),
-        ("/opt/libdir.so", "b"),
-    ];
-    let dirs = [
-        "/opt/a",
-        "/opt/b",
-        "/opt/caps/x86-64-v3",
-        "/opt/caps/x86-64-v2",
-        "/opt/caps/.hidden",
-        "/usr/lib/glibc-hwcaps/x86-64-v3",
-    ];
-    let files: [Content<'_>; 2] = [("/opt/caps/file", b""), ("/opt/file", b"")];
-    let tree = tree_of(alloc, &links, &dirs, &files)?;
-    let list = [
-        "/opt/same",
-        "/opt/a",
-        "/none",
-        "/opt/file",
-        "/opt/libdir.so",
-        "/opt//b/",
-        "/none",
-        "/",
-    ];
-    let found = order(alloc, &tree, &texts_of(alloc, &list)?)?;
-    let places = [
-        ("/opt/same", "/opt/a", ""),
-        (
-            "/opt/same/glibc-hwcaps/linked",
-            "/opt/caps/x86-64-v2",
-            "linked",
-        ),
-        (
-            "/opt/same/glibc-hwcaps/x86-64-v2",
-            "/opt/caps/x86-64-v2",
-            "x86-64-v2",
-        ),
-        (
-            "/opt/same/glibc-hwcaps/x86-64-v3",
-            "/opt/caps/x86-64-v3",
-            "x86-64-v3",
-        ),
-        ("/opt//b/", "/opt/b", ""),
-        ("/", "/", ""),
-        ("/usr/lib", "/usr/lib", ""),
-        (
-            "/usr/lib/glibc-hwcaps/x86-64-v3",
-            "/usr/lib/glibc-hwcaps/x86-64-v3",
-            "x86-64-v3",
-        ),
-    ];
-    assert!(rt; are_places(&found.places, &places));
+    let tree = tree_of(alloc, &LINKS, &DIRS, &FILES)?;
+    let found = order(alloc, &tree, &texts_of(alloc, &LIST)?)?;
+    assert!(rt; are_places(&found.places, &PLACES));
     assert!(rt;
         are_texts(
             &found.absent,

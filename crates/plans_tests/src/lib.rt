@@ -5,3 +5,5 @@
 mod plans;
 #[cfg(test)]
 mod searches;
+#[cfg(test)]
+mod surveys;

@@ -4,8 +4,8 @@ use std::alloc::Global;
 use std::process::Abort;
 use std::test::Fail;
 
-// An image of one directory: its links and libraries, the links that are planned, and its entries.
-type Row<'a> = (&'a str, &'a [Link<'a>], &'a [Library<'a>], &'a str, &'a str);
+/// An image of one directory: its links and libraries, the links that are planned, and its entries.
+pub type Row<'a> = (&'a str, &'a [Link<'a>], &'a [Library<'a>], &'a str, &'a str);
 
 fn check(rt: &impl Abort, alloc: Global, rows: &[Row<'_>]) -> Result<(), Fail> {
     for (name, links, libraries, plan, entries) in rows {
@@ -21,7 +21,8 @@ fn check(rt: &impl Abort, alloc: Global, rows: &[Row<'_>]) -> Result<(), Fail> {
     Ok(())
 }
 
-const PLANNED: &[Row<'_>] = &[
+/// Images with planned links.
+pub const PLANNED: &[Row<'_>] = &[
     (
         "the greatest file, and a link with another text",
         &[("/usr/lib/libfoo.so.1", "libfoo.so.1.1")],
@@ -68,7 +69,8 @@ const PLANNED: &[Row<'_>] = &[
     ),
 ];
 
-const NOT_PLANNED: &[Row<'_>] = &[
+/// Images without planned links.
+pub const NOT_PLANNED: &[Row<'_>] = &[
     (
         "the file with the soname as its name is the best",
         &[],

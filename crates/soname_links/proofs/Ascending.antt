@@ -78,11 +78,11 @@ in_fold [] ks z = or_false (is_in ks z)
     or_false false = refl
 in_fold (x ∷ xs) ks z = in_fold xs (with_text ks x) z ∙ ap (λ b. b || is_in xs z) (in_with ks x z) ∙ moved (bytes_eq z x) (is_in ks z) (is_in xs z)
 
-ascending_sorted : (xs : List (List ℕ)) → AreSorted (ascending xs)
+pub ascending_sorted : (xs : List (List ℕ)) → AreSorted (ascending xs)
 unfolding ascending IsStrictlySortedBy
 ascending_sorted xs = sorted_fold xs [] tt
 
-in_ascending : (xs : List (List ℕ)) (z : List ℕ) → is_in (ascending xs) z ≡ is_in xs z
+pub in_ascending : (xs : List (List ℕ)) (z : List ℕ) → is_in (ascending xs) z ≡ is_in xs z
 unfolding ascending
 in_ascending xs z = in_fold xs [] z
 

@@ -20,12 +20,11 @@ use Rattle.lib_types.specs.Name.{is_name}
 use Rattle.lib_types.specs.declared.analysis.Analysis.{Analysis}
 use Rattle.lib_types.specs.declared.entry.Entry.{Entry}
 use Rattle.path_walk.proofs.NoNul.{joined_clean, name_clean}
-use Rattle.path_walk.specs.Names.{join}
 use Rattle.path_walk.specs.Walk.{resolution}
 use Rattle.path_walk.specs.declared.walk.Mode.TheVariants.{Full}
 use Rattle.path_walk.specs.declared.walk.WalkFault.{WalkFault}
 use Rattle.tree_face.specs.Node.{has_no_nul}
-use Rattle.tree_face.specs.Paths.{are_names, is_path, is_slash, root}
+use Rattle.tree_face.specs.Paths.{are_names, is_path, is_slash, join, root}
 use Rattle.cache_writer.specs.declared.writer.TheConstants.{ENTRIES_MAX, STRING_MAX}
 use Rattle.tree_face.specs.declared.path.TheConstants.{PATH_MAX}
 use Rattle.tree_face.specs.Tree.{Nodes, IsTree, children_of, kind_at}
@@ -35,7 +34,8 @@ use Rattle.soname_links.specs.Best.{best, sonames}
 use Rattle.soname_links.specs.Entries.{AreEntriesOf, entries_in, entry_name, entry_of, found, is_by_soname, is_fit}
 use Rattle.soname_links.specs.Libraries.{libraries_in, library_by}
 use Rattle.soname_links.specs.Plan.{by_place}
-use Rattle.soname_links.specs.Search.{file_at, file_by, is_file, link_in}
+use Rattle.path_walk.specs.Files.{file_at, file_by, is_file}
+use Rattle.soname_links.specs.Search.{link_in}
 use Rattle.soname_links.specs.Table.{Analyses, analysis_at, have_names}
 use Rattle.soname_links.specs.Winner.{has_own_name, last_name, library_behind, linked_in, links_to_libraries, named, named_links, or_else, other_links, unnamed, winner, winners_in}
 use Rattle.soname_links.specs.declared.kinds.Library.{Library}

@@ -11,39 +11,16 @@ use Rattle.lib_types.proofs.Bools.{and_false, not_true}
 use Rattle.lib_types.proofs.SortedPairs.{by_test}
 use Rattle.lib_types.specs.Name.{have_no_slash, is_name, slash}
 use Rattle.path_walk.proofs.Joining.{parts_joined}
-use Rattle.path_walk.specs.Names.{join}
-use Rattle.tree_face.specs.Paths.{are_names, is_path, is_slash, root, stem}
+use Rattle.path_walk.proofs.Linked.{IsFolder, join_below, name_alone}
+use Rattle.tree_face.specs.Paths.{are_names, is_path, is_slash, join, root, stem}
 use Rattle.tree_face.specs.Tree.{Nodes, kind_at}
 use Rattle.tree_face.specs.declared.path.TheConstants.{PATH_MAX}
 use Rattle.tree_face.specs.declared.tree.Kind.TheVariants.{Absent, Dir}
 
 -- ---- the path of a name
 
-no_slash : (name : List ℕ) → have_no_slash name ≡ true → All (λ b. is_slash b ≡ false) name
-no_slash [] h = All-nil (λ b. is_slash b ≡ false)
-no_slash (b ∷ name) h =
-    let parts = and_parts (not (b == slash) && not (b == 0)) (have_no_slash name) h in
-    All-cons (λ b. is_slash b ≡ false) b name (not_true (b == slash) (and_parts _ _ parts.0).0) (no_slash name parts.1)
-
-pub name_alone : (name : List ℕ) → is_name name ≡ true → slice_split is_slash name ≡ name ∷ []
-name_alone name h = slice_split_none is_slash name (no_slash name (and_parts _ _ (and_parts _ _ h).0).1)
-
 one_named : (name : List ℕ) → is_name name ≡ true → are_names name ≡ true
 one_named name h = ap (list_all is_name) (name_alone name h) ∙ and_from _ _ h refl
-
--- a directory is the root, or has a path
-abbrev pub IsFolder : List ℕ → Type 0
-IsFolder p = (p ≡ root) ⊎ ((bytes_eq p root ≡ false) × (is_path p ≡ true))
-
-pub folder_of_dir : (t : Nodes) (p : List ℕ) → kind_at t p ≡ Dir → IsFolder p
-folder_of_dir t p h = by_test (bytes_eq p root)
-    (λ e. inl ((bytes_eq-Decides p root).0 e))
-    (λ e. by_test (is_path p)
-    (λ f. inr (e, f))
-    (λ f. let absent : kind_at t p ≡ Absent = rw (e, f) refl in let z : Dir ≡ Absent = sym h ∙ absent in absurd (cc)))
-
-join_below : (p name : List ℕ) → bytes_eq p root ≡ false → join p name ≡ p ++ slash ∷ name
-join_below p name e = ap (λ b. (cond b [] p ++ root) ++ name) e ∙ append_assoc p root name
 
 names_below_path : (p name : List ℕ) → is_path p ≡ true → is_name name ≡ true → (starts_with nat_eq (p ++ slash ∷ name) root && are_names (drop 1 (p ++ slash ∷ name))) ≡ true
 names_below_path [] name proper h = absurd (cc)

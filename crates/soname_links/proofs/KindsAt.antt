@@ -4,20 +4,22 @@ use Rattle.std.proofs.lemmas.Slice.Eq.{bytes_eq-Decides}
 use Rattle.std.specs.Str.{bytes_eq}
 use Rattle.lib_types.proofs.SortedPairs.{by_test}
 use Rattle.name_order.specs.LibraryName.{is_library_name}
-use Rattle.path_walk.specs.Names.{join}
+use Rattle.path_walk.proofs.KindsAt.{at_none, at_path, at_root}
 use Rattle.tree_face.proofs.Above.{clash_above, clash_below}
 use Rattle.tree_face.specs.Index.{has_file_above}
 use Rattle.tree_face.specs.Node.{is_dir}
-use Rattle.tree_face.specs.Paths.{is_below, is_path, root}
+use Rattle.tree_face.specs.Paths.{is_below, is_path, join, root}
 use Rattle.tree_face.specs.Tree as tree
-use Rattle.tree_face.specs.Tree.{Nodes, IsPathSorted, children_of, clashes, has_below, kind_at, kind_there, names_below, node_at, of_dir}
+use Rattle.tree_face.specs.Tree.{Nodes, IsPathSorted, children_of, clashes, has_below, kind_at, kind_of, kind_there, names_below, node_at, of_dir}
 use Rattle.tree_face.specs.declared.node.Node.{Node}
 use Rattle.tree_face.specs.declared.node.Node.TheVariants as node
 use Rattle.tree_face.specs.declared.tree.Kind.{Kind}
 use Rattle.tree_face.specs.declared.tree.Kind.TheVariants.{Absent, Dir, File, Link}
 use Rattle.soname_links.proofs.Put.{any_put, put_here, put_other}
 use Rattle.soname_links.specs.Plan.{is_taken}
-use Rattle.soname_links.specs.Search.{file_in, is_file}
+use Rattle.path_walk.specs.Files.{is_file}
+use Rattle.soname_links.specs.Children.{is_file_node}
+use Rattle.soname_links.specs.Search.{file_in}
 
 -- no node, or a link
 abbrev pub is_open : Option Node → Bool
@@ -26,46 +28,25 @@ is_open (Some (node.Link target)) = true
 is_open (Some node.Dir) = false
 is_open (Some (node.File key id)) = false
 
--- the node is a file
-abbrev pub file_there : Option Node → Bool
-file_there None = false
-file_there (Some (node.Link target)) = false
-file_there (Some node.Dir) = false
-file_there (Some (node.File key id)) = true
-
-pub no_file : (o : Option Node) → is_open o ≡ true → file_there o ≡ false
+pub no_file : (o : Option Node) → is_open o ≡ true → is_file_node o ≡ false
 no_file None h = refl
 no_file (Some (node.Link target)) h = refl
 no_file (Some node.Dir) h = absurd (cc)
 no_file (Some (node.File key id)) h = absurd (cc)
 
-by_node : (o : Option Node) (below : Bool) → is_file (kind_there o below) ≡ file_there o
+by_node : (o : Option Node) (below : Bool) → is_file (kind_there o below) ≡ is_file_node o
 by_node None true = refl
 by_node None false = refl
 by_node (Some (node.Link target)) below = refl
 by_node (Some node.Dir) below = refl
 by_node (Some (node.File key id)) below = refl
 
-module _ (t : Nodes) (q : List ℕ) where
-  at_root : bytes_eq q root ≡ true → kind_at t q ≡ Dir
-  at_root e = ap (λ b. cond b Dir (cond (is_path q) (kind_there (node_at t q) (has_below t q)) Absent)) e
-
-  at_path : bytes_eq q root ≡ false → is_path q ≡ true → kind_at t q ≡ kind_there (node_at t q) (has_below t q)
-  at_path e p =
-      ap (λ b. cond b Dir (cond (is_path q) (kind_there (node_at t q) (has_below t q)) Absent)) e
-      ∙ ap (λ b. cond b (kind_there (node_at t q) (has_below t q)) Absent) p
-
-  at_none : bytes_eq q root ≡ false → is_path q ≡ false → kind_at t q ≡ Absent
-  at_none e p =
-      ap (λ b. cond b Dir (cond (is_path q) (kind_there (node_at t q) (has_below t q)) Absent)) e
-      ∙ ap (λ b. cond b (kind_there (node_at t q) (has_below t q)) Absent) p
-
 abbrev pub below_root : List ℕ → Bool → Bool
 below_root q b = cond (bytes_eq q root) false (cond (is_path q) b false)
 
-file_at_node : (t : Nodes) (q : List ℕ) → is_file (kind_at t q) ≡ below_root q (file_there (node_at t q))
+file_at_node : (t : Nodes) (q : List ℕ) → is_file (kind_at t q) ≡ below_root q (is_file_node (node_at t q))
 file_at_node t q =
-    let there = file_there (node_at t q) in
+    let there = is_file_node (node_at t q) in
     by_test (bytes_eq q root)
     (λ e. ap is_file (at_root t q e) ∙ sym (ap (λ b. cond b false (cond (is_path q) there false)) e))
     (λ e.
@@ -81,10 +62,10 @@ by_parts false false b h = absurd (cc)
 by_parts true p b h = absurd (cc)
 
 -- a file has a path, and a node
-pub file_node : (t : Nodes) (q : List ℕ) → is_file (kind_at t q) ≡ true → (is_path q ≡ true) × (file_there (node_at t q) ≡ true)
-file_node t q e = by_parts (bytes_eq q root) (is_path q) (file_there (node_at t q)) (sym (file_at_node t q) ∙ e)
+pub file_node : (t : Nodes) (q : List ℕ) → is_file (kind_at t q) ≡ true → (is_path q ≡ true) × (is_file_node (node_at t q) ≡ true)
+file_node t q e = by_parts (bytes_eq q root) (is_path q) (is_file_node (node_at t q)) (sym (file_at_node t q) ∙ e)
 
-pub some_file : (o : Option Node) → file_there o ≡ true → (n : Node) × (o ≡ Some n) × (is_dir n ≡ false)
+pub some_file : (o : Option Node) → is_file_node o ≡ true → (n : Node) × (o ≡ Some n) × (is_dir n ≡ false)
 some_file None h = absurd (cc)
 some_file (Some (node.Link target)) h = absurd (cc)
 some_file (Some node.Dir) h = absurd (cc)
@@ -132,8 +113,8 @@ module _ (t : Nodes) (path file : List ℕ) where
         file_at_node new q ∙ ap (below_root q) (by_test (bytes_eq q path)
         (λ e.
         let same : path ≡ q = sym ((bytes_eq-Decides q path).0 e) in
-        subst (λ (z : List ℕ). file_there (node_at new z) ≡ file_there (node_at t z)) same (ap file_there (put_here path (node.Link file) t) ∙ sym (no_file _ free)))
-        (λ e. ap file_there (put_other path (node.Link file) q e t))) ∙ sym (file_at_node t q)
+        subst (λ (z : List ℕ). is_file_node (node_at new z) ≡ is_file_node (node_at t z)) same (ap is_file_node (put_here path (node.Link file) t) ∙ sym (no_file _ free)))
+        (λ e. ap is_file_node (put_other path (node.Link file) q e t))) ∙ sym (file_at_node t q)
 
     pub file_in_same : (d name : List ℕ) → file_in (tree.put t path (node.Link file)) d name ≡ file_in t d name
     file_in_same d name = ap (λ b. cond (is_library_name name && b) (Some (join d name)) None) (file_same (join d name))

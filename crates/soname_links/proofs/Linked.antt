@@ -10,12 +10,11 @@ use Rattle.lib_types.proofs.Bools.{and_false}
 use Rattle.lib_types.proofs.SortedPairs.{by_test, sorted_put}
 use Rattle.lib_types.specs.Name.{slash}
 use Rattle.name_order.specs.LibraryName.{is_library_name}
-use Rattle.path_walk.specs.Names.{join}
 use Rattle.tree_face.proofs.Below.{below_from}
 use Rattle.tree_face.proofs.Order.{path_total}
 use Rattle.tree_face.proofs.Rising.{below_rest, children_sorted}
 use Rattle.tree_face.specs.Index.{has_file_above}
-use Rattle.tree_face.specs.Paths.{folder, is_below, is_slash, name_behind}
+use Rattle.tree_face.specs.Paths.{folder, is_below, is_slash, join, name_behind}
 use Rattle.tree_face.specs.Tree as tree
 use Rattle.tree_face.specs.Tree.{Nodes, IsPathSorted, children_of, clashes, has_below, kind_at, kind_there, names_below, node_at, of_dir}
 use Rattle.tree_face.specs.declared.node.Node.TheVariants as node
@@ -23,8 +22,10 @@ use Rattle.tree_face.specs.declared.tree.Kind.TheVariants.{Dir}
 use Rattle.soname_links.proofs.Members.{AreSorted, left_out, same_left}
 use Rattle.soname_links.proofs.Ordered.{filtered_same}
 use Rattle.soname_links.proofs.Put.{above_found, is_other, names_same, others_same}
-use Rattle.soname_links.specs.Search.{file_in, is_file}
-use Rattle.soname_links.proofs.KindsAt.{dir_kept, file_in_same, file_node, file_there, is_open, no_file, none_above, some_file}
+use Rattle.path_walk.specs.Files.{is_file}
+use Rattle.soname_links.specs.Children.{is_file_node}
+use Rattle.soname_links.specs.Search.{file_in}
+use Rattle.soname_links.proofs.KindsAt.{dir_kept, file_in_same, file_node, is_open, no_file, none_above, some_file}
 
 not_false : (b : Bool) → not b ≡ false → b ≡ true
 not_false true h = refl
@@ -43,7 +44,7 @@ module _ (t : Nodes) (path file : List ℕ) (free : is_open (node_at t path) ≡
     ends : path ≡ join d next → is_file (kind_at t (join d next)) ≡ true → ⊥
     ends whole e =
         let there = (file_node t (join d next) e).1 in
-        let none : file_there (node_at t (join d next)) ≡ false = subst (λ (z : List ℕ). file_there (node_at t z) ≡ false) whole (no_file _ free) in
+        let none : is_file_node (node_at t (join d next)) ≡ false = subst (λ (z : List ℕ). is_file_node (node_at t z) ≡ false) whole (no_file _ free) in
         cc
 
     goes_on : (more : List ℕ) → path ≡ join d next ++ slash ∷ more → is_file (kind_at t (join d next)) ≡ true → ⊥

@@ -7,7 +7,7 @@ use Rattle.hwcap_dirs.specs.Places.{are_dirs, is_dir}
 use Rattle.hwcap_dirs.specs.declared.kinds.Place.{Place}
 use Rattle.lib_types.proofs.Bools.{not_true}
 use Rattle.lib_types.proofs.SortedPairs.{by_test}
-use Rattle.path_walk.specs.Names.{join}
+use Rattle.tree_face.specs.Paths.{join}
 use Rattle.tree_face.specs.Tree.{Nodes, kind_at}
 use Rattle.soname_links.specs.Best.{best, bests, sonames}
 use Rattle.soname_links.specs.Libraries.{libraries_in}

@@ -14,14 +14,14 @@ use Rattle.lib_types.proofs.SortedPairs.{by_test}
 use Rattle.lib_types.specs.Name.{is_name}
 use Rattle.lib_types.specs.declared.analysis.Analysis.{Analysis}
 use Rattle.lib_types.specs.declared.analysis.Analysis.TheVariants.{Lib, Not}
-use Rattle.path_walk.specs.Names.{join}
-use Rattle.tree_face.specs.Paths.{is_path}
+use Rattle.tree_face.specs.Paths.{is_path, join}
 use Rattle.tree_face.specs.Tree.{Nodes, children_of, is_entry, kind_at}
 use Rattle.tree_face.specs.declared.path.TheConstants.{PATH_MAX}
 use Rattle.tree_face.specs.declared.tree.Kind.{Kind}
 use Rattle.tree_face.specs.declared.tree.Kind.TheVariants as kinds
 use Rattle.hwcap_dirs.proofs.Children.{children_named}
-use Rattle.soname_links.proofs.Joined.{folder_of_dir, path_of_name}
+use Rattle.path_walk.proofs.Linked.{folder_of_dir}
+use Rattle.soname_links.proofs.Joined.{path_of_name}
 use Rattle.soname_links.proofs.Links.{IsLinkFor, all_links}
 use Rattle.soname_links.specs.Apply.{is_link, is_plan}
 use Rattle.soname_links.specs.Best.{best, better, has_soname, is_better}

@@ -8,9 +8,10 @@ use Rattle.hwcap_dirs.specs.Places.{are_dirs, is_dir}
 use Rattle.hwcap_dirs.specs.declared.kinds.Place.{Place}
 use Rattle.lib_types.proofs.SortedPairs.{by_test}
 use Rattle.lib_types.specs.Name.{is_name}
-use Rattle.path_walk.specs.Names.{join}
+use Rattle.tree_face.specs.Paths.{join}
 use Rattle.tree_face.specs.Tree.{Nodes, IsTree, children_of, kind_at}
-use Rattle.soname_links.proofs.Joined.{folder_of_dir, join_same}
+use Rattle.path_walk.proofs.Linked.{folder_of_dir}
+use Rattle.soname_links.proofs.Joined.{join_same}
 use Rattle.soname_links.proofs.Links.{IsLinkFor, all_links}
 use Rattle.soname_links.proofs.Named.{best_has, best_named, is_dir_kind}
 use Rattle.soname_links.proofs.Stays.{are_same, is_same_link}

@@ -9,7 +9,7 @@ use Rattle.std.specs.List.{AllByRecursion, cons_option, filter_map}
 use Rattle.std.specs.List.Sorted.{IsStrictlySortedBy}
 use Rattle.std.specs.Map.{keys_of, values_of, lookup}
 use Rattle.std.specs.Ordering.{match_ordering}
-use Rattle.std.specs.Option.{is_some}
+use Rattle.std.specs.Option.{is_some, option_map}
 use Rattle.std.specs.declared.cmp.Ordering.TheVariants.{Less, Equal, Greater}
 use Rattle.lib_types.proofs.SortedPairs.{by_ordering, flipped}
 
@@ -50,18 +50,25 @@ module _ {K : Type 0} {X : Type 0} {cmp : K → K → Ordering} (o : IsTotalOrde
       rw a (ap (λ ks. e.0 ∷ ks) (keys_stay k es (sorted_tail cmp e.0 (keys_of es) s) there)))
 
   -- a key behind the first is not the first
-  passes : (e : K × X) (es : List (K × X)) (ks : List K) → AllByRecursion (λ y. cmp e.0 y ≡ Less) ks
-      → filter_map (λ k. lookup (is_at (cmp k)) (e ∷ es)) ks ≡ filter_map (λ k. lookup (is_at (cmp k)) es) ks
-  passes e es [] a = refl
-  passes e es (k ∷ ks) a =
+  passes : {Y : Type 0} (f : K → Option X → Option Y) (e : K × X) (es : List (K × X)) (ks : List K) → AllByRecursion (λ y. cmp e.0 y ≡ Less) ks
+      → filter_map (λ k. f k (lookup (is_at (cmp k)) (e ∷ es))) ks ≡ filter_map (λ k. f k (lookup (is_at (cmp k)) es)) ks
+  passes f e es [] a = refl
+  passes f e es (k ∷ ks) a =
       let behind : cmp k e.0 ≡ Greater = flipped o e.0 k Less a.0 in
-      rw behind (ap (cons_option (lookup (is_at (cmp k)) es)) (passes e es ks a.1))
+      rw behind (ap (cons_option (f k (lookup (is_at (cmp k)) es))) (passes f e es ks a.1))
 
   -- the values are those at the keys
   pub by_keys : (es : List (K × X)) → IsStrictlySortedBy cmp (keys_of es) → filter_map (λ k. lookup (is_at (cmp k)) es) (keys_of es) ≡ values_of es
   by_keys [] s = refl
   by_keys (e ∷ es) s =
-      rw (tied o e.0) (ap (λ vs. e.1 ∷ vs) (passes e es (keys_of es) (sorted_head cmp e.0 (keys_of es) s) ∙ by_keys es (sorted_tail cmp e.0 (keys_of es) s)))
+      rw (tied o e.0) (ap (λ vs. e.1 ∷ vs) (passes (λ k found. found) e es (keys_of es) (sorted_head cmp e.0 (keys_of es) s) ∙ by_keys es (sorted_tail cmp e.0 (keys_of es) s)))
+
+  -- the entries are the keys, each with its value
+  pub by_entries : (es : List (K × X)) → IsStrictlySortedBy cmp (keys_of es) → filter_map (λ k. option_map (λ v. (k, v)) (lookup (is_at (cmp k)) es)) (keys_of es) ≡ es
+  by_entries [] s = refl
+  by_entries (e ∷ es) s =
+      rw (tied o e.0) (ap (λ rest. e ∷ rest) (passes (λ k found. option_map (λ v. (k, v)) found) e es (keys_of es) (sorted_head cmp e.0 (keys_of es) s)
+      ∙ by_entries es (sorted_tail cmp e.0 (keys_of es) s)))
 
 pub filtered_same : {X Y : Type 0} (f g : X → Option Y) → ((x : X) → f x ≡ g x) → (xs : List X) → filter_map f xs ≡ filter_map g xs
 filtered_same f g same [] = refl
@@ -70,3 +77,8 @@ filtered_same f g same (x ∷ xs) = rw (same x) (ap (cons_option (g x)) (filtere
 -- what an item gives, and what is left
 pub one_then : {X Y : Type 0} (f : X → Option Y) (ys : List Y) (x : X) (xs : List X) → (ys ++ filter_map f (x ∷ [])) ++ filter_map f xs ≡ ys ++ filter_map f (x ∷ xs)
 one_then f ys x xs = append_assoc ys (filter_map f (x ∷ [])) (filter_map f xs) ∙ ap (λ zs. ys ++ zs) (sym (filter_map-append f (x ∷ []) xs))
+
+-- what an item gave was added, and what is left gives the rest
+pub after_one : {X Y : Type 0} (f : X → Option Y) (ys new : List Y) (x : X) (xs items : List X) (whole : List Y) → new ≡ ys ++ filter_map f (x ∷ []) → items ≡ x ∷ xs
+    → ys ++ filter_map f items ≡ whole → new ++ filter_map f xs ≡ whole
+after_one f ys new x xs items whole added step was = ap (λ zs. zs ++ filter_map f xs) added ∙ one_then f ys x xs ∙ ap (λ zs. ys ++ filter_map f zs) (sym step) ∙ was

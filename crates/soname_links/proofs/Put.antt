@@ -1,5 +1,6 @@
 -- A tree with one node more: the nodes at paths, and what lies below them.
 use Rattle.std.proofs.Common.{◌≡◌, ℕ, Bool, true, false, cond, not, ◌&&◌, ◌||◌, List, [], ◌∷◌, length, map, refl, ap, sym, subst, ◌∙◌, Some}
+use Rattle.std.proofs.lemmas.Bool.{and_from}
 use Rattle.std.proofs.lemmas.Cmp.{tied_itself}
 use Rattle.std.proofs.lemmas.Slice.Eq.{bytes_eq-Decides}
 use Rattle.std.specs.BTreeMap.{is_at}
@@ -10,9 +11,10 @@ use Rattle.std.specs.Str.{bytes_eq}
 use Rattle.std.specs.declared.cmp.Ordering.TheVariants.{Less, Equal, Greater}
 use Rattle.lib_types.proofs.Bools.{and_false}
 use Rattle.lib_types.proofs.SortedPairs.{by_ordering, by_test, put_step}
+use Rattle.tree_face.proofs.Above.{found_any}
 use Rattle.tree_face.proofs.Below.{exact}
 use Rattle.tree_face.proofs.Order.{path_total}
-use Rattle.tree_face.specs.Index.{has_file_above}
+use Rattle.tree_face.specs.Index.{has_file_above, is_file_above}
 use Rattle.tree_face.specs.Node.{is_dir}
 use Rattle.tree_face.specs.Paths.{folder, is_below, name_behind, path_cmp}
 use Rattle.tree_face.specs.Tree as tree
@@ -112,18 +114,4 @@ names_same t path node d apart = ap (map (λ e. name_behind (length (folder d)) 
 -- ---- what is above a path
 
 pub above_found : (path q : List ℕ) (node : Node) (t : Nodes) → node_at t q ≡ Some node → is_below q path ≡ true → is_dir node ≡ false → has_file_above t path ≡ true
-above_found path q node [] e below file = absurd (cc)
-above_found path q node (first ∷ t) e below file = by_test (is_at (path_cmp q) first.0)
-    (λ here.
-    let found : Some first.1 ≡ Some node = sym (ap (λ b. cond b (Some first.1) (node_at t q)) here) ∙ e in
-    let same : first.1 ≡ node = cc in
-    let above : is_below first.0 path ≡ true = subst (λ (z : List ℕ). is_below z path ≡ true) (at_same q first.0 here) below in
-    let none : is_dir first.1 ≡ false = ap is_dir same ∙ file in
-    rw (above, none) refl)
-    (λ other.
-    let rest = above_found path q node t (sym (ap (λ b. cond b (Some first.1) (node_at t q)) other) ∙ e) below file in
-    ap (λ b. (is_below first.0 path && not (is_dir first.1)) || b) rest ∙ or_true (is_below first.0 path && not (is_dir first.1)))
-  where
-    or_true : (a : Bool) → (a || true) ≡ true
-    or_true true = refl
-    or_true false = refl
+above_found path q node t e below file = found_any (is_file_above path) t q node e (and_from _ _ below (ap not file))

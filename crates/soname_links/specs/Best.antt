@@ -1,10 +1,11 @@
 -- The best library of a soname: the one with the soname as its name, or else the one with the greatest name.
-use Rattle.std.specs.Prelude.{ℕ, Bool, true, List, ◌&&◌, ◌||◌, not, if◌then◌else◌, map, filter, fold, Option, Some, None}
+use Rattle.std.specs.Prelude.{ℕ, Bool, List, ◌&&◌, ◌||◌, not, map, Option, None}
 use Rattle.std.specs.List.{filter_map}
 use Rattle.std.specs.Ordering.{is_gt}
 use Rattle.std.specs.Str.{bytes_eq}
 use Rattle.name_order.specs.Order.{name_order}
 use Rattle.soname_links.specs.Order.{ascending}
+use Rattle.soname_links.specs.Pick.{best_with, better_by, is_better_by}
 use Rattle.soname_links.specs.declared.kinds.Library.{Library}
 
 -- its name is its soname
@@ -16,18 +17,17 @@ abbrev pub is_preferred : Library → Library → Bool
 is_preferred library other = not (is_own other) && (is_own library || is_gt (name_order library.name other.name))
 
 abbrev pub is_better : Library → Option Library → Bool
-is_better library None = true
-is_better library (Some other) = is_preferred library other
+is_better = is_better_by is_preferred
 
 abbrev pub better : Option Library → Library → Option Library
-better best library = if is_better library best then Some library else best
+better = better_by is_preferred
 
 abbrev pub has_soname : List ℕ → Library → Bool
 has_soname soname library = bytes_eq library.soname soname
 
 -- the best of the libraries with this soname, if there is one
 abbrev pub best : List Library → List ℕ → Option Library
-best libraries soname = fold better None (filter (has_soname soname) libraries)
+best = best_with (λ library. library.soname) is_preferred None
 
 abbrev pub sonames : List Library → List (List ℕ)
 sonames libraries = ascending (map (λ library. library.soname) libraries)

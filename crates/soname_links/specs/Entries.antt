@@ -14,7 +14,7 @@ use Rattle.lib_types.specs.Abi.{flags_of}
 use Rattle.lib_types.specs.declared.entry.Entry.{Entry}
 use Rattle.name_order.proofs.Total.{name_order-total}
 use Rattle.name_order.specs.Order.{name_order}
-use Rattle.path_walk.specs.Names.{join}
+use Rattle.tree_face.specs.Paths.{join}
 use Rattle.tree_face.specs.Node.{has_no_nul}
 use Rattle.tree_face.specs.Tree.{Nodes}
 use Rattle.soname_links.specs.Best.{is_own}

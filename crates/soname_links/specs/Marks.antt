@@ -3,7 +3,7 @@ use Rattle.std.specs.Prelude.{ℕ, Bool, false, List, [], ◌&&◌, not, nat_eq,
 use Rattle.std.specs.List.{filter_map}
 use Rattle.hwcap_dirs.specs.declared.kinds.Place.{Place}
 use Rattle.lib_types.specs.Abi.{flags_of}
-use Rattle.path_walk.specs.Names.{join}
+use Rattle.tree_face.specs.Paths.{join}
 use Rattle.tree_face.specs.Tree.{Nodes}
 use Rattle.soname_links.specs.Best.{best, bests}
 use Rattle.soname_links.specs.Libraries.{libraries_in}

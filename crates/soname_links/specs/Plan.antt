@@ -5,7 +5,7 @@ use Rattle.std.specs.Option.{is_none}
 use Rattle.std.specs.Str.{bytes_eq}
 use Rattle.hwcap_dirs.specs.declared.kinds.Place.{Place}
 use Rattle.name_order.specs.LibraryName.{is_library_name}
-use Rattle.path_walk.specs.Names.{join}
+use Rattle.tree_face.specs.Paths.{join}
 use Rattle.tree_face.specs.Tree.{Nodes, kind_at, node_at, put}
 use Rattle.tree_face.specs.declared.node.Node.{Node}
 use Rattle.tree_face.specs.declared.node.Node.TheVariants.{Dir, File, Link}

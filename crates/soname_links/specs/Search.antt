@@ -1,23 +1,15 @@
 -- Which files of the searched places are looked at (ldconfig(8): files and links with library names).
-use Rattle.std.specs.Prelude.{ℕ, Bool, true, false, List, ◌&&◌, if◌then◌else◌, flat_map, map, Option, Some, None, Result, Ok, Err}
+use Rattle.std.specs.Prelude.{ℕ, Bool, true, false, List, ◌&&◌, if◌then◌else◌, flat_map, map, Option, Some, None}
 use Rattle.std.specs.List.{filter_map}
 use Rattle.std.specs.Option.{is_none, option_and_then}
 use Rattle.hwcap_dirs.specs.declared.kinds.Place.{Place}
 use Rattle.name_order.specs.LibraryName.{is_library_name}
-use Rattle.path_walk.specs.Names.{join}
-use Rattle.path_walk.specs.Walk.{resolution}
-use Rattle.path_walk.specs.declared.walk.Mode.TheVariants.{Full}
-use Rattle.path_walk.specs.declared.walk.WalkFault.{WalkFault}
+use Rattle.tree_face.specs.Paths.{join}
+use Rattle.path_walk.specs.Files.{file_at, is_file}
 use Rattle.tree_face.specs.Tree.{Nodes, kind_at, children_of}
 use Rattle.tree_face.specs.declared.tree.Kind.{Kind}
 use Rattle.tree_face.specs.declared.tree.Kind.TheVariants as kinds
 use Rattle.soname_links.specs.Order.{ascending}
-
-abbrev pub is_file : Kind → Bool
-is_file kinds.File = true
-is_file kinds.Absent = false
-is_file kinds.Dir = false
-is_file kinds.Link = false
 
 abbrev pub is_link : Kind → Bool
 is_link kinds.Link = true
@@ -32,15 +24,6 @@ file_in t folder name = if is_library_name name && is_file (kind_at t (join fold
 -- the path of a name in a folder, if a link with a library name is there
 abbrev pub link_in : Nodes → List ℕ → List ℕ → Option (List ℕ)
 link_in t folder name = if is_library_name name && is_link (kind_at t (join folder name)) then Some (join folder name) else None
-
--- the file to which a walk leads, if it leads to one
-abbrev pub file_by : Nodes → Result (List ℕ) WalkFault → Option (List ℕ)
-file_by t (Ok place) = if is_file (kind_at t place) then Some place else None
-file_by t (Err fault) = None
-
--- the file to which a path leads, all links followed
-abbrev pub file_at : Nodes → List ℕ → Option (List ℕ)
-file_at t path = file_by t (resolution t path Full)
 
 -- ---- the files with library names
 

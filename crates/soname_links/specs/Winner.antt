@@ -7,7 +7,8 @@ use Rattle.tree_face.specs.Paths.{is_slash}
 use Rattle.tree_face.specs.Tree.{Nodes, children_of}
 use Rattle.soname_links.specs.Best.{best, is_own, sonames}
 use Rattle.soname_links.specs.Libraries.{libraries_in, library_at}
-use Rattle.soname_links.specs.Search.{file_at, link_in}
+use Rattle.path_walk.specs.Files.{file_at}
+use Rattle.soname_links.specs.Search.{link_in}
 use Rattle.soname_links.specs.Table.{Analyses}
 use Rattle.soname_links.specs.declared.kinds.Library.{Library}
 

@@ -11,7 +11,6 @@ ghost use Rattle.soname_links.specs.Settled.{Settles};
 
 use crate::key::ascending;
 use crate::kinds::{ApplyFault, Plan, Planned};
-use crate::planning::know;
 use lib_types::{NoMemory, Text, Texts, is_name};
 use std::alloc::Global;
 use tree_face::{NODES_MAX, Node, Tree, is_path};
@@ -100,7 +99,7 @@ pub fn apply(alloc: Global, tree: &mut Tree, plan: &Plan) -> Result<(), ApplyFau
     ensures few { OnOk result (nodes_with tree.old plan.now ≤ NODES_MAX) }
     ensures fault { IfErr result (IsApplyFault tree.old plan.now tree.new) }
 {
-    know(tree);
+    tree.know();
     let more = new_paths(alloc, tree, plan.as_slice())?;
     let Some(nodes) = tree.len().checked_add(more.len()) else {
         return Err(ApplyFault::NoMemory);

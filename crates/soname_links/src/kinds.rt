@@ -29,6 +29,16 @@ pub struct Mark {
 /// Sonames in places, by place and then by the bytes of the sonames.
 pub type Marks = Seq<Mark>;
 
+/// What is planned and what is reported of an image's places.
+#[derive(Drop)]
+pub struct Survey {
+    pub plan: Plan,
+    /// The sonames for which a link is wanted where none can be.
+    pub blocked: Marks,
+    /// The sonames of which a place has libraries with different ABIs.
+    pub mixed: Marks,
+}
+
 /// A library of a place: the name of its file or of a link to it, and the soname by which it is looked up.
 #[derive(Drop)]
 pub struct Library {

@@ -3,6 +3,7 @@
 
 mod applying;
 mod best;
+mod groups;
 mod key;
 pub mod kinds;
 mod libraries;
@@ -10,13 +11,15 @@ mod listing;
 mod marks;
 mod planning;
 mod search;
+mod surveying;
 mod table;
 mod winner;
 
 pub use applying::{apply, is_plan};
-pub use kinds::{ApplyFault, EntryFault, Mark, Marks, Planned};
+pub use kinds::{ApplyFault, EntryFault, Mark, Marks, Planned, Survey};
 pub use listing::entries;
 pub use marks::{blocked, mixed};
 pub use planning::plan;
 pub use search::{dangling, reached, union, wanted};
+pub use surveying::survey;
 pub use table::Table;

@@ -1,14 +1,16 @@
 //! The libraries of a place.
 ghost use Rattle.std.specs.Prelude.{◌≡◌, IfOk, unwrap_or};
-ghost use Rattle.soname_links.specs.Libraries.{libraries_in, library_at, library_by, library_in};
+ghost use Rattle.std.specs.Option.{option_copied};
+ghost use Rattle.soname_links.specs.Children.{library_of};
+ghost use Rattle.soname_links.specs.Libraries.{libraries_in, library_at, library_by};
 
 use crate::kinds::Library;
-use crate::search::file_in;
+use crate::search::file_of;
 use crate::table::Table;
 use hwcap_dirs::Place;
 use lib_types::{Analysis, NoMemory, Text};
 use std::alloc::Global;
-use tree_face::Tree;
+use tree_face::{Node, Tree};
 
 // The soname, or this name if there is none.
 fn soname_or<'a>(soname: &'a Option<Text>, own: &'a [u8]) -> &'a [u8]
@@ -54,23 +56,24 @@ pub(crate) fn library_at(
     }
 }
 
-// The library of this name in a folder.
-fn library_in(
+// The library that a child with this node is.
+fn library_of(
     alloc: Global,
-    tree: &Tree,
     table: &Table,
     folder: &[u8],
     name: &[u8],
+    node: Option<&Node>,
 ) -> Result<Option<Library>, NoMemory>
-    ensures { IfOk result (λ library. library ≡ library_in table.now tree.now folder.now name.now) }
+    ensures { IfOk result (λ library. library ≡ library_of table.now folder.now (name.now, option_copied node.entry)) }
 {
-    match file_in(alloc, tree, folder, name)? {
+    match file_of(alloc, folder, name, node)? {
         Some(path) => library_at(alloc, table, path.as_bytes(), name, name),
         None => Ok(None),
     }
 }
 
 /// The files with library names in a place that are libraries.
+#[tactic(auto, using(crate::proofs::Children::libraries_listed))]
 pub(crate) fn libraries_in(
     alloc: Global,
     tree: &Tree,
@@ -81,32 +84,10 @@ pub(crate) fn libraries_in(
 {
     let mut libraries = Vec::new(alloc);
     let folder = place.real.as_bytes();
-    for name in tree.children(folder) {
-        if let Some(library) = library_in(alloc, tree, table, folder, name)? {
+    for (name, node) in tree.listing(folder) {
+        if let Some(library) = library_of(alloc, table, folder, name, node)? {
             libraries.push(library)?;
         }
     }
     Ok(libraries)
-}
-
-/// A copy of a library.
-pub(crate) fn copy_of(alloc: Global, library: &Library) -> Result<Library, NoMemory>
-    ensures { IfOk result (λ copy. copy ≡ library.now) }
-{
-    Ok(Library {
-        name: Text::copy_of(alloc, library.name.as_bytes())?,
-        soname: Text::copy_of(alloc, library.soname.as_bytes())?,
-        abi: library.abi,
-    })
-}
-
-/// A copy of these libraries.
-pub(crate) fn copies_of(alloc: Global, libraries: &[Library]) -> Result<Vec<Library>, NoMemory>
-    ensures { IfOk result (λ copies. copies.items ≡ libraries.now) }
-{
-    let mut copies = Vec::new(alloc);
-    for library in libraries {
-        copies.push(copy_of(alloc, library)?)?;
-    }
-    Ok(copies)
 }

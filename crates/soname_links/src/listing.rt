@@ -5,20 +5,20 @@ ghost use Rattle.std.specs.Cmp.{eq_by_cmp_equiv, partial_equiv_from_equiv, parti
 ghost use Rattle.std.specs.Ordering.{as_partial_cmp, eq_by_cmp};
 ghost use Rattle.cache_writer.specs.declared.writer.TheConstants.{ENTRIES_MAX};
 ghost use Rattle.hwcap_dirs.specs.Places.{are_spelled};
-ghost use Rattle.path_walk.specs.Names.{join};
+ghost use Rattle.tree_face.specs.Paths.{join};
 ghost use Rattle.soname_links.specs.Plan.{links_to};
 ghost use Rattle.soname_links.specs.Entries.{cap_of, entries_in, entry_of, entry_order, entry_order-total, found, is_by_soname, is_fit, AreEntriesOf, IsEntryFault};
 
 use crate::best::is_own;
 use crate::kinds::{EntryFault, Library};
-use crate::planning::{is_plain, know, links_to};
-use crate::search::joined;
+use crate::planning::{is_plain, links_to};
 use crate::table::Table;
 use crate::winner::winners_in;
 use cache_writer::ENTRIES_MAX;
 use hwcap_dirs::{Dirs, Place};
 use lib_types::{Entries, Entry, NoMemory, Seq, Text};
 use name_order::compare;
+use path_walk::join;
 use std::alloc::Global;
 use std::cmp::Ordering;
 use std::marker::Model;
@@ -108,7 +108,7 @@ fn has_link(
 ) -> Result<bool, NoMemory>
     ensures { IfOk result (λ leads. leads ≡ links_to tree.now (join folder.now name.now) text.now) }
 {
-    let path = joined(alloc, folder, name)?;
+    let path = join(alloc, folder, name)?;
     Ok(links_to(tree, path.as_bytes(), text))
 }
 
@@ -160,9 +160,9 @@ fn entry_of(
     let cap = copy_of_cap(alloc, &place.cap)?;
     let spelled = place.spelled.as_bytes();
     let path = if leads {
-        joined(alloc, spelled, winner.soname.as_bytes())?
+        join(alloc, spelled, winner.soname.as_bytes())?
     } else {
-        joined(alloc, spelled, winner.name.as_bytes())?
+        join(alloc, spelled, winner.name.as_bytes())?
     };
     Ok(Entry {
         soname: winner.soname,
@@ -248,7 +248,7 @@ pub fn entries(
     ensures few { IfOk result (λ _. length (found table.now tree.now dirs.now.places) ≤ ENTRIES_MAX) }
     ensures fault { IfErr result (IsEntryFault (found table.now tree.now dirs.now.places)) }
 {
-    know(tree);
+    tree.know();
     table.know();
     let found = found(alloc, tree, dirs, table)?;
     if found.len() > ENTRIES_MAX {

@@ -1,106 +1,57 @@
 //! The files of the searched places that are looked at.
+ghost use Rattle.std.specs.Option.{option_copied, option_map};
 ghost use Rattle.std.specs.Prelude.{◌≡◌, ◌++◌, map, IfOk, OnOk};
-ghost use Rattle.path_walk.specs.Names.{join};
 ghost use Rattle.soname_links.specs.Order.{ascending};
-ghost use Rattle.soname_links.specs.Search.{dangling, dangling_by, dangling_in, file_at, file_in, files_in, is_file, is_link, link_in, reached, reached_by, reached_in, wanted};
+ghost use Rattle.path_walk.specs.Files.{file_at};
+ghost use Rattle.soname_links.specs.Children.{file_of, IsChild};
+ghost use Rattle.soname_links.specs.Search.{dangling, dangling_by, dangling_in, files_in, link_in, reached, reached_by, reached_in, wanted};
 
 use crate::key::ascending;
 use hwcap_dirs::{Dirs, Place};
 use lib_types::{NoMemory, Seq, Text, Texts};
 use name_order::is_library_name;
-use path_walk::{Mode, WalkFault, resolve};
+use path_walk::{join, linked_file};
 use std::alloc::Global;
-use tree_face::{Kind, Tree};
+use tree_face::{Node, Tree};
 
-fn is_file(kind: Kind) -> bool
-    ensures { result ≡ is_file kind }
+/// The path of a child with this node, if it is a file with a library name.
+pub(crate) fn file_of(
+    alloc: Global,
+    folder: &[u8],
+    name: &[u8],
+    node: Option<&Node>,
+) -> Result<Option<Text>, NoMemory>
+    ensures { IfOk result (λ path. path ≡ file_of folder.now (name.now, option_copied node.entry)) }
 {
-    match kind {
-        Kind::File => true,
-        Kind::Absent | Kind::Dir | Kind::Link => false,
+    match node {
+        Some(Node::File { .. }) if is_library_name(name) => Ok(Some(join(alloc, folder, name)?)),
+        _ => Ok(None),
     }
 }
 
-fn is_link(kind: Kind) -> bool
-    ensures { result ≡ is_link kind }
-{
-    match kind {
-        Kind::Link => true,
-        Kind::Absent | Kind::Dir | Kind::File => false,
-    }
-}
-
-/// The path of a name in a folder.
-pub(crate) fn joined(alloc: Global, folder: &[u8], name: &[u8]) -> Result<Text, NoMemory>
-    ensures { IfOk result (λ path. path ≡ join folder.now name.now) }
-{
-    let mut path = Vec::with_capacity(alloc, folder.len() + 1 + name.len())?;
-    if folder != b"/".as_slice() {
-        path.extend_from_slice(folder)?;
-    }
-    path.push(b'/')?;
-    path.extend_from_slice(name)?;
-    Ok(Text::from_vec(path))
-}
-
-/// The path of this name, if a file with a library name is there.
-pub(crate) fn file_in(
+/// Where the link that a child with this node is leads, if it has a library name: to a file, or to none.
+#[tactic(auto, using(crate::proofs::Children::link_same))]
+pub(crate) fn led_by(
     alloc: Global,
     tree: &Tree,
     folder: &[u8],
     name: &[u8],
-) -> Result<Option<Text>, NoMemory>
-    ensures { IfOk result (λ path. path ≡ file_in tree.now folder.now name.now) }
+    node: Option<&Node>,
+) -> Result<Option<Option<Text>>, NoMemory>
+    requires { IsChild tree.now folder.now (name.now, option_copied node) }
+    ensures { IfOk result (λ led. led ≡ option_map (file_at tree.now) (link_in tree.now folder.now name.now)) }
 {
-    if !is_library_name(name) {
-        return Ok(None);
-    }
-    let path = joined(alloc, folder, name)?;
-    if is_file(tree.kind(path.as_bytes())) {
-        Ok(Some(path))
-    } else {
-        Ok(None)
-    }
-}
-
-/// The path of this name, if a link with a library name is there.
-pub(crate) fn link_in(
-    alloc: Global,
-    tree: &Tree,
-    folder: &[u8],
-    name: &[u8],
-) -> Result<Option<Text>, NoMemory>
-    ensures { IfOk result (λ path. path ≡ link_in tree.now folder.now name.now) }
-{
-    if !is_library_name(name) {
-        return Ok(None);
-    }
-    let path = joined(alloc, folder, name)?;
-    if is_link(tree.kind(path.as_bytes())) {
-        Ok(Some(path))
-    } else {
-        Ok(None)
-    }
-}
-
-/// The file to which a path leads, if it leads to one.
-pub(crate) fn file_at(alloc: Global, tree: &Tree, path: &[u8]) -> Result<Option<Text>, NoMemory>
-    ensures { IfOk result (λ file. file ≡ file_at tree.now path.now) }
-{
-    match resolve(alloc, tree, path, Mode::Full) {
-        Ok(place) => {
-            if is_file(tree.kind(place.as_bytes())) {
-                Ok(Some(place))
-            } else {
-                Ok(None)
-            }
+    match node {
+        Some(Node::Link { target }) if is_library_name(name) => {
+            let file = linked_file(alloc, tree, folder, target.as_bytes())?;
+            Ok(Some(file))
         }
-        Err(WalkFault::NoMemory) => Err(NoMemory),
-        Err(_) => Ok(None),
+        _ => Ok(None),
     }
 }
 
 // Adds the files with library names in a place.
+#[tactic(auto, using(crate::proofs::Children::files_listed))]
 fn add_files(
     alloc: Global,
     tree: &Tree,
@@ -110,8 +61,8 @@ fn add_files(
     ensures { OnOk result (paths.new.items ≡ paths.old.items ++ files_in tree.now place.now) }
 {
     let folder = place.real.as_bytes();
-    for name in tree.children(folder) {
-        if let Some(path) = file_in(alloc, tree, folder, name)? {
+    for (name, node) in tree.listing(folder) {
+        if let Some(path) = file_of(alloc, folder, name, node)? {
             paths.push(path)?;
         }
     }
@@ -150,22 +101,25 @@ pub fn wanted(alloc: Global, tree: &Tree, dirs: &Dirs) -> Result<Texts, NoMemory
     ascending(alloc, paths)
 }
 
-// The file to which a link with a library name leads.
+// The file to which the link that a child with this node is leads, if it has a library name.
 fn reached_by(
     alloc: Global,
     tree: &Tree,
     folder: &[u8],
     name: &[u8],
+    node: Option<&Node>,
 ) -> Result<Option<Text>, NoMemory>
+    requires { IsChild tree.now folder.now (name.now, option_copied node) }
     ensures { IfOk result (λ file. file ≡ reached_by tree.now folder.now name.now) }
 {
-    match link_in(alloc, tree, folder, name)? {
-        Some(path) => file_at(alloc, tree, path.as_bytes()),
+    match led_by(alloc, tree, folder, name, node)? {
+        Some(file) => Ok(file),
         None => Ok(None),
     }
 }
 
 // Adds the files to which the links with library names in a place lead.
+#[tactic(auto, using(crate::proofs::Children::names_listed, crate::proofs::Children::all_children))]
 fn add_reached(
     alloc: Global,
     tree: &Tree,
@@ -175,8 +129,8 @@ fn add_reached(
     ensures { OnOk result (paths.new.items ≡ paths.old.items ++ reached_in tree.now place.now) }
 {
     let folder = place.real.as_bytes();
-    for name in tree.children(folder) {
-        if let Some(file) = reached_by(alloc, tree, folder, name)? {
+    for (name, node) in tree.listing(folder) {
+        if let Some(file) = reached_by(alloc, tree, folder, name, node)? {
             paths.push(file)?;
         }
     }
@@ -195,26 +149,27 @@ pub fn reached(alloc: Global, tree: &Tree, dirs: &Dirs) -> Result<Texts, NoMemor
     ascending(alloc, paths)
 }
 
-// The path of this name, if a link with a library name is there that leads to no file.
+// The path of a child with this node, if it is a link with a library name that leads to no file.
+#[tactic(auto, using(crate::proofs::Children::dangling_led))]
 fn dangling_by(
     alloc: Global,
     tree: &Tree,
     folder: &[u8],
     name: &[u8],
+    node: Option<&Node>,
 ) -> Result<Option<Text>, NoMemory>
+    requires { IsChild tree.now folder.now (name.now, option_copied node) }
     ensures { IfOk result (λ path. path ≡ dangling_by tree.now folder.now name.now) }
 {
-    let Some(path) = link_in(alloc, tree, folder, name)? else {
-        return Ok(None);
-    };
-    if file_at(alloc, tree, path.as_bytes())?.is_none() {
-        Ok(Some(path))
-    } else {
-        Ok(None)
+    match led_by(alloc, tree, folder, name, node)? {
+        Some(Some(_)) => Ok(None),
+        Some(None) => Ok(Some(join(alloc, folder, name)?)),
+        None => Ok(None),
     }
 }
 
 // Adds the links with library names in a folder that lead to no file.
+#[tactic(auto, using(crate::proofs::Children::names_listed, crate::proofs::Children::all_children))]
 fn add_dangling(
     alloc: Global,
     tree: &Tree,
@@ -223,8 +178,8 @@ fn add_dangling(
 ) -> Result<(), NoMemory>
     ensures { OnOk result (paths.new ≡ paths.old ++ dangling_in tree.now folder.now) }
 {
-    for name in tree.children(folder) {
-        if let Some(path) = dangling_by(alloc, tree, folder, name)? {
+    for (name, node) in tree.listing(folder) {
+        if let Some(path) = dangling_by(alloc, tree, folder, name, node)? {
             paths.push(path)?;
         }
     }

@@ -1,26 +1,30 @@
 //! The winners of a place.
-ghost use Rattle.std.specs.Prelude.{◌≡◌, ◌<◌, ◌∷◌, ◌++◌, [], ℕ, List, length, map, position, IfOk, IfSome, OnOk};
-ghost use Rattle.std.specs.BTreeMap.{get};
+ghost use Rattle.std.specs.Prelude.{◌≡◌, ◌<◌, ◌∷◌, ℕ, List, if◌then◌else◌, fold, length, map, position, IfOk, IfSome, OnOk};
+ghost use Rattle.std.specs.BTreeMap.{get, keys, values, IsOrdered};
 ghost use Rattle.std.specs.Cmp.Lexicographic.{slice_cmp};
-ghost use Rattle.std.specs.List.{filter_map, slice_split};
+ghost use Rattle.std.specs.List.{slice_split};
 ghost use Rattle.std.specs.Option.{option_copied};
 ghost use Rattle.std.specs.Ordering.{nat_cmp};
+ghost use Rattle.std.specs.Str.{bytes_eq};
 ghost use Rattle.tree_face.specs.Paths.{is_slash};
-ghost use Rattle.soname_links.specs.Best.{best, sonames};
-ghost use Rattle.soname_links.specs.Order.{ascending};
+ghost use Rattle.soname_links.specs.Children.{IsChild};
+ghost use Rattle.soname_links.specs.Order.{with_text};
 ghost use Rattle.soname_links.specs.Parts.{parts_of};
-ghost use Rattle.soname_links.specs.Winner.{has_own_name, is_dev_name, last_name, library_behind, linked_in, links_to_libraries, named, named_links, or_else, other_links, unnamed, winner, winners_among, winners_in};
+ghost use Rattle.soname_links.specs.Pick.{best_with, better_by, is_better_by};
+ghost use Rattle.soname_links.specs.Ranked.{is_before, rank_of, ranked_file, ranked_link, soname_of};
+ghost use Rattle.soname_links.specs.Winner.{has_own_name, is_dev_name, last_name, linked_in, links_to_libraries, winners_among, winners_in};
 
-use crate::best::{Bests, bests, is_own};
-use crate::key::{Key, ascending};
+use crate::best::{is_own, is_preferred};
+use crate::key::Key;
 use crate::kinds::Library;
-use crate::libraries::{copies_of, copy_of, libraries_in, library_at};
-use crate::search::{file_at, link_in};
+use crate::libraries::{libraries_in, library_at};
+use crate::search::led_by;
 use crate::table::Table;
 use hwcap_dirs::Place;
-use lib_types::{NoMemory, Text, Texts};
+use lib_types::{NoMemory, Text};
 use std::alloc::Global;
-use tree_face::Tree;
+use std::collections::BTreeMap;
+use tree_face::{Node, Tree};
 
 // ---- links to libraries
 
@@ -58,29 +62,29 @@ fn last_name(path: &[u8]) -> &[u8]
     last
 }
 
-// The library to which a link of this name leads.
+// The library to which the link that a child with this node is leads.
 fn linked_in(
     alloc: Global,
     tree: &Tree,
     table: &Table,
     folder: &[u8],
     name: &[u8],
+    node: Option<&Node>,
 ) -> Result<Option<Library>, NoMemory>
+    requires { IsChild tree.now folder.now (name.now, option_copied node) }
     ensures { IfOk result (λ library. library ≡ linked_in table.now tree.now folder.now name.now) }
 {
-    let Some(path) = link_in(alloc, tree, folder, name)? else {
-        return Ok(None);
-    };
-    match file_at(alloc, tree, path.as_bytes())? {
-        Some(file) => {
+    match led_by(alloc, tree, folder, name, node)? {
+        Some(Some(file)) => {
             let own = last_name(file.as_bytes());
             library_at(alloc, table, file.as_bytes(), name, own)
         }
-        None => Ok(None),
+        _ => Ok(None),
     }
 }
 
 // The links with library names in a place that lead to libraries.
+#[tactic(auto, using(crate::proofs::Children::names_listed, crate::proofs::Children::all_children))]
 fn links_to_libraries(
     alloc: Global,
     tree: &Tree,
@@ -91,8 +95,8 @@ fn links_to_libraries(
 {
     let mut links = Vec::new(alloc);
     let folder = place.real.as_bytes();
-    for name in tree.children(folder) {
-        if let Some(library) = linked_in(alloc, tree, table, folder, name)? {
+    for (name, node) in tree.listing(folder) {
+        if let Some(library) = linked_in(alloc, tree, table, folder, name, node)? {
             links.push(library)?;
         }
     }
@@ -114,149 +118,147 @@ fn has_own_name(link: &Library) -> bool
     is_own(link) || is_dev_name(link.name.as_bytes(), link.soname.as_bytes())
 }
 
-// The link as it is looked up by its own name, if it is.
-fn named(alloc: Global, link: &Library) -> Result<Option<Library>, NoMemory>
-    ensures { IfOk result (λ library. library ≡ named link.now) }
-{
-    if !has_own_name(link) {
-        return Ok(None);
-    }
-    Ok(Some(Library {
-        name: Text::copy_of(alloc, link.name.as_bytes())?,
-        soname: Text::copy_of(alloc, link.name.as_bytes())?,
-        abi: link.abi,
-    }))
+// Files are first, then the links that are looked up by their own names, then the others.
+#[derive(Clone, Copy)]
+enum Class {
+    File,
+    Named,
+    Other,
 }
 
-// The link as it is looked up by its library's soname, if it is.
-fn unnamed(alloc: Global, link: &Library) -> Result<Option<Library>, NoMemory>
-    ensures { IfOk result (λ library. library ≡ unnamed link.now) }
-{
-    if has_own_name(link) {
-        return Ok(None);
-    }
-    Ok(Some(copy_of(alloc, link)?))
-}
-
-fn named_links(alloc: Global, links: &[Library]) -> Result<Vec<Library>, NoMemory>
-    ensures { IfOk result (λ found. found.items ≡ named_links links.now) }
-{
-    let mut found = Vec::new(alloc);
-    for link in links {
-        if let Some(library) = named(alloc, link)? {
-            found.push(library)?;
+impl Class {
+    fn rank(self) -> u8
+        ensures { result ≡ rank_of self }
+    {
+        match self {
+            Class::File => 0,
+            Class::Named => 1,
+            Class::Other => 2,
         }
     }
-    Ok(found)
 }
 
-fn other_links(alloc: Global, links: &[Library]) -> Result<Vec<Library>, NoMemory>
-    ensures { IfOk result (λ found. found.items ≡ other_links links.now) }
+// A library by the soname at which it is looked up, and its class.
+#[derive(Drop)]
+struct Ranked {
+    library: Library,
+    class: Class,
+}
+
+fn ranked_file(file: Library) -> Ranked
+    ensures { result ≡ ranked_file file }
 {
-    let mut found = Vec::new(alloc);
-    for link in links {
-        if let Some(library) = unnamed(alloc, link)? {
-            found.push(library)?;
-        }
+    Ranked {
+        library: file,
+        class: Class::File,
     }
-    Ok(found)
+}
+
+fn ranked_link(alloc: Global, link: Library) -> Result<Ranked, NoMemory>
+    ensures { IfOk result (λ ranked. ranked ≡ ranked_link link) }
+{
+    if !has_own_name(&link) {
+        return Ok(Ranked {
+            library: link,
+            class: Class::Other,
+        });
+    }
+    let soname = Text::copy_of(alloc, link.name.as_bytes())?;
+    Ok(Ranked {
+        library: Library {
+            name: link.name,
+            soname,
+            abi: link.abi,
+        },
+        class: Class::Named,
+    })
 }
 
 // ---- the winners
 
-// Adds the sonames of these libraries.
-fn add_sonames(alloc: Global, libraries: &[Library], texts: &mut Vec<Text>) -> Result<(), NoMemory>
-    ensures { OnOk result (texts.new.items ≡ texts.old.items ++ map (λ library. library.soname) libraries.now) }
+// Whether the first of two of one soname is preferred.
+fn is_before(ranked: &Ranked, other: &Ranked) -> bool
+    ensures { result ≡ is_before ranked.now other.now }
 {
-    for library in libraries {
-        texts.push(Text::copy_of(alloc, library.soname.as_bytes())?)?;
+    let (rank, others) = (ranked.class.rank(), other.class.rank());
+    rank < others || (rank == others && is_preferred(&ranked.library, &other.library))
+}
+
+fn wins(ranked: &Ranked, winner: Option<&Ranked>) -> bool
+    ensures { result ≡ is_better_by is_before ranked.now (option_copied winner.entry) }
+{
+    match winner {
+        Some(other) => is_before(ranked, other),
+        None => true,
+    }
+}
+
+// The winners by their sonames.
+type Winners = BTreeMap<Key, Ranked>;
+
+// Adds a library, if it wins over the one of its soname.
+fn add(alloc: Global, winners: &mut Winners, ranked: Ranked) -> Result<(), NoMemory>
+    requires { IsOrdered (slice_cmp nat_cmp) winners.old }
+    ensures keys { OnOk result (keys winners.new ≡ with_text (keys winners.old) (soname_of ranked)) }
+    ensures best { OnOk result ((soname : List ℕ) → get (slice_cmp nat_cmp) winners.new soname
+        ≡ (if bytes_eq (soname_of ranked) soname then better_by is_before (get (slice_cmp nat_cmp) winners.old soname) ranked else get (slice_cmp nat_cmp) winners.old soname)) }
+    ensures ordered { IsOrdered (slice_cmp nat_cmp) winners.new }
+{
+    let key = Key::of(Text::copy_of(alloc, ranked.library.soname.as_bytes())?);
+    if !wins(&ranked, winners.get(&key)) {
+        return Ok(());
+    }
+    winners.insert(key, ranked)?;
+    Ok(())
+}
+
+fn add_files(alloc: Global, winners: &mut Winners, files: Vec<Library>) -> Result<(), NoMemory>
+    requires { IsOrdered (slice_cmp nat_cmp) winners.old }
+    ensures keys { OnOk result (keys winners.new ≡ fold with_text (keys winners.old) (map soname_of (map ranked_file files.items))) }
+    ensures best { OnOk result ((soname : List ℕ) → get (slice_cmp nat_cmp) winners.new soname
+        ≡ best_with soname_of is_before (get (slice_cmp nat_cmp) winners.old soname) (map ranked_file files.items) soname) }
+    ensures ordered { IsOrdered (slice_cmp nat_cmp) winners.new }
+{
+    for file in files {
+        add(alloc, winners, ranked_file(file))?;
     }
     Ok(())
 }
 
-// The sonames of the files and links, each once.
-fn sonames_of(
-    alloc: Global,
-    files: &[Library],
-    named: &[Library],
-    others: &[Library],
-) -> Result<Texts, NoMemory>
-    ensures { IfOk result (λ texts. texts ≡ sonames (files.now ++ (named.now ++ others.now))) }
+fn add_links(alloc: Global, winners: &mut Winners, links: Vec<Library>) -> Result<(), NoMemory>
+    requires { IsOrdered (slice_cmp nat_cmp) winners.old }
+    ensures keys { OnOk result (keys winners.new ≡ fold with_text (keys winners.old) (map soname_of (map ranked_link links.items))) }
+    ensures best { OnOk result ((soname : List ℕ) → get (slice_cmp nat_cmp) winners.new soname
+        ≡ best_with soname_of is_before (get (slice_cmp nat_cmp) winners.old soname) (map ranked_link links.items) soname) }
+    ensures ordered { IsOrdered (slice_cmp nat_cmp) winners.new }
 {
-    let mut texts = Vec::new(alloc);
-    add_sonames(alloc, files, &mut texts)?;
-    add_sonames(alloc, named, &mut texts)?;
-    add_sonames(alloc, others, &mut texts)?;
-    ascending(alloc, texts)
-}
-
-fn or_else<'a>(first: Option<&'a Library>, other: Option<&'a Library>) -> Option<&'a Library>
-    ensures { option_copied result ≡ or_else (option_copied first.entry) (option_copied other.entry) }
-{
-    match first {
-        Some(library) => Some(library),
-        None => other,
+    for link in links {
+        add(alloc, winners, ranked_link(alloc, link)?)?;
     }
+    Ok(())
 }
 
-// The best libraries of a place by their sonames, in the three classes.
-#[derive(Drop)]
-struct Classes {
-    files: Bests,
-    named: Bests,
-    others: Bests,
-}
-
-impl Classes {
-    // The winner of a soname.
-    fn winner(&self, alloc: Global, soname: Text) -> Result<Option<Library>, NoMemory>
-        ensures { IfOk result (λ library. library ≡ or_else (get (slice_cmp nat_cmp) self.now.files soname)
-            (or_else (get (slice_cmp nat_cmp) self.now.named soname) (get (slice_cmp nat_cmp) self.now.others soname))) }
-    {
-        let key = Key::of(soname);
-        let links = or_else(self.named.get(&key), self.others.get(&key));
-        match or_else(self.files.get(&key), links) {
-            Some(library) => Ok(Some(copy_of(alloc, library)?)),
-            None => Ok(None),
-        }
-    }
-}
-
-// The classes of these files and links.
-fn classes_of(
-    alloc: Global,
-    files: &[Library],
-    named: Vec<Library>,
-    others: Vec<Library>,
-) -> Result<Classes, NoMemory>
-    ensures files { IfOk result (λ classes. (soname : List ℕ) → get (slice_cmp nat_cmp) classes.files soname ≡ best files.now soname) }
-    ensures named { IfOk result (λ classes. (soname : List ℕ) → get (slice_cmp nat_cmp) classes.named soname ≡ best named.items soname) }
-    ensures others { IfOk result (λ classes. (soname : List ℕ) → get (slice_cmp nat_cmp) classes.others soname ≡ best others.items soname) }
+// The winners among the files and links of a place, by a map.
+fn winners_of(alloc: Global, files: Vec<Library>, links: Vec<Library>) -> Result<Winners, NoMemory>
+    ensures { IfOk result (λ winners. map (λ ranked. ranked.library) (values winners) ≡ winners_among files.items links.items) }
 {
-    Ok(Classes {
-        files: bests(alloc, copies_of(alloc, files)?)?,
-        named: bests(alloc, named)?,
-        others: bests(alloc, others)?,
-    })
+    let mut winners = BTreeMap::new(alloc);
+    add_files(alloc, &mut winners, files)?;
+    add_links(alloc, &mut winners, links)?;
+    Ok(winners)
 }
 
-// The winners among the files and links of a place.
 fn winners_among(
     alloc: Global,
-    files: &[Library],
-    links: &[Library],
+    files: Vec<Library>,
+    links: Vec<Library>,
 ) -> Result<Vec<Library>, NoMemory>
-    ensures { IfOk result (λ winners. winners.items ≡ winners_among files.now links.now) }
+    ensures { IfOk result (λ winners. winners.items ≡ winners_among files.items links.items) }
 {
-    let named = named_links(alloc, links)?;
-    let others = other_links(alloc, links)?;
-    let sonames = sonames_of(alloc, files, &named, &others)?;
-    let classes = classes_of(alloc, files, named, others)?;
-    let mut winners = Vec::new(alloc);
-    for soname in sonames.into_vec() {
-        if let Some(library) = classes.winner(alloc, soname)? {
-            winners.push(library)?;
-        }
+    let ranked = winners_of(alloc, files, links)?;
+    let mut winners = Vec::with_capacity(alloc, ranked.len())?;
+    for Ranked { library, .. } in ranked.into_values() {
+        winners.push(library)?;
     }
     Ok(winners)
 }
@@ -272,5 +274,5 @@ pub(crate) fn winners_in(
 {
     let files = libraries_in(alloc, tree, table, place)?;
     let links = links_to_libraries(alloc, tree, table, place)?;
-    winners_among(alloc, &files, &links)
+    winners_among(alloc, files, links)
 }

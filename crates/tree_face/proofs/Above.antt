@@ -17,22 +17,37 @@ use Rattle.std.proofs.lemmas.Option.{slice_get_within, get_or_from_slice_get}
 use Rattle.std.specs.Option.{IsSome}
 use Rattle.std.specs.BTreeMap.{is_at}
 use Rattle.std.specs.Cmp.{Equal-is}
-use Rattle.std.specs.List.{list_all}
+use Rattle.std.specs.List.{list_all, list_any}
 use Rattle.tree_face.specs.Tree.{Nodes, IsTree, has_below, node_at, is_entry, clash_with, clashes}
 use Rattle.tree_face.proofs.Below.{exact, below_is, below_from, comes_before, between}
 
 path_of_entry : (t : Nodes) (k : ℕ) (d : List ℕ × Node) → list_all is_entry t ≡ true → k < length t → is_path (get_or t k d).0 ≡ true
 path_of_entry t k d all h = (and_parts _ _ (AllPass-from_list_all is_entry t all k d h)).0
 
+module _ (test : List ℕ × Node → Bool) (t : Nodes) (q : List ℕ) (node : Node) (at : node_at t q ≡ Some node) where
+  -- what holds of each entry holds of a node that is found
+  pub found_passes : list_all test t ≡ true → test (q, node) ≡ true
+  found_passes all =
+      let p = place_from_lookup (is_at (path_cmp q)) t node at in
+      let d : List ℕ × Node = (p.1, node) in
+      let g : get_or t p.0 d ≡ d = get_or_from_slice_get t p.0 d d p.2 in
+      let same : q ≡ p.1 = exact q p.1 ((Equal-is (path_cmp q p.1)).0 p.3) in
+      let there : test d ≡ true = subst (λ (z : List ℕ × Node). test z ≡ true) g (AllPass-from_list_all test t all p.0 d (slice_get_within t p.0 _ p.2)) in
+      subst (λ (z : List ℕ). test (z, node) ≡ true) (sym same) there
+
+  -- what holds of a node that is found holds of some entry
+  pub found_any : test (q, node) ≡ true → list_any test t ≡ true
+  found_any h =
+      let p = place_from_lookup (is_at (path_cmp q)) t node at in
+      let d : List ℕ × Node = (p.1, node) in
+      let g : get_or t p.0 d ≡ d = get_or_from_slice_get t p.0 d d p.2 in
+      let same : q ≡ p.1 = exact q p.1 ((Equal-is (path_cmp q p.1)).0 p.3) in
+      let there : test d ≡ true = subst (λ (z : List ℕ). test (z, node) ≡ true) same h in
+      list_any_at test t p.0 d (slice_get_within t p.0 _ p.2) (subst (λ (z : List ℕ × Node). test z ≡ true) (sym g) there)
+
 -- a node that is found is at a path, and is valid
 pub found_entry : (t : Nodes) (q : List ℕ) (node : Node) → list_all is_entry t ≡ true → node_at t q ≡ Some node → is_entry (q, node) ≡ true
-found_entry t q node all at =
-    let p = place_from_lookup (is_at (path_cmp q)) t node at in
-    let d : List ℕ × Node = (p.1, node) in
-    let g : get_or t p.0 d ≡ d = get_or_from_slice_get t p.0 d d p.2 in
-    let same : q ≡ p.1 = exact q p.1 ((Equal-is (path_cmp q p.1)).0 p.3) in
-    let there : is_entry d ≡ true = subst (λ (z : List ℕ × Node). is_entry z ≡ true) g (AllPass-from_list_all is_entry t all p.0 d (slice_get_within t p.0 _ p.2)) in
-    subst (λ (z : List ℕ). is_entry (z, node) ≡ true) (sym same) there
+found_entry t q node all at = found_passes is_entry t q node at all
 
 pub path_of_found : (t : Nodes) (q : List ℕ) (o : Option Node) → list_all is_entry t ≡ true → node_at t q ≡ o → IsSome o → is_path q ≡ true
 path_of_found t q None all at some = absurd (cc)

@@ -54,7 +54,8 @@ between (x ∷ p) (y ∷ q) s h k = by_ordering (nat_cmp (path_rank x) (path_ran
     (r.0, g))
     (λ a. let z : Less ≡ Greater = sym h ∙ cmp_step x y p q Greater a in absurd (cc))
 
-not_root : (p : List ℕ) → is_path p ≡ true → bytes_eq p root ≡ false
+-- the root is no path
+pub not_root : (p : List ℕ) → is_path p ≡ true → bytes_eq p root ≡ false
 not_root p h = by_test (bytes_eq p root)
     (λ e. let f : is_path p ≡ false = ap is_path ((bytes_eq-Decides p root).0 e) in absurd (cc))
     (λ e. e)

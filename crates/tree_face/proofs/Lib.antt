@@ -3,6 +3,8 @@ pub mod Below
 pub mod Clear
 pub mod Index
 pub mod Kept
+pub mod KindAt
+pub mod Listed
 pub mod Names
 pub mod Order
 pub mod Pairs

@@ -1,5 +1,5 @@
 -- The names directly below a directory.
-use Rattle.std.proofs.Common.{◌≡◌, ℕ, zero, suc, ◌+◌, ◌≤◌, Bool, true, false, cond, nat_lt, nat_eq, map, ◌&&◌, Some, None, List, [], ◌∷◌, ◌++◌, length, get_or, take, drop, refl, sym, ap, subst, ◌∙◌, ⊎_elim, arith, length-drop}
+use Rattle.std.proofs.Common.{◌≡◌, ℕ, zero, suc, ◌+◌, ◌≤◌, Bool, true, false, cond, nat_lt, nat_eq, map, ◌&&◌, Option, Some, None, List, [], ◌∷◌, ◌++◌, length, get_or, take, drop, refl, sym, ap, subst, ◌∙◌, ⊎_elim, arith, length-drop}
 use Rattle.std.proofs.lemmas.Bool.{cases_lt, and_parts, and_from}
 use Rattle.std.proofs.lemmas.Bool.Decides.{nat_tests}
 use Rattle.std.proofs.lemmas.List.{get_or-drop, take_all}
@@ -10,7 +10,7 @@ use Rattle.std.specs.List.Sorted.{IsPartitionedBy}
 use Rattle.tree_face.proofs.Below.{below_as_later, none_before}
 use Rattle.lib_types.proofs.SortedPairs.{by_test}
 use Rattle.tree_face.specs.Paths.{is_path, is_below, root, name_behind}
-use Rattle.tree_face.specs.Runs.{names_behind}
+use Rattle.tree_face.specs.Runs.{child_at, children_behind, is_same_child}
 use Rattle.tree_face.specs.Index.{IsBehind}
 use Rattle.tree_face.specs.Tree.{Nodes, IsPathSorted, is_entry}
 use Rattle.tree_face.specs.declared.node.Node.{Node}
@@ -86,24 +86,25 @@ module _ {X : Type 0} (p : X → Bool) (xs : List X) where
 
 -- ---- the entries of one child
 
-child_first : (folder : List ℕ) (e : List ℕ × Node) (t : Nodes) → starts_with nat_eq e.0 folder ≡ true → names_behind folder (e ∷ t) ≡ name_behind (length folder) e.0 ∷ names_behind folder t
+child_first : (folder : List ℕ) (e : List ℕ × Node) (t : Nodes) → starts_with nat_eq e.0 folder ≡ true → children_behind folder (e ∷ t) ≡ child_at (length folder) e ∷ children_behind folder t
 child_first folder e t starts =
     let test = λ (x : List ℕ × Node). starts_with nat_eq x.0 folder in
-    ap (map (λ (x : List ℕ × Node). name_behind (length folder) x.0)) (take_while-cons test e t ∙ ap (λ b. cond b (e ∷ take_while test t) []) starts)
+    ap (map (child_at (length folder))) (take_while-cons test e t ∙ ap (λ b. cond b (e ∷ take_while test t) []) starts)
 
--- the names that begin with a child, given what is left behind its entries
-pub child_taken : (folder : List ℕ) (e : List ℕ × Node) (t rest : Nodes) (name : List ℕ) → starts_with nat_eq e.0 folder ≡ true → name ≡ name_behind (length folder) e.0
-    → dedup_from bytes_eq name (names_behind folder t) ≡ name ∷ dedup bytes_eq (names_behind folder rest) → dedup bytes_eq (names_behind folder (e ∷ t)) ≡ name ∷ dedup bytes_eq (names_behind folder rest)
-child_taken folder e t rest name starts same skipped =
-    ap (dedup bytes_eq) (child_first folder e t starts) ∙ ap (λ n. dedup_from bytes_eq n (names_behind folder t)) (sym same) ∙ skipped
+-- the children that begin with this one, given what is left behind its entries
+pub child_taken : (folder : List ℕ) (e : List ℕ × Node) (t rest : Nodes) (child : List ℕ × Option Node) → starts_with nat_eq e.0 folder ≡ true → child ≡ child_at (length folder) e
+    → dedup_from is_same_child child (children_behind folder t) ≡ child ∷ dedup is_same_child (children_behind folder rest)
+    → dedup is_same_child (children_behind folder (e ∷ t)) ≡ child ∷ dedup is_same_child (children_behind folder rest)
+child_taken folder e t rest child starts same skipped =
+    ap (dedup is_same_child) (child_first folder e t starts) ∙ ap (λ c. dedup_from is_same_child c (children_behind folder t)) (sym same) ∙ skipped
 
--- an entry of the same child adds no name
-pub child_skipped : (folder name : List ℕ) (e : List ℕ × Node) (t : Nodes) → (starts_with nat_eq e.0 folder && bytes_eq (name_behind (length folder) e.0) name) ≡ true
-    → dedup_from bytes_eq name (names_behind folder (e ∷ t)) ≡ dedup_from bytes_eq name (names_behind folder t)
-child_skipped folder name e t same =
+-- an entry of the same child adds none
+pub child_skipped : (folder name : List ℕ) (node : Option Node) (e : List ℕ × Node) (t : Nodes) → (starts_with nat_eq e.0 folder && bytes_eq (name_behind (length folder) e.0) name) ≡ true
+    → dedup_from is_same_child (name, node) (children_behind folder (e ∷ t)) ≡ dedup_from is_same_child (name, node) (children_behind folder t)
+child_skipped folder name node e t same =
     let both = and_parts (starts_with nat_eq e.0 folder) (bytes_eq (name_behind (length folder) e.0) name) same in
-    ap (dedup_from bytes_eq name) (child_first folder e t both.0)
-    ∙ ap (λ b. cond b (dedup_from bytes_eq name (names_behind folder t)) (name ∷ dedup_from bytes_eq (name_behind (length folder) e.0) (names_behind folder t))) both.1
+    ap (dedup_from is_same_child (name, node)) (child_first folder e t both.0)
+    ∙ ap (λ b. cond b (dedup_from is_same_child (name, node) (children_behind folder t)) ((name, node) ∷ dedup_from is_same_child (child_at (length folder) e) (children_behind folder t))) both.1
 
 -- ---- the folder of a path
 

@@ -25,7 +25,7 @@ use Rattle.tree_face.specs.declared.node.Node.TheVariants as node
 use Rattle.tree_face.specs.declared.tree.Kind.{Kind}
 use Rattle.tree_face.specs.declared.tree.Kind.TheVariants.{Absent, Dir, File, Link}
 
-abbrev first_name : List ℕ → List ℕ
+abbrev pub first_name : List ℕ → List ℕ
 first_name = before_first (λ b. b == 47)
 
 abbrev IsNotBelow : List ℕ → List ℕ → Type 0
@@ -35,10 +35,10 @@ not_below_empty : (xs : List ℕ) → IsNotBelow xs []
 not_below_empty [] = refl
 not_below_empty (x ∷ xs) = refl
 
-name_ended : (x : ℕ) (s : List ℕ) → nat_eq x 47 ≡ true → first_name (x ∷ s) ≡ []
+pub name_ended : (x : ℕ) (s : List ℕ) → nat_eq x 47 ≡ true → first_name (x ∷ s) ≡ []
 name_ended x s h = ap (λ b. take (cond (not b) (1 + position_or_len (λ b. b == 47) s) 0) (x ∷ s)) h
 
-name_goes_on : (x : ℕ) (s : List ℕ) → nat_eq x 47 ≡ false → first_name (x ∷ s) ≡ x ∷ first_name s
+pub name_goes_on : (x : ℕ) (s : List ℕ) → nat_eq x 47 ≡ false → first_name (x ∷ s) ≡ x ∷ first_name s
 name_goes_on x s h =
     let n = position_or_len (λ (b : ℕ). b == 47) s in
     let e : 1 + n ≡ suc n = omega arith in
@@ -88,7 +88,7 @@ module _ (test : List ℕ → Bool) where
   all_filtered P (e ∷ t) a = elim (test e.0) as (λ b. AllByRecursion P (keys_of (cond b (e ∷ filter (λ e. test e.0) t) (filter (λ e. test e.0) t))))
       [ true ↦ (a.0, all_filtered P t a.1) | false ↦ all_filtered P t a.1 ]
 
-  sorted_filtered : (t : Nodes) → IsPathSorted t → IsPathSorted (filter (λ e. test e.0) t)
+  pub sorted_filtered : (t : Nodes) → IsPathSorted t → IsPathSorted (filter (λ e. test e.0) t)
   unfolding IsStrictlySortedBy
   sorted_filtered [] s = tt
   sorted_filtered (e ∷ t) s = elim (test e.0) as (λ b. IsPathSorted (cond b (e ∷ filter (λ e. test e.0) t) (filter (λ e. test e.0) t)))

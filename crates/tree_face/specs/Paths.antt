@@ -46,6 +46,10 @@ stem path = if bytes_eq path root then [] else path
 abbrev pub folder : List ℕ → List ℕ
 folder path = stem path ++ root
 
+-- the path of a name in a directory
+abbrev pub join : List ℕ → List ℕ → List ℕ
+join place name = folder place ++ name
+
 -- q lies below p
 abbrev pub is_below : List ℕ → List ℕ → Bool
 is_below p q = starts_with nat_eq q (folder p)

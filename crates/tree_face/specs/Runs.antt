@@ -1,11 +1,13 @@
 -- A tree's list in sorted runs of bounded length.
-use Rattle.std.specs.Prelude.{◌≡◌, ℕ, ◌+◌, ◌<◌, ◌≤◌, Bool, true, List, [], ◌∷◌, ◌&&◌, not, nat_le, nat_eq, map, length, take, drop, slice_index_or, slice_set}
-use Rattle.std.specs.List.{flat_map, insert, list_all, HoldsAt, take_while, starts_with}
+use Rattle.std.specs.Prelude.{◌≡◌, ℕ, ◌+◌, ◌-◌, ◌<◌, ◌≤◌, ◌==◌, Bool, true, List, [], ◌∷◌, ◌&&◌, not, nat_le, nat_eq, if◌then◌else◌, map, length, take, drop, slice_index_or, slice_set, Option, Some, None}
+use Rattle.std.specs.List.{flat_map, filter, insert, list_all, HoldsAt, take_while, starts_with}
 use Rattle.std.specs.Ordering.{is_gt}
-use Rattle.tree_face.specs.Paths.{path_cmp, name_behind}
+use Rattle.std.specs.Str.{bytes_eq}
+use Rattle.tree_face.specs.Paths.{path_cmp, folder, is_below, name_behind}
 use Rattle.tree_face.specs.Index.{IsIndexOf, IsGapFor}
-use Rattle.tree_face.specs.Tree.{Nodes, IsTree}
+use Rattle.tree_face.specs.Tree.{Nodes, IsTree, kind_at}
 use Rattle.tree_face.specs.declared.node.Node.{Node}
+use Rattle.tree_face.specs.declared.tree.Kind.TheVariants.{Dir}
 use Rattle.tree_face.specs.declared.tree.run.TheConstants.{RUN_MAX}
 use Rattle.tree_face.specs.declared.tree.runs.Place.{Place}
 
@@ -92,6 +94,26 @@ pub record AreRuns (runs : List Nodes) : Type 0 where
   pub tree : IsTree (joined runs)
   pub bounded : are_runs runs ≡ true
 
--- the names with which the paths of a folder go on, up to the first path that isn't the folder's
-abbrev pub names_behind : List ℕ → Nodes → List (List ℕ)
-names_behind folder t = map (λ e. name_behind (length folder) e.0) (take_while (λ e. starts_with nat_eq e.0 folder) t)
+-- the path ends with the name at the offset n
+abbrev pub ends_by : ℕ → List ℕ → Bool
+ends_by n path = length (name_behind n path) == length path - n
+
+-- the name with which an entry's path goes on behind a folder of n bytes, and the node if the path ends there
+abbrev pub child_at : ℕ → List ℕ × Node → List ℕ × Option Node
+child_at n e = (name_behind n e.0, if ends_by n e.0 then Some e.1 else None)
+
+abbrev pub is_same_child : List ℕ × Option Node → List ℕ × Option Node → Bool
+is_same_child c d = bytes_eq c.0 d.0
+
+-- the entries up to the first path that isn't the folder's
+abbrev pub in_folder : List ℕ → Nodes → Nodes
+in_folder folder t = take_while (λ e. starts_with nat_eq e.0 folder) t
+
+-- The children of these entries. The path of a child comes before those below it, so the first entry of each name has the child's node.
+abbrev pub children_behind : List ℕ → Nodes → List (List ℕ × Option Node)
+children_behind folder t = map (child_at (length folder)) (in_folder folder t)
+
+-- the path is a directory, and the first of these entries are what lies below it
+pub record AreFromDir (t : Nodes) (path : List ℕ) (entries : Nodes) : Type 0 where
+  pub dir : kind_at t path ≡ Dir
+  pub below : in_folder (folder path) entries ≡ filter (λ e. is_below path e.0) t

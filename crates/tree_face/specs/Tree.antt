@@ -7,7 +7,7 @@ use Rattle.std.specs.Str.{bytes_eq}
 use Rattle.std.specs.BTreeMap.{insert_entry, is_at}
 use Rattle.std.specs.Map.{keys_of, lookup, remove_entry}
 use Rattle.tree_face.specs.Node.{is_node, is_dir}
-use Rattle.tree_face.specs.Paths.{root, is_path, path_cmp, folder, is_below, name_behind}
+use Rattle.tree_face.specs.Paths.{root, is_path, path_cmp, folder, join, is_below, name_behind}
 use Rattle.tree_face.specs.declared.node.Node.{Node}
 use Rattle.tree_face.specs.declared.tree.TheConstants.{NODES_MAX}
 use Rattle.tree_face.specs.declared.node.Node.TheVariants as node
@@ -83,6 +83,10 @@ names_below t path = map (λ e. name_behind (length (folder path)) e.0) (filter 
 -- The names directly below a directory, each once: the paths that go on with one name are neighbours.
 abbrev pub children_of : Nodes → List ℕ → List (List ℕ)
 children_of t path = of_dir (kind_at t path) (dedup bytes_eq (names_below t path))
+
+-- the names directly below a directory, each with its node if it has one
+abbrev pub listing_of : Nodes → List ℕ → List (List ℕ × Option Node)
+listing_of t path = map (λ name. (name, node_at t (join path name))) (children_of t path)
 
 abbrev pub is_entry : List ℕ × Node → Bool
 is_entry e = is_path e.0 && is_node e.1

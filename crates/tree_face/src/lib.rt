@@ -17,4 +17,4 @@ pub use node::{Id, Node, TEXT_MAX, is_node};
 pub use path::{PATH_MAX, is_kept, is_path};
 pub use store::Store;
 pub use stream::{Sink, Source, put_all};
-pub use tree::{Children, Kind, NODES_MAX, Nodes, Tree, TreeFault};
+pub use tree::{Children, Kind, Listing, NODES_MAX, Nodes, Tree, TreeFault};

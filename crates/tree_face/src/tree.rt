@@ -1,18 +1,19 @@
 //! The tree of an image.
-ghost use Rattle.std.specs.Prelude.{◌≡◌, ◌↔◌, false, [], OnOk, OnErr, IsSome, IsTrue, length};
+ghost use Rattle.std.specs.Prelude.{◌≡◌, ◌↔◌, false, [], OnOk, OnErr, IsSome, IsTrue, length, map};
 ghost use Rattle.std.specs.Option.{option_copied, is_some};
 
 use crate::node::Node;
-use crate::path::{folder_in, is_below, is_path};
 use lib_types::NoMemory;
 use std::alloc::Global;
 use std::marker::Model;
 
 mod entries;
+mod listing;
 mod rest;
 mod run;
 mod runs;
 
+pub use listing::{Children, Listing};
 use rest::Rest;
 use run::Run;
 
@@ -77,7 +78,7 @@ impl Tree {
     ghost use Rattle.std.specs.Cmp.Lexicographic.{slice_cmp};
     ghost use Rattle.std.specs.List.Sorted.{IsStrictlySortedBy};
     ghost use Rattle.std.specs.Ordering.{nat_cmp};
-    ghost use Rattle.tree_face.specs.Tree.{IsTree, IsPathSorted, put, remove, node_at, clashes, IsFullFor, kind_at, children_of};
+    ghost use Rattle.tree_face.specs.Tree.{IsTree, IsPathSorted, put, remove, node_at, clashes, IsFullFor, kind_at, children_of, listing_of};
     ghost use Rattle.tree_face.specs.Node.{is_node};
     ghost use Rattle.tree_face.specs.Paths.{is_path};
 
@@ -112,12 +113,6 @@ impl Tree {
     pub fn kind(&self, path: &[u8]) -> Kind
         ensures { result ≡ kind_at self.now path.now }
     {
-        if path == b"/".as_slice() {
-            return Kind::Dir;
-        }
-        if !is_path(path) {
-            return Kind::Absent;
-        }
         entries::kind(&self.runs, path)
     }
 
@@ -149,15 +144,25 @@ impl Tree {
         found
     }
 
+    /// What stands directly below a directory, by the bytes of the names: each name with its node, if it has one. A directory
+    /// has none if it is only a part of longer paths.
+    pub fn listing(&self, path: &[u8]) -> Listing<'_>
+        ensures list { result ≡ listing_of self.now path.now }
+        ensures sorted { IsStrictlySortedBy (slice_cmp nat_cmp) (map (λ c. c.0) result) }
+        ensures tree { IsTree self.now }
+    {
+        match entries::from_dir(&self.runs, path) {
+            Some(rest) => Listing::of(rest, path),
+            None => Listing::none(),
+        }
+    }
+
     /// The names directly below a directory, in the order of their bytes.
     pub fn children(&self, path: &[u8]) -> Children<'_>
         ensures names { result ≡ children_of self.now path.now }
         ensures sorted { IsStrictlySortedBy (slice_cmp nat_cmp) result }
     {
-        match self.kind(path) {
-            Kind::Dir => Children::of(entries::below(&self.runs, path), path),
-            _ => Children::none(),
-        }
+        Children::of(self.listing(path))
     }
 
     /// All nodes with their paths, in the order of the paths.
@@ -169,6 +174,13 @@ impl Tree {
         Nodes {
             rest: Rest::all(&self.runs),
         }
+    }
+
+    /// Lets contracts know what each tree meets. It goes over nothing.
+    pub fn know(&self)
+        ensures { IsTree self.now }
+    {
+        let _ = self.nodes();
     }
 }
 
@@ -199,71 +211,5 @@ impl<'a> Iterator for Nodes<'a> {
         let (first, rest) = self.rest.split_first()?;
         self.rest = rest;
         Some((first.path(), first.node()))
-    }
-}
-
-/// The names below a directory that are still to come.
-#[derive(Drop)]
-pub struct Children<'a> {
-    rest: Rest<'a>,
-    // the prefix of each path of a child, which ends directly before the name
-    folder: &'a [u8],
-}
-
-impl<'a> Model for Children<'a> {
-    ghost use Rattle.std.specs.Prelude.{ℕ, List};
-    ghost use Rattle.std.specs.List.{dedup};
-    ghost use Rattle.std.specs.Str.{bytes_eq};
-    ghost use Rattle.tree_face.specs.Runs.{names_behind};
-
-    ghost Value = { List (List ℕ) };
-
-    ghost view = { λ s. dedup bytes_eq (names_behind s.folder.now s.rest) };
-}
-
-impl<'a> Children<'a> {
-    ghost use Rattle.std.specs.Prelude.{map, ◌<◌, ◌^◌};
-    ghost use Rattle.std.specs.List.{dedup, take_while};
-    ghost use Rattle.std.specs.Str.{bytes_eq};
-    ghost use Rattle.tree_face.specs.Paths.{is_below, folder, name_behind};
-
-    // No names.
-    fn none() -> Children<'a>
-        ensures { result ≡ [] }
-    {
-        Children {
-            rest: Rest::none(),
-            folder: b"",
-        }
-    }
-
-    // The names directly below the path, given entries whose first are all that lie below it.
-    fn of(rest: Rest<'a>, path: &[u8]) -> Children<'a>
-        requires { length path.now < 2 ^ 32 }
-        ensures { result ≡ dedup bytes_eq (map (λ e. name_behind (length (folder path.now)) e.0) (take_while (λ e. is_below path.now e.0) rest.entry)) }
-    {
-        match rest.split_first() {
-            Some((first, _)) if is_below(path, first.path()) => {
-                let folder = folder_in(path, first.path());
-                Children { rest, folder }
-            }
-            _ => Children::none(),
-        }
-    }
-}
-
-impl<'a> Iterator for Children<'a> {
-    ghost use Rattle.std.specs.Iterator.{YieldsFirstRef, item_count};
-
-    type Item = &'a [u8];
-
-    ghost next_gives = { YieldsFirstRef (λ s. s) };
-
-    ghost remaining = { item_count (λ s. s) };
-
-    fn next(&mut self) -> Option<&'a [u8]> {
-        let (name, rest) = entries::first_child(&self.rest, self.folder)?;
-        self.rest = rest;
-        Some(name)
     }
 }

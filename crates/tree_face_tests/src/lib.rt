@@ -4,4 +4,6 @@
 #[cfg(test)]
 mod devices;
 #[cfg(test)]
+mod listing;
+#[cfg(test)]
 mod tree;

@@ -5,14 +5,19 @@ use std::process::Abort;
 use std::test::Fail;
 use tree_face::{Kind, Node, Tree, TreeFault, is_node, is_path};
 
-fn file(alloc: Global, key: &[u8]) -> Result<Node, Fail> {
+pub(super) fn file(alloc: Global, key: &[u8]) -> Result<Node, Fail> {
     Ok(Node::File {
         key: Text::copy_of(alloc, key)?,
         id: None,
     })
 }
 
-fn put(rt: &impl Abort, tree: &mut Tree, path: &[u8], node: Node) -> Result<(), TreeFault> {
+pub(super) fn put(
+    rt: &impl Abort,
+    tree: &mut Tree,
+    path: &[u8],
+    node: Node,
+) -> Result<(), TreeFault> {
     assert!(rt; is_path(path));
     assert!(rt; is_node(&node));
     tree.put(path, node)

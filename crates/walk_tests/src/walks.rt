@@ -1,35 +1,9 @@
 // Where paths lead, in both modes.
-use lib_types::Text;
+use crate::trees::{chain, tree_of};
 use path_walk::{Mode, WalkFault, resolve};
 use std::alloc::Global;
-use std::process::Abort;
 use std::test::Fail;
-use tree_face::{Node, Tree, TreeFault, is_node, is_path};
-
-fn put(rt: &impl Abort, tree: &mut Tree, path: &[u8], node: Node) -> Result<(), TreeFault> {
-    assert!(rt; is_path(path));
-    assert!(rt; is_node(&node));
-    tree.put(path, node)
-}
-
-// Links by their paths and targets, and files by their paths.
-fn tree_of(
-    rt: &impl Abort,
-    alloc: Global,
-    links: &[(&str, &str)],
-    files: &[&str],
-) -> Result<Tree, Fail> {
-    let mut tree = Tree::new(alloc);
-    for (path, target) in links {
-        let target = Text::copy_of(alloc, target.as_bytes())?;
-        put(rt, &mut tree, path.as_bytes(), Node::Link { target })?;
-    }
-    for path in files {
-        let key = Text::copy_of(alloc, b"key")?;
-        put(rt, &mut tree, path.as_bytes(), Node::File { key, id: None })?;
-    }
-    Ok(tree)
-}
+use tree_face::Tree;
 
 // Whether the path leads to this place, or ends with this fault.
 fn leads(
@@ -82,23 +56,10 @@ fn paths_lead_where_the_links_say(rt: HostRuntime) -> Result<(), Fail> {
     Ok(())
 }
 
-// `/l1` leads to the root by one link, `/lN` by N.
-fn chain(rt: &impl Abort, alloc: Global) -> Result<Tree, Fail> {
-    let mut tree = tree_of(rt, alloc, &[("/l1", "/")], &[])?;
-    for n in 2..42u32 {
-        let before = n - 1;
-        let path = format!(in alloc; "/l{n}")?;
-        let target = format!(in alloc; "l{before}")?;
-        let target = Text::copy_of(alloc, target.as_bytes())?;
-        put(rt, &mut tree, path.as_bytes(), Node::Link { target })?;
-    }
-    Ok(tree)
-}
-
 #[test]
 fn forty_links_are_followed(rt: HostRuntime) -> Result<(), Fail> {
     let alloc = rt.alloc();
-    let tree = chain(&rt, alloc)?;
+    let tree = chain(&rt, alloc, "/", &[])?;
     assert!(rt; leads(alloc, &tree, "/l40", Mode::Plain, Ok("/")));
     let too_many = Err(WalkFault::TooManyLinks);
     assert!(rt; leads(alloc, &tree, "/l41", Mode::Plain, too_many));

@@ -86,6 +86,42 @@ const IN_TURN: &[Row<'_>] = &[
         "0 libm.so.6=/usr/lib/libm.so.6|",
     ),
     (
+        "a link of the soname behind one of another name",
+        &[
+            ("/usr/lib/libaa.so", "/opt/libm.so.6"),
+            ("/usr/lib/libm.so.6", "/opt/libm.so.6"),
+        ],
+        &[("/opt/libm.so.6", "libm.so.6")],
+        "0 libm.so.6=/usr/lib/libm.so.6|",
+    ),
+    (
+        "a link for ld(1) before one of another name",
+        &[
+            ("/usr/lib/libm.so", "/opt/libm-2.so"),
+            ("/usr/lib/libzz.so.1", "/opt/liby.so"),
+        ],
+        &[("/opt/libm-2.so", "libm.so.6"), ("/opt/liby.so", "libm.so")],
+        "0 libm.so=/usr/lib/libm.so|",
+    ),
+    (
+        "a link for ld(1) behind one of another name",
+        &[
+            ("/usr/lib/libaa.so.1", "/opt/liby.so"),
+            ("/usr/lib/libm.so", "/opt/libm-2.so"),
+        ],
+        &[("/opt/libm-2.so", "libm.so.6"), ("/opt/liby.so", "libm.so")],
+        "0 libm.so=/usr/lib/libm.so|",
+    ),
+    (
+        "a file before a link for ld(1)",
+        &[("/usr/lib/glibc-hwcaps/x86-64-v3/libm.so", "/opt/libm-2.so")],
+        &[
+            ("/opt/libm-2.so", "libm.so.6"),
+            ("/usr/lib/glibc-hwcaps/x86-64-v3/liba.so", "libm.so"),
+        ],
+        "1 libm.so=/usr/lib/glibc-hwcaps/x86-64-v3/liba.so|",
+    ),
+    (
         "a file before a link",
         &[("/usr/lib/libzz.so.9", "/opt/libk.so.1")],
         &[

@@ -1,20 +1,19 @@
 //! What a tree has at a path, and how that changes.
-ghost use Rattle.std.specs.Prelude.{◌≡◌, ◌≢◌, ◌∷◌, map, ◌⊎◌, ℕ, ◌<◌, ◌≤◌, ◌^◌, IfOk, IfErr, OnOk, OnErr, ◌↔◌, ◌+◌, IsTrue, false, true, None, MatchResult, MatchOption, [], length, slice_index_or, nat_eq, ◌&&◌};
-ghost use Rattle.std.specs.List.{filter, dedup, dedup_from, take_while, starts_with};
+ghost use Rattle.std.specs.Prelude.{◌≡◌, ◌≢◌, ◌<◌, ◌≤◌, ◌^◌, IfOk, IfErr, OnOk, OnErr, ◌↔◌, ◌+◌, IsTrue, false, true, MatchResult, MatchOption, length, slice_index_or};
 ghost use Rattle.std.specs.Str.{bytes_eq};
 ghost use Rattle.std.specs.Option.{option_copied, is_some};
-ghost use Rattle.tree_face.specs.Paths.{path_cmp, root, is_path, is_below, name_behind};
+ghost use Rattle.tree_face.specs.Paths.{root, is_path};
 ghost use Rattle.tree_face.specs.Index.{IsBehind, is_file_above, has_file_above};
-ghost use Rattle.tree_face.specs.Runs.{joined, are_runs, index_of, names_behind, AreRuns, IsEntryPlace, IsPlace, IsPlaceOf, IsGapAt};
+ghost use Rattle.tree_face.specs.Runs.{joined, are_runs, index_of, AreRuns, AreFromDir, IsEntryPlace, IsPlace, IsPlaceOf, IsGapAt};
 ghost use Rattle.tree_face.specs.declared.tree.TheConstants.{NODES_MAX};
-ghost use Rattle.tree_face.specs.Tree.{IsPathSorted, IsTree, node_at, has_below, clashes, has_no_room, IsFullFor, kind_of, kind_there, put, remove};
+ghost use Rattle.tree_face.specs.Tree.{IsPathSorted, IsTree, node_at, has_below, clashes, has_no_room, IsFullFor, kind_of, kind_at, put, remove};
 
 use super::rest::Rest;
 use super::run::{PathEntry, Run};
 use super::runs::{Place, entry_at, entry_before, entry_from, find};
 use super::{Kind, NODES_MAX, TreeFault, runs as places};
 use crate::node::{Node, is_dir};
-use crate::path::{is_below, name_from};
+use crate::path::{is_below, is_path};
 use lib_types::{NoMemory, Text};
 use std::alloc::Global;
 
@@ -94,23 +93,35 @@ fn kind_of(node: &Node) -> Kind
     }
 }
 
-/// What is at the path.
-pub(super) fn kind(runs: &Vec<Run>, path: &[u8]) -> Kind
-    requires runs { IsTrue (are_runs runs.now.items) }
-    requires sorted { IsPathSorted (joined runs.now.items) }
-    requires path { IsTrue (is_path path.now) }
-    ensures { result ≡ kind_there (node_at (joined runs.now.items) path.now) (has_below (joined runs.now.items) path.now) }
+// What is at the path, which isn't the root. A text that is no path has no node, so only one without a node is tested.
+fn kind_found(runs: &Vec<Run>, path: &[u8], found: Result<Place, Place>) -> Kind
+    requires runs { AreRuns runs.now.items }
+    requires path { bytes_eq path.now root ≡ false }
+    requires found { MatchResult found (IsPlaceOf runs.now.items path.now) (IsGapAt runs.now.items path.now) }
+    ensures { result ≡ kind_at (joined runs.now.items) path.now }
 {
-    match find(runs, path) {
+    match found {
         Ok(place) => kind_of(node_of(runs, place)),
         Err(place) => {
-            if has_below(runs, path, place) {
+            if is_path(path) && has_below(runs, path, place) {
                 Kind::Dir
             } else {
                 Kind::Absent
             }
         }
     }
+}
+
+/// What is at the path.
+pub(super) fn kind(runs: &Vec<Run>, path: &[u8]) -> Kind
+    requires { AreRuns runs.now.items }
+    ensures { result ≡ kind_at (joined runs.now.items) path.now }
+{
+    if path == b"/".as_slice() {
+        return Kind::Dir;
+    }
+    let found = find(runs, path);
+    kind_found(runs, path, found)
 }
 
 // Whether this entry is a file or a link above the path.
@@ -277,60 +288,17 @@ pub(super) fn put_at(
     }
 }
 
-// The entries behind the path, whose first are those below it.
-fn below_path<'a>(runs: &'a Vec<Run>, path: &[u8]) -> Rest<'a>
-    requires runs { IsTrue (are_runs runs.now.items) }
-    requires sorted { IsPathSorted (joined runs.now.items) }
-    requires path { IsTrue (is_path path.now) }
-    ensures { take_while (λ e. is_below path.now e.0) result ≡ filter (λ e. is_below path.now e.0) (joined runs.now.items) }
-{
-    let found = find(runs, path);
-    Rest::from(runs, behind(runs, path, found))
-}
-
-/// Entries whose first are all those that lie below the root or the path.
-pub(super) fn below<'a>(runs: &'a Vec<Run>, path: &[u8]) -> Rest<'a>
-    requires runs { AreRuns runs.now.items }
-    requires path { (path.now ≡ root) ⊎ IsTrue (is_path path.now) }
-    ensures { take_while (λ e. is_below path.now e.0) result ≡ filter (λ e. is_below path.now e.0) (joined runs.now.items) }
+/// Entries whose first are all that lie below the path, if it is a directory.
+pub(super) fn from_dir<'a>(runs: &'a Vec<Run>, path: &[u8]) -> Option<Rest<'a>>
+    requires { AreRuns runs.now.items }
+    ensures { MatchOption result (kind_at (joined runs.now.items) path.now ≢ Kind.Dir) (AreFromDir (joined runs.now.items) path.now) }
 {
     if path == b"/".as_slice() {
-        return Rest::all(runs);
+        return Some(Rest::all(runs));
     }
-    below_path(runs, path)
-}
-
-// Whether the path goes on with this name behind the folder.
-fn is_child(folder: &[u8], name: &[u8], path: &[u8]) -> bool
-    ensures { result ≡ (starts_with nat_eq path.now folder.now && bytes_eq (name_behind (length folder.now) path.now) name.now) }
-{
-    path.starts_with(folder) && name_from(path, folder.len()) == name
-}
-
-// What follows the entries of one child, which has this name behind the folder.
-fn skip_child<'a>(entries: Rest<'a>, folder: &[u8], name: &[u8]) -> Rest<'a>
-    ensures { dedup_from bytes_eq name.now (names_behind folder.now entries.entry) ≡ name.now ∷ dedup bytes_eq (names_behind folder.now result) }
-{
-    let mut rest = entries;
-    while let Some((entry, more)) = rest.split_first() {
-        if !is_child(folder, name, entry.path()) {
-            break;
-        }
-        rest = more;
+    let found = find(runs, path);
+    match kind_found(runs, path, found) {
+        Kind::Dir => Some(Rest::from(runs, behind(runs, path, found))),
+        _ => None,
     }
-    rest
-}
-
-/// The first name with which the folder's paths go on, and what follows the entries of that child.
-pub(super) fn first_child<'a>(rest: &Rest<'a>, folder: &[u8]) -> Option<(&'a [u8], Rest<'a>)>
-    ensures { MatchOption result (dedup bytes_eq (names_behind folder.now rest.now) ≡ [])
-        (λ r. dedup bytes_eq (names_behind folder.now rest.now) ≡ r.0.now ∷ dedup bytes_eq (names_behind folder.now r.1)) }
-{
-    let (first, others) = rest.split_first()?;
-    if !first.path().starts_with(folder) {
-        return None;
-    }
-    let name = name_from(first.path(), folder.len());
-    let rest = skip_child(others, folder, name);
-    Some((name, rest))
 }

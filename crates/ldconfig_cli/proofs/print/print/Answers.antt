@@ -1,9 +1,6 @@
-use Rattle.std.proofs.Common.{rules}
-use Rattle.tree_face.specs.Stream.{IsFollowedByPart}
-use Rattle.ldconfig_cli.proofs.Printing.{prints}
+use Rattle.ldconfig_cli.proofs.Printing.{printed_output}
 use Rattle.ldconfig_cli.proofs.print.print.Goals as goal
 
-pub returns-clause-output : goal.returns-clause-output
-returns-clause-output g c =
-    prints IsFollowedByPart _ c.in-Ok-Some.bytes.items _ _ (search rules)
-    (rw (c.in-Ok.ensures.view, c.deref.ensures.value) at c.in-Err-print.ensures.failed)
+pub returns-in-Ok-clause-output : goal.returns-in-Ok-clause-output
+returns-in-Ok-clause-output g c =
+    printed_output c.in-Ok.bytes.items _ _ _ c.in-Ok.ensures.slot c.print_bytes.result (rw c.deref.ensures.value at c.print_bytes.ensures.status)

@@ -1,6 +1,6 @@
 use Rattle.std.proofs.Common.{◌≡◌, ◌++◌, eqb, not, length, map}
 use Rattle.std.specs.List.{filter, flat_map}
-use Rattle.ldso_conf.specs.Patterns.{results}
+use Rattle.conf_patterns.specs.Patterns.{results}
 use Rattle.ldso_conf.specs.Steps.{include_steps, included}
 use Rattle.ldso_conf.proofs.steps.add_included.Given as goal
 

@@ -1,0 +1,5 @@
+mod Absent
+mod Ends
+mod Sets
+mod Skips
+mod Stars

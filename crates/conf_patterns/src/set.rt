@@ -1,0 +1,96 @@
+//! Sets of bytes in patterns: `[..]`.
+ghost use Rattle.std.specs.Prelude.{◌≡◌, ◌∷◌, ◌<◌, [], false, length, position, IfSome, MatchOption};
+ghost use Rattle.conf_patterns.specs.Glob.{is_close, is_in_set, is_member, is_negated, no_end, ranges, set_len};
+ghost use Rattle.conf_patterns.specs.Pieces.{begins_with_range, has_close};
+
+fn is_negated(set: &[u8]) -> bool
+    ensures { result ≡ is_negated set.now }
+{
+    set.len() > 0 && (set[0] == b'!' || set[0] == b'^')
+}
+
+// Whether the set goes on from its first byte to another one.
+fn begins_with_range(set: &[u8]) -> bool
+    ensures { result ≡ begins_with_range set.now }
+{
+    set.len() > 2 && set[1] == b'-'
+}
+
+// The first range of a set, and what stands behind it.
+#[tactic(auto, using(crate::proofs::Sets::range_of_two, crate::proofs::Sets::range_of_one))]
+fn first_range(set: &[u8]) -> Option<(u8, u8, &[u8])>
+    ensures range { MatchOption result (ranges set.now ≡ []) (λ r. ranges set.now ≡ (r.0, r.1) ∷ ranges r.2.now) }
+    ensures shorter { MatchOption result (length set.now ≡ 0) (λ r. length r.2.now < length set.now) }
+{
+    if set.is_empty() {
+        return None;
+    }
+    if begins_with_range(set) {
+        return Some((set[0], set[2], &set[3..]));
+    }
+    Some((set[0], set[0], &set[1..]))
+}
+
+fn is_member(set: &[u8], b: u8) -> bool
+    ensures { result ≡ is_member set.now b }
+{
+    let mut rest = set;
+    while let Some((low, high, behind)) = first_range(rest) {
+        if low <= b && b <= high {
+            return true;
+        }
+        rest = behind;
+    }
+    false
+}
+
+/// Whether the byte is of the set that stands between these brackets.
+pub(crate) fn is_in_set(set: &[u8], b: u8) -> bool
+    ensures { result ≡ is_in_set set.now b }
+{
+    if is_negated(set) {
+        !is_member(&set[1..], b)
+    } else {
+        is_member(set, b)
+    }
+}
+
+/// How many bytes at the end have no `]`.
+pub(crate) fn unclosed_len(bytes: &[u8]) -> usize
+    ensures { has_close result bytes.now ≡ false }
+{
+    let mut n = 0;
+    while n < bytes.len() && bytes[bytes.len() - 1 - n] != b']' {
+        n += 1;
+    }
+    n
+}
+
+// How many bytes behind a `[` can't end a set.
+fn no_end(behind: &[u8]) -> usize
+    ensures { result ≡ no_end behind.now }
+{
+    if is_negated(behind) { 2 } else { 1 }
+}
+
+fn first_close(bytes: &[u8]) -> Option<usize>
+    ensures index { result ≡ position is_close bytes.now }
+    ensures within { IfSome result (λ n. n < length bytes.now) }
+{
+    bytes.iter().position(|&b| b == b']')
+}
+
+/// How many bytes behind a `[` stand before the end of the set, if it has one.
+#[tactic(auto, using(crate::proofs::Sets::no_set))]
+pub(crate) fn set_len(behind: &[u8], unclosed: usize) -> Option<usize>
+    requires { has_close unclosed behind.now ≡ false }
+    ensures len { result ≡ set_len behind.now }
+    ensures within { IfSome result (λ n. n < length behind.now) }
+{
+    let first = no_end(behind);
+    if behind.len().saturating_sub(unclosed) <= first {
+        return None;
+    }
+    let n = first_close(&behind[first..])?;
+    Some(first + n)
+}

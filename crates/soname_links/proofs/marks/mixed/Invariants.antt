@@ -1,9 +1,0 @@
-use Rattle.std.proofs.Common.{◌≡◌, ◌++◌, drop}
-use Rattle.soname_links.specs.Plan.{by_place}
-use Rattle.soname_links.specs.Marks.{mixed_in}
-use Rattle.soname_links.proofs.marks.mixed.Given as goal
-
--- the places that are left give the rest
-abbrev pub invariant-loop-place : goal.invariant-loop-place
-invariant-loop-place l =
-    l.marks ++ by_place (mixed_in l.table l.tree) l.number (drop l.place-index l.dirs.places) ≡ by_place (mixed_in l.table l.tree) 0 l.dirs.places

@@ -1,0 +1,12 @@
+use Rattle.std.proofs.Common.{◌≡◌, ◌++◌, drop}
+use Rattle.soname_links.specs.Marks.{blocked_in, mixed_in}
+use Rattle.soname_links.specs.Plan.{by_place, links_in}
+use Rattle.soname_links.proofs.surveying.surveyed.Given as goal
+
+-- the places that are left give the rest
+abbrev pub invariant-loop-place : goal.invariant-loop-place
+invariant-loop-place l = record {
+  plan : l.survey.plan ++ by_place (links_in l.table l.tree) l.number (drop l.place-index l.dirs.places) ≡ by_place (links_in l.table l.tree) 0 l.dirs.places;
+  blocked : l.survey.blocked ++ by_place (blocked_in l.table l.tree) l.number (drop l.place-index l.dirs.places) ≡ by_place (blocked_in l.table l.tree) 0 l.dirs.places;
+  mixed : l.survey.mixed ++ by_place (mixed_in l.table l.tree) l.number (drop l.place-index l.dirs.places) ≡ by_place (mixed_in l.table l.tree) 0 l.dirs.places;
+}

@@ -1,0 +1,63 @@
+-- What private functions say of a place's libraries by their sonames, and of what each soname gives.
+use Rattle.std.specs.Prelude.{ℕ, false, List, ◌||◌, if◌then◌else◌, filter, fold, Option, Some, None}
+use Rattle.std.specs.List.{filter_map}
+use Rattle.std.specs.Option.{option_map}
+use Rattle.std.specs.Str.{bytes_eq}
+use Rattle.hwcap_dirs.specs.declared.kinds.Place.{Place}
+use Rattle.tree_face.specs.Tree.{Nodes}
+use Rattle.tree_face.specs.declared.node.Node.{Node}
+use Rattle.tree_face.specs.declared.node.Node.TheVariants as nodes
+use Rattle.soname_links.specs.Best.{has_soname, is_preferred, sonames}
+use Rattle.soname_links.specs.Marks.{blocked_for, is_odd, mark}
+use Rattle.soname_links.specs.Plan.{is_blocked, is_plain, link_for, links_to}
+use Rattle.soname_links.specs.declared.groups.Group.{Group}
+use Rattle.soname_links.specs.declared.kinds.Library.{Library}
+use Rattle.soname_links.specs.declared.kinds.Mark.{Mark}
+use Rattle.soname_links.specs.declared.kinds.Planned.{Planned}
+use Rattle.soname_links.specs.declared.surveying.Spot.{Spot}
+use Rattle.soname_links.specs.declared.surveying.Spot.TheVariants.{Blocked, Linked, Free}
+
+-- ---- the libraries of one soname
+
+-- with a library more, which is compared with the best one so far
+abbrev pub grown : Group → Library → Group
+grown group library = record {
+  best = if is_preferred library group.best then library else group.best;
+  mixed = group.mixed || is_odd (Some group.best) library;
+}
+
+abbrev pub with_library : Option Group → Library → Option Group
+with_library None library = Some (record { best = library; mixed = false })
+with_library (Some group) library = Some (grown group library)
+
+-- the libraries with this soname, if there are any
+abbrev pub group_at : List Library → List ℕ → Option Group
+group_at libraries soname = fold with_library None (filter (has_soname soname) libraries)
+
+abbrev pub group_with : List Library → List ℕ → Option (List ℕ × Group)
+group_with libraries soname = option_map (λ group. (soname, group)) (group_at libraries soname)
+
+-- the libraries of each soname, by the bytes of the sonames
+abbrev pub groups : List Library → List (List ℕ × Group)
+groups libraries = filter_map (group_with libraries) (sonames libraries)
+
+-- ---- what a soname gives
+
+-- what is at the path of a wanted link to this file
+abbrev pub spot_at : Nodes → List ℕ → List ℕ → Spot
+spot_at t path file = if is_blocked t path then Blocked else (if links_to t path file then Linked else Free)
+
+-- the same by the node that is there
+abbrev pub spot_by : List ℕ → Node → Spot
+spot_by file (nodes.Link target) = if bytes_eq target file then Linked else Free
+spot_by file nodes.Dir = Blocked
+spot_by file (nodes.File key id) = Blocked
+
+abbrev pub planned_of : Nodes → ℕ → Place → List ℕ × Group → Option Planned
+planned_of t number place e = if is_plain place then link_for t number place e.1.best else None
+
+abbrev pub blocked_of : Nodes → ℕ → Place → List ℕ × Group → Option Mark
+blocked_of t number place e = if is_plain place then blocked_for t number place e.1.best else None
+
+abbrev pub mixed_of : ℕ → List ℕ × Group → Option Mark
+mixed_of number e = if e.1.mixed then Some (mark number e.0) else None

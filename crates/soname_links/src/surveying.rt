@@ -1,0 +1,199 @@
+//! What is planned and what is reported of the places.
+ghost use Rattle.std.specs.Prelude.{◌≡◌, ◌∷◌, ◌++◌, [], IfOk, IsTrue, OnOk};
+ghost use Rattle.std.specs.List.{filter_map};
+ghost use Rattle.hwcap_dirs.specs.Places.{are_dirs};
+ghost use Rattle.soname_links.specs.Apply.{is_plan};
+ghost use Rattle.soname_links.specs.Marks.{blocked, blocked_for, blocked_in, mixed, mixed_in};
+ghost use Rattle.soname_links.specs.Plan.{is_regarded, is_taken, link_for, links, links_in};
+ghost use Rattle.soname_links.specs.Survey.{blocked_of, mixed_of, planned_of, spot_at, spot_by};
+ghost use Rattle.soname_links.specs.Table.{have_names};
+
+use crate::best::is_own;
+use crate::groups::{Group, groups_in};
+use crate::key::Key;
+use crate::kinds::{Library, Mark, Planned, Survey};
+use crate::planning::is_plain;
+use crate::table::Table;
+use hwcap_dirs::{Dirs, Place};
+use lib_types::{NoMemory, Seq};
+use name_order::is_library_name;
+use path_walk::join;
+use std::alloc::Global;
+use tree_face::{Kind, Node, PATH_MAX, Tree};
+
+// What is at the path of a link that is wanted.
+#[derive(Clone, Copy)]
+enum Spot {
+    /// No link can be there.
+    Blocked,
+    /// The link is there.
+    Linked,
+    /// Nothing is there, or a link with another text.
+    Free,
+}
+
+// Whether the best library of its soname wants a link.
+fn is_regarded(best: &Library) -> bool
+    ensures { result ≡ is_regarded best.now }
+{
+    is_library_name(best.soname.as_bytes()) && !is_own(best)
+}
+
+fn is_taken(kind: Kind) -> bool
+    ensures { result ≡ is_taken kind }
+{
+    match kind {
+        Kind::File | Kind::Dir => true,
+        Kind::Absent | Kind::Link => false,
+    }
+}
+
+fn spot_by(node: &Node, file: &[u8]) -> Spot
+    ensures { result ≡ spot_by file.now node.now }
+{
+    match node {
+        Node::Link { target } => {
+            if target.as_bytes() == file {
+                Spot::Linked
+            } else {
+                Spot::Free
+            }
+        }
+        Node::Dir | Node::File { .. } => Spot::Blocked,
+    }
+}
+
+// What is at the path of a link to this file. Only a path without a node is looked up again: it may be a directory.
+#[tactic(auto, using(crate::proofs::Spots::spot_long, crate::proofs::Spots::spot_of_node, crate::proofs::Spots::spot_without))]
+fn spot_at(tree: &Tree, path: &[u8], file: &[u8]) -> Spot
+    ensures { result ≡ spot_at tree.now path.now file.now }
+{
+    if path.len() > PATH_MAX {
+        return Spot::Blocked;
+    }
+    match tree.node(path) {
+        Some(node) => spot_by(node, file),
+        None => {
+            if is_taken(tree.kind(path)) {
+                Spot::Blocked
+            } else {
+                Spot::Free
+            }
+        }
+    }
+}
+
+// Adds the link or the mark for the best library of a soname, if it wants a link that isn't there.
+fn add_wanted(
+    alloc: Global,
+    tree: &Tree,
+    number: u32,
+    place: &Place,
+    best: Library,
+    survey: &mut Survey,
+) -> Result<(), NoMemory>
+    ensures plan { OnOk result (survey.new.plan ≡ survey.old.plan ++ filter_map (link_for tree.now number place.now) (best ∷ [])) }
+    ensures blocked { OnOk result (survey.new.blocked ≡ survey.old.blocked ++ filter_map (blocked_for tree.now number place.now) (best ∷ [])) }
+    ensures mixed { OnOk result (survey.new.mixed ≡ survey.old.mixed) }
+{
+    if !is_regarded(&best) {
+        return Ok(());
+    }
+    let path = join(alloc, place.real.as_bytes(), best.soname.as_bytes())?;
+    match spot_at(tree, path.as_bytes(), best.name.as_bytes()) {
+        Spot::Blocked => survey.blocked.push(Mark {
+            place: number,
+            soname: best.soname,
+        })?,
+        Spot::Linked => {}
+        Spot::Free => survey.plan.push(Planned {
+            place: number,
+            soname: best.soname,
+            file: best.name,
+            path,
+        })?,
+    }
+    Ok(())
+}
+
+// Adds what the libraries of a soname give.
+fn add_group(
+    alloc: Global,
+    tree: &Tree,
+    number: u32,
+    place: &Place,
+    soname: Key,
+    group: Group,
+    survey: &mut Survey,
+) -> Result<(), NoMemory>
+    ensures plan { OnOk result (survey.new.plan ≡ survey.old.plan ++ filter_map (planned_of tree.now number place.now) ((soname, group) ∷ [])) }
+    ensures blocked { OnOk result (survey.new.blocked ≡ survey.old.blocked ++ filter_map (blocked_of tree.now number place.now) ((soname, group) ∷ [])) }
+    ensures mixed { OnOk result (survey.new.mixed ≡ survey.old.mixed ++ filter_map (mixed_of number) ((soname, group) ∷ [])) }
+{
+    if group.mixed {
+        survey.mixed.push(Mark {
+            place: number,
+            soname: soname.into_text(),
+        })?;
+    }
+    if is_plain(place) {
+        add_wanted(alloc, tree, number, place, group.best, survey)?;
+    }
+    Ok(())
+}
+
+// Adds what a place gives.
+#[tactic(auto, using(crate::proofs::Grouped::links_given, crate::proofs::Grouped::blocked_given, crate::proofs::Abis::mixed_given))]
+fn add_place(
+    alloc: Global,
+    tree: &Tree,
+    table: &Table,
+    number: u32,
+    place: &Place,
+    survey: &mut Survey,
+) -> Result<(), NoMemory>
+    ensures plan { OnOk result (survey.new.plan ≡ survey.old.plan ++ links_in table.now tree.now number place.now) }
+    ensures blocked { OnOk result (survey.new.blocked ≡ survey.old.blocked ++ blocked_in table.now tree.now number place.now) }
+    ensures mixed { OnOk result (survey.new.mixed ≡ survey.old.mixed ++ mixed_in table.now tree.now number place.now) }
+{
+    for (soname, group) in groups_in(alloc, tree, table, place)? {
+        add_group(alloc, tree, number, place, soname, group, survey)?;
+    }
+    Ok(())
+}
+
+// What one place after the other gives.
+#[tactic(auto, unfolding(crate::specs::Plan::links, crate::specs::Marks::blocked, crate::specs::Marks::mixed))]
+fn surveyed(alloc: Global, tree: &Tree, dirs: &Dirs, table: &Table) -> Result<Survey, NoMemory>
+    ensures plan { IfOk result (λ survey. survey.plan ≡ links table.now tree.now dirs.now.places) }
+    ensures blocked { IfOk result (λ survey. survey.blocked ≡ blocked table.now tree.now dirs.now.places) }
+    ensures mixed { IfOk result (λ survey. survey.mixed ≡ mixed table.now tree.now dirs.now.places) }
+{
+    let mut survey = Survey {
+        plan: Seq::new(alloc),
+        blocked: Seq::new(alloc),
+        mixed: Seq::new(alloc),
+    };
+    let mut number: u32 = 0;
+    for place in dirs.places.as_slice() {
+        add_place(alloc, tree, table, number, place, &mut survey)?;
+        number = number.checked_add(1).ok_or(NoMemory)?;
+    }
+    Ok(survey)
+}
+
+/// What is planned and what is reported of the places, in one pass over each. The links can be put into the tree if the places
+/// are directories of it.
+#[tactic(auto, using(crate::proofs::Named::links_named))]
+pub fn survey(alloc: Global, tree: &Tree, dirs: &Dirs, table: &Table) -> Result<Survey, NoMemory>
+    ensures plan { IfOk result (λ survey. survey.plan ≡ links table.now tree.now dirs.now.places) }
+    ensures is_plan { IfOk result (λ survey. IsTrue (are_dirs tree.now dirs.now.places) → IsTrue (is_plan survey.plan)) }
+    ensures names { IsTrue (have_names table.now) }
+    ensures blocked { IfOk result (λ survey. survey.blocked ≡ blocked table.now tree.now dirs.now.places) }
+    ensures mixed { IfOk result (λ survey. survey.mixed ≡ mixed table.now tree.now dirs.now.places) }
+{
+    tree.know();
+    table.know();
+    let survey = surveyed(alloc, tree, dirs, table)?;
+    Ok(survey)
+}
