@@ -65,6 +65,12 @@ pub fn pairs_of(alloc: Global, files: &[Content<'_>]) -> Result<Vec<(Text, Text)
     Ok(pairs)
 }
 
+/// What is read of a tree and these contents.
+pub fn conf_in(alloc: Global, tree: &Tree, pairs: Vec<(Text, Text)>) -> Result<Conf, ImageFault> {
+    let mut store = SureStore::new(pairs);
+    Ok(read_conf(alloc, tree, &mut store)?)
+}
+
 /// What is read of an image of these links and files.
 pub fn conf_of(
     alloc: Global,
@@ -72,8 +78,7 @@ pub fn conf_of(
     files: &[Content<'_>],
 ) -> Result<Conf, ImageFault> {
     let tree = tree_of(alloc, links, &[], files)?;
-    let mut store = SureStore::new(pairs_of(alloc, files)?);
-    Ok(read_conf(alloc, &tree, &mut store)?)
+    conf_in(alloc, &tree, pairs_of(alloc, files)?)
 }
 
 /// Whether these are the texts.

@@ -1,27 +1,45 @@
 // Large conf files and folders take time in proportion to their size.
-use conf_fixture::{put, tree_of};
-use ldso_conf::read_conf;
+use conf_fixture::{ImageFault, conf_in, pairs_of, put, tree_of};
 use lib_types::Text;
+use std::alloc::Global;
 use std::test::Fail;
-use tree_face::{Node, SureStore};
+use tree_face::{Node, Tree};
+
+const CONF: &str = "/etc/ld.so.conf";
+
+fn put_keyed(alloc: Global, tree: &mut Tree, path: &str, key: &str) -> Result<(), ImageFault> {
+    let key = Text::copy_of(alloc, key.as_bytes())?;
+    put(tree, path.as_bytes(), Node::File { key, id: None })
+}
+
+// So many lines, each with another directory.
+fn lines(alloc: Global, count: u32) -> Result<Vec<u8>, Fail> {
+    let mut content = Vec::new(alloc);
+    for n in 0..count {
+        let line = format!(in alloc; "/opt/directory/{n:010}\n")?;
+        content.extend_from_slice(line.as_bytes())?;
+    }
+    Ok(content)
+}
 
 // A conf file of the largest size whose lines name different directories.
 #[test]
 fn many_lines(rt: HostRuntime) -> Result<(), Fail> {
     let alloc = rt.alloc();
-    let mut content = Vec::new(alloc);
-    for n in 0..40_000u32 {
-        let line = format!(in alloc; "/opt/directory/{n:010}\n")?;
-        content.extend_from_slice(line.as_bytes())?;
-    }
-    let path = b"/etc/ld.so.conf";
     let mut tree = tree_of(alloc, &[], &[], &[])?;
-    let key = Text::copy_of(alloc, path)?;
-    put(&mut tree, path, Node::File { key, id: None })?;
-    let mut pairs = Vec::new(alloc);
-    pairs.push((Text::copy_of(alloc, path)?, Text::from_vec(content)))?;
-    let conf = read_conf(alloc, &tree, &mut SureStore::new(pairs))?;
-    assert_eq!(rt; conf.dirs.len(), 40_000);
+    put_keyed(alloc, &mut tree, CONF, CONF)?;
+    let content = lines(alloc, 40_000)?;
+    let conf = conf_in(alloc, &tree, pairs_of(alloc, &[(CONF, &content)])?)?;
+    assert!(rt; conf.dirs.len() == 40_000);
+    Ok(())
+}
+
+// So many conf files in one folder, all with one key.
+fn put_files(alloc: Global, tree: &mut Tree, count: u32, key: &str) -> Result<(), Fail> {
+    for n in 0..count {
+        let path = format!(in alloc; "/etc/ld.so.conf.d/{n:010}.conf")?;
+        put_keyed(alloc, tree, path.as_str(), key)?;
+    }
     Ok(())
 }
 
@@ -29,24 +47,18 @@ fn many_lines(rt: HostRuntime) -> Result<(), Fail> {
 #[test]
 fn many_files(rt: HostRuntime) -> Result<(), Fail> {
     let alloc = rt.alloc();
-    let path = b"/etc/ld.so.conf";
     let mut tree = tree_of(alloc, &[], &[], &[])?;
-    let key = Text::copy_of(alloc, path)?;
-    put(&mut tree, path, Node::File { key, id: None })?;
-    for n in 0..5_000u32 {
-        let path = format!(in alloc; "/etc/ld.so.conf.d/{n:010}.conf")?;
-        let key = Text::copy_of(alloc, b"one")?;
-        put(&mut tree, path.as_bytes(), Node::File { key, id: None })?;
-    }
-    let mut pairs = Vec::new(alloc);
-    pairs.push((
-        Text::copy_of(alloc, b"one")?,
-        Text::copy_of(alloc, b"/opt/one\n")?,
-    ))?;
-    let include = b"include ld.so.conf.d/*.conf\n";
-    pairs.push((Text::copy_of(alloc, path)?, Text::copy_of(alloc, include)?))?;
-    let conf = read_conf(alloc, &tree, &mut SureStore::new(pairs))?;
-    assert_eq!(rt; conf.files, 5_001);
-    assert_eq!(rt; conf.dirs.len(), 5_000);
+    put_keyed(alloc, &mut tree, CONF, CONF)?;
+    put_files(alloc, &mut tree, 5_000, "one")?;
+    let held = pairs_of(
+        alloc,
+        &[
+            ("one", b"/opt/one\n"),
+            (CONF, b"include ld.so.conf.d/*.conf\n"),
+        ],
+    )?;
+    let conf = conf_in(alloc, &tree, held)?;
+    assert!(rt; conf.files == 5_001);
+    assert!(rt; conf.dirs.len() == 5_000);
     Ok(())
 }

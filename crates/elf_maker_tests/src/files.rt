@@ -1,6 +1,7 @@
 // Made files, byte by byte and field by field. Expected bytes and numbers are written down from the gABI.
 use elf_samples::{I386_LIBZ, LIBZ, file_of, full, library};
 use lib_types::Abi;
+use std::alloc::Global;
 use std::test::Fail;
 
 // The strings of a full section.
@@ -15,18 +16,21 @@ fn number(bytes: &[u8], at: usize, size: usize) -> Option<u64> {
     Some(value)
 }
 
+// The file of the library `libz.so.1` for an ABI.
+fn libz(alloc: Global, abi: Abi) -> Result<Vec<u8>, Fail> {
+    Ok(file_of(alloc, &library(alloc, abi, b"libz.so.1")?)?)
+}
+
 #[test]
 fn a_library_for_x86_64_has_these_bytes(rt: HostRuntime) -> Result<(), Fail> {
-    let alloc = rt.alloc();
-    let bytes = file_of(alloc, &library(alloc, Abi::X86_64, b"libz.so.1")?)?;
+    let bytes = libz(rt.alloc(), Abi::X86_64)?;
     assert!(rt; bytes.as_slice() == LIBZ.as_slice());
     Ok(())
 }
 
 #[test]
 fn a_library_for_i386_has_these_bytes(rt: HostRuntime) -> Result<(), Fail> {
-    let alloc = rt.alloc();
-    let bytes = file_of(alloc, &library(alloc, Abi::I386, b"libz.so.1")?)?;
+    let bytes = libz(rt.alloc(), Abi::I386)?;
     assert!(rt; bytes.as_slice() == I386_LIBZ.as_slice());
     Ok(())
 }
@@ -46,71 +50,121 @@ fn has_numbers(bytes: &[u8], at: usize, size: usize, want: &[u64]) -> bool {
     true
 }
 
+// Numbers of one size, each behind the one before, and where they begin.
+type Fields<'a> = (usize, usize, &'a [u64]);
+
+fn has_fields(bytes: &[u8], fields: &[Fields<'_>]) -> bool {
+    for (at, size, want) in fields {
+        if !has_numbers(bytes, *at, *size, *want) {
+            return false;
+        }
+    }
+    true
+}
+
+// A file with each part of a section.
+fn full_file(alloc: Global, abi: Abi, etype: u16) -> Result<Vec<u8>, Fail> {
+    Ok(file_of(alloc, &full(alloc, abi, etype)?)?)
+}
+
+// An ABI, a type, and the fields that they decide.
+const ABIS: &[(Abi, u16, &[Fields<'_>])] = &[
+    (
+        Abi::I386,
+        2,
+        &[
+            (4, 1, &[1, 1, 1, 0, 0, 0, 0, 0, 0, 0, 0, 0]),
+            (16, 2, &[2, 3]),
+        ],
+    ),
+    (
+        Abi::X86_64,
+        3,
+        &[
+            (4, 1, &[2, 1, 1, 0, 0, 0, 0, 0, 0, 0, 0, 0]),
+            (16, 2, &[3, 62]),
+        ],
+    ),
+    (
+        Abi::X32,
+        3,
+        &[
+            (4, 1, &[1, 1, 1, 0, 0, 0, 0, 0, 0, 0, 0, 0]),
+            (16, 2, &[3, 62]),
+        ],
+    ),
+    (
+        Abi::Aarch64,
+        2,
+        &[
+            (4, 1, &[2, 1, 1, 0, 0, 0, 0, 0, 0, 0, 0, 0]),
+            (16, 2, &[2, 183]),
+        ],
+    ),
+];
+
 #[test]
 fn each_abi_has_its_class_and_machine(rt: HostRuntime) -> Result<(), Fail> {
-    let alloc = rt.alloc();
-    let rows = [
-        (Abi::I386, 1, 3, 2),
-        (Abi::X86_64, 2, 62, 3),
-        (Abi::X32, 1, 62, 3),
-        (Abi::Aarch64, 2, 183, 2),
-    ];
-    for (abi, class, machine, etype) in rows {
-        let bytes = file_of(alloc, &full(alloc, abi, etype)?)?;
+    for (abi, etype, fields) in ABIS {
+        let bytes = full_file(rt.alloc(), *abi, *etype)?;
         assert!(rt; bytes.starts_with(b"\x7fELF"));
-        assert!(rt;
-            has_numbers(
-                bytes.as_slice(),
-                4,
-                1,
-                &[class, 1, 1, 0, 0, 0, 0, 0, 0, 0, 0, 0]
-            )
-        );
-        assert!(rt; has_numbers(bytes.as_slice(), 16, 2, &[u64::from(etype), machine]));
-        assert!(rt; has_numbers(bytes.as_slice(), 20, 4, &[1]));
+        assert!(rt; has_fields(&bytes, *fields));
+        assert!(rt; has_numbers(&bytes, 20, 4, &[1]));
     }
     Ok(())
 }
 
+const CLASS_1: &[Fields<'_>] = &[
+    // e_entry, e_phoff, e_shoff and e_flags, then the six of 2 bytes
+    (24, 4, &[0, 52, 0, 0]),
+    (40, 2, &[52, 32, 2, 0, 0, 0]),
+    // both program headers
+    (52, 4, &[1, 0, 0x1000, 0x1000, 230, 230, 4, 0x1000]),
+    (84, 4, &[2, 116, 0x1074, 0x1074, 72, 72, 4, 4]),
+    // the entries
+    (
+        116,
+        4,
+        &[
+            1, 1, 1, 11, 14, 21, 15, 34, 29, 37, 0x6ffffffb, 0x800, 5, 0x10bc, 10, 42, 0, 0,
+        ],
+    ),
+];
+
 #[test]
 fn a_full_file_of_class_1_has_these_fields(rt: HostRuntime) -> Result<(), Fail> {
-    let alloc = rt.alloc();
-    let file = file_of(alloc, &full(alloc, Abi::X32, 3)?)?;
-    let bytes = file.as_slice();
+    let bytes = full_file(rt.alloc(), Abi::X32, 3)?;
     assert!(rt; bytes.len() == 230);
-
-    // e_entry, e_phoff, e_shoff and e_flags, then the six of 2 bytes
-    assert!(rt; has_numbers(bytes, 24, 4, &[0, 52, 0, 0]));
-    assert!(rt; has_numbers(bytes, 40, 2, &[52, 32, 2, 0, 0, 0]));
-    assert!(rt; has_numbers(bytes, 52, 4, &[1, 0, 0x1000, 0x1000, 230, 230, 4, 0x1000]));
-    assert!(rt; has_numbers(bytes, 84, 4, &[2, 116, 0x1074, 0x1074, 72, 72, 4, 4]));
-    let entries = [
-        1, 1, 1, 11, 14, 21, 15, 34, 29, 37, 0x6ffffffb, 0x800, 5, 0x10bc, 10, 42, 0, 0,
-    ];
-    assert!(rt; has_numbers(bytes, 116, 4, &entries));
+    assert!(rt; has_fields(&bytes, CLASS_1));
     assert!(rt; bytes.ends_with(FULL_STRINGS));
     Ok(())
 }
 
+const CLASS_2: &[Fields<'_>] = &[
+    // e_entry, e_phoff and e_shoff, e_flags, then the six of 2 bytes
+    (24, 8, &[0, 64, 0]),
+    (48, 4, &[0]),
+    (52, 2, &[64, 56, 2, 0, 0, 0]),
+    // both program headers
+    (64, 4, &[1, 4]),
+    (72, 8, &[0, 0x1000, 0x1000, 362, 362, 0x1000]),
+    (120, 4, &[2, 4]),
+    (128, 8, &[176, 0x10b0, 0x10b0, 144, 144, 8]),
+    // the entries
+    (
+        176,
+        8,
+        &[
+            1, 1, 1, 11, 14, 21, 15, 34, 29, 37, 0x6ffffffb, 0x800, 5, 0x1140, 10, 42, 0, 0,
+        ],
+    ),
+];
+
 #[test]
 fn a_full_file_of_class_2_has_these_fields(rt: HostRuntime) -> Result<(), Fail> {
-    let alloc = rt.alloc();
-    let file = file_of(alloc, &full(alloc, Abi::Aarch64, 2)?)?;
-    let bytes = file.as_slice();
+    let bytes = full_file(rt.alloc(), Abi::Aarch64, 2)?;
     assert!(rt; bytes.len() == 362);
-
-    // e_entry, e_phoff and e_shoff, e_flags, then the six of 2 bytes
-    assert!(rt; has_numbers(bytes, 24, 8, &[0, 64, 0]));
-    assert!(rt; has_numbers(bytes, 48, 4, &[0]));
-    assert!(rt; has_numbers(bytes, 52, 2, &[64, 56, 2, 0, 0, 0]));
-    assert!(rt; has_numbers(bytes, 64, 4, &[1, 4]));
-    assert!(rt; has_numbers(bytes, 72, 8, &[0, 0x1000, 0x1000, 362, 362, 0x1000]));
-    assert!(rt; has_numbers(bytes, 120, 4, &[2, 4]));
-    assert!(rt; has_numbers(bytes, 128, 8, &[176, 0x10b0, 0x10b0, 144, 144, 8]));
-    let entries = [
-        1, 1, 1, 11, 14, 21, 15, 34, 29, 37, 0x6ffffffb, 0x800, 5, 0x1140, 10, 42, 0, 0,
-    ];
-    assert!(rt; has_numbers(bytes, 176, 8, &entries));
+    assert!(rt; has_fields(&bytes, CLASS_2));
     assert!(rt; bytes.ends_with(FULL_STRINGS));
     Ok(())
 }

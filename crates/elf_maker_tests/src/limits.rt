@@ -23,15 +23,23 @@ fn long_texts(alloc: Global, count: usize, size: usize) -> Result<Texts, NoMemor
     Ok(texts)
 }
 
+// The length of a file that needs so many texts of 65535 bytes and one more of this size, or none if it is too long.
+fn length(alloc: Global, abi: Abi, count: usize, size: usize) -> Result<Option<usize>, Fail> {
+    let spec = needing(abi, long_texts(alloc, count, size)?);
+    match file_of(alloc, &spec) {
+        Ok(bytes) => Ok(Some(bytes.len())),
+        Err(SampleFault::TooLong) => Ok(None),
+        Err(fault) => Err(fault.into()),
+    }
+}
+
 #[test]
 fn a_file_of_class_1_has_at_most_2_24_bytes(rt: HostRuntime) -> Result<(), Fail> {
     let alloc = rt.alloc();
 
     // Headers, 259 entries of 8 bytes, one NUL, and 256 texts with theirs.
-    let longest = needing(Abi::I386, long_texts(alloc, 255, 63346)?);
-    assert!(rt; file_of(alloc, &longest)?.len() == 1 << 24);
-    let longer = needing(Abi::I386, long_texts(alloc, 255, 63347)?);
-    assert!(rt; matches!(file_of(alloc, &longer), Err(SampleFault::TooLong)));
+    assert!(rt; length(alloc, Abi::I386, 255, 63346)? == Some(1 << 24));
+    assert!(rt; length(alloc, Abi::I386, 255, 63347)?.is_none());
     Ok(())
 }
 
@@ -40,38 +48,49 @@ fn a_file_of_class_2_has_at_most_2_24_bytes(rt: HostRuntime) -> Result<(), Fail>
     let alloc = rt.alloc();
 
     // Headers, 259 entries of 16 bytes, one NUL, and 256 texts with theirs.
-    let longest = needing(Abi::X86_64, long_texts(alloc, 255, 61214)?);
-    assert!(rt; file_of(alloc, &longest)?.len() == 1 << 24);
-    let longer = needing(Abi::X86_64, long_texts(alloc, 255, 61215)?);
-    assert!(rt; matches!(file_of(alloc, &longer), Err(SampleFault::TooLong)));
+    assert!(rt; length(alloc, Abi::X86_64, 255, 61214)? == Some(1 << 24));
+    assert!(rt; length(alloc, Abi::X86_64, 255, 61215)?.is_none());
     Ok(())
 }
 
 #[test]
 fn needed_texts_of_2_24_bytes_are_too_many(rt: HostRuntime) -> Result<(), Fail> {
-    let alloc = rt.alloc();
-    let spec = needing(Abi::X86_64, long_texts(alloc, 256, 256)?);
-    assert!(rt; matches!(file_of(alloc, &spec), Err(SampleFault::TooLong)));
+    assert!(rt; length(rt.alloc(), Abi::X86_64, 256, 256)?.is_none());
     Ok(())
 }
+
+// Whether a library of this soname is no specification, and has no file.
+fn is_no_name(alloc: Global, soname: &str) -> Result<bool, Fail> {
+    let spec = library(alloc, Abi::X86_64, soname.as_bytes())?;
+    Ok(!is_spec(&spec) && matches!(file_of(alloc, &spec), Err(SampleFault::NoSpec)))
+}
+
+// Whether a library of this type is a specification.
+fn is_type(alloc: Global, etype: u16) -> Result<bool, Fail> {
+    let mut spec = library(alloc, Abi::X86_64, b"libz.so.1")?;
+    spec.etype = etype;
+    Ok(is_spec(&spec))
+}
+
+// Whether an object that needs a text of so many bytes is a specification.
+fn is_length(alloc: Global, size: usize) -> Result<bool, Fail> {
+    Ok(is_spec(&needing(Abi::X86_64, long_texts(alloc, 0, size)?)))
+}
+
+const NO_NAMES: &[&str] = &["", ".", "..", "a/b", "a\0b"];
+
+const NO_TYPES: &[u16] = &[0, 1, 4, 258];
 
 #[test]
 fn what_cannot_be_made_is_told(rt: HostRuntime) -> Result<(), Fail> {
     let alloc = rt.alloc();
-    for soname in ["", ".", "..", "a/b", "a\0b"] {
-        let spec = library(alloc, Abi::X86_64, soname.as_bytes())?;
-        assert!(rt; !is_spec(&spec), "{soname}");
-        assert!(rt;
-            matches!(file_of(alloc, &spec), Err(SampleFault::NoSpec)),
-            "{soname}"
-        );
+    for soname in NO_NAMES {
+        assert!(rt; is_no_name(alloc, soname)?, "{soname}");
     }
-    for etype in [0, 1, 4, 258] {
-        let mut spec = library(alloc, Abi::X86_64, b"libz.so.1")?;
-        spec.etype = etype;
-        assert!(rt; !is_spec(&spec), "{etype}");
+    for etype in NO_TYPES {
+        assert!(rt; !is_type(alloc, *etype)?, "{etype}");
     }
-    assert!(rt; is_spec(&needing(Abi::X86_64, long_texts(alloc, 0, LONGEST)?)));
-    assert!(rt; !is_spec(&needing(Abi::X86_64, long_texts(alloc, 0, LONGEST + 1)?)));
+    assert!(rt; is_length(alloc, LONGEST)?);
+    assert!(rt; !is_length(alloc, LONGEST + 1)?);
     Ok(())
 }

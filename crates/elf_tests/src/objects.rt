@@ -1,10 +1,10 @@
 // Whole objects, of files that are made, and of made files with some bytes changed.
-use super::rows::{Change, analysis, changed, is};
+use super::rows::{Change, analysis, changed, gives, is_nameless};
 use elf_dynamic::kinds::{Dynamic, Object};
 use elf_dynamic::object;
 use elf_maker::Spec;
 use elf_samples::{SampleFault, file_of, needing, texts};
-use lib_types::{Abi, Analysis, Defect, NoMemory, Text, Texts};
+use lib_types::{Abi, Defect, NoMemory, Text, Texts};
 use std::alloc::Global;
 use std::test::Fail;
 use tree_face::SureStore;
@@ -25,12 +25,14 @@ fn is_text(found: &Option<Text>, want: Option<&str>) -> bool {
 }
 
 fn are_texts(found: &Texts, want: &[&str]) -> bool {
-    found.len() == want.len()
-        && found
-            .as_slice()
-            .iter()
-            .zip(want)
-            .all(|(text, want)| text.as_bytes() == want.as_bytes())
+    let mut left = want;
+    for text in found.as_slice() {
+        if left.is_empty() || text.as_bytes() != left[0].as_bytes() {
+            return false;
+        }
+        left = &left[1..];
+    }
+    left.is_empty()
 }
 
 // Each part of a section: two DT_NEEDED, DT_SONAME, DT_RPATH, an empty DT_RUNPATH, and DF_1_NODEFLIB.
@@ -50,70 +52,91 @@ fn needing_file(alloc: Global, abi: Abi, all: &[&str]) -> Result<Vec<u8>, Sample
     file_of(alloc, &spec)
 }
 
+// Whether each part is read of a file of this ABI.
+fn has_parts(found: &Option<Object>, abi: Abi) -> bool {
+    let Some(object) = found else {
+        return false;
+    };
+    let Some(dynamic) = &object.dynamic else {
+        return false;
+    };
+    object.abi == abi
+        && object.etype == 3
+        && is_text(&dynamic.soname, Some("libx.so.2"))
+        && are_texts(&dynamic.needed, &["libm.so.6", "libc.so.6"])
+        && is_text(&dynamic.rpath, Some("/opt/old"))
+        && is_text(&dynamic.runpath, Some(""))
+        && dynamic.nodeflib
+}
+
+fn with_parts(alloc: Global, abi: Abi) -> Result<Vec<u8>, Fail> {
+    let spec = Spec {
+        abi,
+        etype: 3,
+        dynamic: parts(alloc)?,
+    };
+    Ok(file_of(alloc, &spec)?)
+}
+
 #[test]
 fn each_part_of_an_object_is_read(rt: HostRuntime) -> Result<(), Fail> {
     let alloc = rt.alloc();
     for abi in [Abi::I386, Abi::X86_64, Abi::X32, Abi::Aarch64] {
-        let spec = Spec {
-            abi,
-            etype: 3,
-            dynamic: parts(alloc)?,
-        };
-        let found = read(alloc, file_of(alloc, &spec)?)?;
-        assert!(rt;
-            matches!(&found, Some(Object { abi: is, etype: 3, dynamic: Some(_) }) if *is == abi)
-        );
-        if let Some(
-            Object {
-                dynamic: Some(dynamic),
-                ..
-            },
-        ) = &found
-        {
-            assert!(rt; is_text(&dynamic.soname, Some("libx.so.2")));
-            assert!(rt; are_texts(&dynamic.needed, &["libm.so.6", "libc.so.6"]));
-            assert!(rt; is_text(&dynamic.rpath, Some("/opt/old")));
-            assert!(rt; is_text(&dynamic.runpath, Some("")));
-            assert!(rt; dynamic.nodeflib);
-        }
+        let found = read(alloc, with_parts(alloc, abi)?)?;
+        assert!(rt; has_parts(&found, abi));
     }
     Ok(())
 }
 
+// Whether this is the soname of what was read.
+fn has_soname(found: &Option<Object>, want: Option<&str>) -> bool {
+    match found {
+        Some(
+            Object {
+                dynamic: Some(dynamic),
+                ..
+            },
+        ) => !dynamic.nodeflib && is_text(&dynamic.soname, want),
+        _ => false,
+    }
+}
+
+// What is read of a shared object that needs these, with these bytes changed.
+fn read_changed(
+    alloc: Global,
+    abi: Abi,
+    all: &[&str],
+    changes: &[Change],
+) -> Result<Option<Object>, Fail> {
+    let bytes = needing_file(alloc, abi, all)?;
+    read(alloc, changed(alloc, &bytes, changes)?)
+}
+
 // An ABI of each class, and there the first bytes of the tags of the first three entries as those of DT_SONAME.
-const SONAMES: [(Abi, [Change; 3]); 2] = [
-    (Abi::X86_64, [(176, &[14]), (192, &[14]), (208, &[14])]),
-    (Abi::I386, [(116, &[14]), (124, &[14]), (132, &[14])]),
+const SONAMES: &[(Abi, &[Change])] = &[
+    (Abi::X86_64, &[(176, &[14]), (192, &[14]), (208, &[14])]),
+    (Abi::I386, &[(116, &[14]), (124, &[14]), (132, &[14])]),
 ];
 
 #[test]
 fn of_two_sonames_the_first_counts(rt: HostRuntime) -> Result<(), Fail> {
     let alloc = rt.alloc();
     for (abi, sonames) in SONAMES {
-        let bytes = needing_file(alloc, abi, &["first", "second", "a/b"])?;
-        let found = read(alloc, changed(alloc, &bytes, &sonames)?)?;
-        assert!(rt;
-            matches!(&found, Some(Object { dynamic: Some(Dynamic { soname, nodeflib: false, .. }), .. }) if is_text(soname, Some("first")))
-        );
+        let found = read_changed(alloc, *abi, &["first", "second", "a/b"], *sonames)?;
+        assert!(rt; has_soname(&found, Some("first")));
     }
     Ok(())
 }
 
+// The same with the first entry alone.
+const FIRST: &[(Abi, &[Change])] = &[(Abi::X86_64, &[(176, &[14])]), (Abi::I386, &[(116, &[14])])];
+
 #[test]
 fn an_empty_soname_is_none(rt: HostRuntime) -> Result<(), Fail> {
     let alloc = rt.alloc();
-    for (abi, [soname, ..]) in SONAMES {
-        let bytes = needing_file(alloc, abi, &["", "x"])?;
-        let found = read(alloc, changed(alloc, &bytes, &[soname])?)?;
-        assert!(rt;
-            matches!(
-                &found,
-                Some(Object {
-                    dynamic: Some(Dynamic { soname: None, .. }),
-                    ..
-                })
-            )
-        );
+    for (abi, soname) in FIRST {
+        let found = read_changed(alloc, *abi, &["", "x"], *soname)?;
+        assert!(rt; has_soname(&found, None));
     }
     Ok(())
 }
@@ -133,25 +156,10 @@ fn with_rpath(alloc: Global, text: &[u8]) -> Result<Spec, NoMemory> {
     })
 }
 
-// Whether it is a library for x86-64 without a soname.
-fn is_nameless(analysis: &Option<Analysis>) -> bool {
-    matches!(
-        analysis,
-        Some(Analysis::Lib {
-            abi: Abi::X86_64,
-            soname: None
-        })
-    )
-}
-
-#[test]
-fn texts_may_be_longer_than_a_window(rt: HostRuntime) -> Result<(), Fail> {
-    let alloc = rt.alloc();
-    for length in [1022, 1023, 1024, 1025, 2048, 4096, 65535] {
-        let text = vec![in alloc; b'a'; length]?;
-        let spec = with_rpath(alloc, &text)?;
-        let found = read(alloc, file_of(alloc, &spec)?)?;
-        let Some(
+// Whether this is the DT_RPATH of what was read.
+fn has_rpath(found: &Option<Object>, want: &[u8]) -> bool {
+    match found {
+        Some(
             Object {
                 dynamic: Some(
                     Dynamic {
@@ -161,26 +169,50 @@ fn texts_may_be_longer_than_a_window(rt: HostRuntime) -> Result<(), Fail> {
                 ),
                 ..
             },
-        ) = &found
-        else {
-            assert!(rt; false, "{length}");
-            return Ok(());
-        };
-        assert!(rt; rpath.as_bytes() == text.as_slice(), "{length}");
+        ) => rpath.as_bytes() == want,
+        _ => false,
+    }
+}
+
+// Whether a DT_RPATH of so many bytes is read.
+fn is_read(alloc: Global, length: usize) -> Result<bool, Fail> {
+    let text = vec![in alloc; b'a'; length]?;
+    let spec = with_rpath(alloc, &text)?;
+    let found = read(alloc, file_of(alloc, &spec)?)?;
+    Ok(has_rpath(&found, &text))
+}
+
+const LENGTHS: &[usize] = &[1022, 1023, 1024, 1025, 2048, 4096, 65535];
+
+#[test]
+fn texts_may_be_longer_than_a_window(rt: HostRuntime) -> Result<(), Fail> {
+    for length in LENGTHS {
+        assert!(rt; is_read(rt.alloc(), *length)?, "{length}");
     }
     Ok(())
+}
+
+fn long_text(alloc: Global) -> Result<Vec<u8>, Fail> {
+    let mut needed = Texts::new(alloc);
+    needed.push(Text::from_vec(vec![in alloc; b'a'; 65535]?))?;
+    needed.push(Text::copy_of(alloc, b"b")?)?;
+    Ok(file_of(alloc, &needing(Abi::X86_64, needed))?)
 }
 
 // Five entries, so the strings begin at 256: a NUL, 65535 bytes and their NUL, which is changed, then another text.
 #[test]
 fn a_text_has_its_nul_among_65536_bytes(rt: HostRuntime) -> Result<(), Fail> {
     let alloc = rt.alloc();
-    let mut needed = Texts::new(alloc);
-    needed.push(Text::from_vec(vec![in alloc; b'a'; 65535]?))?;
-    needed.push(Text::copy_of(alloc, b"b")?)?;
-    let bytes = file_of(alloc, &needing(Abi::X86_64, needed))?;
+    let bytes = long_text(alloc)?;
     assert!(rt; is_nameless(&analysis(alloc, changed(alloc, &bytes, &[])?)?));
-    let found = analysis(alloc, changed(alloc, &bytes, &[(256 + 65536, b"a")])?)?;
-    assert!(rt; is(&found, Abi::X86_64, Some(Defect::BadString { tag: 1 })));
+    let other = changed(alloc, &bytes, &[(256 + 65536, b"a")])?;
+    assert!(rt;
+        gives(
+            alloc,
+            other,
+            Abi::X86_64,
+            Some(Defect::BadString { tag: 1 })
+        )?
+    );
     Ok(())
 }

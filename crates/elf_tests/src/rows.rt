@@ -299,17 +299,46 @@ pub fn is(analysis: &Option<Analysis>, abi: Abi, want: Option<Defect>) -> bool {
     }
 }
 
+/// Whether it is a library for x86-64 without a soname.
+pub fn is_nameless(analysis: &Option<Analysis>) -> bool {
+    matches!(
+        analysis,
+        Some(Analysis::Lib {
+            abi: Abi::X86_64,
+            soname: None
+        })
+    )
+}
+
+/// Whether a file of these bytes is a library of this ABI and `libz.so.1`, or has this defect.
+pub fn gives(alloc: Global, bytes: Vec<u8>, abi: Abi, want: Option<Defect>) -> Result<bool, Fail> {
+    Ok(is(&analysis(alloc, bytes)?, abi, want))
+}
+
+// Whether a library with these changes is what is wanted.
+fn is_changed(
+    alloc: Global,
+    abi: Abi,
+    changes: &[Change],
+    want: Option<Defect>,
+) -> Result<bool, Fail> {
+    gives(
+        alloc,
+        changed(alloc, &libz(alloc, abi)?, changes)?,
+        abi,
+        want,
+    )
+}
+
 // Whether both files are what the row says.
 fn check(rt: &impl Abort, alloc: Global, row: &Row) -> Result<(), Fail> {
     let (wide, narrow, want) = row;
-    let found = analysis(alloc, changed(alloc, &libz(alloc, Abi::X86_64)?, wide)?)?;
     assert!(rt;
-        is(&found, Abi::X86_64, *want),
+        is_changed(alloc, Abi::X86_64, *wide, *want)?,
         "class 2: {wide:?} {want:?}"
     );
-    let found = analysis(alloc, changed(alloc, &libz(alloc, Abi::I386)?, narrow)?)?;
     assert!(rt;
-        is(&found, Abi::I386, *want),
+        is_changed(alloc, Abi::I386, *narrow, *want)?,
         "class 1: {narrow:?} {want:?}"
     );
     Ok(())

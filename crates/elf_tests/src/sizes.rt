@@ -1,9 +1,10 @@
 // Files that are cut, and files that are long.
-use super::rows::{analysis, changed, is, libz};
+use super::rows::{Change, analysis, changed, gives, is, is_nameless, libz};
 use crate::Sparse;
 use elf_dynamic::analyse;
 use lib_types::{Abi, Analysis, Defect};
 use std::alloc::Global;
+use std::process::Abort;
 use std::test::Fail;
 
 // The first bytes of a file.
@@ -13,98 +14,107 @@ fn cut(alloc: Global, bytes: &[u8], length: usize) -> Result<Vec<u8>, Fail> {
     Ok(front)
 }
 
+fn short(length: usize) -> Defect {
+    if length < 4 {
+        Defect::NotElf
+    } else {
+        Defect::TooShort {
+            length: length as u64,
+        }
+    }
+}
+
+// A library that is cut to less than its header, and to its header alone.
+fn check_cuts(rt: &impl Abort, alloc: Global, abi: Abi, header: usize) -> Result<(), Fail> {
+    let base = libz(alloc, abi)?;
+    for length in 0..header {
+        let bytes = cut(alloc, &base, length)?;
+        assert!(rt; gives(alloc, bytes, abi, Some(short(length)))?, "{length}");
+    }
+    let bytes = cut(alloc, &base, header)?;
+    assert!(rt;
+        gives(alloc, bytes, abi, Some(Defect::BadPhdrs))?,
+        "{header}"
+    );
+    Ok(())
+}
+
 #[test]
 fn short_files_say_their_length(rt: HostRuntime) -> Result<(), Fail> {
-    let alloc = rt.alloc();
-    for (abi, header) in [(Abi::X86_64, 64), (Abi::I386, 52)] {
-        let base = libz(alloc, abi)?;
-        for length in 0..header {
-            let want = if length < 4 {
-                Defect::NotElf
-            } else {
-                Defect::TooShort {
-                    length: length as u64,
-                }
-            };
-            assert!(rt;
-                is(
-                    &analysis(alloc, cut(alloc, &base, length)?)?,
-                    abi,
-                    Some(want)
-                ),
-                "{length}"
-            );
-        }
-        let found = analysis(alloc, cut(alloc, &base, header)?)?;
-        assert!(rt; is(&found, abi, Some(Defect::BadPhdrs)), "{header}");
-    }
-    Ok(())
+    check_cuts(&rt, rt.alloc(), Abi::X86_64, 64)?;
+    check_cuts(&rt, rt.alloc(), Abi::I386, 52)
+}
+
+// A change, the length to which the changed file is cut, and the defect.
+const SHORT: &[(Change, usize, Defect)] = &[
+    ((4, &[3]), 15, Defect::TooShort { length: 15 }),
+    ((5, &[2]), 20, Defect::BadData { value: 2 }),
+    ((18, &[0]), 63, Defect::TooShort { length: 63 }),
+];
+
+// The front of the library for x86-64 with a change.
+fn front(alloc: Global, change: Change, length: usize) -> Result<Vec<u8>, Fail> {
+    let wide = libz(alloc, Abi::X86_64)?;
+    cut(alloc, &changed(alloc, &wide, &[change])?, length)
 }
 
 #[test]
 fn the_first_defect_of_a_short_file_counts(rt: HostRuntime) -> Result<(), Fail> {
     let alloc = rt.alloc();
-    let short = Defect::TooShort { length: 15 };
-    let wide = libz(alloc, Abi::X86_64)?;
-    let bytes = cut(alloc, &changed(alloc, &wide, &[(4, &[3])])?, 15)?;
-    assert!(rt; is(&analysis(alloc, bytes)?, Abi::X86_64, Some(short)));
-    let bytes = cut(alloc, &changed(alloc, &wide, &[(5, &[2])])?, 20)?;
-    assert!(rt;
-        is(
-            &analysis(alloc, bytes)?,
-            Abi::X86_64,
-            Some(Defect::BadData { value: 2 })
-        )
-    );
-    let bytes = cut(alloc, &changed(alloc, &wide, &[(18, &[0])])?, 63)?;
-    assert!(rt;
-        is(
-            &analysis(alloc, bytes)?,
-            Abi::X86_64,
-            Some(Defect::TooShort { length: 63 })
-        )
-    );
+    for (change, length, want) in SHORT {
+        let bytes = front(alloc, *change, *length)?;
+        assert!(rt; gives(alloc, bytes, Abi::X86_64, Some(*want))?, "{length}");
+    }
     Ok(())
+}
+
+// The ABI of a library, the least byte of the machine that is put into it, and its ABI then or its defect.
+const MACHINES: &[(Abi, &[u8], Abi, Option<Defect>)] = &[
+    (Abi::X86_64, &[183], Abi::Aarch64, None),
+    (Abi::I386, &[62], Abi::X32, None),
+    (
+        Abi::X86_64,
+        &[3],
+        Abi::X86_64,
+        Some(Defect::BadMachine { number: 3 }),
+    ),
+    (
+        Abi::I386,
+        &[183],
+        Abi::X86_64,
+        Some(Defect::BadMachine { number: 183 }),
+    ),
+];
+
+fn with_machine(alloc: Global, abi: Abi, machine: &'static [u8]) -> Result<Vec<u8>, Fail> {
+    changed(alloc, &libz(alloc, abi)?, &[(18, machine)])
 }
 
 #[test]
 fn machine_and_class_give_the_abi(rt: HostRuntime) -> Result<(), Fail> {
     let alloc = rt.alloc();
-    let wide = libz(alloc, Abi::X86_64)?;
-    let narrow = libz(alloc, Abi::I386)?;
-    let bytes = changed(alloc, &wide, &[(18, &[183])])?;
-    assert!(rt; is(&analysis(alloc, bytes)?, Abi::Aarch64, None));
-    let bytes = changed(alloc, &narrow, &[(18, &[62])])?;
-    assert!(rt; is(&analysis(alloc, bytes)?, Abi::X32, None));
-    let bytes = changed(alloc, &wide, &[(18, &[3])])?;
-    assert!(rt;
-        is(
-            &analysis(alloc, bytes)?,
-            Abi::X86_64,
-            Some(Defect::BadMachine { number: 3 })
-        )
-    );
-    let bytes = changed(alloc, &narrow, &[(18, &[183])])?;
-    assert!(rt;
-        is(
-            &analysis(alloc, bytes)?,
-            Abi::X86_64,
-            Some(Defect::BadMachine { number: 183 })
-        )
-    );
+    for (abi, machine, becomes, want) in MACHINES {
+        let bytes = with_machine(alloc, *abi, *machine)?;
+        assert!(rt; gives(alloc, bytes, *becomes, *want)?, "{machine:?}");
+    }
     Ok(())
+}
+
+// What the library with zeros behind it is, how many bytes are read of it, and in how many readings.
+fn sparse(alloc: Global) -> Result<(Option<Analysis>, u64, u64), Fail> {
+    let mut store = Sparse::new(libz(alloc, Abi::X86_64)?);
+    let found = analyse(alloc, &mut store, b"libz.so.1").ok();
+    Ok((found, store.taken(), store.readings()))
 }
 
 #[test]
 fn a_file_of_2_to_the_40_bytes_is_read_in_windows(rt: HostRuntime) -> Result<(), Fail> {
-    let alloc = rt.alloc();
-    let mut store = Sparse::new(libz(alloc, Abi::X86_64)?);
-    let found = analyse(alloc, &mut store, b"libz.so.1").ok();
+    let (found, taken, readings) = sparse(rt.alloc())?;
     assert!(rt; is(&found, Abi::X86_64, None));
-    assert!(rt; store.taken() <= 1024);
+    assert!(rt; taken <= 1024);
 
     // The header, both program headers, the section, and the text.
-    assert!(rt; store.readings() == 4);
+    assert!(rt; readings == 4);
     Ok(())
 }
 
@@ -129,15 +139,7 @@ fn many_headers(alloc: Global, count: u16) -> Result<Vec<u8>, Fail> {
 fn as_many_program_headers_as_there_can_be_are_read(rt: HostRuntime) -> Result<(), Fail> {
     let alloc = rt.alloc();
     let found = analysis(alloc, many_headers(alloc, 65534)?)?;
-    assert!(rt;
-        matches!(
-            &found,
-            Some(Analysis::Lib {
-                abi: Abi::X86_64,
-                soname: None
-            })
-        )
-    );
+    assert!(rt; is_nameless(&found));
     Ok(())
 }
 
@@ -173,7 +175,6 @@ fn many_entries(alloc: Global) -> Result<Vec<u8>, Fail> {
 #[test]
 fn a_section_of_2_to_the_20_entries_is_read(rt: HostRuntime) -> Result<(), Fail> {
     let alloc = rt.alloc();
-    let found = analysis(alloc, many_entries(alloc)?)?;
-    assert!(rt; is(&found, Abi::X86_64, None));
+    assert!(rt; gives(alloc, many_entries(alloc)?, Abi::X86_64, None)?);
     Ok(())
 }

@@ -1,7 +1,7 @@
 -- Which files of an image are read for its cache, and what they are (ldconfig(8)).
 use Rattle.std.specs.Prelude.{ℕ, ◌+◌, Bool, false, List, [], if◌then◌else◌, fold, Option, Some, None, is_none, unwrap_or}
 use Rattle.elf_dynamic.specs.Analysis.{analysis}
-use Rattle.soname_links.specs.Table.{Analyses, analysis_at, with_analysis}
+use Rattle.place_files.specs.Table.{Analyses, analysis_at, with_analysis}
 use Rattle.tree_face.specs.declared.node.Node.{Node}
 use Rattle.tree_face.specs.declared.node.Node.TheVariants as node
 use Rattle.tree_face.specs.Store.{Contents}

@@ -4,12 +4,12 @@ ghost use Rattle.std.specs.Option.{option_copied};
 ghost use Rattle.lib_types.specs.Counts.{HasRisen};
 ghost use Rattle.tree_face.specs.Known.{IfKnown};
 ghost use Rattle.tree_face.specs.Store.{BeginsAtMost};
-ghost use Rattle.soname_links.specs.Table.{has_name, with_analysis};
+ghost use Rattle.place_files.specs.Table.{has_name, with_analysis};
 ghost use Rattle.file_analyses.specs.Files.{seen, unread_key, with_file, with_files};
 
 use elf_dynamic::{AnalyseFault, analyse};
 use lib_types::{Analysis, NoMemory, Text, Texts};
-use soname_links::Table;
+use place_files::Table;
 use std::alloc::Global;
 use tree_face::{Node, Store, Tree};
 

@@ -3,7 +3,7 @@ use conf_patterns::glob_match;
 use std::test::Fail;
 
 // A pattern, a name, and whether they match.
-const ROWS: [(&str, &str, bool); 59] = [
+const ROWS: &[(&str, &str, bool)] = &[
     ("", "", true),
     ("", "a", false),
     ("a", "a", true),
@@ -69,7 +69,7 @@ const ROWS: [(&str, &str, bool); 59] = [
 fn components_match_names(rt: HostRuntime) -> Result<(), Fail> {
     for (pattern, name, want) in ROWS {
         let is = glob_match(pattern.as_bytes(), name.as_bytes());
-        assert_eq!(rt; is, want, "{pattern} {name}");
+        assert!(rt; is == *want, "{pattern} {name}");
     }
     Ok(())
 }

@@ -137,6 +137,26 @@ OutputBefore Done held disk old new = Relates (Reports IsFollowedBy held disk) o
 OutputBefore OutputFault held disk old new = Relates (Reports IsFollowedByPart held disk) old.written new.written
 OutputBefore _ held disk old new = new ≡ old
 
+-- ---- a further update
+
+-- an update of the manifest that is in its slot is made, and writes no manifest and the cache that is in its slot
+pub record HoldsItsUpdate (held : Contents) (content : DiskContent) : Type 0 where
+  pub made : outcome held (manifest_of content.now.manifest) ≡ outcomes.Writes
+  pub texts : UpdateTexts
+  pub are : AreTextsFor held (manifest_of content.now.manifest) texts
+  pub manifest : texts.manifest ≡ None
+  pub cache : content.now.cache ≡ Some texts.cache
+
+-- the statuses after which both slots are written
+abbrev pub is_made : Status → Bool
+is_made Done = true
+is_made OutputFault = true
+is_made _ = false
+
+-- what an update that was made leaves is settled, if all contents are known
+abbrev pub SettlesSlots : Status → Option Contents → Option DiskContent → Type 0
+SettlesSlots status held disk = is_made status ≡ true → IfBothKnown held disk (λ contents content. HoldsItsUpdate contents content)
+
 -- ---- the whole
 
 pub record UpdateRun (old new : Devices) (status : Status) : Type 0 where
@@ -159,4 +179,5 @@ pub record UpdateRun (old new : Devices) (status : Status) : Type 0 where
   pub disk : Relates (DiskAfter status old.store.held) old.disk.contents new.disk.contents
   pub calls : Relates (CallsAfter status old.store.held old.disk.contents) old.disk.calls new.disk.calls
   pub made : KeepsRestMade tag old.disk new.disk
+  pub settles : SettlesSlots status old.store.held new.disk.contents
   pub output : OutputAfter status old.store.held old.disk.contents old.output new.output

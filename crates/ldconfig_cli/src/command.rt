@@ -11,7 +11,7 @@ ghost use Rattle.ldconfig_core.specs.Manifest.{manifest_of};
 ghost use Rattle.mtree_manifest.specs.declared.fault.ManifestFault.{ManifestFault};
 ghost use Rattle.ldconfig_core.specs.Outcome as outcomes;
 ghost use Rattle.ldconfig_core.specs.Outcome.{outcome};
-ghost use Rattle.ldconfig_cli.specs.Update.{BeginsFiles, CallsAfter, ComesTo, DiskAfter, HasFault, HasManifest, HasNoManifest, LacksFile, OutputBefore, UpdateRun, is_of_update, needs_no_manifest, status_of, tag};
+ghost use Rattle.ldconfig_cli.specs.Update.{BeginsFiles, CallsAfter, ComesTo, DiskAfter, HasFault, HasManifest, HasNoManifest, LacksFile, OutputBefore, SettlesSlots, UpdateRun, is_of_update, needs_no_manifest, status_of, tag};
 ghost use Rattle.ldconfig_cli.specs.Print.{PrintRun};
 ghost use Rattle.ldconfig_cli.specs.Status.{Says, fault_line, is_fixed};
 ghost use Rattle.ldconfig_cli.specs.Usage.{UsageRun};
@@ -54,6 +54,7 @@ fn update<S: Store, D: Disk, O: Sink>(
     ensures disk { Relates (DiskAfter result (S.state store.old).held) (D.state disk.old).contents (D.state disk.new).contents }
     ensures calls { Relates (CallsAfter result (S.state store.old).held (D.state disk.old).contents) (D.state disk.old).calls (D.state disk.new).calls }
     ensures made { KeepsRestMade tag (D.state disk.old) (D.state disk.new) }
+    ensures settles { SettlesSlots result (S.state store.old).held (D.state disk.new).contents }
     ensures output { OutputBefore result (S.state store.old).held (D.state disk.old).contents (O.state out.old) (O.state out.new) }
     ensures held { (S.state store.new).held ≡ (S.state store.old).held }
     ensures begun { BeginsFiles (D.state disk.old).contents (S.state store.old) (S.state store.new) }

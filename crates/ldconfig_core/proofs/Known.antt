@@ -7,7 +7,7 @@ use Rattle.file_analyses.specs.declared.files.Files.{Files}
 use Rattle.soname_links.specs.Apply.{nodes_with}
 use Rattle.soname_links.specs.Marks.{blocked, mixed}
 use Rattle.soname_links.specs.Plan.{links, with_links}
-use Rattle.soname_links.specs.Search.{dangling, reached}
+use Rattle.place_files.specs.Search.{dangling, reached}
 use Rattle.soname_links.specs.declared.kinds.Survey.{Survey}
 use Rattle.tree_face.specs.Known.{IfKnown}
 use Rattle.tree_face.specs.Store.{Contents, StoreState, BeginsAtMost}
@@ -16,7 +16,8 @@ use Rattle.tree_face.specs.declared.tree.TheConstants.{NODES_MAX}
 use Rattle.ldconfig_core.proofs.Preparing as parts
 use Rattle.ldconfig_core.specs.Cache.{AreTextsOf}
 use Rattle.ldconfig_core.specs.Image.{begun_in, planned_in}
-use Rattle.ldconfig_core.specs.Outcome.{Lacking, TooLarge, TooMany, Writes, is_too_long, manifest_with, size_of, update_outcome}
+use Rattle.ldconfig_core.specs.Outcome.{Lacking, TooLarge, TooMany, Writes, is_too_long, manifest_with, new_manifest, size_of, update_outcome}
+use Rattle.ldconfig_core.specs.Settled.{IfReads}
 use Rattle.ldconfig_core.specs.Stages.{begun_searching, entries_of, texts_of, IsFollowed, IsFound, IsMadeOf, IsPlanned, IsSearched}
 use Rattle.ldconfig_core.specs.Update.{IsReportFor}
 use Rattle.ldconfig_core.specs.declared.following.Followed.{Followed}
@@ -99,3 +100,7 @@ module _ (t : Nodes) (found : Found) (tree : Nodes) where
     pub report_for : (known : Option Contents) → IfKnown known (λ held. IsFound held t found tree) → IfKnown known (λ held. IsReportFor held t prepared.report)
     report_for None is = tt
     report_for (Some held) is = parts.is_report_for held t found tree is prepared made
+
+    pub reads : (known : Option Contents) → IfKnown known (λ held. IsFound held t found tree) → IfKnown known (λ held. IfReads (new_manifest held t) tree)
+    reads None is = tt
+    reads (Some held) is = parts.reads held t found tree is prepared made

@@ -4,4 +4,5 @@ pub mod Known
 pub mod Leaving
 pub mod Preparing
 pub mod Searching
+pub mod Settled
 pub mod Single

@@ -1,5 +1,5 @@
 -- The parts of an update, one after the other, are those of the image.
-use Rattle.std.proofs.Common.{◌≡◌, ◌≤◌, ◌<◌, ◌+◌, ◌-◌, ℕ, true, false, cond, nat_lt, List, length, refl, ap, sym, subst, ◌∙◌, arith}
+use Rattle.std.proofs.Common.{◌≡◌, ◌≤◌, ◌<◌, ◌+◌, ◌-◌, ℕ, true, false, cond, nat_lt, List, length, refl, ap, sym, subst, ◌∙◌, Option, arith}
 use Rattle.std.proofs.lemmas.Bool.Decides.{nat_tests}
 use Rattle.std.proofs.lemmas.List.Sorted.{length_permutation}
 use Rattle.cache_writer.specs.declared.writer.TheConstants.{ENTRIES_MAX}
@@ -8,10 +8,10 @@ use Rattle.file_analyses.specs.declared.files.Files.{Files}
 use Rattle.lib_types.specs.Counts.{raised}
 use Rattle.lib_types.specs.declared.entry.Entry.{Entry}
 use Rattle.soname_links.specs.Apply.{nodes_with}
-use Rattle.soname_links.specs.Entries.{AreEntriesOf}
+use Rattle.cache_entries.specs.Entries.{AreEntriesOf}
 use Rattle.soname_links.specs.Marks.{blocked, mixed}
 use Rattle.soname_links.specs.Plan.{links, with_links}
-use Rattle.soname_links.specs.Search.{dangling, reached}
+use Rattle.place_files.specs.Search.{dangling, reached}
 use Rattle.soname_links.specs.declared.kinds.Survey.{Survey}
 use Rattle.tree_face.specs.Store.{Contents, StoreState, BeginsAtMost}
 use Rattle.tree_face.specs.Tree.{Nodes}
@@ -21,6 +21,7 @@ use Rattle.file_analyses.proofs.Rising.{files_rise}
 use Rattle.ldconfig_core.specs.Cache.{AreTextsOf, IsReport, said_with}
 use Rattle.ldconfig_core.specs.Image.{begun_in, conf_in, entries_in, files_in, has_too_many_nodes, library_files_begun, links_in, places_in, planned_in, wanted_in}
 use Rattle.ldconfig_core.specs.Outcome.{Lacking, TooLarge, TooMany, Writes, is_too_long, manifest_with, new_manifest, size_of, update_outcome}
+use Rattle.ldconfig_core.specs.Settled.{IfReads}
 use Rattle.ldconfig_core.specs.Stages.{begun_searching, entries_of, said_of, texts_of, IsFollowed, IsFound, IsMadeOf, IsPlanned, IsSearched}
 use Rattle.ldconfig_core.specs.Update.{IsReportFor}
 use Rattle.ldconfig_core.specs.declared.following.Followed.{Followed}
@@ -31,7 +32,7 @@ use Rattle.ldconfig_core.specs.declared.search.Search.{Search}
 over : (n m : ℕ) → n < m → nat_lt n m ≡ true
 over n m h = grind (arith, nat_tests)
 
-within : (n m : ℕ) → m ≤ n → nat_lt n m ≡ false
+pub within : (n m : ℕ) → m ≤ n → nat_lt n m ≡ false
 within n m h = grind (arith, nat_tests)
 
 module _ (held : Contents) (t : Nodes) where
@@ -46,7 +47,7 @@ module _ (held : Contents) (t : Nodes) where
       [ true ↦ omega arith | false ↦ omega (arith, wanted_part) ]
 
 module _ (held : Contents) (t : Nodes) (search : Search) (s : IsSearched held t search) where
-  table_is : search.files.table ≡ (wanted_in held t).table
+  pub table_is : search.files.table ≡ (wanted_in held t).table
   table_is = ap (λ r. r.table) s.files
 
   links_are : links search.files.table t search.dirs.places ≡ links_in held t
@@ -192,6 +193,9 @@ module _ (held : Contents) (t : Nodes) (found : Found) (tree : Nodes) (is : IsFo
       cache_is = made.cache;
       report_is = made.text ∙ ap report_text (said_is made.entries);
     }
+
+    pub reads : IfReads (new_manifest held t) tree
+    reads = subst (λ (manifest : Option (List ℕ)). IfReads manifest tree) (made.manifest ∙ manifest_is) made.reads
 
     pub is_report_for : IsReportFor held t prepared.report
     is_report_for = record {

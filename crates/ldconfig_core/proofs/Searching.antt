@@ -8,7 +8,7 @@ use Rattle.hwcap_dirs.specs.declared.kinds.Place.{Place}
 use Rattle.ldso_conf.specs.Reading.{IsConfOf, reading}
 use Rattle.ldso_conf.specs.declared.kinds.Conf.{Conf}
 use Rattle.lib_types.specs.Counts.{raised}
-use Rattle.soname_links.specs.Search.{wanted}
+use Rattle.place_files.specs.Search.{wanted}
 use Rattle.tree_face.specs.Known.{IfKnown}
 use Rattle.tree_face.specs.Store.{Contents, StoreState, BeginsAtMost}
 use Rattle.tree_face.specs.Tree.{Nodes}

@@ -2,8 +2,8 @@
 use Rattle.std.proofs.Common.{◌≡◌, ℕ, List, Option, sym, ap, ◌∙◌}
 use Rattle.cache_writer.specs.CacheText.{cache_text}
 use Rattle.lib_types.specs.declared.entry.Entry.{Entry}
-use Rattle.soname_links.proofs.Single.{one_list}
-use Rattle.soname_links.specs.Entries.{AreEntriesOf}
+use Rattle.cache_entries.proofs.Single.{one_list}
+use Rattle.cache_entries.specs.Entries.{AreEntriesOf}
 use Rattle.tree_face.specs.Store.{Contents}
 use Rattle.tree_face.specs.Tree.{Nodes}
 use Rattle.update_report.specs.Report.{report_text}
@@ -14,7 +14,7 @@ abbrev texts_with : Option (List ℕ) → List ℕ → List ℕ → UpdateTexts
 texts_with m c r = record { manifest = m; cache = c; report = r }
 
 module _ (held : Contents) (t : Nodes) where
-  one_entries : (a b : List Entry) → AreEntriesOf (entries_in held t) a → AreEntriesOf (entries_in held t) b → a ≡ b
+  pub one_entries : (a b : List Entry) → AreEntriesOf (entries_in held t) a → AreEntriesOf (entries_in held t) b → a ≡ b
   unfolding entries_in
   one_entries a b are is = one_list (files_in held t).table (planned_in held t) (places_in held t) a b are is
 

@@ -4,10 +4,10 @@ use Rattle.std.specs.List.{filter_map}
 use Rattle.cache_writer.specs.CacheText.{cache_text}
 use Rattle.hwcap_dirs.specs.Places.{absent}
 use Rattle.lib_types.specs.declared.entry.Entry.{Entry}
-use Rattle.soname_links.specs.Entries.{AreEntriesOf}
+use Rattle.cache_entries.specs.Entries.{AreEntriesOf}
 use Rattle.soname_links.specs.Marks.{blocked, mixed}
-use Rattle.soname_links.specs.Order.{ascending}
-use Rattle.soname_links.specs.Search.{dangling, reached, wanted}
+use Rattle.place_files.specs.Order.{ascending}
+use Rattle.place_files.specs.Search.{dangling, reached, wanted}
 use Rattle.tree_face.specs.Store.{Contents}
 use Rattle.tree_face.specs.Tree.{Nodes}
 use Rattle.update_report.specs.Report.{Said, report_text}

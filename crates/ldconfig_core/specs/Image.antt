@@ -6,9 +6,9 @@ use Rattle.hwcap_dirs.specs.Places.{places}
 use Rattle.ldso_conf.specs.Reading.{Reading, reading}
 use Rattle.lib_types.specs.declared.entry.Entry.{Entry}
 use Rattle.soname_links.specs.Apply.{nodes_with}
-use Rattle.soname_links.specs.Entries.{found}
+use Rattle.cache_entries.specs.Entries.{found}
 use Rattle.soname_links.specs.Plan.{links, with_links}
-use Rattle.soname_links.specs.Search.{reached, wanted}
+use Rattle.place_files.specs.Search.{reached, wanted}
 use Rattle.soname_links.specs.declared.kinds.Planned.{Planned}
 use Rattle.tree_face.specs.Store.{Contents}
 use Rattle.tree_face.specs.Tree.{Nodes}

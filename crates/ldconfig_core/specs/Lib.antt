@@ -5,5 +5,6 @@ pub mod Manifest
 pub mod Outcome
 pub mod Replace
 pub mod Session
+pub mod Settled
 pub mod Stages
 pub mod Update

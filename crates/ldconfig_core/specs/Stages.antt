@@ -8,10 +8,10 @@ use Rattle.file_analyses.specs.declared.files.Files.{Files}
 use Rattle.hwcap_dirs.specs.Places.{absent}
 use Rattle.ldso_conf.specs.Reading.{IsConfOf}
 use Rattle.soname_links.specs.Marks.{blocked, mixed}
-use Rattle.soname_links.specs.Entries as entries
-use Rattle.soname_links.specs.Entries.{AreEntriesOf}
-use Rattle.soname_links.specs.Order.{ascending}
-use Rattle.soname_links.specs.Search.{dangling, reached, wanted}
+use Rattle.cache_entries.specs.Entries as entries
+use Rattle.cache_entries.specs.Entries.{AreEntriesOf}
+use Rattle.place_files.specs.Order.{ascending}
+use Rattle.place_files.specs.Search.{dangling, reached, wanted}
 use Rattle.soname_links.specs.declared.kinds.Survey.{Survey}
 use Rattle.lib_types.specs.declared.entry.Entry.{Entry}
 use Rattle.tree_face.specs.Store.{Contents}
@@ -22,6 +22,7 @@ use Rattle.ldconfig_core.specs.Cache.{UpdateTexts}
 use Rattle.ldconfig_core.specs.Image.{conf_in, places_in, wanted_in, links_in, planned_in, files_in, has_too_many_nodes}
 use Rattle.ldconfig_core.specs.Outcome.{is_too_long, manifest_with}
 use Rattle.ldconfig_core.specs.Replace.{manifest_bytes}
+use Rattle.ldconfig_core.specs.Settled.{IfReads}
 use Rattle.ldconfig_core.specs.declared.finding.Found.{Found}
 use Rattle.ldconfig_core.specs.declared.following.Followed.{Followed}
 use Rattle.ldconfig_core.specs.declared.prepare.Prepared.{Prepared}
@@ -91,6 +92,7 @@ pub record IsMadeOf (found : Found) (tree : Nodes) (prepared : Prepared) : Type 
   pub few : length (entries_of found tree) ≤ ENTRIES_MAX
   pub manifest : manifest_bytes prepared.manifest ≡ manifest_with tree found.links.plan
   pub short : is_too_long (manifest_with tree found.links.plan) ≡ false
+  pub reads : IfReads (manifest_bytes prepared.manifest) tree
   pub cache : prepared.cache.items ≡ cache_text entries
   pub text : prepared.report.text ≡ report_text (said_of found entries)
   pub libs : prepared.report.libs ≡ length entries

@@ -3,11 +3,12 @@ ghost use Rattle.std.specs.Prelude.{◌≡◌};
 ghost use Rattle.ldconfig_core.specs.Faults.{of_apply, of_conf, of_entries, of_manifest, of_reading};
 ghost use Rattle.ldconfig_core.specs.declared.fault.UpdateFault.TheVariants as update_faults;
 
+use cache_entries::EntryFault;
 use elf_dynamic::AnalyseFault;
 use ldso_conf::ConfFault;
 use lib_types::NoMemory;
 use mtree_manifest::ManifestFault;
-use soname_links::{ApplyFault, EntryFault};
+use soname_links::ApplyFault;
 use std::alloc::{AllocError, AllocFailed};
 use thiserror::Error;
 use tree_face::{Call, Slot};

@@ -2,18 +2,20 @@
 ghost use Rattle.std.specs.Prelude.{◌≡◌, ◌⊎◌, ◌≤◌, ℕ, true, IfErr, IfOk, IsErrOf, IsSomeAnd, IsTrue};
 ghost use Rattle.hwcap_dirs.specs.Places.{are_spelled};
 ghost use Rattle.lib_types.specs.Counts.{HasRisen};
+ghost use Rattle.place_files.specs.Search.{followed};
 ghost use Rattle.tree_face.specs.Known.{IfKnown};
 ghost use Rattle.tree_face.specs.Store.{BeginsAtMost};
 ghost use Rattle.ldconfig_core.specs.Faults.{is_of_finding};
 ghost use Rattle.ldconfig_core.specs.Image.{begun_in};
 ghost use Rattle.ldconfig_core.specs.Outcome as outcomes;
 ghost use Rattle.ldconfig_core.specs.Outcome.{update_outcome};
+ghost use Rattle.ldconfig_core.specs.Settled.{AreSettled};
 ghost use Rattle.ldconfig_core.specs.Stages.{IsFound};
 
 use crate::fault::UpdateFault;
 use crate::following::{Followed, follow_links};
-use crate::planning::plan_links;
 use crate::search::{Search, search_image};
+use planned_links::plan_links;
 use soname_links::Survey;
 use std::alloc::Global;
 use tree_face::{Store, Tree};
@@ -29,6 +31,8 @@ pub struct Found {
 /// Looks through an image, and puts the planned links into its tree.
 pub fn find<S: Store>(alloc: Global, tree: &mut Tree, store: &mut S) -> Result<Found, UpdateFault>
     ensures found { IfOk result (λ found. IfKnown (S.state store.old).held (λ held. IsFound held tree.old found tree.new)) }
+    ensures settled { IfOk result (λ _. IfKnown (S.state store.old).held (λ held. AreSettled held tree.old tree.new)) }
+    ensures links { IfOk result (λ found. found.followed.links ≡ followed tree.new found.search.dirs.places) }
     ensures spelled { IfOk result (λ found. IsTrue (are_spelled found.search.dirs.places)) }
     ensures store_fault { IsErrOf result UpdateFault.StoreFault → HasRisen (S.state store.old).faults (S.state store.new).faults
         ⊎ IsSomeAnd (S.state store.old).held (λ held. update_outcome held tree.old ≡ outcomes.Lacking) }

@@ -2,7 +2,7 @@
 ghost use Rattle.std.specs.Prelude.{◌≡◌, ◌⊎◌, ◌≤◌, ◌-◌, true, IfErr, IfOk, IsErrOf, IsSomeAnd};
 ghost use Rattle.file_analyses.specs.Files.{seen, with_files};
 ghost use Rattle.lib_types.specs.Counts.{HasRisen};
-ghost use Rattle.soname_links.specs.Search.{dangling, reached};
+ghost use Rattle.place_files.specs.Search.{dangling, followed, reached};
 ghost use Rattle.tree_face.specs.Known.{IfKnown};
 ghost use Rattle.tree_face.specs.Store.{BeginsAtMost};
 ghost use Rattle.ldconfig_core.specs.Faults.{is_store_fault};
@@ -11,13 +11,15 @@ use crate::fault::UpdateFault;
 use file_analyses::{Files, read_files};
 use hwcap_dirs::Dirs;
 use lib_types::Texts;
-use soname_links::{dangling, reached};
+use place_files::{PlaceLinks, dangling_among, files_behind, follow};
 use std::alloc::Global;
 use tree_face::{Store, Tree};
 
 /// The files to which links with library names lead.
 #[derive(Drop)]
 pub struct Followed {
+    /// The links of each place.
+    pub links: PlaceLinks,
     pub reached: Texts,
     /// The links that lead to no file.
     pub dangling: Texts,
@@ -31,6 +33,7 @@ pub fn follow_links<S: Store>(
     dirs: &Dirs,
     files: &mut Files,
 ) -> Result<Followed, UpdateFault>
+    ensures links { IfOk result (λ found. found.links ≡ followed tree.now dirs.now.places) }
     ensures reached { IfOk result (λ found. found.reached ≡ reached tree.now dirs.now.places) }
     ensures dangling { IfOk result (λ found. found.dangling ≡ dangling tree.now dirs.now.places) }
     ensures read { IfOk result (λ _. IfKnown (S.state store.old).held
@@ -43,8 +46,13 @@ pub fn follow_links<S: Store>(
     ensures begun { IfKnown (S.state store.old).held (λ held. BeginsAtMost
         ((with_files held tree.now (seen files.old) (reached tree.now dirs.now.places)).begun - files.old.begun) (S.state store.old) (S.state store.new)) }
 {
-    let reached = reached(alloc, tree, dirs)?;
+    let links = follow(alloc, tree, dirs)?;
+    let reached = files_behind(alloc, &links)?;
     read_files(alloc, tree, store, &reached, files)?;
-    let dangling = dangling(alloc, tree, dirs)?;
-    Ok(Followed { reached, dangling })
+    let dangling = dangling_among(alloc, &links)?;
+    Ok(Followed {
+        links,
+        reached,
+        dangling,
+    })
 }

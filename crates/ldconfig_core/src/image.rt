@@ -9,8 +9,9 @@ ghost use Rattle.ldconfig_core.specs.Faults.{is_of_preparing};
 ghost use Rattle.ldconfig_core.specs.Image.{begun_in, planned_in};
 ghost use Rattle.ldconfig_core.specs.Manifest.{HasTree};
 ghost use Rattle.ldconfig_core.specs.Outcome as outcomes;
-ghost use Rattle.ldconfig_core.specs.Outcome.{update_outcome};
+ghost use Rattle.ldconfig_core.specs.Outcome.{new_manifest, update_outcome};
 ghost use Rattle.ldconfig_core.specs.Replace.{KeepsRestMade};
+ghost use Rattle.ldconfig_core.specs.Settled.{AreSettled, IfReads};
 ghost use Rattle.ldconfig_core.specs.Update.{ComesTo, IsReportFor, LeavesUpdate, MakesCalls, MayLeaveUpdate};
 
 use crate::fault::{DiskFault, UpdateFault};
@@ -22,7 +23,8 @@ use std::alloc::Global;
 use tree_face::{Disk, Store, Tag};
 
 /// Updates an image: plans the links of its libraries, writes the cache of their entries, the manifest before it if links are
-/// planned, and makes the report. All memory is taken before the first writing call.
+/// planned, and makes the report. All memory is taken before the first writing call. An update of the session that is returned, which
+/// has the planned links, would find the same, plan no link and write the same cache.
 pub fn update<S: Store, D: Disk>(
     alloc: Global,
     session: Session,
@@ -31,6 +33,8 @@ pub fn update<S: Store, D: Disk>(
     tag: Tag,
 ) -> Result<(Session, Report), UpdateFault>
     ensures session { IfOk result (λ r. IfKnown (S.state store.old).held (λ held. r.0 ≡ planned_in held session)) }
+    ensures settled { IfOk result (λ r. IfKnown (S.state store.old).held (λ held. AreSettled held session r.0)) }
+    ensures reads { IfOk result (λ r. IfKnown (S.state store.old).held (λ held. IfReads (new_manifest held session) r.0)) }
     ensures report { IfOk result (λ r. IsReport r.1.text) }
     ensures report_of { IfOk result (λ r. IfKnown (S.state store.old).held (λ held. IsReportFor held session r.1)) }
     ensures store_fault { IsErrOf result UpdateFault.StoreFault → HasRisen (S.state store.old).faults (S.state store.new).faults

@@ -5,7 +5,6 @@ mod fault;
 mod finding;
 mod following;
 mod image;
-mod planning;
 mod prepare;
 mod replace;
 mod report;

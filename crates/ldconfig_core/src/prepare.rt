@@ -1,6 +1,7 @@
 //! What an update is about to write.
 ghost use Rattle.std.specs.Prelude.{◌≡◌, ◌⊎◌, ◌<◌, ◌≤◌, ℕ, false, true, length, IfErr, IfOk, IsErrOf, IsSomeAnd, IsTrue};
 ghost use Rattle.lib_types.specs.Counts.{HasRisen};
+ghost use Rattle.place_files.specs.Search.{followed};
 ghost use Rattle.tree_face.specs.Known.{IfKnown};
 ghost use Rattle.tree_face.specs.Store.{BeginsAtMost};
 ghost use Rattle.ldconfig_core.specs.Cache.{IsReport, AreTextsOf};
@@ -11,6 +12,7 @@ ghost use Rattle.ldconfig_core.specs.Image.{begun_in, planned_in};
 ghost use Rattle.ldconfig_core.specs.Outcome as outcomes;
 ghost use Rattle.ldconfig_core.specs.Outcome.{is_too_long, manifest_with, size_of, update_outcome};
 ghost use Rattle.ldconfig_core.specs.Replace.{manifest_bytes};
+ghost use Rattle.ldconfig_core.specs.Settled.{AreSettled, IfReads};
 ghost use Rattle.ldconfig_core.specs.Stages.{entries_of, said_of, texts_of, IsMadeOf};
 ghost use Rattle.ldconfig_core.specs.Update.{IsReportFor};
 ghost use Rattle.update_report.specs.Report.{report_text};
@@ -18,10 +20,11 @@ ghost use Rattle.update_report.specs.Report.{report_text};
 use crate::fault::UpdateFault;
 use crate::finding::{Found, find};
 use crate::report::Report;
+use cache_entries::entries_by;
 use lib_types::{Entries, NoMemory};
 use mtree_manifest::TEXT_MAX;
+use place_files::union;
 use soname_links::kinds::Plan;
-use soname_links::{entries, union};
 use std::alloc::Global;
 use tree_face::{Store, Tree};
 use update_report::{Findings, report, skips};
@@ -39,6 +42,7 @@ pub struct Prepared {
 fn new_manifest(alloc: Global, tree: &Tree, plan: &Plan) -> Result<Option<Vec<u8>>, UpdateFault>
     ensures text { IfOk result (λ text. manifest_bytes text ≡ manifest_with tree.now plan.now) }
     ensures short { IfOk result (λ _. is_too_long (manifest_with tree.now plan.now) ≡ false) }
+    ensures reads { IfOk result (λ text. IfReads (manifest_bytes text) tree.now) }
     ensures too_large { (nodes bytes : ℕ) → IsErrOf result (UpdateFault.TooLarge nodes bytes) →
         (nodes ≡ length tree.now) × ((bytes ≡ size_of (manifest_with tree.now plan.now)) × (is_too_long (manifest_with tree.now plan.now) ≡ true)) }
     ensures others { IfErr result (λ fault. is_size_fault fault ≡ true) }
@@ -99,7 +103,8 @@ fn count(items: usize) -> Result<u32, NoMemory>
 
 // Makes what is written of what was found in the tree with its planned links.
 fn make(alloc: Global, tree: &Tree, found: &Found) -> Result<Prepared, UpdateFault>
-    requires { IsTrue (are_spelled found.now.search.dirs.places) }
+    requires spelled { IsTrue (are_spelled found.now.search.dirs.places) }
+    requires links { found.now.followed.links ≡ followed tree.now found.now.search.dirs.places }
     ensures made { IfOk result (IsMadeOf found.now tree.now) }
     ensures too_large { (nodes bytes : ℕ) → IsErrOf result (UpdateFault.TooLarge nodes bytes) →
         (nodes ≡ length tree.now) × ((bytes ≡ size_of (manifest_with tree.now found.now.links.plan)) × (is_too_long (manifest_with tree.now found.now.links.plan) ≡ true)) }
@@ -108,7 +113,13 @@ fn make(alloc: Global, tree: &Tree, found: &Found) -> Result<Prepared, UpdateFau
     ensures others { IfErr result (λ fault. is_of_making fault ≡ true) }
 {
     let manifest = new_manifest(alloc, tree, &found.links.plan)?;
-    let entries = entries(alloc, tree, &found.search.dirs, &found.search.files.table)?;
+    let entries = entries_by(
+        alloc,
+        tree,
+        &found.search.dirs,
+        &found.search.files.table,
+        &found.followed.links,
+    )?;
     let cache = cache_writer::write(alloc, &entries)?;
     let report = report_of(alloc, found, &entries)?;
     Ok(Prepared {
@@ -125,6 +136,8 @@ pub fn prepare<S: Store>(
     store: &mut S,
 ) -> Result<Prepared, UpdateFault>
     ensures tree { IfOk result (λ _. IfKnown (S.state store.old).held (λ held. tree.new ≡ planned_in held tree.old)) }
+    ensures settled { IfOk result (λ _. IfKnown (S.state store.old).held (λ held. AreSettled held tree.old tree.new)) }
+    ensures reads { IfOk result (λ _. IfKnown (S.state store.old).held (λ held. IfReads (outcomes.new_manifest held tree.old) tree.new)) }
     ensures texts { IfOk result (λ prepared. IfKnown (S.state store.old).held (λ held. AreTextsOf held tree.old (texts_of prepared))) }
     ensures report { IfOk result (λ prepared. IsReport prepared.report.text) }
     ensures report_of { IfOk result (λ prepared. IfKnown (S.state store.old).held (λ held. IsReportFor held tree.old prepared.report)) }

@@ -14,7 +14,7 @@ use file_analyses::{Files, read_files};
 use hwcap_dirs::{Dirs, order};
 use ldso_conf::{Conf, read_conf};
 use lib_types::Texts;
-use soname_links::wanted;
+use place_files::wanted;
 use std::alloc::Global;
 use tree_face::{Store, Tree};
 

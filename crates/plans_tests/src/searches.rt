@@ -19,23 +19,30 @@ fn mixed_image(alloc: Global) -> Result<Image, ImageFault> {
     Ok(image)
 }
 
+fn are_mixed(alloc: Global, image: &Image, want: &str) -> Result<bool, ImageFault> {
+    let marks = mixed(alloc, &image.tree, &image.dirs, &image.table)?;
+    Ok(marks_in(alloc, &marks)?.as_slice() == want.as_bytes())
+}
+
 #[test]
 fn knows_mixed_sonames(rt: HostRuntime) -> Result<(), Fail> {
     let alloc = rt.alloc();
     let image = mixed_image(alloc)?;
-    let marks = mixed(alloc, &image.tree, &image.dirs, &image.table)?;
-    let want = "0 libfoo.so.1|";
-    assert_eq!(rt; marks_in(alloc, &marks)?.as_slice(), want.as_bytes());
+    assert!(rt; are_mixed(alloc, &image, "0 libfoo.so.1|")?);
     Ok(())
+}
+
+fn are_planned(alloc: Global, image: &Image, want: &str) -> Result<bool, ImageFault> {
+    let links = plan(alloc, &image.tree, &image.dirs, &image.table)?;
+    Ok(plan_in(alloc, &links)?.as_slice() == want.as_bytes())
 }
 
 #[test]
 fn plans_links_for_each_abi(rt: HostRuntime) -> Result<(), Fail> {
     let alloc = rt.alloc();
     let image = mixed_image(alloc)?;
-    let links = plan(alloc, &image.tree, &image.dirs, &image.table)?;
     let want = "0 /usr/lib/libbar.so.1>libbar.so.1.2|0 /usr/lib/libfoo.so.1>libfoo.so.1.2|";
-    assert_eq!(rt; plan_in(alloc, &links)?.as_slice(), want.as_bytes());
+    assert!(rt; are_planned(alloc, &image, want)?);
     Ok(())
 }
 
@@ -60,13 +67,27 @@ const LIBRARIES: &[Library<'_>] = &[
 
 const DIRS: &[&str] = &["/usr/lib", "/usr"];
 
+fn are_wanted(alloc: Global, image: &Image, want: &str) -> Result<bool, ImageFault> {
+    let files = wanted(alloc, &image.tree, &image.dirs)?;
+    Ok(texts_in(alloc, &files)?.as_slice() == want.as_bytes())
+}
+
+fn are_reached(alloc: Global, image: &Image, want: &str) -> Result<bool, ImageFault> {
+    let files = reached(alloc, &image.tree, &image.dirs)?;
+    Ok(texts_in(alloc, &files)?.as_slice() == want.as_bytes())
+}
+
+fn are_dangling(alloc: Global, image: &Image, want: &str) -> Result<bool, ImageFault> {
+    let links = dangling(alloc, &image.tree, &image.dirs)?;
+    Ok(texts_in(alloc, &links)?.as_slice() == want.as_bytes())
+}
+
 #[test]
 fn wants_files_with_library_names(rt: HostRuntime) -> Result<(), Fail> {
     let alloc = rt.alloc();
     let image = image_of(alloc, LINKS, LIBRARIES, DIRS)?;
-    let files = wanted(alloc, &image.tree, &image.dirs)?;
     let want = "/usr/lib/libz-1.so|/usr/lib/libz.so.1|";
-    assert_eq!(rt; texts_in(alloc, &files)?.as_slice(), want.as_bytes());
+    assert!(rt; are_wanted(alloc, &image, want)?);
     Ok(())
 }
 
@@ -74,9 +95,8 @@ fn wants_files_with_library_names(rt: HostRuntime) -> Result<(), Fail> {
 fn reaches_files_by_links(rt: HostRuntime) -> Result<(), Fail> {
     let alloc = rt.alloc();
     let image = image_of(alloc, LINKS, LIBRARIES, DIRS)?;
-    let files = reached(alloc, &image.tree, &image.dirs)?;
     let want = "/opt/real|";
-    assert_eq!(rt; texts_in(alloc, &files)?.as_slice(), want.as_bytes());
+    assert!(rt; are_reached(alloc, &image, want)?);
     Ok(())
 }
 
@@ -84,9 +104,8 @@ fn reaches_files_by_links(rt: HostRuntime) -> Result<(), Fail> {
 fn finds_dangling_links(rt: HostRuntime) -> Result<(), Fail> {
     let alloc = rt.alloc();
     let image = image_of(alloc, LINKS, LIBRARIES, DIRS)?;
-    let links = dangling(alloc, &image.tree, &image.dirs)?;
     let want = "/usr/lib/libc.so|/usr/lib/libd.so|/usr/lib/libe.so|";
-    assert_eq!(rt; texts_in(alloc, &links)?.as_slice(), want.as_bytes());
+    assert!(rt; are_dangling(alloc, &image, want)?);
     Ok(())
 }
 
@@ -130,8 +149,7 @@ fn finds_a_dangling_link_of_a_merged_image_once(rt: HostRuntime) -> Result<(), F
     let alloc = rt.alloc();
     let mut image = image_of(alloc, MERGED_LINKS, MERGED_LIBRARIES, MERGED_DIRS)?;
     put_link(alloc, &mut image.tree, "/usr/lib/libq.so", "libq.so.1")?;
-    let links = dangling(alloc, &image.tree, &image.dirs)?;
     let want = "/usr/lib/libq.so|";
-    assert_eq!(rt; texts_in(alloc, &links)?.as_slice(), want.as_bytes());
+    assert!(rt; are_dangling(alloc, &image, want)?);
     Ok(())
 }

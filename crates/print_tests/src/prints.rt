@@ -1,11 +1,11 @@
 //! What `print` writes and returns.
 use cache_reader::CacheDefect;
-use ldconfig_cli::{Status, run};
+use ldconfig_cli::Status;
 use std::alloc::Global;
 use std::process::Abort;
 use std::test::Fail;
-use tree_face::{Disk, MemDisk, MemSink, MemSource, MemStore, Slot};
-use update_fixture::{ONE_CACHE, copy, number, strings};
+use tree_face::{MemDisk, MemSink, MemSource, MemStore};
+use update_fixture::{Devices, ONE_CACHE, copy, number, run_words};
 
 const ONE_PRINT: &[u8] = b"1 libs found in cache `/etc/ld.so.cache'\n\
     \tlibz.so.1 (libc6,x86-64) => /usr/lib/libz.so.1\n\
@@ -30,32 +30,31 @@ fn slot(cache: Option<&[u8]>) -> Setting<'_> {
     }
 }
 
+fn devices_of(alloc: Global, setting: &Setting<'_>) -> Result<Devices, Fail> {
+    let cache = copy(alloc, setting.cache)?;
+    let fail = number(alloc, setting.disk_fails)?;
+    Ok(Devices {
+        store: MemStore::new(Vec::new(alloc), Vec::new(alloc)),
+        disk: MemDisk::new(alloc, None, cache, None, fail),
+        input: MemSource::new(Vec::new(alloc), Vec::new(alloc)),
+        out: MemSink::new(alloc, number(alloc, setting.out_fails)?),
+    })
+}
+
 // Runs the command, and compares the status and what was written. Nothing else may have changed.
 fn assert_print(
     rt: &impl Abort,
     alloc: Global,
-    setting: Setting<'_>,
+    setting: &Setting<'_>,
     status: Status,
     written: &[u8],
 ) -> Result<(), Fail> {
-    let mut store = MemStore::new(Vec::new(alloc), Vec::new(alloc));
-    let mut disk = MemDisk::new(
-        alloc,
-        None,
-        copy(alloc, setting.cache)?,
-        None,
-        number(alloc, setting.disk_fails)?,
-    );
-    let mut input = MemSource::new(Vec::new(alloc), Vec::new(alloc));
-    let mut out = MemSink::new(alloc, number(alloc, setting.out_fails)?);
-    let arguments = strings(alloc, &[setting.argument])?;
-    let ended = run(
-        alloc, &arguments, &mut store, &mut disk, &mut input, &mut out,
-    );
-    assert_eq!(rt; ended, status);
-    assert_eq!(rt; out.written(), written);
-    assert_eq!(rt; store.begun(), 0);
-    assert!(rt; disk.calls().is_empty());
+    let mut devices = devices_of(alloc, setting)?;
+    let ended = run_words(alloc, &[setting.argument], &mut devices)?;
+    assert!(rt; ended == status);
+    assert!(rt; devices.out.written() == written);
+    assert!(rt; devices.store.begun() == 0);
+    assert!(rt; devices.disk.calls().is_empty());
     Ok(())
 }
 
@@ -63,51 +62,55 @@ fn assert_print(
 fn caches_are_printed(rt: HostRuntime) -> Result<(), Fail> {
     let alloc = rt.alloc();
     let cache = slot(Some(ONE_CACHE));
-    assert_print(&rt, alloc, cache, Status::Done, ONE_PRINT)?;
+    assert_print(&rt, alloc, &cache, Status::Done, ONE_PRINT)?;
     let short = Setting {
         argument: "-p",
         ..cache
     };
-    assert_print(&rt, alloc, short, Status::Done, ONE_PRINT)
+    assert_print(&rt, alloc, &short, Status::Done, ONE_PRINT)
 }
+
+const BAD: &[(&[u8], CacheDefect, &[u8])] = &[
+    (
+        b"",
+        CacheDefect::Short { len: 0 },
+        b"fault: BadCache: Short 0\n",
+    ),
+    (
+        b"ld.so-1.7.0",
+        CacheDefect::OldFormat,
+        b"fault: BadCache: OldFormat\n",
+    ),
+    (
+        &[b'x'; 48],
+        CacheDefect::BadMagic,
+        b"fault: BadCache: BadMagic\n",
+    ),
+];
 
 #[test]
 fn slots_without_a_cache_are_refused(rt: HostRuntime) -> Result<(), Fail> {
     let alloc = rt.alloc();
-    assert_print(&rt, alloc, slot(None), Status::NoCache, b"fault: NoCache\n")?;
-    let other_magic = [b'x'; 48];
-    let rows: [(&[u8], CacheDefect, &[u8]); 4] = [
-        (
-            b"",
-            CacheDefect::Short { len: 0 },
-            b"fault: BadCache: Short 0\n",
-        ),
-        (
-            b"ld.so-1.7.0",
-            CacheDefect::OldFormat,
-            b"fault: BadCache: OldFormat\n",
-        ),
-        (
-            &ONE_CACHE[..169],
-            CacheDefect::BadExtension { offset: 104 },
-            b"fault: BadCache: BadExtension 104\n",
-        ),
-        (
-            &other_magic,
-            CacheDefect::BadMagic,
-            b"fault: BadCache: BadMagic\n",
-        ),
-    ];
-    for (cache, defect, line) in rows {
-        assert_print(
-            &rt,
-            alloc,
-            slot(Some(cache)),
-            Status::BadCache(defect),
-            line,
-        )?;
+    assert_print(
+        &rt,
+        alloc,
+        &slot(None),
+        Status::NoCache,
+        b"fault: NoCache\n",
+    )?;
+    for (cache, defect, line) in BAD {
+        let status = Status::BadCache(*defect);
+        assert_print(&rt, alloc, &slot(Some(*cache)), status, *line)?;
     }
-    Ok(())
+    let cut = slot(Some(&ONE_CACHE[..169]));
+    let status = Status::BadCache(CacheDefect::BadExtension { offset: 104 });
+    assert_print(
+        &rt,
+        alloc,
+        &cut,
+        status,
+        b"fault: BadCache: BadExtension 104\n",
+    )
 }
 
 #[test]
@@ -120,7 +123,7 @@ fn devices_that_fail(rt: HostRuntime) -> Result<(), Fail> {
     assert_print(
         &rt,
         alloc,
-        disk_fails,
+        &disk_fails,
         Status::DiskFault,
         b"fault: DiskFault\n",
     )?;
@@ -128,18 +131,20 @@ fn devices_that_fail(rt: HostRuntime) -> Result<(), Fail> {
         out_fails: Some(0),
         ..slot(Some(ONE_CACHE))
     };
-    assert_print(&rt, alloc, out_fails, Status::OutputFault, b"")
+    assert_print(&rt, alloc, &out_fails, Status::OutputFault, b"")
 }
+
+const ARGUMENTS: &[&str] = &["--print", "prints", "p", ""];
 
 #[test]
 fn other_arguments_are_no_command(rt: HostRuntime) -> Result<(), Fail> {
     let alloc = rt.alloc();
-    for argument in ["--print", "prints", "p", ""] {
+    for argument in ARGUMENTS {
         let setting = Setting {
             argument,
             ..slot(Some(ONE_CACHE))
         };
-        assert_print(&rt, alloc, setting, Status::Usage, b"fault: Usage\n")?;
+        assert_print(&rt, alloc, &setting, Status::Usage, b"fault: Usage\n")?;
     }
     Ok(())
 }

@@ -13,14 +13,15 @@ use Rattle.std.specs.Str.{bytes_eq}
 use Rattle.hwcap_dirs.specs.declared.kinds.Place.{Place}
 use Rattle.lib_types.proofs.SortedPairs.{by_test}
 use Rattle.tree_face.specs.Tree.{Nodes}
-use Rattle.soname_links.proofs.Ordered.{by_entries, filtered_same, keys_stay}
-use Rattle.soname_links.specs.Best.{best, bests, better, has_soname, is_preferred, sonames}
+use Rattle.place_files.proofs.Ordered.{by_entries, filtered_same, keys_stay}
+use Rattle.place_files.specs.Best.{best, bests, better, has_soname, is_preferred, sonames}
 use Rattle.soname_links.specs.Marks.{blocked_for}
-use Rattle.soname_links.specs.Order.{with_text}
-use Rattle.soname_links.specs.Plan.{is_plain, link_for}
+use Rattle.place_files.specs.Order.{with_text}
+use Rattle.place_files.specs.Places.{is_plain}
+use Rattle.soname_links.specs.Plan.{link_for}
 use Rattle.soname_links.specs.Survey.{blocked_of, group_at, group_with, groups, planned_of, with_library}
 use Rattle.soname_links.specs.declared.groups.Group.{Group}
-use Rattle.soname_links.specs.declared.kinds.Library.{Library}
+use Rattle.place_files.specs.declared.libraries.Library.{Library}
 
 -- ---- one library more
 

@@ -1,21 +1,15 @@
 -- A name in a directory has a path, and no other name has it.
-use Rattle.std.proofs.Common.{◌≡◌, ◌⊎◌, inl, inr, ℕ, true, false, cond, not, ◌&&◌, ◌==◌, nat_le, nat_eq, List, [], ◌∷◌, ◌++◌, append_assoc, length, drop, refl, ap, sym, subst, ◌∙◌}
+use Rattle.std.proofs.Common.{◌≡◌, inl, inr, ℕ, true, false, cond, not, ◌&&◌, ◌==◌, nat_le, nat_eq, List, [], ◌∷◌, ◌++◌, append_assoc, length, drop, refl, ap, sym, subst, ◌∙◌}
 use Rattle.std.proofs.lemmas.Bool.{and_from, and_parts}
-use Rattle.std.proofs.lemmas.List.Elements.{All-cons, All-nil}
 use Rattle.std.proofs.lemmas.List.Folds.{list_all-append}
-use Rattle.std.proofs.lemmas.List.Splits.{slice_split_none}
-use Rattle.std.proofs.lemmas.Slice.Eq.{bytes_eq-Decides}
-use Rattle.std.specs.List.{All, list_all, slice_split, starts_with}
+use Rattle.std.specs.List.{list_all, slice_split, starts_with}
 use Rattle.std.specs.Str.{bytes_eq}
-use Rattle.lib_types.proofs.Bools.{and_false, not_true}
-use Rattle.lib_types.proofs.SortedPairs.{by_test}
+use Rattle.lib_types.proofs.Bools.{and_false}
 use Rattle.lib_types.specs.Name.{have_no_slash, is_name, slash}
 use Rattle.path_walk.proofs.Joining.{parts_joined}
 use Rattle.path_walk.proofs.Linked.{IsFolder, join_below, name_alone}
 use Rattle.tree_face.specs.Paths.{are_names, is_path, is_slash, join, root, stem}
-use Rattle.tree_face.specs.Tree.{Nodes, kind_at}
 use Rattle.tree_face.specs.declared.path.TheConstants.{PATH_MAX}
-use Rattle.tree_face.specs.declared.tree.Kind.TheVariants.{Absent, Dir}
 
 -- ---- the path of a name
 

@@ -10,7 +10,7 @@ use Rattle.tree_face.specs.Index.{has_file_above}
 use Rattle.tree_face.specs.Node.{is_dir}
 use Rattle.tree_face.specs.Paths.{is_below, is_path, join, root}
 use Rattle.tree_face.specs.Tree as tree
-use Rattle.tree_face.specs.Tree.{Nodes, IsPathSorted, children_of, clashes, has_below, kind_at, kind_of, kind_there, names_below, node_at, of_dir}
+use Rattle.tree_face.specs.Tree.{Nodes, clashes, has_below, kind_at, kind_there, node_at}
 use Rattle.tree_face.specs.declared.node.Node.{Node}
 use Rattle.tree_face.specs.declared.node.Node.TheVariants as node
 use Rattle.tree_face.specs.declared.tree.Kind.{Kind}
@@ -18,8 +18,8 @@ use Rattle.tree_face.specs.declared.tree.Kind.TheVariants.{Absent, Dir, File, Li
 use Rattle.soname_links.proofs.Put.{any_put, put_here, put_other}
 use Rattle.soname_links.specs.Plan.{is_taken}
 use Rattle.path_walk.specs.Files.{is_file}
-use Rattle.soname_links.specs.Children.{is_file_node}
-use Rattle.soname_links.specs.Search.{file_in}
+use Rattle.place_files.specs.Children.{is_file_node}
+use Rattle.place_files.specs.Search.{file_in}
 
 -- no node, or a link
 abbrev pub is_open : Option Node → Bool

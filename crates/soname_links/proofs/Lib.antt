@@ -1,24 +1,17 @@
 mod Abis
-mod Ascending
-mod Children
-mod Choosing
+pub mod Alone
+mod Clear
 mod Counted
-pub mod Fit
 mod Grouped
 mod Joined
-mod KindsAt
+pub mod KindsAt
 mod Linked
-mod Links
-mod Mapped
-mod Members
-mod Named
+pub mod Links
+pub mod Named
 mod OneText
-mod Ordered
-mod Put
-mod Ranks
+pub mod Put
+pub mod Rooms
 mod Settled
-pub mod Single
-mod Sorts
 mod Spots
 mod Stays
 mod Targets

@@ -16,15 +16,15 @@ use Rattle.tree_face.proofs.Rising.{below_rest, children_sorted}
 use Rattle.tree_face.specs.Index.{has_file_above}
 use Rattle.tree_face.specs.Paths.{folder, is_below, is_slash, join, name_behind}
 use Rattle.tree_face.specs.Tree as tree
-use Rattle.tree_face.specs.Tree.{Nodes, IsPathSorted, children_of, clashes, has_below, kind_at, kind_there, names_below, node_at, of_dir}
+use Rattle.tree_face.specs.Tree.{Nodes, IsPathSorted, children_of, clashes, kind_at, names_below, node_at, of_dir}
 use Rattle.tree_face.specs.declared.node.Node.TheVariants as node
 use Rattle.tree_face.specs.declared.tree.Kind.TheVariants.{Dir}
-use Rattle.soname_links.proofs.Members.{AreSorted, left_out, same_left}
-use Rattle.soname_links.proofs.Ordered.{filtered_same}
+use Rattle.place_files.proofs.Members.{AreSorted, left_out, same_left}
+use Rattle.place_files.proofs.Ordered.{filtered_same}
 use Rattle.soname_links.proofs.Put.{above_found, is_other, names_same, others_same}
 use Rattle.path_walk.specs.Files.{is_file}
-use Rattle.soname_links.specs.Children.{is_file_node}
-use Rattle.soname_links.specs.Search.{file_in}
+use Rattle.place_files.specs.Children.{is_file_node}
+use Rattle.place_files.specs.Search.{file_in}
 use Rattle.soname_links.proofs.KindsAt.{dir_kept, file_in_same, file_node, is_open, no_file, none_above, some_file}
 
 not_false : (b : Bool) → not b ≡ false → b ≡ true

@@ -13,13 +13,14 @@ use Rattle.tree_face.specs.Tree.{Nodes, IsTree, children_of, kind_at}
 use Rattle.path_walk.proofs.Linked.{folder_of_dir}
 use Rattle.soname_links.proofs.Joined.{join_same}
 use Rattle.soname_links.proofs.Links.{IsLinkFor, all_links}
-use Rattle.soname_links.proofs.Named.{best_has, best_named, is_dir_kind}
+use Rattle.place_files.proofs.Named.{best_has, best_named}
+use Rattle.soname_links.proofs.Named.{is_dir_kind}
 use Rattle.soname_links.proofs.Stays.{are_same, is_same_link}
-use Rattle.soname_links.specs.Best.{best}
-use Rattle.soname_links.specs.Libraries.{libraries_in, library_in}
+use Rattle.place_files.specs.Best.{best}
+use Rattle.place_files.specs.Libraries.{libraries_in, library_in}
 use Rattle.soname_links.specs.Plan.{links}
-use Rattle.soname_links.specs.Table.{Analyses, have_names}
-use Rattle.soname_links.specs.declared.kinds.Library.{Library}
+use Rattle.place_files.specs.Table.{Analyses, have_names}
+use Rattle.place_files.specs.declared.libraries.Library.{Library}
 use Rattle.soname_links.specs.declared.kinds.Planned.{Planned}
 
 module _ (table : Analyses) (named : have_names table ≡ true) (t : Nodes) (tree : IsTree t) where

@@ -11,6 +11,7 @@ use Rattle.std.specs.Str.{bytes_eq}
 use Rattle.std.specs.declared.cmp.Ordering.TheVariants.{Less, Equal, Greater}
 use Rattle.lib_types.proofs.Bools.{and_false}
 use Rattle.lib_types.proofs.SortedPairs.{by_ordering, by_test, put_step}
+use Rattle.place_files.proofs.Either.{swapped, twice}
 use Rattle.tree_face.proofs.Above.{found_any}
 use Rattle.tree_face.proofs.Below.{exact}
 use Rattle.tree_face.proofs.Order.{path_total}
@@ -31,15 +32,6 @@ at_other : (p q : List ℕ) → bytes_eq p q ≡ false → is_at (path_cmp p) q 
 at_other p q other = by_test (is_at (path_cmp p) q)
     (λ e. let same : bytes_eq p q ≡ true = (bytes_eq-Decides p q).1 (at_same p q e) in absurd (cc))
     (λ e. e)
-
-pub twice : (a b : Bool) → (a || b) ≡ (a || (a || b))
-twice true b = refl
-twice false b = refl
-
-pub swapped : (a b c : Bool) → (a || (b || c)) ≡ (b || (a || c))
-swapped true true c = refl
-swapped true false c = refl
-swapped false b c = refl
 
 module _ (path : List ℕ) (node : Node) where
   pub put_here : (t : Nodes) → node_at (tree.put t path node) path ≡ Some node

@@ -11,21 +11,20 @@ use Rattle.lib_types.proofs.SortedPairs.{by_test}
 use Rattle.tree_face.specs.Paths.{is_path, join}
 use Rattle.tree_face.specs.Tree.{Nodes, IsTree, kind_at, node_at}
 use Rattle.tree_face.specs.declared.path.TheConstants.{PATH_MAX}
-use Rattle.path_walk.proofs.Linked.{folder_of_dir}
-use Rattle.soname_links.proofs.Joined.{join_same}
 use Rattle.soname_links.proofs.KindsAt.{open_free}
 use Rattle.soname_links.proofs.Links.{all_links, link_is}
 use Rattle.soname_links.proofs.Named.{is_dir_kind}
 use Rattle.soname_links.proofs.Stays.{IsReady, are_open, dirs_stay, files_stay, link_stays, links_there, taken_stay}
 use Rattle.soname_links.specs.Apply.{are_clear, is_link, is_plan}
-use Rattle.soname_links.specs.Best.{best, bests, sonames}
-use Rattle.soname_links.specs.Libraries.{libraries_in, library_at}
-use Rattle.soname_links.specs.Order.{ascending}
-use Rattle.soname_links.specs.Plan.{by_place, is_blocked, is_link_to, is_plain, is_regarded, is_taken, link_for, links, links_in, links_to, with_links}
-use Rattle.soname_links.specs.Search.{files_in, wanted}
+use Rattle.place_files.specs.Best.{best, bests, sonames}
+use Rattle.place_files.specs.Libraries.{libraries_in, library_at}
+use Rattle.place_files.specs.Order.{ascending}
+use Rattle.place_files.specs.Places.{by_place, is_link_to, is_plain, links_to}
+use Rattle.soname_links.specs.Plan.{is_blocked, is_regarded, is_taken, link_for, links, links_in, with_links}
+use Rattle.place_files.specs.Search.{files_in, wanted}
 use Rattle.soname_links.specs.Settled.{IsSettled, Settles}
-use Rattle.soname_links.specs.Table.{Analyses, have_names}
-use Rattle.soname_links.specs.declared.kinds.Library.{Library}
+use Rattle.place_files.specs.Table.{Analyses, have_names}
+use Rattle.place_files.specs.declared.libraries.Library.{Library}
 use Rattle.soname_links.specs.declared.kinds.Planned.{Planned}
 use Rattle.soname_links.proofs.OneText.{all_same, one_text}
 

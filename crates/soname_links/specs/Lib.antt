@@ -1,16 +1,5 @@
 pub mod Apply
-pub mod Best
-pub mod Children
-pub mod Entries
-pub mod Libraries
 pub mod Marks
-pub mod Order
-pub mod Parts
-pub mod Pick
 pub mod Plan
-pub mod Ranked
-pub mod Search
 pub mod Settled
 pub mod Survey
-pub mod Table
-pub mod Winner

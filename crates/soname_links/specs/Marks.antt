@@ -5,12 +5,13 @@ use Rattle.hwcap_dirs.specs.declared.kinds.Place.{Place}
 use Rattle.lib_types.specs.Abi.{flags_of}
 use Rattle.tree_face.specs.Paths.{join}
 use Rattle.tree_face.specs.Tree.{Nodes}
-use Rattle.soname_links.specs.Best.{best, bests}
-use Rattle.soname_links.specs.Libraries.{libraries_in}
-use Rattle.soname_links.specs.Order.{ascending}
-use Rattle.soname_links.specs.Plan.{by_place, is_blocked, is_plain, is_regarded}
-use Rattle.soname_links.specs.Table.{Analyses}
-use Rattle.soname_links.specs.declared.kinds.Library.{Library}
+use Rattle.place_files.specs.Best.{best, bests}
+use Rattle.place_files.specs.Libraries.{libraries_in}
+use Rattle.place_files.specs.Order.{ascending}
+use Rattle.place_files.specs.Places.{by_place, is_plain}
+use Rattle.soname_links.specs.Plan.{is_blocked, is_regarded}
+use Rattle.place_files.specs.Table.{Analyses}
+use Rattle.place_files.specs.declared.libraries.Library.{Library}
 use Rattle.soname_links.specs.declared.kinds.Mark.{Mark}
 
 abbrev pub mark : ℕ → List ℕ → Mark

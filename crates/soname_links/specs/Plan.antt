@@ -1,31 +1,20 @@
 -- The links that are planned (ldconfig(8): a link of the soname's name to the library's file).
-use Rattle.std.specs.Prelude.{ℕ, ◌+◌, Bool, true, false, List, [], ◌∷◌, ◌++◌, ◌&&◌, ◌||◌, not, nat_lt, if◌then◌else◌, length, fold, Option, Some, None}
+use Rattle.std.specs.Prelude.{ℕ, Bool, true, false, List, [], ◌&&◌, ◌||◌, not, nat_lt, if◌then◌else◌, length, fold, Option, Some, None}
 use Rattle.std.specs.List.{filter_map}
-use Rattle.std.specs.Option.{is_none}
-use Rattle.std.specs.Str.{bytes_eq}
 use Rattle.hwcap_dirs.specs.declared.kinds.Place.{Place}
 use Rattle.name_order.specs.LibraryName.{is_library_name}
 use Rattle.tree_face.specs.Paths.{join}
-use Rattle.tree_face.specs.Tree.{Nodes, kind_at, node_at, put}
-use Rattle.tree_face.specs.declared.node.Node.{Node}
-use Rattle.tree_face.specs.declared.node.Node.TheVariants.{Dir, File, Link}
+use Rattle.tree_face.specs.Tree.{Nodes, kind_at, put}
+use Rattle.tree_face.specs.declared.node.Node.TheVariants.{Link}
 use Rattle.tree_face.specs.declared.path.TheConstants.{PATH_MAX}
 use Rattle.tree_face.specs.declared.tree.Kind.{Kind}
 use Rattle.tree_face.specs.declared.tree.Kind.TheVariants as kinds
-use Rattle.soname_links.specs.Best.{is_own, bests}
-use Rattle.soname_links.specs.Libraries.{libraries_in}
-use Rattle.soname_links.specs.Table.{Analyses}
-use Rattle.soname_links.specs.declared.kinds.Library.{Library}
+use Rattle.place_files.specs.Best.{is_own, bests}
+use Rattle.place_files.specs.Libraries.{libraries_in}
+use Rattle.place_files.specs.Places.{by_place, is_plain, links_to}
+use Rattle.place_files.specs.Table.{Analyses}
+use Rattle.place_files.specs.declared.libraries.Library.{Library}
 use Rattle.soname_links.specs.declared.kinds.Planned.{Planned}
-
--- what each place has, with its number, in their order
-abbrev pub by_place : {A : Type 0} → (ℕ → Place → List A) → ℕ → List Place → List A
-by_place has number [] = []
-by_place has number (place ∷ places) = has number place ++ by_place has (number + 1) places
-
--- not a subdirectory for processors
-abbrev pub is_plain : Place → Bool
-is_plain place = is_none place.cap
 
 -- the best library of its soname wants a link: the soname is a library name, and no file of that soname has it as its name
 abbrev pub is_regarded : Library → Bool
@@ -41,16 +30,6 @@ is_taken kinds.Link = false
 -- no link can be at this path
 abbrev pub is_blocked : Nodes → List ℕ → Bool
 is_blocked t path = nat_lt PATH_MAX (length path) || is_taken (kind_at t path)
-
-abbrev pub is_link_to : List ℕ → Option Node → Bool
-is_link_to text (Some (Link target)) = bytes_eq target text
-is_link_to text (Some Dir) = false
-is_link_to text (Some (File key id)) = false
-is_link_to text None = false
-
--- there is a link with this text at the path
-abbrev pub links_to : Nodes → List ℕ → List ℕ → Bool
-links_to t path text = is_link_to text (node_at t path)
 
 -- the link for the best library of a soname, if it isn't there and isn't blocked
 abbrev pub link_for : Nodes → ℕ → Place → Library → Option Planned

@@ -1,5 +1,5 @@
 //! The tree with the links that are planned.
-ghost use Rattle.std.specs.Prelude.{◌≡◌, ◌≤◌, ◌++◌, false, All, IfErr, IfOk, IsTrue, OnErr, OnOk, length};
+ghost use Rattle.std.specs.Prelude.{◌≡◌, ◌≤◌, false, All, IfErr, IfOk, IsTrue, OnErr, OnOk, length};
 ghost use Rattle.lib_types.specs.Name.{is_name};
 ghost use Rattle.tree_face.specs.Paths.{is_path};
 ghost use Rattle.tree_face.specs.Tree.{clashes};
@@ -9,9 +9,9 @@ ghost use Rattle.soname_links.specs.Apply.{are_clear, is_link, is_plan, new_path
 ghost use Rattle.soname_links.specs.Plan.{with_link, with_links};
 ghost use Rattle.soname_links.specs.Settled.{Settles};
 
-use crate::key::ascending;
 use crate::kinds::{ApplyFault, Plan, Planned};
 use lib_types::{NoMemory, Text, Texts, is_name};
+use place_files::ascending;
 use std::alloc::Global;
 use tree_face::{NODES_MAX, Node, Tree, is_path};
 
@@ -38,7 +38,7 @@ fn new_paths(alloc: Global, tree: &Tree, plan: &[Planned]) -> Result<Texts, NoMe
     ascending(alloc, paths)
 }
 
-// Puts a link.
+// Puts a link. One that would clash is answered with NoMemory as well.
 #[tactic(auto, using(crate::proofs::Targets::name_is_target))]
 fn put_link(alloc: Global, tree: &mut Tree, planned: &Planned) -> Result<(), NoMemory>
     requires path { IsTrue (is_path planned.now.path) }
@@ -89,11 +89,13 @@ pub fn is_plan(plan: &Plan) -> bool
 /// Puts the links of a plan into the tree.
 ///
 /// A plan that was made for this tree has links only where there is a link or nothing, in its directories. Once they are put,
-/// a plan for the same places and analyses has none.
+/// a plan for the same places and analyses has none. Where a link would clash the answer is NoMemory as well; no link of a plan
+/// that was made for this tree does.
 #[tactic(auto, using(crate::proofs::Counted::nodes_counted, crate::proofs::Targets::paths_of, crate::proofs::Targets::files_of))]
 pub fn apply(alloc: Global, tree: &mut Tree, plan: &Plan) -> Result<(), ApplyFault>
     requires { IsTrue (is_plan plan.now) }
     ensures done { OnOk result (tree.new ≡ with_links tree.old plan.now) }
+    ensures clear { OnOk result (IsTrue (are_clear tree.old plan.now)) }
     ensures settled { OnOk result (Settles tree.old plan.now tree.new) }
     ensures nodes { nodes_with tree.old plan.now ≡ length (with_links tree.old plan.now) }
     ensures few { OnOk result (nodes_with tree.old plan.now ≤ NODES_MAX) }

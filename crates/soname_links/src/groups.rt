@@ -4,19 +4,15 @@ ghost use Rattle.std.specs.BTreeMap.{get, keys, IsOrdered};
 ghost use Rattle.std.specs.Cmp.Lexicographic.{slice_cmp};
 ghost use Rattle.std.specs.Ordering.{nat_cmp};
 ghost use Rattle.std.specs.Str.{bytes_eq};
-ghost use Rattle.soname_links.specs.Best.{sonames};
-ghost use Rattle.soname_links.specs.Libraries.{libraries_in};
+ghost use Rattle.place_files.specs.Best.{sonames};
+ghost use Rattle.place_files.specs.Libraries.{libraries_in};
 ghost use Rattle.soname_links.specs.Marks.{is_odd};
-ghost use Rattle.soname_links.specs.Order.{with_text};
+ghost use Rattle.place_files.specs.Order.{with_text};
 ghost use Rattle.soname_links.specs.Survey.{group_at, groups, grown, with_library};
 
-use crate::best::is_preferred;
-use crate::key::Key;
-use crate::kinds::Library;
-use crate::libraries::libraries_in;
-use crate::table::Table;
 use hwcap_dirs::Place;
 use lib_types::{NoMemory, Text};
+use place_files::{Key, Library, Table, is_preferred, libraries_in};
 use std::alloc::Global;
 use std::collections::BTreeMap;
 use tree_face::Tree;
@@ -72,7 +68,7 @@ fn add(alloc: Global, groups: &mut Groups, library: Library) -> Result<(), NoMem
 }
 
 // The libraries of each soname, by a map.
-#[tactic(auto, unfolding(crate::specs::Order::ascending))]
+#[tactic(auto, unfolding(place_files::specs::Order::ascending))]
 fn gathered(alloc: Global, libraries: Vec<Library>) -> Result<Groups, NoMemory>
     ensures keys { IfOk result (λ found. keys found ≡ sonames libraries.items) }
     ensures group { IfOk result (λ found. (soname : List ℕ) → get (slice_cmp nat_cmp) found soname ≡ group_at libraries.items soname) }

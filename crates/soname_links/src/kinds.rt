@@ -1,7 +1,9 @@
 //! What is planned for an image, and what is reported of its sonames.
 ghost use Rattle.std.specs.Prelude.{◌≡◌};
 
-use lib_types::{Abi, NoMemory, Seq, Text};
+pub use cache_entries::EntryFault;
+use lib_types::{NoMemory, Seq, Text};
+pub use place_files::Library;
 
 /// A link that is planned.
 #[derive(Drop)]
@@ -37,32 +39,6 @@ pub struct Survey {
     pub blocked: Marks,
     /// The sonames of which a place has libraries with different ABIs.
     pub mixed: Marks,
-}
-
-/// A library of a place: the name of its file or of a link to it, and the soname by which it is looked up.
-#[derive(Drop)]
-pub struct Library {
-    pub name: Text,
-    pub soname: Text,
-    pub abi: Abi,
-}
-
-/// Why an image has no list of entries.
-#[derive(Clone, Copy, Debug, PartialEq, Eq)]
-pub enum EntryFault {
-    /// More entries than a cache may have.
-    TooMany { count: u64 },
-    NoMemory,
-}
-
-impl From<NoMemory> for EntryFault {
-    ghost use Rattle.soname_links.specs.declared.kinds.EntryFault.TheVariants as faults;
-
-    ghost from_gives = { λ _ e. e ≡ faults.NoMemory };
-
-    fn from(_: NoMemory) -> Self {
-        EntryFault::NoMemory
-    }
 }
 
 /// Why links weren't all put into a tree.

@@ -4,9 +4,9 @@ ghost use Rattle.soname_links.specs.Marks.{blocked, mixed};
 
 use crate::kinds::Marks;
 use crate::surveying::survey;
-use crate::table::Table;
 use hwcap_dirs::Dirs;
 use lib_types::NoMemory;
+use place_files::Table;
 use std::alloc::Global;
 use tree_face::Tree;
 

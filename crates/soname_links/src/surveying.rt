@@ -2,22 +2,19 @@
 ghost use Rattle.std.specs.Prelude.{◌≡◌, ◌∷◌, ◌++◌, [], IfOk, IsTrue, OnOk};
 ghost use Rattle.std.specs.List.{filter_map};
 ghost use Rattle.hwcap_dirs.specs.Places.{are_dirs};
-ghost use Rattle.soname_links.specs.Apply.{is_plan};
+ghost use Rattle.soname_links.specs.Apply.{are_clear, is_plan};
 ghost use Rattle.soname_links.specs.Marks.{blocked, blocked_for, blocked_in, mixed, mixed_in};
 ghost use Rattle.soname_links.specs.Plan.{is_regarded, is_taken, link_for, links, links_in};
 ghost use Rattle.soname_links.specs.Survey.{blocked_of, mixed_of, planned_of, spot_at, spot_by};
-ghost use Rattle.soname_links.specs.Table.{have_names};
+ghost use Rattle.place_files.specs.Table.{have_names};
 
-use crate::best::is_own;
 use crate::groups::{Group, groups_in};
-use crate::key::Key;
-use crate::kinds::{Library, Mark, Planned, Survey};
-use crate::planning::is_plain;
-use crate::table::Table;
+use crate::kinds::{Mark, Planned, Survey};
 use hwcap_dirs::{Dirs, Place};
 use lib_types::{NoMemory, Seq};
 use name_order::is_library_name;
 use path_walk::join;
+use place_files::{Key, Library, Table, is_own, is_plain};
 use std::alloc::Global;
 use tree_face::{Kind, Node, PATH_MAX, Tree};
 
@@ -182,12 +179,13 @@ fn surveyed(alloc: Global, tree: &Tree, dirs: &Dirs, table: &Table) -> Result<Su
     Ok(survey)
 }
 
-/// What is planned and what is reported of the places, in one pass over each. The links can be put into the tree if the places
-/// are directories of it.
-#[tactic(auto, using(crate::proofs::Named::links_named))]
+/// What is planned and what is reported of the places, in one pass over each. The links can be put into the tree one after
+/// another if the places are directories of it: none of them clashes.
+#[tactic(auto, using(crate::proofs::Named::links_named, crate::proofs::Clear::links_clear))]
 pub fn survey(alloc: Global, tree: &Tree, dirs: &Dirs, table: &Table) -> Result<Survey, NoMemory>
     ensures plan { IfOk result (λ survey. survey.plan ≡ links table.now tree.now dirs.now.places) }
     ensures is_plan { IfOk result (λ survey. IsTrue (are_dirs tree.now dirs.now.places) → IsTrue (is_plan survey.plan)) }
+    ensures clear { IfOk result (λ survey. IsTrue (are_dirs tree.now dirs.now.places) → IsTrue (are_clear tree.now survey.plan)) }
     ensures names { IsTrue (have_names table.now) }
     ensures blocked { IfOk result (λ survey. survey.blocked ≡ blocked table.now tree.now dirs.now.places) }
     ensures mixed { IfOk result (λ survey. survey.mixed ≡ mixed table.now tree.now dirs.now.places) }

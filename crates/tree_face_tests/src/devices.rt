@@ -18,21 +18,40 @@ fn held(alloc: Global) -> Result<Vec<(Text, Text)>, Fail> {
     Ok(pairs)
 }
 
-fn assert_store<S: Store>(rt: &impl Abort, store: &mut S) -> Result<(), Fail> {
-    for (at, count, want) in [
-        (0, 3, *b"fir"),
-        (2, 3, *b"rst"),
-        (4, 1, *b"t--"),
-        (5, 0, *b"---"),
-        (u64::MAX, 0, *b"---"),
-    ] {
-        let mut buf = *b"---";
-        assert_eq!(rt; store.begin(b"a")?, 5);
-        assert_eq!(rt; store.read_at(at, &mut buf)?, count, "at {at}");
-        assert_eq!(rt; buf, want, "at {at}");
+fn store_of(alloc: Global, fail: &[u64]) -> Result<MemStore, Fail> {
+    Ok(MemStore::new(held(alloc)?, Vec::from_slice(alloc, fail)?))
+}
+
+// What is read of the key `a` at an offset into three bytes, and how many they are.
+const READINGS: &[(u64, usize, [u8; 3])] = &[
+    (0, 3, *b"fir"),
+    (2, 3, *b"rst"),
+    (4, 1, *b"t--"),
+    (5, 0, *b"---"),
+    (u64::MAX, 0, *b"---"),
+];
+
+fn begins<S: Store>(store: &mut S, key: &[u8], size: u64) -> bool {
+    store.begin(key) == Ok(size)
+}
+
+fn reads<S: Store>(store: &mut S, at: u64, count: usize, want: [u8; 3]) -> Result<bool, Failed> {
+    let mut buf = *b"---";
+    let size = store.begin(b"a")?;
+    let found = store.read_at(at, &mut buf)?;
+    Ok(size == 5 && found == count && buf == want)
+}
+
+fn assert_store<S: Store>(rt: &impl Abort, store: &mut S) -> Result<(), Failed> {
+    for (at, count, want) in READINGS {
+        assert!(rt; reads(store, *at, *count, *want)?, "at {at}");
     }
-    assert_eq!(rt; store.begin(b"b")?, 0);
+    assert!(rt; begins(store, b"b", 0));
     Ok(())
+}
+
+fn begin_fails<S: Store>(store: &mut S, key: &[u8]) -> bool {
+    store.begin(key).is_err()
 }
 
 #[test]
@@ -41,11 +60,11 @@ fn stores_give_what_they_hold(rt: HostRuntime) -> Result<(), Fail> {
     let mut sure = SureStore::new(held(alloc)?);
     assert_store(&rt, &mut sure)?;
     assert_eq!(rt; sure.begun(), 6);
-    assert!(rt; sure.begin(b"c").is_err());
-    let mut store = MemStore::new(held(alloc)?, Vec::new(alloc));
+    assert!(rt; begin_fails(&mut sure, b"c"));
+    let mut store = store_of(alloc, &[])?;
     assert_store(&rt, &mut store)?;
     assert_eq!(rt; store.begun(), 6);
-    assert!(rt; store.begin(b"c").is_err());
+    assert!(rt; begin_fails(&mut store, b"c"));
     Ok(())
 }
 
@@ -60,8 +79,7 @@ fn read_twice<S: Store>(store: &mut S) -> Result<(bool, bool), Failed> {
 
 #[test]
 fn a_store_fails_on_demand(rt: HostRuntime) -> Result<(), Fail> {
-    let alloc = rt.alloc();
-    let mut store = MemStore::new(held(alloc)?, Vec::from_slice(alloc, &[0, 2, 6])?);
+    let mut store = store_of(rt.alloc(), &[0, 2, 6])?;
     assert_eq!(rt; read_twice(&mut store), Err(Failed));
     assert_eq!(rt; read_twice(&mut store), Ok((false, true)));
     assert_eq!(rt; read_twice(&mut store), Ok((true, false)));
@@ -77,44 +95,63 @@ fn replace<D: Disk>(disk: &mut D, tag: Tag, slot: Slot, bytes: &[u8]) -> Result<
     disk.settle(slot)
 }
 
-fn assert_slot<D: Disk>(
-    rt: &impl Abort,
-    alloc: Global,
-    disk: &mut D,
-    slot: Slot,
-    want: Option<&[u8]>,
-) -> Result<(), Fail> {
-    let found = disk.read(alloc, slot)?;
-    assert_eq!(rt; found.as_ref().map(|v| v.as_slice()), want, "{slot:?}");
-    Ok(())
+// Whether the slot holds these bytes, or nothing if they are None.
+fn has<D: Disk>(alloc: Global, disk: &mut D, slot: Slot, want: Option<&[u8]>) -> bool {
+    match (disk.read(alloc, slot), want) {
+        (Ok(Some(found)), Some(want)) => found.as_slice() == want,
+        (Ok(None), None) => true,
+        _ => false,
+    }
 }
 
 fn assert_disk<D: Disk>(rt: &impl Abort, alloc: Global, disk: &mut D) -> Result<(), Fail> {
     for slot in [Slot::Manifest, Slot::Cache, Slot::Aux] {
-        assert_slot(rt, alloc, disk, slot, None)?;
+        assert!(rt; has(alloc, disk, slot, None), "{slot:?}");
         replace(disk, Tag(1), slot, b"first")?;
-        assert_slot(rt, alloc, disk, slot, Some(b"first"))?;
+        assert!(rt; has(alloc, disk, slot, Some(b"first")), "{slot:?}");
         replace(disk, Tag(2), slot, b"second")?;
-        assert_slot(rt, alloc, disk, slot, Some(b"second"))?;
+        assert!(rt; has(alloc, disk, slot, Some(b"second")), "{slot:?}");
     }
-    assert_slot(rt, alloc, disk, Slot::Manifest, Some(b"second"))
+    assert!(rt; has(alloc, disk, Slot::Manifest, Some(b"second")));
+    Ok(())
 }
+
+// A disk with this in its Cache slot, whose calls of these numbers fail.
+fn disk_of(alloc: Global, cache: Option<&[u8]>, fail: &[u64]) -> Result<MemDisk, Fail> {
+    let cache = match cache {
+        Some(bytes) => Some(Vec::from_slice(alloc, bytes)?),
+        None => None,
+    };
+    let fail = Vec::from_slice(alloc, fail)?;
+    Ok(MemDisk::new(alloc, None, cache, None, fail))
+}
+
+const SETTLED: DoneCall = DoneCall {
+    tag: Tag(0),
+    slot: Slot::Aux,
+    call: Call::Settle,
+};
 
 #[test]
 fn disks_keep_what_is_published(rt: HostRuntime) -> Result<(), Fail> {
     let alloc = rt.alloc();
     let mut sure = SureDisk::new(alloc, None, None, None);
     assert_disk(&rt, alloc, &mut sure)?;
-    let mut disk = MemDisk::new(alloc, None, None, None, Vec::new(alloc));
+    let mut disk = disk_of(alloc, None, &[])?;
     assert_disk(&rt, alloc, &mut disk)?;
     assert_eq!(rt; disk.calls().len(), 30);
-    let settled = DoneCall {
-        tag: Tag(0),
-        slot: Slot::Aux,
-        call: Call::Settle,
-    };
-    assert_eq!(rt; disk.calls().last().copied(), Some(settled));
+    assert!(rt; disk.calls().last() == Some(&SETTLED));
     Ok(())
+}
+
+// How the reading of the Cache slot fails.
+fn reading_fault(alloc: Global, disk: &mut MemDisk) -> Option<DiskRead> {
+    disk.read(alloc, Slot::Cache).err()
+}
+
+// Whether the replacing of the Cache slot fails.
+fn replacing_fails(disk: &mut MemDisk, tag: Tag, bytes: &[u8]) -> bool {
+    replace(disk, tag, Slot::Cache, bytes).is_err()
 }
 
 // Call 0 reads, and the calls 1 to 5 replace.
@@ -122,17 +159,17 @@ fn disks_keep_what_is_published(rt: HostRuntime) -> Result<(), Fail> {
 fn each_call_of_a_disk_fails_on_demand(rt: HostRuntime) -> Result<(), Fail> {
     let alloc = rt.alloc();
     for call in 0..6 {
-        let mut fail = Vec::new(alloc);
-        fail.push(call)?;
-        let old = Vec::from_slice(alloc, b"old")?;
-        let mut disk = MemDisk::new(alloc, None, Some(old), None, fail);
-        assert_eq!(rt; disk.read(alloc, Slot::Cache).is_err(), call == 0);
-        let done = replace(&mut disk, Tag(3), Slot::Cache, b"new");
-        assert_eq!(rt; done.is_err(), call > 0, "call {call}");
+        let mut disk = disk_of(alloc, Some(b"old"), &[call])?;
+        assert!(rt; reading_fault(alloc, &mut disk).is_some() == (call == 0));
+        let failed = replacing_fails(&mut disk, Tag(3), b"new");
+        assert!(rt; failed == (call > 0), "call {call}");
         let made = if call == 0 { 5 } else { call - 1 };
-        assert_eq!(rt; disk.calls().len() as u64, made, "call {call}");
+        assert!(rt; disk.calls().len() as u64 == made, "call {call}");
         let want = if made < 4 { b"old" } else { b"new" };
-        assert_slot(&rt, alloc, &mut disk, Slot::Cache, Some(want))?;
+        assert!(rt;
+            has(alloc, &mut disk, Slot::Cache, Some(want)),
+            "call {call}"
+        );
     }
     Ok(())
 }
@@ -140,53 +177,72 @@ fn each_call_of_a_disk_fails_on_demand(rt: HostRuntime) -> Result<(), Fail> {
 #[test]
 fn a_disk_stops(rt: HostRuntime) -> Result<(), Fail> {
     let alloc = rt.alloc();
-    let mut disk = MemDisk::new(alloc, None, None, None, Vec::new(alloc));
+    let mut disk = disk_of(alloc, None, &[])?;
     disk.stop_after(5);
-    assert_slot(&rt, alloc, &mut disk, Slot::Cache, None)?;
+    assert!(rt; has(alloc, &mut disk, Slot::Cache, None));
     replace(&mut disk, Tag(0), Slot::Cache, b"new")?;
-    assert!(rt; matches!(disk.read(alloc, Slot::Cache), Err(DiskRead::Failed)));
-    assert_eq!(rt;
-        replace(&mut disk, Tag(0), Slot::Cache, b"newer"),
-        Err(Failed)
-    );
+    assert!(rt; matches!(reading_fault(alloc, &mut disk), Some(DiskRead::Failed)));
+    assert!(rt; replacing_fails(&mut disk, Tag(0), b"newer"));
     disk.stop_after(1);
-    assert_slot(&rt, alloc, &mut disk, Slot::Cache, Some(b"new"))
+    assert!(rt; has(alloc, &mut disk, Slot::Cache, Some(b"new")));
+    Ok(())
 }
 
-fn assert_source<I: Source>(rt: &impl Abort, source: &mut I) -> Result<(), Fail> {
-    for (count, want) in [(3, *b"abc"), (2, *b"de-"), (0, *b"---"), (0, *b"---")] {
-        let mut buf = *b"---";
-        assert_eq!(rt; source.read(&mut buf)?, count);
-        assert_eq!(rt; buf, want);
+// What a source of `abcde` gives, three bytes at a time, and how many they are.
+const PARTS: &[(usize, [u8; 3])] = &[(3, *b"abc"), (2, *b"de-"), (0, *b"---"), (0, *b"---")];
+
+fn gives<I: Source>(source: &mut I, count: usize, want: [u8; 3]) -> bool {
+    let mut buf = *b"---";
+    source.read(&mut buf) == Ok(count) && buf == want
+}
+
+fn assert_source<I: Source>(rt: &impl Abort, source: &mut I) {
+    for (count, want) in PARTS {
+        assert!(rt; gives(source, *count, *want));
     }
-    Ok(())
+}
+
+fn source_of(alloc: Global, bytes: &[u8], fail: &[u64]) -> Result<MemSource, Fail> {
+    let bytes = Vec::from_slice(alloc, bytes)?;
+    Ok(MemSource::new(bytes, Vec::from_slice(alloc, fail)?))
+}
+
+fn read_one<I: Source>(source: &mut I) -> Result<usize, Failed> {
+    source.read(&mut [0; 1])
 }
 
 #[test]
 fn sources_give_their_bytes(rt: HostRuntime) -> Result<(), Fail> {
     let alloc = rt.alloc();
-    assert_source(&rt, &mut SureSource::new(Vec::from_slice(alloc, b"abcde")?))?;
-    let bytes = Vec::from_slice(alloc, b"-abcde")?;
-    let mut source = MemSource::new(bytes, Vec::from_slice(alloc, &[0, 2])?);
-    let mut buf = [0; 1];
-    assert_eq!(rt; source.read(&mut buf), Err(Failed));
-    assert_eq!(rt; source.read(&mut buf), Ok(1));
-    assert_eq!(rt; source.read(&mut buf), Err(Failed));
-    assert_source(&rt, &mut source)
+    assert_source(&rt, &mut SureSource::new(Vec::from_slice(alloc, b"abcde")?));
+    let mut source = source_of(alloc, b"-abcde", &[0, 2])?;
+    assert!(rt; read_one(&mut source) == Err(Failed));
+    assert!(rt; read_one(&mut source) == Ok(1));
+    assert!(rt; read_one(&mut source) == Err(Failed));
+    assert_source(&rt, &mut source);
+    Ok(())
+}
+
+fn puts<O: Sink>(sink: &mut O, bytes: &[u8]) -> bool {
+    put_all(sink, bytes).is_ok()
+}
+
+fn sink_of(alloc: Global, fail: &[u64]) -> Result<MemSink, Fail> {
+    Ok(MemSink::new(alloc, Vec::from_slice(alloc, fail)?))
 }
 
 #[test]
 fn sinks_take_all(rt: HostRuntime) -> Result<(), Fail> {
     let alloc = rt.alloc();
     let mut sure = SureSink::new(alloc);
-    put_all(&mut sure, b"")?;
-    put_all(&mut sure, b"abc")?;
-    put_all(&mut sure, b"de")?;
-    assert_eq!(rt; sure.written(), b"abcde".as_slice());
-    let mut sink = MemSink::new(alloc, Vec::from_slice(alloc, &[0, 2])?);
-    for bytes in ["lost", "abc", "lost", "de"] {
-        let _ = put_all(&mut sink, bytes.as_bytes());
+    for bytes in [b"".as_slice(), b"abc", b"de"] {
+        assert!(rt; puts(&mut sure, bytes));
     }
-    assert_eq!(rt; sink.written(), b"abcde".as_slice());
+    assert!(rt; sure.written() == b"abcde".as_slice());
+    let mut sink = sink_of(alloc, &[0, 2])?;
+    for bytes in [b"lost".as_slice(), b"abc", b"lost", b"de"] {
+        let _ = puts(&mut sink, bytes);
+    }
+    assert!(rt; sink.written() == b"abcde".as_slice());
     Ok(())
 }

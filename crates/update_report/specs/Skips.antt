@@ -3,7 +3,7 @@ use Rattle.std.specs.Prelude.{ℕ, List, Option, Some, None}
 use Rattle.std.specs.Option.{option_and_then}
 use Rattle.lib_types.specs.declared.analysis.Analysis.{Analysis}
 use Rattle.lib_types.specs.declared.analysis.Analysis.TheVariants.{Lib, Not}
-use Rattle.soname_links.specs.Table.{Analyses, analysis_at}
+use Rattle.place_files.specs.Table.{Analyses, analysis_at}
 use Rattle.update_report.specs.declared.kinds.Skipped.{Skipped}
 
 abbrev pub skip_by : List ℕ → Analysis → Option Skipped

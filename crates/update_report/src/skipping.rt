@@ -5,7 +5,7 @@ ghost use Rattle.update_report.specs.Skips.{skip_at};
 
 use crate::kinds::{Skipped, Skips};
 use lib_types::{Analysis, NoMemory, Seq, Text, Texts};
-use soname_links::Table;
+use place_files::Table;
 use std::alloc::Global;
 
 // The file at a path, if its analysis is a defect.

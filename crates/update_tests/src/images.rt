@@ -1,40 +1,42 @@
 //! Images that an update makes a cache of.
-use crate::updates::{assert_again, assert_update};
+use crate::updates::{assert_done, assert_done_twice};
 use ldconfig_cli::{Status, run};
 use lib_types::{Abi, Text};
+use std::alloc::Global;
 use std::test::Fail;
 use tree_face::{Slot, SureDisk, SureSink, SureSource, SureStore};
 use update_fixture::{
-    EMPTY_CACHE, LIBZ_KEY, LIBZ_MANIFEST, LIBZ_REPORT, ONE_CACHE, THREE_CACHE, copy, done, has,
-    image, library, libz, libz_held, one, replacing_calls, strings,
+    EMPTY_CACHE, LIBZ_KEY, LIBZ_MANIFEST, LIBZ_REPORT, ONE_CACHE, Pairs, THREE_CACHE, copy, has,
+    library, libz, libz_held, one, strings,
 };
+
+const WITHOUT_LIBRARIES: &[&[u8]] = &[
+    b"#mtree\n",
+    // a manifest's forms: no head, defaults, relative names, escapes, nodes that aren't kept
+    b"",
+    b"#mtree\n/set type=file\n. type=dir\n usr type=dir\n  a\\040b size=1\n ..\n..\ndev type=char\r\n",
+    // a line that replaces another
+    b"#mtree\n./a type=file\n./a type=file\n./a type=dir\n./a/b type=file\n",
+    // no files of /usr/lib itself with library names
+    b"#mtree\n./libz.so.1 type=file\n./usr/lib/libz.a type=file\n",
+    b"#mtree\n./usr/lib/sub/libz.so.1 type=file\n./usr/lib/libz.so.1 type=dir\n",
+    // neighbours of the paths that are searched
+    b"#mtree\n./etc/ld.so.conf.d type=dir\n./lib6 type=dir\n./lib64.so type=file\n",
+    b"#mtree\n./usr/lib6 type=dir\n./usr/lib/glibc-hwcaps.d type=dir\n",
+    // links that lead nowhere, and links that are no library's
+    b"#mtree\n./lib type=link link=none\n./usr/lib/libz.a type=link link=x\n",
+    b"#mtree\n./usr/lib type=link link=none\n./none2/libz.so.1 type=file\n",
+];
+
+const NO_LIBRARIES: &[u8] = b"0 libs, 0 links, 0 files opened\n";
 
 // A `run` that always returns NoMemory meets its contract. This test refuses it.
 #[test]
 fn an_image_without_libraries_has_an_empty_cache(rt: HostRuntime) -> Result<(), Fail> {
     let alloc = rt.alloc();
-    let manifests = [
-        b"#mtree\n".as_slice(),
-        // a manifest's forms: no head, defaults, relative names, escapes, nodes that aren't kept
-        b"",
-        b"#mtree\n/set type=file\n. type=dir\n usr type=dir\n  a\\040b size=1\n ..\n..\ndev type=char\r\n",
-        // a line that replaces another
-        b"#mtree\n./a type=file\n./a type=file\n./a type=dir\n./a/b type=file\n",
-        // no files of /usr/lib itself with library names
-        b"#mtree\n./libz.so.1 type=file\n./usr/lib/libz.a type=file\n",
-        b"#mtree\n./usr/lib/sub/libz.so.1 type=file\n./usr/lib/libz.so.1 type=dir\n",
-        // neighbours of the paths that are searched
-        b"#mtree\n./etc/ld.so.conf.d type=dir\n./lib6 type=dir\n./lib64.so type=file\n",
-        b"#mtree\n./usr/lib6 type=dir\n./usr/lib/glibc-hwcaps.d type=dir\n",
-        // links that lead nowhere, and links that are no library's
-        b"#mtree\n./lib type=link link=none\n./usr/lib/libz.a type=link link=x\n",
-        b"#mtree\n./usr/lib type=link link=none\n./none2/libz.so.1 type=file\n",
-    ];
-    let want = done(b"0 libs, 0 links, 0 files opened\n", EMPTY_CACHE);
-    for manifest in manifests {
-        let devices = assert_update(&rt, alloc, image(manifest), Vec::new(alloc), want)?;
-        assert_eq!(rt; devices.store.begun(), 0);
-        assert_again(&rt, alloc, image(manifest), devices, want)?;
+    for manifest in WITHOUT_LIBRARIES {
+        let held = Vec::new(alloc);
+        assert_done_twice(&rt, alloc, *manifest, held, NO_LIBRARIES, EMPTY_CACHE, 0)?;
     }
     Ok(())
 }
@@ -43,12 +45,7 @@ fn an_image_without_libraries_has_an_empty_cache(rt: HostRuntime) -> Result<(), 
 fn one_library(rt: HostRuntime) -> Result<(), Fail> {
     let alloc = rt.alloc();
     let held = libz_held(alloc)?;
-    let want = done(LIBZ_REPORT, ONE_CACHE);
-    let devices = assert_update(&rt, alloc, image(LIBZ_MANIFEST), held, want)?;
-    assert_eq!(rt; devices.store.begun(), 1);
-    let calls = replacing_calls(alloc, &[Slot::Cache])?;
-    assert_eq!(rt; devices.disk.calls(), calls.as_slice());
-    assert_again(&rt, alloc, image(LIBZ_MANIFEST), devices, want)
+    assert_done_twice(&rt, alloc, LIBZ_MANIFEST, held, LIBZ_REPORT, ONE_CACHE, 1)
 }
 
 // What stands in the image beside the example's library, with what is held of it, and what the report says of that. A line
@@ -72,45 +69,58 @@ const BESIDE: &[(&str, &str)] = &[
     ),
 ];
 
+// The example with a conf file of comments.
+fn held_beside(alloc: Global) -> Result<Pairs, Fail> {
+    let mut held = libz_held(alloc)?;
+    let conf = Text::copy_of(alloc, b"# nothing\n")?;
+    held.push((Text::copy_of(alloc, b"conf")?, conf))?;
+    Ok(held)
+}
+
 #[test]
 fn other_nodes_leave_the_cache(rt: HostRuntime) -> Result<(), Fail> {
     let alloc = rt.alloc();
     for (line, said) in BESIDE {
         let manifest = format!(in alloc; "#mtree\n./usr/lib/libz.so.1 type=file\n{line}")?;
         let report = format!(in alloc; "{said}1 libs, 0 links, 1 files opened\n")?;
-        let mut held = libz_held(alloc)?;
-        let conf = Text::copy_of(alloc, b"# nothing\n")?;
-        held.push((Text::copy_of(alloc, b"conf")?, conf))?;
-        let want = done(report.as_bytes(), ONE_CACHE);
-        let _ = assert_update(&rt, alloc, image(manifest.as_bytes()), held, want)?;
+        let held = held_beside(alloc)?;
+        let (manifest, report) = (manifest.as_bytes(), report.as_bytes());
+        let _ = assert_done(&rt, alloc, manifest, held, report, ONE_CACHE)?;
     }
     Ok(())
 }
+
+// The cache of the example whose entry has these flags.
+fn with_flags(alloc: Global, flags: u8) -> Result<Vec<u8>, Fail> {
+    let mut cache = Vec::from_slice(alloc, ONE_CACHE)?;
+    // the second byte of the entry's flags; the first is 3 for each
+    if cache.len() > 49 {
+        cache[49] = flags;
+    }
+    Ok(cache)
+}
+
+// A file that is held under this key, the example's library for an ABI.
+fn held_for(alloc: Global, key: &[u8], abi: Abi) -> Result<Pairs, Fail> {
+    let content = libz(alloc, abi)?;
+    Ok(one(alloc, key, &content)?)
+}
+
+const FLAGS: &[(Abi, u8)] = &[
+    (Abi::I386, 0x00),
+    (Abi::X86_64, 0x03),
+    (Abi::X32, 0x08),
+    (Abi::Aarch64, 0x0a),
+];
 
 // Each ABI by its class and machine, with its flags in the entry.
 #[test]
 fn a_library_of_each_abi(rt: HostRuntime) -> Result<(), Fail> {
     let alloc = rt.alloc();
-    let rows = [
-        (Abi::I386, 0x00),
-        (Abi::X86_64, 0x03),
-        (Abi::X32, 0x08),
-        (Abi::Aarch64, 0x0a),
-    ];
-    for (abi, flags) in rows {
-        let mut cache = Vec::from_slice(alloc, ONE_CACHE)?;
-        // the second byte of the entry's flags; the first is 3 for each
-        if cache.len() > 49 {
-            cache[49] = flags;
-        }
-        let held = one(alloc, LIBZ_KEY, &libz(alloc, abi)?)?;
-        let _ = assert_update(
-            &rt,
-            alloc,
-            image(LIBZ_MANIFEST),
-            held,
-            done(LIBZ_REPORT, &cache),
-        )?;
+    for (abi, flags) in FLAGS {
+        let cache = with_flags(alloc, *flags)?;
+        let held = held_for(alloc, LIBZ_KEY, *abi)?;
+        let _ = assert_done(&rt, alloc, LIBZ_MANIFEST, held, LIBZ_REPORT, &cache)?;
     }
     Ok(())
 }
@@ -121,20 +131,17 @@ fn a_folder_that_is_a_link(rt: HostRuntime) -> Result<(), Fail> {
     let alloc = rt.alloc();
     let manifest =
         b"usr type=dir\n lib type=link link=../x\n..\n./x/libz.so.1 inode=1 ctime=2 size=251\n";
-    let held = one(alloc, b"x/libz.so.1", &libz(alloc, Abi::X86_64)?)?;
-    let want = done(LIBZ_REPORT, ONE_CACHE);
-    let _ = assert_update(&rt, alloc, image(manifest), held, want)?;
+    let held = held_for(alloc, b"x/libz.so.1", Abi::X86_64)?;
+    let _ = assert_done(&rt, alloc, manifest, held, LIBZ_REPORT, ONE_CACHE)?;
     Ok(())
 }
 
-#[test]
-fn three_libraries_stand_by_descending_names(rt: HostRuntime) -> Result<(), Fail> {
-    let alloc = rt.alloc();
-    let mut manifest = Vec::from_slice(alloc, b"#mtree\n")?;
+const VERSIONS: &[u8] =
+    b"#mtree\n./usr/lib/libfoo.so.2 type=file\n./usr/lib/libfoo.so.9 type=file\n./usr/lib/libfoo.so.10 type=file\n";
+
+fn held_versions(alloc: Global) -> Result<Pairs, Fail> {
     let mut held = Vec::new(alloc);
     for name in ["libfoo.so.2", "libfoo.so.9", "libfoo.so.10"] {
-        let line = format!(in alloc; "./usr/lib/{name} type=file\n")?;
-        manifest.extend_from_slice(line.as_bytes())?;
         let key = format!(in alloc; "usr/lib/{name}")?;
         let content = library(alloc, name.as_bytes())?;
         held.push((
@@ -142,23 +149,37 @@ fn three_libraries_stand_by_descending_names(rt: HostRuntime) -> Result<(), Fail
             Text::from_vec(content),
         ))?;
     }
-    let want = done(b"3 libs, 0 links, 3 files opened\n", THREE_CACHE);
-    let devices = assert_update(&rt, alloc, image(&manifest), held, want)?;
-    assert_eq!(rt; devices.store.begun(), 3);
-    assert_again(&rt, alloc, image(&manifest), devices, want)
+    Ok(held)
+}
+
+#[test]
+fn three_libraries_stand_by_descending_names(rt: HostRuntime) -> Result<(), Fail> {
+    let alloc = rt.alloc();
+    let held = held_versions(alloc)?;
+    let report = b"3 libs, 0 links, 3 files opened\n";
+    assert_done_twice(&rt, alloc, VERSIONS, held, report, THREE_CACHE, 3)
+}
+
+// Updates the example over devices that never fail.
+fn update_surely(alloc: Global, disk: &mut SureDisk, out: &mut SureSink) -> Result<Status, Fail> {
+    let words = strings(alloc, &["update"])?;
+    let mut store = SureStore::new(libz_held(alloc)?);
+    let mut input = SureSource::new(Vec::new(alloc));
+    Ok(run(alloc, &words, &mut store, disk, &mut input, out))
+}
+
+fn disk_of(alloc: Global, manifest: &[u8]) -> Result<SureDisk, Fail> {
+    Ok(SureDisk::new(alloc, copy(alloc, Some(manifest))?, None, None))
 }
 
 #[test]
 fn devices_that_never_fail(rt: HostRuntime) -> Result<(), Fail> {
     let alloc = rt.alloc();
-    let words = strings(alloc, &["update"])?;
-    let mut store = SureStore::new(libz_held(alloc)?);
-    let mut disk = SureDisk::new(alloc, copy(alloc, Some(LIBZ_MANIFEST))?, None, None);
-    let mut input = SureSource::new(Vec::new(alloc));
+    let mut disk = disk_of(alloc, LIBZ_MANIFEST)?;
     let mut out = SureSink::new(alloc);
-    let status = run(alloc, &words, &mut store, &mut disk, &mut input, &mut out);
-    assert_eq!(rt; status, Status::Done);
-    assert_eq!(rt; out.written(), LIBZ_REPORT);
+    let status = update_surely(alloc, &mut disk, &mut out)?;
+    assert!(rt; status == Status::Done);
+    assert!(rt; out.written() == LIBZ_REPORT);
     assert!(rt; has(alloc, &mut disk, Slot::Cache, Some(ONE_CACHE)));
     Ok(())
 }

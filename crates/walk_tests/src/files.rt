@@ -34,7 +34,7 @@ fn links(
 }
 
 // The links of `/usr/lib`, a directory without a node: their names, their targets, and the files to which they lead.
-const LINKS: [(&str, &str, Option<&str>); 24] = [
+const LINKS: &[(&str, &str, Option<&str>)] = &[
     ("beside", "x", Some("/usr/lib/x")),
     ("twice", "beside", Some("/usr/lib/x")),
     ("liby.so", "liby.so.1", Some("/usr/lib/x")),
@@ -79,28 +79,29 @@ fn links_lead_to_the_files(rt: HostRuntime) -> Result<(), Fail> {
     let tree = tree_of_links(&rt, alloc)?;
     for (name, target, want) in LINKS {
         let path = format!(in alloc; "/usr/lib/{name}")?;
-        assert!(rt; leads(alloc, &tree, path.as_str(), want)?, "{path}");
-        assert!(rt; links(alloc, &tree, "/usr/lib", target, want)?, "{name}");
+        assert!(rt; leads(alloc, &tree, path.as_str(), *want)?, "{path}");
+        assert!(rt; links(alloc, &tree, "/usr/lib", target, *want)?, "{name}");
     }
     Ok(())
 }
+
+const PATHS: &[(&str, Option<&str>)] = &[
+    ("/usr/lib/x", Some("/usr/lib/x")),
+    ("usr//lib/./x", Some("/usr/lib/x")),
+    ("/usr/lib/share/data", Some("/usr/share/data")),
+    ("/usr/lib", None),
+    ("/usr/share", None),
+    ("/usr/lib/gone", None),
+    ("/", None),
+    ("", None),
+];
 
 #[test]
 fn paths_lead_to_files(rt: HostRuntime) -> Result<(), Fail> {
     let alloc = rt.alloc();
     let tree = tree_of_links(&rt, alloc)?;
-    let rows = [
-        ("/usr/lib/x", Some("/usr/lib/x")),
-        ("usr//lib/./x", Some("/usr/lib/x")),
-        ("/usr/lib/share/data", Some("/usr/share/data")),
-        ("/usr/lib", None),
-        ("/usr/share", None),
-        ("/usr/lib/gone", None),
-        ("/", None),
-        ("", None),
-    ];
-    for (path, want) in rows {
-        assert!(rt; leads(alloc, &tree, path, want)?, "{path}");
+    for (path, want) in PATHS {
+        assert!(rt; leads(alloc, &tree, path, *want)?, "{path}");
     }
     Ok(())
 }

@@ -20,38 +20,41 @@ fn leads(
     }
 }
 
+const LINKS: &[(&str, &str)] = &[
+    ("/lib", "usr/lib"),
+    ("/a", "/b"),
+    ("/b", "/a"),
+    ("/usr/lib/libk.so", "x"),
+    ("/usr/up", ".."),
+    ("/usr/lib/far", "/usr//./lib/../lib/"),
+];
+
+// Paths of a tree of these links and `/usr/lib/x`.
+const ROWS: &[(&str, Mode, Result<&str, WalkFault>)] = &[
+    ("/lib/../lib/x", Mode::Full, Ok("/usr/lib/x")),
+    ("/a/x", Mode::Full, Err(WalkFault::TooManyLinks)),
+    ("/lib/x/y", Mode::Full, Err(WalkFault::NotDir)),
+    ("/lib/x/..", Mode::Full, Err(WalkFault::NotDir)),
+    ("/lib/x/.", Mode::Full, Ok("/usr/lib/x")),
+    ("/lib/libk.so", Mode::Full, Ok("/usr/lib/x")),
+    ("/lib/libk.so", Mode::Plain, Err(WalkFault::Absent)),
+    ("/lib/libk.so/y", Mode::Plain, Err(WalkFault::Absent)),
+    ("/lib/x", Mode::Plain, Ok("/usr/lib/x")),
+    ("lib//./x", Mode::Plain, Ok("/usr/lib/x")),
+    ("", Mode::Plain, Ok("/")),
+    ("/..", Mode::Plain, Ok("/")),
+    ("/usr/up/usr", Mode::Plain, Ok("/usr")),
+    ("/usr/lib/far/x", Mode::Plain, Ok("/usr/lib/x")),
+    ("/lib/none", Mode::Full, Err(WalkFault::Absent)),
+    ("/lib/none/..", Mode::Full, Err(WalkFault::Absent)),
+];
+
 #[test]
 fn paths_lead_where_the_links_say(rt: HostRuntime) -> Result<(), Fail> {
     let alloc = rt.alloc();
-    let links = [
-        ("/lib", "usr/lib"),
-        ("/a", "/b"),
-        ("/b", "/a"),
-        ("/usr/lib/libk.so", "x"),
-        ("/usr/up", ".."),
-        ("/usr/lib/far", "/usr//./lib/../lib/"),
-    ];
-    let tree = tree_of(&rt, alloc, &links, &["/usr/lib/x"])?;
-    let rows = [
-        ("/lib/../lib/x", Mode::Full, Ok("/usr/lib/x")),
-        ("/a/x", Mode::Full, Err(WalkFault::TooManyLinks)),
-        ("/lib/x/y", Mode::Full, Err(WalkFault::NotDir)),
-        ("/lib/x/..", Mode::Full, Err(WalkFault::NotDir)),
-        ("/lib/x/.", Mode::Full, Ok("/usr/lib/x")),
-        ("/lib/libk.so", Mode::Full, Ok("/usr/lib/x")),
-        ("/lib/libk.so", Mode::Plain, Err(WalkFault::Absent)),
-        ("/lib/libk.so/y", Mode::Plain, Err(WalkFault::Absent)),
-        ("/lib/x", Mode::Plain, Ok("/usr/lib/x")),
-        ("lib//./x", Mode::Plain, Ok("/usr/lib/x")),
-        ("", Mode::Plain, Ok("/")),
-        ("/..", Mode::Plain, Ok("/")),
-        ("/usr/up/usr", Mode::Plain, Ok("/usr")),
-        ("/usr/lib/far/x", Mode::Plain, Ok("/usr/lib/x")),
-        ("/lib/none", Mode::Full, Err(WalkFault::Absent)),
-        ("/lib/none/..", Mode::Full, Err(WalkFault::Absent)),
-    ];
-    for (path, mode, want) in rows {
-        assert!(rt; leads(alloc, &tree, path, mode, want), "{path}");
+    let tree = tree_of(&rt, alloc, LINKS, &["/usr/lib/x"])?;
+    for (path, mode, want) in ROWS {
+        assert!(rt; leads(alloc, &tree, path, *mode, *want), "{path}");
     }
     Ok(())
 }

@@ -35,5 +35,6 @@ returns-in-Ok-clause-update g c = λ input.
       disk = c.update-status.ensures.disk;
       calls = c.update-status.ensures.calls;
       made = c.update-status.ensures.made;
+      settles = c.update-status.ensures.settles;
       output = grind (arith, common_steps);
     }

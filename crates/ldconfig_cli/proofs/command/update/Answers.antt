@@ -4,6 +4,7 @@ use Rattle.tree_face.specs.Stream.{IsFollowedBy, IsFollowedByPart}
 use Rattle.ldconfig_core.specs.Outcome as outcomes
 use Rattle.ldconfig_cli.proofs.Lacking.{lacks_file, refused_text}
 use Rattle.ldconfig_cli.proofs.Slots.{begins_files, comes_to, leaves_update, makes_calls, makes_part, may_leave_update, large_of, many_of, refused_calls, refused_disk, unloaded_calls, unloaded_disk}
+use Rattle.ldconfig_cli.proofs.Settling.{refused_settles, settles, unloaded_settles}
 use Rattle.ldconfig_cli.proofs.command.update.Goals as goal
 
 pub returns-in-Err-clause-manifest : goal.returns-in-Err-clause-manifest
@@ -58,3 +59,17 @@ pub returns-in-Err-update-clause-too_many : goal.returns-in-Err-update-clause-to
 returns-in-Err-update-clause-too_many g c count is =
     comes_to _ _ _ c.in-Ok.ensures.tree (outcomes.TooMany count)
     (c.in-Err-update.ensures.too_many count (ap Err (many_of c.in-Err-update.fault c.from-in-Err-update.result count c.from-in-Err-update.ensures is)))
+
+pub returns-in-Err-clause-settles : goal.returns-in-Err-clause-settles
+returns-in-Err-clause-settles g c = unloaded_settles _ _ c.in-Err.fault c.from.result c.from.ensures
+
+pub returns-in-Err-update-clause-settles : goal.returns-in-Err-update-clause-settles
+returns-in-Err-update-clause-settles g c = refused_settles _ _ c.in-Err-update.fault c.from-in-Err-update.result c.from-in-Err-update.ensures
+
+pub returns-then-is_err-clause-settles : goal.returns-then-is_err-clause-settles
+returns-then-is_err-clause-settles g c made =
+    settles _ _ _ _ _ _ c.in-Ok.ensures.tree (rw c.load.ensures.keeps.contents at c.in-Ok-update.ensures.written) c.in-Ok-update.ensures.settled c.in-Ok-update.ensures.reads c.in-Ok-update.ensures.made
+
+pub returns-clause-settles : goal.returns-clause-settles
+returns-clause-settles g c made =
+    settles _ _ _ _ _ _ c.in-Ok.ensures.tree (rw c.load.ensures.keeps.contents at c.in-Ok-update.ensures.written) c.in-Ok-update.ensures.settled c.in-Ok-update.ensures.reads c.in-Ok-update.ensures.made

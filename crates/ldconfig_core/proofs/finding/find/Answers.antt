@@ -1,5 +1,6 @@
 use Rattle.std.proofs.Common.{inl, inr, rules, arith}
 use Rattle.ldconfig_core.proofs.Known.{begins_reached, begins_searched, followed, is_found, lacks_reached, planned, too_many_nodes}
+use Rattle.ldconfig_core.proofs.Settled.{settled}
 use Rattle.ldconfig_core.proofs.finding.find.Goals as goal
 
 pub returns-in_err-search-clause-begun : goal.returns-in_err-search-clause-begun
@@ -8,7 +9,7 @@ returns-in_err-search-clause-begun g c =
 
 pub returns-in_err-links-clause-too_large : goal.returns-in_err-links-clause-too_large
 returns-in_err-links-clause-too_large g c nodes bytes is =
-    too_many_nodes c.args.tree.now c.in_ok-search.search _ c.in_ok-search.ensures.found nodes bytes (c.plan_links.ensures.too_large nodes bytes (search rules))
+    too_many_nodes c.args.tree.now c.in_ok-search.search _ c.in_ok-search.ensures.found nodes bytes (search rules)
 
 pub returns-in_err-links-clause-begun : goal.returns-in_err-links-clause-begun
 returns-in_err-links-clause-begun g c =
@@ -46,3 +47,10 @@ returns-clause-begun g c =
     begins_reached c.args.tree.now c.in_ok-search.search c.in_ok-links.links c.plan_links.new.tree _ c.in_ok-search.ensures.found links
     (g.S.Store.state c.args.store.now) (g.S.Store.state c.search_image.new.store) (g.S.Store.state c.follow_links.new.store) c.search_image.ensures.begun
     (rw c.search_image.ensures.held at c.follow_links.ensures.begun)
+
+pub returns-clause-settled : goal.returns-clause-settled
+returns-clause-settled g c =
+    let links = planned c.args.tree.now c.in_ok-search.search _ c.in_ok-search.ensures.found c.in_ok-links.links c.plan_links.new.tree c.in_ok-links.ensures.plan c.in_ok-links.ensures.tree
+    c.in_ok-links.ensures.blocked c.in_ok-links.ensures.mixed c.in_ok-links.ensures.few in
+    settled c.args.tree.now c.plan_links.new.tree c.in_ok-search.search c.in_ok-links.links _ c.in_ok-search.ensures.found links
+    c.in_ok-links.ensures.alike c.in_ok-links.ensures.settled c.in_ok-links.ensures.is_tree

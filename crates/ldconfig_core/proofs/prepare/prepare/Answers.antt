@@ -1,5 +1,5 @@
 use Rattle.std.proofs.Common.{rules}
-use Rattle.ldconfig_core.proofs.Known.{is_tree, report_for, texts, too_long, too_many, writes}
+use Rattle.ldconfig_core.proofs.Known.{is_tree, reads, report_for, texts, too_long, too_many, writes}
 use Rattle.ldconfig_core.proofs.Preparing.{is_some_report}
 use Rattle.ldconfig_core.proofs.prepare.prepare.Goals as goal
 
@@ -25,3 +25,9 @@ returns-clause-report_of g c = report_for c.args.tree.now c.in_ok-found.found c.
 
 pub returns-clause-writes : goal.returns-clause-writes
 returns-clause-writes g c = writes c.args.tree.now c.in_ok-found.found c.find.new.tree c.in_ok-prepared.prepared c.in_ok-prepared.ensures.made _ c.in_ok-found.ensures.found
+
+pub returns-clause-reads : goal.returns-clause-reads
+returns-clause-reads g c = reads c.args.tree.now c.in_ok-found.found c.find.new.tree c.in_ok-prepared.prepared c.in_ok-prepared.ensures.made _ c.in_ok-found.ensures.found
+
+pub returns-clause-settled : goal.returns-clause-settled
+returns-clause-settled g c = c.in_ok-found.ensures.settled

@@ -2,11 +2,11 @@ use Rattle.std.proofs.Common.{◌∙◌, ap, sym, false, Some, rules}
 use Rattle.std.specs.Cmp.Lexicographic.{slice_cmp}
 use Rattle.std.specs.Map.{keys_of}
 use Rattle.std.specs.Ordering.{nat_cmp}
-use Rattle.soname_links.specs.Order.{with_text}
+use Rattle.place_files.specs.Order.{with_text}
 use Rattle.soname_links.specs.Survey.{with_library}
 use Rattle.soname_links.specs.declared.groups.Group.{Group}
 use Rattle.soname_links.proofs.Grouped.{group_put, grouped_at, keys_kept}
-use Rattle.soname_links.proofs.Ordered.{keys_put}
+use Rattle.place_files.proofs.Ordered.{keys_put}
 use Rattle.soname_links.proofs.groups.add.Goals as goal
 
 pub returns-in-Some-clause-keys : goal.returns-in-Some-clause-keys

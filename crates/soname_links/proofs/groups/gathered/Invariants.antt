@@ -3,8 +3,8 @@ use Rattle.std.specs.BTreeMap.{get, keys, IsOrdered}
 use Rattle.std.specs.Cmp.Lexicographic.{slice_cmp}
 use Rattle.std.specs.List.{filter, fold}
 use Rattle.std.specs.Ordering.{nat_cmp}
-use Rattle.soname_links.specs.Best.{has_soname}
-use Rattle.soname_links.specs.Order.{with_text}
+use Rattle.place_files.specs.Best.{has_soname}
+use Rattle.place_files.specs.Order.{with_text}
 use Rattle.soname_links.specs.Survey.{group_at, with_library}
 use Rattle.soname_links.proofs.groups.gathered.Given as goal
 

@@ -1,6 +1,7 @@
 use Rattle.std.proofs.Common.{◌≡◌, ◌++◌, drop}
 use Rattle.soname_links.specs.Marks.{blocked_in, mixed_in}
-use Rattle.soname_links.specs.Plan.{by_place, links_in}
+use Rattle.place_files.specs.Places.{by_place}
+use Rattle.soname_links.specs.Plan.{links_in}
 use Rattle.soname_links.proofs.surveying.surveyed.Given as goal
 
 -- the places that are left give the rest

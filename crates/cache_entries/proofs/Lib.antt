@@ -1,0 +1,5 @@
+mod Choosing
+pub mod Fit
+mod Ranks
+pub mod Single
+mod Sorts

@@ -1,0 +1,4 @@
+pub mod Entries
+pub mod Parts
+pub mod Ranked
+pub mod Winner

@@ -1,0 +1,9 @@
+//! The entries of a cache: the library that wins a soname in a place, and where it is looked up.
+#![tactic(auto)]
+
+mod fault;
+mod listing;
+mod winner;
+
+pub use fault::EntryFault;
+pub use listing::{entries, entries_by};

@@ -1,0 +1,289 @@
+//! The entries of a cache.
+ghost use Rattle.std.specs.Prelude.{◌≡◌, ◌≤◌, ◌++◌, All, IfErr, IfOk, IsTrue, List, OnOk, length};
+ghost use Rattle.std.proofs.Common.{refl};
+ghost use Rattle.std.specs.Cmp.{eq_by_cmp_equiv, partial_equiv_from_equiv, partial_order_from_total};
+ghost use Rattle.std.specs.Ordering.{as_partial_cmp, eq_by_cmp};
+ghost use Rattle.cache_writer.specs.declared.writer.TheConstants.{ENTRIES_MAX};
+ghost use Rattle.hwcap_dirs.specs.Places.{are_spelled};
+ghost use Rattle.tree_face.specs.Paths.{join};
+ghost use Rattle.place_files.specs.Places.{links_to};
+ghost use Rattle.place_files.specs.Search.{folder_links, followed};
+ghost use Rattle.cache_entries.specs.Entries.{cap_of, entries_in, entry_of, entry_order, entry_order-total, found, is_by_soname, is_fit, AreEntriesOf, IsEntryFault};
+
+use crate::fault::EntryFault;
+use crate::winner::winners_in;
+use cache_writer::ENTRIES_MAX;
+use hwcap_dirs::{Dirs, Place};
+use lib_types::{Entries, Entry, NoMemory, Seq, Text};
+use name_order::compare;
+use path_walk::join;
+use place_files::{FolderLinks, Library, PlaceLinks, Table, follow, is_own, is_plain, links_to};
+use std::alloc::Global;
+use std::cmp::Ordering;
+use std::marker::Model;
+use tree_face::Tree;
+
+// ---- the order of entries
+
+// The name of the subdirectory that an entry's library is in, or nothing.
+fn cap_of(entry: &Entry) -> &[u8]
+    ensures { result.now ≡ cap_of entry.now }
+{
+    match &entry.cap {
+        Some(cap) => cap.as_bytes(),
+        None => b"",
+    }
+}
+
+/// An entry that is sorted, which contracts see as the entry.
+#[derive(Drop)]
+struct Sortable {
+    entry: Entry,
+}
+
+impl Model for Sortable {
+    ghost use Rattle.lib_types.specs.declared.entry.Entry.{Entry};
+
+    ghost Value = { Entry };
+
+    ghost view = { λ r. r.entry };
+}
+
+impl PartialEq for Sortable {
+    ghost eq = { eq_by_cmp entry_order };
+
+    ghost laws = { partial_equiv_from_equiv (eq_by_cmp_equiv entry_order-total) };
+
+    fn eq(&self, other: &Self) -> bool {
+        self.cmp(other).is_eq()
+    }
+}
+
+impl Eq for Sortable {
+    ghost laws = { eq_by_cmp_equiv entry_order-total };
+}
+
+impl PartialOrd for Sortable {
+    ghost partial_cmp = { as_partial_cmp entry_order };
+
+    ghost laws = { partial_order_from_total entry_order-total };
+
+    fn partial_cmp(&self, other: &Self) -> Option<Ordering> {
+        Some(self.cmp(other))
+    }
+}
+
+impl Ord for Sortable {
+    ghost cmp = { entry_order };
+
+    ghost total = { entry_order-total };
+
+    ghost matches_partial_cmp = { λ a b. refl };
+
+    ghost matches_eq = { λ a b. refl };
+
+    fn cmp(&self, other: &Self) -> Ordering {
+        let (a, b) = (&self.entry, &other.entry);
+        compare(b.soname.as_bytes(), a.soname.as_bytes()).then(
+            b.abi.flags().cmp(&a.abi.flags()).then(
+                a.cap
+                    .is_none()
+                    .cmp(&b.cap.is_none())
+                    .then(cap_of(a).cmp(cap_of(b)).then(a.place.cmp(&b.place))),
+            ),
+        )
+    }
+}
+
+// ---- the entries of the places
+
+// Whether there is a link of the first name with the second as its text.
+fn has_link(
+    alloc: Global,
+    tree: &Tree,
+    folder: &[u8],
+    name: &[u8],
+    text: &[u8],
+) -> Result<bool, NoMemory>
+    ensures { IfOk result (λ leads. leads ≡ links_to tree.now (join folder.now name.now) text.now) }
+{
+    let path = join(alloc, folder, name)?;
+    Ok(links_to(tree, path.as_bytes(), text))
+}
+
+// Whether the soname leads to the winner.
+fn is_by_soname(
+    alloc: Global,
+    tree: &Tree,
+    place: &Place,
+    winner: &Library,
+) -> Result<bool, NoMemory>
+    ensures { IfOk result (λ leads. leads ≡ is_by_soname tree.now place.now winner.now) }
+{
+    if !is_plain(place) {
+        return Ok(false);
+    }
+    if is_own(winner) {
+        return Ok(true);
+    }
+    let folder = place.real.as_bytes();
+    has_link(
+        alloc,
+        tree,
+        folder,
+        winner.soname.as_bytes(),
+        winner.name.as_bytes(),
+    )
+}
+
+fn copy_of_cap(alloc: Global, cap: &Option<Text>) -> Result<Option<Text>, NoMemory>
+    ensures { IfOk result (λ copy. copy ≡ cap.now) }
+{
+    match cap {
+        Some(cap) => Ok(Some(Text::copy_of(alloc, cap.as_bytes())?)),
+        None => Ok(None),
+    }
+}
+
+// The entry of a winner.
+fn entry_of(
+    alloc: Global,
+    tree: &Tree,
+    number: u32,
+    place: &Place,
+    winner: Library,
+) -> Result<Entry, NoMemory>
+    ensures { IfOk result (λ entry. entry ≡ entry_of tree.now number place.now winner) }
+{
+    let leads = is_by_soname(alloc, tree, place, &winner)?;
+    let cap = copy_of_cap(alloc, &place.cap)?;
+    let spelled = place.spelled.as_bytes();
+    let path = if leads {
+        join(alloc, spelled, winner.soname.as_bytes())?
+    } else {
+        join(alloc, spelled, winner.name.as_bytes())?
+    };
+    Ok(Entry {
+        soname: winner.soname,
+        abi: winner.abi,
+        cap,
+        path,
+        place: number,
+    })
+}
+
+// Adds the entries of a place.
+fn add_entries(
+    alloc: Global,
+    tree: &Tree,
+    table: &Table,
+    number: u32,
+    place: &Place,
+    links: &FolderLinks,
+    found: &mut Vec<Entry>,
+) -> Result<(), NoMemory>
+    requires { links.now ≡ folder_links tree.now place.now }
+    ensures { OnOk result (found.new.items ≡ found.old.items ++ entries_in table.now tree.now number place.now) }
+{
+    for winner in winners_in(alloc, tree, table, place, links)? {
+        found.push(entry_of(alloc, tree, number, place, winner)?)?;
+    }
+    Ok(())
+}
+
+// All entries, place by place.
+#[tactic(auto, unfolding(crate::specs::Entries::found, place_files::specs::Search::followed))]
+fn found(
+    alloc: Global,
+    tree: &Tree,
+    dirs: &Dirs,
+    table: &Table,
+    links: &PlaceLinks,
+) -> Result<Vec<Entry>, NoMemory>
+    requires { links.now ≡ followed tree.now dirs.now.places }
+    ensures { IfOk result (λ entries. entries.items ≡ found table.now tree.now dirs.now.places) }
+{
+    let mut found = Vec::new(alloc);
+    let mut number: u32 = 0;
+    for (place, links) in dirs.places.as_slice().iter().zip(links.as_slice()) {
+        add_entries(alloc, tree, table, number, place, links, &mut found)?;
+        number = number.checked_add(1).ok_or(NoMemory)?;
+    }
+    Ok(found)
+}
+
+// ---- their list
+
+fn to_sort(alloc: Global, found: Vec<Entry>) -> Result<Vec<Sortable>, NoMemory>
+    ensures { IfOk result (λ entries. entries.items ≡ found.items) }
+{
+    let mut entries = Vec::with_capacity(alloc, found.len())?;
+    for entry in found {
+        entries.push(Sortable { entry })?;
+    }
+    Ok(entries)
+}
+
+fn listed(alloc: Global, sorted: Vec<Sortable>) -> Result<Entries, NoMemory>
+    ensures { IfOk result (λ entries. entries ≡ sorted.items) }
+{
+    let mut entries = Seq::new(alloc);
+    for Sortable { entry } in sorted {
+        entries.push(entry)?;
+    }
+    Ok(entries)
+}
+
+// These entries in their order.
+fn sorted(alloc: Global, found: Vec<Entry>) -> Result<Entries, NoMemory>
+    ensures { IfOk result (AreEntriesOf found.items) }
+{
+    let mut entries = to_sort(alloc, found)?;
+    entries.sort()?;
+    listed(alloc, entries)
+}
+
+/// The entries of a cache, one for each place and soname with a winner, given the links of the places. The tree is one that has all
+/// planned links.
+pub fn entries_by(
+    alloc: Global,
+    tree: &Tree,
+    dirs: &Dirs,
+    table: &Table,
+    links: &PlaceLinks,
+) -> Result<Entries, EntryFault>
+    requires { links.now ≡ followed tree.now dirs.now.places }
+    ensures entries { IfOk result (AreEntriesOf (found table.now tree.now dirs.now.places)) }
+    ensures single { IfOk result (λ entries. (others : List Entry) → AreEntriesOf (found table.now tree.now dirs.now.places) others → others ≡ entries) }
+    ensures fit { IfOk result (λ entries. IsTrue (are_spelled dirs.now.places) → All (λ entry. IsTrue (is_fit entry)) entries) }
+    ensures few { IfOk result (λ _. length (found table.now tree.now dirs.now.places) ≤ ENTRIES_MAX) }
+    ensures fault { IfErr result (IsEntryFault (found table.now tree.now dirs.now.places)) }
+{
+    tree.know();
+    table.know();
+    let found = found(alloc, tree, dirs, table, links)?;
+    if found.len() > ENTRIES_MAX {
+        return Err(EntryFault::TooMany {
+            count: found.len() as u64,
+        });
+    }
+    let entries = sorted(alloc, found)?;
+    Ok(entries)
+}
+
+/// The same of a tree whose links weren't followed yet.
+pub fn entries(
+    alloc: Global,
+    tree: &Tree,
+    dirs: &Dirs,
+    table: &Table,
+) -> Result<Entries, EntryFault>
+    ensures entries { IfOk result (AreEntriesOf (found table.now tree.now dirs.now.places)) }
+    ensures single { IfOk result (λ entries. (others : List Entry) → AreEntriesOf (found table.now tree.now dirs.now.places) others → others ≡ entries) }
+    ensures fit { IfOk result (λ entries. IsTrue (are_spelled dirs.now.places) → All (λ entry. IsTrue (is_fit entry)) entries) }
+    ensures few { IfOk result (λ _. length (found table.now tree.now dirs.now.places) ≤ ENTRIES_MAX) }
+    ensures fault { IfErr result (IsEntryFault (found table.now tree.now dirs.now.places)) }
+{
+    let links = follow(alloc, tree, dirs)?;
+    entries_by(alloc, tree, dirs, table, &links)
+}

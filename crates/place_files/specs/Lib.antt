@@ -1,0 +1,9 @@
+pub mod Best
+pub mod Children
+pub mod Folders
+pub mod Libraries
+pub mod Order
+pub mod Pick
+pub mod Places
+pub mod Search
+pub mod Table

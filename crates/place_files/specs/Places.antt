@@ -1,0 +1,27 @@
+-- The places in their order, and the links that are there.
+use Rattle.std.specs.Prelude.{ℕ, ◌+◌, Bool, false, List, [], ◌∷◌, ◌++◌, Option, Some, None}
+use Rattle.std.specs.Option.{is_none}
+use Rattle.std.specs.Str.{bytes_eq}
+use Rattle.hwcap_dirs.specs.declared.kinds.Place.{Place}
+use Rattle.tree_face.specs.Tree.{Nodes, node_at}
+use Rattle.tree_face.specs.declared.node.Node.{Node}
+use Rattle.tree_face.specs.declared.node.Node.TheVariants.{Dir, File, Link}
+
+-- what each place has, with its number, in their order
+abbrev pub by_place : {A : Type 0} → (ℕ → Place → List A) → ℕ → List Place → List A
+by_place has number [] = []
+by_place has number (place ∷ places) = has number place ++ by_place has (number + 1) places
+
+-- not a subdirectory for processors
+abbrev pub is_plain : Place → Bool
+is_plain place = is_none place.cap
+
+abbrev pub is_link_to : List ℕ → Option Node → Bool
+is_link_to text (Some (Link target)) = bytes_eq target text
+is_link_to text (Some Dir) = false
+is_link_to text (Some (File key id)) = false
+is_link_to text None = false
+
+-- there is a link with this text at the path
+abbrev pub links_to : Nodes → List ℕ → List ℕ → Bool
+links_to t path text = is_link_to text (node_at t path)

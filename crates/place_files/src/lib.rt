@@ -1,0 +1,20 @@
+//! The files of the searched places: which are looked at, the table of their analyses, and the libraries of each place.
+#![tactic(auto)]
+
+mod best;
+mod key;
+mod libraries;
+mod links;
+mod places;
+mod search;
+mod table;
+
+pub use best::{is_own, is_preferred};
+pub use key::{Key, ascending};
+pub use libraries::{Library, libraries_in, library_at};
+pub use links::{
+    FolderLinks, FollowedLink, PlaceLinks, dangling, dangling_among, files_behind, follow, reached,
+};
+pub use places::{is_plain, links_to};
+pub use search::{union, wanted};
+pub use table::Table;

@@ -1,0 +1,62 @@
+//! The analyses of files by their paths.
+ghost use Rattle.std.specs.Prelude.{◌≡◌, [], IsTrue, OnOk, OnErr};
+ghost use Rattle.std.specs.Option.{option_copied};
+ghost use Rattle.place_files.specs.Table.{analysis_at, has_name, have_names, with_analysis};
+
+use indexmap::IndexMap;
+use lib_types::{Analysis, NoMemory, Text};
+use std::alloc::Global;
+use std::marker::Model;
+
+/// A map from paths without links to the analyses of the files there, in which each soname is a name. Contracts see it as the
+/// list of both, each path once.
+#[derive(Drop)]
+pub struct Table {
+    analyses: IndexMap<Vec<u8>, Analysis>,
+}
+
+impl Model for Table {
+    ghost use Rattle.std.specs.Prelude.{map, IsTrue};
+    ghost use Rattle.place_files.specs.Table.{Analyses, have_names};
+
+    ghost Value = { Analyses };
+
+    ghost view = { λ t. map (λ e. (e.0.items, e.1)) t.analyses.entries };
+
+    ghost invariant = { λ t. IsTrue (have_names (map (λ e. (e.0.items, e.1)) t.analyses.entries)) };
+}
+
+impl Table {
+    /// No analyses. It keeps the allocator and takes no memory.
+    pub fn new(alloc: Global) -> Table
+        ensures { result ≡ [] }
+    {
+        Table {
+            analyses: IndexMap::new(alloc),
+        }
+    }
+
+    /// Puts the analysis of a path, instead of the one that is there.
+    pub fn insert(&mut self, path: Text, analysis: Analysis) -> Result<(), NoMemory>
+        requires { IsTrue (has_name analysis) }
+        ensures done { OnOk result (self.new ≡ with_analysis self.old path analysis) }
+        ensures refused { OnErr result (self.new ≡ self.old) }
+    {
+        self.analyses.insert(path.into_vec(), analysis)?;
+        Ok(())
+    }
+
+    /// The analysis of a path, if there is one. It takes the time of one path, however many there are.
+    pub fn get(&self, path: &[u8]) -> Option<&Analysis>
+        ensures { option_copied result ≡ analysis_at self.now path.now }
+    {
+        self.analyses.get(path)
+    }
+
+    /// Lets contracts know what each table meets. It does nothing.
+    pub fn know(&self)
+        ensures { IsTrue (have_names self.now) }
+    {
+        let _ = &self.analyses;
+    }
+}

@@ -1,0 +1,11 @@
+pub mod Agree
+mod Alike
+mod Children
+mod Ends
+mod Patterns
+mod Places
+mod Planned
+mod Reading
+mod Searches
+mod There
+mod Walks
