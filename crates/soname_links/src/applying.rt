@@ -89,7 +89,7 @@ pub fn is_plan(plan: &Plan) -> bool
 /// Puts the links of a plan into the tree.
 ///
 /// A plan that was made for this tree has links only where there is a link or nothing, in its directories. Once they are put,
-/// a plan for the same places and analyses has none. Where a link would clash the answer is NoMemory as well; no link of a plan
+/// a plan for the same places and analyses has none. Where a link would clash it returns NoMemory as well; no link of a plan
 /// that was made for this tree does.
 #[tactic(auto, using(crate::proofs::Counted::nodes_counted, crate::proofs::Targets::paths_of, crate::proofs::Targets::files_of))]
 pub fn apply(alloc: Global, tree: &mut Tree, plan: &Plan) -> Result<(), ApplyFault>
