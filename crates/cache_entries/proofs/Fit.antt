@@ -39,7 +39,7 @@ use Rattle.place_files.specs.declared.links.FollowedLink.{FollowedLink}
 use Rattle.place_files.specs.Table.{Analyses, analysis_at, have_names}
 use Rattle.cache_entries.specs.Winner.{has_own_name, library_behind, linked, links_to_libraries, named, named_links, or_else, other_links, unnamed, winner, winners_in}
 use Rattle.place_files.specs.Libraries.{last_name}
-use Rattle.place_files.specs.declared.libraries.Library.{Library}
+use Rattle.place_files.specs.Library.{Library}
 
 -- ---- the last name of a file's path
 

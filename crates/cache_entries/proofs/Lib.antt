@@ -1,4 +1,4 @@
-mod Choosing
+mod Bests
 pub mod Fit
 mod Ranks
 pub mod Single

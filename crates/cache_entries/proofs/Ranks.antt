@@ -1,5 +1,7 @@
 -- The winners are the best of the files and links of a place in one list.
-use Rattle.std.proofs.Common.{◌≡◌, ℕ, true, false, cond, ◌||◌, List, [], ◌∷◌, ◌++◌, map, refl, ap, sym, ◌∙◌, Option, Some, None}
+use Rattle.std.proofs.Common.{◌≡◌, ℕ, true, false, cond, ◌||◌, List, [], ◌∷◌, ◌++◌, map, refl, ap, sym, subst, ◌∙◌, Option, Some, None}
+use Rattle.std.proofs.lemmas.List.{map-append}
+use Rattle.std.proofs.lemmas.List.Elements.{filter-append}
 use Rattle.std.proofs.lemmas.List.Sums.{fold-append}
 use Rattle.std.specs.Cmp.Lexicographic.{nat_list_cmp_total}
 use Rattle.std.specs.List.{cons_option, filter, filter_map, fold}
@@ -7,16 +9,17 @@ use Rattle.std.specs.Map.{keys_of, values_of}
 use Rattle.std.specs.Option.{option_map}
 use Rattle.std.specs.Str.{bytes_eq}
 use Rattle.place_files.proofs.InOrder.{ascending_sorted, in_ascending}
-use Rattle.cache_entries.proofs.Choosing.{AreOrdered, chosen_at}
 use Rattle.place_files.proofs.Members.{is_in, same_members}
 use Rattle.place_files.proofs.Ordered.{by_keys, filtered_same}
 use Rattle.place_files.proofs.Either.{swapped}
 use Rattle.place_files.specs.Best.{best, better, has_soname, is_preferred, sonames}
-use Rattle.place_files.specs.Order.{ascending, with_text}
+use Rattle.place_files.specs.Order.{ascending}
+use Rattle.place_files.proofs.Gathered.{gathered_keyed, keyed, keys_keyed}
+use Rattle.place_files.specs.Sonames.{AreGathered, found_at}
 use Rattle.place_files.specs.Pick.{best_with, better_by}
-use Rattle.cache_entries.specs.Ranked.{is_before, ranked_file, ranked_link, soname_of}
+use Rattle.cache_entries.specs.Ranked.{by_sonames, is_before, ranked_file, ranked_link, soname_of}
 use Rattle.cache_entries.specs.Winner.{has_own_name, named_links, or_else, other_links, winner, winners_among}
-use Rattle.place_files.specs.declared.libraries.Library.{Library}
+use Rattle.place_files.specs.Library.{Library}
 use Rattle.cache_entries.specs.declared.winner.Class.{Class}
 use Rattle.cache_entries.specs.declared.winner.Class.TheVariants.{File, Named, Other}
 use Rattle.cache_entries.specs.declared.winner.Ranked.{Ranked}
@@ -152,15 +155,22 @@ map_given g f (x ∷ xs) =
       | Some y ↦ ap (λ ys. g y ∷ ys) (map_given g f xs)
     ]
 
--- the libraries of an ordered map to which the files and then the links were added
-pub all_winners : (es : List (List ℕ × Ranked)) (files links : List Library) → AreOrdered es
-    → keys_of es ≡ fold with_text (fold with_text [] (map soname_of (map ranked_file files))) (map soname_of (map ranked_link links))
-    → ((soname : List ℕ) → chosen_at es soname ≡ best_with soname_of is_before (best_with soname_of is_before None (map ranked_file files) soname) (map ranked_link links) soname)
-    → map library_of (values_of es) ≡ winners_among files links
-unfolding ascending
-all_winners es files links s keys at =
-    ap (map library_of) (sym (by_keys nat_list_cmp_total es s))
-    ∙ map_given library_of (chosen_at es) (keys_of es)
-    ∙ filtered_same (λ soname. option_map library_of (chosen_at es soname)) (winner files links) (λ soname. ap (option_map library_of) (at soname) ∙ winner_of soname files links) (keys_of es)
+-- what the files and then the links come to by their sonames
+pub all_winners : (files links : List Library) (items es : List (List ℕ × Ranked)) → items ≡ by_sonames (map ranked_file files) ++ by_sonames (map ranked_link links)
+    → AreGathered (better_by is_before) items es → map library_of (values_of es) ≡ winners_among files links
+all_winners files links items es is gathered =
+    let first : List Ranked = map ranked_file files in
+    let later : List Ranked = map ranked_link links in
+    let both : by_sonames first ++ by_sonames later ≡ keyed soname_of (first ++ later) = sym (map-append (λ (item : Ranked). (soname_of item, item)) first later) in
+    let all : AreGathered (better_by is_before) (keyed soname_of (first ++ later)) es = subst (λ xs. AreGathered (better_by is_before) xs es) (is ∙ both) gathered in
+    ap (map library_of) (sym (by_keys nat_list_cmp_total es all.ordered))
+    ∙ map_given library_of (found_at es) (keys_of es)
+    ∙ filtered_same (λ soname. option_map library_of (found_at es soname)) (winner files links)
+    (λ soname. ap (option_map library_of) (all.found soname ∙ gathered_keyed soname_of (better_by is_before) soname (first ++ later) None ∙ both_best soname first later) ∙ winner_of soname files links) (keys_of es)
     ∙ ap (filter_map (winner files links))
-    (keys ∙ sym (fold-append with_text [] (map soname_of (map ranked_file files)) (map soname_of (map ranked_link links))) ∙ same_names files links)
+    (all.keys ∙ ap ascending (keys_keyed soname_of (first ++ later) ∙ map-append soname_of first later) ∙ same_names files links)
+  where
+    both_best : (soname : List ℕ) (xs ys : List Ranked) → fold (better_by is_before) None (filter (λ item. bytes_eq (soname_of item) soname) (xs ++ ys))
+        ≡ best_with soname_of is_before (best_with soname_of is_before None xs soname) ys soname
+    both_best soname xs ys = ap (fold (better_by is_before) None) (filter-append (λ item. bytes_eq (soname_of item) soname) xs ys)
+        ∙ fold-append (better_by is_before) None (filter (λ item. bytes_eq (soname_of item) soname) xs) (filter (λ item. bytes_eq (soname_of item) soname) ys)

@@ -22,7 +22,7 @@ use Rattle.place_files.specs.Libraries.{libraries_in}
 use Rattle.place_files.specs.Places.{by_place}
 use Rattle.place_files.specs.Table.{Analyses}
 use Rattle.cache_entries.specs.Winner.{links_to_libraries, named_links, or_else, other_links, winner}
-use Rattle.place_files.specs.declared.libraries.Library.{Library}
+use Rattle.place_files.specs.Library.{Library}
 
 -- ---- the winner of a soname has that soname
 

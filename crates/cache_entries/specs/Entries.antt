@@ -23,7 +23,7 @@ use Rattle.place_files.specs.Table.{Analyses}
 use Rattle.cache_entries.specs.Winner.{winners_in}
 use Rattle.cache_entries.specs.declared.fault.EntryFault.{EntryFault}
 use Rattle.cache_entries.specs.declared.fault.EntryFault.TheVariants.{TooMany, NoMemory}
-use Rattle.place_files.specs.declared.libraries.Library.{Library}
+use Rattle.place_files.specs.Library.{Library}
 
 -- the soname leads to the winner: it is its name, or a link with its name as its text is there
 abbrev pub is_by_soname : Nodes → Place → Library → Bool

@@ -1,8 +1,8 @@
 -- What private functions say of the files and links of a place in one list, each with its class.
-use Rattle.std.specs.Prelude.{ℕ, Bool, List, ◌&&◌, ◌||◌, nat_eq, nat_lt, if◌then◌else◌}
+use Rattle.std.specs.Prelude.{ℕ, Bool, List, ◌&&◌, ◌||◌, map, nat_eq, nat_lt, if◌then◌else◌}
 use Rattle.place_files.specs.Best.{is_preferred}
 use Rattle.cache_entries.specs.Winner.{has_own_name}
-use Rattle.place_files.specs.declared.libraries.Library.{Library}
+use Rattle.place_files.specs.Library.{Library}
 use Rattle.cache_entries.specs.declared.winner.Class.{Class}
 use Rattle.cache_entries.specs.declared.winner.Class.TheVariants.{File, Named, Other}
 use Rattle.cache_entries.specs.declared.winner.Ranked.{Ranked}
@@ -30,3 +30,6 @@ ranked_link link =
     if has_own_name link
     then record { library = record { name = link.name; soname = link.name; abi = link.abi }; class = Named }
     else record { library = link; class = Other }
+
+abbrev pub by_sonames : List Ranked → List (List ℕ × Ranked)
+by_sonames items = map (λ item. (soname_of item, item)) items

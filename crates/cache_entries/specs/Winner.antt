@@ -7,7 +7,7 @@ use Rattle.place_files.specs.Best.{best, is_own, sonames}
 use Rattle.place_files.specs.Libraries.{last_name, libraries_in, library_at}
 use Rattle.place_files.specs.Search.{followed_in}
 use Rattle.place_files.specs.Table.{Analyses}
-use Rattle.place_files.specs.declared.libraries.Library.{Library}
+use Rattle.place_files.specs.Library.{Library}
 use Rattle.place_files.specs.declared.links.FollowedLink.{FollowedLink}
 
 -- ---- links to libraries

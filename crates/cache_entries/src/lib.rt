@@ -6,4 +6,4 @@ mod listing;
 mod winner;
 
 pub use fault::EntryFault;
-pub use listing::{entries, entries_by};
+pub use listing::entries_by;

@@ -6,6 +6,8 @@ ghost use Rattle.std.specs.Ordering.{as_partial_cmp, eq_by_cmp};
 ghost use Rattle.cache_writer.specs.declared.writer.TheConstants.{ENTRIES_MAX};
 ghost use Rattle.hwcap_dirs.specs.Places.{are_spelled};
 ghost use Rattle.tree_face.specs.Paths.{join};
+ghost use Rattle.place_files.specs.Best.{bests, bests_of};
+ghost use Rattle.place_files.specs.Libraries.{libraries_in};
 ghost use Rattle.place_files.specs.Places.{links_to};
 ghost use Rattle.place_files.specs.Search.{folder_links, followed};
 ghost use Rattle.cache_entries.specs.Entries.{cap_of, entries_in, entry_of, entry_order, entry_order-total, found, is_by_soname, is_fit, AreEntriesOf, IsEntryFault};
@@ -16,8 +18,10 @@ use cache_writer::ENTRIES_MAX;
 use hwcap_dirs::{Dirs, Place};
 use lib_types::{Entries, Entry, NoMemory, Seq, Text};
 use name_order::compare;
-use path_walk::join;
-use place_files::{FolderLinks, Library, PlaceLinks, Table, follow, is_own, is_plain, links_to};
+use path_walk::{join, join_into};
+use place_files::{
+    BestLibrary, FolderLinks, Library, PlaceBests, PlaceLinks, Table, is_own, is_plain, links_to,
+};
 use std::alloc::Global;
 use std::cmp::Ordering;
 use std::marker::Model;
@@ -84,39 +88,39 @@ impl Ord for Sortable {
 
     fn cmp(&self, other: &Self) -> Ordering {
         let (a, b) = (&self.entry, &other.entry);
-        compare(b.soname.as_bytes(), a.soname.as_bytes()).then(
+        compare(b.soname.as_bytes(), a.soname.as_bytes()).then_with(|| {
             b.abi.flags().cmp(&a.abi.flags()).then(
                 a.cap
                     .is_none()
                     .cmp(&b.cap.is_none())
                     .then(cap_of(a).cmp(cap_of(b)).then(a.place.cmp(&b.place))),
-            ),
-        )
+            )
+        })
     }
 }
 
 // ---- the entries of the places
 
-// Whether there is a link of the first name with the second as its text.
+// Whether there is a link of the first name with the second as its text. The path is room for the link's.
 fn has_link(
-    alloc: Global,
     tree: &Tree,
     folder: &[u8],
     name: &[u8],
     text: &[u8],
+    path: &mut Vec<u8>,
 ) -> Result<bool, NoMemory>
     ensures { IfOk result (λ leads. leads ≡ links_to tree.now (join folder.now name.now) text.now) }
 {
-    let path = join(alloc, folder, name)?;
-    Ok(links_to(tree, path.as_bytes(), text))
+    join_into(path, folder, name)?;
+    Ok(links_to(tree, path, text))
 }
 
 // Whether the soname leads to the winner.
 fn is_by_soname(
-    alloc: Global,
     tree: &Tree,
     place: &Place,
-    winner: &Library,
+    winner: &Library<'_>,
+    path: &mut Vec<u8>,
 ) -> Result<bool, NoMemory>
     ensures { IfOk result (λ leads. leads ≡ is_by_soname tree.now place.now winner.now) }
 {
@@ -127,13 +131,7 @@ fn is_by_soname(
         return Ok(true);
     }
     let folder = place.real.as_bytes();
-    has_link(
-        alloc,
-        tree,
-        folder,
-        winner.soname.as_bytes(),
-        winner.name.as_bytes(),
-    )
+    has_link(tree, folder, winner.soname, winner.name, path)
 }
 
 fn copy_of_cap(alloc: Global, cap: &Option<Text>) -> Result<Option<Text>, NoMemory>
@@ -145,29 +143,27 @@ fn copy_of_cap(alloc: Global, cap: &Option<Text>) -> Result<Option<Text>, NoMemo
     }
 }
 
-// The entry of a winner.
+// The entry of a winner. The path is room for that of a link.
 fn entry_of(
     alloc: Global,
     tree: &Tree,
     number: u32,
     place: &Place,
-    winner: Library,
+    winner: &Library<'_>,
+    path: &mut Vec<u8>,
 ) -> Result<Entry, NoMemory>
-    ensures { IfOk result (λ entry. entry ≡ entry_of tree.now number place.now winner) }
+    ensures { IfOk result (λ entry. entry ≡ entry_of tree.now number place.now winner.now) }
 {
-    let leads = is_by_soname(alloc, tree, place, &winner)?;
-    let cap = copy_of_cap(alloc, &place.cap)?;
-    let spelled = place.spelled.as_bytes();
-    let path = if leads {
-        join(alloc, spelled, winner.soname.as_bytes())?
+    let name = if is_by_soname(tree, place, winner, path)? {
+        winner.soname
     } else {
-        join(alloc, spelled, winner.name.as_bytes())?
+        winner.name
     };
     Ok(Entry {
-        soname: winner.soname,
+        soname: Text::copy_of(alloc, winner.soname)?,
         abi: winner.abi,
-        cap,
-        path,
+        cap: copy_of_cap(alloc, &place.cap)?,
+        path: join(alloc, place.spelled.as_bytes(), name)?,
         place: number,
     })
 }
@@ -179,34 +175,49 @@ fn add_entries(
     table: &Table,
     number: u32,
     place: &Place,
+    files: &[BestLibrary],
     links: &FolderLinks,
     found: &mut Vec<Entry>,
 ) -> Result<(), NoMemory>
-    requires { links.now ≡ folder_links tree.now place.now }
+    requires files { files.now ≡ bests (libraries_in table.now tree.now place.now) }
+    requires links { links.now ≡ folder_links tree.now place.now }
     ensures { OnOk result (found.new.items ≡ found.old.items ++ entries_in table.now tree.now number place.now) }
 {
-    for winner in winners_in(alloc, tree, table, place, links)? {
-        found.push(entry_of(alloc, tree, number, place, winner)?)?;
+    let mut path = Vec::new(alloc);
+    for winner in winners_in(alloc, table, files, links)? {
+        found.push(entry_of(alloc, tree, number, place, &winner, &mut path)?)?;
     }
     Ok(())
 }
 
 // All entries, place by place.
-#[tactic(auto, unfolding(crate::specs::Entries::found, place_files::specs::Search::followed))]
+#[tactic(auto, unfolding(crate::specs::Entries::found, place_files::specs::Best::bests_of, place_files::specs::Search::followed))]
 fn found(
     alloc: Global,
     tree: &Tree,
     dirs: &Dirs,
     table: &Table,
+    bests: &PlaceBests,
     links: &PlaceLinks,
 ) -> Result<Vec<Entry>, NoMemory>
-    requires { links.now ≡ followed tree.now dirs.now.places }
+    requires bests { bests.now ≡ bests_of table.now tree.now dirs.now.places }
+    requires links { links.now ≡ followed tree.now dirs.now.places }
     ensures { IfOk result (λ entries. entries.items ≡ found table.now tree.now dirs.now.places) }
 {
     let mut found = Vec::new(alloc);
     let mut number: u32 = 0;
-    for (place, links) in dirs.places.as_slice().iter().zip(links.as_slice()) {
-        add_entries(alloc, tree, table, number, place, links, &mut found)?;
+    let there = bests.as_slice().iter().zip(links.as_slice());
+    for (place, (bests, links)) in dirs.places.as_slice().iter().zip(there) {
+        add_entries(
+            alloc,
+            tree,
+            table,
+            number,
+            place,
+            bests.as_slice(),
+            links,
+            &mut found,
+        )?;
         number = number.checked_add(1).ok_or(NoMemory)?;
     }
     Ok(found)
@@ -243,16 +254,18 @@ fn sorted(alloc: Global, found: Vec<Entry>) -> Result<Entries, NoMemory>
     listed(alloc, entries)
 }
 
-/// The entries of a cache, one for each place and soname with a winner, given the links of the places. The tree is one that has all
-/// planned links.
+/// The entries of a cache, one for each place and soname with a winner, given the best libraries and the links of the places. The
+/// tree is one that has all planned links.
 pub fn entries_by(
     alloc: Global,
     tree: &Tree,
     dirs: &Dirs,
     table: &Table,
+    bests: &PlaceBests,
     links: &PlaceLinks,
 ) -> Result<Entries, EntryFault>
-    requires { links.now ≡ followed tree.now dirs.now.places }
+    requires bests { bests.now ≡ bests_of table.now tree.now dirs.now.places }
+    requires links { links.now ≡ followed tree.now dirs.now.places }
     ensures entries { IfOk result (AreEntriesOf (found table.now tree.now dirs.now.places)) }
     ensures single { IfOk result (λ entries. (others : List Entry) → AreEntriesOf (found table.now tree.now dirs.now.places) others → others ≡ entries) }
     ensures fit { IfOk result (λ entries. IsTrue (are_spelled dirs.now.places) → All (λ entry. IsTrue (is_fit entry)) entries) }
@@ -261,7 +274,7 @@ pub fn entries_by(
 {
     tree.know();
     table.know();
-    let found = found(alloc, tree, dirs, table, links)?;
+    let found = found(alloc, tree, dirs, table, bests, links)?;
     if found.len() > ENTRIES_MAX {
         return Err(EntryFault::TooMany {
             count: found.len() as u64,
@@ -269,21 +282,4 @@ pub fn entries_by(
     }
     let entries = sorted(alloc, found)?;
     Ok(entries)
-}
-
-/// The same of a tree whose links weren't followed yet.
-pub fn entries(
-    alloc: Global,
-    tree: &Tree,
-    dirs: &Dirs,
-    table: &Table,
-) -> Result<Entries, EntryFault>
-    ensures entries { IfOk result (AreEntriesOf (found table.now tree.now dirs.now.places)) }
-    ensures single { IfOk result (λ entries. (others : List Entry) → AreEntriesOf (found table.now tree.now dirs.now.places) others → others ≡ entries) }
-    ensures fit { IfOk result (λ entries. IsTrue (are_spelled dirs.now.places) → All (λ entry. IsTrue (is_fit entry)) entries) }
-    ensures few { IfOk result (λ _. length (found table.now tree.now dirs.now.places) ≤ ENTRIES_MAX) }
-    ensures fault { IfErr result (IsEntryFault (found table.now tree.now dirs.now.places)) }
-{
-    let links = follow(alloc, tree, dirs)?;
-    entries_by(alloc, tree, dirs, table, &links)
 }

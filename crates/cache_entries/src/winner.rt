@@ -1,28 +1,25 @@
 //! The winners of a place.
-ghost use Rattle.std.specs.Prelude.{◌≡◌, ◌<◌, ◌∷◌, ℕ, List, if◌then◌else◌, fold, length, map, position, IfOk, IfSome, OnOk};
-ghost use Rattle.std.specs.BTreeMap.{get, keys, values, IsOrdered};
-ghost use Rattle.std.specs.Cmp.Lexicographic.{slice_cmp};
+ghost use Rattle.std.specs.Prelude.{◌≡◌, ◌<◌, ◌∷◌, ◌++◌, length, map, position, IfOk, IfSome, OnOk};
 ghost use Rattle.std.specs.List.{filter_map, slice_split};
+ghost use Rattle.std.specs.Map.{values_of};
 ghost use Rattle.std.specs.Option.{option_copied};
-ghost use Rattle.std.specs.Ordering.{nat_cmp};
-ghost use Rattle.std.specs.Str.{bytes_eq};
+ghost use Rattle.hwcap_dirs.specs.declared.kinds.Place.{Place};
 ghost use Rattle.tree_face.specs.Paths.{is_slash};
+ghost use Rattle.tree_face.specs.Tree.{Nodes};
+ghost use Rattle.place_files.specs.Best.{bests};
+ghost use Rattle.place_files.specs.Libraries.{last_name, libraries_in};
+ghost use Rattle.place_files.specs.Pick.{better_by};
 ghost use Rattle.place_files.specs.Search.{folder_links};
-ghost use Rattle.place_files.specs.Order.{with_text};
 ghost use Rattle.cache_entries.specs.Parts.{parts_of};
-ghost use Rattle.place_files.specs.Pick.{best_with, better_by, is_better_by};
-ghost use Rattle.cache_entries.specs.Ranked.{is_before, rank_of, ranked_file, ranked_link, soname_of};
+ghost use Rattle.cache_entries.specs.Ranked.{by_sonames, is_before, rank_of, ranked_file, ranked_link, soname_of};
 ghost use Rattle.cache_entries.specs.Winner.{has_own_name, is_dev_name, linked, winners_among, winners_in};
-ghost use Rattle.place_files.specs.Libraries.{last_name};
 
-use hwcap_dirs::Place;
-use lib_types::{NoMemory, Text};
+use lib_types::NoMemory;
 use place_files::{
-    FolderLinks, FollowedLink, Key, Library, Table, is_own, is_preferred, libraries_in, library_at,
+    BestLibrary, BySoname, FolderLinks, FollowedLink, Gather, Library, Table, gather_by_soname,
+    is_own, is_preferred, library_at,
 };
 use std::alloc::Global;
-use std::collections::BTreeMap;
-use tree_face::Tree;
 
 // ---- links to libraries
 
@@ -61,33 +58,16 @@ fn last_name(path: &[u8]) -> &[u8]
 }
 
 // The library to which a link leads.
-fn linked(alloc: Global, table: &Table, link: &FollowedLink) -> Result<Option<Library>, NoMemory>
-    ensures { IfOk result (λ library. library ≡ linked table.now link.now) }
+fn linked<'a>(table: &'a Table, link: &'a FollowedLink) -> Option<Library<'a>>
+    ensures { result ≡ linked table.now link.now }
 {
     match &link.file {
         Some(file) => {
-            let own = last_name(file.as_bytes());
-            library_at(alloc, table, file.as_bytes(), link.name.as_bytes(), own)
+            let file = file.as_bytes();
+            library_at(table, file, link.name.as_bytes(), last_name(file))
         }
-        None => Ok(None),
+        None => None,
     }
-}
-
-// Those of these links that lead to libraries.
-fn links_to_libraries(
-    alloc: Global,
-    table: &Table,
-    followed: &[FollowedLink],
-) -> Result<Vec<Library>, NoMemory>
-    ensures { IfOk result (λ links. links.items ≡ filter_map (linked table.now) followed.now) }
-{
-    let mut links = Vec::new(alloc);
-    for link in followed {
-        if let Some(library) = linked(alloc, table, link)? {
-            links.push(library)?;
-        }
-    }
-    Ok(links)
 }
 
 // ---- the classes
@@ -99,10 +79,10 @@ fn is_dev_name(name: &[u8], soname: &[u8]) -> bool
 }
 
 // Whether a link is looked up by its own name.
-fn has_own_name(link: &Library) -> bool
+fn has_own_name(link: &Library<'_>) -> bool
     ensures { result ≡ has_own_name link.now }
 {
-    is_own(link) || is_dev_name(link.name.as_bytes(), link.soname.as_bytes())
+    is_own(link) || is_dev_name(link.name, link.soname)
 }
 
 // Files are first, then the links that are looked up by their own names, then the others.
@@ -127,13 +107,13 @@ impl Class {
 
 // A library by the soname at which it is looked up, and its class.
 #[derive(Drop)]
-struct Ranked {
-    library: Library,
+struct Ranked<'a> {
+    library: Library<'a>,
     class: Class,
 }
 
-fn ranked_file(file: Library) -> Ranked
-    ensures { result ≡ ranked_file file }
+fn ranked_file(file: Library<'_>) -> Ranked<'_>
+    ensures { result ≡ ranked_file file.entry }
 {
     Ranked {
         library: file,
@@ -141,127 +121,123 @@ fn ranked_file(file: Library) -> Ranked
     }
 }
 
-fn ranked_link(alloc: Global, link: Library) -> Result<Ranked, NoMemory>
-    ensures { IfOk result (λ ranked. ranked ≡ ranked_link link) }
+fn ranked_link(link: Library<'_>) -> Ranked<'_>
+    ensures { result ≡ ranked_link link.entry }
 {
     if !has_own_name(&link) {
-        return Ok(Ranked {
+        return Ranked {
             library: link,
             class: Class::Other,
-        });
+        };
     }
-    let soname = Text::copy_of(alloc, link.name.as_bytes())?;
-    Ok(Ranked {
+    Ranked {
         library: Library {
-            name: link.name,
-            soname,
-            abi: link.abi,
+            soname: link.name,
+            ..link
         },
         class: Class::Named,
-    })
+    }
 }
 
 // ---- the winners
 
 // Whether the first of two of one soname is preferred.
-fn is_before(ranked: &Ranked, other: &Ranked) -> bool
+fn is_before(ranked: &Ranked<'_>, other: &Ranked<'_>) -> bool
     ensures { result ≡ is_before ranked.now other.now }
 {
     let (rank, others) = (ranked.class.rank(), other.class.rank());
     rank < others || (rank == others && is_preferred(&ranked.library, &other.library))
 }
 
-fn wins(ranked: &Ranked, winner: Option<&Ranked>) -> bool
-    ensures { result ≡ is_better_by is_before ranked.now (option_copied winner.entry) }
-{
-    match winner {
-        Some(other) => is_before(ranked, other),
-        None => true,
+// Of two of one soname the first wins, unless the second is preferred.
+impl<'a> Gather<Ranked<'a>> for Ranked<'a> {
+    ghost step = { better_by is_before };
+
+    fn first(ranked: Ranked<'a>) -> Self {
+        ranked
+    }
+
+    fn with(self, ranked: Ranked<'a>) -> Self {
+        if is_before(&ranked, &self) {
+            ranked
+        } else {
+            self
+        }
     }
 }
 
-// The winners by their sonames.
-type Winners = BTreeMap<Key, Ranked>;
+// Files and links by the sonames at which they are looked up.
+type Candidates<'a> = Vec<BySoname<'a, Ranked<'a>>>;
 
-// Adds a library, if it wins over the one of its soname.
-fn add(alloc: Global, winners: &mut Winners, ranked: Ranked) -> Result<(), NoMemory>
-    requires { IsOrdered (slice_cmp nat_cmp) winners.old }
-    ensures keys { OnOk result (keys winners.new ≡ with_text (keys winners.old) (soname_of ranked)) }
-    ensures best { OnOk result ((soname : List ℕ) → get (slice_cmp nat_cmp) winners.new soname
-        ≡ (if bytes_eq (soname_of ranked) soname then better_by is_before (get (slice_cmp nat_cmp) winners.old soname) ranked else get (slice_cmp nat_cmp) winners.old soname)) }
-    ensures ordered { IsOrdered (slice_cmp nat_cmp) winners.new }
+fn by_soname<'a>(ranked: Ranked<'a>) -> BySoname<'a, Ranked<'a>>
+    ensures { result ≡ (soname_of ranked.entry, ranked.entry) }
 {
-    let key = Key::of(Text::copy_of(alloc, ranked.library.soname.as_bytes())?);
-    if !wins(&ranked, winners.get(&key)) {
-        return Ok(());
-    }
-    winners.insert(key, ranked)?;
-    Ok(())
+    BySoname::new(ranked.library.soname(), ranked)
 }
 
-fn add_files(alloc: Global, winners: &mut Winners, files: Vec<Library>) -> Result<(), NoMemory>
-    requires { IsOrdered (slice_cmp nat_cmp) winners.old }
-    ensures keys { OnOk result (keys winners.new ≡ fold with_text (keys winners.old) (map soname_of (map ranked_file files.items))) }
-    ensures best { OnOk result ((soname : List ℕ) → get (slice_cmp nat_cmp) winners.new soname
-        ≡ best_with soname_of is_before (get (slice_cmp nat_cmp) winners.old soname) (map ranked_file files.items) soname) }
-    ensures ordered { IsOrdered (slice_cmp nat_cmp) winners.new }
+fn add_files<'a>(candidates: &mut Candidates<'a>, files: &'a [BestLibrary]) -> Result<(), NoMemory>
+    ensures { OnOk result (candidates.new.items ≡ candidates.old.items ++ by_sonames (map ranked_file files.now)) }
 {
     for file in files {
-        add(alloc, winners, ranked_file(file))?;
+        candidates.push(by_soname(ranked_file(file.library())))?;
     }
     Ok(())
 }
 
-fn add_links(alloc: Global, winners: &mut Winners, links: Vec<Library>) -> Result<(), NoMemory>
-    requires { IsOrdered (slice_cmp nat_cmp) winners.old }
-    ensures keys { OnOk result (keys winners.new ≡ fold with_text (keys winners.old) (map soname_of (map ranked_link links.items))) }
-    ensures best { OnOk result ((soname : List ℕ) → get (slice_cmp nat_cmp) winners.new soname
-        ≡ best_with soname_of is_before (get (slice_cmp nat_cmp) winners.old soname) (map ranked_link links.items) soname) }
-    ensures ordered { IsOrdered (slice_cmp nat_cmp) winners.new }
+// Adds those of the followed links that lead to libraries.
+fn add_links<'a>(
+    candidates: &mut Candidates<'a>,
+    table: &'a Table,
+    links: &'a [FollowedLink],
+) -> Result<(), NoMemory>
+    ensures { OnOk result (candidates.new.items ≡ candidates.old.items ++ by_sonames (map ranked_link (filter_map (linked table.now) links.now))) }
 {
     for link in links {
-        add(alloc, winners, ranked_link(alloc, link)?)?;
+        if let Some(library) = linked(table, link) {
+            candidates.push(by_soname(ranked_link(library)))?;
+        }
     }
     Ok(())
 }
 
-// The winners among the files and links of a place, by a map.
-fn winners_of(alloc: Global, files: Vec<Library>, links: Vec<Library>) -> Result<Winners, NoMemory>
-    ensures { IfOk result (λ winners. map (λ ranked. ranked.library) (values winners) ≡ winners_among files.items links.items) }
+// The winners of files and links.
+fn winners_of<'a>(
+    alloc: Global,
+    table: &'a Table,
+    files: &'a [BestLibrary],
+    links: &'a [FollowedLink],
+) -> Result<Candidates<'a>, NoMemory>
+    ensures { IfOk result (λ winners. map (λ ranked. ranked.library) (values_of winners.items) ≡ winners_among files.now (filter_map (linked table.now) links.now)) }
 {
-    let mut winners = BTreeMap::new(alloc);
-    add_files(alloc, &mut winners, files)?;
-    add_links(alloc, &mut winners, links)?;
+    let mut candidates = Vec::with_capacity(alloc, files.len())?;
+    add_files(&mut candidates, files)?;
+    add_links(&mut candidates, table, links)?;
+    let winners = gather_by_soname(alloc, candidates)?;
     Ok(winners)
 }
 
-fn winners_among(
-    alloc: Global,
-    files: Vec<Library>,
-    links: Vec<Library>,
-) -> Result<Vec<Library>, NoMemory>
-    ensures { IfOk result (λ winners. winners.items ≡ winners_among files.items links.items) }
+fn listed<'a>(alloc: Global, winners: Candidates<'a>) -> Result<Vec<Library<'a>>, NoMemory>
+    ensures { IfOk result (λ libraries. libraries.items ≡ map (λ ranked. ranked.library) (values_of winners.entry.items)) }
 {
-    let ranked = winners_of(alloc, files, links)?;
-    let mut winners = Vec::with_capacity(alloc, ranked.len())?;
-    for Ranked { library, .. } in ranked.into_values() {
-        winners.push(library)?;
+    let mut libraries = Vec::with_capacity(alloc, winners.len())?;
+    for winner in winners {
+        let Ranked { library, .. } = winner.into_item();
+        libraries.push(library)?;
     }
-    Ok(winners)
+    Ok(libraries)
 }
 
-/// The winners of a place, by the bytes of their sonames.
-pub(crate) fn winners_in(
+/// The winners of a place, by the bytes of their sonames, given the best library of each soname and the links there.
+#[tactic(auto, using(crate::proofs::Bests::winners_same))]
+pub(crate) fn winners_in<'a>(
     alloc: Global,
-    tree: &Tree,
-    table: &Table,
-    place: &Place,
-    links: &FolderLinks,
-) -> Result<Vec<Library>, NoMemory>
-    requires { links.now ≡ folder_links tree.now place.now }
-    ensures { IfOk result (λ winners. winners.items ≡ winners_in table.now tree.now place.now) }
+    table: &'a Table,
+    files: &'a [BestLibrary],
+    links: &'a FolderLinks,
+) -> Result<Vec<Library<'a>>, NoMemory>
+    ensures { (t : Nodes) (place : Place) → links.now ≡ folder_links t place → files.now ≡ bests (libraries_in table.now t place)
+        → IfOk result (λ winners. winners.items ≡ winners_in table.now t place) }
 {
-    let files = libraries_in(alloc, tree, table, place)?;
-    let links = links_to_libraries(alloc, table, links.links.as_slice())?;
-    winners_among(alloc, files, links)
+    let winners = winners_of(alloc, table, files, links.links.as_slice())?;
+    listed(alloc, winners)
 }

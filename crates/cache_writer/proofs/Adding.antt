@@ -104,9 +104,9 @@ entries_more s names out es e all =
 -- the fields of an entry, one after the other
 pub put_fields : (s : Strings) (names : List (List ℕ)) (e : Entry) (out : List ℕ) (flags soname path hwcap : ℕ) → flags ≡ flags_of e.abi
     → soname ≡ place_of s e.soname → path ≡ place_of s e.path → hwcap ≡ hwcap_of names e.cap
-    → ((((out ++ little_bytes 4 flags) ++ little_bytes 4 soname) ++ little_bytes 4 path) ++ little_bytes 4 0) ++ little_bytes 8 hwcap ≡ out ++ entry_bytes s names e
+    → out ++ (little_bytes 4 flags ++ little_bytes 4 soname ++ little_bytes 4 path ++ little_bytes 4 0 ++ little_bytes 8 hwcap) ≡ out ++ entry_bytes s names e
 unfolding entry_bytes
-put_fields s names e out flags soname path hwcap f k v h = rw (← f, ← k, ← v, ← h) (simp append_assoc)
+put_fields s names e out flags soname path hwcap f k v h = rw (← f, ← k, ← v, ← h) refl
 
 pub own_more : (texts : List (List ℕ)) (es : List Entry) (e : Entry) → All (HasOwn texts) es → All (HasOwn (fold (insert_key bytes_eq) texts (own_strings e))) (es ++ e ∷ [])
 own_more texts es e all =

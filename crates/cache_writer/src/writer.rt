@@ -13,6 +13,7 @@ ghost use Rattle.cache_writer.specs.ReadBack.{as_read};
 ghost use Rattle.cache_reader.specs.Cache.{defect, read};
 
 use crate::names::Names;
+use byteorder::{ByteOrder, LittleEndian};
 use cache_layout::{
     DIRECTORY_SIZE, ENTRY_SIZE, EXTENSION_MAGIC, GENERATOR_TAG, HEADER_SIZE, LITTLE_ENDIAN, MAGIC,
     NAMES_TAG, SECTION_SIZE,
@@ -47,7 +48,7 @@ pub fn write(alloc: Global, entries: &Entries) -> Result<Vec<u8>, NoMemory>
     let entries = entries.as_slice();
     let names = Names::of(alloc, entries)?;
     let start = HEADER_SIZE + ENTRY_SIZE * entries.len();
-    let mut pool = Pool::new(alloc, start as u32);
+    let mut pool = Pool::with_capacity(alloc, start as u32, 2 * entries.len())?;
     let mut table = Vec::with_capacity(alloc, ENTRY_SIZE * entries.len())?;
     put_entries(&mut table, &mut pool, &names, entries)?;
     let mut offsets = Vec::new(alloc);
@@ -130,13 +131,19 @@ fn put_entry<'a>(
 {
     let soname = pool.add(entry.soname.as_bytes())?;
     let path = pool.add(entry.path.as_bytes())?;
-    put_u32(out, flags(entry.abi))?;
-    put_u32(out, soname)?;
-    put_u32(out, path)?;
+    let fields = fields_of(flags(entry.abi), soname, path, hwcap(names, entry));
+    out.extend_from_slice(&fields)?;
+    Ok(())
+}
 
-    // An unused number.
-    put_u32(out, 0)?;
-    put_u64(out, hwcap(names, entry))
+// The fields of an entry, with an unused number before the hwcap.
+fn fields_of(flags: u32, soname: u32, path: u32, hwcap: u64) -> [u8; ENTRY_SIZE]
+    ensures { result ≡ little_bytes 4 flags ++ little_bytes 4 soname ++ little_bytes 4 path ++ little_bytes 4 0 ++ little_bytes 8 hwcap }
+{
+    let mut bytes = [0; ENTRY_SIZE];
+    LittleEndian::write_u32_into(&[flags, soname, path, 0], &mut bytes[..16]);
+    LittleEndian::write_u64(&mut bytes[16..], hwcap);
+    bytes
 }
 
 fn flags(abi: Abi) -> u32
@@ -235,13 +242,6 @@ fn put_zeros(out: &mut Vec<u8>, count: usize) -> Result<(), NoMemory>
 
 fn put_u32(out: &mut Vec<u8>, number: u32) -> Result<(), NoMemory>
     ensures { OnOk result (out.new.items ≡ out.old.items ++ little_bytes 4 number) }
-{
-    out.extend_from_slice(&number.to_le_bytes())?;
-    Ok(())
-}
-
-fn put_u64(out: &mut Vec<u8>, number: u64) -> Result<(), NoMemory>
-    ensures { OnOk result (out.new.items ≡ out.old.items ++ little_bytes 8 number) }
 {
     out.extend_from_slice(&number.to_le_bytes())?;
     Ok(())

@@ -11,18 +11,24 @@ use Rattle.elf_dynamic.specs.declared.fault.ObjectFault.{ObjectFault}
 use Rattle.elf_dynamic.specs.declared.fault.ObjectFault.TheVariants as faults
 use Rattle.elf_dynamic.specs.declared.kinds.Dynamic.{Dynamic}
 use Rattle.elf_dynamic.specs.Faults.{IfBad}
+use Rattle.elf_dynamic.specs.declared.gather.Keep.{Keep}
+use Rattle.elf_dynamic.specs.Kept.{kept, kept_of, kept_in_file}
 use Rattle.elf_dynamic.specs.Section.{dynamic_segment, is_outside}
 use Rattle.elf_dynamic.specs.Object.{section_reading, readable_section}
 use Rattle.elf_dynamic.specs.Sections.{section_in, sections_in, counting_in}
 use Rattle.elf_dynamic.proofs.Known.{with, three, before, sized}
+use Rattle.elf_dynamic.proofs.Kept.{unkept}
 use Rattle.elf_dynamic.proofs.Gathered.{raised_more, raised_less}
 use Rattle.elf_dynamic.proofs.Sections.{some_of, without, outside_file, in_file}
 
+abbrev there_is : Dynamic → Result (Option Dynamic) Defect
+there_is d = Ok (Some d)
+
 module _ (s : StoreState) (h : Head) (o : Option Segment) (found : OfKnown s (λ bytes. o ≡ dynamic_segment (word_size h.wide) bytes)) where
-  pub file_without : o ≡ None → OfKnown s (λ bytes. sections_in (word_size h.wide) bytes ≡ Ok None)
-  file_without none =
+  pub file_without : (keep : Keep) → o ≡ None → OfKnown s (λ bytes. kept_in_file keep (sections_in (word_size h.wide) bytes) ≡ Ok None)
+  file_without keep none =
       let w = word_size h.wide in
-      with {P = λ bytes. o ≡ dynamic_segment w bytes} {Q = λ bytes. sections_in w bytes ≡ Ok None} (known_content s) found (λ bytes found. without w bytes (sym found ∙ none))
+      with {P = λ bytes. o ≡ dynamic_segment w bytes} {Q = λ bytes. kept_in_file keep (sections_in w bytes) ≡ Ok None} (known_content s) found (λ bytes found. ap (kept_in_file keep) (without w bytes (sym found ∙ none)))
 
 module _ (s : StoreState) (h : Head) (o : Option Segment) (found : OfKnown s (λ bytes. o ≡ dynamic_segment (word_size h.wide) bytes)) (is_head : IsHeadOf s h) (d : Segment) (is : o ≡ Some d) where
   -- what follows of the section's segment, if it ends in the file or past it as this says
@@ -43,8 +49,15 @@ module _ (s : StoreState) (h : Head) (o : Option Segment) (found : OfKnown s (λ
         let w = word_size h.wide in
         here false (λ bytes. section_in w bytes d ≡ r) (λ bytes. sections_in w bytes ≡ some_of r) e (before (λ bytes. section_in w bytes d ≡ r) s t reads read) (λ bytes there inside read. in_file w bytes d r there inside read)
 
-    pub file_section : (new : Dynamic) → OfKnown t (λ bytes. section_in (word_size h.wide) bytes d ≡ Ok new) → OfKnown s (λ bytes. sections_in (word_size h.wide) bytes ≡ Ok (Some new))
-    file_section new read = file_is (Ok new) read
+    pub file_section : (keep : Keep) (new : Dynamic) → OfKnown t (λ bytes. kept_of keep (section_in (word_size h.wide) bytes d) ≡ Ok (kept keep new)) →
+        OfKnown s (λ bytes. kept_in_file keep (sections_in (word_size h.wide) bytes) ≡ Ok (Some (kept keep new)))
+    file_section keep new read =
+        let w = word_size h.wide in
+        let P = λ (bytes : List ℕ). kept_of keep (section_in w bytes d) ≡ Ok (kept keep new) in
+        here false P (λ bytes. kept_in_file keep (sections_in w bytes) ≡ Ok (Some (kept keep new))) e (before P s t reads read)
+        (λ bytes there inside read.
+        let (x, is, alike) = unkept keep (section_in w bytes d) new read in
+        ap (kept_in_file keep) (in_file w bytes d (Ok x) there inside is) ∙ ap there_is alike)
 
     pub file_fault : (fault : ObjectFault) → IfBad {X = Dynamic} (Err fault) (λ x. OfKnown t (λ bytes. section_in (word_size h.wide) bytes d ≡ Err x)) →
         IfBad {X = Option Dynamic} (Err fault) (λ x. OfKnown s (λ bytes. sections_in (word_size h.wide) bytes ≡ Err x))

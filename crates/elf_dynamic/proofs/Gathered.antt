@@ -9,16 +9,21 @@ use Rattle.tree_face.specs.Known.{IfKnown}
 use Rattle.tree_face.specs.Store.{StoreState}
 use Rattle.elf_dynamic.specs.declared.kinds.DynamicEntry.{DynamicEntry}
 use Rattle.elf_dynamic.specs.declared.kinds.Dynamic.{Dynamic}
-use Rattle.elf_dynamic.specs.Section.{has_tag, value_of, counts_after, counting_after, counting_entries, has_text_at, text_at}
+use Rattle.elf_dynamic.specs.Section.{has_tag, has_text, value_of, counts_after, counting_after, counting_entries, has_text_at, text_at}
 use Rattle.elf_dynamic.specs.declared.fault.ObjectFault.{ObjectFault}
 use Rattle.elf_dynamic.specs.declared.fault.ObjectFault.TheVariants as faults
 use Rattle.elf_dynamic.specs.Faults.{IfBad}
+use Rattle.elf_dynamic.specs.declared.gather.Keep.{Keep}
+use Rattle.elf_dynamic.specs.Kept.{kept, kept_of}
 use Rattle.elf_dynamic.specs.Object.{text_in, text_of}
+use Rattle.elf_dynamic.specs.Values.{texts_in}
+use Rattle.elf_dynamic.proofs.Joined.{texts_more}
 use Rattle.elf_dynamic.specs.Texts.{counts, with_text, no_texts, add_one, gathered, counted}
+use Rattle.elf_dynamic.proofs.Kept.{unkept, unkept_bad, gathered_alike, counted_alike}
 
 -- ---- one entry more
 
-pub gather_ok : (t : List ℕ) (d new : Dynamic) (e : DynamicEntry) (rest : List DynamicEntry) → add_one t d e ≡ Ok new → gathered t d (e ∷ rest) ≡ gathered t new rest
+gather_ok : (t : List ℕ) (d new : Dynamic) (e : DynamicEntry) (rest : List DynamicEntry) → add_one t d e ≡ Ok new → gathered t d (e ∷ rest) ≡ gathered t new rest
 gather_ok t d new e rest h = by (counts d e.tag) (has_text_at t e.value) h
   where
     by : (a b : Bool) → cond a (cond b (Ok (with_text e.tag (text_at t e.value) d)) (Err (BadString e.tag))) (Ok d) ≡ Ok new →
@@ -27,7 +32,7 @@ gather_ok t d new e rest h = by (counts d e.tag) (has_text_at t e.value) h
     by true false h = absurd (cc)
     by false b h = ap (λ d. gathered t d rest) (cc)
 
-pub gather_bad : (t : List ℕ) (d : Dynamic) (x : Defect) (e : DynamicEntry) (rest : List DynamicEntry) → add_one t d e ≡ Err x → gathered t d (e ∷ rest) ≡ Err x
+gather_bad : (t : List ℕ) (d : Dynamic) (x : Defect) (e : DynamicEntry) (rest : List DynamicEntry) → add_one t d e ≡ Err x → gathered t d (e ∷ rest) ≡ Err x
 gather_bad t d x e rest h = by (counts d e.tag) (has_text_at t e.value) h
   where
     by : (a b : Bool) → cond a (cond b (Ok (with_text e.tag (text_at t e.value) d)) (Err (BadString e.tag))) (Ok d) ≡ Err x →
@@ -48,6 +53,19 @@ count_ok t d new e rest h = by (counts d e.tag) (has_text_at t e.value) h
     by true false h = absurd (cc)
     by false b h = let same : d ≡ new = cc in let e = ap (λ d. counted t d rest) same in omega arith
 
+-- the same with what is kept
+kept_ok : (keep : Keep) (t : List ℕ) (d new : Dynamic) (e : DynamicEntry) (rest : List DynamicEntry) → kept_of keep (add_one t d e) ≡ Ok (kept keep new) →
+    kept_of keep (gathered t d (e ∷ rest)) ≡ kept_of keep (gathered t new rest)
+kept_ok keep t d new e rest h =
+    let (x, added, alike) = unkept keep (add_one t d e) new h in
+    ap (kept_of keep) (gather_ok t d x e rest added) ∙ gathered_alike keep t rest x new alike
+
+count_kept : (keep : Keep) (t : List ℕ) (d new : Dynamic) (e : DynamicEntry) (rest : List DynamicEntry) → kept_of keep (add_one t d e) ≡ Ok (kept keep new) →
+    counted t d (e ∷ rest) ≡ one_if (counts d e.tag) + counted t new rest
+count_kept keep t d new e rest h =
+    let (x, added, alike) = unkept keep (add_one t d e) new h in
+    count_ok t d x e rest added ∙ ap (λ n. one_if (counts d e.tag) + n) (counted_alike keep t rest x new alike)
+
 -- an entry that counts is one of those that count
 count_one : (t : List ℕ) (d : Dynamic) (e : DynamicEntry) (rest : List DynamicEntry) → one_if (counts d e.tag) ≤ counted t d (e ∷ rest)
 count_one t d e rest = by (counts d e.tag)
@@ -64,24 +82,25 @@ pub record Stays (old new : StoreState) (most unread : ℕ) (t : List ℕ) (d : 
 
 -- ---- the loop over the entries, in known content
 
-pub rests_on : (known : Option (List ℕ)) (table : List ℕ → List ℕ) (rest next : List ℕ → List DynamicEntry) (all : List ℕ → Result Dynamic Defect) (d new : Dynamic) (e : DynamicEntry) →
-    IfKnown known (λ bytes. rest bytes ≡ e ∷ next bytes) → IfKnown known (λ bytes. add_one (table bytes) d e ≡ Ok new) → IfKnown known (λ bytes. gathered (table bytes) d (rest bytes) ≡ all bytes) →
-    IfKnown known (λ bytes. gathered (table bytes) new (next bytes) ≡ all bytes)
-rests_on None table rest next all d new e on added whole = tt
-rests_on (Some bytes) table rest next all d new e on added whole =
-    sym (gather_ok (table bytes) d new e (next bytes) added) ∙ ap (gathered (table bytes) d) (sym on) ∙ whole
+pub rests_on : (keep : Keep) (known : Option (List ℕ)) (table : List ℕ → List ℕ) (rest next : List ℕ → List DynamicEntry) (all : List ℕ → Result Dynamic Defect) (d new : Dynamic) (e : DynamicEntry) →
+    IfKnown known (λ bytes. rest bytes ≡ e ∷ next bytes) → IfKnown known (λ bytes. kept_of keep (add_one (table bytes) d e) ≡ Ok (kept keep new)) →
+    IfKnown known (λ bytes. kept_of keep (gathered (table bytes) d (rest bytes)) ≡ kept_of keep (all bytes)) → IfKnown known (λ bytes. kept_of keep (gathered (table bytes) new (next bytes)) ≡ kept_of keep (all bytes))
+rests_on keep None table rest next all d new e on added whole = tt
+rests_on keep (Some bytes) table rest next all d new e on added whole =
+    sym (kept_ok keep (table bytes) d new e (next bytes) added) ∙ ap (λ es. kept_of keep (gathered (table bytes) d es)) (sym on) ∙ whole
 
-pub rests_bad : (known : Option (List ℕ)) (table : List ℕ → List ℕ) (rest next : List ℕ → List DynamicEntry) (all : List ℕ → Result Dynamic Defect) (d : Dynamic) (x : Defect) (e : DynamicEntry) →
-    IfKnown known (λ bytes. rest bytes ≡ e ∷ next bytes) → IfKnown known (λ bytes. add_one (table bytes) d e ≡ Err x) → IfKnown known (λ bytes. gathered (table bytes) d (rest bytes) ≡ all bytes) →
+rests_bad : (keep : Keep) (known : Option (List ℕ)) (table : List ℕ → List ℕ) (rest next : List ℕ → List DynamicEntry) (all : List ℕ → Result Dynamic Defect) (d : Dynamic) (x : Defect) (e : DynamicEntry) →
+    IfKnown known (λ bytes. rest bytes ≡ e ∷ next bytes) → IfKnown known (λ bytes. add_one (table bytes) d e ≡ Err x) →
+    IfKnown known (λ bytes. kept_of keep (gathered (table bytes) d (rest bytes)) ≡ kept_of keep (all bytes)) →
     IfKnown known (λ bytes. all bytes ≡ Err x)
-rests_bad None table rest next all d x e on bad whole = tt
-rests_bad (Some bytes) table rest next all d x e on bad whole =
-    sym whole ∙ ap (gathered (table bytes) d) on ∙ gather_bad (table bytes) d x e (next bytes) bad
+rests_bad keep None table rest next all d x e on bad whole = tt
+rests_bad keep (Some bytes) table rest next all d x e on bad whole =
+    unkept_bad keep (all bytes) x (sym whole ∙ ap (λ es. kept_of keep (gathered (table bytes) d es)) on ∙ ap (kept_of keep) (gather_bad (table bytes) d x e (next bytes) bad))
 
-pub rests_end : (known : Option (List ℕ)) (table : List ℕ → List ℕ) (rest : List ℕ → List DynamicEntry) (all : List ℕ → Result Dynamic Defect) (d : Dynamic) →
-    IfKnown known (λ bytes. rest bytes ≡ []) → IfKnown known (λ bytes. gathered (table bytes) d (rest bytes) ≡ all bytes) → IfKnown known (λ bytes. all bytes ≡ Ok d)
-rests_end None table rest all d none whole = tt
-rests_end (Some bytes) table rest all d none whole = sym whole ∙ ap (gathered (table bytes) d) none
+pub rests_end : (keep : Keep) (known : Option (List ℕ)) (table : List ℕ → List ℕ) (rest : List ℕ → List DynamicEntry) (all : List ℕ → Result Dynamic Defect) (d : Dynamic) →
+    IfKnown known (λ bytes. rest bytes ≡ []) → IfKnown known (λ bytes. kept_of keep (gathered (table bytes) d (rest bytes)) ≡ kept_of keep (all bytes)) → IfKnown known (λ bytes. kept_of keep (all bytes) ≡ Ok (kept keep d))
+rests_end keep None table rest all d none whole = tt
+rests_end keep (Some bytes) table rest all d none whole = sym whole ∙ ap (λ es. kept_of keep (gathered (table bytes) d es)) none
 
 -- ---- the bytes that were taken, in known content
 
@@ -103,14 +122,14 @@ sum_fault most u v all had one size e h k l s = omega arith
 sum_end : (most u all had : ℕ) → u ≤ most → most - u + 65536 * (all - had) + u ≤ most + 65536 * all
 sum_end most u all had h = omega arith
 
-pub stays_on : (known : Option (List ℕ)) (old mid mid2 new : StoreState) (most u v : ℕ) (table : List ℕ → List ℕ) (rest next all : List ℕ → List DynamicEntry) (d found first : Dynamic) (e : DynamicEntry) →
-    IfKnown known (λ bytes. Stays old mid most u (table bytes) d (rest bytes) first (all bytes)) → IfKnown known (λ bytes. rest bytes ≡ e ∷ next bytes) → IfKnown known (λ bytes. add_one (table bytes) d e ≡ Ok found) →
+pub stays_on : (keep : Keep) (known : Option (List ℕ)) (old mid mid2 new : StoreState) (most u v : ℕ) (table : List ℕ → List ℕ) (rest next all : List ℕ → List DynamicEntry) (d found first : Dynamic) (e : DynamicEntry) →
+    IfKnown known (λ bytes. Stays old mid most u (table bytes) d (rest bytes) first (all bytes)) → IfKnown known (λ bytes. rest bytes ≡ e ∷ next bytes) → IfKnown known (λ bytes. kept_of keep (add_one (table bytes) d e) ≡ Ok (kept keep found)) →
     u ≤ most → v ≤ u → mid2.taken ≤ raised mid.taken (u - v) → new.taken ≤ raised mid2.taken (cond (counts d e.tag) 65536 0) →
     IfKnown known (λ bytes. Stays old new most v (table bytes) found (next bytes) first (all bytes))
-stays_on None old mid mid2 new most u v table rest next all d found first e stays on added h k a b = tt
-stays_on (Some bytes) old mid mid2 new most u v table rest next all d found first e stays on added h k a b =
+stays_on keep None old mid mid2 new most u v table rest next all d found first e stays on added h k a b = tt
+stays_on keep (Some bytes) old mid mid2 new most u v table rest next all d found first e stays on added h k a b =
     let count : counted (table bytes) d (rest bytes) ≡ one_if (counts d e.tag) + counted (table bytes) found (next bytes) =
-    ap (counted (table bytes) d) on ∙ count_ok (table bytes) d found e (next bytes) added in
+    ap (counted (table bytes) d) on ∙ count_kept keep (table bytes) d found e (next bytes) added in
     by (counts d e.tag) count b
   where
     by : (c : Bool) → counted (table bytes) d (rest bytes) ≡ one_if c + counted (table bytes) found (next bytes) → new.taken ≤ raised mid2.taken (cond c 65536 0) →
@@ -156,19 +175,56 @@ stays_first (Some bytes) old most u table rest all d first e same =
     let count : counted (table bytes) d (rest bytes) ≡ counted (table bytes) first (all bytes) = ap (λ d. counted (table bytes) d (rest bytes)) e ∙ ap (counted (table bytes) first) same in
     record { fewer = omega arith; taken = omega arith }
 
-pub rests_first : (known : Option (List ℕ)) (table : List ℕ → List ℕ) (rest all : List ℕ → List DynamicEntry) (d first : Dynamic) →
-    d ≡ first → IfKnown known (λ bytes. rest bytes ≡ all bytes) → IfKnown known (λ bytes. gathered (table bytes) d (rest bytes) ≡ gathered (table bytes) first (all bytes))
-rests_first None table rest all d first e same = tt
-rests_first (Some bytes) table rest all d first e same = ap (λ d. gathered (table bytes) d (rest bytes)) e ∙ ap (gathered (table bytes) first) same
+pub rests_first : (keep : Keep) (known : Option (List ℕ)) (table : List ℕ → List ℕ) (rest all : List ℕ → List DynamicEntry) (d first : Dynamic) →
+    d ≡ first → IfKnown known (λ bytes. rest bytes ≡ all bytes) → IfKnown known (λ bytes. kept_of keep (gathered (table bytes) d (rest bytes)) ≡ kept_of keep (gathered (table bytes) first (all bytes)))
+rests_first keep None table rest all d first e same = tt
+rests_first keep (Some bytes) table rest all d first e same = ap (λ d. kept_of keep (gathered (table bytes) d (rest bytes))) e ∙ ap (λ es. kept_of keep (gathered (table bytes) first es)) same
 
 -- the fault of an entry is that of the whole
-pub fault_on : (known mid : Option (List ℕ)) (table : List ℕ → List ℕ) (rest next : List ℕ → List DynamicEntry) (all : List ℕ → Result Dynamic Defect) (d : Dynamic) (e : DynamicEntry) (fault : ObjectFault) → mid ≡ known →
-    IfKnown known (λ bytes. rest bytes ≡ e ∷ next bytes) → IfKnown known (λ bytes. gathered (table bytes) d (rest bytes) ≡ all bytes) →
+pub fault_on : (keep : Keep) (known mid : Option (List ℕ)) (table : List ℕ → List ℕ) (rest next : List ℕ → List DynamicEntry) (all : List ℕ → Result Dynamic Defect) (d : Dynamic) (e : DynamicEntry) (fault : ObjectFault) → mid ≡ known →
+    IfKnown known (λ bytes. rest bytes ≡ e ∷ next bytes) → IfKnown known (λ bytes. kept_of keep (gathered (table bytes) d (rest bytes)) ≡ kept_of keep (all bytes)) →
     IfBad {X = Unit {0}} (Err fault) (λ x. IfKnown mid (λ bytes. add_one (table bytes) d e ≡ Err x)) → IfBad {X = Dynamic} (Err fault) (λ x. IfKnown known (λ bytes. all bytes ≡ Err x))
-fault_on known mid table rest next all d e (faults.Bad x) same on whole bad =
-    rests_bad known table rest next all d x e on (subst (λ o. IfKnown o (λ bytes. add_one (table bytes) d e ≡ Err x)) same bad) whole
-fault_on known mid table rest next all d e faults.StoreFault same on whole bad = tt
-fault_on known mid table rest next all d e faults.NoMemory same on whole bad = tt
+fault_on keep known mid table rest next all d e (faults.Bad x) same on whole bad =
+    rests_bad keep known table rest next all d x e on (subst (λ o. IfKnown o (λ bytes. add_one (table bytes) d e ≡ Err x)) same bad) whole
+fault_on keep known mid table rest next all d e faults.StoreFault same on whole bad = tt
+fault_on keep known mid table rest next all d e faults.NoMemory same on whole bad = tt
+
+-- ---- entries without texts
+
+uncounted : (d : Dynamic) (e : DynamicEntry) → has_text e ≡ false → counts d e.tag ≡ false
+uncounted d e h =
+    let a : (e.tag == 1) ≡ false = grind arith in
+    let b : (e.tag == 14) ≡ false = grind arith in
+    let c : (e.tag == 15) ≡ false = grind arith in
+    let f : (e.tag == 29) ≡ false = grind arith in
+    rw (a, b, c, f) refl
+
+gathered_none : (t : List ℕ) (d : Dynamic) (es : List DynamicEntry) → texts_in es ≡ 0 → gathered t d es ≡ Ok d
+gathered_none t d [] h = refl
+gathered_none t d (e ∷ rest) h = by (gathered_none t d rest) (has_text e) refl h
+  where
+    by : (texts_in rest ≡ 0 → gathered t d rest ≡ Ok d) → (b : Bool) → has_text e ≡ b → length (cond b (e ∷ filter has_text rest) (filter has_text rest)) ≡ 0 → gathered t d (e ∷ rest) ≡ Ok d
+    by ih true k h = absurd (omega (arith, h))
+    by ih false k h = rw (uncounted d e k) (ih h)
+
+pub rests_done : (keep : Keep) (known : Option (List ℕ)) (table : List ℕ → List ℕ) (left : ℕ) (rest : List ℕ → List DynamicEntry) (all : List ℕ → Result Dynamic Defect) (d : Dynamic) → left ≡ 0 →
+    IfKnown known (λ bytes. left ≡ texts_in (rest bytes)) → IfKnown known (λ bytes. kept_of keep (gathered (table bytes) d (rest bytes)) ≡ kept_of keep (all bytes)) → IfKnown known (λ bytes. kept_of keep (all bytes) ≡ Ok (kept keep d))
+rests_done keep None table left rest all d none is whole = tt
+rests_done keep (Some bytes) table left rest all d none is whole = sym whole ∙ ap (kept_of keep) (gathered_none (table bytes) d (rest bytes) (sym is ∙ none))
+
+-- how many are left after one entry more
+pub left_on : (known : Option (List ℕ)) (left new : ℕ) (e : DynamicEntry) (rest next : List ℕ → List DynamicEntry) → new ≡ left - texts_in (e ∷ []) →
+    IfKnown known (λ bytes. rest bytes ≡ e ∷ next bytes) → IfKnown known (λ bytes. left ≡ texts_in (rest bytes)) → IfKnown known (λ bytes. new ≡ texts_in (next bytes))
+left_on None left new e rest next is on had = tt
+left_on (Some bytes) left new e rest next is on had =
+    let more = texts_more e (next bytes) in
+    let all = ap texts_in on in
+    omega (arith, is, had, more, all)
+
+pub left_first : (known : Option (List ℕ)) (left : ℕ) (rest all : List ℕ → List DynamicEntry) → IfKnown known (λ bytes. rest bytes ≡ all bytes) → IfKnown known (λ bytes. left ≡ texts_in (all bytes)) →
+    IfKnown known (λ bytes. left ≡ texts_in (rest bytes))
+left_first None left rest all same is = tt
+left_first (Some bytes) left rest all same is = is ∙ ap texts_in (sym same)
 
 -- ---- all entries
 

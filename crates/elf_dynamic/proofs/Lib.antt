@@ -4,6 +4,7 @@ pub mod Live
 pub mod Windows
 pub mod Joined
 pub mod Nuls
+pub mod Kept
 pub mod Gathered
 pub mod Sections
 pub mod Files

@@ -1,12 +1,15 @@
 -- The bytes before the first NUL, piece by piece.
-use Rattle.std.proofs.Common.{◌≡◌, Result, Ok, Err, IfOk, ◌⊎◌, inl, inr, ◌&&◌, length-take, length-drop, ℕ, suc, ◌+◌, ◌-◌, ◌<◌, ◌≤◌, min, Bool, true, false, cond, not, nat_lt, ◌||◌, List, [], ◌∷◌, ◌++◌, length, take, drop, Option, Some, None, is_some, option_map, refl, ap, sym, ◌∙◌, arith, append_assoc}
+use Rattle.std.proofs.Common.{◌≡◌, Result, Ok, Err, IfOk, ◌⊎◌, inl, inr, ◌&&◌, length-take, length-drop, ℕ, suc, ◌+◌, ◌-◌, ◌<◌, ◌≤◌, min, Bool, true, false, cond, not, nat_lt, ◌||◌, List, [], ◌∷◌, ◌++◌, length, take, drop, Option, Some, None, is_some, option_map, refl, ap, sym, ◌∙◌, arith, append_assoc, append-nil}
 use Rattle.std.proofs.lemmas.Bool.{cases_lt}
 use Rattle.std.proofs.lemmas.Bool.Decides.{nat_tests}
 use Rattle.std.proofs.lemmas.List.{take-append-drop, take-take, take_all, take_min}
 use Rattle.std.proofs.lemmas.List.Folds.{list_any-append}
+use Rattle.std.proofs.lemmas.List.Sums.{position_or_len_is}
+use Rattle.memchr.specs.Find.{IsFirstByte, is_byte}
 use Rattle.std.specs.List.{list_any, position, prefix_len, take_while}
 use Rattle.tree_face.specs.Known.{IfKnown}
 use Rattle.elf_dynamic.specs.declared.table.Table.{Table}
+use Rattle.elf_dynamic.specs.Kept.{kept_text}
 use Rattle.elf_dynamic.specs.Section.{is_nul, near}
 use Rattle.elf_dynamic.specs.Texts.{before_nul, bytes_of, text_found}
 use Rattle.elf_dynamic.proofs.Known.{with, both}
@@ -25,6 +28,27 @@ is_some_cond false a = refl
 
 pub is_some_position : {X : Type 0} (p : X → Bool) → (xs : List X) → is_some (position p xs) ≡ list_any p xs
 is_some_position p xs = is_some_cond _ _ ∙ passed p xs
+
+-- ---- the first NUL that a search finds
+
+false_unless : (b : Bool) → (b ≡ true → ⊥) → b ≡ false
+false_unless true h = absurd (h refl)
+false_unless false h = refl
+
+position_at : (n i m : ℕ) → n ≡ i → i < m → cond (nat_lt n m) (Some n) None ≡ Some i
+position_at n i m e h = let within : nat_lt i m ≡ true = grind (arith, nat_tests) in rw (e, within) refl
+
+position_past : (n m : ℕ) → n ≡ m → cond (nat_lt n m) (Some n) None ≡ None
+position_past n m e = let past : nat_lt m m ≡ false = grind (arith, nat_tests) in rw (e, past) refl
+
+pub first_nul_is : (xs : List ℕ) (r : Option ℕ) → IsFirstByte (is_byte 0) xs r → r ≡ position is_nul xs
+first_nul_is xs None h =
+    let at = position_or_len_is is_nul xs (length xs) 0 (omega arith) (λ k less. false_unless _ (h k (omega arith) less)) (λ less. absurd (omega (arith, less))) in
+    sym (position_past _ (length xs) at)
+first_nul_is xs (Some i) h =
+    let high = h.0.high in
+    let at = position_or_len_is is_nul xs i 0 (omega (arith, high)) (λ k less. false_unless _ (h.0.before k (omega arith) less)) (λ less. h.1) in
+    sym (position_at _ i (length xs) at high)
 
 -- ---- two pieces
 
@@ -70,38 +94,42 @@ cut count left at bytes h =
     let rest = part_on count left at bytes h in
     sym (take-append-drop count (take left (drop at bytes))) ∙ rw (front, rest) refl
 
-map_map : (xs ys : List ℕ) (o : Option (List ℕ)) → option_map (λ r. (xs ++ ys) ++ r) o ≡ option_map (λ r. xs ++ r) (option_map (λ r. ys ++ r) o)
-map_map xs ys None = refl
-map_map xs ys (Some zs) = rw append_assoc refl
+abbrev some_of : List ℕ → Option (List ℕ)
+some_of xs = Some xs
 
-abbrev Is : List ℕ → ℕ → ℕ → (List ℕ → Option (List ℕ)) → List ℕ → Type 0
-Is found at left all bytes = option_map (λ r. found ++ r) (before_nul (take left (drop at bytes))) ≡ all bytes
+map_map : (k : Bool) (xs ys : List ℕ) (o : Option (List ℕ)) → option_map (λ r. (xs ++ kept_text k ys) ++ kept_text k r) o ≡ option_map (λ r. xs ++ kept_text k r) (option_map (λ r. ys ++ r) o)
+map_map k xs ys None = refl
+map_map true xs ys (Some zs) = rw append_assoc refl
+map_map false xs ys (Some zs) = ap some_of (append-nil (xs ++ []))
 
-pub ended_here : (known : Option (List ℕ)) (found piece new : List ℕ) (at count left : ℕ) (all : List ℕ → Option (List ℕ)) → count ≤ left → list_any is_nul piece ≡ true → new ≡ found ++ take_while live piece →
-    IfKnown known (λ bytes. piece ≡ take count (drop at bytes)) → IfKnown known (Is found at left all) → IfKnown known (λ bytes. Some new ≡ all bytes)
-ended_here known found piece new at count left all h nul more read whole =
-    both {P = λ bytes. piece ≡ take count (drop at bytes)} {Q = Is found at left all} {R = λ bytes. Some new ≡ all bytes} known read whole
+abbrev Is : Bool → List ℕ → ℕ → ℕ → (List ℕ → Option (List ℕ)) → List ℕ → Type 0
+Is k found at left all bytes = option_map (λ r. found ++ kept_text k r) (before_nul (take left (drop at bytes))) ≡ all bytes
+
+pub ended_here : (k : Bool) (known : Option (List ℕ)) (found piece new : List ℕ) (at count left : ℕ) (all : List ℕ → Option (List ℕ)) → count ≤ left → list_any is_nul piece ≡ true → new ≡ found ++ kept_text k (take_while live piece) →
+    IfKnown known (λ bytes. piece ≡ take count (drop at bytes)) → IfKnown known (Is k found at left all) → IfKnown known (λ bytes. Some new ≡ all bytes)
+ended_here k known found piece new at count left all h nul more read whole =
+    both {P = λ bytes. piece ≡ take count (drop at bytes)} {Q = Is k found at left all} {R = λ bytes. Some new ≡ all bytes} known read whole
     (λ bytes read whole.
     let rest = take (left - count) (drop (at + count) bytes) in
     let split : take left (drop at bytes) ≡ piece ++ rest = cut count left at bytes h ∙ ap (λ xs. xs ++ rest) (sym read) in
     let here : before_nul (take left (drop at bytes)) ≡ Some (take_while live piece) = ap before_nul split ∙ nul_there piece rest nul in
-    ap Some more ∙ sym (ap (option_map (λ r. found ++ r)) here) ∙ whole)
+    ap Some more ∙ sym (ap (option_map (λ r. found ++ kept_text k r)) here) ∙ whole)
 
-pub goes_on : (known : Option (List ℕ)) (found piece new : List ℕ) (at count left : ℕ) (all : List ℕ → Option (List ℕ)) → count ≤ left → list_any is_nul piece ≡ false → new ≡ found ++ take_while live piece →
-    IfKnown known (λ bytes. piece ≡ take count (drop at bytes)) → IfKnown known (Is found at left all) → IfKnown known (Is new (at + count) (left - count) all)
-goes_on known found piece new at count left all h none more read whole =
-    both {P = λ bytes. piece ≡ take count (drop at bytes)} {Q = Is found at left all} {R = Is new (at + count) (left - count) all} known read whole
+pub goes_on : (k : Bool) (known : Option (List ℕ)) (found piece new : List ℕ) (at count left : ℕ) (all : List ℕ → Option (List ℕ)) → count ≤ left → list_any is_nul piece ≡ false → new ≡ found ++ kept_text k (take_while live piece) →
+    IfKnown known (λ bytes. piece ≡ take count (drop at bytes)) → IfKnown known (Is k found at left all) → IfKnown known (Is k new (at + count) (left - count) all)
+goes_on k known found piece new at count left all h none more read whole =
+    both {P = λ bytes. piece ≡ take count (drop at bytes)} {Q = Is k found at left all} {R = Is k new (at + count) (left - count) all} known read whole
     (λ bytes read whole.
     let rest = take (left - count) (drop (at + count) bytes) in
     let split : take left (drop at bytes) ≡ piece ++ rest = cut count left at bytes h ∙ ap (λ xs. xs ++ rest) (sym read) in
     let behind : before_nul (take left (drop at bytes)) ≡ option_map (λ r. piece ++ r) (before_nul rest) = ap before_nul split ∙ nul_behind piece rest none in
-    let all_of_it : new ≡ found ++ piece = more ∙ ap (λ xs. found ++ xs) (while_none piece none) in
-    ap (λ xs. option_map (λ r. xs ++ r) (before_nul rest)) all_of_it ∙ map_map found piece (before_nul rest) ∙ sym (ap (option_map (λ r. found ++ r)) behind) ∙ whole)
+    let all_of_it : new ≡ found ++ kept_text k piece = more ∙ ap (λ xs. found ++ kept_text k xs) (while_none piece none) in
+    ap (λ xs. option_map (λ r. xs ++ kept_text k r) (before_nul rest)) all_of_it ∙ map_map k found piece (before_nul rest) ∙ sym (ap (option_map (λ r. found ++ kept_text k r)) behind) ∙ whole)
 
-pub ended_nowhere : (known : Option (List ℕ)) (found : List ℕ) (at left : ℕ) (all : List ℕ → Option (List ℕ)) → left ≡ 0 → IfKnown known (Is found at left all) → IfKnown known (λ bytes. None ≡ all bytes)
-ended_nowhere known found at left all h whole =
-    with {P = Is found at left all} {Q = λ bytes. None ≡ all bytes} known whole
-    (λ bytes whole. sym (ap (λ n. option_map (λ r. found ++ r) (before_nul (take n (drop at bytes)))) h) ∙ whole)
+pub ended_nowhere : (k : Bool) (known : Option (List ℕ)) (found : List ℕ) (at left : ℕ) (all : List ℕ → Option (List ℕ)) → left ≡ 0 → IfKnown known (Is k found at left all) → IfKnown known (λ bytes. None ≡ all bytes)
+ended_nowhere k known found at left all h whole =
+    with {P = Is k found at left all} {Q = λ bytes. None ≡ all bytes} known whole
+    (λ bytes whole. sym (ap (λ n. option_map (λ r. found ++ kept_text k r) (before_nul (take n (drop at bytes)))) h) ∙ whole)
 
 -- ---- the text at an offset of a table
 
@@ -129,13 +157,13 @@ text_is most offset t bytes h inside e =
     let within : nat_lt offset (length (take t.size (drop t.at bytes))) ≡ true = ap (nat_lt offset) size ∙ grind (arith, nat_tests) in
     ap before_nul (sym near_here) ∙ text_by (nat_lt offset (length (bytes_of t bytes))) _ _ within
 
-pub text_known : {F : Type 0} (known : Option (List ℕ)) (most offset : ℕ) (t : Table) (size : ℕ) (r : Result (Option (List ℕ)) F) → offset < t.size → t.at + t.size ≤ size → most ≡ min (t.size - offset) 65536 →
-    IfKnown known (λ bytes. length bytes ≡ size) → IfOk r (λ o. IfKnown known (λ bytes. o ≡ before_nul (take most (drop (t.at + offset) bytes)))) →
-    IfOk r (λ o. IfKnown known (λ bytes. o ≡ text_found (bytes_of t bytes) offset))
-text_known known most offset t size (Err f) h inside e same read = tt
-text_known known most offset t size (Ok o) h inside e same read =
-    both {P = λ bytes. length bytes ≡ size} {Q = λ bytes. o ≡ before_nul (take most (drop (t.at + offset) bytes))} {R = λ bytes. o ≡ text_found (bytes_of t bytes) offset} known same read
-    (λ bytes same read. read ∙ text_is most offset t bytes h (omega arith) e)
+pub text_known : {F : Type 0} (k : Bool) (known : Option (List ℕ)) (most offset : ℕ) (t : Table) (size : ℕ) (r : Result (Option (List ℕ)) F) → offset < t.size → t.at + t.size ≤ size → most ≡ min (t.size - offset) 65536 →
+    IfKnown known (λ bytes. length bytes ≡ size) → IfOk r (λ o. IfKnown known (λ bytes. o ≡ option_map (kept_text k) (before_nul (take most (drop (t.at + offset) bytes))))) →
+    IfOk r (λ o. IfKnown known (λ bytes. o ≡ option_map (kept_text k) (text_found (bytes_of t bytes) offset)))
+text_known k known most offset t size (Err f) h inside e same read = tt
+text_known k known most offset t size (Ok o) h inside e same read =
+    both {P = λ bytes. length bytes ≡ size} {Q = λ bytes. o ≡ option_map (kept_text k) (before_nul (take most (drop (t.at + offset) bytes)))} {R = λ bytes. o ≡ option_map (kept_text k) (text_found (bytes_of t bytes) offset)} known same read
+    (λ bytes same read. read ∙ ap (option_map (kept_text k)) (text_is most offset t bytes h (omega arith) e))
 
 take_take_min : (n r : ℕ) (xs : List ℕ) → take n (take r xs) ≡ take (min n r) xs
 take_take_min n r xs = elim (cases_lt r n) as (λ _. take n (take r xs) ≡ take (min n r) xs) [

@@ -1,5 +1,5 @@
 -- The object and the analysis of a file, by its header and its dynamic section.
-use Rattle.std.proofs.Common.{◌≡◌, ℕ, ◌+◌, ◌*◌, ◌≤◌, Bool, true, false, cond, ◌==◌, List, [], ◌∷◌, ◌++◌, length, Option, Some, None, IfSome, IsSomeAnd, is_none, option_map, Result, Ok, Err, refl, ap, sym, subst, ◌∙◌, arith}
+use Rattle.std.proofs.Common.{◌≡◌, ℕ, ◌+◌, ◌*◌, ◌≤◌, Bool, true, false, cond, ◌==◌, List, [], ◌∷◌, ◌++◌, length, Option, Some, None, IfSome, IsSomeAnd, is_none, option_map, Result, Ok, Err, IfOk, refl, ap, sym, subst, ◌∙◌, arith}
 use Rattle.std.specs.Option.{option_map_or}
 use Rattle.lib_types.specs.Counts.{raised}
 use Rattle.lib_types.specs.declared.abi.Abi.{Abi}
@@ -20,6 +20,10 @@ use Rattle.elf_dynamic.specs.declared.kinds.Dynamic.{Dynamic}
 use Rattle.elf_dynamic.specs.declared.kinds.Object.{Object}
 use Rattle.elf_dynamic.specs.declared.fault.ObjectFault.{ObjectFault}
 use Rattle.elf_dynamic.specs.declared.fault.ObjectFault.TheVariants as faults
+use Rattle.elf_dynamic.specs.declared.gather.Keep.{Keep}
+use Rattle.elf_dynamic.specs.declared.gather.Keep.TheVariants.{All, Soname}
+use Rattle.elf_dynamic.specs.Kept.{kept, kept_in_file, kept_object, kept_object_of}
+use Rattle.elf_dynamic.proofs.Kept.{unkept_in_file, unkept_object, whole_object, library_alike}
 use Rattle.elf_dynamic.specs.Faults.{IfBad, of_head}
 use Rattle.elf_headers.specs.declared.fault.HeadFault.{HeadFault}
 use Rattle.elf_headers.specs.declared.fault.HeadFault.TheVariants as head_faults
@@ -207,12 +211,26 @@ analysis_bad bytes x h =
 at_known : (P : List ℕ → Type 0) (known : Option (List ℕ)) (bytes : List ℕ) → known ≡ Some bytes → IfKnown known P → P bytes
 at_known P known bytes e h = subst (λ o. IfKnown o P) e h
 
-pub content_object : (held : Option Contents) (key : List ℕ) (known : Option (List ℕ)) (h : Head) (d : Option Dynamic) (o : Object) → o ≡ record { abi = h.abi; etype = h.etype; dynamic = d } →
-    OfContent held key (λ bytes. known ≡ Some bytes) → IfKnown known (λ bytes. head bytes ≡ Ok h) → IfKnown known (λ bytes. sections_in (word_size h.wide) bytes ≡ Ok d) → OfContent held key (λ bytes. object bytes ≡ Ok o)
-content_object held key known h d o is content is_head read =
-    weaken {P = λ bytes. known ≡ Some bytes} {Q = λ bytes. object bytes ≡ Ok o} held key
+pub content_object : (keep : Keep) (held : Option Contents) (key : List ℕ) (known : Option (List ℕ)) (h : Head) (d : Option Dynamic) (o : Object) → o ≡ record { abi = h.abi; etype = h.etype; dynamic = d } →
+    OfContent held key (λ bytes. known ≡ Some bytes) → IfKnown known (λ bytes. head bytes ≡ Ok h) → IfKnown known (λ bytes. kept_in_file keep (sections_in (word_size h.wide) bytes) ≡ Ok (option_map (kept keep) d)) →
+    OfContent held key (λ bytes. kept_object_of keep (object bytes) ≡ Ok (kept_object keep o))
+content_object keep held key known h d o is content is_head read =
+    weaken {P = λ bytes. known ≡ Some bytes} {Q = λ bytes. kept_object_of keep (object bytes) ≡ Ok (kept_object keep o)} held key
     (λ bytes e.
-    object_ok bytes h d (at_known (λ bytes. head bytes ≡ Ok h) known bytes e is_head) (at_known (λ bytes. sections_in (word_size h.wide) bytes ≡ Ok d) known bytes e read) ∙ ap ok_of (sym is))
+    let P = λ (bytes : List ℕ). kept_in_file keep (sections_in (word_size h.wide) bytes) ≡ Ok (option_map (kept keep) d) in
+    let (x, is_x, alike) = unkept_in_file keep (sections_in (word_size h.wide) bytes) d (at_known P known bytes e read) in
+    ap (kept_object_of keep) (object_ok bytes h x (at_known (λ bytes. head bytes ≡ Ok h) known bytes e is_head) is_x)
+    ∙ ap (λ d. ok_of (made h.abi h.etype d)) alike
+    ∙ ap (λ o. ok_of (kept_object keep o)) (sym is))
+    content
+
+-- the object with all texts
+pub content_whole : (held : Option Contents) (key : List ℕ) (r : Result Object ObjectFault) → IfOk r (λ o. OfContent held key (λ bytes. kept_object_of All (object bytes) ≡ Ok (kept_object All o))) →
+    IfOk r (λ o. OfContent held key (λ bytes. object bytes ≡ Ok o))
+content_whole held key (Err f) content = tt
+content_whole held key (Ok o) content =
+    weaken {P = λ bytes. kept_object_of All (object bytes) ≡ Ok (kept_object All o)} {Q = λ bytes. object bytes ≡ Ok o} held key
+    (λ bytes e. let (x, is, alike) = unkept_object All (object bytes) o e in is ∙ ap ok_of (sym (whole_object x) ∙ alike ∙ whole_object o))
     content
 
 pub content_bad : (held : Option Contents) (key : List ℕ) (known : Option (List ℕ)) (h : Head) (x : Defect) →
@@ -231,8 +249,11 @@ content_fault held key known h faults.NoMemory content is_head bad = tt
 pub content_head : (held : Option Contents) (key : List ℕ) (x : Defect) → OfContent held key (λ bytes. head bytes ≡ Err x) → OfContent held key (λ bytes. object bytes ≡ Err x)
 content_head held key x content = weaken {P = λ bytes. head bytes ≡ Err x} {Q = λ bytes. object bytes ≡ Err x} held key (λ bytes e. object_head bytes x e) content
 
-pub content_analysis : (held : Option Contents) (key : List ℕ) (o : Object) (a : Analysis) → a ≡ library_of o.abi o.etype o.dynamic → OfContent held key (λ bytes. object bytes ≡ Ok o) → OfContent held key (λ bytes. analysis bytes ≡ a)
-content_analysis held key o a is content = weaken {P = λ bytes. object bytes ≡ Ok o} {Q = λ bytes. analysis bytes ≡ a} held key (λ bytes e. analysis_ok bytes o e ∙ sym is) content
+pub content_analysis : (held : Option Contents) (key : List ℕ) (o : Object) (a : Analysis) → a ≡ library_of o.abi o.etype o.dynamic → OfContent held key (λ bytes. kept_object_of Soname (object bytes) ≡ Ok (kept_object Soname o)) → OfContent held key (λ bytes. analysis bytes ≡ a)
+content_analysis held key o a is content =
+    weaken {P = λ bytes. kept_object_of Soname (object bytes) ≡ Ok (kept_object Soname o)} {Q = λ bytes. analysis bytes ≡ a} held key
+    (λ bytes e. let (x, is_x, alike) = unkept_object Soname (object bytes) o e in analysis_ok bytes x is_x ∙ library_alike x o alike ∙ sym is)
+    content
 
 pub content_not : (held : Option Contents) (key : List ℕ) (x : Defect) → OfContent held key (λ bytes. object bytes ≡ Err x) → OfContent held key (λ bytes. analysis bytes ≡ Not x)
 content_not held key x content = weaken {P = λ bytes. object bytes ≡ Err x} {Q = λ bytes. analysis bytes ≡ Not x} held key (λ bytes e. analysis_bad bytes x e) content

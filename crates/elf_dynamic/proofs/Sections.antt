@@ -1,5 +1,5 @@
 -- What a section says, by the first sentence that holds.
-use Rattle.std.proofs.Common.{◌≡◌, ℕ, ◌+◌, ◌*◌, ◌≤◌, length, subst, Bool, true, false, cond, not, ◌||◌, List, [], ◌∷◌, map, filter, find, Option, Some, None, is_none, is_some, ok_or, Result, Ok, Err, refl, ap, sym, ◌∙◌, arith}
+use Rattle.std.proofs.Common.{◌≡◌, ℕ, ◌+◌, ◌*◌, ◌≤◌, ◌<◌, length, subst, Bool, true, false, cond, not, ◌||◌, List, [], ◌∷◌, map, filter, find, Option, Some, None, is_none, is_some, ok_or, Result, Ok, Err, refl, ap, sym, ◌∙◌, arith}
 use Rattle.std.specs.List.{list_any}
 use Rattle.std.specs.Option.{option_map_or}
 use Rattle.lib_types.specs.Name.{is_name}
@@ -8,6 +8,8 @@ use Rattle.lib_types.specs.declared.analysis.Defect.TheVariants.{DynOutside, NoS
 use Rattle.elf_headers.specs.Header.{first_defect, unless_defect}
 use Rattle.elf_dynamic.specs.declared.kinds.DynamicEntry.{DynamicEntry}
 use Rattle.elf_dynamic.specs.declared.kinds.Dynamic.{Dynamic}
+use Rattle.elf_dynamic.specs.declared.gather.Keep.{Keep}
+use Rattle.elf_dynamic.specs.Kept.{kept, kept_of}
 use Rattle.elf_dynamic.specs.Section.{strtab, strsz, has_tag, value_of, has_text, string_table, table_at, dynamic_segment, is_outside, dynamic_entries, counting_after, counting_entries, has_text_at, text_at}
 use Rattle.elf_dynamic.specs.Object.{entries, table, section_sentences, dynamic_sentences, bad_entry, text_in, soname_of, needed_of, has_nodeflib, nodeflib_of, dynamic_of}
 use Rattle.elf_dynamic.specs.Texts.{bytes_of, no_texts, gathered, counted}
@@ -23,11 +25,28 @@ use Rattle.elf_headers.specs.Reading.{known_content, OfKnown, OnlyReads, TakesAt
 use Rattle.elf_headers.specs.declared.kinds.Segment.{Segment}
 use Rattle.elf_headers.specs.Layout.{segments}
 use Rattle.elf_dynamic.specs.declared.values.Values.{Values}
-use Rattle.elf_dynamic.specs.Values.{values_of}
+use Rattle.elf_dynamic.specs.Values.{texts_in, values_of}
 use Rattle.elf_dynamic.proofs.Known.{before, after, with, both, three}
+use Rattle.elf_dynamic.proofs.Kept.{unkept, soname_alike, name_alike}
 use Rattle.elf_dynamic.proofs.Gathered.{all_texts, picked, gathered_all, counted_all, raised_more, raised_less}
 
--- ---- no entry has a text
+-- ---- whether an entry has a text
+
+none_with_text : (es : List DynamicEntry) → texts_in es ≡ 0 → list_any has_text es ≡ false
+none_with_text [] h = refl
+none_with_text (e ∷ rest) h = by (none_with_text rest) (has_text e) h
+  where
+    by : (texts_in rest ≡ 0 → list_any has_text rest ≡ false) → (b : Bool) → length (cond b (e ∷ filter has_text rest) (filter has_text rest)) ≡ 0 → (b || list_any has_text rest) ≡ false
+    by ih true h = absurd (omega (arith, h))
+    by ih false h = ih h
+
+some_with_text : (es : List DynamicEntry) → 0 < texts_in es → list_any has_text es ≡ true
+some_with_text [] h = absurd (omega (arith, h))
+some_with_text (e ∷ rest) h = by (some_with_text rest) (has_text e) h
+  where
+    by : (0 < texts_in rest → list_any has_text rest ≡ true) → (b : Bool) → 0 < length (cond b (e ∷ filter has_text rest) (filter has_text rest)) → (b || list_any has_text rest) ≡ true
+    by ih true h = refl
+    by ih false h = ih h
 
 none_counts : (p : DynamicEntry → Bool) (earlier es : List DynamicEntry) → list_any has_text es ≡ false → find p (counting_after earlier es) ≡ None
 none_counts p earlier [] h = refl
@@ -186,25 +205,25 @@ texts_taken_by s t u n m w d f table reads first taken =
 
 -- ---- the section in known content
 
-module _ (known : Option (List ℕ)) (w : ℕ) (s : Segment) (v : Values) (is : IfKnown known (λ bytes. v ≡ values_of (dynamic_entries w bytes s))) where
-  pub known_textless : v.has_text ≡ false → IfKnown known (λ bytes. section_in w bytes s ≡ Ok (no_texts (option_map_or has_nodeflib v.flags_1 false)))
+module _ (keep : Keep) (known : Option (List ℕ)) (w : ℕ) (s : Segment) (v : Values) (is : IfKnown known (λ bytes. v ≡ values_of (dynamic_entries w bytes s))) where
+  pub known_textless : v.texts ≡ 0 → IfKnown known (λ bytes. kept_of keep (section_in w bytes s) ≡ Ok (kept keep (no_texts (option_map_or has_nodeflib v.flags_1 false))))
   unfolding section_in
   known_textless h =
-      with {P = λ bytes. v ≡ values_of (dynamic_entries w bytes s)} {Q = λ bytes. section_in w bytes s ≡ Ok (no_texts (option_map_or has_nodeflib v.flags_1 false))} known is
+      with {P = λ bytes. v ≡ values_of (dynamic_entries w bytes s)} {Q = λ bytes. kept_of keep (section_in w bytes s) ≡ Ok (kept keep (no_texts (option_map_or has_nodeflib v.flags_1 false)))} known is
       (λ bytes e.
       let es = dynamic_entries w bytes s in
-      let none : list_any has_text es ≡ false = sym (ap (λ v. v.has_text) e) ∙ h in
-      textless (string_table bytes (segments w bytes) es) es none ∙ ap (λ f. ok_of (no_texts (option_map_or has_nodeflib f false))) (sym (ap (λ v. v.flags_1) e)))
+      let none = none_with_text es (sym (ap (λ v. v.texts) e) ∙ h) in
+      ap (kept_of keep) (textless (string_table bytes (segments w bytes) es) es none ∙ ap (λ f. ok_of (no_texts (option_map_or has_nodeflib f false))) (sym (ap (λ v. v.flags_1) e))))
 
-  pub known_bad_table : (d : Defect) → v.has_text ≡ true → IfKnown known (λ bytes. table_by w bytes v.strtab v.strsz ≡ Err d) → IfKnown known (λ bytes. section_in w bytes s ≡ Err d)
+  pub known_bad_table : (d : Defect) → 0 < v.texts → IfKnown known (λ bytes. table_by w bytes v.strtab v.strsz ≡ Err d) → IfKnown known (λ bytes. section_in w bytes s ≡ Err d)
   unfolding section_in
   known_bad_table d h bad =
       both {P = λ bytes. v ≡ values_of (dynamic_entries w bytes s)} {Q = λ bytes. table_by w bytes v.strtab v.strsz ≡ Err d} {R = λ bytes. section_in w bytes s ≡ Err d} known is bad
       (λ bytes e bad.
       let es = dynamic_entries w bytes s in
-      strings_by w bytes v.strtab v.strsz d es (sym (ap (λ v. v.strtab) e)) (sym (ap (λ v. v.strsz) e)) (sym (ap (λ v. v.has_text) e) ∙ h) bad)
+      strings_by w bytes v.strtab v.strsz d es (sym (ap (λ v. v.strtab) e)) (sym (ap (λ v. v.strsz) e)) (some_with_text es (subst (λ n. 0 < n) (ap (λ v. v.texts) e) h)) bad)
 
-  pub known_bad_text : (t : List ℕ → List ℕ) (x : Defect) → v.has_text ≡ true → IfKnown known (λ bytes. table_by w bytes v.strtab v.strsz ≡ Ok (t bytes)) →
+  pub known_bad_text : (t : List ℕ → List ℕ) (x : Defect) → 0 < v.texts → IfKnown known (λ bytes. table_by w bytes v.strtab v.strsz ≡ Ok (t bytes)) →
       IfKnown known (λ bytes. gathered (t bytes) (no_texts (option_map_or has_nodeflib v.flags_1 false)) (dynamic_entries w bytes s) ≡ Err x) → IfKnown known (λ bytes. section_in w bytes s ≡ Err x)
   unfolding section_in
   known_bad_text t x h there bad =
@@ -213,52 +232,56 @@ module _ (known : Option (List ℕ)) (w : ℕ) (s : Segment) (v : Values) (is : 
       (λ bytes e there bad.
       let es = dynamic_entries w bytes s in
       let strings = strings_there w bytes v.strtab v.strsz (t bytes) es (sym (ap (λ v. v.strtab) e)) (sym (ap (λ v. v.strsz) e)) there in
-      ap (λ t. section_of t es) strings.0 ∙ bad_text (t bytes) es (option_map_or has_nodeflib v.flags_1 false) x (sym (ap (λ v. v.has_text) e) ∙ h) strings.1 bad)
+      ap (λ t. section_of t es) strings.0 ∙ bad_text (t bytes) es (option_map_or has_nodeflib v.flags_1 false) x (some_with_text es (subst (λ n. 0 < n) (ap (λ v. v.texts) e) h)) strings.1 bad)
 
-  pub known_bad_name : (t : List ℕ → List ℕ) (d : Dynamic) → v.has_text ≡ true → has_good_name d.soname ≡ false → IfKnown known (λ bytes. table_by w bytes v.strtab v.strsz ≡ Ok (t bytes)) →
-      IfKnown known (λ bytes. gathered (t bytes) (no_texts (option_map_or has_nodeflib v.flags_1 false)) (dynamic_entries w bytes s) ≡ Ok d) → IfKnown known (λ bytes. section_in w bytes s ≡ Err BadSoname)
+  pub known_bad_name : (t : List ℕ → List ℕ) (d : Dynamic) → 0 < v.texts → has_good_name d.soname ≡ false → IfKnown known (λ bytes. table_by w bytes v.strtab v.strsz ≡ Ok (t bytes)) →
+      IfKnown known (λ bytes. kept_of keep (gathered (t bytes) (no_texts (option_map_or has_nodeflib v.flags_1 false)) (dynamic_entries w bytes s)) ≡ Ok (kept keep d)) → IfKnown known (λ bytes. section_in w bytes s ≡ Err BadSoname)
   unfolding section_in
   known_bad_name t d h name there good =
       three {P = λ bytes. v ≡ values_of (dynamic_entries w bytes s)} {Q = λ bytes. table_by w bytes v.strtab v.strsz ≡ Ok (t bytes)}
-      {R = λ bytes. gathered (t bytes) (no_texts (option_map_or has_nodeflib v.flags_1 false)) (dynamic_entries w bytes s) ≡ Ok d} {X = λ bytes. section_in w bytes s ≡ Err BadSoname} known is there good
+      {R = λ bytes. kept_of keep (gathered (t bytes) (no_texts (option_map_or has_nodeflib v.flags_1 false)) (dynamic_entries w bytes s)) ≡ Ok (kept keep d)} {X = λ bytes. section_in w bytes s ≡ Err BadSoname} known is there good
       (λ bytes e there good.
       let es = dynamic_entries w bytes s in
+      let (x, gathers, alike) = unkept keep (gathered (t bytes) (no_texts (option_map_or has_nodeflib v.flags_1 false)) es) d good in
       let strings = strings_there w bytes v.strtab v.strsz (t bytes) es (sym (ap (λ v. v.strtab) e)) (sym (ap (λ v. v.strsz) e)) there in
-      ap (λ t. section_of t es) strings.0 ∙ bad_name (t bytes) es (option_map_or has_nodeflib v.flags_1 false) d (sym (ap (λ v. v.has_text) e) ∙ h) strings.1 good name)
+      ap (λ t. section_of t es) strings.0 ∙ bad_name (t bytes) es (option_map_or has_nodeflib v.flags_1 false) x (some_with_text es (subst (λ n. 0 < n) (ap (λ v. v.texts) e) h)) strings.1 gathers (ap has_good_name (soname_alike keep x d alike) ∙ name))
 
-  pub known_good : (t : List ℕ → List ℕ) (d new : Dynamic) → v.has_text ≡ true → has_good_name d.soname ≡ true → new ≡ record d { soname = name_of d.soname } → IfKnown known (λ bytes. table_by w bytes v.strtab v.strsz ≡ Ok (t bytes)) →
-      IfKnown known (λ bytes. gathered (t bytes) (no_texts (option_map_or has_nodeflib v.flags_1 false)) (dynamic_entries w bytes s) ≡ Ok d) → IfKnown known (λ bytes. section_in w bytes s ≡ Ok new)
+  pub known_good : (t : List ℕ → List ℕ) (d new : Dynamic) → 0 < v.texts → has_good_name d.soname ≡ true → new ≡ record d { soname = name_of d.soname } → IfKnown known (λ bytes. table_by w bytes v.strtab v.strsz ≡ Ok (t bytes)) →
+      IfKnown known (λ bytes. kept_of keep (gathered (t bytes) (no_texts (option_map_or has_nodeflib v.flags_1 false)) (dynamic_entries w bytes s)) ≡ Ok (kept keep d)) → IfKnown known (λ bytes. kept_of keep (section_in w bytes s) ≡ Ok (kept keep new))
   unfolding section_in
   known_good t d new h name is_new there good =
       three {P = λ bytes. v ≡ values_of (dynamic_entries w bytes s)} {Q = λ bytes. table_by w bytes v.strtab v.strsz ≡ Ok (t bytes)}
-      {R = λ bytes. gathered (t bytes) (no_texts (option_map_or has_nodeflib v.flags_1 false)) (dynamic_entries w bytes s) ≡ Ok d} {X = λ bytes. section_in w bytes s ≡ Ok new} known is there good
+      {R = λ bytes. kept_of keep (gathered (t bytes) (no_texts (option_map_or has_nodeflib v.flags_1 false)) (dynamic_entries w bytes s)) ≡ Ok (kept keep d)} {X = λ bytes. kept_of keep (section_in w bytes s) ≡ Ok (kept keep new)} known is there good
       (λ bytes e there good.
       let es = dynamic_entries w bytes s in
+      let (x, gathers, alike) = unkept keep (gathered (t bytes) (no_texts (option_map_or has_nodeflib v.flags_1 false)) es) d good in
       let strings = strings_there w bytes v.strtab v.strsz (t bytes) es (sym (ap (λ v. v.strtab) e)) (sym (ap (λ v. v.strsz) e)) there in
-      let flags : gathered (t bytes) (no_texts (nodeflib_of es)) es ≡ Ok d = ap (λ f. gathered (t bytes) (no_texts (option_map_or has_nodeflib f false)) es) (sym (ap (λ v. v.flags_1) e)) ∙ good in
-      ap (λ t. section_of t es) strings.0 ∙ good_name (t bytes) es d (sym (ap (λ v. v.has_text) e) ∙ h) strings.1 flags name ∙ ap ok_of (sym is_new))
+      let flags : gathered (t bytes) (no_texts (nodeflib_of es)) es ≡ Ok x = ap (λ f. gathered (t bytes) (no_texts (option_map_or has_nodeflib f false)) es) (sym (ap (λ v. v.flags_1) e)) ∙ gathers in
+      let fine : has_good_name x.soname ≡ true = ap has_good_name (soname_alike keep x d alike) ∙ name in
+      ap (kept_of keep) (ap (λ t. section_of t es) strings.0 ∙ good_name (t bytes) es x (some_with_text es (subst (λ n. 0 < n) (ap (λ v. v.texts) e) h)) strings.1 flags fine)
+      ∙ ap ok_of (name_alike keep x d alike ∙ ap (kept keep) (sym is_new)))
 
 -- ---- the faults of other calls
 
-pub table_fault : (known : Option (List ℕ)) (w : ℕ) (s : Segment) (v : Values) (fault : ObjectFault) → IfKnown known (λ bytes. v ≡ values_of (dynamic_entries w bytes s)) → v.has_text ≡ true →
+pub table_fault : (keep : Keep) (known : Option (List ℕ)) (w : ℕ) (s : Segment) (v : Values) (fault : ObjectFault) → IfKnown known (λ bytes. v ≡ values_of (dynamic_entries w bytes s)) → 0 < v.texts →
     IfBad {X = Table} (Err fault) (λ d. IfKnown known (λ bytes. table_by w bytes v.strtab v.strsz ≡ Err d)) → IfBad {X = Dynamic} (Err fault) (λ d. IfKnown known (λ bytes. section_in w bytes s ≡ Err d))
-table_fault known w s v (faults.Bad d) is h bad = known_bad_table known w s v is d h bad
-table_fault known w s v faults.StoreFault is h bad = tt
-table_fault known w s v faults.NoMemory is h bad = tt
+table_fault keep known w s v (faults.Bad d) is h bad = known_bad_table keep known w s v is d h bad
+table_fault keep known w s v faults.StoreFault is h bad = tt
+table_fault keep known w s v faults.NoMemory is h bad = tt
 
-pub text_fault : (known mid : Option (List ℕ)) (w : ℕ) (s : Segment) (v : Values) (t : List ℕ → List ℕ) (f : Bool) (fault : ObjectFault) → mid ≡ known → f ≡ option_map_or has_nodeflib v.flags_1 false →
-    IfKnown known (λ bytes. v ≡ values_of (dynamic_entries w bytes s)) → v.has_text ≡ true → IfKnown known (λ bytes. table_by w bytes v.strtab v.strsz ≡ Ok (t bytes)) →
+pub text_fault : (keep : Keep) (known mid : Option (List ℕ)) (w : ℕ) (s : Segment) (v : Values) (t : List ℕ → List ℕ) (f : Bool) (fault : ObjectFault) → mid ≡ known → f ≡ option_map_or has_nodeflib v.flags_1 false →
+    IfKnown known (λ bytes. v ≡ values_of (dynamic_entries w bytes s)) → 0 < v.texts → IfKnown known (λ bytes. table_by w bytes v.strtab v.strsz ≡ Ok (t bytes)) →
     IfBad {X = Dynamic} (Err fault) (λ d. IfKnown mid (λ bytes. gathered (t bytes) (no_texts f) (dynamic_entries w bytes s) ≡ Err d)) → IfBad {X = Dynamic} (Err fault) (λ d. IfKnown known (λ bytes. section_in w bytes s ≡ Err d))
-text_fault known mid w s v t f (faults.Bad d) same flags is h there bad =
-    known_bad_text known w s v is t d h there
+text_fault keep known mid w s v t f (faults.Bad d) same flags is h there bad =
+    known_bad_text keep known w s v is t d h there
     (subst (λ f. IfKnown known (λ bytes. gathered (t bytes) (no_texts f) (dynamic_entries w bytes s) ≡ Err d)) flags
     (subst (λ o. IfKnown o (λ bytes. gathered (t bytes) (no_texts f) (dynamic_entries w bytes s) ≡ Err d)) same bad))
-text_fault known mid w s v t f faults.StoreFault same flags is h there bad = tt
-text_fault known mid w s v t f faults.NoMemory same flags is h there bad = tt
+text_fault keep known mid w s v t f faults.StoreFault same flags is h there bad = tt
+text_fault keep known mid w s v t f faults.NoMemory same flags is h there bad = tt
 
-pub flagged : (known : Option (List ℕ)) (w : ℕ) (s : Segment) (t : List ℕ → List ℕ) (f : Bool) (v : Values) (d : Dynamic) → f ≡ option_map_or has_nodeflib v.flags_1 false →
-    IfKnown known (λ bytes. gathered (t bytes) (no_texts f) (dynamic_entries w bytes s) ≡ Ok d) → IfKnown known (λ bytes. gathered (t bytes) (no_texts (option_map_or has_nodeflib v.flags_1 false)) (dynamic_entries w bytes s) ≡ Ok d)
-flagged known w s t f v d e h = subst (λ f. IfKnown known (λ bytes. gathered (t bytes) (no_texts f) (dynamic_entries w bytes s) ≡ Ok d)) e h
+pub flagged : (keep : Keep) (known : Option (List ℕ)) (w : ℕ) (s : Segment) (t : List ℕ → List ℕ) (f : Bool) (v : Values) (d : Dynamic) → f ≡ option_map_or has_nodeflib v.flags_1 false →
+    IfKnown known (λ bytes. kept_of keep (gathered (t bytes) (no_texts f) (dynamic_entries w bytes s)) ≡ Ok (kept keep d)) → IfKnown known (λ bytes. kept_of keep (gathered (t bytes) (no_texts (option_map_or has_nodeflib v.flags_1 false)) (dynamic_entries w bytes s)) ≡ Ok (kept keep d))
+flagged keep known w s t f v d e h = subst (λ f. IfKnown known (λ bytes. kept_of keep (gathered (t bytes) (no_texts f) (dynamic_entries w bytes s)) ≡ Ok (kept keep d))) e h
 
 -- the values as they were read
 pub values_after : (s t : StoreState) (w : ℕ) (d : Segment) (v : Values) → OnlyReads s t → IfKnown (known_content s) (λ bytes. v ≡ values_of (dynamic_entries w bytes d)) → IfKnown (known_content t) (λ bytes. v ≡ values_of (dynamic_entries w bytes d))

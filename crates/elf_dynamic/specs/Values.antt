@@ -1,9 +1,12 @@
 -- What the entries say beside their texts. The clauses of private functions cite these definitions.
-use Rattle.std.specs.Prelude.{ℕ, ◌||◌, List, Option, Some, None}
-use Rattle.std.specs.List.{list_any}
+use Rattle.std.specs.Prelude.{ℕ, ◌+◌, List, filter, length, Option, Some, None}
 use Rattle.elf_dynamic.specs.declared.kinds.DynamicEntry.{DynamicEntry}
 use Rattle.elf_dynamic.specs.declared.values.Values.{Values}
 use Rattle.elf_dynamic.specs.Section.{strtab, strsz, flags_1, value_of, has_text}
+
+-- how many entries have a text
+abbrev pub texts_in : List DynamicEntry → ℕ
+texts_in es = length (filter has_text es)
 
 abbrev pub first_of : Option ℕ → Option ℕ → Option ℕ
 first_of (Some a) b = Some a
@@ -12,7 +15,7 @@ first_of None b = b
 -- with what further entries say
 abbrev pub joined : Values → List DynamicEntry → Values
 joined v es = record {
-  has_text = v.has_text || list_any has_text es;
+  texts = v.texts + texts_in es;
   strtab = first_of v.strtab (value_of strtab es);
   strsz = first_of v.strsz (value_of strsz es);
   flags_1 = first_of v.flags_1 (value_of flags_1 es);
@@ -20,7 +23,7 @@ joined v es = record {
 
 abbrev pub values_of : List DynamicEntry → Values
 values_of es = record {
-  has_text = list_any has_text es;
+  texts = texts_in es;
   strtab = value_of strtab es;
   strsz = value_of strsz es;
   flags_1 = value_of flags_1 es;

@@ -1,11 +1,13 @@
 //! The texts that the entries name.
-ghost use Rattle.std.specs.Prelude.{◌≡◌, ◌⊎◌, ◌≤◌, ◌+◌, ◌*◌, ◌∷◌, ℕ, List, length, Ok, Err, IfOk, OnOk, IfErr, IsErrOf, if◌then◌else◌};
+ghost use Rattle.std.specs.Prelude.{◌≡◌, ◌⊎◌, ◌≤◌, ◌+◌, ◌-◌, ◌*◌, ◌∷◌, [], ℕ, List, length, Ok, Err, IfOk, OnOk, IfErr, IsErrOf, if◌then◌else◌};
 ghost use Rattle.elf_headers.specs.Layout.{word_size};
 ghost use Rattle.elf_headers.specs.Reading.{OnlyReads, IsHeadOf, OfKnown, TakesAtMost, StoreFails};
 ghost use Rattle.elf_dynamic.specs.declared.kinds.DynamicEntry.{DynamicEntry};
 ghost use Rattle.elf_dynamic.specs.Faults.{IfBad, IsBadString};
+ghost use Rattle.elf_dynamic.specs.Kept.{keeps, kept, kept_of};
 ghost use Rattle.elf_dynamic.specs.Section.{dynamic_entries};
 ghost use Rattle.elf_dynamic.specs.Texts.{bytes_of, counts, with_text, no_texts, add_one, gathered, counted};
+ghost use Rattle.elf_dynamic.specs.Values.{texts_in};
 ghost use Rattle.elf_dynamic.specs.Windows.{IsWindowOf};
 
 use crate::ObjectFault;
@@ -14,11 +16,29 @@ use crate::kinds::{Dynamic, DynamicEntry};
 use crate::table::Table;
 use crate::tags::tag;
 use crate::text::text_at;
+use crate::values::is_text;
 use crate::window::Window;
 use elf_headers::kinds::{Head, Segment};
 use lib_types::{Defect, NoMemory, Seq, Text};
 use std::alloc::Global;
 use tree_face::Store;
+
+/// Which texts of a section are kept.
+#[derive(Clone, Copy)]
+pub enum Keep {
+    All,
+    Soname,
+}
+
+// Whether the text of an entry with this tag is kept.
+fn keeps(keep: Keep, tag: u64) -> bool
+    ensures { result ≡ keeps keep tag }
+{
+    match keep {
+        Keep::All => true,
+        Keep::Soname => tag == tag!(SONAME),
+    }
+}
 
 /// A section without texts.
 pub fn no_texts(alloc: Global, nodeflib: bool) -> Dynamic
@@ -43,12 +63,14 @@ fn counts(found: &Dynamic, tag: u64) -> bool
         || tag == tag!(RUNPATH) && found.runpath.is_none()
 }
 
-// Puts the text of an entry that counts in its place.
-fn put(found: &mut Dynamic, tag: u64, text: Text) -> Result<(), NoMemory>
-    ensures { OnOk result (found.new ≡ with_text tag text found.old) }
+// Puts the text of an entry that counts in its place. One that isn't kept is empty, and only tells that there is one.
+fn put(keep: Keep, found: &mut Dynamic, tag: u64, text: Text) -> Result<(), NoMemory>
+    ensures { OnOk result (kept keep found.new ≡ kept keep (with_text tag text found.old)) }
 {
     if tag == tag!(NEEDED) {
-        found.needed.push(text)?;
+        if keeps(keep, tag) {
+            found.needed.push(text)?;
+        }
     } else if tag == tag!(SONAME) {
         found.soname = Some(text);
     } else if tag == tag!(RPATH) {
@@ -62,6 +84,7 @@ fn put(found: &mut Dynamic, tag: u64, text: Text) -> Result<(), NoMemory>
 // Adds the text of one entry more.
 fn add<S: Store>(
     alloc: Global,
+    keep: Keep,
     store: &mut S,
     head: &Head,
     table: Table,
@@ -72,7 +95,8 @@ fn add<S: Store>(
     requires head { IsHeadOf (S.state store.old) head.now }
     requires within { table.at + table.size ≤ head.now.length }
     requires window { IsWindowOf (S.state store.old) head.now window.old }
-    ensures added { OnOk result (OfKnown (S.state store.old) (λ bytes. add_one (bytes_of table bytes) found.old entry ≡ Ok found.new)) }
+    ensures added { OnOk result (OfKnown (S.state store.old) (λ bytes.
+        kept_of keep (add_one (bytes_of table bytes) found.old entry) ≡ Ok (kept keep found.new))) }
     ensures bad { IfBad result (λ d. OfKnown (S.state store.old) (λ bytes. add_one (bytes_of table bytes) found.old entry ≡ Err d)) }
     ensures range { IfBad result IsBadString }
     ensures window { OnOk result (IsWindowOf (S.state store.new) head.now window.new) }
@@ -84,19 +108,34 @@ fn add<S: Store>(
     if !counts(found, entry.tag) {
         return Ok(());
     }
-    let Some(text) = text_at(alloc, store, head, table, entry.value, window)? else {
+    let kept = keeps(keep, entry.tag);
+    let Some(text) = text_at(alloc, store, head, table, entry.value, kept, window)? else {
         return Err(ObjectFault::Bad(Defect::BadString { tag: entry.tag }));
     };
-    put(found, entry.tag, text)?;
+    put(keep, found, entry.tag, text)?;
     Ok(())
 }
 
-/// The texts that the entries of a segment name, up to the first entry that counts and has none.
+// How many entries with a text are left after one entry more.
+fn left_after(left: u64, entry: DynamicEntry) -> u64
+    ensures { result ≡ left - texts_in (entry ∷ []) }
+{
+    if is_text(entry.tag) {
+        left.saturating_sub(1)
+    } else {
+        left
+    }
+}
+
+/// The texts that the entries of a segment name, up to the first entry that counts and has none. Entries behind the last of
+/// those that have texts, which mostly are the first of a section, aren't read.
 pub fn gather<S: Store>(
     alloc: Global,
+    keep: Keep,
     store: &mut S,
     head: &Head,
     dynamic: Segment,
+    texts: u64,
     table: Table,
     nodeflib: bool,
     section: &mut Window,
@@ -104,11 +143,12 @@ pub fn gather<S: Store>(
 ) -> Result<Dynamic, ObjectFault>
     requires head { IsHeadOf (S.state store.old) head.now }
     requires inside { dynamic.offset + dynamic.filesz ≤ head.now.length }
+    requires texts { OfKnown (S.state store.old) (λ bytes. texts ≡ texts_in (dynamic_entries (word_size head.now.wide) bytes dynamic)) }
     requires within { table.at + table.size ≤ head.now.length }
     requires section { IsWindowOf (S.state store.old) head.now section.old }
     requires window { IsWindowOf (S.state store.old) head.now window.old }
     ensures gathered { IfOk result (λ d. OfKnown (S.state store.old) (λ bytes.
-        gathered (bytes_of table bytes) (no_texts nodeflib) (dynamic_entries (word_size head.now.wide) bytes dynamic) ≡ Ok d)) }
+        kept_of keep (gathered (bytes_of table bytes) (no_texts nodeflib) (dynamic_entries (word_size head.now.wide) bytes dynamic)) ≡ Ok (kept keep d))) }
     ensures bad { IfBad result (λ d. OfKnown (S.state store.old) (λ bytes.
         gathered (bytes_of table bytes) (no_texts nodeflib) (dynamic_entries (word_size head.now.wide) bytes dynamic) ≡ Err d)) }
     ensures range { IfBad result IsBadString }
@@ -120,10 +160,15 @@ pub fn gather<S: Store>(
 {
     let mut found = no_texts(alloc, nodeflib);
     let mut entries = Entries::new(head.wide, dynamic);
+    let mut left = texts;
     while let Some(entry) = entries.next(store, head, section)? {
-        match add(alloc, store, head, table, &mut found, entry, window) {
+        match add(alloc, keep, store, head, table, &mut found, entry, window) {
             Ok(()) => {}
             Err(fault) => return Err(fault),
+        }
+        left = left_after(left, entry);
+        if left == 0 {
+            return Ok(found);
         }
     }
     Ok(found)

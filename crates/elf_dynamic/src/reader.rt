@@ -5,9 +5,11 @@ ghost use Rattle.elf_headers.specs.Range.{IsInRange};
 ghost use Rattle.elf_headers.specs.Reading.{OfContent, IfHeld, TakesAtMost, FailsAt};
 ghost use Rattle.elf_dynamic.specs.Analysis as analyses;
 ghost use Rattle.elf_dynamic.specs.Faults.{IfBad, HasName};
+ghost use Rattle.elf_dynamic.specs.Kept.{kept_object, kept_object_of};
 ghost use Rattle.elf_dynamic.specs.Object.{most_taken};
 ghost use Rattle.elf_dynamic.specs.Object as objects;
 
+use crate::gather::Keep;
 use crate::kinds::{Dynamic, Object};
 use crate::section::read_dynamic;
 use crate::{AnalyseFault, ObjectFault};
@@ -18,9 +20,15 @@ use tree_face::Store;
 
 const ET_EXEC: u16 = 2;
 
-/// Begins a key and reads what the file says of itself, in windows of at most 1024 bytes.
-pub fn object<S: Store>(alloc: Global, store: &mut S, key: &[u8]) -> Result<Object, ObjectFault>
-    ensures object { IfOk result (λ o. OfContent (S.state store.old).held key.now (λ bytes. objects.object bytes ≡ Ok o)) }
+// Begins a key and reads what the file says of itself, with the texts that are kept.
+fn read<S: Store>(
+    alloc: Global,
+    keep: Keep,
+    store: &mut S,
+    key: &[u8],
+) -> Result<Object, ObjectFault>
+    ensures object { IfOk result (λ o. OfContent (S.state store.old).held key.now (λ bytes.
+        kept_object_of keep (objects.object bytes) ≡ Ok (kept_object keep o))) }
     ensures defect { IfBad result (λ d. OfContent (S.state store.old).held key.now (λ bytes. objects.object bytes ≡ Err d)) }
     ensures name { IfOk result HasName }
     ensures range { IfBad result IsInRange }
@@ -34,7 +42,7 @@ pub fn object<S: Store>(alloc: Global, store: &mut S, key: &[u8]) -> Result<Obje
         Ok(head) => head,
         Err(fault) => return Err(ObjectFault::from(fault)),
     };
-    match read_dynamic(alloc, store, &head) {
+    match read_dynamic(alloc, keep, store, &head) {
         Ok(dynamic) => Ok(Object {
             abi: head.abi,
             etype: head.etype,
@@ -42,6 +50,21 @@ pub fn object<S: Store>(alloc: Global, store: &mut S, key: &[u8]) -> Result<Obje
         }),
         Err(fault) => Err(fault),
     }
+}
+
+/// Begins a key and reads what the file says of itself, in windows of at most 1024 bytes.
+pub fn object<S: Store>(alloc: Global, store: &mut S, key: &[u8]) -> Result<Object, ObjectFault>
+    ensures object { IfOk result (λ o. OfContent (S.state store.old).held key.now (λ bytes. objects.object bytes ≡ Ok o)) }
+    ensures defect { IfBad result (λ d. OfContent (S.state store.old).held key.now (λ bytes. objects.object bytes ≡ Err d)) }
+    ensures name { IfOk result HasName }
+    ensures range { IfBad result IsInRange }
+    ensures cause { IsErrOf result ObjectFault.StoreFault → FailsAt key.now (S.state store.old) (S.state store.new) }
+    ensures held { (S.state store.new).held ≡ (S.state store.old).held }
+    ensures begun { BeginsAtMost 1 (S.state store.old) (S.state store.new) }
+    ensures taken { IfHeld (S.state store.old).held key.now (λ bytes. TakesAtMost (most_taken bytes) (S.state store.old) (S.state store.new)) }
+    ensures faults { (S.state store.old).faults ≤ (S.state store.new).faults }
+{
+    read(alloc, Keep::All, store, key)
 }
 
 // What an object is for the cache.
@@ -77,7 +100,7 @@ pub fn analyse<S: Store>(alloc: Global, store: &mut S, key: &[u8]) -> Result<Ana
     ensures taken { IfHeld (S.state store.old).held key.now (λ bytes. TakesAtMost (most_taken bytes) (S.state store.old) (S.state store.new)) }
     ensures faults { (S.state store.old).faults ≤ (S.state store.new).faults }
 {
-    match object(alloc, store, key) {
+    match read(alloc, Keep::Soname, store, key) {
         Ok(object) => Ok(analysis_of(object)),
         Err(ObjectFault::Bad(defect)) => Ok(Analysis::Not(defect)),
         Err(ObjectFault::StoreFault) => Err(AnalyseFault::StoreFault),

@@ -1,5 +1,5 @@
 //! The dynamic section of a file.
-ghost use Rattle.std.specs.Prelude.{◌≡◌, ◌⊎◌, ◌≤◌, ◌+◌, ◌*◌, ◌==◌, ℕ, Bool, true, false, not, nat_lt, bit_and, List, length, Some, None, Ok, Err, IfOk, IfErr, IfSome, IsErrOf, OnOk, OnErr};
+ghost use Rattle.std.specs.Prelude.{◌≡◌, ◌⊎◌, ◌≤◌, ◌<◌, ◌+◌, ◌*◌, ◌==◌, ℕ, Bool, true, false, not, nat_lt, bit_and, List, length, Some, None, Ok, Err, IfOk, IfErr, IfSome, IsErrOf, OnOk, OnErr, option_map};
 ghost use Rattle.std.specs.Option.{option_map_or};
 ghost use Rattle.lib_types.specs.Name.{is_name};
 ghost use Rattle.lib_types.specs.declared.analysis.Defect.TheVariants.{BadSoname};
@@ -7,6 +7,7 @@ ghost use Rattle.elf_headers.specs.Layout.{word_size};
 ghost use Rattle.elf_headers.specs.Range.{IsInRange};
 ghost use Rattle.elf_headers.specs.Reading.{OnlyReads, IsHeadOf, OfKnown, TakesAtMost, StoreFails};
 ghost use Rattle.elf_dynamic.specs.Faults.{IfBad, HasSoname};
+ghost use Rattle.elf_dynamic.specs.Kept.{kept, kept_of, kept_in_file};
 ghost use Rattle.elf_dynamic.specs.Object.{has_nodeflib, section_reading, readable_section};
 ghost use Rattle.elf_dynamic.specs.Section.{dynamic_entries};
 ghost use Rattle.elf_dynamic.specs.Sections.{section_in, sections_in, counting_in, table_by, name_of, has_good_name};
@@ -15,7 +16,7 @@ ghost use Rattle.elf_dynamic.specs.Values.{values_of};
 ghost use Rattle.elf_dynamic.specs.Windows.{IsWindowOf};
 
 use crate::ObjectFault;
-use crate::gather::{gather, no_texts};
+use crate::gather::{Keep, gather, no_texts};
 use crate::kinds::Dynamic;
 use crate::segments::{Wanted, find_segment};
 use crate::table::{Table, find_table};
@@ -120,6 +121,7 @@ fn find_strings<S: Store>(
 // What a section says whose entries have texts.
 fn read_texts<S: Store>(
     alloc: Global,
+    keep: Keep,
     store: &mut S,
     head: &Head,
     dynamic: Segment,
@@ -132,8 +134,9 @@ fn read_texts<S: Store>(
     requires section { IsWindowOf (S.state store.old) head.now section.old }
     requires window { IsWindowOf (S.state store.old) head.now window.old }
     requires values { OfKnown (S.state store.old) (λ bytes. values ≡ values_of (dynamic_entries (word_size head.now.wide) bytes dynamic)) }
-    requires texts { values.has_text ≡ true }
-    ensures section { IfOk result (λ d. OfKnown (S.state store.old) (λ bytes. section_in (word_size head.now.wide) bytes dynamic ≡ Ok d)) }
+    requires texts { 0 < values.texts }
+    ensures section { IfOk result (λ d. OfKnown (S.state store.old) (λ bytes.
+        kept_of keep (section_in (word_size head.now.wide) bytes dynamic) ≡ Ok (kept keep d))) }
     ensures bad { IfBad result (λ d. OfKnown (S.state store.old) (λ bytes. section_in (word_size head.now.wide) bytes dynamic ≡ Err d)) }
     ensures name { IfOk result HasSoname }
     ensures range { IfBad result IsInRange }
@@ -149,7 +152,16 @@ fn read_texts<S: Store>(
     };
     let nodeflib = has_nodeflib(values.flags_1);
     let found = match gather(
-        alloc, store, head, dynamic, table, nodeflib, section, window,
+        alloc,
+        keep,
+        store,
+        head,
+        dynamic,
+        values.texts,
+        table,
+        nodeflib,
+        section,
+        window,
     ) {
         Ok(found) => found,
         Err(fault) => return Err(fault),
@@ -163,6 +175,7 @@ fn read_texts<S: Store>(
 // What the section in a segment says.
 fn read_section<S: Store>(
     alloc: Global,
+    keep: Keep,
     store: &mut S,
     head: &Head,
     dynamic: Segment,
@@ -171,7 +184,8 @@ fn read_section<S: Store>(
     requires head { IsHeadOf (S.state store.old) head.now }
     requires window { IsWindowOf (S.state store.old) head.now window.old }
     requires inside { dynamic.offset + dynamic.filesz ≤ head.now.length }
-    ensures section { IfOk result (λ d. OfKnown (S.state store.old) (λ bytes. section_in (word_size head.now.wide) bytes dynamic ≡ Ok d)) }
+    ensures section { IfOk result (λ d. OfKnown (S.state store.old) (λ bytes.
+        kept_of keep (section_in (word_size head.now.wide) bytes dynamic) ≡ Ok (kept keep d))) }
     ensures bad { IfBad result (λ d. OfKnown (S.state store.old) (λ bytes. section_in (word_size head.now.wide) bytes dynamic ≡ Err d)) }
     ensures name { IfOk result HasSoname }
     ensures range { IfBad result IsInRange }
@@ -183,10 +197,19 @@ fn read_section<S: Store>(
 {
     let mut section = Window::new();
     let values = read_values(store, head, dynamic, &mut section)?;
-    if !values.has_text {
+    if values.texts == 0 {
         return Ok(no_texts(alloc, has_nodeflib(values.flags_1)));
     }
-    read_texts(alloc, store, head, dynamic, values, &mut section, window)
+    read_texts(
+        alloc,
+        keep,
+        store,
+        head,
+        dynamic,
+        values,
+        &mut section,
+        window,
+    )
 }
 
 fn is_outside(head: &Head, s: Segment) -> bool
@@ -199,11 +222,13 @@ fn is_outside(head: &Head, s: Segment) -> bool
 /// What the dynamic section of a file says, if it has one.
 pub fn read_dynamic<S: Store>(
     alloc: Global,
+    keep: Keep,
     store: &mut S,
     head: &Head,
 ) -> Result<Option<Dynamic>, ObjectFault>
     requires { IsHeadOf (S.state store.old) head.now }
-    ensures dynamic { IfOk result (λ d. OfKnown (S.state store.old) (λ bytes. sections_in (word_size head.now.wide) bytes ≡ Ok d)) }
+    ensures dynamic { IfOk result (λ d. OfKnown (S.state store.old) (λ bytes.
+        kept_in_file keep (sections_in (word_size head.now.wide) bytes) ≡ Ok (option_map (kept keep) d))) }
     ensures bad { IfBad result (λ d. OfKnown (S.state store.old) (λ bytes. sections_in (word_size head.now.wide) bytes ≡ Err d)) }
     ensures name { IfOk result (λ d. IfSome d HasSoname) }
     ensures range { IfBad result IsInRange }
@@ -220,7 +245,7 @@ pub fn read_dynamic<S: Store>(
     if is_outside(head, dynamic) {
         return Err(ObjectFault::Bad(Defect::DynOutside));
     }
-    match read_section(alloc, store, head, dynamic, &mut window) {
+    match read_section(alloc, keep, store, head, dynamic, &mut window) {
         Ok(dynamic) => Ok(Some(dynamic)),
         Err(fault) => Err(fault),
     }

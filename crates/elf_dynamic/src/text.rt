@@ -1,8 +1,9 @@
 //! The texts of a string table.
-ghost use Rattle.std.specs.Prelude.{◌≡◌, ◌⊎◌, ◌≤◌, ◌+◌, ◌++◌, not, length, take, drop, position, take_while, Ok, Err, IfOk, OnOk, IsErrOf};
+ghost use Rattle.std.specs.Prelude.{◌≡◌, ◌⊎◌, ◌≤◌, ◌+◌, ◌++◌, not, length, take, drop, position, take_while, option_map, Ok, Err, IfOk, OnOk, IsErrOf};
 ghost use Rattle.std.specs.List.{list_any};
 ghost use Rattle.elf_headers.specs.Reading.{OnlyReads, IsHeadOf, OfKnown, TakesAtMost, StoreFails};
 ghost use Rattle.elf_dynamic.specs.Section.{is_nul};
+ghost use Rattle.elf_dynamic.specs.Kept.{kept_text};
 ghost use Rattle.elf_dynamic.specs.Texts.{bytes_of, before_nul, text_found};
 ghost use Rattle.elf_dynamic.specs.Windows.{IsWindowOf};
 
@@ -11,30 +12,42 @@ use crate::table::Table;
 use crate::window::Window;
 use elf_headers::kinds::Head;
 use lib_types::Text;
+use memchr::memchr;
 use std::alloc::{AllocError, Global};
 use tree_face::Store;
 
 /// The most bytes of a text that are looked at, its NUL among them.
 const TEXT_LIMIT: u64 = 65536;
 
+#[tactic(auto, using(crate::proofs::Nuls::first_nul_is))]
 fn first_nul(bytes: &[u8]) -> Option<usize>
     ensures { result ≡ position is_nul bytes.now }
 {
-    bytes.iter().position(|&b| b == 0)
+    memchr(0, bytes)
 }
 
-// Adds the bytes before the first NUL, and returns whether there is one.
-fn add_text(found: &mut Vec<u8>, piece: &[u8]) -> Result<bool, AllocError>
+// Adds these bytes, if they are kept.
+fn add_kept(found: &mut Vec<u8>, bytes: &[u8], kept: bool) -> Result<(), AllocError>
+    ensures { OnOk result (found.new.items ≡ found.old.items ++ kept_text kept bytes.now) }
+{
+    if kept {
+        found.extend_from_slice(bytes)?;
+    }
+    Ok(())
+}
+
+// Adds the bytes before the first NUL, if they are kept, and returns whether there is one.
+fn add_text(found: &mut Vec<u8>, piece: &[u8], kept: bool) -> Result<bool, AllocError>
     ensures ended { IfOk result (λ ended. ended ≡ list_any is_nul piece.now) }
-    ensures found { IfOk result (λ _. found.new.items ≡ found.old.items ++ take_while (λ b. not (is_nul b)) piece.now) }
+    ensures found { IfOk result (λ _. found.new.items ≡ found.old.items ++ kept_text kept (take_while (λ b. not (is_nul b)) piece.now)) }
 {
     match first_nul(piece) {
         Some(end) => {
-            found.extend_from_slice(&piece[..end])?;
+            add_kept(found, &piece[..end], kept)?;
             Ok(true)
         }
         None => {
-            found.extend_from_slice(piece)?;
+            add_kept(found, piece, kept)?;
             Ok(false)
         }
     }
@@ -51,19 +64,20 @@ fn front(bytes: &[u8], most: u64) -> &[u8]
     }
 }
 
-// The bytes before the first NUL in a part of the file, if there is one.
+// The bytes before the first NUL in a part of the file, if there is one: an empty text if they aren't kept.
 fn read_text<S: Store>(
     alloc: Global,
     store: &mut S,
     head: &Head,
     from: u64,
     most: u64,
+    kept: bool,
     window: &mut Window,
 ) -> Result<Option<Text>, AnalyseFault>
     requires head { IsHeadOf (S.state store.old) head.now }
     requires within { from + most ≤ head.now.length }
     requires window { IsWindowOf (S.state store.old) head.now window.old }
-    ensures text { IfOk result (λ t. OfKnown (S.state store.old) (λ bytes. t ≡ before_nul (take most (drop from bytes)))) }
+    ensures text { IfOk result (λ t. OfKnown (S.state store.old) (λ bytes. t ≡ option_map (kept_text kept) (before_nul (take most (drop from bytes))))) }
     ensures window { OnOk result (IsWindowOf (S.state store.new) head.now window.new) }
     ensures begun_head { IsHeadOf (S.state store.new) head.now }
     ensures cause { IsErrOf result AnalyseFault.StoreFault → StoreFails (S.state store.old) (S.state store.new) }
@@ -76,7 +90,7 @@ fn read_text<S: Store>(
     while left > 0 {
         window.hold(store, head, at, 1, at + left)?;
         let piece = front(window.from(at), left);
-        if add_text(&mut found, piece)? {
+        if add_text(&mut found, piece, kept)? {
             return Ok(Some(Text::from_vec(found)));
         }
         let count = piece.len() as u64;
@@ -86,19 +100,20 @@ fn read_text<S: Store>(
     Ok(None)
 }
 
-/// The text at an offset of the table, if a NUL ends it.
+/// The text at an offset of the table, if a NUL ends it: an empty one if it isn't kept.
 pub fn text_at<S: Store>(
     alloc: Global,
     store: &mut S,
     head: &Head,
     table: Table,
     offset: u64,
+    kept: bool,
     window: &mut Window,
 ) -> Result<Option<Text>, AnalyseFault>
     requires head { IsHeadOf (S.state store.old) head.now }
     requires within { table.at + table.size ≤ head.now.length }
     requires window { IsWindowOf (S.state store.old) head.now window.old }
-    ensures text { IfOk result (λ t. OfKnown (S.state store.old) (λ bytes. t ≡ text_found (bytes_of table bytes) offset)) }
+    ensures text { IfOk result (λ t. OfKnown (S.state store.old) (λ bytes. t ≡ option_map (kept_text kept) (text_found (bytes_of table bytes) offset))) }
     ensures window { OnOk result (IsWindowOf (S.state store.new) head.now window.new) }
     ensures begun_head { IsHeadOf (S.state store.new) head.now }
     ensures cause { IsErrOf result AnalyseFault.StoreFault → StoreFails (S.state store.old) (S.state store.new) }
@@ -109,5 +124,5 @@ pub fn text_at<S: Store>(
         return Ok(None);
     }
     let most = (table.size - offset).min(TEXT_LIMIT);
-    read_text(alloc, store, head, table.at + offset, most, window)
+    read_text(alloc, store, head, table.at + offset, most, kept, window)
 }

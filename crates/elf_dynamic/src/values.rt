@@ -1,9 +1,9 @@
 //! What the entries say beside their texts.
-ghost use Rattle.std.specs.Prelude.{◌≡◌, ◌≤◌, ◌*◌, ◌+◌, ◌∷◌, [], ◌==◌, ◌||◌, false, None, Some, if◌then◌else◌, ℕ, List, IfOk, OnOk, OnErr};
+ghost use Rattle.std.specs.Prelude.{◌≡◌, ◌≤◌, ◌*◌, ◌+◌, ◌<◌, ◌^◌, ◌∷◌, [], ◌==◌, ◌||◌, None, Some, ℕ, List, IfOk, OnOk, OnErr};
 ghost use Rattle.elf_headers.specs.Layout.{word_size};
 ghost use Rattle.elf_headers.specs.Reading.{OnlyReads, IsHeadOf, OfKnown, TakesAtMost, StoreFails};
 ghost use Rattle.elf_dynamic.specs.declared.kinds.DynamicEntry.{DynamicEntry};
-ghost use Rattle.elf_dynamic.specs.Section.{strtab, strsz, flags_1, has_tag, has_text, dynamic_entries};
+ghost use Rattle.elf_dynamic.specs.Section.{dynamic_entries};
 ghost use Rattle.elf_dynamic.specs.Values.{first_of, joined, values_of};
 ghost use Rattle.elf_dynamic.specs.Windows.{IsWindowOf};
 
@@ -15,27 +15,24 @@ use elf_headers::kinds::{Head, Segment};
 use lib_types::Failed;
 use tree_face::Store;
 
-/// Of each of these tags the value of its first entry, and whether an entry has a text.
+/// Of each of these tags the value of its first entry, and how many entries have a text.
 #[derive(Clone, Copy)]
 pub struct Values {
-    pub has_text: bool,
+    pub texts: u64,
     pub strtab: Option<u64>,
     pub strsz: Option<u64>,
     pub flags_1: Option<u64>,
 }
 
-// The value of the first entry with a tag, after one entry more.
-fn first(before: Option<u64>, tag: u64, entry: DynamicEntry) -> Option<u64>
-    ensures { result ≡ first_of before (if has_tag tag entry then Some entry.value else None) }
+// The value of the first entry with a tag, with one entry more of it.
+fn first(before: Option<u64>, value: u64) -> Option<u64>
+    ensures { result ≡ first_of before (Some value) }
 {
-    match before {
-        Some(value) => Some(value),
-        None if entry.tag == tag => Some(entry.value),
-        None => None,
-    }
+    before.or(Some(value))
 }
 
-fn is_text(tag: u64) -> bool
+/// Whether the value of an entry with this tag is the offset of a text.
+pub fn is_text(tag: u64) -> bool
     ensures { result ≡ ((tag == 1) || (tag == 14) || (tag == 15) || (tag == 29)) }
 {
     tag == tag!(NEEDED) || tag == tag!(SONAME) || tag == tag!(RPATH) || tag == tag!(RUNPATH)
@@ -43,26 +40,32 @@ fn is_text(tag: u64) -> bool
 
 impl Values {
     fn none() -> Values
-        ensures { result ≡ record { has_text = false; strtab = None; strsz = None; flags_1 = None } }
+        ensures { result ≡ record { texts = 0; strtab = None; strsz = None; flags_1 = None } }
     {
         Values {
-            has_text: false,
+            texts: 0,
             strtab: None,
             strsz: None,
             flags_1: None,
         }
     }
 
-    // With what one entry more says.
+    // With what one entry more says. Most entries say nothing here.
     fn with(self, entry: DynamicEntry) -> Values
+        requires { self.texts + 1 < 2 ^ 64 }
         ensures { result ≡ joined self (entry ∷ []) }
     {
-        Values {
-            has_text: self.has_text || is_text(entry.tag),
-            strtab: first(self.strtab, tag!(STRTAB), entry),
-            strsz: first(self.strsz, tag!(STRSZ), entry),
-            flags_1: first(self.flags_1, tag!(FLAGS_1), entry),
+        let mut with = self;
+        if is_text(entry.tag) {
+            with.texts += 1;
+        } else if entry.tag == tag!(STRTAB) {
+            with.strtab = first(self.strtab, entry.value);
+        } else if entry.tag == tag!(STRSZ) {
+            with.strsz = first(self.strsz, entry.value);
+        } else if entry.tag == tag!(FLAGS_1) {
+            with.flags_1 = first(self.flags_1, entry.value);
         }
+        with
     }
 }
 

@@ -50,7 +50,7 @@ begun_all (Some held) old new first last whole begun e = rw (← e) begun
 
 -- ---- the path at an index, and those behind it
 
-split : (paths : List (List ℕ)) (i : ℕ) (path : List ℕ) → i < length paths → path ≡ get_or paths i path → drop i paths ≡ path ∷ drop (i + 1) paths
+pub split : (paths : List (List ℕ)) (i : ℕ) (path : List ℕ) → i < length paths → path ≡ get_or paths i path → drop i paths ≡ path ∷ drop (i + 1) paths
 split paths i path within is =
     let next : suc i ≡ i + 1 = omega arith in
     drop-cons paths i path within ∙ ap (λ p. p ∷ drop (suc i) paths) (sym is) ∙ ap (λ n. path ∷ drop n paths) next

@@ -1,5 +1,7 @@
 -- Which files of an image are read for its cache, and what they are (ldconfig(8)).
-use Rattle.std.specs.Prelude.{ℕ, ◌+◌, Bool, false, List, [], if◌then◌else◌, fold, Option, Some, None, is_none, unwrap_or}
+use Rattle.std.specs.Prelude.{◌≡◌, ℕ, ◌+◌, Bool, true, false, List, [], if◌then◌else◌, fold, Option, Some, None, is_none, unwrap_or}
+use Rattle.std.specs.List.{list_any}
+use Rattle.std.specs.Str.{bytes_eq}
 use Rattle.elf_dynamic.specs.Analysis.{analysis}
 use Rattle.place_files.specs.Table.{Analyses, analysis_at, with_analysis}
 use Rattle.tree_face.specs.declared.node.Node.{Node}
@@ -26,6 +28,14 @@ key_in None = None
 -- the key of a file that has no analysis yet
 abbrev pub unread_key : Nodes → Analyses → List ℕ → Option (List ℕ)
 unread_key t table path = if is_none (analysis_at table path) then key_in (node_at t path) else None
+
+-- no file at these paths is left unread
+abbrev pub AreRead : Nodes → Analyses → List (List ℕ) → Type 0
+AreRead t table paths = (path : List ℕ) → list_any (bytes_eq path) paths ≡ true → unread_key t table path ≡ None
+
+-- the same of those that aren't among the rest
+abbrev pub AreReadBut : Nodes → Analyses → List (List ℕ) → List (List ℕ) → Type 0
+AreReadBut t table paths rest = (path : List ℕ) → list_any (bytes_eq path) paths ≡ true → list_any (bytes_eq path) rest ≡ false → unread_key t table path ≡ None
 
 -- a file is begun, with its content if that is held
 abbrev pub with_begun : FilesRead → List ℕ → Option (List ℕ) → FilesRead

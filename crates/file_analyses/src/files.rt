@@ -1,11 +1,11 @@
 //! The files that are read.
-ghost use Rattle.std.specs.Prelude.{◌≡◌, ◌⊎◌, ◌≤◌, ◌+◌, ◌-◌, [], true, length, IsErrOf, IsTrue, IsSomeAnd, OnOk};
+ghost use Rattle.std.specs.Prelude.{◌≡◌, ◌⊎◌, ◌≤◌, ◌+◌, ◌-◌, [], None, true, length, IsErrOf, IsTrue, IsSomeAnd, OnOk};
 ghost use Rattle.std.specs.Option.{option_copied};
 ghost use Rattle.lib_types.specs.Counts.{HasRisen};
 ghost use Rattle.tree_face.specs.Known.{IfKnown};
 ghost use Rattle.tree_face.specs.Store.{BeginsAtMost};
-ghost use Rattle.place_files.specs.Table.{has_name, with_analysis};
-ghost use Rattle.file_analyses.specs.Files.{seen, unread_key, with_file, with_files};
+ghost use Rattle.place_files.specs.Table.{has_name, with_analysis, KeepsAnalyses};
+ghost use Rattle.file_analyses.specs.Files.{seen, unread_key, with_file, with_files, AreRead};
 
 use elf_dynamic::{AnalyseFault, analyse};
 use lib_types::{Analysis, NoMemory, Text, Texts};
@@ -61,6 +61,7 @@ fn add(alloc: Global, files: &mut Files, path: &[u8], analysis: Analysis) -> Res
 }
 
 // Reads a file that has no analysis yet.
+#[tactic(auto, using(crate::proofs::Kept::kept_with, crate::proofs::Kept::had_none, crate::proofs::Kept::read_then))]
 fn read_file<S: Store>(
     alloc: Global,
     tree: &Tree,
@@ -71,6 +72,8 @@ fn read_file<S: Store>(
     ensures read { OnOk result (IfKnown (S.state store.old).held (λ held. seen files.new ≡ with_file held tree.now (seen files.old) path.now)) }
     ensures cause { IsErrOf result AnalyseFault.StoreFault → HasRisen (S.state store.old).faults (S.state store.new).faults
         ⊎ IsSomeAnd (S.state store.old).held (λ held. (with_file held tree.now (seen files.old) path.now).lacks ≡ true) }
+    ensures kept { OnOk result (KeepsAnalyses files.old.table files.new.table) }
+    ensures none_left { OnOk result (unread_key tree.now files.new.table path.now ≡ None) }
     ensures held { (S.state store.new).held ≡ (S.state store.old).held }
     ensures faults { (S.state store.old).faults ≤ (S.state store.new).faults }
     ensures count { OnOk result (files.old.begun ≤ files.new.begun) }
@@ -90,7 +93,7 @@ fn read_file<S: Store>(
 }
 
 /// Reads the files at these paths, in their order, each that has no analysis yet.
-#[tactic(auto, using(crate::proofs::Rising::begun_all))]
+#[tactic(auto, using(crate::proofs::Rising::begun_all, crate::proofs::Kept::none_read, crate::proofs::Kept::all_read))]
 pub fn read_files<S: Store>(
     alloc: Global,
     tree: &Tree,
@@ -101,6 +104,8 @@ pub fn read_files<S: Store>(
     ensures read { OnOk result (IfKnown (S.state store.old).held (λ held. seen files.new ≡ with_files held tree.now (seen files.old) paths.now)) }
     ensures cause { IsErrOf result AnalyseFault.StoreFault → HasRisen (S.state store.old).faults (S.state store.new).faults
         ⊎ IsSomeAnd (S.state store.old).held (λ held. (with_files held tree.now (seen files.old) paths.now).lacks ≡ true) }
+    ensures kept { OnOk result (KeepsAnalyses files.old.table files.new.table) }
+    ensures all { OnOk result (AreRead tree.now files.new.table paths.now) }
     ensures held { (S.state store.new).held ≡ (S.state store.old).held }
     ensures faults { (S.state store.old).faults ≤ (S.state store.new).faults }
     ensures count { OnOk result (files.old.begun ≤ files.new.begun) }

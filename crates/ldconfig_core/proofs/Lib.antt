@@ -1,3 +1,4 @@
+mod Bests
 pub mod Both
 pub mod Calls
 pub mod Known
@@ -6,3 +7,4 @@ pub mod Preparing
 pub mod Searching
 pub mod Settled
 pub mod Single
+mod Skipped

@@ -2,8 +2,10 @@
 use Rattle.std.proofs.Common.{◌≡◌, ◌≤◌, ◌<◌, ◌+◌, ◌-◌, ℕ, true, false, cond, nat_lt, List, length, refl, ap, sym, subst, ◌∙◌, Option, arith}
 use Rattle.std.proofs.lemmas.Bool.Decides.{nat_tests}
 use Rattle.std.proofs.lemmas.List.Sorted.{length_permutation}
+use Rattle.std.specs.List.{filter_map}
+use Rattle.std.specs.Map.{keys_of}
 use Rattle.cache_writer.specs.declared.writer.TheConstants.{ENTRIES_MAX}
-use Rattle.file_analyses.specs.Files.{seen, with_files}
+use Rattle.file_analyses.specs.Files.{FilesRead, seen, with_files}
 use Rattle.file_analyses.specs.declared.files.Files.{Files}
 use Rattle.lib_types.specs.Counts.{raised}
 use Rattle.lib_types.specs.declared.entry.Entry.{Entry}
@@ -11,14 +13,17 @@ use Rattle.soname_links.specs.Apply.{nodes_with}
 use Rattle.cache_entries.specs.Entries.{AreEntriesOf}
 use Rattle.soname_links.specs.Marks.{blocked, mixed}
 use Rattle.soname_links.specs.Plan.{links, with_links}
+use Rattle.place_files.specs.Order.{ascending}
 use Rattle.place_files.specs.Search.{dangling, reached}
 use Rattle.soname_links.specs.declared.kinds.Survey.{Survey}
 use Rattle.tree_face.specs.Store.{Contents, StoreState, BeginsAtMost}
 use Rattle.tree_face.specs.Tree.{Nodes}
 use Rattle.tree_face.specs.declared.tree.TheConstants.{NODES_MAX}
 use Rattle.update_report.specs.Report.{report_text}
+use Rattle.update_report.specs.Skips.{skip_at}
 use Rattle.file_analyses.proofs.Rising.{files_rise}
-use Rattle.ldconfig_core.specs.Cache.{AreTextsOf, IsReport, said_with}
+use Rattle.ldconfig_core.proofs.Skipped.{skips_of_files}
+use Rattle.ldconfig_core.specs.Cache.{AreTextsOf, IsReport, library_files, said_with}
 use Rattle.ldconfig_core.specs.Image.{begun_in, conf_in, entries_in, files_in, has_too_many_nodes, library_files_begun, links_in, places_in, planned_in, wanted_in}
 use Rattle.ldconfig_core.specs.Outcome.{Lacking, TooLarge, TooMany, Writes, is_too_long, manifest_with, new_manifest, size_of, update_outcome}
 use Rattle.ldconfig_core.specs.Settled.{IfReads}
@@ -166,20 +171,36 @@ module _ (held : Contents) (t : Nodes) (found : Found) (tree : Nodes) (is : IsFo
         let some : nat_lt ENTRIES_MAX (length (entries_in held t)) ≡ false = within ENTRIES_MAX (length (entries_in held t)) (omega (arith, few, size)) in
         rw (is.conf.held, is.held_wanted, is.planned.few, is.followed.held_files, short_new, some) refl
 
+  -- the files that have an analysis are the library files, as far as they are skipped
+  skips_are : filter_map (skip_at (files_in held t).table) (ascending (keys_of (files_in held t).table)) ≡ filter_map (skip_at (files_in held t).table) (library_files held t)
+  skips_are = skips_of_files held t
+
   -- what is said is what the image's report says
   said_is : (entries : List Entry) → said_of found entries ≡ said_with held t entries
-  said_is entries = rw (
+  said_is entries = ap (λ skips. record {
+    conf = found.search.conf.reports;
+    places = found.search.dirs.places;
+    absent = found.search.dirs.absent;
+    plan = found.links.plan;
+    blocked = found.links.blocked;
+    mixed = found.links.mixed;
+    skips = skips;
+    dangling = found.followed.dangling;
+    entries = entries;
+    opened = found.search.files.begun;
+  }) skips_same ∙ rw (
     is.conf.reports,
     is.places,
     is.absent_is,
     is.planned.plan,
     is.planned.blocked_is,
     is.planned.mixed_is,
-    is.wanted_is,
-    is.followed.reached_is,
     is.followed.dangling_is,
     ← is.followed.files_are,
   ) refl
+    where
+      skips_same : filter_map (skip_at found.search.files.table) (ascending (keys_of found.search.files.table)) ≡ filter_map (skip_at (files_in held t).table) (library_files held t)
+      skips_same = ap (λ (r : FilesRead). filter_map (skip_at r.table) (ascending (keys_of r.table))) is.followed.files_are ∙ skips_are
 
   module _ (prepared : Prepared) (made : IsMadeOf found tree prepared) where
     ordered : AreEntriesOf (entries_in held t) made.entries

@@ -1,6 +1,7 @@
 -- What private functions say of the parts of an update, one after the other.
-use Rattle.std.specs.Prelude.{◌≡◌, ◌≤◌, ◌+◌, ◌++◌, ℕ, false, List, length, if◌then◌else◌}
+use Rattle.std.specs.Prelude.{◌≡◌, ◌≤◌, ◌+◌, ℕ, false, List, length, if◌then◌else◌}
 use Rattle.std.specs.List.{filter_map}
+use Rattle.std.specs.Map.{keys_of}
 use Rattle.cache_writer.specs.CacheText.{cache_text}
 use Rattle.cache_writer.specs.declared.writer.TheConstants.{ENTRIES_MAX}
 use Rattle.file_analyses.specs.Files.{seen}
@@ -79,7 +80,7 @@ said_of found entries = record {
   plan = found.links.plan;
   blocked = found.links.blocked;
   mixed = found.links.mixed;
-  skips = filter_map (skip_at found.search.files.table) (ascending (found.search.wanted ++ found.followed.reached));
+  skips = filter_map (skip_at found.search.files.table) (ascending (keys_of found.search.files.table));
   dangling = found.followed.dangling;
   entries = entries;
   opened = found.search.files.begun;

@@ -2,6 +2,7 @@
 ghost use Rattle.std.specs.Prelude.{◌≡◌, ◌⊎◌, ◌≤◌, ℕ, true, IfErr, IfOk, IsErrOf, IsSomeAnd, IsTrue};
 ghost use Rattle.hwcap_dirs.specs.Places.{are_spelled};
 ghost use Rattle.lib_types.specs.Counts.{HasRisen};
+ghost use Rattle.place_files.specs.Best.{bests_of};
 ghost use Rattle.place_files.specs.Search.{followed};
 ghost use Rattle.tree_face.specs.Known.{IfKnown};
 ghost use Rattle.tree_face.specs.Store.{BeginsAtMost};
@@ -33,6 +34,7 @@ pub fn find<S: Store>(alloc: Global, tree: &mut Tree, store: &mut S) -> Result<F
     ensures found { IfOk result (λ found. IfKnown (S.state store.old).held (λ held. IsFound held tree.old found tree.new)) }
     ensures settled { IfOk result (λ _. IfKnown (S.state store.old).held (λ held. AreSettled held tree.old tree.new)) }
     ensures links { IfOk result (λ found. found.followed.links ≡ followed tree.new found.search.dirs.places) }
+    ensures bests { IfOk result (λ found. found.links.bests ≡ bests_of found.search.files.table tree.new found.search.dirs.places) }
     ensures spelled { IfOk result (λ found. IsTrue (are_spelled found.search.dirs.places)) }
     ensures store_fault { IsErrOf result UpdateFault.StoreFault → HasRisen (S.state store.old).faults (S.state store.new).faults
         ⊎ IsSomeAnd (S.state store.old).held (λ held. update_outcome held tree.old ≡ outcomes.Lacking) }

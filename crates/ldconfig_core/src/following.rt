@@ -1,8 +1,9 @@
 //! What is found in the tree with the planned links.
-ghost use Rattle.std.specs.Prelude.{◌≡◌, ◌⊎◌, ◌≤◌, ◌-◌, true, IfErr, IfOk, IsErrOf, IsSomeAnd};
+ghost use Rattle.std.specs.Prelude.{◌≡◌, ◌⊎◌, ◌≤◌, ◌-◌, true, IfErr, IfOk, IsErrOf, IsSomeAnd, OnOk};
 ghost use Rattle.file_analyses.specs.Files.{seen, with_files};
 ghost use Rattle.lib_types.specs.Counts.{HasRisen};
 ghost use Rattle.place_files.specs.Search.{dangling, followed, reached};
+ghost use Rattle.place_files.specs.Table.{KeepsAnalyses};
 ghost use Rattle.tree_face.specs.Known.{IfKnown};
 ghost use Rattle.tree_face.specs.Store.{BeginsAtMost};
 ghost use Rattle.ldconfig_core.specs.Faults.{is_store_fault};
@@ -38,6 +39,7 @@ pub fn follow_links<S: Store>(
     ensures dangling { IfOk result (λ found. found.dangling ≡ dangling tree.now dirs.now.places) }
     ensures read { IfOk result (λ _. IfKnown (S.state store.old).held
         (λ held. seen files.new ≡ with_files held tree.now (seen files.old) (reached tree.now dirs.now.places))) }
+    ensures kept { OnOk result (KeepsAnalyses files.old.table files.new.table) }
     ensures cause { IsErrOf result UpdateFault.StoreFault → HasRisen (S.state store.old).faults (S.state store.new).faults
         ⊎ IsSomeAnd (S.state store.old).held (λ held. (with_files held tree.now (seen files.old) (reached tree.now dirs.now.places)).lacks ≡ true) }
     ensures others { IfErr result (λ fault. is_store_fault fault ≡ true) }

@@ -1,6 +1,7 @@
 //! What an update is about to write.
 ghost use Rattle.std.specs.Prelude.{◌≡◌, ◌⊎◌, ◌<◌, ◌≤◌, ℕ, false, true, length, IfErr, IfOk, IsErrOf, IsSomeAnd, IsTrue};
 ghost use Rattle.lib_types.specs.Counts.{HasRisen};
+ghost use Rattle.place_files.specs.Best.{bests_of};
 ghost use Rattle.place_files.specs.Search.{followed};
 ghost use Rattle.tree_face.specs.Known.{IfKnown};
 ghost use Rattle.tree_face.specs.Store.{BeginsAtMost};
@@ -23,11 +24,10 @@ use crate::report::Report;
 use cache_entries::entries_by;
 use lib_types::{Entries, NoMemory};
 use mtree_manifest::TEXT_MAX;
-use place_files::union;
 use soname_links::kinds::Plan;
 use std::alloc::Global;
 use tree_face::{Store, Tree};
-use update_report::{Findings, report, skips};
+use update_report::{Findings, report, skips_in};
 
 /// What an update is about to write, and its report.
 #[derive(Drop)]
@@ -68,8 +68,7 @@ fn report_of(alloc: Global, found: &Found, entries: &Entries) -> Result<Report, 
     ensures opened { IfOk result (λ report. report.opened ≡ found.now.search.files.begun) }
 {
     let search = &found.search;
-    let files = union(alloc, &search.wanted, &found.followed.reached)?;
-    let skips = skips(alloc, &search.files.table, &files)?;
+    let skips = skips_in(alloc, &search.files.table)?;
     let text = report(
         alloc,
         &Findings {
@@ -104,6 +103,7 @@ fn count(items: usize) -> Result<u32, NoMemory>
 // Makes what is written of what was found in the tree with its planned links.
 fn make(alloc: Global, tree: &Tree, found: &Found) -> Result<Prepared, UpdateFault>
     requires spelled { IsTrue (are_spelled found.now.search.dirs.places) }
+    requires bests { found.now.links.bests ≡ bests_of found.now.search.files.table tree.now found.now.search.dirs.places }
     requires links { found.now.followed.links ≡ followed tree.now found.now.search.dirs.places }
     ensures made { IfOk result (IsMadeOf found.now tree.now) }
     ensures too_large { (nodes bytes : ℕ) → IsErrOf result (UpdateFault.TooLarge nodes bytes) →
@@ -118,6 +118,7 @@ fn make(alloc: Global, tree: &Tree, found: &Found) -> Result<Prepared, UpdateFau
         tree,
         &found.search.dirs,
         &found.search.files.table,
+        &found.links.bests,
         &found.followed.links,
     )?;
     let cache = cache_writer::write(alloc, &entries)?;

@@ -2,6 +2,8 @@
 ghost use Rattle.std.specs.Prelude.{◌≡◌, ◌⊎◌, ◌≤◌, true, IfErr, IfOk, IsErrOf, IsSomeAnd, IsTrue};
 ghost use Rattle.hwcap_dirs.specs.Places.{are_dirs, are_spelled};
 ghost use Rattle.lib_types.specs.Counts.{HasRisen};
+ghost use Rattle.place_files.specs.Search.{wanted};
+ghost use Rattle.place_files.specs.Table.{HaveAnalyses};
 ghost use Rattle.tree_face.specs.Known.{IfKnown};
 ghost use Rattle.tree_face.specs.Store.{BeginsAtMost};
 ghost use Rattle.ldconfig_core.specs.Faults.{is_store_fault};
@@ -31,6 +33,7 @@ pub struct Search {
 }
 
 /// Reads the conf files, and then the files with library names in the places.
+#[tactic(auto, using(crate::proofs::Bests::wanted_read))]
 pub fn search_image<S: Store>(
     alloc: Global,
     tree: &Tree,
@@ -39,6 +42,7 @@ pub fn search_image<S: Store>(
     ensures found { IfOk result (λ search. IfKnown (S.state store.old).held (λ held. IsSearched held tree.now search)) }
     ensures real { IfOk result (λ search. IsTrue (are_dirs tree.now search.dirs.places)) }
     ensures spelled { IfOk result (λ search. IsTrue (are_spelled search.dirs.places)) }
+    ensures read { IfOk result (λ search. HaveAnalyses search.files.table (wanted tree.now search.dirs.places)) }
     ensures cause { IsErrOf result UpdateFault.StoreFault → HasRisen (S.state store.old).faults (S.state store.new).faults
         ⊎ IsSomeAnd (S.state store.old).held (λ held. update_outcome held tree.now ≡ outcomes.Lacking) }
     ensures others { IfErr result (λ fault. is_store_fault fault ≡ true) }
@@ -46,6 +50,7 @@ pub fn search_image<S: Store>(
     ensures faults { (S.state store.old).faults ≤ (S.state store.new).faults }
     ensures begun { IfKnown (S.state store.old).held (λ held. BeginsAtMost (begun_searching held tree.now) (S.state store.old) (S.state store.new)) }
 {
+    tree.know();
     let conf = read_conf(alloc, tree, store)?;
     let dirs = order(alloc, tree, &conf.dirs)?;
     let wanted = wanted(alloc, tree, &dirs)?;

@@ -117,6 +117,13 @@ escaped_ends (b ∷ []) all some = ap goes_on (append-nil (escaped_byte b)) ∙ 
 escaped_ends (b ∷ c ∷ bytes) all some =
     goes_on-append (escaped_byte b) (escaped (c ∷ bytes)) (escaped_some (c ∷ bytes) (omega arith)) ∙ escaped_ends (c ∷ bytes) all.1 (omega arith)
 
+-- bytes that are all plain stand for themselves
+pub plain_escaped : (bytes : List ℕ) → list_all is_plain bytes ≡ true → escaped bytes ≡ bytes
+plain_escaped [] all = refl
+plain_escaped (b ∷ bytes) all =
+    let parts = and_parts (is_plain b) (list_all is_plain bytes) all in
+    rw (parts.0) (ap (λ rest. b ∷ rest) (plain_escaped bytes parts.1))
+
 -- ---- the components of a path
 
 onto_front : List ℕ → List (List ℕ) → List (List ℕ)

@@ -1,10 +1,12 @@
 //! A tree's canonical manifest.
-ghost use Rattle.std.specs.Prelude.{◌≡◌, ◌++◌, ◌<◌, ◌≤◌, ◌^◌, codes, decimal, flat_map, drop, length, Some, OnOk, IfOk};
+ghost use Rattle.std.specs.Prelude.{◌≡◌, ◌+◌, ◌++◌, ◌<◌, ◌≤◌, ◌^◌, codes, decimal, flat_map, drop, length, Some, OnOk, IfOk};
+ghost use Rattle.std.specs.List.{list_all};
 ghost use Rattle.std.specs.Str.{bytes_eq};
 ghost use Rattle.mtree_manifest.specs.Canon.{id_words, key_words, file_words, node_words, node_line, canon};
 ghost use Rattle.mtree_manifest.specs.Escape.{is_plain, octal_digits, escaped_byte, escaped};
 ghost use Rattle.mtree_manifest.specs.Manifest.{tree_of};
 ghost use Rattle.mtree_manifest.specs.declared.fault.TheConstants.{TEXT_MAX};
+ghost use Rattle.mtree_manifest.specs.declared.writer.TheConstants.{ID_SIZE};
 ghost use Rattle.tree_face.specs.Tree.{IsTree};
 ghost use Rattle.mtree_manifest.specs.Range.{AreBytes, IsIdInRange, IsSomeIdInRange, IsNodeInRange, IsInRange, AreInRange};
 
@@ -12,6 +14,12 @@ use crate::paths::behind_first;
 use lib_types::NoMemory;
 use std::alloc::Global;
 use tree_face::{Id, Node, Tree};
+
+// More bytes than most lines have: with room for so many for each line, the text rarely has to grow.
+const LINE_SIZE: usize = 128;
+
+// The words of an identity's four numbers, with their digits, fit into so many bytes.
+const ID_SIZE: usize = 25 + 4 * 20;
 
 fn is_plain(b: u8) -> bool
     ensures { result ≡ is_plain b }
@@ -37,14 +45,36 @@ fn push_byte(out: &mut Vec<u8>, b: u8) -> Result<(), NoMemory>
     Ok(())
 }
 
-fn push_escaped(out: &mut Vec<u8>, bytes: &[u8]) -> Result<(), NoMemory>
-    ensures text { OnOk result (out.new.items ≡ out.old.items ++ escaped bytes.now) }
+// Whether all bytes go out as they are. Nothing ends the loop early, so that many bytes are tested at once.
+fn are_plain(bytes: &[u8]) -> bool
+    ensures plain { result ≡ list_all is_plain bytes.now }
     ensures range { AreBytes bytes.now }
+{
+    let mut plain = true;
+    for &b in bytes {
+        plain &= is_plain(b);
+    }
+    plain
+}
+
+fn push_each(out: &mut Vec<u8>, bytes: &[u8]) -> Result<(), NoMemory>
+    ensures { OnOk result (out.new.items ≡ out.old.items ++ escaped bytes.now) }
 {
     for &b in bytes {
         push_byte(out, b)?;
     }
     Ok(())
+}
+
+#[tactic(auto, using(crate::proofs::Escaping::plain_escaped))]
+fn push_escaped(out: &mut Vec<u8>, bytes: &[u8]) -> Result<(), NoMemory>
+    ensures text { OnOk result (out.new.items ≡ out.old.items ++ escaped bytes.now) }
+    ensures range { AreBytes bytes.now }
+{
+    if are_plain(bytes) {
+        return push_text(out, bytes);
+    }
+    push_each(out, bytes)
 }
 
 fn push_text(out: &mut Vec<u8>, text: &[u8]) -> Result<(), NoMemory>
@@ -54,27 +84,33 @@ fn push_text(out: &mut Vec<u8>, text: &[u8]) -> Result<(), NoMemory>
     Ok(())
 }
 
-fn push_number(alloc: Global, out: &mut Vec<u8>, n: u64) -> Result<(), NoMemory>
-    ensures text { OnOk result (out.new.items ≡ out.old.items ++ decimal n) }
+// Puts a word and a number behind it into a text, so that they end at this place. Gives where the word begins.
+fn put_before(text: &mut [u8; ID_SIZE], end: usize, word: &[u8], n: u64) -> usize
+    requires room { length word.now + 20 ≤ end }
+    requires within { end ≤ ID_SIZE }
+    ensures text { drop result text.new ≡ word.now ++ decimal n ++ drop end text.old }
+    ensures start { result ≤ end }
+    ensures size { end ≤ result + length word.now + 20 }
     ensures range { n < 2 ^ 64 }
 {
-    let digits = format!(in alloc; "{n}")?;
-    push_text(out, digits.as_bytes())
+    let digits = itoa::write_digits(n, &mut text[..], end);
+    let start = digits - word.len();
+    text[start..digits].copy_from_slice(word);
+    start
 }
 
-fn push_id(alloc: Global, out: &mut Vec<u8>, id: &Id) -> Result<(), NoMemory>
+// An identity is put together from its end, so that it goes out as one text.
+fn push_id(out: &mut Vec<u8>, id: &Id) -> Result<(), NoMemory>
     ensures text { OnOk result (out.new.items ≡ out.old.items ++ id_words (Some id.now)) }
     ensures range { OnOk result (IsIdInRange id.now) }
 {
     let id = *id;
-    push_text(out, b" dev=")?;
-    push_number(alloc, out, id.dev)?;
-    push_text(out, b" inode=")?;
-    push_number(alloc, out, id.inode)?;
-    push_text(out, b" ctime=")?;
-    push_number(alloc, out, id.ctime)?;
-    push_text(out, b" size=")?;
-    push_number(alloc, out, id.size)
+    let mut text = [0; ID_SIZE];
+    let start = put_before(&mut text, ID_SIZE, b" size=", id.size);
+    let start = put_before(&mut text, start, b" ctime=", id.ctime);
+    let start = put_before(&mut text, start, b" inode=", id.inode);
+    let start = put_before(&mut text, start, b" dev=", id.dev);
+    push_text(out, &text[start..])
 }
 
 fn push_key(out: &mut Vec<u8>, path: &[u8], key: &[u8]) -> Result<(), NoMemory>
@@ -88,30 +124,24 @@ fn push_key(out: &mut Vec<u8>, path: &[u8], key: &[u8]) -> Result<(), NoMemory>
     push_escaped(out, key)
 }
 
-fn push_file(
-    alloc: Global,
-    out: &mut Vec<u8>,
-    path: &[u8],
-    key: &[u8],
-    id: &Option<Id>,
-) -> Result<(), NoMemory>
+fn push_file(out: &mut Vec<u8>, path: &[u8], key: &[u8], id: &Option<Id>) -> Result<(), NoMemory>
     ensures text { OnOk result (out.new.items ≡ out.old.items ++ file_words path.now key.now id.now) }
     ensures range { OnOk result (AreBytes key.now × IsSomeIdInRange id.now) }
 {
     push_text(out, b" type=file")?;
     if let Some(id) = id {
-        push_id(alloc, out, id)?;
+        push_id(out, id)?;
     }
     push_key(out, path, key)
 }
 
-fn push_node(alloc: Global, out: &mut Vec<u8>, path: &[u8], node: &Node) -> Result<(), NoMemory>
+fn push_node(out: &mut Vec<u8>, path: &[u8], node: &Node) -> Result<(), NoMemory>
     ensures text { OnOk result (out.new.items ≡ out.old.items ++ node_words path.now node.now) }
     ensures range { OnOk result (IsNodeInRange node.now) }
 {
     match node {
         Node::Dir => push_text(out, b" type=dir"),
-        Node::File { key, id } => push_file(alloc, out, path, key.as_bytes(), id),
+        Node::File { key, id } => push_file(out, path, key.as_bytes(), id),
         Node::Link { target } => {
             push_text(out, b" type=link link=")?;
             push_escaped(out, target.as_bytes())
@@ -119,24 +149,24 @@ fn push_node(alloc: Global, out: &mut Vec<u8>, path: &[u8], node: &Node) -> Resu
     }
 }
 
-fn push_line(alloc: Global, out: &mut Vec<u8>, path: &[u8], node: &Node) -> Result<(), NoMemory>
+fn push_line(out: &mut Vec<u8>, path: &[u8], node: &Node) -> Result<(), NoMemory>
     ensures text { OnOk result (out.new.items ≡ out.old.items ++ node_line (path.now, node.now)) }
     ensures range { OnOk result (IsInRange (path.now, node.now)) }
 {
     push_text(out, b".")?;
     push_escaped(out, path)?;
-    push_node(alloc, out, path, node)?;
+    push_node(out, path, node)?;
     push_text(out, b"\n")
 }
 
 // Appends the lines of a tree.
-fn push_lines(alloc: Global, out: &mut Vec<u8>, tree: &Tree) -> Result<(), NoMemory>
+fn push_lines(out: &mut Vec<u8>, tree: &Tree) -> Result<(), NoMemory>
     ensures text { OnOk result (out.new.items ≡ out.old.items ++ flat_map node_line tree.now) }
     ensures range { OnOk result (AreInRange tree.now) }
     ensures tree { IsTree tree.now }
 {
     for (path, node) in tree.nodes() {
-        push_line(alloc, out, path, node)?;
+        push_line(out, path, node)?;
     }
     Ok(())
 }
@@ -147,8 +177,8 @@ pub fn write(alloc: Global, tree: &Tree) -> Result<Vec<u8>, NoMemory>
     ensures text { IfOk result (λ text. text.items ≡ canon tree.now) }
     ensures read_again { IfOk result (λ text. length text.items ≤ TEXT_MAX → tree_of text.items ≡ Some tree.now) }
 {
-    let mut text = Vec::new(alloc);
+    let mut text = Vec::with_capacity(alloc, tree.len().saturating_mul(LINE_SIZE))?;
     push_text(&mut text, b"#mtree\n")?;
-    push_lines(alloc, &mut text, tree)?;
+    push_lines(&mut text, tree)?;
     Ok(text)
 }

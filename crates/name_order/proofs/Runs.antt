@@ -1,9 +1,9 @@
 -- A run of digits at the front of a name is its first token.
 use Rattle.std.proofs.Common.{◌≡◌, ℕ, zero, suc, ◌+◌, ◌<◌, Bool, true, false, get_or, ◌-◌, List, [], ◌∷◌, Some, None, length, take, drop, refl, ap, sym, one-add, arith}
 use Rattle.std.specs.declared.cmp.Ordering.{Ordering}
-use Rattle.std.specs.declared.cmp.Ordering.TheVariants.{Less}
-use Rattle.std.specs.Ordering.{nat_cmp, ordering_then}
-use Rattle.std.proofs.lemmas.Cmp.{nat_cmp_total, tied_itself}
+use Rattle.std.specs.declared.cmp.Ordering.TheVariants.{Less, Equal, Greater}
+use Rattle.std.specs.Ordering.{MatchOrdering, nat_cmp, ordering_then}
+use Rattle.std.proofs.lemmas.Cmp.{nat_cmp_total, ranked, tied_itself}
 use Rattle.std.specs.Char.{IsAsciiDigit, is_ascii_digit}
 use Rattle.std.specs.List.{fold, prefix_len}
 use Rattle.std.specs.Cmp.Lexicographic.{slice_cmp}
@@ -85,6 +85,19 @@ byte_passed (x ∷ a) (y ∷ b) zero h k e none =
     by_equal : (n : ℕ) (rest : Ordering) → ordering_then (nat_cmp n n) rest ≡ rest
     by_equal n rest = ap (λ o. ordering_then o rest) (tied_itself nat_cmp_total n)
 byte_passed (x ∷ a) (y ∷ b) (suc i) h k e none = let next : suc i + 1 ≡ suc (i + 1) = omega arith in rw next (byte_passed a b i (omega arith) (omega arith) e none)
+
+-- first bytes that differ and are no digits decide
+pub first_decides : (a b : List ℕ) → 0 < length a → 0 < length b → (get_or a 0 0 ≡ get_or b 0 0 → ⊥) → is_ascii_digit (get_or a 0 0) ≡ false → is_ascii_digit (get_or b 0 0) ≡ false
+    → nat_cmp (get_or a 0 0) (get_or b 0 0) ≡ token_order a b
+unfolding tokens
+first_decides [] b h k other first second = absurd (omega arith)
+first_decides (x ∷ a) [] h k other first second = absurd (omega arith)
+first_decides (x ∷ a) (y ∷ b) h k other first second = rw (first, second) (by (nat_cmp x y) (ranked x y _ refl))
+  where
+    by : (r : Ordering) → MatchOrdering r (x < y) (x ≡ y) (y < x) → r ≡ ordering_then r (slice_cmp token_cmp (tokens_after None a) (tokens_after None b))
+    by Less e = refl
+    by Equal e = absurd (other e)
+    by Greater e = refl
 
 pub ruleset run_laws = (AreDigits-run, tokens-run, tokens-byte)
 

@@ -1,7 +1,8 @@
 //! The order in which the loader sorts library names, and which names are library names.
 #![tactic(auto)]
 
-ghost use Rattle.std.specs.Prelude.{◌≡◌, ◌≤◌, ◌↔◌, codes, drop, length};
+ghost use Rattle.std.specs.Prelude.{◌≡◌, ◌≤◌, ◌↔◌, ◌<◌, IfSome, codes, drop, length, nat_eq};
+ghost use Rattle.std.specs.List.{ends_with};
 ghost use Rattle.std.specs.Cmp.{IsTotalOrder};
 ghost use Rattle.name_order.specs.Order.{name_order, token_order};
 ghost use Rattle.name_order.specs.LibraryName.{contains, has_library_prefix, has_temporary_suffix, is_library_name};
@@ -26,14 +27,28 @@ fn equal_front(a: &[u8], b: &[u8]) -> usize
     i
 }
 
-/// The loader's order of two names. Names that differ only in the zeros before a number are equal in it.
+// The order of names whose first bytes differ, if neither is a digit: nothing behind these bytes counts.
+#[tactic(auto, using(crate::proofs::Runs::first_decides))]
+fn compare_first(a: &[u8], b: &[u8]) -> Option<Ordering>
+    ensures { IfSome result (λ order. order ≡ token_order a.now b.now) }
+{
+    if a.is_empty() || b.is_empty() {
+        return None;
+    }
+    let (x, y) = (a[0], b[0]);
+    if x == y || x.is_ascii_digit() || y.is_ascii_digit() {
+        return None;
+    }
+    Some(x.cmp(&y))
+}
+
+// The order of names, part by part.
 #[tactic(auto, using(crate::proofs::Runs::end_laws), unfolding(crate::specs::Order::tokens))]
-pub fn compare_tokens(a: &[u8], b: &[u8]) -> Ordering
+fn compare_by_parts(a: &[u8], b: &[u8]) -> Ordering
     ensures { result ≡ token_order a.now b.now }
 {
-    let front = equal_front(a, b);
-    let mut left = &a[front..];
-    let mut right = &b[front..];
+    let mut left = a;
+    let mut right = b;
     while let Some((part, left_rest)) = next_part(left) {
         let Some((other, right_rest)) = next_part(right) else {
             return Ordering::Greater;
@@ -49,6 +64,18 @@ pub fn compare_tokens(a: &[u8], b: &[u8]) -> Ordering
         Ordering::Equal
     } else {
         Ordering::Less
+    }
+}
+
+/// The loader's order of two names. Names that differ only in the zeros before a number are equal in it.
+pub fn compare_tokens(a: &[u8], b: &[u8]) -> Ordering
+    ensures { result ≡ token_order a.now b.now }
+{
+    let front = equal_front(a, b);
+    let (left, right) = (&a[front..], &b[front..]);
+    match compare_first(left, right) {
+        Some(order) => order,
+        None => compare_by_parts(left, right),
     }
 }
 
@@ -83,7 +110,22 @@ fn has_library_prefix(name: &[u8]) -> bool
 fn has_temporary_suffix(name: &[u8]) -> bool
     ensures { result ≡ has_temporary_suffix name.now }
 {
-    name.ends_with(b".dpkg-new") || name.ends_with(b".dpkg-tmp") || name.ends_with(b".#prelink#")
+    ends_with(name, b".dpkg-new") || ends_with(name, b".dpkg-tmp") || ends_with(name, b".#prelink#")
+}
+
+// Whether the name has this suffix, which the last byte shows of most names that don't.
+#[tactic(auto, using(crate::proofs::Suffix::too_short, crate::proofs::Suffix::other_end))]
+fn ends_with(name: &[u8], suffix: &[u8]) -> bool
+    requires { 0 < length suffix.now }
+    ensures { result ≡ ends_with nat_eq name.now suffix.now }
+{
+    if name.len() < suffix.len() {
+        return false;
+    }
+    if name[name.len() - 1] != suffix[suffix.len() - 1] {
+        return false;
+    }
+    name.ends_with(suffix)
 }
 
 fn contains_so(name: &[u8]) -> bool

@@ -1,5 +1,5 @@
 -- The walk to a link of a directory, which goes on at the link.
-use Rattle.std.proofs.Common.{◌≡◌, ◌⊎◌, inl, inr, ℕ, true, false, cond, not, ◌&&◌, ◌==◌, ◌-◌, nat_eq, nat_le, List, [], ◌∷◌, ◌++◌, append_assoc, codes, length, filter, refl, ap, sym, ◌∙◌, Some, arith}
+use Rattle.std.proofs.Common.{◌≡◌, ◌⊎◌, inl, inr, ℕ, true, false, cond, not, ◌&&◌, ◌==◌, ◌-◌, nat_eq, nat_le, List, [], ◌∷◌, ◌++◌, append_assoc, codes, length, filter, refl, ap, sym, ◌∙◌, Option, Some, Ok, arith}
 use Rattle.std.proofs.lemmas.Bool.{and_from, and_parts, or_parts}
 use Rattle.std.proofs.lemmas.Bool.Decides.{nat_tests}
 use Rattle.std.proofs.lemmas.List.{append-nil}
@@ -14,14 +14,16 @@ use Rattle.lib_types.specs.Name.{are_dots, have_no_slash, is_name, slash}
 use Rattle.tree_face.proofs.Above.{found_entry}
 use Rattle.tree_face.proofs.Below.{below_from, not_root}
 use Rattle.tree_face.specs.Paths.{are_names, components, folder, is_kept, is_path, is_slash, root, stem, join}
-use Rattle.tree_face.specs.Tree.{Nodes, IsTree, kind_at, node_at}
+use Rattle.tree_face.specs.Tree.{Nodes, IsTree, kind_at, kind_of, node_at}
+use Rattle.tree_face.specs.declared.node.Id.{Id}
+use Rattle.tree_face.specs.declared.node.Node.{Node}
 use Rattle.tree_face.specs.declared.node.Node.TheVariants as node
 use Rattle.tree_face.specs.declared.path.TheConstants.{PATH_MAX}
 use Rattle.tree_face.specs.declared.tree.Kind.TheVariants as kinds
 use Rattle.path_walk.proofs.Joining.{names_joined}
 use Rattle.path_walk.proofs.KindsAt.{at_none, dir_above, kind_of_node, path_above}
 use Rattle.path_walk.specs.Names.{parent}
-use Rattle.path_walk.specs.Walk.{Follows, at_child, at_file, at_link, resolution, start_of, steps, target_at, target_in, walk}
+use Rattle.path_walk.specs.Walk.{Ends, Follows, at_child, at_file, at_link, resolution, start_of, steps, target_at, target_in, walk}
 use Rattle.path_walk.specs.declared.walk.Mode.{Mode}
 use Rattle.path_walk.specs.declared.walk.Mode.TheVariants.{Full}
 use Rattle.path_walk.specs.declared.walk.TheConstants.{LINKS_MAX}
@@ -146,6 +148,37 @@ module _ (t : Nodes) (mode : Mode) where
     -- the walk by the path of a directory ends there
     pub to_dir : (p : List ℕ) → kind_at t p ≡ kinds.Dir → steps t mode (components (stem p) ++ more) root ≡ steps t mode more p
     to_dir p d = to_folder p (folder_of_dir t p d) d
+
+-- ---- what a target names beside the link
+
+turned : (b : ℕ) → (b == slash) ≡ false → nat_eq slash b ≡ false
+turned b h = grind (arith, nat_tests)
+
+not_rooted : (name : List ℕ) → is_name name ≡ true → starts_with nat_eq name root ≡ false
+not_rooted [] h = absurd (cc)
+not_rooted (b ∷ name) h =
+    let parts = and_parts (not (b == slash) && not (b == 0)) (have_no_slash name) (and_parts _ _ (and_parts _ _ h).0).1 in
+    ap (λ c. c && starts_with nat_eq name []) (turned b (not_true (b == slash) (and_parts _ _ parts.0).0))
+
+module _ (t : Nodes) (p name : List ℕ) (named : is_name name ≡ true) (proper : is_path (join p name) ≡ true) where
+  -- the walk by one name
+  one_name : (n : Node) → node_at t (join p name) ≡ Some n
+      → steps t Full (components name) (start_of name p) ≡ at_child (kind_of n) (Follows (components (target_in (Some n))) (start_of (target_in (Some n)) p)) (Ends (Ok (join p name))) (Ends (Ok (join p name)))
+  one_name n e =
+      let q = join p name in
+      ap (steps t Full (components name)) (ap (λ b. cond b root p) (not_rooted name named))
+      ∙ ap (λ names. steps t Full names p) (name_is_component name named)
+      ∙ child_step t Full p name [] named
+      ∙ ap (λ k. at_child k (at_link Full name (target_at t q) [] p) (at_file [] q) (steps t Full [] q)) (kind_of_node t q n proper e)
+      ∙ ap (λ o. at_child (kind_of n) (at_link Full name (target_in o) [] p) (Ends (Ok q)) (Ends (Ok q))) e
+      ∙ ap (λ names. at_child (kind_of n) (Follows names (start_of (target_in (Some n)) p)) (Ends (Ok q)) (Ends (Ok q))) (append-nil (components (target_in (Some n))))
+
+  pub file_beside : (key : List ℕ) (id : Option Id) → node_at t (join p name) ≡ Some (node.File key id)
+      → (steps t Full (components name) (start_of name p) ≡ Ends (Ok (join p name))) × (kind_at t (join p name) ≡ kinds.File)
+  file_beside key id e = (one_name (node.File key id) e, kind_of_node t (join p name) (node.File key id) proper e)
+
+  pub link_beside : (target : List ℕ) → node_at t (join p name) ≡ Some (node.Link target) → steps t Full (components name) (start_of name p) ≡ Follows (components target) (start_of target p)
+  link_beside target e = one_name (node.Link target) e
 
 -- ---- the link
 

@@ -8,6 +8,9 @@ use Rattle.tree_face.specs.Paths.{components, join}
 use Rattle.path_walk.specs.Rest.{names_in}
 use Rattle.path_walk.specs.Walk.{Stop, Ends, Follows, steps, is_plain, start_of, target_at}
 use Rattle.path_walk.specs.declared.walk.Mode.{Mode}
+use Rattle.path_walk.specs.declared.walk.Mode.TheVariants.{Full}
+use Rattle.path_walk.specs.declared.files.Beside.{Beside}
+use Rattle.path_walk.specs.declared.files.Beside.TheVariants as beside
 use Rattle.path_walk.specs.declared.walk.WalkFault.{WalkFault}
 use Rattle.path_walk.specs.declared.walk.WalkFault.TheVariants.{Absent, NoMemory}
 use Rattle.path_walk.specs.declared.walk.Child.{Child}
@@ -68,3 +71,9 @@ HaltsAt t old new (halt.Link target rest) = KeepsDir t old new
 abbrev pub size_of : Option (List ℕ) → ℕ
 size_of None = 0
 size_of (Some bytes) = 1 + length bytes
+
+-- the walk by the target of a link in this folder is at an end after one name, or goes on by the target of another link there
+abbrev pub IsBeside : Nodes → List ℕ → List ℕ → Beside → Type 0
+IsBeside t folder target (beside.File path) = (steps t Full (components target) (start_of target folder) ≡ Ends (Ok path)) × (kind_at t path ≡ kinds.File)
+IsBeside t folder target (beside.Link next) = steps t Full (components target) (start_of target folder) ≡ Follows (components next.now) (start_of next.now folder)
+IsBeside t folder target beside.Other = Unit {0}

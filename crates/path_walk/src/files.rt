@@ -6,13 +6,15 @@ ghost use Rattle.tree_face.specs.declared.node.Node.TheVariants as node;
 ghost use Rattle.tree_face.specs.declared.tree.Kind.TheVariants as kinds;
 ghost use Rattle.path_walk.specs.Files.{file_at, file_by};
 ghost use Rattle.tree_face.specs.Paths.{components, join};
-ghost use Rattle.path_walk.specs.Walk.{steps, walk};
+ghost use Rattle.path_walk.specs.Stops.{IsBeside};
+ghost use Rattle.path_walk.specs.Walk.{start_of, steps, walk};
 ghost use Rattle.path_walk.specs.declared.walk.Mode.TheVariants as modes;
 
+use crate::names::join;
 use crate::walk::{End, LINKS_MAX, Mode, WalkFault, follow, restart};
-use lib_types::{NoMemory, Text};
+use lib_types::{NoMemory, Text, is_name};
 use std::alloc::Global;
-use tree_face::Tree;
+use tree_face::{Node, Tree};
 
 // The file to which a path text leads from a directory, if it leads to one by at most so many links.
 fn file_from(
@@ -45,10 +47,84 @@ pub fn file_at(alloc: Global, tree: &Tree, path: &[u8]) -> Result<Option<Text>, 
     file_from(alloc, tree, root, path, LINKS_MAX)
 }
 
+// The file to which a link's target leads from the link's directory, by at most so many further links.
+fn file_by_target(
+    alloc: Global,
+    tree: &Tree,
+    folder: &[u8],
+    target: &[u8],
+    links: usize,
+) -> Result<Option<Text>, NoMemory>
+    requires { IsTree tree.now }
+    ensures { kind_at tree.now folder.now ≡ kinds.Dir → IfOk result (λ file. file ≡ file_by tree.now (walk tree.now modes.Full links (steps tree.now modes.Full (components target.now) (start_of target.now folder.now)))) }
+{
+    let mut place = Vec::from_slice(alloc, folder)?;
+    restart(&mut place, target)?;
+    file_from(alloc, tree, place, target, links)
+}
+
+// What a link's target names in the link's directory.
+#[derive(Drop)]
+enum Beside<'t> {
+    /// A file of this path.
+    File(Text),
+    /// A link with this target.
+    Link(&'t [u8]),
+    /// Something else, or the target is no name.
+    Other,
+}
+
+// What a link's target names beside the link, by one search.
+#[tactic(auto, using(crate::proofs::Linked::file_beside, crate::proofs::Linked::link_beside))]
+fn find_beside<'t>(
+    alloc: Global,
+    tree: &'t Tree,
+    folder: &[u8],
+    target: &[u8],
+) -> Result<Beside<'t>, NoMemory>
+    ensures { IfOk result (IsBeside tree.now folder.now target.now) }
+{
+    if !is_name(target) {
+        return Ok(Beside::Other);
+    }
+    let path = join(alloc, folder, target)?;
+    match tree.node(path.as_bytes()) {
+        Some(Node::File { .. }) => Ok(Beside::File(path)),
+        Some(Node::Link { target }) => Ok(Beside::Link(target.as_bytes())),
+        _ => Ok(Beside::Other),
+    }
+}
+
+// The same as `file_by_target`. Most targets are the name of a file beside the link, or of a link there, so that there is nothing
+// to walk by.
+#[tactic(auto, using(crate::proofs::Walks::walk_ends, crate::proofs::Walks::walk_follows))]
+fn file_beside(
+    alloc: Global,
+    tree: &Tree,
+    folder: &[u8],
+    target: &[u8],
+    links: usize,
+) -> Result<Option<Text>, NoMemory>
+    requires { IsTree tree.now }
+    ensures { kind_at tree.now folder.now ≡ kinds.Dir → IfOk result (λ file. file ≡ file_by tree.now (walk tree.now modes.Full links (steps tree.now modes.Full (components target.now) (start_of target.now folder.now)))) }
+{
+    let mut left = links;
+    let mut text = target;
+    while left > 0 {
+        match find_beside(alloc, tree, folder, text)? {
+            Beside::File(path) => return Ok(Some(path)),
+            Beside::Link(next) => text = next,
+            Beside::Other => break,
+        }
+        left -= 1;
+    }
+    file_by_target(alloc, tree, folder, text, left)
+}
+
 /// The file to which a link of a directory leads, given its target, if it leads to one: the walk begins at the link.
 ///
-/// The tree is searched once for each name that is walked by, twice where there is no node, and not at all for the directory
-/// and the link.
+/// A target that names a file beside the link, as most do, costs one search of the tree and the memory of the result. Any other is
+/// walked by from the directory, with a search for each name and two where there is no node.
 pub fn linked_file(
     alloc: Global,
     tree: &Tree,
@@ -59,7 +135,5 @@ pub fn linked_file(
         → IfOk result (λ file. file ≡ file_at tree.now (join folder.now name)) }
 {
     tree.know();
-    let mut place = Vec::from_slice(alloc, folder)?;
-    restart(&mut place, target)?;
-    file_from(alloc, tree, place, target, LINKS_MAX - 1)
+    file_beside(alloc, tree, folder, target, LINKS_MAX - 1)
 }

@@ -58,6 +58,15 @@ pub fn join(alloc: Global, folder: &[u8], name: &[u8]) -> Result<Text, NoMemory>
     Ok(Text::from_vec(path))
 }
 
+/// Makes a text, whatever it was, the path of a name in a directory.
+pub fn join_into(path: &mut Vec<u8>, folder: &[u8], name: &[u8]) -> Result<(), NoMemory>
+    ensures { OnOk result (path.new.items ≡ join folder.now name.now) }
+{
+    path.clear();
+    path.extend_from_slice(folder)?;
+    enter(path, name)
+}
+
 /// Goes to the place of this name in the folder.
 pub fn enter(place: &mut Vec<u8>, name: &[u8]) -> Result<(), NoMemory>
     ensures { OnOk result (place.new.items ≡ join place.old.items name.now) }

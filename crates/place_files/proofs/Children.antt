@@ -45,11 +45,15 @@ link_node node.Dir = refl
 link_node (node.File key id) = refl
 link_node (node.Link target) = refl
 
+-- a file is at a path whose node is one
+pub file_there : (t : Nodes) → IsTree t → (path : List ℕ) → is_file (kind_at t path) ≡ is_file_node (node_at t path)
+file_there t tree path = by_node is_file is_file_node refl refl file_node t tree path (node_at t path) refl
+
 module _ (t : Nodes) (tree : IsTree t) (folder name : List ℕ) where
   file_same : file_of folder (name, node_at t (join folder name)) ≡ file_in t folder name
   file_same =
       ap (λ b. cond (is_library_name name && b) (Some (join folder name)) None)
-      (sym (by_node is_file is_file_node refl refl file_node t tree (join folder name) (node_at t (join folder name)) refl))
+      (sym (file_there t tree (join folder name)))
 
 -- the link of a child
 pub link_same : (t : Nodes) (folder : List ℕ) (child : List ℕ × Option Node) → IsChild t folder child

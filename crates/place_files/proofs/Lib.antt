@@ -1,8 +1,9 @@
+pub mod Analysed
 pub mod Children
 pub mod Either
 mod Folders
+pub mod Gathered
 pub mod InOrder
-mod Mapped
 pub mod Members
 pub mod Named
 pub mod Ordered

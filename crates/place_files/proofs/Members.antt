@@ -30,7 +30,7 @@ itself x = (bytes_eq-Decides x x).1 refl
 is_first : (x : List ℕ) (xs : List (List ℕ)) → is_in (x ∷ xs) x ≡ true
 is_first x xs = ap (λ b. b || is_in xs x) (itself x)
 
-none_below : (z : List ℕ) (ys : List (List ℕ)) → AllByRecursion (λ y. cmp z y ≡ Less) ys → is_in ys z ≡ false
+pub none_below : (z : List ℕ) (ys : List (List ℕ)) → AllByRecursion (λ y. cmp z y ≡ Less) ys → is_in ys z ≡ false
 none_below z [] a = refl
 none_below z (y ∷ ys) a = by_test (bytes_eq z y)
     (λ e.

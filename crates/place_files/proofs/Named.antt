@@ -21,7 +21,7 @@ use Rattle.place_files.specs.Libraries.{libraries_in, library_at, library_by, li
 use Rattle.place_files.specs.Pick.{is_better_by}
 use Rattle.place_files.specs.Search.{file_in}
 use Rattle.place_files.specs.Table.{Analyses, analysis_at, has_name, have_names, with_analysis}
-use Rattle.place_files.specs.declared.libraries.Library.{Library}
+use Rattle.place_files.specs.Library.{Library}
 
 -- ---- the analyses
 

@@ -1,12 +1,16 @@
 -- The best library of a soname: the one with the soname as its name, or else the one with the greatest name.
 use Rattle.std.specs.Prelude.{ℕ, Bool, List, ◌&&◌, ◌||◌, not, map, Option, None}
+use Rattle.hwcap_dirs.specs.declared.kinds.Place.{Place}
 use Rattle.std.specs.List.{filter_map}
 use Rattle.std.specs.Ordering.{is_gt}
 use Rattle.std.specs.Str.{bytes_eq}
 use Rattle.name_order.specs.Order.{name_order}
 use Rattle.place_files.specs.Order.{ascending}
 use Rattle.place_files.specs.Pick.{best_with, better_by}
-use Rattle.place_files.specs.declared.libraries.Library.{Library}
+use Rattle.place_files.specs.Libraries.{libraries_in}
+use Rattle.place_files.specs.Library.{Library}
+use Rattle.place_files.specs.Table.{Analyses}
+use Rattle.tree_face.specs.Tree.{Nodes}
 
 -- its name is its soname
 abbrev pub is_own : Library → Bool
@@ -32,3 +36,7 @@ sonames libraries = ascending (map (λ library. library.soname) libraries)
 -- The best library of each soname, by the bytes of the sonames.
 abbrev pub bests : List Library → List Library
 bests libraries = filter_map (best libraries) (sonames libraries)
+
+-- those of each place
+unfoldable pub bests_of : Analyses → Nodes → List Place → List (List Library)
+bests_of table t places = map (λ place. bests (libraries_in table t place)) places

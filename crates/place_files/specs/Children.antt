@@ -10,7 +10,7 @@ use Rattle.tree_face.specs.declared.node.Node.TheVariants as node
 use Rattle.tree_face.specs.declared.tree.Kind.TheVariants.{Dir}
 use Rattle.place_files.specs.Libraries.{library_at}
 use Rattle.place_files.specs.Table.{Analyses}
-use Rattle.place_files.specs.declared.libraries.Library.{Library}
+use Rattle.place_files.specs.Library.{Library}
 
 -- the name stands in the directory with this node
 pub record IsChild (t : Nodes) (folder : List ℕ) (child : List ℕ × Option Node) : Type 0 where

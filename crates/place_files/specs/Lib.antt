@@ -2,8 +2,10 @@ pub mod Best
 pub mod Children
 pub mod Folders
 pub mod Libraries
+pub mod Library
 pub mod Order
 pub mod Pick
 pub mod Places
 pub mod Search
+pub mod Sonames
 pub mod Table

@@ -9,7 +9,7 @@ use Rattle.tree_face.specs.Paths.{is_slash}
 use Rattle.tree_face.specs.Tree.{Nodes, children_of}
 use Rattle.place_files.specs.Search.{file_in}
 use Rattle.place_files.specs.Table.{Analyses, analysis_at}
-use Rattle.place_files.specs.declared.libraries.Library.{Library}
+use Rattle.place_files.specs.Library.{Library}
 
 -- The soname of a library is its DT_SONAME, or its file's own name if it has none.
 abbrev pub library_by : List ℕ → List ℕ → Analysis → Option Library

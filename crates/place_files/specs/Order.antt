@@ -1,8 +1,9 @@
 -- Texts in the order of their bytes.
-use Rattle.std.specs.Prelude.{ℕ, List, [], fold}
+use Rattle.std.specs.Prelude.{◌≡◌, ℕ, false, List, [], ◌∷◌, fold, ⊤}
 use Rattle.std.specs.BTreeSet.{insert_key}
 use Rattle.std.specs.Cmp.Lexicographic.{slice_cmp}
-use Rattle.std.specs.Ordering.{nat_cmp}
+use Rattle.std.specs.List.{AllByRecursion}
+use Rattle.std.specs.Ordering.{is_lt, nat_cmp}
 
 -- with a text more, at its place in the order, unless it is there
 abbrev pub with_text : List (List ℕ) → List ℕ → List (List ℕ)
@@ -11,3 +12,8 @@ with_text texts text = insert_key (slice_cmp nat_cmp) texts text
 -- these texts in the order of their bytes, each once
 unfoldable pub ascending : List (List ℕ) → List (List ℕ)
 ascending texts = fold with_text [] texts
+
+-- none of these texts is below one before it
+abbrev pub AreAscending : List (List ℕ) → Type 0
+AreAscending [] = ⊤
+AreAscending (text ∷ texts) = AllByRecursion (λ other. is_lt (slice_cmp nat_cmp other text) ≡ false) texts × AreAscending texts

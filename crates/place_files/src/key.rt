@@ -1,14 +1,16 @@
 //! Texts in the order of their bytes.
-ghost use Rattle.std.proofs.Common.{refl};
-ghost use Rattle.std.specs.Cmp.{partial_equiv_from_equiv};
-ghost use Rattle.std.specs.Cmp.Lexicographic.{nat_list_eq_equiv, nat_list_cmp_total, texts_po, texts_ties, pointwise, slice_cmp};
+ghost use Rattle.std.proofs.Common.{ap, refl, sym};
+ghost use Rattle.std.specs.Cmp.{on_equiv, on_per, partial_equiv_from_equiv};
+ghost use Rattle.std.specs.Cmp.Lexicographic.{nat_list_eq_equiv, nat_list_cmp_total, same_text, texts_po, texts_ties, pointwise, slice_cmp};
 ghost use Rattle.std.specs.Ordering.{as_partial_cmp, nat_cmp};
-ghost use Rattle.std.specs.Prelude.{nat_eq, ◌≡◌, IfOk, OnOk};
+ghost use Rattle.std.specs.Prelude.{nat_eq, ◌≡◌, ◌∷◌, [], IfOk, OnOk};
 ghost use Rattle.place_files.specs.Order.{ascending};
 
+use indexmap::Equivalent;
 use lib_types::{NoMemory, Seq, Text, Texts};
 use std::alloc::Global;
 use std::cmp::Ordering;
+use std::hash::{Hash, Hasher};
 use std::marker::Model;
 
 /// A text that is sorted by its bytes, which contracts see as the list of them.
@@ -31,6 +33,13 @@ impl Key {
         ensures { result ≡ text }
     {
         Key { text }
+    }
+
+    /// The bytes, borrowed.
+    pub fn as_bytes(&self) -> &[u8]
+        ensures { result.now ≡ self.now }
+    {
+        self.text.as_bytes()
     }
 
     /// The text, without taking memory.
@@ -76,6 +85,59 @@ impl Ord for Key {
 
     fn cmp(&self, other: &Self) -> Ordering {
         self.text.as_bytes().cmp(other.text.as_bytes())
+    }
+}
+
+// A text is hashed as a whole; a slice would be hashed byte by byte.
+impl Hash for Key {
+    ghost hash_input = { λ s. s ∷ [] };
+
+    ghost respects_eq = { λ a b same. ap (λ bytes. bytes ∷ []) (same_text a b (sym same)) };
+
+    fn hash<H: Hasher>(&self, state: &mut H) {
+        state.write(self.text.as_bytes());
+    }
+}
+
+/// Bytes by which a key is looked up in a hash map.
+#[derive(Clone, Copy)]
+pub(crate) struct KeyQuery<'a> {
+    pub(crate) bytes: &'a [u8],
+}
+
+impl<'a> PartialEq for KeyQuery<'a> {
+    ghost eq = { λ a b. pointwise nat_eq a.bytes.now b.bytes.now };
+
+    ghost laws = { on_per (λ q. q.bytes.now) (partial_equiv_from_equiv nat_list_eq_equiv) };
+
+    fn eq(&self, other: &Self) -> bool {
+        self.bytes == other.bytes
+    }
+}
+
+impl<'a> Eq for KeyQuery<'a> {
+    ghost laws = { on_equiv (λ q. q.bytes.now) nat_list_eq_equiv };
+}
+
+impl<'a> Hash for KeyQuery<'a> {
+    ghost hash_input = { λ q. q.bytes.now ∷ [] };
+
+    ghost respects_eq = { λ a b same. ap (λ bytes. bytes ∷ []) (same_text a.bytes.now b.bytes.now (sym same)) };
+
+    fn hash<H: Hasher>(&self, state: &mut H) {
+        state.write(self.bytes);
+    }
+}
+
+impl<'a> Equivalent<Key> for KeyQuery<'a> {
+    ghost equivalent = { λ q k. pointwise nat_eq q.bytes.now k };
+
+    ghost respects_hash = { λ q k same. ap (λ bytes. bytes ∷ []) (same_text q.bytes.now k (sym same)) };
+
+    ghost respects_eq = { λ q x y same. ap (λ bytes. pointwise nat_eq bytes y) (same_text q.bytes.now x (sym same)) };
+
+    fn equivalent(&self, key: &Key) -> bool {
+        self.bytes == key.text.as_bytes()
     }
 }
 

@@ -7,14 +7,16 @@ mod libraries;
 mod links;
 mod places;
 mod search;
+mod sonames;
 mod table;
 
-pub use best::{is_own, is_preferred};
+pub use best::{BestLibrary, PlaceBests, is_own, is_preferred};
 pub use key::{Key, ascending};
 pub use libraries::{Library, libraries_in, library_at};
 pub use links::{
     FolderLinks, FollowedLink, PlaceLinks, dangling, dangling_among, files_behind, follow, reached,
 };
 pub use places::{is_plain, links_to};
-pub use search::{union, wanted};
+pub use search::wanted;
+pub use sonames::{BySoname, Gather, gather_by_soname};
 pub use table::Table;

@@ -47,26 +47,6 @@ fn add_files(
     Ok(())
 }
 
-// Adds copies of these texts.
-fn add_copies(alloc: Global, texts: &Texts, copies: &mut Vec<Text>) -> Result<(), NoMemory>
-    ensures { OnOk result (copies.new.items ≡ copies.old.items ++ texts.now) }
-{
-    for text in texts.as_slice() {
-        copies.push(Text::copy_of(alloc, text.as_bytes())?)?;
-    }
-    Ok(())
-}
-
-/// The texts of both lists in the order of their bytes, each once.
-pub fn union(alloc: Global, first: &Texts, second: &Texts) -> Result<Texts, NoMemory>
-    ensures { IfOk result (λ texts. texts ≡ ascending (first.now ++ second.now)) }
-{
-    let mut texts = Vec::new(alloc);
-    add_copies(alloc, first, &mut texts)?;
-    add_copies(alloc, second, &mut texts)?;
-    ascending(alloc, texts)
-}
-
 /// The files with library names in the places: their paths without links, by their bytes, each once.
 #[tactic(auto, unfolding(crate::specs::Search::wanted))]
 pub fn wanted(alloc: Global, tree: &Tree, dirs: &Dirs) -> Result<Texts, NoMemory>

@@ -1,29 +1,39 @@
 //! The analyses of files by their paths.
-ghost use Rattle.std.specs.Prelude.{◌≡◌, [], IsTrue, OnOk, OnErr};
+ghost use Rattle.std.specs.Prelude.{◌≡◌, [], IfOk, IsTrue, OnOk, OnErr};
 ghost use Rattle.std.specs.Option.{option_copied};
-ghost use Rattle.place_files.specs.Table.{analysis_at, has_name, have_names, with_analysis};
+ghost use Rattle.place_files.specs.Table.{analysis_at, defective, has_name, have_names, is_defect, with_analysis};
 
+use crate::key::{Key, KeyQuery};
 use indexmap::IndexMap;
 use lib_types::{Analysis, NoMemory, Text};
 use std::alloc::Global;
 use std::marker::Model;
 
+fn is_defect(analysis: &Analysis) -> bool
+    ensures { result ≡ is_defect analysis.now }
+{
+    match analysis {
+        Analysis::Not(_) => true,
+        Analysis::Lib { .. } => false,
+    }
+}
+
 /// A map from paths without links to the analyses of the files there, in which each soname is a name. Contracts see it as the
 /// list of both, each path once.
 #[derive(Drop)]
 pub struct Table {
-    analyses: IndexMap<Vec<u8>, Analysis>,
+    analyses: IndexMap<Key, Analysis>,
 }
 
 impl Model for Table {
-    ghost use Rattle.std.specs.Prelude.{map, IsTrue};
+    ghost use Rattle.std.specs.Prelude.{IsTrue};
     ghost use Rattle.place_files.specs.Table.{Analyses, have_names};
 
     ghost Value = { Analyses };
 
-    ghost view = { λ t. map (λ e. (e.0.items, e.1)) t.analyses.entries };
+    ghost view = { λ t. t.analyses.entries };
 
-    ghost invariant = { λ t. IsTrue (have_names (map (λ e. (e.0.items, e.1)) t.analyses.entries)) };
+    ghost invariant = { λ t. IsTrue (have_names t.analyses.entries) };
 }
 
 impl Table {
@@ -42,7 +52,7 @@ impl Table {
         ensures done { OnOk result (self.new ≡ with_analysis self.old path analysis) }
         ensures refused { OnErr result (self.new ≡ self.old) }
     {
-        self.analyses.insert(path.into_vec(), analysis)?;
+        self.analyses.insert(Key::of(path), analysis)?;
         Ok(())
     }
 
@@ -50,7 +60,20 @@ impl Table {
     pub fn get(&self, path: &[u8]) -> Option<&Analysis>
         ensures { option_copied result ≡ analysis_at self.now path.now }
     {
-        self.analyses.get(path)
+        self.analyses.get(KeyQuery { bytes: path })
+    }
+
+    /// The paths of the files that are no libraries, in no order.
+    pub fn defective(&self, alloc: Global) -> Result<Vec<Text>, NoMemory>
+        ensures { IfOk result (λ paths. paths.items ≡ defective self.now) }
+    {
+        let mut paths = Vec::new(alloc);
+        for (path, analysis) in self.analyses.iter() {
+            if is_defect(analysis) {
+                paths.push(Text::copy_of(alloc, path.as_bytes())?)?;
+            }
+        }
+        Ok(paths)
     }
 
     /// Lets contracts know what each table meets. It does nothing.

@@ -1,6 +1,7 @@
 //! The links that are planned, and the tree with them.
 ghost use Rattle.std.specs.Prelude.{◌≡◌, ◌<◌, ◌≤◌, ℕ, IfOk, IsErrOf, IsTrue};
 ghost use Rattle.hwcap_dirs.specs.Places.{are_dirs};
+ghost use Rattle.place_files.specs.Best.{bests_of};
 ghost use Rattle.soname_links.specs.Apply.{nodes_with};
 ghost use Rattle.soname_links.specs.Marks.{blocked, mixed};
 ghost use Rattle.soname_links.specs.Plan.{links, with_links};
@@ -34,6 +35,7 @@ pub fn plan_links(
     ensures is_tree { IfOk result (λ found. IsTree tree.new) }
     ensures blocked { IfOk result (λ found. found.blocked ≡ blocked table.now tree.old dirs.now.places) }
     ensures mixed { IfOk result (λ found. found.mixed ≡ mixed table.now tree.old dirs.now.places) }
+    ensures bests { IfOk result (λ found. found.bests ≡ bests_of table.now tree.old dirs.now.places) }
     ensures too_large { (nodes : ℕ) → IsErrOf result (ApplyFault.TooLarge nodes) →
         (nodes ≡ nodes_with tree.old (links table.now tree.old dirs.now.places)) × (NODES_MAX < nodes) }
 {

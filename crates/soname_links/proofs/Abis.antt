@@ -18,7 +18,7 @@ use Rattle.place_files.specs.Best.{best, has_soname, is_preferred, sonames}
 use Rattle.soname_links.specs.Marks.{is_odd, mark, mixed_among, odd_soname}
 use Rattle.soname_links.specs.Survey.{group_at, group_with, groups, grown, mixed_of, with_library}
 use Rattle.soname_links.specs.declared.groups.Group.{Group}
-use Rattle.place_files.specs.declared.libraries.Library.{Library}
+use Rattle.place_files.specs.Library.{Library}
 
 -- ---- the libraries of one soname
 

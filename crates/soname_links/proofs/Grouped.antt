@@ -1,65 +1,41 @@
 -- The libraries of a place by their sonames, and what each soname gives.
-use Rattle.std.proofs.Common.{◌≡◌, ℕ, Bool, true, false, cond, List, [], ◌∷◌, refl, ap, sym, subst, ◌∙◌, Option, Some, None}
+use Rattle.std.proofs.Common.{◌≡◌, ℕ, Bool, true, false, cond, List, [], ◌∷◌, ◌++◌, append_assoc, map, refl, ap, sym, subst, ◌∙◌, Option, Some, None}
 use Rattle.std.proofs.lemmas.Cmp.{nat_list_cmp_total}
-use Rattle.std.proofs.lemmas.Slice.Eq.{bytes_eq-Decides}
-use Rattle.std.specs.BTreeMap.{is_at}
-use Rattle.std.specs.Cmp.Lexicographic.{slice_cmp, texts_ties}
 use Rattle.std.specs.List.{cons_option, filter, filter_map, fold}
-use Rattle.std.specs.List.Sorted.{IsStrictlySortedBy}
-use Rattle.std.specs.Map.{keys_of, lookup}
-use Rattle.std.specs.Option.{is_some, option_map}
-use Rattle.std.specs.Ordering.{nat_cmp}
-use Rattle.std.specs.Str.{bytes_eq}
+use Rattle.std.specs.Map.{keys_of}
+use Rattle.std.specs.Option.{option_map}
 use Rattle.hwcap_dirs.specs.declared.kinds.Place.{Place}
-use Rattle.lib_types.proofs.SortedPairs.{by_test}
 use Rattle.tree_face.specs.Tree.{Nodes}
-use Rattle.place_files.proofs.Ordered.{by_entries, filtered_same, keys_stay}
+use Rattle.place_files.proofs.Ordered.{by_entries, filtered_same}
+use Rattle.place_files.proofs.Gathered.{gathered_keyed, keys_keyed}
+use Rattle.place_files.specs.Sonames.{AreGathered, AreOrdered, found_at}
 use Rattle.place_files.specs.Best.{best, bests, better, has_soname, is_preferred, sonames}
 use Rattle.soname_links.specs.Marks.{blocked_for}
-use Rattle.place_files.specs.Order.{with_text}
+use Rattle.place_files.specs.Order.{ascending}
 use Rattle.place_files.specs.Places.{is_plain}
 use Rattle.soname_links.specs.Plan.{link_for}
-use Rattle.soname_links.specs.Survey.{blocked_of, group_at, group_with, groups, planned_of, with_library}
+use Rattle.soname_links.specs.Survey.{blocked_of, group_at, group_with, groups, keyed, planned_of, with_library}
 use Rattle.soname_links.specs.declared.groups.Group.{Group}
-use Rattle.place_files.specs.declared.libraries.Library.{Library}
-
--- ---- one library more
+use Rattle.place_files.specs.Library.{Library}
 
 abbrev pub Grouped : Type 0
 Grouped = List (List ℕ × Group)
 
-abbrev pub grouped_at : Grouped → List ℕ → Option Group
-grouped_at es soname = lookup (is_at (slice_cmp nat_cmp soname)) es
-
-abbrev pub AreOrdered : Grouped → Type 0
-AreOrdered es = IsStrictlySortedBy (slice_cmp nat_cmp) (keys_of es)
-
--- the keys stay with a library more of a soname that is there
-pub keys_kept : (es : Grouped) (soname : List ℕ) (group : Group) → AreOrdered es → grouped_at es soname ≡ Some group → keys_of es ≡ with_text (keys_of es) soname
-keys_kept es soname group s h = keys_stay nat_list_cmp_total soname es s (ap is_some h)
-
-pub group_put : (es new : Grouped) (library : Library) (group : Group)
-    → ((q : List ℕ) → grouped_at new q ≡ cond (is_at (slice_cmp nat_cmp library.soname) q) (Some group) (grouped_at es q))
-    → Some group ≡ with_library (grouped_at es library.soname) library
-    → (soname : List ℕ) → grouped_at new soname ≡ cond (bytes_eq library.soname soname) (with_library (grouped_at es soname) library) (grouped_at es soname)
-group_put es new library group updates is soname = by_test (bytes_eq library.soname soname)
-    (λ same.
-    let here : library.soname ≡ soname = (bytes_eq-Decides library.soname soname).0 same in
-    let found : Some group ≡ with_library (grouped_at es soname) library = subst (λ q. Some group ≡ with_library (grouped_at es q) library) here is in
-    let at : is_at (slice_cmp nat_cmp library.soname) soname ≡ true = sym (texts_ties library.soname soname) ∙ same in
-    updates soname ∙ (rw (at, same) found))
-    (λ other.
-    let at : is_at (slice_cmp nat_cmp library.soname) soname ≡ false = sym (texts_ties library.soname soname) ∙ other in
-    updates soname ∙ (rw (at, other) refl))
-
 -- the entries of an ordered map with these keys, and the libraries at each
-pub all_groups : (es : Grouped) (libraries : List Library) → AreOrdered es → keys_of es ≡ sonames libraries → ((soname : List ℕ) → grouped_at es soname ≡ group_at libraries soname)
+all_groups : (es : Grouped) (libraries : List Library) → AreOrdered es → keys_of es ≡ sonames libraries → ((soname : List ℕ) → found_at es soname ≡ group_at libraries soname)
     → es ≡ groups libraries
 all_groups es libraries s keys at =
     sym (by_entries nat_list_cmp_total es s)
-    ∙ filtered_same (λ k. option_map (λ group. (k, group)) (grouped_at es k)) (group_with libraries)
+    ∙ filtered_same (λ k. option_map (λ group. (k, group)) (found_at es k)) (group_with libraries)
     (λ k. ap (option_map (λ group. (k, group))) (at k)) (keys_of es)
     ∙ ap (filter_map (group_with libraries)) keys
+
+-- what the libraries come to by their sonames
+pub groups_gathered : (libraries : List Library) (items : List (List ℕ × Library)) (es : Grouped) → items ≡ keyed libraries → AreGathered with_library items es → es ≡ groups libraries
+groups_gathered libraries items es is gathered =
+    let all : AreGathered with_library (keyed libraries) es = subst (λ xs. AreGathered with_library xs es) is gathered in
+    all_groups es libraries all.ordered (all.keys ∙ ap ascending (keys_keyed (λ library. library.soname) libraries))
+    (λ soname. all.found soname ∙ gathered_keyed (λ library. library.soname) with_library soname libraries None)
 
 -- ---- the best one
 
@@ -75,6 +51,26 @@ all_better (library ∷ libraries) found = ap (λ o. fold better o libraries) (o
 
 pub best_grouped : (libraries : List Library) (soname : List ℕ) → best libraries soname ≡ option_map (λ group. group.best) (group_at libraries soname)
 best_grouped libraries soname = all_better (filter (has_soname soname) libraries) None
+
+best_among : (libraries : List Library) (names : List (List ℕ)) → map (λ (e : List ℕ × Group). e.1.best) (filter_map (group_with libraries) names) ≡ filter_map (best libraries) names
+best_among libraries [] = refl
+best_among libraries (soname ∷ names) = rw (best_grouped libraries soname)
+    (elim (group_at libraries soname) as (λ o.
+    map (λ (e : List ℕ × Group). e.1.best) (cons_option (option_map (λ group. (soname, group)) o) (filter_map (group_with libraries) names))
+    ≡ cons_option (option_map (λ group. group.best) o) (filter_map (best libraries) names)) [
+      | None ↦ best_among libraries names
+      | Some group ↦ ap (λ rest. group.best ∷ rest) (best_among libraries names)
+    ])
+
+-- the best one of a soname was added, and what is left gives the rest
+pub best_more : (ys new : List Library) (e : List ℕ × Group) (es items : Grouped) (whole : List Library) → new ≡ ys ++ e.1.best ∷ [] → items ≡ e ∷ es
+    → ys ++ map (λ (e : List ℕ × Group). e.1.best) items ≡ whole → new ++ map (λ (e : List ℕ × Group). e.1.best) es ≡ whole
+best_more ys new e es items whole added step was =
+    ap (λ zs. zs ++ map (λ (e : List ℕ × Group). e.1.best) es) added ∙ append_assoc ys (e.1.best ∷ []) (map (λ (e : List ℕ × Group). e.1.best) es)
+    ∙ ap (λ items. ys ++ map (λ (e : List ℕ × Group). e.1.best) items) (sym step) ∙ was
+
+pub bests_given : (libraries : List Library) → map (λ (e : List ℕ × Group). e.1.best) (groups libraries) ≡ bests libraries
+bests_given libraries = best_among libraries (sonames libraries)
 
 -- ---- what the best ones give
 

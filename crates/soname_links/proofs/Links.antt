@@ -13,7 +13,7 @@ use Rattle.place_files.specs.Libraries.{libraries_in}
 use Rattle.place_files.specs.Places.{by_place, is_plain, links_to}
 use Rattle.soname_links.specs.Plan.{is_blocked, is_regarded, link_for, links, links_in}
 use Rattle.place_files.specs.Table.{Analyses}
-use Rattle.place_files.specs.declared.libraries.Library.{Library}
+use Rattle.place_files.specs.Library.{Library}
 use Rattle.soname_links.specs.declared.kinds.Planned.{Planned}
 
 -- the link is planned for this library

@@ -20,7 +20,7 @@ use Rattle.place_files.specs.Best.{best}
 use Rattle.place_files.specs.Libraries.{libraries_in}
 use Rattle.soname_links.specs.Plan.{is_taken, links}
 use Rattle.place_files.specs.Table.{Analyses, have_names}
-use Rattle.place_files.specs.declared.libraries.Library.{Library}
+use Rattle.place_files.specs.Library.{Library}
 use Rattle.soname_links.specs.declared.kinds.Planned.{Planned}
 
 short : (n : ℕ) → nat_lt PATH_MAX n ≡ false → nat_le n PATH_MAX ≡ true

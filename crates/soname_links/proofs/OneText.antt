@@ -20,7 +20,7 @@ use Rattle.place_files.specs.Best.{best}
 use Rattle.place_files.specs.Libraries.{libraries_in, library_in}
 use Rattle.soname_links.specs.Plan.{links}
 use Rattle.place_files.specs.Table.{Analyses, have_names}
-use Rattle.place_files.specs.declared.libraries.Library.{Library}
+use Rattle.place_files.specs.Library.{Library}
 use Rattle.soname_links.specs.declared.kinds.Planned.{Planned}
 
 module _ (table : Analyses) (named : have_names table ≡ true) (t : Nodes) (tree : IsTree t) where

@@ -13,7 +13,7 @@ use Rattle.place_files.proofs.Named.{best_named}
 use Rattle.place_files.specs.Best.{best, is_own}
 use Rattle.place_files.specs.Libraries.{last_name, libraries_in}
 use Rattle.place_files.specs.Table.{Analyses, have_names}
-use Rattle.place_files.specs.declared.libraries.Library.{Library}
+use Rattle.place_files.specs.Library.{Library}
 use Rattle.tree_face.proofs.Below.{below_from, below_is}
 use Rattle.tree_face.specs.Paths.{is_below, is_path, join, root, stem}
 use Rattle.tree_face.specs.Tree.{Nodes, IsTree, kind_at}

@@ -24,7 +24,7 @@ use Rattle.soname_links.specs.Plan.{is_blocked, is_regarded, is_taken, link_for,
 use Rattle.place_files.specs.Search.{files_in, wanted}
 use Rattle.soname_links.specs.Settled.{IsSettled, Settles}
 use Rattle.place_files.specs.Table.{Analyses, have_names}
-use Rattle.place_files.specs.declared.libraries.Library.{Library}
+use Rattle.place_files.specs.Library.{Library}
 use Rattle.soname_links.specs.declared.kinds.Planned.{Planned}
 use Rattle.soname_links.proofs.OneText.{all_same, one_text}
 

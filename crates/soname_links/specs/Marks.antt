@@ -11,7 +11,7 @@ use Rattle.place_files.specs.Order.{ascending}
 use Rattle.place_files.specs.Places.{by_place, is_plain}
 use Rattle.soname_links.specs.Plan.{is_blocked, is_regarded}
 use Rattle.place_files.specs.Table.{Analyses}
-use Rattle.place_files.specs.declared.libraries.Library.{Library}
+use Rattle.place_files.specs.Library.{Library}
 use Rattle.soname_links.specs.declared.kinds.Mark.{Mark}
 
 abbrev pub mark : ℕ → List ℕ → Mark

@@ -13,7 +13,7 @@ use Rattle.place_files.specs.Best.{is_own, bests}
 use Rattle.place_files.specs.Libraries.{libraries_in}
 use Rattle.place_files.specs.Places.{by_place, is_plain, links_to}
 use Rattle.place_files.specs.Table.{Analyses}
-use Rattle.place_files.specs.declared.libraries.Library.{Library}
+use Rattle.place_files.specs.Library.{Library}
 use Rattle.soname_links.specs.declared.kinds.Planned.{Planned}
 
 -- the best library of its soname wants a link: the soname is a library name, and no file of that soname has it as its name

@@ -1,5 +1,5 @@
 -- What private functions say of a place's libraries by their sonames, and of what each soname gives.
-use Rattle.std.specs.Prelude.{ℕ, false, List, ◌||◌, if◌then◌else◌, filter, fold, Option, Some, None}
+use Rattle.std.specs.Prelude.{ℕ, false, List, ◌||◌, if◌then◌else◌, filter, fold, map, Option, Some, None}
 use Rattle.std.specs.List.{filter_map}
 use Rattle.std.specs.Option.{option_map}
 use Rattle.std.specs.Str.{bytes_eq}
@@ -12,7 +12,7 @@ use Rattle.soname_links.specs.Marks.{blocked_for, is_odd, mark}
 use Rattle.soname_links.specs.Plan.{is_blocked, link_for}
 use Rattle.place_files.specs.Places.{is_plain, links_to}
 use Rattle.soname_links.specs.declared.groups.Group.{Group}
-use Rattle.place_files.specs.declared.libraries.Library.{Library}
+use Rattle.place_files.specs.Library.{Library}
 use Rattle.soname_links.specs.declared.kinds.Mark.{Mark}
 use Rattle.soname_links.specs.declared.kinds.Planned.{Planned}
 use Rattle.soname_links.specs.declared.surveying.Spot.{Spot}
@@ -26,6 +26,9 @@ grown group library = record {
   best = if is_preferred library group.best then library else group.best;
   mixed = group.mixed || is_odd (Some group.best) library;
 }
+
+abbrev pub keyed : List Library → List (List ℕ × Library)
+keyed libraries = map (λ library. (library.soname, library)) libraries
 
 abbrev pub with_library : Option Group → Library → Option Group
 with_library None library = Some (record { best = library; mixed = false })

@@ -3,7 +3,7 @@ ghost use Rattle.std.specs.Prelude.{◌≡◌};
 
 pub use cache_entries::EntryFault;
 use lib_types::{NoMemory, Seq, Text};
-pub use place_files::Library;
+use place_files::PlaceBests;
 
 /// A link that is planned.
 #[derive(Drop)]
@@ -39,6 +39,8 @@ pub struct Survey {
     pub blocked: Marks,
     /// The sonames of which a place has libraries with different ABIs.
     pub mixed: Marks,
+    /// The best library of each soname of each place.
+    pub bests: PlaceBests,
 }
 
 /// Why links weren't all put into a tree.

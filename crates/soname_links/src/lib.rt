@@ -8,11 +8,12 @@ pub mod kinds;
 mod marks;
 mod planning;
 mod surveying;
+mod winners;
 
 pub use applying::{apply, is_plan};
-pub use cache_entries::entries;
 pub use kinds::{ApplyFault, EntryFault, Mark, Marks, Planned, Survey};
 pub use marks::{blocked, mixed};
-pub use place_files::{Table, dangling, reached, union, wanted};
+pub use place_files::{Table, dangling, reached, wanted};
 pub use planning::plan;
 pub use surveying::survey;
+pub use winners::entries;

@@ -3,18 +3,20 @@ ghost use Rattle.std.specs.Prelude.{◌≡◌, ◌∷◌, ◌++◌, [], IfOk, Is
 ghost use Rattle.std.specs.List.{filter_map};
 ghost use Rattle.hwcap_dirs.specs.Places.{are_dirs};
 ghost use Rattle.soname_links.specs.Apply.{are_clear, is_plan};
-ghost use Rattle.soname_links.specs.Marks.{blocked, blocked_for, blocked_in, mixed, mixed_in};
+ghost use Rattle.soname_links.specs.Marks.{blocked, blocked_for, blocked_in, mark, mixed, mixed_in};
 ghost use Rattle.soname_links.specs.Plan.{is_regarded, is_taken, link_for, links, links_in};
 ghost use Rattle.soname_links.specs.Survey.{blocked_of, mixed_of, planned_of, spot_at, spot_by};
+ghost use Rattle.place_files.specs.Best.{bests, bests_of};
+ghost use Rattle.place_files.specs.Libraries.{libraries_in};
 ghost use Rattle.place_files.specs.Table.{have_names};
 
 use crate::groups::{Group, groups_in};
 use crate::kinds::{Mark, Planned, Survey};
 use hwcap_dirs::{Dirs, Place};
-use lib_types::{NoMemory, Seq};
+use lib_types::{NoMemory, Seq, Text};
 use name_order::is_library_name;
-use path_walk::join;
-use place_files::{Key, Library, Table, is_own, is_plain};
+use path_walk::join_into;
+use place_files::{BestLibrary, BySoname, Library, Table, is_own, is_plain};
 use std::alloc::Global;
 use tree_face::{Kind, Node, PATH_MAX, Tree};
 
@@ -30,10 +32,10 @@ enum Spot {
 }
 
 // Whether the best library of its soname wants a link.
-fn is_regarded(best: &Library) -> bool
+fn is_regarded(best: &Library<'_>) -> bool
     ensures { result ≡ is_regarded best.now }
 {
-    is_library_name(best.soname.as_bytes()) && !is_own(best)
+    is_library_name(best.soname) && !is_own(best)
 }
 
 fn is_taken(kind: Kind) -> bool
@@ -80,67 +82,90 @@ fn spot_at(tree: &Tree, path: &[u8], file: &[u8]) -> Spot
     }
 }
 
-// Adds the link or the mark for the best library of a soname, if it wants a link that isn't there.
+fn mark(alloc: Global, number: u32, soname: &[u8]) -> Result<Mark, NoMemory>
+    ensures { IfOk result (λ m. m ≡ mark number soname.now) }
+{
+    Ok(Mark {
+        place: number,
+        soname: Text::copy_of(alloc, soname)?,
+    })
+}
+
+fn planned(alloc: Global, number: u32, best: &Library<'_>, path: &[u8]) -> Result<Planned, NoMemory>
+    ensures place { IfOk result (λ p. p.place ≡ number) }
+    ensures soname { IfOk result (λ p. p.soname ≡ best.now.soname) }
+    ensures file { IfOk result (λ p. p.file ≡ best.now.name) }
+    ensures path { IfOk result (λ p. p.path ≡ path.now) }
+{
+    Ok(Planned {
+        place: number,
+        soname: Text::copy_of(alloc, best.soname)?,
+        file: Text::copy_of(alloc, best.name)?,
+        path: Text::copy_of(alloc, path)?,
+    })
+}
+
+// Adds the link or the mark for the best library of a soname, if it wants a link that isn't there. The path is room for the link's.
 fn add_wanted(
     alloc: Global,
     tree: &Tree,
     number: u32,
     place: &Place,
-    best: Library,
+    best: &Library<'_>,
+    path: &mut Vec<u8>,
     survey: &mut Survey,
 ) -> Result<(), NoMemory>
-    ensures plan { OnOk result (survey.new.plan ≡ survey.old.plan ++ filter_map (link_for tree.now number place.now) (best ∷ [])) }
-    ensures blocked { OnOk result (survey.new.blocked ≡ survey.old.blocked ++ filter_map (blocked_for tree.now number place.now) (best ∷ [])) }
+    ensures plan { OnOk result (survey.new.plan ≡ survey.old.plan ++ filter_map (link_for tree.now number place.now) (best.now ∷ [])) }
+    ensures blocked { OnOk result (survey.new.blocked ≡ survey.old.blocked ++ filter_map (blocked_for tree.now number place.now) (best.now ∷ [])) }
     ensures mixed { OnOk result (survey.new.mixed ≡ survey.old.mixed) }
+    ensures bests { OnOk result (survey.new.bests ≡ survey.old.bests) }
 {
-    if !is_regarded(&best) {
+    if !is_regarded(best) {
         return Ok(());
     }
-    let path = join(alloc, place.real.as_bytes(), best.soname.as_bytes())?;
-    match spot_at(tree, path.as_bytes(), best.name.as_bytes()) {
-        Spot::Blocked => survey.blocked.push(Mark {
-            place: number,
-            soname: best.soname,
-        })?,
+    join_into(path, place.real.as_bytes(), best.soname)?;
+    match spot_at(tree, path, best.name) {
+        Spot::Blocked => survey.blocked.push(mark(alloc, number, best.soname)?)?,
         Spot::Linked => {}
-        Spot::Free => survey.plan.push(Planned {
-            place: number,
-            soname: best.soname,
-            file: best.name,
-            path,
-        })?,
+        Spot::Free => survey.plan.push(planned(alloc, number, best, path)?)?,
     }
     Ok(())
 }
 
-// Adds what the libraries of a soname give.
+// Adds what the libraries of a soname give. The path is room for that of a link.
 fn add_group(
     alloc: Global,
     tree: &Tree,
     number: u32,
     place: &Place,
-    soname: Key,
-    group: Group,
+    group: &BySoname<'_, Group<'_>>,
+    path: &mut Vec<u8>,
     survey: &mut Survey,
 ) -> Result<(), NoMemory>
-    ensures plan { OnOk result (survey.new.plan ≡ survey.old.plan ++ filter_map (planned_of tree.now number place.now) ((soname, group) ∷ [])) }
-    ensures blocked { OnOk result (survey.new.blocked ≡ survey.old.blocked ++ filter_map (blocked_of tree.now number place.now) ((soname, group) ∷ [])) }
-    ensures mixed { OnOk result (survey.new.mixed ≡ survey.old.mixed ++ filter_map (mixed_of number) ((soname, group) ∷ [])) }
+    ensures plan { OnOk result (survey.new.plan ≡ survey.old.plan ++ filter_map (planned_of tree.now number place.now) (group.now ∷ [])) }
+    ensures blocked { OnOk result (survey.new.blocked ≡ survey.old.blocked ++ filter_map (blocked_of tree.now number place.now) (group.now ∷ [])) }
+    ensures mixed { OnOk result (survey.new.mixed ≡ survey.old.mixed ++ filter_map (mixed_of number) (group.now ∷ [])) }
+    ensures bests { OnOk result (survey.new.bests ≡ survey.old.bests) }
 {
-    if group.mixed {
-        survey.mixed.push(Mark {
-            place: number,
-            soname: soname.into_text(),
-        })?;
+    let libraries = group.item();
+    if libraries.mixed {
+        survey.mixed.push(mark(alloc, number, group.soname())?)?;
     }
     if is_plain(place) {
-        add_wanted(alloc, tree, number, place, group.best, survey)?;
+        add_wanted(alloc, tree, number, place, &libraries.best, path, survey)?;
     }
     Ok(())
 }
 
+fn add_best(alloc: Global, best: &Library<'_>, bests: &mut Seq<BestLibrary>) -> Result<(), NoMemory>
+    ensures { OnOk result (bests.new ≡ bests.old ++ best.now ∷ []) }
+{
+    bests.push(BestLibrary::copy_of(alloc, best)?)?;
+    Ok(())
+}
+
 // Adds what a place gives.
-#[tactic(auto, using(crate::proofs::Grouped::links_given, crate::proofs::Grouped::blocked_given, crate::proofs::Abis::mixed_given))]
+#[tactic(auto, using(crate::proofs::Grouped::links_given, crate::proofs::Grouped::blocked_given, crate::proofs::Grouped::bests_given, crate::proofs::Abis::mixed_given))]
 fn add_place(
     alloc: Global,
     tree: &Tree,
@@ -152,24 +177,31 @@ fn add_place(
     ensures plan { OnOk result (survey.new.plan ≡ survey.old.plan ++ links_in table.now tree.now number place.now) }
     ensures blocked { OnOk result (survey.new.blocked ≡ survey.old.blocked ++ blocked_in table.now tree.now number place.now) }
     ensures mixed { OnOk result (survey.new.mixed ≡ survey.old.mixed ++ mixed_in table.now tree.now number place.now) }
+    ensures bests { OnOk result (survey.new.bests ≡ survey.old.bests ++ bests (libraries_in table.now tree.now place.now) ∷ []) }
 {
-    for (soname, group) in groups_in(alloc, tree, table, place)? {
-        add_group(alloc, tree, number, place, soname, group, survey)?;
+    let mut path = Vec::new(alloc);
+    let mut bests = Seq::new(alloc);
+    for group in groups_in(alloc, tree, table, place)? {
+        add_group(alloc, tree, number, place, &group, &mut path, survey)?;
+        add_best(alloc, &group.item().best, &mut bests)?;
     }
+    survey.bests.push(bests)?;
     Ok(())
 }
 
 // What one place after the other gives.
-#[tactic(auto, unfolding(crate::specs::Plan::links, crate::specs::Marks::blocked, crate::specs::Marks::mixed))]
+#[tactic(auto, unfolding(crate::specs::Plan::links, crate::specs::Marks::blocked, crate::specs::Marks::mixed, place_files::specs::Best::bests_of))]
 fn surveyed(alloc: Global, tree: &Tree, dirs: &Dirs, table: &Table) -> Result<Survey, NoMemory>
     ensures plan { IfOk result (λ survey. survey.plan ≡ links table.now tree.now dirs.now.places) }
     ensures blocked { IfOk result (λ survey. survey.blocked ≡ blocked table.now tree.now dirs.now.places) }
     ensures mixed { IfOk result (λ survey. survey.mixed ≡ mixed table.now tree.now dirs.now.places) }
+    ensures bests { IfOk result (λ survey. survey.bests ≡ bests_of table.now tree.now dirs.now.places) }
 {
     let mut survey = Survey {
         plan: Seq::new(alloc),
         blocked: Seq::new(alloc),
         mixed: Seq::new(alloc),
+        bests: Seq::new(alloc),
     };
     let mut number: u32 = 0;
     for place in dirs.places.as_slice() {
@@ -189,6 +221,7 @@ pub fn survey(alloc: Global, tree: &Tree, dirs: &Dirs, table: &Table) -> Result<
     ensures names { IsTrue (have_names table.now) }
     ensures blocked { IfOk result (λ survey. survey.blocked ≡ blocked table.now tree.now dirs.now.places) }
     ensures mixed { IfOk result (λ survey. survey.mixed ≡ mixed table.now tree.now dirs.now.places) }
+    ensures bests { IfOk result (λ survey. survey.bests ≡ bests_of table.now tree.now dirs.now.places) }
 {
     tree.know();
     table.know();

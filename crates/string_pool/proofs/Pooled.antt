@@ -1,5 +1,5 @@
 -- What the string pool holds after each string, and the offset that it finds for one.
-use Rattle.std.proofs.Common.{◌≡◌, ℕ, ◌+◌, ◌-◌, ◌≤◌, Bool, true, false, cond, not, ◌||◌, List, [], ◌∷◌, ◌++◌, length, filter, take, drop, Some, is_some, unwrap_or, refl, sym, ap, subst, ◌∙◌, true≢false, Bor, add_assoc, suc, arith, bytes_eq, if◌then◌else◌}
+use Rattle.std.proofs.Common.{◌≡◌, ℕ, ◌+◌, ◌-◌, ◌≤◌, ◌<◌, Bool, true, false, cond, not, ◌||◌, List, [], ◌∷◌, ◌++◌, length, filter, take, drop, Option, Some, None, is_some, unwrap_or, refl, sym, ap, subst, ◌∙◌, true≢false, add_assoc, suc, arith, bytes_eq, if◌then◌else◌}
 use Rattle.std.proofs.Math.Seq.{take-append_seam, drop-append-add}
 use Rattle.std.proofs.lemmas.List.{append_assoc, append-nil, length-append, map-append}
 use Rattle.std.proofs.lemmas.List.Concat.{flat_map-append}
@@ -14,11 +14,11 @@ use Rattle.string_pool.specs.Strings.{distinct, table_of, offset_of, with_nul, S
 use Rattle.string_pool.specs.Kept.{texts, offsets_from, HasOffsets}
 
 -- a string is found if it is among the strings
-pub found : (text : List ℕ) (es : List (Bor (List ℕ) × ℕ)) → is_some (lookup (λ k. bytes_eq text k.now) es) ≡ list_any (bytes_eq text) (texts es)
+pub found : (text : List ℕ) (es : List (List ℕ × ℕ)) → is_some (lookup (λ k. bytes_eq text k) es) ≡ list_any (bytes_eq text) (texts es)
 found text [] = refl
 found text (e ∷ es) =
     let rest = found text es in
-    elim (bytes_eq text e.0.now) as (λ b. is_some (cond b (Some e.1) (lookup (λ k. bytes_eq text k.now) es)) ≡ (b || list_any (bytes_eq text) (texts es))) [
+    elim (bytes_eq text e.0) as (λ b. is_some (cond b (Some e.1) (lookup (λ k. bytes_eq text k) es)) ≡ (b || list_any (bytes_eq text) (texts es))) [
       | true ↦ refl
       | false ↦ rest
     ]
@@ -66,18 +66,18 @@ place_of_le (t ∷ ts) text =
     ])
 
 -- the value that a look-up gives is the string's offset
-pub placed : (text : List ℕ) (place : ℕ) (es : List (Bor (List ℕ) × ℕ)) → values_of es ≡ offsets_from place (texts es)
-    → unwrap_or (lookup (λ k. bytes_eq text k.now) es) (place + length (table_of (texts es))) ≡ place + offset_of (texts es) text
+pub placed : (text : List ℕ) (place : ℕ) (es : List (List ℕ × ℕ)) → values_of es ≡ offsets_from place (texts es)
+    → unwrap_or (lookup (λ k. bytes_eq text k) es) (place + length (table_of (texts es))) ≡ place + offset_of (texts es) text
 placed text place [] _ = refl
 placed text place (e ∷ es) h =
     let here : e.1 ≡ place = cc h in
-    let after : values_of es ≡ offsets_from (place + length (with_nul e.0.now)) (texts es) = cc h in
-    let rest = placed text (place + length (with_nul e.0.now)) es after in
-    let all : place + length (table_of (e.0.now ∷ texts es)) ≡ place + length (with_nul e.0.now) + length (table_of (texts es)) = omega (arith, length-append (with_nul e.0.now) (table_of (texts es))) in
-    rw (offset_of_cons e.0.now (texts es) text) (elim (bytes_eq text e.0.now)
-    as (λ b. unwrap_or (cond b (Some e.1) (lookup (λ k. bytes_eq text k.now) es)) (place + length (table_of (e.0.now ∷ texts es))) ≡ place + cond b 0 (length (with_nul e.0.now) + offset_of (texts es) text)) [
+    let after : values_of es ≡ offsets_from (place + length (with_nul e.0)) (texts es) = cc h in
+    let rest = placed text (place + length (with_nul e.0)) es after in
+    let all : place + length (table_of (e.0 ∷ texts es)) ≡ place + length (with_nul e.0) + length (table_of (texts es)) = omega (arith, length-append (with_nul e.0) (table_of (texts es))) in
+    rw (offset_of_cons e.0 (texts es) text) (elim (bytes_eq text e.0)
+    as (λ b. unwrap_or (cond b (Some e.1) (lookup (λ k. bytes_eq text k) es)) (place + length (table_of (e.0 ∷ texts es))) ≡ place + cond b 0 (length (with_nul e.0) + offset_of (texts es) text)) [
       | true ↦ omega (arith, here)
-      | false ↦ rw all (rest ∙ add_assoc place (length (with_nul e.0.now)) (offset_of (texts es) text))
+      | false ↦ rw all (rest ∙ add_assoc place (length (with_nul e.0)) (offset_of (texts es) text))
     ])
 
 bytes_eq-sym : (xs ys : List ℕ) → bytes_eq xs ys ≡ bytes_eq ys xs
@@ -112,35 +112,35 @@ none_of true b h = absurd (true≢false h)
 none_of false b h = (refl, h)
 
 -- an entry of a new string goes last
-insert_last : (es : List (Bor (List ℕ) × ℕ)) (key : Bor (List ℕ)) (place : ℕ) → list_any (bytes_eq key.now) (texts es) ≡ false
-    → insert_entry (λ k q. bytes_eq k.now q.now) es key place ≡ es ++ (key, place) ∷ []
+insert_last : (es : List (List ℕ × ℕ)) (key : List ℕ) (place : ℕ) → list_any (bytes_eq key) (texts es) ≡ false
+    → insert_entry (λ k q. bytes_eq k q) es key place ≡ es ++ (key, place) ∷ []
 insert_last [] key place _ = refl
 insert_last (e ∷ es) key place h =
-    let parts = none_of (bytes_eq key.now e.0.now) (list_any (bytes_eq key.now) (texts es)) h in
+    let parts = none_of (bytes_eq key e.0) (list_any (bytes_eq key) (texts es)) h in
     rw (parts.0) (ap (λ xs. e ∷ xs) (insert_last es key place parts.1))
 
 -- a string that isn't there comes after the others, with its offset
-pub pushed : (base : ℕ) (es new : List (Bor (List ℕ) × ℕ)) (bytes : List ℕ) (key : Bor (List ℕ)) (at : ℕ) → HasOffsets base es bytes → at ≡ base + length bytes
-    → is_some (lookup (λ k. bytes_eq key.now k.now) es) ≡ false
-    → new ≡ insert_entry (λ k q. bytes_eq k.now q.now) es key at
-    → HasOffsets base new (bytes ++ with_nul key.now) × (texts new ≡ insert_key bytes_eq (texts es) key.now)
+pub pushed : (base : ℕ) (es new : List (List ℕ × ℕ)) (bytes : List ℕ) (key : List ℕ) (at : ℕ) → HasOffsets base es bytes → at ≡ base + length bytes
+    → is_some (lookup (λ k. bytes_eq key k) es) ≡ false
+    → new ≡ insert_entry (λ k q. bytes_eq k q) es key at
+    → HasOffsets base new (bytes ++ with_nul key) × (texts new ≡ insert_key bytes_eq (texts es) key)
 pushed base es new bytes key at h place none made =
-    let away : list_any (bytes_eq key.now) (texts es) ≡ false = sym (found key.now es) ∙ none in
+    let away : list_any (bytes_eq key) (texts es) ≡ false = sym (found key es) ∙ none in
     let last : new ≡ es ++ (key, at) ∷ [] = made ∙ insert_last es key at away in
-    let words : texts (es ++ (key, at) ∷ []) ≡ texts es ++ key.now ∷ [] = simp map-append in
+    let words : texts (es ++ (key, at) ∷ []) ≡ texts es ++ key ∷ [] = simp map-append in
     let place_is : base + length (table_of (texts es)) ≡ at = omega (arith, place, ap length h.1) in
-    let values : values_of (es ++ (key, at) ∷ []) ≡ offsets_from base (texts es ++ key.now ∷ []) =
-    rw (offsets_from_push base (texts es) key.now, place_is, ← h.0) (simp map-append) in
-    let all : bytes ++ with_nul key.now ≡ table_of (texts es ++ key.now ∷ []) =
-    ap (λ (xs : List ℕ). xs ++ with_nul key.now) h.1 ∙ sym (flat_map-append with_nul (texts es) (key.now ∷ []) ∙ ap (λ (xs : List ℕ). table_of (texts es) ++ xs) (append-nil (with_nul key.now))) in
+    let values : values_of (es ++ (key, at) ∷ []) ≡ offsets_from base (texts es ++ key ∷ []) =
+    rw (offsets_from_push base (texts es) key, place_is, ← h.0) (simp map-append) in
+    let all : bytes ++ with_nul key ≡ table_of (texts es ++ key ∷ []) =
+    ap (λ (xs : List ℕ). xs ++ with_nul key) h.1 ∙ sym (flat_map-append with_nul (texts es) (key ∷ []) ∙ ap (λ (xs : List ℕ). table_of (texts es) ++ xs) (append-nil (with_nul key))) in
     rw last (rw (words, away) ((values, all), refl))
 
 -- a string that is there stays as it is
-pub present : (es : List (Bor (List ℕ) × ℕ)) (text : List ℕ) (at : ℕ) → lookup (λ k. bytes_eq text k.now) es ≡ Some at → texts es ≡ insert_key bytes_eq (texts es) text
+pub present : (es : List (List ℕ × ℕ)) (text : List ℕ) (at : ℕ) → lookup (λ k. bytes_eq text k) es ≡ Some at → texts es ≡ insert_key bytes_eq (texts es) text
 present es text at there = rw (sym (found text es) ∙ ap is_some there) refl
 
 -- its offset
-pub place_of : (base : ℕ) (es : List (Bor (List ℕ) × ℕ)) (bytes text : List ℕ) (at : ℕ) → HasOffsets base es bytes → lookup (λ k. bytes_eq text k.now) es ≡ Some at → at ≡ base + offset_of (texts es) text
+pub place_of : (base : ℕ) (es : List (List ℕ × ℕ)) (bytes text : List ℕ) (at : ℕ) → HasOffsets base es bytes → lookup (λ k. bytes_eq text k) es ≡ Some at → at ≡ base + offset_of (texts es) text
 place_of base es bytes text at h there = rw there at (placed text base es h.0)
 
 -- where a string stands among the others
@@ -174,7 +174,7 @@ among ts t = by (list_any (bytes_eq t) ts) refl
     by false e = last ts
 
 -- an offset that is found is where the string stands
-pub found_stands : (base : ℕ) (es : List (Bor (List ℕ) × ℕ)) (bytes text : List ℕ) (at : ℕ) → HasOffsets base es bytes → lookup (λ k. bytes_eq text k.now) es ≡ Some at
+pub found_stands : (base : ℕ) (es : List (List ℕ × ℕ)) (bytes text : List ℕ) (at : ℕ) → HasOffsets base es bytes → lookup (λ k. bytes_eq text k) es ≡ Some at
     → StandsAt (table_of (texts es)) (at - base) text
 found_stands base es bytes text at h there =
     let place = place_of base es bytes text at h there in
@@ -190,19 +190,72 @@ new_last (s ∷ ts) t h =
     rw (offset_of_cons s (ts ++ t ∷ []) t, parts.0) (omega (arith, length-append (with_nul s) (table_of ts), rest))
 
 -- the offset of a new string, and that it stands there
-pub new_stands : (base : ℕ) (es new : List (Bor (List ℕ) × ℕ)) (bytes : List ℕ) (key : Bor (List ℕ)) (at : ℕ) → HasOffsets base es bytes → at ≡ base + length bytes
-    → is_some (lookup (λ k. bytes_eq key.now k.now) es) ≡ false
-    → new ≡ insert_entry (λ k q. bytes_eq k.now q.now) es key at
-    → (at ≡ base + offset_of (texts new) key.now) × StandsAt (table_of (texts new)) (at - base) key.now
+pub new_stands : (base : ℕ) (es new : List (List ℕ × ℕ)) (bytes : List ℕ) (key : List ℕ) (at : ℕ) → HasOffsets base es bytes → at ≡ base + length bytes
+    → is_some (lookup (λ k. bytes_eq key k) es) ≡ false
+    → new ≡ insert_entry (λ k q. bytes_eq k q) es key at
+    → (at ≡ base + offset_of (texts new) key) × StandsAt (table_of (texts new)) (at - base) key
 new_stands base es new bytes key at h place none made =
-    let away : list_any (bytes_eq key.now) (texts es) ≡ false = sym (found key.now es) ∙ none in
-    let words : texts new ≡ texts es ++ key.now ∷ [] = ap texts (made ∙ insert_last es key at away) ∙ simp map-append in
-    let behind : offset_of (texts new) key.now ≡ length (table_of (texts es)) = ap (λ (ts : List (List ℕ)). offset_of ts key.now) words ∙ new_last (texts es) key.now away in
+    let away : list_any (bytes_eq key) (texts es) ≡ false = sym (found key es) ∙ none in
+    let words : texts new ≡ texts es ++ key ∷ [] = ap texts (made ∙ insert_last es key at away) ∙ simp map-append in
+    let behind : offset_of (texts new) key ≡ length (table_of (texts es)) = ap (λ (ts : List (List ℕ)). offset_of ts key) words ∙ new_last (texts es) key away in
     let same : length bytes ≡ length (table_of (texts es)) = ap length h.1 in
-    let spot : at ≡ base + offset_of (texts new) key.now = omega (arith, place, behind, same) in
-    let e : at - base ≡ offset_of (texts new) key.now = omega (arith, spot) in
-    let there : list_any (bytes_eq key.now) (texts new) ≡ true = rw (pushed base es new bytes key at h place none made).1 (among (texts es) key.now) in
-    (spot, rw e (stands (texts new) key.now there))
+    let spot : at ≡ base + offset_of (texts new) key = omega (arith, place, behind, same) in
+    let e : at - base ≡ offset_of (texts new) key = omega (arith, spot) in
+    let there : list_any (bytes_eq key) (texts new) ≡ true = rw (pushed base es new bytes key at h place none made).1 (among (texts es) key) in
+    (spot, rw e (stands (texts new) key there))
+
+-- ---- the entry of a string that is put in
+
+-- an offset before the end is that of an entry
+pub there : (entry : Option ℕ) (at next : ℕ) → at ≡ unwrap_or entry next → at < next → entry ≡ Some at
+there None at next is before = absurd (omega (arith, is, before))
+there (Some offset) at next is before = ap Some (sym is)
+
+-- put in again, an entry stays
+pub put_again : (key : List ℕ) (at : ℕ) (es : List (List ℕ × ℕ)) → lookup (λ k. bytes_eq key k) es ≡ Some at
+    → insert_entry (λ k q. bytes_eq k q) es key at ≡ es
+put_again key at [] h = absurd (cc)
+put_again key at (e ∷ es) h = by (bytes_eq key e.0) h (λ later. put_again key at es later)
+  where
+    by : (b : Bool) → cond b (Some e.1) (lookup (λ k. bytes_eq key k) es) ≡ Some at
+        → (lookup (λ k. bytes_eq key k) es ≡ Some at → insert_entry (λ k q. bytes_eq k q) es key at ≡ es)
+        → cond b ((e.0, at) ∷ es) (e ∷ insert_entry (λ k q. bytes_eq k q) es key at) ≡ e ∷ es
+    by true same rest = let here : at ≡ e.1 = cc same in ap (λ n. (e.0, n) ∷ es) here
+    by false later rest = ap (λ xs. e ∷ xs) (rest later)
+
+-- a string that is there begins before the end
+begins_before_end : (ts : List (List ℕ)) (text : List ℕ) → list_any (bytes_eq text) ts ≡ true → offset_of ts text < length (table_of ts)
+begins_before_end [] text h = absurd (true≢false (sym h))
+begins_before_end (t ∷ ts) text h = rw (offset_of_cons t ts text) (by (bytes_eq text t) h (begins_before_end ts text))
+  where
+    all : length (table_of (t ∷ ts)) ≡ length t + 1 + length (table_of ts)
+    all = omega (arith, length-append (with_nul t) (table_of ts), length-append t (0 ∷ []))
+
+    by : (b : Bool) → (b || list_any (bytes_eq text) ts) ≡ true → (list_any (bytes_eq text) ts ≡ true → offset_of ts text < length (table_of ts))
+        → cond b 0 (length (with_nul t) + offset_of ts text) < length (table_of (t ∷ ts))
+    by true e rest = omega (arith, all)
+    by false e rest = omega (arith, all, length-append t (0 ∷ []), rest e)
+
+-- an offset that isn't before the end is the end, and that of a new string
+pub new_at_end : (base : ℕ) (es : List (List ℕ × ℕ)) (bytes text : List ℕ) (at next : ℕ) → HasOffsets base es bytes → next ≡ base + length bytes
+    → at ≡ unwrap_or (lookup (λ k. bytes_eq text k) es) next → next ≤ at
+    → (at ≡ base + length bytes) × (is_some (lookup (λ k. bytes_eq text k) es) ≡ false)
+new_at_end base es bytes text at next h end is past = by (lookup (λ k. bytes_eq text k) es) refl
+  where
+    by : (entry : Option ℕ) → lookup (λ k. bytes_eq text k) es ≡ entry → (at ≡ base + length bytes) × (is_some entry ≡ false)
+    by None e = (is ∙ ap (λ o. unwrap_or o next) e ∙ end, refl)
+    by (Some offset) e =
+        let same : at ≡ offset = is ∙ ap (λ o. unwrap_or o next) e in
+        let place = place_of base es bytes text offset h e in
+        let before = begins_before_end (texts es) text (sym (found text es) ∙ ap is_some e) in
+        absurd (omega (arith, same, place, before, end, past, ap length h.1))
+
+-- without the last, the entries are those before it
+pub put_back : (es new : List (List ℕ × ℕ)) (key : List ℕ) (at count : ℕ) → is_some (lookup (λ k. bytes_eq key k) es) ≡ false
+    → new ≡ insert_entry (λ k q. bytes_eq k q) es key at → count ≡ length es → take count new ≡ es
+put_back es new key at count none made is =
+    let last : new ≡ es ++ (key, at) ∷ [] = made ∙ insert_last es key at (sym (found key es) ∙ none) in
+    rw (last, is) (take-append_seam es ((key, at) ∷ []))
 
 -- ---- strings that are added move none of those before
 

@@ -1,16 +1,18 @@
 -- The names directly below a directory.
-use Rattle.std.proofs.Common.{◌≡◌, ℕ, zero, suc, ◌+◌, ◌≤◌, Bool, true, false, cond, nat_lt, nat_eq, map, ◌&&◌, Option, Some, None, List, [], ◌∷◌, ◌++◌, length, get_or, take, drop, refl, sym, ap, subst, ◌∙◌, ⊎_elim, arith, length-drop}
-use Rattle.std.proofs.lemmas.Bool.{cases_lt, and_parts, and_from}
-use Rattle.std.proofs.lemmas.Bool.Decides.{nat_tests}
-use Rattle.std.proofs.lemmas.List.{get_or-drop, take_all}
-use Rattle.std.proofs.lemmas.List.Sums.{take_while-cons, AllPass-from_list_all}
+use Rattle.std.proofs.Common.{◌≡◌, ℕ, zero, suc, ◌+◌, ◌<◌, ◌≤◌, Bool, true, false, cond, nat_lt, nat_eq, map, ◌&&◌, not, one-add, Option, Some, None, List, [], ◌∷◌, ◌++◌, length, get_or, take, drop, refl, sym, ap, subst, ◌∙◌, ⊎_elim, arith, length-drop}
+use Rattle.std.proofs.lemmas.Bool.{cases_lt, eq-eqb, eqb-true, and_parts, and_from}
+use Rattle.std.proofs.lemmas.Bool.Decides.{Decides-eqb, nat_tests}
+use Rattle.std.proofs.lemmas.List.{get_or-drop, length-append, length-take-le, take_all}
+use Rattle.std.proofs.lemmas.List.Sums.{take_while-cons, AllPass-from_list_all, prefix_len-le-length}
+use Rattle.std.proofs.lemmas.Slice.Eq.{starts_is}
 use Rattle.std.specs.List.{filter, take_while, AllWithin, list_all, position, position_or_len, before_first, starts_with, dedup, dedup_from}
 use Rattle.std.specs.Str.{bytes_eq}
 use Rattle.std.specs.List.Sorted.{IsPartitionedBy}
 use Rattle.tree_face.proofs.Below.{below_as_later, none_before}
+use Rattle.lib_types.proofs.Bools.{not_true}
 use Rattle.lib_types.proofs.SortedPairs.{by_test}
-use Rattle.tree_face.specs.Paths.{is_path, is_below, root, name_behind}
-use Rattle.tree_face.specs.Runs.{child_at, children_behind, is_same_child}
+use Rattle.tree_face.specs.Paths.{is_path, is_below, is_slash, root, name_behind}
+use Rattle.tree_face.specs.Runs.{IsPathOfChild, child_at, children_behind, is_name_end, is_same_child}
 use Rattle.tree_face.specs.Index.{IsBehind}
 use Rattle.tree_face.specs.Tree.{Nodes, IsPathSorted, is_entry}
 use Rattle.tree_face.specs.declared.node.Node.{Node}
@@ -105,6 +107,114 @@ child_skipped folder name node e t same =
     let both = and_parts (starts_with nat_eq e.0 folder) (bytes_eq (name_behind (length folder) e.0) name) same in
     ap (dedup_from is_same_child (name, node)) (child_first folder e t both.0)
     ∙ ap (λ b. cond b (dedup_from is_same_child (name, node) (children_behind folder t)) ((name, node) ∷ dedup_from is_same_child (child_at (length folder) e) (children_behind folder t))) both.1
+
+-- ---- the path of a child
+
+pub ends_there : (path : List ℕ) (n : ℕ) → length path ≤ n → true ≡ is_name_end (drop n path)
+ends_there [] zero h = refl
+ends_there [] (suc n) h = refl
+ends_there (b ∷ path) zero h = absurd (omega arith)
+ends_there (b ∷ path) (suc n) h = ends_there path n (omega arith)
+
+pub goes_on_there : (path : List ℕ) (n : ℕ) → n < length path → is_slash (get_or path n 0) ≡ is_name_end (drop n path)
+goes_on_there [] n h = absurd (omega arith)
+goes_on_there (b ∷ path) zero h = refl
+goes_on_there (b ∷ path) (suc n) h = goes_on_there path n (omega arith)
+
+first_none : (b : ℕ) (rest : List ℕ) → is_slash b ≡ true → before_first is_slash (b ∷ rest) ≡ []
+first_none b rest e = ap (λ c. take (cond (not c) (1 + position_or_len is_slash rest) 0) (b ∷ rest)) e
+
+first_more : (b : ℕ) (rest : List ℕ) → is_slash b ≡ false → before_first is_slash (b ∷ rest) ≡ b ∷ before_first is_slash rest
+first_more b rest e = ap (λ c. take (cond (not c) (1 + position_or_len is_slash rest) 0) (b ∷ rest)) e ∙ rw one-add refl
+
+and_false : (b : Bool) → (b && false) ≡ false
+and_false true = refl
+and_false false = refl
+
+and_true : (b : Bool) → (b && true) ≡ b
+and_true true = refl
+and_true false = refl
+
+-- bytes whose first name is this one begin with it, and the name ends behind it
+first_name : (name bytes : List ℕ) → list_all (λ b. not (is_slash b)) name ≡ true
+    → (is_name_end (drop (length name) bytes) && starts_with nat_eq bytes name) ≡ bytes_eq (before_first is_slash bytes) name
+first_name [] [] alone = refl
+first_name [] (b ∷ bytes) alone =
+    and_true (is_slash b)
+    ∙ by_test (is_slash b)
+    (λ e. e ∙ sym (ap (λ l. bytes_eq l []) (first_none b bytes e)))
+    (λ e. e ∙ sym (ap (λ l. bytes_eq l []) (first_more b bytes e)))
+first_name (x ∷ name) [] alone = refl
+first_name (x ∷ name) (b ∷ bytes) alone =
+    let parts = and_parts (not (is_slash x)) (list_all (λ c. not (is_slash c)) name) alone in
+    let end = is_name_end (drop (length name) bytes) in
+    by_test (nat_eq x b)
+    (λ e.
+    let same : x ≡ b = eqb-true x b e in
+    let more : is_slash b ≡ false = subst (λ c. is_slash c ≡ false) same (not_true (is_slash x) parts.0) in
+    let again : nat_eq b x ≡ true = eq-eqb b x (sym same) in
+    ap (λ c. end && (c && starts_with nat_eq bytes name)) e ∙ first_name name bytes parts.1
+    ∙ sym (ap (λ l. bytes_eq l (x ∷ name)) (first_more b bytes more) ∙ ap (λ c. c && bytes_eq (before_first is_slash bytes) name) again))
+    (λ e.
+    let other : nat_eq b x ≡ false = grind (arith, nat_tests) in
+    ap (λ c. end && (c && starts_with nat_eq bytes name)) e ∙ and_false end
+    ∙ by_test (is_slash b)
+    (λ s. sym (ap (λ l. bytes_eq l (x ∷ name)) (first_none b bytes s)))
+    (λ s. sym (ap (λ l. bytes_eq l (x ∷ name)) (first_more b bytes s) ∙ ap (λ c. c && bytes_eq (before_first is_slash bytes) name) other)))
+
+begins_alike : (folder name path : List ℕ) → list_all (λ b. not (is_slash b)) name ≡ true
+    → (is_name_end (drop (length (folder ++ name)) path) && starts_with nat_eq path (folder ++ name)) ≡ (starts_with nat_eq path folder && bytes_eq (name_behind (length folder) path) name)
+begins_alike [] name path alone = first_name name path alone
+begins_alike (x ∷ folder) name [] alone = refl
+begins_alike (x ∷ folder) name (b ∷ path) alone =
+    let end = is_name_end (drop (length (folder ++ name)) path) in
+    by_test (nat_eq x b)
+    (λ e.
+    ap (λ c. end && (c && starts_with nat_eq path (folder ++ name))) e ∙ begins_alike folder name path alone
+    ∙ sym (ap (λ c. (c && starts_with nat_eq path folder) && bytes_eq (name_behind (length folder) path) name) e))
+    (λ e.
+    ap (λ c. end && (c && starts_with nat_eq path (folder ++ name))) e ∙ and_false end
+    ∙ sym (ap (λ c. (c && starts_with nat_eq path folder) && bytes_eq (name_behind (length folder) path) name) e))
+
+-- the entries of a child are those that begin with its path, behind which a name ends
+pub same_child : (folder name child path : List ℕ) → IsPathOfChild folder name child
+    → (is_name_end (drop (length child) path) && starts_with nat_eq path child) ≡ (starts_with nat_eq path folder && bytes_eq (name_behind (length folder) path) name)
+same_child folder name child path h =
+    ap (λ z. is_name_end (drop (length z) path) && starts_with nat_eq path z) h.whole ∙ begins_alike folder name path h.alone
+
+-- no byte of a name is a slash
+first_alone : (bytes : List ℕ) → list_all (λ b. not (is_slash b)) (before_first is_slash bytes) ≡ true
+first_alone [] = refl
+first_alone (b ∷ bytes) = by_test (is_slash b)
+    (λ e. ap (list_all (λ b. not (is_slash b))) (first_none b bytes e))
+    (λ e. ap (list_all (λ b. not (is_slash b))) (first_more b bytes e) ∙ and_from _ _ (ap not e) (first_alone bytes))
+
+first_short : (bytes : List ℕ) → length (before_first is_slash bytes) ≤ length bytes
+first_short bytes = omega (arith, length-take-le (position_or_len is_slash bytes) bytes (prefix_len-le-length _ bytes), prefix_len-le-length (λ b. not (is_slash b)) bytes)
+
+pub child_within : (folder name path : List ℕ) → starts_with nat_eq path folder ≡ true → name ≡ name_behind (length folder) path → length folder + length name ≤ length path
+child_within folder name path starts same =
+    let rest = drop (length folder) path in
+    let whole : path ≡ folder ++ rest = (starts_is Decides-eqb path folder (starts_with nat_eq path folder) refl).0 starts in
+    let long : length path ≡ length folder + length rest = ap length whole ∙ length-append folder rest in
+    let short : length (before_first is_slash rest) ≤ length rest = first_short rest in
+    let here : length name ≡ length (before_first is_slash rest) = ap length same in
+    omega arith
+
+pub child_path : (folder name path : List ℕ) → starts_with nat_eq path folder ≡ true → name ≡ name_behind (length folder) path → IsPathOfChild folder name (take (length folder + length name) path)
+child_path folder name path starts same =
+    let rest = drop (length folder) path in
+    let whole : path ≡ folder ++ rest = (starts_is Decides-eqb path folder (starts_with nat_eq path folder) refl).0 starts in
+    let p = position_or_len is_slash rest in
+    let size : length name ≡ p = ap length same ∙ length-take-le p rest (prefix_len-le-length _ rest) in
+    record {
+      whole = ap (take (length folder + length name)) whole ∙ front folder rest (length name) ∙ ap (λ n. folder ++ take n rest) size ∙ ap (λ z. folder ++ z) (sym same);
+      alone = ap (list_all (λ b. not (is_slash b))) same ∙ first_alone rest;
+    }
+  where
+    front : (f r : List ℕ) (n : ℕ) → take (length f + n) (f ++ r) ≡ f ++ take n r
+    front [] r n = let none : 0 + n ≡ n = omega arith in ap (λ k. take k r) none
+    front (x ∷ f) r n = let more : length (x ∷ f) + n ≡ suc (length f + n) = omega arith in ap (λ k. take k (x ∷ (f ++ r))) more ∙ ap (λ l. x ∷ l) (front f r n)
 
 -- ---- the folder of a path
 

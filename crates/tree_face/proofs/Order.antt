@@ -1,5 +1,7 @@
 -- The order of paths.
-use Rattle.std.proofs.Common.{◌≡◌, ℕ, suc, zero, ◌+◌, ◌<◌, ◌≤◌, List, [], ◌∷◌, length, drop, slice_index, arith, Ordering, refl, ap, subst, ◌∙◌}
+use Rattle.std.proofs.Common.{◌≡◌, ℕ, suc, zero, ◌+◌, ◌<◌, ◌≤◌, List, [], ◌∷◌, length, drop, slice_index, arith, Ordering, refl, sym, ap, subst, ◌∙◌}
+use Rattle.std.proofs.lemmas.Bool.Decides.{nat_tests}
+use Rattle.std.proofs.lemmas.Cmp.{ranked}
 use Rattle.std.specs.declared.cmp.Ordering.TheVariants.{Less, Equal, Greater}
 use Rattle.std.specs.Ordering.{MatchOrdering, nat_cmp}
 use Rattle.std.specs.Cmp.{IsTotalOrder, nat_cmp_is}
@@ -11,6 +13,35 @@ use Rattle.tree_face.specs.Paths.{path_rank, path_cmp}
 
 pub path_total : IsTotalOrder path_cmp
 path_total = on_texts (map path_rank)
+
+-- the order of two bytes
+rank_other : (a : ℕ) → (a ≡ 47 → ⊥) → path_rank a ≡ a + 1
+rank_other a other = grind (arith, nat_tests)
+
+rank_slash : (a : ℕ) → a ≡ 47 → path_rank a ≡ 0
+rank_slash a e = ap path_rank e
+
+pub slash_below : (a b : ℕ) → a ≡ 47 → (a ≡ b → ⊥) → Less ≡ nat_cmp (path_rank a) (path_rank b)
+slash_below a b e other =
+    let least = rank_slash a e in
+    let more = rank_other b (λ f. other (e ∙ sym f)) in
+    let less : path_rank a < path_rank b = omega (arith, least, more) in
+    nat_cmp_is (path_rank a) (path_rank b) Less less
+
+pub slash_above : (a b : ℕ) → (a ≡ 47 → ⊥) → b ≡ 47 → Greater ≡ nat_cmp (path_rank a) (path_rank b)
+slash_above a b other e =
+    let least = rank_slash b e in
+    let more = rank_other a other in
+    let above : path_rank b < path_rank a = omega (arith, least, more) in
+    nat_cmp_is (path_rank a) (path_rank b) Greater above
+
+one_more : (a b : ℕ) (r : Ordering) → MatchOrdering r (a < b) (a ≡ b) (b < a) → r ≡ nat_cmp (a + 1) (b + 1)
+one_more a b Less h = nat_cmp_is (a + 1) (b + 1) Less (omega arith)
+one_more a b Equal h = nat_cmp_is (a + 1) (b + 1) Equal (omega arith)
+one_more a b Greater h = nat_cmp_is (a + 1) (b + 1) Greater (omega arith)
+
+pub others_alike : (a b : ℕ) → (a ≡ 47 → ⊥) → (b ≡ 47 → ⊥) → nat_cmp a b ≡ nat_cmp (path_rank a) (path_rank b)
+others_alike a b first second = rw (rank_other a first, rank_other b second) (one_more a b (nat_cmp a b) (ranked a b _ refl))
 
 longer_by_one : (r : Ordering) (m n : ℕ) → MatchOrdering r (m < n) (m ≡ n) (n < m) → MatchOrdering r (suc m < suc n) (suc m ≡ suc n) (suc n < suc m)
 longer_by_one Less m n h = omega arith
@@ -34,7 +65,7 @@ path_cmp-by_length a b i h k e = nat_cmp_is _ _ _ (by_length a b i h k e)
 
 -- ---- equal bytes don't decide
 
-byte_passed : (a b : List ℕ) (i : ℕ) → i < length a → i < length b → slice_index a i ≡ slice_index b i → path_cmp (drop (suc i) a) (drop (suc i) b) ≡ path_cmp (drop i a) (drop i b)
+pub byte_passed : (a b : List ℕ) (i : ℕ) → i < length a → i < length b → slice_index a i ≡ slice_index b i → path_cmp (drop (suc i) a) (drop (suc i) b) ≡ path_cmp (drop i a) (drop i b)
 byte_passed [] b i h k e = absurd (omega arith)
 byte_passed (x ∷ a) [] i h k e = absurd (omega arith)
 byte_passed (x ∷ a) (y ∷ b) zero h k e =

@@ -1,9 +1,9 @@
 -- A tree's list in sorted runs of bounded length.
-use Rattle.std.specs.Prelude.{◌≡◌, ℕ, ◌+◌, ◌-◌, ◌<◌, ◌≤◌, ◌==◌, Bool, true, List, [], ◌∷◌, ◌&&◌, not, nat_le, nat_eq, if◌then◌else◌, map, length, take, drop, slice_index_or, slice_set, Option, Some, None}
+use Rattle.std.specs.Prelude.{◌≡◌, ℕ, ◌+◌, ◌-◌, ◌<◌, ◌≤◌, ◌==◌, Bool, true, List, [], ◌∷◌, ◌++◌, ◌&&◌, not, nat_le, nat_eq, if◌then◌else◌, map, length, take, drop, slice_index_or, slice_set, Option, Some, None}
 use Rattle.std.specs.List.{flat_map, filter, insert, list_all, HoldsAt, take_while, starts_with}
 use Rattle.std.specs.Ordering.{is_gt}
 use Rattle.std.specs.Str.{bytes_eq}
-use Rattle.tree_face.specs.Paths.{path_cmp, folder, is_below, name_behind}
+use Rattle.tree_face.specs.Paths.{path_cmp, folder, is_below, is_slash, name_behind}
 use Rattle.tree_face.specs.Index.{IsIndexOf, IsGapFor}
 use Rattle.tree_face.specs.Tree.{Nodes, IsTree, kind_at}
 use Rattle.tree_face.specs.declared.node.Node.{Node}
@@ -101,6 +101,16 @@ ends_by n path = length (name_behind n path) == length path - n
 -- the name with which an entry's path goes on behind a folder of n bytes, and the node if the path ends there
 abbrev pub child_at : ℕ → List ℕ × Node → List ℕ × Option Node
 child_at n e = (name_behind n e.0, if ends_by n e.0 then Some e.1 else None)
+
+-- a name of a path ends before these bytes: there are none, or the first is a slash
+abbrev pub is_name_end : List ℕ → Bool
+is_name_end [] = true
+is_name_end (b ∷ rest) = is_slash b
+
+-- the path is that of a name in a folder
+pub record IsPathOfChild (folder name path : List ℕ) : Type 0 where
+  pub whole : path ≡ folder ++ name
+  pub alone : list_all (λ b. not (is_slash b)) name ≡ true
 
 abbrev pub is_same_child : List ℕ × Option Node → List ℕ × Option Node → Bool
 is_same_child c d = bytes_eq c.0 d.0

@@ -1,8 +1,9 @@
 //! Paths of a tree and their order.
-ghost use Rattle.std.specs.Prelude.{◌≡◌, ℕ, ◌+◌, ◌==◌, ◌^◌, ◌<◌, ◌≤◌, IfSome, IsTrue, length, drop};
+ghost use Rattle.std.specs.Prelude.{◌≡◌, ◌≢◌, ℕ, ◌+◌, ◌==◌, ◌^◌, ◌<◌, ◌≤◌, IfSome, IsTrue, length, drop};
 ghost use Rattle.byteorder.specs.Endian.{little_from};
 ghost use Rattle.tree_face.specs.Paths.{is_path, is_kept, is_slash, are_names, path_cmp, path_rank, stem, folder, is_below, name_behind};
 ghost use Rattle.std.specs.List.{before_first, position};
+ghost use Rattle.std.specs.Ordering.{nat_cmp};
 
 use byteorder::{ByteOrder, LittleEndian};
 use lib_types::is_name;
@@ -32,11 +33,19 @@ pub fn is_kept(component: &[u8]) -> bool
     !component.is_empty() && component != b".".as_slice()
 }
 
-// The rank of a byte in the order of paths.
-fn rank(b: u8) -> u16
-    ensures { result ≡ path_rank b }
+// The order of two different bytes: the slash is the least.
+#[tactic(auto, using(crate::proofs::Order::slash_below, crate::proofs::Order::slash_above, crate::proofs::Order::others_alike))]
+fn compare_bytes(a: u8, b: u8) -> Ordering
+    requires { a ≢ b }
+    ensures { result ≡ nat_cmp (path_rank a) (path_rank b) }
 {
-    if b == b'/' { 0 } else { u16::from(b) + 1 }
+    if a == b'/' {
+        return Ordering::Less;
+    }
+    if b == b'/' {
+        return Ordering::Greater;
+    }
+    a.cmp(&b)
 }
 
 // The eight bytes at an offset as one number.
@@ -47,6 +56,43 @@ fn word_at(bytes: &[u8], at: usize) -> u64
     LittleEndian::read_u64(&bytes[at..])
 }
 
+// The four bytes at an offset as one number.
+fn half_at(bytes: &[u8], at: usize) -> u32
+    requires { at + 4 ≤ length bytes.now }
+    ensures { result ≡ little_from at 4 bytes.now }
+{
+    LittleEndian::read_u32(&bytes[at..])
+}
+
+// The two bytes at an offset as one number.
+fn pair_at(bytes: &[u8], at: usize) -> u16
+    requires { at + 2 ≤ length bytes.now }
+    ensures { result ≡ little_from at 2 bytes.now }
+{
+    LittleEndian::read_u16(&bytes[at..])
+}
+
+// The offset up to which two paths are equal behind an offset, given that they differ in the next eight bytes.
+#[tactic(auto, using(crate::proofs::Order::words_passed, crate::proofs::Order::byte_passed))]
+fn equal_in_word(a: &[u8], b: &[u8], at: usize) -> usize
+    requires first { at + 8 ≤ length a.now }
+    requires second { at + 8 ≤ length b.now }
+    ensures within { result ≤ at + 8 }
+    ensures rest { path_cmp (drop result a.now) (drop result b.now) ≡ path_cmp (drop at a.now) (drop at b.now) }
+{
+    let mut i = at;
+    if half_at(a, i) == half_at(b, i) {
+        i += 4;
+    }
+    if pair_at(a, i) == pair_at(b, i) {
+        i += 2;
+    }
+    if a[i] == b[i] {
+        i += 1;
+    }
+    i
+}
+
 // An offset up to which two paths are equal, eight bytes at a time: paths that a search compares have long prefixes in common.
 #[tactic(auto, using(crate::proofs::Order::words_passed))]
 fn equal_words(a: &[u8], b: &[u8]) -> usize
@@ -54,11 +100,18 @@ fn equal_words(a: &[u8], b: &[u8]) -> usize
     ensures rest { path_cmp (drop result a.now) (drop result b.now) ≡ path_cmp a.now b.now }
 {
     let shorter = a.len().min(b.len());
+    if shorter < 8 {
+        return 0;
+    }
+    let last = shorter - 8;
     let mut i = 0;
-    while shorter - i >= 8 && word_at(a, i) == word_at(b, i) {
+    while i <= last && word_at(a, i) == word_at(b, i) {
         i += 8;
     }
-    i
+    if i > last {
+        return i;
+    }
+    equal_in_word(a, b, i)
 }
 
 /// The order of the tree.
@@ -69,7 +122,7 @@ pub(crate) fn compare(a: &[u8], b: &[u8]) -> Ordering
     let mut i = equal_words(a, b);
     while i < shorter {
         if a[i] != b[i] {
-            return rank(a[i]).cmp(&rank(b[i]));
+            return compare_bytes(a[i], b[i]);
         }
         i += 1;
     }

@@ -5,7 +5,7 @@ ghost use Rattle.tree_real.specs.Unknown.{no_counts, unknown_store};
 use crate::counts::{StoreCounts, one_more};
 use crate::image_folder::{ImageFolder, shorter};
 use lib_types::{Failed, NoMemory};
-use std::io::{self, Error, ErrorKind};
+use std::io::{self, Error, ErrorKind, Seek, SeekFrom};
 use std::os::unix::fs::FileExt;
 use std::rt::Runtime;
 use tree_face::Store;
@@ -39,13 +39,14 @@ impl<R: Runtime> FolderStore<R> {
 
 // Opens the file of a key, and returns its length.
 fn open_key<R: Runtime>(image: &mut ImageFolder<R>, key: &[u8]) -> io::Result<(R::File, u64)> {
-    match std::str::from_utf8(key) {
-        Ok(path) => image.open(path),
-        Err(_) => {
-            let message = "a file name that isn't UTF-8 text";
-            Err(Error::new(ErrorKind::InvalidInput, message))
-        }
-    }
+    let Ok(path) = std::str::from_utf8(key) else {
+        let message = "a file name that isn't UTF-8 text";
+        return Err(Error::new(ErrorKind::InvalidInput, message));
+    };
+    let mut file = image.open(path)?;
+    // Its end tells the length, at less cost than all its metadata. Readings have offsets of their own.
+    let size = file.seek(SeekFrom::End(0))?;
+    Ok((file, size))
 }
 
 impl<R: Runtime> Store for FolderStore<R>
@@ -77,11 +78,11 @@ where
         let count = (size.saturating_sub(at)).min(buf.len() as u64) as usize;
         // One system call, which needs no position of the file.
         let filled = match &self.file {
-            Some(file) => file.read_exact_at(&mut buf[..count], at).map_err(shorter),
+            Some(file) => file.read_exact_at(&mut buf[..count], at),
             None => Err(Error::new(ErrorKind::InvalidInput, "no file is open")),
         };
         if let Err(error) = filled {
-            self.image.write_error_line(error);
+            self.image.write_error_line(shorter(error));
             self.counts.faults = one_more(self.counts.faults);
             return Err(Failed);
         }

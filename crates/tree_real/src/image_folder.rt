@@ -14,18 +14,20 @@ const FOLDER_MODE: u32 = 0o755;
 #[derive(Drop)]
 pub struct ImageFolder<R: Runtime> {
     pub rt: R,
+    // The image's folder, with a slash.
     root: String<R::A>,
-    // The path that the last call was about, as it is named below the root.
+    // The path that the last call was about, from the current folder: `root` and its name below it. It is kept, so that a
+    // file costs no memory of its own.
     path: String<R::A>,
-    // The path that was found last to be a folder, without a link on the way.
+    // The name of what was found last to be a folder, without a link on the way.
     checked: String<R::A>,
 }
 
 impl<R: Runtime> ImageFolder<R> {
     /// The image in the folder `root`.
     pub fn new(rt: R, root: &str) -> Result<ImageFolder<R>, NoMemory> {
-        let root = String::from_str(rt.alloc(), root)?;
-        let path = String::new(rt.alloc());
+        let root = format!(in rt.alloc(); "{root}/")?;
+        let path = root.clone()?;
         let checked = String::new(rt.alloc());
         Ok(ImageFolder {
             rt,
@@ -37,34 +39,36 @@ impl<R: Runtime> ImageFolder<R> {
 
     /// Writes the line that the last call failed on the error output, with the path that it failed at.
     pub fn write_error_line(&self, error: Error) {
-        write_error_line(&self.rt, self.path.as_str(), error);
+        let name = name_below(self.root.as_str(), self.path.as_str());
+        write_error_line(&self.rt, name, error);
     }
 
     /// From here on faults are about this path.
     pub fn go_to(&mut self, path: &str) -> Result<(), AllocError> {
         self.path.clear();
+        self.path.push_str(self.root.as_str())?;
         self.path.push_str(path)
     }
 
     /// The path that the last call was about, from the current folder.
     pub fn full_path(&self) -> Result<String<R::A>, AllocError> {
-        let root = self.root.as_str();
-        let path = self.path.as_str();
-        format!(in self.rt.alloc(); "{root}/{path}")
+        self.path.clone()
     }
 
-    /// Opens a regular file, and returns its length in bytes. A symbolic link on the way, or anything else than a regular
-    /// file at the end, is an error before it is opened: a link may lead out of the image, and opening a pipe would wait.
-    pub fn open(&mut self, path: &str) -> io::Result<(R::File, u64)> {
-        self.walk_to(path)?;
-        let full = self.full_path()?;
-        let kind = fs::symlink_metadata(&self.rt, full.as_str())?.file_type();
+    /// Opens a regular file. A symbolic link on the way, or anything else than a regular file at the end, is an error before
+    /// it is opened: a link may lead out of the image, and opening a pipe would wait.
+    pub fn open(&mut self, path: &str) -> io::Result<R::File> {
+        // Files come folder by folder, so most need no walk.
+        if is_file_of(path, self.checked.as_str()) {
+            self.go_to(path)?;
+        } else {
+            self.walk_to(path)?;
+        }
+        let kind = fs::symlink_metadata(&self.rt, self.path.as_str())?.file_type();
         if !kind.is_file() {
             return Err(Error::new(ErrorKind::InvalidInput, no_file(kind)));
         }
-        let file = fs::open(&self.rt, full.as_str())?;
-        let size = file.metadata()?.len();
-        Ok((file, size))
+        fs::open(&self.rt, self.path.as_str())
     }
 
     // Goes to a path part by part, and checks that the parts before the last are folders.
@@ -73,7 +77,7 @@ impl<R: Runtime> ImageFolder<R> {
             self.go_to(path)?;
             return Err(Error::new(ErrorKind::InvalidInput, "the path has \"..\""));
         }
-        self.path.clear();
+        self.go_to("")?;
         for part in path.split('/') {
             self.step(part)?;
         }
@@ -85,7 +89,7 @@ impl<R: Runtime> ImageFolder<R> {
         if part.is_empty() || part == "." {
             return Ok(());
         }
-        if !self.path.is_empty() {
+        if self.path != self.root {
             self.check_folder()?;
             self.path.push('/')?;
         }
@@ -96,26 +100,26 @@ impl<R: Runtime> ImageFolder<R> {
     // Sees that the path is a folder and no link to one. A folder that was checked isn't checked again for the next
     // file in it or in a folder above.
     fn check_folder(&mut self) -> io::Result<()> {
-        if is_at_or_above(self.path.as_str(), self.checked.as_str()) {
+        let name = name_below(self.root.as_str(), self.path.as_str());
+        if is_at_or_above(name, self.checked.as_str()) {
             return Ok(());
         }
-        let full = self.full_path()?;
-        require_folder(&self.rt, full.as_str())?;
+        require_folder(&self.rt, self.path.as_str())?;
         self.checked.clear();
-        self.checked.push_str(self.path.as_str())?;
+        self.checked.push_str(name)?;
         Ok(())
     }
 
     /// Makes a folder if there is none.
     pub fn make_folder(&mut self, path: &str) -> io::Result<()> {
         self.go_to(path)?;
-        let full = self.full_path()?;
-        match fs::create_dir(&self.rt, full.as_str()) {
+        let full = self.path.as_str();
+        match fs::create_dir(&self.rt, full) {
             Ok(()) => self
                 .rt
-                .set_permissions(full.as_str(), Permissions::from_mode(FOLDER_MODE)),
+                .set_permissions(full, Permissions::from_mode(FOLDER_MODE)),
             Err(error) if error.kind() == ErrorKind::AlreadyExists => {
-                require_folder(&self.rt, full.as_str())
+                require_folder(&self.rt, full)
             }
             Err(error) => Err(error),
         }
@@ -124,8 +128,7 @@ impl<R: Runtime> ImageFolder<R> {
     /// Flushes a folder to stable storage.
     pub fn sync_folder(&mut self, path: &str) -> io::Result<()> {
         self.go_to(path)?;
-        let full = self.full_path()?;
-        fs::open(&self.rt, full.as_str())?.sync_all()
+        fs::open(&self.rt, self.path.as_str())?.sync_all()
     }
 }
 
@@ -140,6 +143,25 @@ pub fn shorter(error: Error) -> Error {
         Error::new(error.kind(), "the file ends before its length")
     } else {
         error
+    }
+}
+
+// What a path is named below the root.
+fn name_below<'a>(root: &str, path: &'a str) -> &'a str {
+    path.strip_prefix(root).unwrap_or("")
+}
+
+// Whether the path is that of a file in this folder, or in a folder on the way to it. The parts of the folder's path aren't
+// empty and no dots, so this file's aren't either.
+fn is_file_of(path: &str, folder: &str) -> bool {
+    match path.rsplit_once('/') {
+        Some((front, name)) => {
+            !front.is_empty()
+                && is_at_or_above(front, folder)
+                && !name.is_empty()
+                && !name.starts_with('.')
+        }
+        None => false,
     }
 }
 

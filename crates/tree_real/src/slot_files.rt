@@ -71,11 +71,12 @@ impl<R: Runtime> SlotFiles<R> {
 
     /// The bytes of a slot's file, none if there is no such file.
     pub fn read(&mut self, alloc: Global, slot: Slot) -> io::Result<Option<Vec<u8>>> {
-        let (mut file, size) = match self.image.open(file_of(slot)) {
-            Ok(opened) => opened,
+        let mut file = match self.image.open(file_of(slot)) {
+            Ok(file) => file,
             Err(error) if error.kind() == ErrorKind::NotFound => return Ok(None),
             Err(error) => return Err(error),
         };
+        let size = file.metadata()?.len();
         if size > LARGEST_SLOT {
             let message = "more than 2147483648 bytes";
             return Err(Error::new(ErrorKind::FileTooLarge, message));

@@ -1,2 +1,3 @@
 mod Neighbours
 mod Numbers
+pub mod Picked

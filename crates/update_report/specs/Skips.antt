@@ -1,5 +1,5 @@
 -- The library files that are no libraries.
-use Rattle.std.specs.Prelude.{ℕ, List, Option, Some, None}
+use Rattle.std.specs.Prelude.{ℕ, Bool, List, Option, Some, None, is_some}
 use Rattle.std.specs.Option.{option_and_then}
 use Rattle.lib_types.specs.declared.analysis.Analysis.{Analysis}
 use Rattle.lib_types.specs.declared.analysis.Analysis.TheVariants.{Lib, Not}
@@ -13,3 +13,6 @@ skip_by path (Lib abi soname) = None
 -- the file at a path, if its analysis is a defect
 abbrev pub skip_at : Analyses → List ℕ → Option Skipped
 skip_at table path = option_and_then (skip_by path) (analysis_at table path)
+
+abbrev pub is_skipped : Analyses → List ℕ → Bool
+is_skipped table path = is_some (skip_at table path)

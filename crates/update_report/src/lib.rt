@@ -9,4 +9,4 @@ mod skipping;
 
 pub use kinds::{Findings, Skipped, Skips};
 pub use listing::report;
-pub use skipping::skips;
+pub use skipping::{skips, skips_in};

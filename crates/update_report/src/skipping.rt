@@ -1,11 +1,13 @@
 //! The library files that are no libraries.
 ghost use Rattle.std.specs.Prelude.{◌≡◌, IfOk};
 ghost use Rattle.std.specs.List.{filter_map};
+ghost use Rattle.std.specs.Map.{keys_of};
+ghost use Rattle.place_files.specs.Order.{ascending};
 ghost use Rattle.update_report.specs.Skips.{skip_at};
 
 use crate::kinds::{Skipped, Skips};
 use lib_types::{Analysis, NoMemory, Seq, Text, Texts};
-use place_files::Table;
+use place_files::{Table, ascending};
 use std::alloc::Global;
 
 // The file at a path, if its analysis is a defect.
@@ -31,5 +33,15 @@ pub fn skips(alloc: Global, table: &Table, files: &Texts) -> Result<Skips, NoMem
             skips.push(skipped)?;
         }
     }
+    Ok(skips)
+}
+
+/// All files of a table that are no libraries, in the order of the bytes of their paths.
+#[tactic(auto, using(crate::proofs::Picked::all_picked))]
+pub fn skips_in(alloc: Global, table: &Table) -> Result<Skips, NoMemory>
+    ensures { IfOk result (λ skips. skips ≡ filter_map (skip_at table.now) (ascending (keys_of table.now))) }
+{
+    let files = ascending(alloc, table.defective(alloc)?)?;
+    let skips = skips(alloc, table, &files)?;
     Ok(skips)
 }

@@ -10,7 +10,7 @@ ghost use Rattle.tree_face.specs.Tree.{IsPathSorted, IsTree, node_at, has_below,
 
 use super::rest::Rest;
 use super::run::{PathEntry, Run};
-use super::runs::{Place, entry_at, entry_before, entry_from, find};
+use super::runs::{Place, entry_at, entry_before, entry_from, find, search};
 use super::{Kind, NODES_MAX, TreeFault, runs as places};
 use crate::node::{Node, is_dir};
 use crate::path::{is_below, is_path};
@@ -31,7 +31,7 @@ pub(super) fn node<'a>(runs: &'a Vec<Run>, path: &[u8]) -> Option<&'a Node>
     requires sorted { IsPathSorted (joined runs.now.items) }
     ensures { option_copied result ≡ node_at (joined runs.now.items) path.now }
 {
-    match find(runs, path) {
+    match search(runs, path) {
         Ok(place) => Some(node_of(runs, place)),
         Err(_) => None,
     }
@@ -59,7 +59,7 @@ pub(super) fn remove(runs: &mut Vec<Run>, path: &[u8]) -> bool
     ensures none { result ≡ false → length (joined runs.new.items) ≡ length (joined runs.old.items) }
     ensures one { result ≡ true → length (joined runs.new.items) + 1 ≡ length (joined runs.old.items) }
 {
-    match find(runs, path) {
+    match search(runs, path) {
         Ok(place) => {
             take_out(runs, place, path);
             true
@@ -120,7 +120,7 @@ pub(super) fn kind(runs: &Vec<Run>, path: &[u8]) -> Kind
     if path == b"/".as_slice() {
         return Kind::Dir;
     }
-    let found = find(runs, path);
+    let found = search(runs, path);
     kind_found(runs, path, found)
 }
 
@@ -296,7 +296,7 @@ pub(super) fn from_dir<'a>(runs: &'a Vec<Run>, path: &[u8]) -> Option<Rest<'a>>
     if path == b"/".as_slice() {
         return Some(Rest::all(runs));
     }
-    let found = find(runs, path);
+    let found = search(runs, path);
     match kind_found(runs, path, found) {
         Kind::Dir => Some(Rest::from(runs, behind(runs, path, found))),
         _ => None,

@@ -1,10 +1,10 @@
 //! What stands directly below a directory of a tree.
-ghost use Rattle.std.specs.Prelude.{◌≡◌, ◌∷◌, [], ◌&&◌, MatchOption, length, nat_eq};
+ghost use Rattle.std.specs.Prelude.{◌≡◌, ◌∷◌, [], ◌&&◌, ℕ, List, true, MatchOption, drop, length, nat_eq};
 ghost use Rattle.std.specs.List.{dedup, dedup_from, starts_with};
 ghost use Rattle.std.specs.Option.{option_copied};
 ghost use Rattle.std.specs.Str.{bytes_eq};
 ghost use Rattle.tree_face.specs.Paths.{name_behind};
-ghost use Rattle.tree_face.specs.Runs.{child_at, children_behind, is_same_child};
+ghost use Rattle.tree_face.specs.Runs.{IsPathOfChild, child_at, children_behind, is_name_end, is_same_child};
 
 use super::rest::Rest;
 use super::run::PathEntry;
@@ -129,21 +129,40 @@ fn child_at<'a>(entry: &'a PathEntry, start: usize) -> (&'a [u8], Option<&'a Nod
     }
 }
 
-// Whether the path goes on with this name behind the folder.
-fn is_child(folder: &[u8], name: &[u8], path: &[u8]) -> bool
-    ensures { result ≡ (starts_with nat_eq path.now folder.now && bytes_eq (name_behind (length folder.now) path.now) name.now) }
+// Whether the path ends or goes on with a slash behind its first n bytes, given that it has as many.
+#[tactic(auto, using(crate::proofs::Names::ends_there, crate::proofs::Names::goes_on_there))]
+fn is_name_end(path: &[u8], n: usize) -> bool
+    ensures { result ≡ is_name_end (drop n path.now) }
 {
-    path.starts_with(folder) && name_from(path, folder.len()) == name
+    path.len() <= n || path[n] == b'/'
 }
 
-// What follows the entries of one child, which has this name behind the folder.
-fn skip_child<'a>(entries: Rest<'a>, folder: &[u8], name: &[u8]) -> Rest<'a>
-    ensures { (node : _) → dedup_from is_same_child (name.now, node) (children_behind folder.now entries.entry)
-        ≡ (name.now, node) ∷ dedup is_same_child (children_behind folder.now result) }
+// Whether the path is that of a child of a folder, or lies below it, given the child's path. Most entries are those of other
+// children, which one byte shows.
+fn is_child(child: &[u8], path: &[u8]) -> bool
+    ensures { (folder name : List ℕ) → IsPathOfChild folder name child.now → result ≡ (starts_with nat_eq path.now folder && bytes_eq (name_behind (length folder) path.now) name) }
+{
+    is_name_end(path, child.len()) && path.starts_with(child)
+}
+
+// The path of the child to whose entries this path belongs.
+#[tactic(auto, using(crate::proofs::Names::child_within))]
+fn path_of_child<'a>(path: &'a [u8], folder: &[u8], name: &[u8]) -> &'a [u8]
+    requires folder { starts_with nat_eq path.now folder.now ≡ true }
+    requires name { name.now ≡ name_behind (length folder.now) path.now }
+    ensures { IsPathOfChild folder.now name.now result.now }
+{
+    &path[..folder.len() + name.len()]
+}
+
+// What follows the entries of one child, given its path.
+fn skip_child<'a>(entries: Rest<'a>, child: &[u8]) -> Rest<'a>
+    ensures { (folder name : List ℕ) (node : _) → IsPathOfChild folder name child.now → dedup_from is_same_child (name, node) (children_behind folder entries.entry)
+        ≡ (name, node) ∷ dedup is_same_child (children_behind folder result) }
 {
     let mut rest = entries;
     while let Some((entry, more)) = rest.split_first() {
-        if !is_child(folder, name, entry.path()) {
+        if !is_child(child, entry.path()) {
             break;
         }
         rest = more;
@@ -164,6 +183,6 @@ fn first_child<'a>(
         return None;
     }
     let child = child_at(first, folder.len());
-    let rest = skip_child(others, folder, child.0);
-    Some((child, rest))
+    let path = path_of_child(first.path(), folder, child.0);
+    Some((child, skip_child(others, path)))
 }

@@ -136,7 +136,8 @@ fn runs_by(runs: &Vec<Run>, path: &[u8]) -> usize
     )
 }
 
-fn search(runs: &Vec<Run>, path: &[u8]) -> Result<Place, Place>
+/// The place of the path's entry, or that at which it would be inserted.
+pub(super) fn search(runs: &Vec<Run>, path: &[u8]) -> Result<Place, Place>
     requires runs { IsTrue (are_runs runs.now.items) }
     requires sorted { IsPathSorted (joined runs.now.items) }
     ensures found { IfOk result (IsPlaceOf runs.now.items path.now) }
@@ -153,7 +154,7 @@ fn search(runs: &Vec<Run>, path: &[u8]) -> Result<Place, Place>
     }
 }
 
-/// The place of the path's entry, or that at which it would be inserted. The lines of a sorted manifest each come after
+/// The place at which a path is put: that of its entry, or that of its gap. The lines of a sorted manifest each come after
 /// all others, so that case takes no search.
 pub(super) fn find(runs: &Vec<Run>, path: &[u8]) -> Result<Place, Place>
     requires runs { IsTrue (are_runs runs.now.items) }

@@ -1,18 +1,9 @@
-use Rattle.std.proofs.Common.{◌≡◌, ℕ, List, map}
-use Rattle.std.specs.BTreeMap.{get, keys, IsOrdered}
-use Rattle.std.specs.Cmp.Lexicographic.{slice_cmp}
-use Rattle.std.specs.List.{fold}
-use Rattle.std.specs.Ordering.{nat_cmp}
-use Rattle.place_files.specs.Order.{with_text}
-use Rattle.place_files.specs.Pick.{best_with}
-use Rattle.cache_entries.specs.Ranked.{is_before, ranked_link, soname_of}
+use Rattle.std.proofs.Common.{◌≡◌, ◌++◌, drop, map}
+use Rattle.std.specs.List.{filter_map}
+use Rattle.cache_entries.specs.Ranked.{by_sonames, ranked_link}
+use Rattle.cache_entries.specs.Winner.{linked}
 use Rattle.cache_entries.proofs.winner.add_links.Given as goal
 
--- the links that are left give the whole
+-- the links that are left give the rest
 abbrev pub invariant-loop-link : goal.invariant-loop-link
-invariant-loop-link l = record {
-  keys : fold with_text (keys l.winners) (map soname_of (map ranked_link l.link-iterator.rest.items)) ≡ fold with_text (keys l.fn.winners) (map soname_of (map ranked_link l.fn.links.items));
-  best : (soname : List ℕ) → best_with soname_of is_before (get (slice_cmp nat_cmp) l.winners soname) (map ranked_link l.link-iterator.rest.items) soname
-      ≡ best_with soname_of is_before (get (slice_cmp nat_cmp) l.fn.winners soname) (map ranked_link l.fn.links.items) soname;
-  ordered : IsOrdered (slice_cmp nat_cmp) l.winners;
-}
+invariant-loop-link l = l.candidates.items ++ by_sonames (map ranked_link (filter_map (linked l.table) (drop l.link-index l.links))) ≡ l.fn.candidates.items ++ by_sonames (map ranked_link (filter_map (linked l.table) l.links))

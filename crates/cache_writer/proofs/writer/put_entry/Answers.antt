@@ -1,8 +1,6 @@
 -- The fields of an entry, one after the other.
-use Rattle.std.proofs.Common.{◌≡◌, ◌++◌, ap, ◌∙◌}
-use Rattle.byteorder.specs.Endian.{little_bytes}
+use Rattle.std.proofs.Common.{◌≡◌, ap, ◌∙◌}
 use Rattle.string_pool.specs.Strings.{place_of}
-use Rattle.cache_writer.specs.CacheText.{entry_bytes}
 use Rattle.cache_writer.proofs.Adding.{put_fields, first_place}
 use Rattle.cache_writer.proofs.writer.put_entry.Goals as goal
 
@@ -14,7 +12,5 @@ returns-clause-bytes c =
     first_place c.args.pool.now c.add.new.self c.add-2.new.self c.as_bytes.result.now c.as_bytes-2.result.now c.in_ok-soname.soname first.strings second.strings first.offset
     ∙ ap (place_of c.add-2.new.self) c.as_bytes.ensures in
     let path : c.in_ok-path.path ≡ place_of c.add-2.new.self c.args.entry.now.path = second.offset ∙ ap (place_of c.add-2.new.self) c.as_bytes-2.ensures in
-    let e : c.put_u32-4.new.out.items ++ little_bytes 8 c.hwcap.result ≡ c.args.out.now.items ++ entry_bytes c.add-2.new.self c.args.names.now c.args.entry.now =
-    rw (c.in_ok-put_u32-4.ensures, c.in_ok-put_u32-3.ensures, c.in_ok-put_u32-2.ensures, c.in_ok-put_u32.ensures)
+    rw (c.in_ok-extend_from_slice.ensures.items, c.fields_of-fields.ensures)
     (put_fields c.add-2.new.self c.args.names.now c.args.entry.now c.args.out.now.items c.flags.result c.in_ok-soname.soname c.in_ok-path.path c.hwcap.result c.flags.ensures soname path c.hwcap.ensures)
-    in rw (← e) c.put_u64.ensures

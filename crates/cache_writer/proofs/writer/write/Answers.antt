@@ -24,7 +24,7 @@ pub put_names-requires-clause-room : goal.put_names-requires-clause-room
 put_names-requires-clause-room c =
     let few : length c.in_ok-names.names ≤ length c.as_slice-entries.result.now = rw c.in_ok-names.ensures (few_names c.as_slice-entries.result.now) in
     let many = ap length c.as_slice-entries.ensures in
-    let base : c.put_entries.new.pool.base ≡ 48 + 24 * length c.as_slice-entries.result.now = ap (λ s. s.base) c.in_ok-put_entries.ensures.strings ∙ ap (λ s. s.base) c.new-pool.ensures in
+    let base : c.put_entries.new.pool.base ≡ 48 + 24 * length c.as_slice-entries.result.now = ap (λ s. s.base) c.in_ok-put_entries.ensures.strings ∙ ap (λ s. s.base) c.in_ok-pool.ensures in
     omega (arith, few, many, base, c.requires.few, c.in_ok-put_entries.ensures.size)
 
 pub put_names-requires-clause-short : goal.put_names-requires-clause-short
@@ -62,7 +62,7 @@ returns-clause-bytes c =
     let entries = c.in_ok-put_entries.ensures in
     let names = c.in_ok-put_names.ensures in
     let made : ℕ → Strings = λ base. record { base = base; texts = distinct (flat_map own_strings es) } in
-    let base : c.new-pool.result.base ≡ 48 + 24 * length es = ap (λ s. s.base) c.new-pool.ensures in
+    let base : c.in_ok-pool.pool.base ≡ 48 + 24 * length es = ap (λ s. s.base) c.in_ok-pool.ensures in
     let table = rw c.in_ok-table.ensures.items at entries.bytes in
     let offsets = rw c.new-offsets.ensures.items at names.bytes in
     let e : joined (length es) (length c.in_ok-names.names) c.deref.result.now c.bytes.result.now c.deref-2.result.now ≡ cache_text c.args.entries.now =
@@ -79,7 +79,7 @@ returns-clause-accepted c =
     let many = ap length c.as_slice-entries.ensures in
     let few : length es ≤ 131072 = omega (arith, many, c.requires.few) in
     let laid : IsLaidOut es = laid_out es c.in_ok-names.names c.put_entries.new.pool c.put_names.new.pool c.bytes.result.now few c.in_ok-names.ensures
-    (entries.strings ∙ ap (made es) (ap (λ s. s.base) c.new-pool.ensures)) names.strings entries.all names.all entries.size names.size c.bytes.ensures in
+    (entries.strings ∙ ap (made es) (ap (λ s. s.base) c.in_ok-pool.ensures)) names.strings entries.all names.all entries.size names.size c.bytes.ensures in
     let good : defect (cache_text c.args.entries.now) ≡ None = rw c.as_slice-entries.ensures at (accepted es laid) in
     IfOk-weaker c.join.result (λ bytes. bytes.items ≡ cache_text c.args.entries.now) (λ bytes. defect bytes.items ≡ None) (λ bytes is. rw is good) (returns-clause-bytes c)
 
@@ -91,7 +91,7 @@ returns-clause-read_back c =
     let many = ap length c.as_slice-entries.ensures in
     let few : length es ≤ 131072 = omega (arith, many, c.requires.few) in
     let laid : IsLaidOut es = laid_out es c.in_ok-names.names c.put_entries.new.pool c.put_names.new.pool c.bytes.result.now few c.in_ok-names.ensures
-    (entries.strings ∙ ap (made es) (ap (λ s. s.base) c.new-pool.ensures)) names.strings entries.all names.all entries.size names.size c.bytes.ensures in
+    (entries.strings ∙ ap (made es) (ap (λ s. s.base) c.in_ok-pool.ensures)) names.strings entries.all names.all entries.size names.size c.bytes.ensures in
     let same : IsLaidOut c.args.entries.now = rw c.as_slice-entries.ensures at laid in
     let back = all_read c.args.entries.now same (all_plain c.args.entries.now c.requires.sonames c.requires.caps c.requires.no_nul) in
     IfOk-weaker c.join.result (λ bytes. bytes.items ≡ cache_text c.args.entries.now)

@@ -2,10 +2,12 @@ use Rattle.std.proofs.Common.{◌≡◌, ◌≤◌, ◌*◌}
 use Rattle.tree_face.specs.Known.{IfKnown}
 use Rattle.elf_headers.specs.Layout.{word_size}
 use Rattle.elf_headers.specs.Reading.{known_content, OnlyReads, IsHeadOf}
+use Rattle.elf_dynamic.specs.Kept.{kept_of}
 use Rattle.elf_dynamic.specs.Section.{dynamic_entries}
 use Rattle.elf_dynamic.specs.Entries.{rest_of, IsIn, unread_in}
 use Rattle.elf_dynamic.specs.Windows.{IsWindowOf}
 use Rattle.elf_dynamic.specs.Texts.{bytes_of, no_texts, gathered}
+use Rattle.elf_dynamic.specs.Values.{texts_in}
 use Rattle.elf_dynamic.proofs.Gathered.{Stays}
 use Rattle.elf_dynamic.proofs.gather.gather.Given as goal
 
@@ -21,8 +23,9 @@ invariant-loop-found g l =
       inside : IsIn l.head l.entries;
       reads : OnlyReads old new;
       rest : IfKnown (known_content old) (λ bytes.
-          gathered (bytes_of l.fn.table bytes) l.found (rest_of l.entries bytes)
-          ≡ gathered (bytes_of l.fn.table bytes) (no_texts l.fn.nodeflib) (dynamic_entries (word_size l.head.wide) bytes l.fn.dynamic));
+          kept_of l.fn.keep (gathered (bytes_of l.fn.table bytes) l.found (rest_of l.entries bytes))
+          ≡ kept_of l.fn.keep (gathered (bytes_of l.fn.table bytes) (no_texts l.fn.nodeflib) (dynamic_entries (word_size l.head.wide) bytes l.fn.dynamic)));
+      left : IfKnown (known_content old) (λ bytes. l.left ≡ texts_in (rest_of l.entries bytes));
       still : unread_in l.section l.entries ≤ 2 * l.fn.dynamic.filesz;
       taken : IfKnown (known_content old) (λ bytes.
           Stays old new (2 * l.fn.dynamic.filesz) (unread_in l.section l.entries) (bytes_of l.fn.table bytes) l.found (rest_of l.entries bytes) (no_texts l.fn.nodeflib) (dynamic_entries (word_size l.head.wide) bytes l.fn.dynamic));

@@ -3,7 +3,7 @@ use Rattle.elf_dynamic.proofs.Files.{file_without, file_outside, file_section, f
 use Rattle.elf_dynamic.proofs.section.read_dynamic.Goals as goal
 
 pub returns-in_default-clause-dynamic : goal.returns-in_default-clause-dynamic
-returns-in_default-clause-dynamic g c = file_without (g.S.Store.state c.args.store.now) c.args.head.now c.in_ok-dynamic.field-0 c.in_ok-dynamic.ensures.found c.in_default.is
+returns-in_default-clause-dynamic g c = file_without (g.S.Store.state c.args.store.now) c.args.head.now c.in_ok-dynamic.field-0 c.in_ok-dynamic.ensures.found c.args.keep c.in_default.is
 
 pub returns-then-is_outside-clause-bad : goal.returns-then-is_outside-clause-bad
 returns-then-is_outside-clause-bad g c =
@@ -12,7 +12,7 @@ returns-then-is_outside-clause-bad g c =
 pub returns-in-Ok-clause-dynamic : goal.returns-in-Ok-clause-dynamic
 returns-in-Ok-clause-dynamic g c =
     file_section (g.S.Store.state c.args.store.now) c.args.head.now c.in_ok-dynamic.field-0 c.in_ok-dynamic.ensures.found c.requires c.in-Some.dynamic c.in-Some.is (g.S.Store.state c.find_segment.new.store) c.in_ok-dynamic.ensures.reads
-    (sym c.is_outside.ensures.outside ∙ c.if-is_outside.false) c.in-Ok.dynamic c.in-Ok.ensures.section
+    (sym c.is_outside.ensures.outside ∙ c.if-is_outside.false) c.args.keep c.in-Ok.dynamic c.in-Ok.ensures.section
 
 pub returns-in-Ok-clause-taken : goal.returns-in-Ok-clause-taken
 returns-in-Ok-clause-taken g c =

@@ -3,6 +3,7 @@ use Rattle.elf_headers.specs.Layout.{word_size}
 use Rattle.elf_headers.specs.Reading.{known_content}
 use Rattle.elf_dynamic.specs.Section.{dynamic_entries}
 use Rattle.tree_face.specs.Known.{IfKnown}
+use Rattle.elf_dynamic.specs.Kept.{kept, kept_of}
 use Rattle.elf_dynamic.specs.Sections.{section_in}
 use Rattle.elf_dynamic.specs.Texts.{bytes_of, no_texts, gathered}
 use Rattle.elf_dynamic.proofs.Known.{same, before}
@@ -11,13 +12,13 @@ use Rattle.elf_dynamic.proofs.section.read_texts.Goals as goal
 
 pub returns-in-Err-clause-bad : goal.returns-in-Err-clause-bad
 returns-in-Err-clause-bad g c =
-    table_fault (known_content (g.S.Store.state c.args.store.now)) (word_size c.args.head.now.wide) c.args.dynamic c.args.values c.in-Err.fault c.requires.values c.requires.texts c.in-Err.ensures.bad
+    table_fault c.args.keep (known_content (g.S.Store.state c.args.store.now)) (word_size c.args.head.now.wide) c.args.dynamic c.args.values c.in-Err.fault c.requires.values c.requires.texts c.in-Err.ensures.bad
 
 pub returns-in-Err-gather-clause-bad : goal.returns-in-Err-gather-clause-bad
 returns-in-Err-gather-clause-bad g c =
     let s = g.S.Store.state c.args.store.now in
     let mid = g.S.Store.state c.find_strings.new.store in
-    text_fault (known_content s) (known_content mid) (word_size c.args.head.now.wide) c.args.dynamic c.args.values (bytes_of c.in-Ok.table) c.has_nodeflib-nodeflib.result c.in-Err-gather.fault (same s mid c.in-Ok.ensures.reads)
+    text_fault c.args.keep (known_content s) (known_content mid) (word_size c.args.head.now.wide) c.args.dynamic c.args.values (bytes_of c.in-Ok.table) c.has_nodeflib-nodeflib.result c.in-Err-gather.fault (same s mid c.in-Ok.ensures.reads)
     c.has_nodeflib-nodeflib.ensures c.requires.values c.requires.texts c.in-Ok.ensures.found c.in-Err-gather.ensures.bad
 
 pub returns-in-Err-gather-clause-taken : goal.returns-in-Err-gather-clause-taken
@@ -39,9 +40,9 @@ returns-in-Ok-named-clause-section g c =
     let w = word_size c.args.head.now.wide in
     let d = c.args.dynamic in
     let table = bytes_of c.in-Ok.table in
-    known_good (known_content s) w d c.args.values c.requires.values table c.in-Ok-gather.found c.in-Ok-named.dynamic c.requires.texts c.in-Ok-named.ensures.good c.in-Ok-named.ensures.named c.in-Ok.ensures.found
-    (flagged (known_content s) w d table c.has_nodeflib-nodeflib.result c.args.values c.in-Ok-gather.found c.has_nodeflib-nodeflib.ensures
-    (before (λ bytes. gathered (table bytes) (no_texts c.has_nodeflib-nodeflib.result) (dynamic_entries w bytes d) ≡ Ok c.in-Ok-gather.found) s mid c.in-Ok.ensures.reads c.in-Ok-gather.ensures.gathered))
+    known_good c.args.keep (known_content s) w d c.args.values c.requires.values table c.in-Ok-gather.found c.in-Ok-named.dynamic c.requires.texts c.in-Ok-named.ensures.good c.in-Ok-named.ensures.named c.in-Ok.ensures.found
+    (flagged c.args.keep (known_content s) w d table c.has_nodeflib-nodeflib.result c.args.values c.in-Ok-gather.found c.has_nodeflib-nodeflib.ensures
+    (before (λ bytes. kept_of c.args.keep (gathered (table bytes) (no_texts c.has_nodeflib-nodeflib.result) (dynamic_entries w bytes d)) ≡ Ok (kept c.args.keep c.in-Ok-gather.found)) s mid c.in-Ok.ensures.reads c.in-Ok-gather.ensures.gathered))
 
 pub returns-in-Err-named-clause-bad : goal.returns-in-Err-named-clause-bad
 returns-in-Err-named-clause-bad g c =
@@ -51,6 +52,6 @@ returns-in-Err-named-clause-bad g c =
     let d = c.args.dynamic in
     let table = bytes_of c.in-Ok.table in
     subst (λ x. IfKnown (known_content s) (λ bytes. section_in w bytes d ≡ Err x)) (sym c.in-Err-named.ensures.bad)
-    (known_bad_name (known_content s) w d c.args.values c.requires.values table c.in-Ok-gather.found c.requires.texts c.in-Err-named.ensures.bad_name c.in-Ok.ensures.found
-    (flagged (known_content s) w d table c.has_nodeflib-nodeflib.result c.args.values c.in-Ok-gather.found c.has_nodeflib-nodeflib.ensures
-    (before (λ bytes. gathered (table bytes) (no_texts c.has_nodeflib-nodeflib.result) (dynamic_entries w bytes d) ≡ Ok c.in-Ok-gather.found) s mid c.in-Ok.ensures.reads c.in-Ok-gather.ensures.gathered)))
+    (known_bad_name c.args.keep (known_content s) w d c.args.values c.requires.values table c.in-Ok-gather.found c.requires.texts c.in-Err-named.ensures.bad_name c.in-Ok.ensures.found
+    (flagged c.args.keep (known_content s) w d table c.has_nodeflib-nodeflib.result c.args.values c.in-Ok-gather.found c.has_nodeflib-nodeflib.ensures
+    (before (λ bytes. kept_of c.args.keep (gathered (table bytes) (no_texts c.has_nodeflib-nodeflib.result) (dynamic_entries w bytes d)) ≡ Ok (kept c.args.keep c.in-Ok-gather.found)) s mid c.in-Ok.ensures.reads c.in-Ok-gather.ensures.gathered)))

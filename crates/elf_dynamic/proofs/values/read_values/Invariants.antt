@@ -1,4 +1,4 @@
-use Rattle.std.proofs.Common.{◌≡◌, ◌≤◌, ◌*◌, ◌-◌}
+use Rattle.std.proofs.Common.{◌≡◌, ◌≤◌, ◌+◌, ◌*◌, ◌-◌}
 use Rattle.lib_types.specs.Counts.{raised}
 use Rattle.tree_face.specs.Known.{IfKnown}
 use Rattle.elf_headers.specs.Layout.{word_size}
@@ -20,6 +20,7 @@ invariant-loop-entry g l =
       inside : IsIn l.head l.entries;
       reads : OnlyReads old new;
       rest : IfKnown (known_content old) (λ bytes. joined l.values (rest_of l.entries bytes) ≡ values_of (dynamic_entries (word_size l.head.wide) bytes l.fn.dynamic));
+      few : l.values.texts + l.entries.left ≤ l.fn.dynamic.filesz;
       still : unread_in l.window l.entries ≤ 2 * l.fn.dynamic.filesz;
       taken : new.taken ≤ raised old.taken (2 * l.fn.dynamic.filesz - unread_in l.window l.entries);
     }

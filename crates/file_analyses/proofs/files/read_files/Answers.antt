@@ -1,4 +1,5 @@
 use Rattle.std.proofs.Common.{◌≡◌, ◌<◌, ◌∙◌, ap, get_or, inl, inr, length, rules, arith}
+use Rattle.file_analyses.proofs.Kept.{keeps_on, read_next}
 use Rattle.file_analyses.proofs.Rising.{begun_on, lacks_on, read_on}
 use Rattle.file_analyses.specs.Files.{seen, with_files}
 use Rattle.file_analyses.proofs.files.read_files.Goals as goal
@@ -34,6 +35,9 @@ loop-path-preserved g c =
       faults = omega (arith, c.loop-path.invariant.faults, c.read_file.ensures.faults);
       count = omega (arith, c.loop-path.invariant.count, c.in_ok-read_file.ensures.count);
       begun = omega (arith, c.loop-path.invariant.begun, c.loop-path.invariant.count, c.in_ok-read_file.ensures.begun, c.in_ok-read_file.ensures.count);
+      kept = keeps_on c.args.files.now.table c.loop-path.files.table c.read_file.new.files.table c.loop-path.invariant.kept c.in_ok-read_file.ensures.kept;
+      all = read_next c.args.tree.now c.args.paths.now c.loop-path.path-index c.path-item.result within is c.loop-path.files.table c.read_file.new.files.table c.in_ok-read_file.ensures.kept
+          (rw c.as_bytes.ensures at c.in_ok-read_file.ensures.none_left) c.loop-path.invariant.all;
       begun_at_most = omega (arith, c.loop-path.invariant.begun_at_most, c.read_file.ensures.begun_one);
       read = read_on c.args.tree.now c.args.paths.now c.loop-path.path-index c.path-item.result within is (seen c.loop-path.files)
           (λ held. with_files held c.args.tree.now (seen c.args.files.now) c.args.paths.now) _ _ c.loop-path.invariant.read

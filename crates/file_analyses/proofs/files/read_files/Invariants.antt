@@ -1,7 +1,8 @@
 use Rattle.std.proofs.Common.{◌≡◌, ◌≤◌, ◌-◌, drop}
 use Rattle.tree_face.specs.Store.{BeginsAtMost}
 use Rattle.tree_face.specs.Known.{IfKnown}
-use Rattle.file_analyses.specs.Files.{seen, with_files}
+use Rattle.place_files.specs.Table.{KeepsAnalyses}
+use Rattle.file_analyses.specs.Files.{AreReadBut, seen, with_files}
 use Rattle.file_analyses.proofs.files.read_files.Given as goal
 
 -- the files that are left complete the reading
@@ -12,6 +13,8 @@ invariant-loop-path g l = record {
   count : l.fn.files.begun ≤ l.files.begun;
   begun : BeginsAtMost (l.files.begun - l.fn.files.begun) (g.S.Store.state l.fn.store) (g.S.Store.state l.store);
   begun_at_most : BeginsAtMost l.path-index (g.S.Store.state l.fn.store) (g.S.Store.state l.store);
+  kept : KeepsAnalyses l.fn.files.table l.files.table;
+  all : AreReadBut l.tree l.files.table l.paths (drop l.path-index l.paths);
   read : IfKnown (g.S.Store.state l.fn.store).held
       (λ held. with_files held l.tree (seen l.files) (drop l.path-index l.paths) ≡ with_files held l.tree (seen l.fn.files) l.paths);
 }

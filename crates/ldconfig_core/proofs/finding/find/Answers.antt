@@ -1,4 +1,5 @@
 use Rattle.std.proofs.Common.{inl, inr, rules, arith}
+use Rattle.ldconfig_core.proofs.Bests.{bests_kept}
 use Rattle.ldconfig_core.proofs.Known.{begins_reached, begins_searched, followed, is_found, lacks_reached, planned, too_many_nodes}
 use Rattle.ldconfig_core.proofs.Settled.{settled}
 use Rattle.ldconfig_core.proofs.finding.find.Goals as goal
@@ -47,6 +48,11 @@ returns-clause-begun g c =
     begins_reached c.args.tree.now c.in_ok-search.search c.in_ok-links.links c.plan_links.new.tree _ c.in_ok-search.ensures.found links
     (g.S.Store.state c.args.store.now) (g.S.Store.state c.search_image.new.store) (g.S.Store.state c.follow_links.new.store) c.search_image.ensures.begun
     (rw c.search_image.ensures.held at c.follow_links.ensures.begun)
+
+pub returns-clause-bests : goal.returns-clause-bests
+returns-clause-bests g c =
+    bests_kept c.args.tree.now c.plan_links.new.tree c.in_ok-search.search.files.table c.follow_links.new.files.table c.in_ok-search.search.dirs.places c.in_ok-links.ensures.settled
+    c.in_ok-links.links.bests c.in_ok-links.ensures.bests c.in_ok-search.ensures.read c.in_ok-followed.ensures.kept
 
 pub returns-clause-settled : goal.returns-clause-settled
 returns-clause-settled g c =

@@ -1,13 +1,7 @@
-use Rattle.std.proofs.Common.{◌≡◌, ◌-◌, ap, sym, subst, ◌∙◌}
+use Rattle.std.proofs.Common.{◌≡◌, ap, sym, subst}
 use Rattle.std.specs.Result.{IfOk}
-use Rattle.tree_face.specs.Paths.{components}
-use Rattle.tree_face.specs.Tree.{kind_at}
-use Rattle.path_walk.proofs.KindsAt.{start_dir}
 use Rattle.path_walk.proofs.Linked.{from_link}
 use Rattle.path_walk.specs.Files.{file_by}
-use Rattle.path_walk.specs.Walk.{start_of, steps, walk}
-use Rattle.path_walk.specs.declared.walk.Mode.TheVariants.{Full}
-use Rattle.path_walk.specs.declared.walk.TheConstants.{LINKS_MAX}
 use Rattle.path_walk.proofs.files.linked_file.Goals as goal
 
 -- the walk by the whole path of the link goes on as the walk that begins at the link
@@ -15,12 +9,7 @@ pub returns : goal.returns
 returns c = record {
   file = λ name dir named link.
       let t = c.args.tree.now in
-      let folder = c.args.folder.now in
-      let target = c.args.target.now in
-      let begins : c.restart.new.place.items ≡ start_of target folder = c.in_ok-restart.ensures ∙ ap (start_of target) c.in_ok-place.ensures.items in
-      let found = c.file_from.ensures (ap (kind_at t) begins ∙ start_dir t target folder dir) in
-      subst (λ f. IfOk c.file_from.result (λ file. file ≡ f))
-      (ap (λ place. file_by t (walk t Full (LINKS_MAX - 1) (steps t Full (components target) place))) begins
-      ∙ sym (ap (file_by t) (from_link t c.know.ensures folder name target dir named link)))
-      found;
+      subst (λ f. IfOk c.file_beside.result (λ file. file ≡ f))
+      (sym (ap (file_by t) (from_link t c.know.ensures c.args.folder.now name c.args.target.now dir named link)))
+      (c.file_beside.ensures dir);
 }

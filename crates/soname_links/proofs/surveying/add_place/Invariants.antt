@@ -1,14 +1,19 @@
-use Rattle.std.proofs.Common.{◌≡◌, ◌++◌}
+use Rattle.std.proofs.Common.{◌≡◌, ℕ, List, ◌++◌, map}
 use Rattle.std.specs.List.{filter_map}
 use Rattle.soname_links.specs.Marks.{blocked_in, mixed_in}
+use Rattle.place_files.specs.Best.{bests}
+use Rattle.place_files.specs.Libraries.{libraries_in}
 use Rattle.soname_links.specs.Plan.{links_in}
 use Rattle.soname_links.specs.Survey.{blocked_of, mixed_of, planned_of}
+use Rattle.soname_links.specs.declared.groups.Group.{Group}
 use Rattle.soname_links.proofs.surveying.add_place.Given as goal
 
 -- the sonames that are left give the rest
-abbrev pub invariant-loop-soname : goal.invariant-loop-soname
-invariant-loop-soname l = record {
-  plan : l.survey.plan ++ filter_map (planned_of l.tree l.number l.place) l.soname-iterator ≡ l.fn.survey.plan ++ links_in l.table l.tree l.number l.place;
-  blocked : l.survey.blocked ++ filter_map (blocked_of l.tree l.number l.place) l.soname-iterator ≡ l.fn.survey.blocked ++ blocked_in l.table l.tree l.number l.place;
-  mixed : l.survey.mixed ++ filter_map (mixed_of l.number) l.soname-iterator ≡ l.fn.survey.mixed ++ mixed_in l.table l.tree l.number l.place;
+abbrev pub invariant-loop-group : goal.invariant-loop-group
+invariant-loop-group l = record {
+  plan : l.survey.plan ++ filter_map (planned_of l.tree l.number l.place) l.group-iterator.rest.items ≡ l.fn.survey.plan ++ links_in l.table l.tree l.number l.place;
+  blocked : l.survey.blocked ++ filter_map (blocked_of l.tree l.number l.place) l.group-iterator.rest.items ≡ l.fn.survey.blocked ++ blocked_in l.table l.tree l.number l.place;
+  before : l.survey.bests ≡ l.fn.survey.bests;
+  place_bests : l.bests ++ map (λ (e : List ℕ × Group). e.1.best) l.group-iterator.rest.items ≡ bests (libraries_in l.table l.tree l.place);
+  mixed : l.survey.mixed ++ filter_map (mixed_of l.number) l.group-iterator.rest.items ≡ l.fn.survey.mixed ++ mixed_in l.table l.tree l.number l.place;
 }

@@ -6,4 +6,4 @@ pub returns : goal.returns
 returns c =
     let ended : c.loop-i.i < length c.args.a.now → c.loop-i.i < length c.args.b.now → ⊥
     = λ p q. omega arith in
-    c.cmp-2.ensures ∙ sym (path_cmp-by_length c.args.a.now c.args.b.now c.loop-i.i (omega arith) (omega arith) ended) ∙ c.loop-i.invariant.3
+    c.cmp.ensures ∙ sym (path_cmp-by_length c.args.a.now c.args.b.now c.loop-i.i (omega arith) (omega arith) ended) ∙ c.loop-i.invariant.3

@@ -14,4 +14,4 @@ returns c =
     let child = c.child_at-child.result in
     let node = option_copied child.1 in
     ap (λ t. dedup is_same_child (children_behind folder t)) c.in_ok-first.ensures
-    ∙ child_taken folder e c.in_ok-first.others c.skip_child-rest.result (child.0.now, node) starts c.child_at-child.ensures (c.skip_child-rest.ensures node)
+    ∙ child_taken folder e c.in_ok-first.others c.skip_child.result (child.0.now, node) starts c.child_at-child.ensures (c.skip_child.ensures folder child.0.now node c.path_of_child-path.ensures)

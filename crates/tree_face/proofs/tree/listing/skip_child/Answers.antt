@@ -5,8 +5,6 @@ use Rattle.tree_face.specs.Runs.{children_behind, is_same_child}
 use Rattle.tree_face.proofs.tree.listing.skip_child.Goals as goal
 
 pub loop-entry-preserved : goal.loop-entry-preserved
-loop-entry-preserved c = λ node.
-    let folder = c.args.folder.now in
-    let name = c.args.name.now in
+loop-entry-preserved c = λ folder name node whole.
     sym (child_skipped folder name node (c.in-Some.entry.now.0, c.in-Some.entry.now.1) c.in-Some.more (search rules))
-    ∙ ap (λ t. dedup_from is_same_child (name, node) (children_behind folder t)) (sym c.in-Some.ensures) ∙ c.loop-entry.invariant node
+    ∙ ap (λ t. dedup_from is_same_child (name, node) (children_behind folder t)) (sym c.in-Some.ensures) ∙ c.loop-entry.invariant folder name node whole

@@ -1,0 +1,38 @@
+-- What is left of a section if not all of its texts are kept. A text that isn't kept is empty: that it is there still
+-- counts for the entries behind it. The clauses of private functions cite these definitions.
+use Rattle.std.specs.Prelude.{ℕ, Bool, true, false, ◌==◌, List, [], Option, option_map, Result, Ok, Err}
+use Rattle.lib_types.specs.declared.analysis.Defect.{Defect}
+use Rattle.elf_dynamic.specs.declared.gather.Keep.{Keep}
+use Rattle.elf_dynamic.specs.declared.gather.Keep.TheVariants.{All, Soname}
+use Rattle.elf_dynamic.specs.declared.kinds.Dynamic.{Dynamic}
+use Rattle.elf_dynamic.specs.declared.kinds.Object.{Object}
+
+-- the text of an entry with this tag is kept
+abbrev pub keeps : Keep → ℕ → Bool
+keeps All tag = true
+keeps Soname tag = tag == 14
+
+abbrev pub kept_text : Bool → List ℕ → List ℕ
+kept_text true text = text
+kept_text false text = []
+
+abbrev pub kept : Keep → Dynamic → Dynamic
+kept All d = d
+kept Soname d = record d { needed = []; rpath = option_map (kept_text false) d.rpath; runpath = option_map (kept_text false) d.runpath }
+
+-- the same of a section or its defect
+abbrev pub kept_of : Keep → Result Dynamic Defect → Result Dynamic Defect
+kept_of keep (Ok d) = Ok (kept keep d)
+kept_of keep (Err x) = Err x
+
+-- the same of a file, which may have no section
+abbrev pub kept_in_file : Keep → Result (Option Dynamic) Defect → Result (Option Dynamic) Defect
+kept_in_file keep (Ok d) = Ok (option_map (kept keep) d)
+kept_in_file keep (Err x) = Err x
+
+abbrev pub kept_object : Keep → Object → Object
+kept_object keep o = record o { dynamic = option_map (kept keep) o.dynamic }
+
+abbrev pub kept_object_of : Keep → Result Object Defect → Result Object Defect
+kept_object_of keep (Ok o) = Ok (kept_object keep o)
+kept_object_of keep (Err x) = Err x

@@ -1,0 +1,8 @@
+use Rattle.std.proofs.Common.{◌≡◌, ◌&&◌, drop}
+use Rattle.std.specs.List.{list_all}
+use Rattle.mtree_manifest.specs.Escape.{is_plain}
+use Rattle.mtree_manifest.proofs.writer.are_plain.Given as goal
+
+-- what is left decides
+abbrev pub invariant-loop-b : goal.invariant-loop-b
+invariant-loop-b l = (l.plain && list_all is_plain (drop l.b-index l.bytes)) ≡ list_all is_plain l.bytes

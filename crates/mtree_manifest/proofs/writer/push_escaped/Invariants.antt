@@ -1,6 +1,0 @@
-use Rattle.std.proofs.Common.{◌≡◌, ◌++◌, take}
-use Rattle.mtree_manifest.specs.Escape.{escaped}
-use Rattle.mtree_manifest.proofs.writer.push_escaped.Given as goal
-
-abbrev pub invariant-loop-b : goal.invariant-loop-b
-invariant-loop-b l = l.out.items ≡ l.fn.out.items ++ escaped (take l.b-index l.bytes)
