@@ -3,7 +3,8 @@ use Rattle.std.specs.Prelude.{◌≡◌, ◌≤◌, ◌++◌, ℕ, List, Result,
 use Rattle.lib_types.specs.Counts.{HasRisen}
 use Rattle.lib_types.specs.declared.fault.Failed.{Failed}
 use Rattle.tree_face.specs.Known.{Relates}
-use Rattle.tree_face.specs.Stream.{SinkState, IsFollowedByPart}
+use Rattle.tree_face.specs.Follows.{IsFollowedByPart}
+use Rattle.tree_face.specs.Stream.{SinkState}
 
 -- a front part of what is to be written went to the sink, and the rest waits
 pub record Moves (text rest a b : List ℕ) : Type 0 where

@@ -6,7 +6,8 @@ use Rattle.cache_reader.specs.declared.defect.CacheDefect.{CacheDefect}
 use Rattle.tree_face.specs.Disk.{DiskContent}
 use Rattle.tree_face.specs.Known.{IfKnown, Relates}
 use Rattle.lib_types.specs.Counts.{HasRisen}
-use Rattle.tree_face.specs.Stream.{SinkState, IsFollowedBy, IsFollowedByPart}
+use Rattle.tree_face.specs.Follows.{IsFollowedBy, IsFollowedByPart}
+use Rattle.tree_face.specs.Stream.{SinkState}
 use Rattle.ldconfig_cli.specs.Print.{IsBySlot, IsPrinted, OutputBefore, Prints, by_defect, cache_name, is_of_print, is_of_reading, status_by}
 use Rattle.ldconfig_cli.specs.declared.status.Status.{Status}
 use Rattle.ldconfig_cli.specs.declared.status.Status.TheVariants.{Done, Usage, BadManifest, NoCache, BadCache, StoreFault, DiskFault, OutputFault, NoMemory, NoManifest, TooLarge, TooMany}

@@ -4,7 +4,8 @@ use Rattle.std.specs.Prelude.{OnOk, OnErr}
 use Rattle.lib_types.specs.Counts.{HasRisen}
 use Rattle.lib_types.specs.declared.fault.Failed.{Failed}
 use Rattle.tree_face.specs.Known.{Relates}
-use Rattle.tree_face.specs.Stream.{SinkState, IsFollowedBy, IsFollowedByPart}
+use Rattle.tree_face.specs.Follows.{IsFollowedBy, IsFollowedByPart}
+use Rattle.tree_face.specs.Stream.{SinkState}
 use Rattle.ldconfig_cli.specs.Status.{Says, count_text, fault_line}
 use Rattle.ldconfig_cli.specs.declared.status.Status.{Status}
 use Rattle.ldconfig_cli.specs.declared.status.Status.TheVariants.{TooMany}

@@ -22,7 +22,7 @@ use Rattle.ldconfig_core.specs.declared.fault.LoadFault.{LoadFault}
 use Rattle.ldconfig_core.specs.declared.fault.LoadFault.TheVariants as loading
 use Rattle.ldconfig_cli.specs.Status.{of_load, of_update}
 use Rattle.ldconfig_cli.specs.declared.status.Status.TheVariants.{DiskFault, TooLarge, TooMany}
-use Rattle.tree_face.specs.Stream.{IsFollowedByPart}
+use Rattle.tree_face.specs.Follows.{IsFollowedByPart}
 use Rattle.ldconfig_cli.specs.Update.{BeginsFiles, CallsAfter, ComesTo, DiskAfter, LeavesItsUpdate, MakesItsCalls, MayHaveWritten, Reports, tag}
 use Rattle.ldconfig_cli.specs.declared.status.Status.{Status}
 

@@ -3,7 +3,8 @@ use Rattle.std.specs.Prelude.{◌≡◌, ◌⊎◌, ℕ, Bool, true, false, List
 use Rattle.lib_types.specs.Counts.{HasRisen}
 use Rattle.tree_face.specs.Disk.{DiskContent, KeepsAll}
 use Rattle.tree_face.specs.Known.{IfKnown, Relates, IsSame}
-use Rattle.tree_face.specs.Stream.{SinkState, IsFollowedBy, IsFollowedByPart}
+use Rattle.tree_face.specs.Follows.{IsFollowedBy, IsFollowedByPart}
+use Rattle.tree_face.specs.Stream.{SinkState}
 use Rattle.cache_reader.specs.Cache.{defect}
 use Rattle.cache_reader.specs.Printed.{printed}
 use Rattle.cache_reader.specs.declared.defect.CacheDefect.{CacheDefect}

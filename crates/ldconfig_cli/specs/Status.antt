@@ -7,7 +7,8 @@ use Rattle.mtree_manifest.specs.declared.fault.LineKind.TheVariants as kinds
 use Rattle.mtree_manifest.specs.declared.fault.ManifestFault.{ManifestFault}
 use Rattle.mtree_manifest.specs.declared.fault.ManifestFault.TheVariants as manifest_faults
 use Rattle.tree_face.specs.Known.{Relates}
-use Rattle.tree_face.specs.Stream.{SinkState, IsFollowedBy, IsFollowedByPart}
+use Rattle.tree_face.specs.Follows.{IsFollowedBy, IsFollowedByPart}
+use Rattle.tree_face.specs.Stream.{SinkState}
 use Rattle.update_report.specs.Lines.{line}
 use Rattle.ldconfig_core.specs.declared.fault.LoadFault.{LoadFault}
 use Rattle.ldconfig_core.specs.declared.fault.LoadFault.TheVariants as loading

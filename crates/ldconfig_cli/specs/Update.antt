@@ -6,7 +6,8 @@ use Rattle.tree_face.specs.declared.disk.Slot.{Slot}
 use Rattle.tree_face.specs.Disk.{DiskContent, KeepsAll}
 use Rattle.tree_face.specs.Known.{IfKnown, Relates, IsSame}
 use Rattle.tree_face.specs.Store.{Contents, StoreState, BeginsAtMost}
-use Rattle.tree_face.specs.Stream.{SinkState, IsFollowedBy, IsFollowedByPart}
+use Rattle.tree_face.specs.Follows.{IsFollowedBy, IsFollowedByPart}
+use Rattle.tree_face.specs.Stream.{SinkState}
 use Rattle.ldconfig_core.specs.Cache.{IsReport, UpdateTexts}
 use Rattle.ldconfig_cli.specs.Devices.{Devices, IfBothKnown}
 use Rattle.ldconfig_core.specs.Manifest.{Manifest, manifest_of, Faulty}

@@ -6,7 +6,7 @@ use Rattle.tree_face.specs.declared.disk.Slot.{Slot}
 use Rattle.tree_face.specs.declared.disk.Slot.TheVariants.{Manifest, Cache, Aux}
 use Rattle.tree_face.specs.Disk.{DiskContent, DiskState, KeepsOthersMade, slot_eq}
 use Rattle.tree_face.specs.Known.{Relates}
-use Rattle.tree_face.specs.Stream.{IsFollowedBy, IsFollowedByPart}
+use Rattle.tree_face.specs.Follows.{IsFollowedBy, IsFollowedByPart}
 use Rattle.ldconfig_core.specs.Replace.{FailsToReplace, KeepsRestMade, MayReplace, Replaces, ReplacesBoth, is_updated}
 
 module _ (tag : ℕ) (cache : List ℕ) where

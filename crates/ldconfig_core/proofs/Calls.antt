@@ -5,7 +5,7 @@ use Rattle.std.specs.Result.{OnErr}
 use Rattle.tree_face.specs.declared.disk.DoneCall.{DoneCall}
 use Rattle.tree_face.specs.Disk.{Adds, MayAdd}
 use Rattle.tree_face.specs.Known.{Relates}
-use Rattle.tree_face.specs.Stream.{IsFollowedBy, IsFollowedByPart}
+use Rattle.tree_face.specs.Follows.{IsFollowedBy, IsFollowedByPart}
 
 module _ (front : List DoneCall) (call : DoneCall) where
   pub grows : (a b c : Option (List DoneCall)) → Relates (IsFollowedBy front) a b → Relates (Adds call) b c → Relates (IsFollowedBy (front ++ call ∷ [])) a c

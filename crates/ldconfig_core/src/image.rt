@@ -3,7 +3,7 @@ ghost use Rattle.std.specs.Prelude.{◌≡◌, ◌⊎◌, ◌≤◌, ℕ, true, 
 ghost use Rattle.lib_types.specs.Counts.{HasRisen};
 ghost use Rattle.tree_face.specs.Known.{IfKnown, Relates};
 ghost use Rattle.tree_face.specs.Store.{BeginsAtMost};
-ghost use Rattle.tree_face.specs.Stream.{IsFollowedBy, IsFollowedByPart};
+ghost use Rattle.tree_face.specs.Follows.{IsFollowedBy, IsFollowedByPart};
 ghost use Rattle.ldconfig_core.specs.Cache.{IsReport};
 ghost use Rattle.ldconfig_core.specs.Faults.{is_of_preparing};
 ghost use Rattle.ldconfig_core.specs.Image.{begun_in, planned_in};

@@ -4,7 +4,7 @@ ghost use Rattle.lib_types.specs.Counts.{HasRisen};
 ghost use Rattle.tree_face.specs.Calls.{replacement};
 ghost use Rattle.tree_face.specs.Disk.{KeepsOthersMade};
 ghost use Rattle.tree_face.specs.Known.{Relates};
-ghost use Rattle.tree_face.specs.Stream.{IsFollowedBy, IsFollowedByPart};
+ghost use Rattle.tree_face.specs.Follows.{IsFollowedBy, IsFollowedByPart};
 ghost use Rattle.ldconfig_core.specs.Replace.{calls_for, manifest_bytes, FailsToReplace, KeepsRestMade, MayReplace, Replaces, ReplacesBoth};
 
 use crate::fault::DiskFault;

@@ -1,13 +1,16 @@
 pub mod Above
 pub mod Below
 pub mod Clear
+pub mod Follows
 pub mod Index
 pub mod Kept
 pub mod KindAt
+pub mod Known
 pub mod Listed
 pub mod Names
 pub mod Order
 pub mod Pairs
 pub mod Rising
 pub mod Runs
+pub mod StoreUse
 pub mod Streams

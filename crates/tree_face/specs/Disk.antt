@@ -9,6 +9,7 @@ use Rattle.tree_face.specs.declared.disk.Slot.{Slot}
 use Rattle.tree_face.specs.declared.disk.Slot.TheVariants.{Manifest, Cache, Aux}
 use Rattle.tree_face.specs.declared.disk.DiskRead.{DiskRead}
 use Rattle.tree_face.specs.declared.disk.DiskRead.TheVariants as disk_read
+use Rattle.tree_face.specs.Follows.{IsFollowedBy, IsFollowedByPart}
 use Rattle.tree_face.specs.Known.{IfKnown, Relates}
 
 abbrev pub Content : Type 0
@@ -51,6 +52,8 @@ pub record DiskState : Type 0 where
   pub made : ℕ → Slot → Bool
   -- the writing calls in their order, if known; one that failed may be missing
   pub calls : Option (List DoneCall)
+  -- the slots that were read in their order, if known; a reading that failed may be missing
+  pub reads : Option (List Slot)
   pub faults : ℕ
   -- how many of the faults were of readings
   pub read_faults : ℕ
@@ -96,25 +99,17 @@ pub record MayPublish (tag : ℕ) (slot : Slot) (a b : DiskContent) : Type 0 whe
   pub slots : (b.now ≡ a.now) ⊎ (b.now ≡ with_slot a.now slot (a.temporary tag slot))
   pub others : KeepsOthers tag slot a.temporary b.temporary
 
--- ---- the list of writing calls
-
--- the call is the last of the list
-abbrev pub Adds : DoneCall → List DoneCall → List DoneCall → Type 0
-Adds call a b = b ≡ a ++ call ∷ []
-
--- a call that failed may be missing
-abbrev pub MayAdd : DoneCall → List DoneCall → List DoneCall → Type 0
-MayAdd call a b = (b ≡ a) ⊎ (b ≡ a ++ call ∷ [])
-
 -- ---- the calls
 
 -- a writing call: what it does to the contents if it returns Ok, and if it returns Failed
 pub record Does (call : DoneCall) (change left : DiskContent → DiskContent → Type 0) (old new : DiskState) (result : Result (Unit {0}) Failed) : Type 0 where
   pub done : OnOk result (Relates change old.contents new.contents)
   pub failed : OnErr result (Relates left old.contents new.contents)
-  pub added : OnOk result (Relates (Adds call) old.calls new.calls)
-  pub may_add : OnErr result (Relates (MayAdd call) old.calls new.calls)
+  pub added : OnOk result (Relates (IsFollowedBy (call ∷ [])) old.calls new.calls)
+  pub may_add : OnErr result (Relates (IsFollowedByPart (call ∷ [])) old.calls new.calls)
+  pub reads : new.reads ≡ old.reads
   pub faults : old.faults ≤ new.faults
+  pub no_fault : OnOk result (new.faults ≡ old.faults)
   pub read_faults : new.read_faults ≡ old.read_faults
   pub cause : OnErr result (HasRisen old.faults new.faults)
 
@@ -136,8 +131,11 @@ pub record KeepsAll (old new : DiskState) : Type 0 where
 pub record ReadsSlot (old new : DiskState) (slot : Slot) (result : Result (Option (Vec ℕ Global)) DiskRead) : Type 0 where
   pub content : IfOk result (λ found. IfKnown old.contents (λ known. option_map (λ v. v.items) found ≡ slot_of known.now slot))
   pub keeps : KeepsAll old new
+  pub reads : OnOk result (Relates (IsFollowedBy (slot ∷ [])) old.reads new.reads)
+  pub may_read : OnErr result (Relates (IsFollowedByPart (slot ∷ [])) old.reads new.reads)
   pub faults : old.faults ≤ new.faults
   pub read_faults : old.read_faults ≤ new.read_faults
-  pub not_counted : IfOk result (λ _. new.read_faults ≡ old.read_faults)
+  pub no_fault : OnOk result ((new.faults ≡ old.faults) × (new.read_faults ≡ old.read_faults))
+  pub no_memory : IsErrOf result disk_read.NoMemory → (new.faults ≡ old.faults) × (new.read_faults ≡ old.read_faults)
   pub cause : IsErrOf result disk_read.Failed → HasRisen old.faults new.faults
   pub counted : IsErrOf result disk_read.Failed → HasRisen old.read_faults new.read_faults

@@ -1,6 +1,7 @@
 pub mod Calls
 pub mod Disk
 pub mod Failures
+pub mod Follows
 pub mod Index
 pub mod Known
 pub mod MemStore
@@ -10,6 +11,7 @@ pub mod Paths
 pub mod Runs
 pub mod SlotFile
 pub mod Store
+pub mod StoreUse
 pub mod Stream
 pub mod SureDisk
 pub mod SureStore

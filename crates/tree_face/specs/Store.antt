@@ -1,8 +1,9 @@
 -- A store: contents under keys, read in pieces, one key at a time.
-use Rattle.std.specs.Prelude.{◌≡◌, ◌⊎◌, ◌≤◌, ◌-◌, ◌++◌, ℕ, min, List, length, take, drop, Option, Some, None, IfSome, Result, IfOk, OnErr, MatchResult}
+use Rattle.std.specs.Prelude.{◌≡◌, ◌⊎◌, ◌≤◌, ◌-◌, ◌++◌, ℕ, min, List, [], ◌∷◌, length, take, drop, Option, Some, None, IfSome, Result, IfOk, OnOk, OnErr, MatchResult}
 use Rattle.lib_types.specs.declared.fault.Failed.{Failed}
 use Rattle.lib_types.specs.Counts.{raised, HasRisen}
-use Rattle.tree_face.specs.Known.{IfKnown}
+use Rattle.tree_face.specs.Known.{IfKnown, Relates}
+use Rattle.tree_face.specs.Follows.{IsFollowedBy, IsFollowedByPart}
 
 -- the bytes under each key that is held
 abbrev pub Contents : Type 0
@@ -19,6 +20,8 @@ pub record StoreState : Type 0 where
   pub faults : ℕ
   -- how many keys were begun
   pub begun : ℕ
+  -- these keys in their order, if known; one that was refused may be missing
+  pub keys : Option (List (List ℕ))
   -- how many bytes were read
   pub taken : ℕ
 
@@ -48,9 +51,12 @@ pub record Begins (old new : StoreState) (key : List ℕ) (result : Result ℕ F
   pub not_held : Lacks old.held key → OnErr result (new.faults ≡ old.faults)
   pub lacking : Lacks old.held key → IfOk result (λ _. ⊥)
   pub begun : MatchResult result (λ _. new.begun ≡ raised old.begun 1) (λ _. new.begun ≤ raised old.begun 1)
+  pub keys : OnOk result (Relates (IsFollowedBy (key ∷ [])) old.keys new.keys)
+  pub keys_refused : OnErr result (Relates (IsFollowedByPart (key ∷ [])) old.keys new.keys)
   pub begun_before : old.begun ≤ new.begun
   pub taken : new.taken ≡ old.taken
   pub faults : old.faults ≤ new.faults
+  pub no_fault : OnOk result (new.faults ≡ old.faults)
   pub cause : OnErr result (HasRisen old.faults new.faults ⊎ Lacks old.held key)
 
 -- the call that reads from an offset of the begun content into the front of a buffer
@@ -63,7 +69,9 @@ pub record Reads (old new : StoreState) (at : ℕ) (before after : List ℕ) (re
   pub bytes : IfOk result (λ n. IfKnown old.content (λ content. after ≡ take n (drop at content) ++ drop n before))
   pub rest : IfOk result (λ n. drop n after ≡ drop n before)
   pub begun : new.begun ≡ old.begun
+  pub keys : new.keys ≡ old.keys
   pub taken : MatchResult result (λ n. new.taken ≡ raised old.taken n) (λ _. new.taken ≤ raised old.taken (length before))
   pub taken_before : old.taken ≤ new.taken
   pub faults : old.faults ≤ new.faults
+  pub no_fault : OnOk result (new.faults ≡ old.faults)
   pub cause : OnErr result (HasRisen old.faults new.faults)

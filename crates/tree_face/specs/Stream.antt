@@ -3,6 +3,7 @@ use Rattle.std.specs.Prelude.{◌≡◌, ◌↔◌, ◌<◌, ◌≤◌, ◌++◌
 use Rattle.lib_types.specs.declared.fault.Failed.{Failed}
 use Rattle.lib_types.specs.Counts.{HasRisen}
 use Rattle.tree_face.specs.Known.{Relates, IsSame}
+use Rattle.tree_face.specs.Follows.{IsFollowedBy, IsFollowedByPart}
 
 pub record SourceState : Type 0 where
   -- what is left to read, if known
@@ -25,15 +26,8 @@ pub record ReadsInput (old new : SourceState) (before after : List ℕ) (result 
   pub done : IfOk result (λ n. Relates (Gives (length before) n after) old.left new.left)
   pub failed : OnErr result (Relates IsSame old.left new.left)
   pub faults : old.faults ≤ new.faults
+  pub no_fault : OnOk result (new.faults ≡ old.faults)
   pub cause : OnErr result (HasRisen old.faults new.faults)
-
--- these items follow what was there
-abbrev pub IsFollowedBy : {A : Type 0} → List A → List A → List A → Type 0
-IsFollowedBy items a b = b ≡ a ++ items
-
--- a prefix of these items, perhaps all or none, follows what was there
-abbrev pub IsFollowedByPart : {A : Type 0} → List A → List A → List A → Type 0
-IsFollowedByPart items a b = (n : ℕ) × (b ≡ a ++ take n items)
 
 -- the call that writes bytes: a prefix of them is taken, or the call failed
 pub record Takes (old new : SinkState) (bytes : List ℕ) (result : Result ℕ Failed) : Type 0 where
@@ -42,6 +36,7 @@ pub record Takes (old new : SinkState) (bytes : List ℕ) (result : Result ℕ F
   pub done : IfOk result (λ n. Relates (IsFollowedBy (take n bytes)) old.written new.written)
   pub failed : OnErr result (Relates IsSame old.written new.written)
   pub faults : old.faults ≤ new.faults
+  pub no_fault : OnOk result (new.faults ≡ old.faults)
   pub cause : OnErr result (HasRisen old.faults new.faults)
 
 -- all of the bytes are written, or a prefix of them and the sink has failed
@@ -49,4 +44,5 @@ pub record TakesAll (old new : SinkState) (bytes : List ℕ) (result : Result (U
   pub done : OnOk result (Relates (IsFollowedBy bytes) old.written new.written)
   pub failed : OnErr result (Relates (IsFollowedByPart bytes) old.written new.written)
   pub faults : old.faults ≤ new.faults
+  pub no_fault : OnOk result (new.faults ≡ old.faults)
   pub cause : OnErr result (HasRisen old.faults new.faults)

@@ -25,11 +25,16 @@ disk_content d = record {
 abbrev pub calls_of : SureDisk → List DoneCall
 calls_of d = d.calls.items
 
+-- the slots that were read
+abbrev pub reads_of : SureDisk → List Slot
+reads_of d = d.reads.items
+
 abbrev pub disk_state : SureDisk → DiskState
 disk_state d = record {
   contents = Some (disk_content d);
   made = λ tag slot. is_some (temporary_in (file_of d slot) tag);
   calls = Some (calls_of d);
+  reads = Some (reads_of d);
   faults = d.faults;
   read_faults = 0;
 }
@@ -39,6 +44,9 @@ failing_disk_content d = disk_content d.disk
 
 abbrev pub failing_calls_of : MemDisk → List DoneCall
 failing_calls_of d = calls_of d.disk
+
+abbrev pub failing_reads_of : MemDisk → List Slot
+failing_reads_of d = reads_of d.disk
 
 abbrev pub failing_disk_state : MemDisk → DiskState
 failing_disk_state d = record (disk_state d.disk) { faults = d.failures.faults; read_faults = d.read_faults }

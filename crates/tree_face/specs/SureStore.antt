@@ -1,5 +1,5 @@
 -- The state of a store in memory that never fails.
-use Rattle.std.specs.Prelude.{length, Some}
+use Rattle.std.specs.Prelude.{length, None, Some}
 use Rattle.std.specs.Option.{option_map}
 use Rattle.tree_face.specs.declared.memory.stores.SureStore.{SureStore}
 use Rattle.tree_face.specs.Memory.{held_in, pair_at}
@@ -15,5 +15,6 @@ state_of s =
       size = option_map length (option_map (λ pair. pair.1) open_pair);
       faults = 0;
       begun = s.begun;
+      keys = None;
       taken = s.taken;
     }

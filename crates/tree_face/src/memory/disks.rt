@@ -1,10 +1,11 @@
 //! Disks in memory.
-ghost use Rattle.std.specs.Prelude.{◌≡◌, [], None, true, false, OnOk, MatchResult, if◌then◌else◌};
+ghost use Rattle.std.specs.Prelude.{◌≡◌, ◌∷◌, [], IfOk, None, true, false, OnOk, MatchResult, if◌then◌else◌};
 ghost use Rattle.std.specs.Option.{option_map};
 ghost use Rattle.std.specs.Result.{is_err};
 ghost use Rattle.lib_types.specs.Counts.{raised};
 ghost use Rattle.tree_face.specs.Calls.{made_call, settling};
-ghost use Rattle.tree_face.specs.Disk.{Adds, Creates, Appends, Keeps, Touches, Publishes, MayPublish, Does, KeepsMade, KeepsOthersMade, ReadsSlot};
+ghost use Rattle.tree_face.specs.Disk.{Creates, Appends, Keeps, Touches, Publishes, MayPublish, Does, KeepsMade, KeepsOthersMade, ReadsSlot, slot_of};
+ghost use Rattle.tree_face.specs.Follows.{IsFollowedBy};
 ghost use Rattle.tree_face.specs.Failures.{FollowsPlan, stopping_after};
 
 use super::failures::Failures;
@@ -21,6 +22,7 @@ pub struct SureDisk {
     cache: SlotFile,
     aux: SlotFile,
     calls: Vec<DoneCall>,
+    reads: Vec<Slot>,
     faults: u64,
 }
 
@@ -33,7 +35,7 @@ pub struct MemDisk {
 }
 
 impl SureDisk {
-    ghost use Rattle.tree_face.specs.SureDisk.{calls_of, disk_state, disk_content};
+    ghost use Rattle.tree_face.specs.SureDisk.{calls_of, reads_of, disk_state, disk_content};
 
     /// A disk whose slots hold these contents.
     pub fn new(
@@ -46,6 +48,7 @@ impl SureDisk {
         ensures cache { (disk_content result).now.cache ≡ option_map (λ v. v.items) cache }
         ensures aux { (disk_content result).now.aux ≡ option_map (λ v. v.items) aux }
         ensures calls { calls_of result ≡ [] }
+        ensures reads { reads_of result ≡ [] }
         ensures faults { (disk_state result).faults ≡ 0 }
     {
         SureDisk {
@@ -54,6 +57,7 @@ impl SureDisk {
             cache: SlotFile::new(alloc, cache),
             aux: SlotFile::new(alloc, aux),
             calls: Vec::new(alloc),
+            reads: Vec::new(alloc),
             faults: 0,
         }
     }
@@ -65,10 +69,28 @@ impl SureDisk {
         &self.calls
     }
 
+    /// The slots that were read, in their order.
+    pub fn reads(&self) -> &[Slot]
+        ensures { result.now ≡ reads_of self.now }
+    {
+        &self.reads
+    }
+
+    // A copy of what a slot holds.
+    fn copy_of(&self, alloc: Global, slot: Slot) -> Result<Option<Vec<u8>>, NoMemory>
+        ensures { IfOk result (λ found. option_map (λ v. v.items) found ≡ slot_of (disk_content self.now).now slot) }
+    {
+        match slot {
+            Slot::Manifest => self.manifest.read(alloc),
+            Slot::Cache => self.cache.read(alloc),
+            Slot::Aux => self.aux.read(alloc),
+        }
+    }
+
     // Adds a writing call to the list.
     fn add_call(&mut self, tag: Tag, slot: Slot, call: Call) -> Result<(), Failed>
         ensures rest { self.new ≡ record self.old { calls = self.new.calls; faults = self.new.faults } }
-        ensures calls { MatchResult result (λ _. Adds (made_call tag slot call) (calls_of self.old) (calls_of self.new))
+        ensures calls { MatchResult result (λ _. IsFollowedBy (made_call tag slot call ∷ []) (calls_of self.old) (calls_of self.new))
             (λ _. calls_of self.new ≡ calls_of self.old) }
         ensures faults { self.new.faults ≡ (if is_err result then raised self.old.faults 1 else self.old.faults) }
     {
@@ -101,14 +123,13 @@ impl Disk for SureDisk {
     ghost state = { disk_state };
 
     fn read(&mut self, alloc: Global, slot: Slot) -> Result<Option<Vec<u8>>, DiskRead> {
-        let found = match slot {
-            Slot::Manifest => self.manifest.read(alloc),
-            Slot::Cache => self.cache.read(alloc),
-            Slot::Aux => self.aux.read(alloc),
+        let found = match self.copy_of(alloc, slot) {
+            Ok(found) => found,
+            Err(NoMemory) => return Err(DiskRead::NoMemory),
         };
-        match found {
-            Ok(content) => Ok(content),
-            Err(NoMemory) => Err(DiskRead::NoMemory),
+        match self.reads.push(slot) {
+            Ok(()) => Ok(found),
+            Err(_) => Err(DiskRead::NoMemory),
         }
     }
 
@@ -154,7 +175,7 @@ impl Disk for SureDisk {
 }
 
 impl MemDisk {
-    ghost use Rattle.tree_face.specs.SureDisk.{failing_calls_of, failing_disk_content, failing_disk_state, disk_plan};
+    ghost use Rattle.tree_face.specs.SureDisk.{failing_calls_of, failing_reads_of, failing_disk_content, failing_disk_state, disk_plan};
 
     /// A disk whose slots hold these contents. The calls with the numbers of `fail` fail, counted from 0 over all calls.
     pub fn new(
@@ -168,6 +189,7 @@ impl MemDisk {
         ensures cache { (failing_disk_content result).now.cache ≡ option_map (λ v. v.items) cache }
         ensures aux { (failing_disk_content result).now.aux ≡ option_map (λ v. v.items) aux }
         ensures calls { failing_calls_of result ≡ [] }
+        ensures reads { failing_reads_of result ≡ [] }
         ensures plan { disk_plan result ≡ record { fail = fail.items; next = 0; left = None } }
         ensures faults { ((failing_disk_state result).faults ≡ 0) × ((failing_disk_state result).read_faults ≡ 0) }
     {
@@ -191,6 +213,13 @@ impl MemDisk {
         ensures { result.now ≡ failing_calls_of self.now }
     {
         self.disk.calls()
+    }
+
+    /// The slots that were read, in their order. One whose reading failed may be among them.
+    pub fn reads(&self) -> &[Slot]
+        ensures { result.now ≡ failing_reads_of self.now }
+    {
+        self.disk.reads()
     }
 
     // Lets a writing call pass if it isn't due to fail.

@@ -1,5 +1,6 @@
 //! Stores in memory.
-ghost use Rattle.std.specs.Prelude.{◌≡◌, ◌<◌, ◌++◌, ◌-◌, ℕ, List, Some, None, IfSome, length, min, take, drop};
+ghost use Rattle.std.specs.Prelude.{◌≡◌, ◌<◌, ◌++◌, ◌∷◌, ◌-◌, ℕ, List, [], Some, None, IfSome, MatchResult, if◌then◌else◌, length, min, take, drop};
+ghost use Rattle.std.specs.Result.{is_err};
 ghost use Rattle.std.specs.Option.{option_map, option_copied};
 ghost use Rattle.std.specs.List.{slice_get, position};
 ghost use Rattle.lib_types.specs.Counts.{raised};
@@ -7,7 +8,8 @@ ghost use Rattle.tree_face.specs.Memory.{held_in, is_under};
 
 use super::failures::Failures;
 use crate::Store;
-use lib_types::{Failed, Text};
+use lib_types::{Failed, NoMemory, Text, Texts};
+use std::alloc::Global;
 
 /// A store that holds pairs of a key and a content, and fails only for a key that it doesn't hold. Of a key that
 /// occurs twice the first pair counts.
@@ -19,10 +21,12 @@ pub struct SureStore {
     taken: u64,
 }
 
-/// A store in memory whose calls fail on demand.
+/// A store in memory whose calls fail on demand. It keeps the keys that were begun, and a call fails if it is out of memory for that.
 #[derive(Drop)]
 pub struct MemStore {
+    alloc: Global,
     store: SureStore,
+    keys: Texts,
     failures: Failures,
 }
 
@@ -134,17 +138,50 @@ impl Store for SureStore {
     }
 }
 
+// Adds a copy of a text to a list.
+fn copy_into(alloc: Global, texts: &mut Texts, text: &[u8]) -> Result<(), NoMemory>
+    ensures { MatchResult result (λ _. texts.new ≡ texts.old ++ text.now ∷ []) (λ _. texts.new ≡ texts.old) }
+{
+    let copy = Text::copy_of(alloc, text)?;
+    texts.push(copy)
+}
+
 impl MemStore {
-    ghost use Rattle.tree_face.specs.MemStore.{failing_state_of};
+    ghost use Rattle.tree_face.specs.MemStore.{failing_state_of, keys_of};
 
     /// A store that holds these pairs. The calls with the numbers of `fail` fail, counted from 0 over all of its calls.
-    pub fn new(held: Vec<(Text, Text)>, fail: Vec<u64>) -> MemStore
+    pub fn new(alloc: Global, held: Vec<(Text, Text)>, fail: Vec<u64>) -> MemStore
         ensures held { (failing_state_of result).held ≡ Some (held_in held.items) }
         ensures counts { ((failing_state_of result).begun ≡ 0) × ((failing_state_of result).taken ≡ 0) × ((failing_state_of result).faults ≡ 0) }
+        ensures keys { (failing_state_of result).keys ≡ Some [] }
     {
         MemStore {
+            alloc,
             store: SureStore::new(held),
+            keys: Texts::new(alloc),
             failures: Failures::new(fail),
+        }
+    }
+
+    /// The keys that were begun. One that was refused may be among them.
+    pub fn keys(&self) -> &Texts
+        ensures { (failing_state_of self.now).keys ≡ Some result.now }
+    {
+        &self.keys
+    }
+
+    // Adds a key to the list, or counts a fault.
+    fn add_key(&mut self, key: &[u8]) -> Result<(), Failed>
+        ensures store { self.new.store ≡ self.old.store }
+        ensures keys { MatchResult result (λ _. keys_of self.new ≡ keys_of self.old ++ key.now ∷ []) (λ _. keys_of self.new ≡ keys_of self.old) }
+        ensures faults { self.new.failures.faults ≡ (if is_err result then raised self.old.failures.faults 1 else self.old.failures.faults) }
+    {
+        match copy_into(self.alloc, &mut self.keys, key) {
+            Ok(()) => Ok(()),
+            Err(NoMemory) => {
+                self.failures.add_fault();
+                Err(Failed)
+            }
         }
     }
 
@@ -167,6 +204,10 @@ impl Store for MemStore {
         if due {
             self.store.close();
             self.failures.add_fault();
+            return Err(Failed);
+        }
+        if self.add_key(key).is_err() {
+            self.store.close();
             return Err(Failed);
         }
         Ok(size)

@@ -1,6 +1,6 @@
 use Rattle.std.proofs.Common.{Err, inl, inr, ap, refl, ◌∙◌, rules}
 use Rattle.tree_face.specs.Disk.{DiskState}
-use Rattle.tree_face.specs.Stream.{IsFollowedBy, IsFollowedByPart}
+use Rattle.tree_face.specs.Follows.{IsFollowedBy, IsFollowedByPart}
 use Rattle.ldconfig_core.specs.Outcome as outcomes
 use Rattle.ldconfig_cli.proofs.Lacking.{lacks_file, refused_text}
 use Rattle.ldconfig_cli.proofs.Slots.{begins_files, comes_to, leaves_update, makes_calls, makes_part, may_leave_update, large_of, many_of, refused_calls, refused_disk, unloaded_calls, unloaded_disk}

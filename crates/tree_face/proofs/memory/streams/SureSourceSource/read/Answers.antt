@@ -1,4 +1,4 @@
-use Rattle.std.proofs.Common.{arith}
+use Rattle.std.proofs.Common.{arith, refl}
 use Rattle.tree_face.proofs.Streams.{gives_part}
 use Rattle.tree_face.proofs.memory.streams.SureSourceSource.read.Goals as goal
 
@@ -8,5 +8,6 @@ returns c = record {
   done = gives_part _ _ _ _ _ (rw c.deref.ensures.value at c.copy_from-count.ensures.count) c.args.self.now.within (rw c.deref.ensures.value at c.copy_from-count.ensures.bytes);
   failed = tt;
   faults = omega arith;
+  no_fault = refl;
   cause = tt;
 }

@@ -1,0 +1,74 @@
+-- Calls that read files, one after another.
+use Rattle.std.proofs.Common.{◌≡◌, ℕ, ◌+◌, ◌≤◌, List, ◌++◌, Some, inl, inr, arith, ◌∙◌}
+use Rattle.std.proofs.lemmas.List.{length-append}
+use Rattle.lib_types.specs.Counts.{raised}
+use Rattle.tree_face.specs.Follows.{IsFollowedBy}
+use Rattle.tree_face.specs.Store.{StoreState}
+use Rattle.tree_face.specs.StoreUse.{Ending, Complete, StoreFailed, GaveUp, BeginsKeys, HasCause, ReadsFiles}
+use Rattle.tree_face.proofs.Follows.{follow, follow_part, part_of}
+use Rattle.tree_face.proofs.Known.{relates_on, relates_by}
+
+pub raised-add : (a b c n m : ℕ) → b ≤ raised a n → c ≤ raised b m → c ≤ raised a (n + m)
+raised-add a b c n m first next = omega (arith, first, next)
+
+pub raised-mono : (a b n m : ℕ) → n ≤ m → b ≤ raised a n → b ≤ raised a m
+raised-mono a b n m more first = omega (arith, more, first)
+
+module _ (ks1 ks2 : List (List ℕ)) where
+  keys_on : (e : Ending) (a b c : List (List ℕ)) → IsFollowedBy ks1 a b → BeginsKeys e ks2 b c → BeginsKeys e (ks1 ++ ks2) a c
+  keys_on Complete a b c = follow ks1 ks2 a b c
+  keys_on StoreFailed a b c = follow_part ks1 ks2 a b c
+  keys_on GaveUp a b c = follow_part ks1 ks2 a b c
+
+  -- more faults before a call that fails, none before another
+  cause_on : (l1 l2 l : Type 0) (e : Ending) (a b c : ℕ) → (l2 → l) → b ≡ a → HasCause l2 e b c → HasCause l e a c
+  cause_on l1 l2 l Complete a b c f none last = last ∙ none
+  cause_on l1 l2 l StoreFailed a b c f none (inl risen) = inl (rw (← none) risen)
+  cause_on l1 l2 l StoreFailed a b c f none (inr lacks) = inr (f lacks)
+  cause_on l1 l2 l GaveUp a b c f none last = last ∙ none
+
+  -- a call that reads all of its files, and then another one
+  pub reads_on : (l1 l2 l : Type 0) (m1 m2 : ℕ) (e : Ending) (a b c : StoreState) → (l2 → l) →
+      ReadsFiles l1 (Some ks1) (Some m1) Complete a b → ReadsFiles l2 (Some ks2) (Some m2) e b c → ReadsFiles l (Some (ks1 ++ ks2)) (Some (m1 + m2)) e a c
+  reads_on l1 l2 l m1 m2 e a b c f first next = record {
+    held = next.held ∙ first.held;
+    begins = relates_on _ _ _ (keys_on e) _ _ _ first.begins next.begins;
+    begun = rw (length-append ks1 ks2) (raised-add _ _ _ _ _ first.begun next.begun);
+    begun_before = omega (arith, first.begun_before, next.begun_before);
+    taken = raised-add _ _ _ _ _ first.taken next.taken;
+    taken_before = omega (arith, first.taken_before, next.taken_before);
+    faults = omega (arith, first.faults, next.faults);
+    cause = cause_on l1 l2 l e _ _ _ f first.cause next.cause;
+  }
+
+-- the call doesn't read all of its files
+abbrev pub IsPartial : Ending → Type 0
+IsPartial Complete = ⊥
+IsPartial StoreFailed = Unit {0}
+IsPartial GaveUp = Unit {0}
+
+module _ (ks1 ks2 : List (List ℕ)) where
+  keys_part : (e : Ending) (a b : List (List ℕ)) → IsPartial e → BeginsKeys e ks1 a b → BeginsKeys e (ks1 ++ ks2) a b
+  keys_part Complete a b partial = absurd partial
+  keys_part StoreFailed a b partial = part_of ks1 ks2 a b
+  keys_part GaveUp a b partial = part_of ks1 ks2 a b
+
+  cause_part : (l1 l : Type 0) (e : Ending) (a b : ℕ) → (l1 → l) → HasCause l1 e a b → HasCause l e a b
+  cause_part l1 l Complete a b f last = last
+  cause_part l1 l StoreFailed a b f (inl risen) = inl risen
+  cause_part l1 l StoreFailed a b f (inr lacks) = inr (f lacks)
+  cause_part l1 l GaveUp a b f last = last
+
+  -- a call that doesn't read all of the first files reads none of those behind them
+  pub reads_part : (l1 l : Type 0) (m1 m2 : ℕ) (e : Ending) (a b : StoreState) → (l1 → l) → IsPartial e →
+      ReadsFiles l1 (Some ks1) (Some m1) e a b → ReadsFiles l (Some (ks1 ++ ks2)) (Some (m1 + m2)) e a b
+  reads_part l1 l m1 m2 e a b f partial first = record {
+    held = first.held;
+    begins = relates_by _ _ (λ x y. keys_part e x y partial) _ _ first.begins;
+    begun = rw (length-append ks1 ks2) (raised-mono _ _ _ _ (omega arith) first.begun);
+    begun_before = first.begun_before;
+    taken = raised-mono _ _ _ _ (omega arith) first.taken;
+    taken_before = first.taken_before;
+    faults = first.faults;
+    cause = cause_part l1 l e _ _ f first.cause;
+  }
