@@ -1,12 +1,14 @@
 -- Calls that read files, one after another.
-use Rattle.std.proofs.Common.{◌≡◌, ℕ, ◌+◌, ◌≤◌, List, ◌++◌, Some, inl, inr, arith, ◌∙◌}
-use Rattle.std.proofs.lemmas.List.{length-append}
+use Rattle.std.proofs.Common.{◌≡◌, ℕ, ◌+◌, ◌≤◌, List, [], ◌++◌, length, Option, Some, None, inl, inr, arith, refl, sym, ◌∙◌}
+use Rattle.std.proofs.lemmas.List.{append-nil, length-append}
+use Rattle.std.specs.Prelude.{IfSome}
 use Rattle.lib_types.specs.Counts.{raised}
 use Rattle.tree_face.specs.Follows.{IsFollowedBy}
 use Rattle.tree_face.specs.Store.{StoreState}
 use Rattle.tree_face.specs.StoreUse.{Ending, Complete, StoreFailed, GaveUp, BeginsKeys, HasCause, ReadsFiles}
 use Rattle.tree_face.proofs.Follows.{follow, follow_part, part_of}
 use Rattle.tree_face.proofs.Known.{relates_on, relates_by}
+use Rattle.tree_face.specs.Known.{Relates}
 
 pub raised-add : (a b c n m : ℕ) → b ≤ raised a n → c ≤ raised b m → c ≤ raised a (n + m)
 raised-add a b c n m first next = omega (arith, first, next)
@@ -72,3 +74,103 @@ module _ (ks1 ks2 : List (List ℕ)) where
     faults = first.faults;
     cause = cause_part l1 l e _ _ f first.cause;
   }
+
+-- ---- the same where keys or numbers may not be known
+
+-- both lists, if both are known
+abbrev pub joined : {A : Type 0} → Option (List A) → Option (List A) → Option (List A)
+joined (Some xs) (Some ys) = Some (xs ++ ys)
+joined (Some xs) None = None
+joined None ys = None
+
+abbrev pub summed : Option ℕ → Option ℕ → Option ℕ
+summed (Some n) (Some m) = Some (n + m)
+summed (Some n) None = None
+summed None m = None
+
+abbrev IfBegins : Ending → Option (List (List ℕ)) → StoreState → StoreState → Type 0
+IfBegins e keys old new = IfSome keys (λ keys. Relates (BeginsKeys e keys) old.keys new.keys)
+
+abbrev IfBegun : Option (List (List ℕ)) → StoreState → StoreState → Type 0
+IfBegun keys old new = IfSome keys (λ keys. new.begun ≤ raised old.begun (length keys))
+
+abbrev IfTaken : Option ℕ → StoreState → StoreState → Type 0
+IfTaken most old new = IfSome most (λ n. new.taken ≤ raised old.taken n)
+
+module _ (e : Ending) (a b c : StoreState) where
+  begins_then : (k1 k2 : Option (List (List ℕ))) → IfBegins Complete k1 a b → IfBegins e k2 b c → IfBegins e (joined k1 k2) a c
+  begins_then None k2 first next = tt
+  begins_then (Some x) None first next = tt
+  begins_then (Some x) (Some y) first next = relates_on _ _ _ (keys_on x y e) _ _ _ first next
+
+  begun_then : (k1 k2 : Option (List (List ℕ))) → IfBegun k1 a b → IfBegun k2 b c → IfBegun (joined k1 k2) a c
+  begun_then None k2 first next = tt
+  begun_then (Some x) None first next = tt
+  begun_then (Some x) (Some y) first next = rw (length-append x y) (raised-add _ _ _ _ _ first next)
+
+  taken_then : (m1 m2 : Option ℕ) → IfTaken m1 a b → IfTaken m2 b c → IfTaken (summed m1 m2) a c
+  taken_then None m2 first next = tt
+  taken_then (Some x) None first next = tt
+  taken_then (Some x) (Some y) first next = raised-add _ _ _ _ _ first next
+
+  pub reads_then : (l1 l2 l : Type 0) (k1 k2 : Option (List (List ℕ))) (m1 m2 : Option ℕ) → (l2 → l) →
+      ReadsFiles l1 k1 m1 Complete a b → ReadsFiles l2 k2 m2 e b c → ReadsFiles l (joined k1 k2) (summed m1 m2) e a c
+  reads_then l1 l2 l k1 k2 m1 m2 f first next = record {
+    held = next.held ∙ first.held;
+    begins = begins_then k1 k2 first.begins next.begins;
+    begun = begun_then k1 k2 first.begun next.begun;
+    begun_before = omega (arith, first.begun_before, next.begun_before);
+    taken = taken_then m1 m2 first.taken next.taken;
+    taken_before = omega (arith, first.taken_before, next.taken_before);
+    faults = omega (arith, first.faults, next.faults);
+    cause = cause_on [] [] l1 l2 l e _ _ _ f first.cause next.cause;
+  }
+
+module _ (e : Ending) (a b : StoreState) (partial : IsPartial e) where
+  begins_early : (k1 k2 : Option (List (List ℕ))) → IfBegins e k1 a b → IfBegins e (joined k1 k2) a b
+  begins_early None k2 first = tt
+  begins_early (Some x) None first = tt
+  begins_early (Some x) (Some y) first = relates_by _ _ (λ u v. keys_part x y e u v partial) _ _ first
+
+  begun_early : (k1 k2 : Option (List (List ℕ))) → IfBegun k1 a b → IfBegun (joined k1 k2) a b
+  begun_early None k2 first = tt
+  begun_early (Some x) None first = tt
+  begun_early (Some x) (Some y) first = rw (length-append x y) (raised-mono _ _ _ _ (omega arith) first)
+
+  taken_early : (m1 m2 : Option ℕ) → IfTaken m1 a b → IfTaken (summed m1 m2) a b
+  taken_early None m2 first = tt
+  taken_early (Some x) None first = tt
+  taken_early (Some x) (Some y) first = raised-mono _ _ _ _ (omega arith) first
+
+  pub reads_early : (l1 l : Type 0) (k1 k2 : Option (List (List ℕ))) (m1 m2 : Option ℕ) → (l1 → l) →
+      ReadsFiles l1 k1 m1 e a b → ReadsFiles l (joined k1 k2) (summed m1 m2) e a b
+  reads_early l1 l k1 k2 m1 m2 f first = record {
+    held = first.held;
+    begins = begins_early k1 k2 first.begins;
+    begun = begun_early k1 k2 first.begun;
+    begun_before = first.begun_before;
+    taken = taken_early m1 m2 first.taken;
+    taken_before = first.taken_before;
+    faults = first.faults;
+    cause = cause_part [] [] l1 l e _ _ f first.cause;
+  }
+
+-- a call that reads nothing
+pub reads_none : (a b : StoreState) (n : ℕ) → b ≡ a → ReadsFiles ⊥ (Some []) (Some n) Complete a b
+reads_none a b n same = rw same (none a)
+  where
+    none : (s : StoreState) → ReadsFiles ⊥ (Some []) (Some n) Complete s s
+    none s = record {
+      held = refl;
+      begins = unchanged s.keys;
+      begun = omega arith;
+      begun_before = omega arith;
+      taken = omega arith;
+      taken_before = omega arith;
+      faults = omega arith;
+      cause = refl;
+    }
+      where
+        unchanged : (keys : Option (List (List ℕ))) → Relates (BeginsKeys Complete []) keys keys
+        unchanged None = tt
+        unchanged (Some keys) = sym (append-nil keys)
