@@ -1,11 +1,18 @@
 //! The files that are read.
-ghost use Rattle.std.specs.Prelude.{◌≡◌, ◌⊎◌, ◌≤◌, ◌+◌, ◌-◌, [], None, true, length, IsErrOf, IsTrue, IsSomeAnd, OnOk};
+ghost use Rattle.std.specs.Prelude.{◌≡◌, ◌+◌, ◌∷◌, ◌||◌, ◌&&◌, ℕ, List, [], None, true, false, length, IfOk, IsTrue, OnOk};
+ghost use Rattle.std.specs.Cmp.Lexicographic.{slice_cmp};
+ghost use Rattle.std.specs.List.{list_any};
+ghost use Rattle.std.specs.List.Sorted.{IsStrictlySortedBy};
+ghost use Rattle.std.specs.Map.{keys_of};
 ghost use Rattle.std.specs.Option.{option_copied};
-ghost use Rattle.lib_types.specs.Counts.{HasRisen};
+ghost use Rattle.std.specs.Ordering.{nat_cmp};
+ghost use Rattle.std.specs.Str.{bytes_eq};
+ghost use Rattle.elf_dynamic.specs.Faults.{analyse_ending};
+ghost use Rattle.place_files.specs.Analyses.{KeepsAnalyses, has_name};
+ghost use Rattle.place_files.specs.Table.{analysis_at, with_analysis};
 ghost use Rattle.tree_face.specs.Known.{IfKnown};
-ghost use Rattle.tree_face.specs.Store.{BeginsAtMost};
-ghost use Rattle.place_files.specs.Table.{has_name, with_analysis, KeepsAnalyses};
-ghost use Rattle.file_analyses.specs.Files.{seen, unread_key, with_file, with_files, AreRead};
+ghost use Rattle.file_analyses.specs.Files.{AreRead, AreRight, ReadsKeys, lacks_one, unread_key, unread_keys};
+ghost use Rattle.file_analyses.specs.Reading.{ReadsOne};
 
 use elf_dynamic::{AnalyseFault, analyse};
 use lib_types::{Analysis, NoMemory, Text, Texts};
@@ -37,7 +44,7 @@ impl Files {
 
 // The key of a file that has no analysis yet.
 fn unread_key<'a>(tree: &'a Tree, table: &Table, path: &[u8]) -> Option<&'a [u8]>
-    ensures { option_copied result ≡ unread_key tree.now table.now path.now }
+    ensures { option_copied result ≡ unread_key tree.now (analysis_at table.now) path.now }
 {
     if table.get(path).is_some() {
         return None;
@@ -61,7 +68,6 @@ fn add(alloc: Global, files: &mut Files, path: &[u8], analysis: Analysis) -> Res
 }
 
 // Reads a file that has no analysis yet.
-#[tactic(auto, using(crate::proofs::Kept::kept_with, crate::proofs::Kept::had_none, crate::proofs::Kept::read_then))]
 fn read_file<S: Store>(
     alloc: Global,
     tree: &Tree,
@@ -69,18 +75,8 @@ fn read_file<S: Store>(
     path: &[u8],
     files: &mut Files,
 ) -> Result<(), AnalyseFault>
-    ensures read { OnOk result (IfKnown (S.state store.old).held (λ held. seen files.new ≡ with_file held tree.now (seen files.old) path.now)) }
-    ensures cause { IsErrOf result AnalyseFault.StoreFault → HasRisen (S.state store.old).faults (S.state store.new).faults
-        ⊎ IsSomeAnd (S.state store.old).held (λ held. (with_file held tree.now (seen files.old) path.now).lacks ≡ true) }
-    ensures kept { OnOk result (KeepsAnalyses files.old.table files.new.table) }
-    ensures none_left { OnOk result (unread_key tree.now files.new.table path.now ≡ None) }
-    ensures held { (S.state store.new).held ≡ (S.state store.old).held }
-    ensures faults { (S.state store.old).faults ≤ (S.state store.new).faults }
-    ensures count { OnOk result (files.old.begun ≤ files.new.begun) }
-    ensures begun { OnOk result (BeginsAtMost (files.new.begun - files.old.begun) (S.state store.old) (S.state store.new)) }
-    ensures begun_one { BeginsAtMost 1 (S.state store.old) (S.state store.new) }
-    ensures begun_first { IfKnown (S.state store.old).held
-        (λ held. BeginsAtMost ((with_file held tree.now (seen files.old) path.now).begun - files.old.begun) (S.state store.old) (S.state store.new)) }
+    ensures one { OnOk result (ReadsOne tree.now path.now (S.state store.old).held files.old files.new) }
+    ensures reads { ReadsKeys (unread_keys tree.now (analysis_at files.old.table) (path.now ∷ [])) (analyse_ending result) (S.state store.old) (S.state store.new) }
 {
     let Some(key) = unread_key(tree, &files.table, path) else {
         return Ok(());
@@ -92,8 +88,7 @@ fn read_file<S: Store>(
     }
 }
 
-/// Reads the files at these paths, in their order, each that has no analysis yet.
-#[tactic(auto, using(crate::proofs::Rising::begun_all, crate::proofs::Kept::none_read, crate::proofs::Kept::all_read))]
+/// Reads the files at these paths, in their order, each that has no analysis yet. The paths stand in the order of their bytes, each once.
 pub fn read_files<S: Store>(
     alloc: Global,
     tree: &Tree,
@@ -101,18 +96,17 @@ pub fn read_files<S: Store>(
     paths: &Texts,
     files: &mut Files,
 ) -> Result<(), AnalyseFault>
-    ensures read { OnOk result (IfKnown (S.state store.old).held (λ held. seen files.new ≡ with_files held tree.now (seen files.old) paths.now)) }
-    ensures cause { IsErrOf result AnalyseFault.StoreFault → HasRisen (S.state store.old).faults (S.state store.new).faults
-        ⊎ IsSomeAnd (S.state store.old).held (λ held. (with_files held tree.now (seen files.old) paths.now).lacks ≡ true) }
-    ensures kept { OnOk result (KeepsAnalyses files.old.table files.new.table) }
-    ensures all { OnOk result (AreRead tree.now files.new.table paths.now) }
-    ensures held { (S.state store.new).held ≡ (S.state store.old).held }
-    ensures faults { (S.state store.old).faults ≤ (S.state store.new).faults }
-    ensures count { OnOk result (files.old.begun ≤ files.new.begun) }
-    ensures begun { OnOk result (BeginsAtMost (files.new.begun - files.old.begun) (S.state store.old) (S.state store.new)) }
-    ensures begun_at_most { BeginsAtMost (length paths.now) (S.state store.old) (S.state store.new) }
-    ensures begun_first { IfKnown (S.state store.old).held
-        (λ held. BeginsAtMost ((with_files held tree.now (seen files.old) paths.now).begun - files.old.begun) (S.state store.old) (S.state store.new)) }
+    requires sorted { IsStrictlySortedBy (slice_cmp nat_cmp) paths.now }
+    ensures right { OnOk result (IfKnown (S.state store.old).held
+        (λ held. AreRight held tree.now (analysis_at files.old.table) → AreRight held tree.now (analysis_at files.new.table))) }
+    ensures kept { OnOk result (KeepsAnalyses (analysis_at files.old.table) (analysis_at files.new.table)) }
+    ensures all { OnOk result (AreRead tree.now (analysis_at files.new.table) paths.now) }
+    ensures only { OnOk result ((path : List ℕ) → list_any (bytes_eq path) (keys_of files.new.table) ≡ true →
+        (list_any (bytes_eq path) (keys_of files.old.table) || list_any (bytes_eq path) paths.now) ≡ true) }
+    ensures begun { OnOk result (files.new.begun ≡ files.old.begun + length (unread_keys tree.now (analysis_at files.old.table) paths.now)) }
+    ensures none_lacks { OnOk result (IfKnown (S.state store.old).held
+        (λ held. lacks_one held (unread_keys tree.now (analysis_at files.old.table) paths.now) ≡ false)) }
+    ensures reads { ReadsKeys (unread_keys tree.now (analysis_at files.old.table) paths.now) (analyse_ending result) (S.state store.old) (S.state store.new) }
 {
     for path in paths.as_slice() {
         read_file(alloc, tree, store, path.as_bytes(), files)?;

@@ -6,7 +6,7 @@ use Rattle.lib_types.specs.Counts.{raised}
 use Rattle.tree_face.specs.Follows.{IsFollowedBy}
 use Rattle.tree_face.specs.Store.{StoreState}
 use Rattle.tree_face.specs.StoreUse.{Ending, Complete, StoreFailed, GaveUp, BeginsKeys, HasCause, ReadsFiles}
-use Rattle.tree_face.proofs.Follows.{follow, follow_part, part_of}
+use Rattle.tree_face.proofs.Follows.{follow, follow_part, part_of, part_whole}
 use Rattle.tree_face.proofs.Known.{relates_on, relates_by}
 use Rattle.tree_face.specs.Known.{Relates}
 
@@ -174,3 +174,34 @@ reads_none a b n same = rw same (none a)
         unchanged : (keys : Option (List (List ℕ))) → Relates (BeginsKeys Complete []) keys keys
         unchanged None = tt
         unchanged (Some keys) = sym (append-nil keys)
+
+module _ (k : Option (List (List ℕ))) (m : Option ℕ) (a b : StoreState) where
+  -- a file that isn't held, in other words
+  pub reads_as : (l1 l : Type 0) (e : Ending) → (l1 → l) → ReadsFiles l1 k m e a b → ReadsFiles l k m e a b
+  reads_as l1 l e f reads = record {
+    held = reads.held;
+    begins = reads.begins;
+    begun = reads.begun;
+    begun_before = reads.begun_before;
+    taken = reads.taken;
+    taken_before = reads.taken_before;
+    faults = reads.faults;
+    cause = cause_part [] [] l1 l e _ _ f reads.cause;
+  }
+
+  parts : (keys : Option (List (List ℕ))) → IfBegins Complete keys a b → IfBegins GaveUp keys a b
+  parts None begins = tt
+  parts (Some keys) begins = relates_by _ _ (λ x y. part_whole keys x y) _ _ begins
+
+  -- all files were read before the call gives up
+  pub reads_all : (l : Type 0) → ReadsFiles l k m Complete a b → ReadsFiles l k m GaveUp a b
+  reads_all l reads = record {
+    held = reads.held;
+    begins = parts k reads.begins;
+    begun = reads.begun;
+    begun_before = reads.begun_before;
+    taken = reads.taken;
+    taken_before = reads.taken_before;
+    faults = reads.faults;
+    cause = reads.cause;
+  }
