@@ -1,18 +1,16 @@
 -- The keys that are begun, file by file.
-use Rattle.std.proofs.Common.{◌≡◌, ◌+◌, ◌||◌, ◌++◌, ℕ, Bool, true, false, cond, List, [], ◌∷◌, Option, Some, None, map, sum, refl, ap, sym, subst, ◌∙◌, arith}
-use Rattle.std.proofs.lemmas.List.{append-nil, map-append}
+use Rattle.std.proofs.Common.{◌≡◌, ◌+◌, ◌||◌, ◌++◌, ℕ, Bool, true, false, cond, List, [], ◌∷◌, Option, Some, None, refl, ap, sym, subst, ◌∙◌, arith}
 use Rattle.std.proofs.lemmas.List.Folds.{list_any-append}
-use Rattle.std.proofs.lemmas.List.Sums.{sum-append}
+use Rattle.std.proofs.lemmas.List.Sums.{sum_by-append}
 use Rattle.std.specs.List.{list_any}
 use Rattle.std.specs.Option.{is_none, option_map}
-use Rattle.std.specs.Prelude.{IsSomeAnd}
 use Rattle.elf_dynamic.specs.Taken.{most_known, most_under}
 use Rattle.lib_types.proofs.SortedPairs.{by_test}
-use Rattle.tree_face.proofs.StoreUse.{IsPartial, joined, summed, reads_early, reads_then}
+use Rattle.tree_face.proofs.StoreUse.{IsPartial, summed, reads_as, reads_early, reads_then}
 use Rattle.tree_face.specs.Known.{IfKnown}
 use Rattle.tree_face.specs.Store.{Contents, StoreState, Lacks}
 use Rattle.tree_face.specs.StoreUse.{Ending, Complete, ReadsFiles}
-use Rattle.file_analyses.specs.Files.{ReadsKeys, is_lacking, lacks_one, most_known_of, most_of, until_known, until_lacking}
+use Rattle.file_analyses.specs.Files.{LacksOne, ReadsBy, is_lacking, lacks_one, most_known_of, most_of, until_known, until_lacking}
 
 -- ---- up to and with the first key that isn't held
 
@@ -27,7 +25,7 @@ module _ (held : Contents) where
       (λ e. rw (e, e, e) (ap (λ l. key ∷ l) (until_append ks more)))
 
   most_append : (xs ys : List (List ℕ)) → most_of held (xs ++ ys) ≡ most_of held xs + most_of held ys
-  most_append xs ys = ap sum (map-append (most_under held) xs ys) ∙ sum-append (map (most_under held) xs) (map (most_under held) ys)
+  most_append xs ys = sum_by-append (most_under held) xs ys
 
   lacks_later : (ks more : List (List ℕ)) → lacks_one held more ≡ true → lacks_one held (ks ++ more) ≡ true
   lacks_later ks more e = list_any-append (is_lacking held) ks more ∙ later (lacks_one held ks) (lacks_one held more) e
@@ -61,14 +59,6 @@ rest_held (Some held) ks more e = ap (λ b. cond b [] (until_lacking held more))
 summed_known : (known : Option Contents) (xs ys : List (List ℕ)) → summed (most_known_of known xs) (most_known_of known ys) ≡ most_known_of known (xs ++ ys)
 summed_known None xs ys = refl
 summed_known (Some held) xs ys = ap Some (sym (most_append held xs ys))
-
-abbrev LacksOne : Option Contents → List (List ℕ) → Type 0
-LacksOne known keys = IsSomeAnd known (λ held. lacks_one held keys ≡ true)
-
--- the reading of keys in a store that holds this
-abbrev pub ReadsBy : Option Contents → List (List ℕ) → Ending → StoreState → StoreState → Type 0
-ReadsBy known keys ending old new =
-    ReadsFiles (LacksOne known keys) (Some (until_known known keys)) (most_known_of known (until_known known keys)) ending old new
 
 later_known : (known : Option Contents) (ks more : List (List ℕ)) → LacksOne known more → LacksOne known (ks ++ more)
 later_known None ks more e = e
@@ -117,7 +107,4 @@ pub one_key : (known : Option Contents) (key : List ℕ) (e : Ending) (a b : Sto
 one_key known key e a b reads =
     let keys = one_until known key in
     subst (λ l. ReadsFiles (LacksOne known (key ∷ [])) (Some l) (most_known_of known l) e a b) (sym keys)
-    (rw (one_most known key) at (with_lacks e (one_lacks known key) reads))
-  where
-    with_lacks : {k : Option (List (List ℕ))} {m : Option ℕ} (e : Ending) → (Lacks known key → LacksOne known (key ∷ [])) → ReadsFiles (Lacks known key) k m e a b → ReadsFiles (LacksOne known (key ∷ [])) k m e a b
-    with_lacks e f reads = ?
+    (rw (one_most known key) at (reads_as _ _ a b (Lacks known key) (LacksOne known (key ∷ [])) e (one_lacks known key) reads))

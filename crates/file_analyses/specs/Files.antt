@@ -63,10 +63,17 @@ most_of held keys = sum_by (most_under held) keys
 abbrev pub most_known_of : Option Contents → List (List ℕ) → Option ℕ
 most_known_of held keys = option_map (λ held. most_of held keys) held
 
--- the keys are begun in their order, up to and with the first that isn't held
+-- one of these keys isn't held
+abbrev pub LacksOne : Option Contents → List (List ℕ) → Type 0
+LacksOne known keys = IsSomeAnd known (λ held. lacks_one held keys ≡ true)
+
+-- In a store that holds this, the keys are begun in their order, up to and with the first that isn't held.
+abbrev pub ReadsBy : Option Contents → List (List ℕ) → Ending → StoreState → StoreState → Type 0
+ReadsBy known keys ending old new =
+    ReadsFiles (LacksOne known keys) (Some (until_known known keys)) (most_known_of known (until_known known keys)) ending old new
+
 abbrev pub ReadsKeys : List (List ℕ) → Ending → StoreState → StoreState → Type 0
-ReadsKeys keys ending old new =
-    ReadsFiles (IsSomeAnd old.held (λ held. lacks_one held keys ≡ true)) (Some (until_known old.held keys)) (most_known_of old.held (until_known old.held keys)) ending old new
+ReadsKeys keys ending old new = ReadsBy old.held keys ending old new
 
 -- ---- what is left when files were read
 
