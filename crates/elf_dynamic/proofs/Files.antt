@@ -3,6 +3,7 @@ use Rattle.std.proofs.Common.{◌≡◌, ℕ, ◌+◌, ◌*◌, ◌≤◌, Bool,
 use Rattle.lib_types.specs.declared.analysis.Defect.{Defect}
 use Rattle.lib_types.specs.declared.analysis.Defect.TheVariants.{DynOutside}
 use Rattle.tree_face.specs.Store.{StoreState}
+use Rattle.tree_face.specs.StoreUse.{Ending}
 use Rattle.elf_headers.specs.declared.kinds.Head.{Head}
 use Rattle.elf_headers.specs.Layout.{word_size}
 use Rattle.elf_headers.specs.Reading.{known_content, OfKnown, OnlyReads, TakesAtMost, IsHeadOf}
@@ -14,7 +15,7 @@ use Rattle.elf_dynamic.specs.Faults.{IfBad}
 use Rattle.elf_dynamic.specs.declared.gather.Keep.{Keep}
 use Rattle.elf_dynamic.specs.Kept.{kept, kept_of, kept_in_file}
 use Rattle.elf_dynamic.specs.Section.{dynamic_segment, is_outside}
-use Rattle.elf_dynamic.specs.Object.{section_reading, readable_section}
+use Rattle.elf_dynamic.specs.Taken.{section_reading, readable_section}
 use Rattle.elf_dynamic.specs.Sections.{section_in, sections_in, counting_in}
 use Rattle.elf_dynamic.proofs.Known.{with, three, before, sized}
 use Rattle.elf_dynamic.proofs.Kept.{unkept}
@@ -43,7 +44,7 @@ module _ (s : StoreState) (h : Head) (o : Option Segment) (found : OfKnown s (λ
       let w = word_size h.wide in
       here true (λ bytes. o ≡ dynamic_segment w bytes) (λ bytes. sections_in w bytes ≡ Err DynOutside) e found (λ bytes there outside _. outside_file w bytes d there outside)
 
-  module _ (t : StoreState) (reads : OnlyReads s t) (e : nat_lt h.length (d.offset + d.filesz) ≡ false) where
+  module _ {ending : Ending} (t : StoreState) (reads : OnlyReads ending s t) (e : nat_lt h.length (d.offset + d.filesz) ≡ false) where
     file_is : (r : Result Dynamic Defect) → OfKnown t (λ bytes. section_in (word_size h.wide) bytes d ≡ r) → OfKnown s (λ bytes. sections_in (word_size h.wide) bytes ≡ some_of r)
     file_is r read =
         let w = word_size h.wide in

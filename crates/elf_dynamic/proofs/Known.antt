@@ -2,19 +2,20 @@
 use Rattle.std.proofs.Common.{◌≡◌, ℕ, List, length, Option, Some, None, IfSome, Ok, refl, sym, subst, ◌∙◌, arith}
 use Rattle.tree_face.specs.Known.{IfKnown}
 use Rattle.tree_face.specs.Store.{StoreState}
+use Rattle.tree_face.specs.StoreUse.{Ending, Complete, StoreFailed, GaveUp}
 use Rattle.elf_headers.specs.declared.kinds.Head.{Head}
 use Rattle.elf_headers.specs.Header.{head}
 use Rattle.elf_headers.proofs.Heads.{gives}
-use Rattle.elf_headers.specs.Reading.{known_content, OnlyReads, IsHeadOf}
+use Rattle.elf_headers.specs.Reading.{known_content, CountsFaults, OnlyReads, IsHeadOf}
 
-pub same : (s t : StoreState) → OnlyReads s t → known_content t ≡ known_content s
+pub same : {e : Ending} (s t : StoreState) → OnlyReads e s t → known_content t ≡ known_content s
 same s t r = rw (r.held, r.content) refl
 
 -- what holds of the content before holds after, and the other way round
-pub before : (P : List ℕ → Type 0) (s t : StoreState) → OnlyReads s t → IfKnown (known_content t) P → IfKnown (known_content s) P
+pub before : {e : Ending} (P : List ℕ → Type 0) (s t : StoreState) → OnlyReads e s t → IfKnown (known_content t) P → IfKnown (known_content s) P
 before P s t r h = subst (λ o. IfKnown o P) (same s t r) h
 
-pub after : (P : List ℕ → Type 0) (s t : StoreState) → OnlyReads s t → IfKnown (known_content s) P → IfKnown (known_content t) P
+pub after : {e : Ending} (P : List ℕ → Type 0) (s t : StoreState) → OnlyReads e s t → IfKnown (known_content s) P → IfKnown (known_content t) P
 after P s t r h = subst (λ o. IfKnown o P) (sym (same s t r)) h
 
 pub with : {P Q : List ℕ → Type 0} (known : Option (List ℕ)) → IfKnown known P → ((bytes : List ℕ) → P bytes → Q bytes) → IfKnown known Q
@@ -35,15 +36,21 @@ sized s h i =
     with {P = λ bytes. head bytes ≡ Ok h} {Q = λ bytes. length bytes ≡ h.length} (known_content s) i.content
     (λ bytes e. let given = gives {size = length bytes} {bytes = bytes} {h = h} e in sym given.size_is)
 
-pub chain : (a b c : StoreState) → OnlyReads a b → OnlyReads b c → OnlyReads a c
-chain a b c r t = record {
+counted_on : (e : Ending) (a b c : ℕ) → b ≡ a → CountsFaults e b c → CountsFaults e a c
+counted_on Complete a b c same last = last ∙ same
+counted_on StoreFailed a b c same last = rw (← same) last
+counted_on GaveUp a b c same last = last ∙ same
+
+pub chain : {e : Ending} (a b c : StoreState) → OnlyReads Complete a b → OnlyReads e b c → OnlyReads e a c
+chain {e = e} a b c r t = record {
   held = t.held ∙ r.held;
   key = t.key ∙ r.key;
   content = t.content ∙ r.content;
   size = t.size ∙ r.size;
   begun = t.begun ∙ r.begun;
+  keys = t.keys ∙ r.keys;
   taken = omega arith;
-  faults = omega arith;
+  faults = counted_on e a.faults b.faults c.faults r.faults t.faults;
 }
 
 pub three : {P Q R X : List ℕ → Type 0} (known : Option (List ℕ)) → IfKnown known P → IfKnown known Q → IfKnown known R → ((bytes : List ℕ) → P bytes → Q bytes → R bytes → X bytes) → IfKnown known X

@@ -9,3 +9,4 @@ pub mod Gathered
 pub mod Sections
 pub mod Files
 pub mod Objects
+pub mod Taken

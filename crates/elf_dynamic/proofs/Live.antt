@@ -9,6 +9,7 @@ use Rattle.elf_dynamic.specs.declared.kinds.DynamicEntry.{DynamicEntry}
 use Rattle.elf_dynamic.specs.Section.{entry_at, dynamic_entries}
 use Rattle.tree_face.specs.Known.{IfKnown}
 use Rattle.tree_face.specs.Store.{StoreState}
+use Rattle.tree_face.specs.StoreUse.{Ending}
 use Rattle.elf_headers.specs.Reading.{known_content, OfKnown, OnlyReads}
 use Rattle.elf_headers.specs.declared.kinds.Head.{Head}
 use Rattle.elf_dynamic.specs.declared.entries.Entries.{Entries}
@@ -167,5 +168,5 @@ pub none_is : (known : Option (List ℕ)) (old new : List ℕ → List DynamicEn
 none_is known old new o is h = subst (λ o. IfKnown known (IsNext old new o)) is h
 
 -- the same in the content before
-pub next_before : (s t : StoreState) (c new : Entries) (e : DynamicEntry) (o : Option DynamicEntry) → OnlyReads s t → o ≡ Some e → OfKnown t (IsNext (rest_of c) (rest_of new) o) → OfKnown s (λ bytes. rest_of c bytes ≡ e ∷ rest_of new bytes)
+pub next_before : {ending : Ending} (s t : StoreState) (c new : Entries) (e : DynamicEntry) (o : Option DynamicEntry) → OnlyReads ending s t → o ≡ Some e → OfKnown t (IsNext (rest_of c) (rest_of new) o) → OfKnown s (λ bytes. rest_of c bytes ≡ e ∷ rest_of new bytes)
 next_before s t c new e o reads is h = before (λ bytes. rest_of c bytes ≡ e ∷ rest_of new bytes) s t reads (next_is (known_content t) (rest_of c) (rest_of new) e o is h)

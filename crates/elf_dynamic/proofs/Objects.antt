@@ -1,7 +1,6 @@
 -- The object and the analysis of a file, by its header and its dynamic section.
 use Rattle.std.proofs.Common.{◌≡◌, ℕ, ◌+◌, ◌*◌, ◌≤◌, Bool, true, false, cond, ◌==◌, List, [], ◌∷◌, ◌++◌, length, Option, Some, None, IfSome, IsSomeAnd, is_none, option_map, Result, Ok, Err, IfOk, refl, ap, sym, subst, ◌∙◌, arith}
 use Rattle.std.specs.Option.{option_map_or}
-use Rattle.lib_types.specs.Counts.{raised}
 use Rattle.lib_types.specs.declared.abi.Abi.{Abi}
 use Rattle.lib_types.specs.declared.analysis.Analysis.{Analysis}
 use Rattle.lib_types.specs.declared.analysis.Analysis.TheVariants.{Lib, Not}
@@ -13,7 +12,7 @@ use Rattle.elf_headers.specs.declared.kinds.Head.{Head}
 use Rattle.elf_headers.specs.declared.kinds.Segment.{Segment}
 use Rattle.elf_headers.specs.Layout.{is_wide, word_size, etype, machine}
 use Rattle.elf_headers.specs.Header.{Sentence, first_defect, unless_defect, header_sentences, abi, head}
-use Rattle.elf_headers.specs.Reading.{OfContent, IfHeld}
+use Rattle.elf_headers.specs.Reading.{OfContent}
 use Rattle.elf_headers.proofs.Heads.{gives, defect_of, has_abi}
 use Rattle.elf_headers.proofs.Windows.{weaken}
 use Rattle.elf_dynamic.specs.declared.kinds.Dynamic.{Dynamic}
@@ -29,10 +28,9 @@ use Rattle.elf_headers.specs.declared.fault.HeadFault.{HeadFault}
 use Rattle.elf_headers.specs.declared.fault.HeadFault.TheVariants as head_faults
 use Rattle.elf_headers.specs.Faults as head_facts
 use Rattle.elf_dynamic.specs.Section.{dynamic_segment}
-use Rattle.elf_dynamic.specs.Object.{entries, table, soname_of, dynamic_of, dynamic_sentences, object_sentences, dynamic, as_object, object, section_reading, readable_section, reading_after, most_taken}
+use Rattle.elf_dynamic.specs.Object.{entries, table, soname_of, dynamic_of, dynamic_sentences, object_sentences, dynamic, as_object, object}
 use Rattle.elf_dynamic.specs.Analysis.{sentences, as_library, analysis_by, analysis, library_of}
 use Rattle.elf_dynamic.specs.Sections.{sections_in}
-use Rattle.elf_dynamic.proofs.Gathered.{raised_more, raised_less}
 use Rattle.elf_dynamic.proofs.Sections.{no_section}
 
 -- ---- lists of sentences
@@ -208,7 +206,7 @@ analysis_bad bytes x h =
 
 -- ---- in known content
 
-at_known : (P : List ℕ → Type 0) (known : Option (List ℕ)) (bytes : List ℕ) → known ≡ Some bytes → IfKnown known P → P bytes
+pub at_known : (P : List ℕ → Type 0) (known : Option (List ℕ)) (bytes : List ℕ) → known ≡ Some bytes → IfKnown known P → P bytes
 at_known P known bytes e h = subst (λ o. IfKnown o P) e h
 
 pub content_object : (keep : Keep) (held : Option Contents) (key : List ℕ) (known : Option (List ℕ)) (h : Head) (d : Option Dynamic) (o : Object) → o ≡ record { abi = h.abi; etype = h.etype; dynamic = d } →
@@ -258,66 +256,11 @@ content_analysis held key o a is content =
 pub content_not : (held : Option Contents) (key : List ℕ) (x : Defect) → OfContent held key (λ bytes. object bytes ≡ Err x) → OfContent held key (λ bytes. analysis bytes ≡ Not x)
 content_not held key x content = weaken {P = λ bytes. object bytes ≡ Err x} {Q = λ bytes. analysis bytes ≡ Not x} held key (λ bytes e. analysis_bad bytes x e) content
 
--- ---- the bytes that are taken
-
-least_by : (o : Option Defect) (w : ℕ) (bytes : List ℕ) → 128 ≤ reading_after o w bytes
-least_by (Some d) w bytes = omega arith
-least_by None w bytes = omega arith
-
-least : (bytes : List ℕ) → 128 ≤ most_taken bytes
-unfolding most_taken
-least bytes = least_by (first_defect (header_sentences bytes)) (w_of bytes) bytes
-
-held_always : {P : List ℕ → Type 0} (held : Option Contents) (key : List ℕ) → ((bytes : List ℕ) → P bytes) → IfHeld held key P
-held_always None key f = tt
-held_always {P = P} (Some held) key f = by (held key)
-  where
-    by : (o : Option (List ℕ)) → IfSome o P
-    by None = tt
-    by (Some bytes) = f bytes
-
-held_of : {P Q : List ℕ → Type 0} (held : Option Contents) (key : List ℕ) → OfContent held key P → ((bytes : List ℕ) → P bytes → Q bytes) → IfHeld held key Q
-held_of None key h f = tt
-held_of {P = P} {Q = Q} (Some held) key h f = by (held key) h
-  where
-    by : (o : Option (List ℕ)) → IsSomeAnd o P → IfSome o Q
-    by None h = tt
-    by (Some bytes) h = f bytes h
-
-pub taken_head : (held : Option Contents) (key : List ℕ) (a b : ℕ) → b ≤ raised a 64 → IfHeld held key (λ bytes. b ≤ raised a (most_taken bytes))
-taken_head held key a b h =
-    held_always {P = λ bytes. b ≤ raised a (most_taken bytes)} held key (λ bytes. raised_less a b 64 (most_taken bytes) h (let l = least bytes in omega arith))
-
-accepted : (bytes : List ℕ) (h : Head) → head bytes ≡ Ok h → most_taken bytes ≡ 128 + 448 * h.phnum + section_reading (word_size h.wide) bytes (readable_section (word_size h.wide) bytes)
-unfolding most_taken
-accepted bytes h e =
-    let given = gives {size = length bytes} {bytes = bytes} {h = h} e in
-    ap (λ o. reading_after o (w_of bytes) bytes) given.no_defect
-    ∙ ap (λ n. 128 + 448 * n + section_reading (w_of bytes) bytes (readable_section (w_of bytes) bytes)) (sym given.phnum_is)
-    ∙ ap (λ b. 128 + 448 * h.phnum + section_reading (word_size b) bytes (readable_section (word_size b) bytes)) (sym given.wide_is)
-
-pub taken_all : (held : Option Contents) (key : List ℕ) (known : Option (List ℕ)) (h : Head) (a b c : ℕ) → b ≤ raised a 64 → OfContent held key (λ bytes. known ≡ Some bytes) → IfKnown known (λ bytes. head bytes ≡ Ok h) →
-    IfKnown known (λ bytes. c ≤ raised b (448 * h.phnum + section_reading (word_size h.wide) bytes (readable_section (word_size h.wide) bytes))) → IfHeld held key (λ bytes. c ≤ raised a (most_taken bytes))
-taken_all held key known h a b c first content is_head read =
-    held_of {P = λ bytes. known ≡ Some bytes} {Q = λ bytes. c ≤ raised a (most_taken bytes)} held key content
-    (λ bytes e.
-    let size = section_reading (word_size h.wide) bytes (readable_section (word_size h.wide) bytes) in
-    let whole = accepted bytes h (at_known (λ bytes. head bytes ≡ Ok h) known bytes e is_head) in
-    let taken = at_known (λ bytes. c ≤ raised b (448 * h.phnum + section_reading (word_size h.wide) bytes (readable_section (word_size h.wide) bytes))) known bytes e read in
-    raised_less a c (64 + (448 * h.phnum + size)) (most_taken bytes) (raised_more a b c 64 (448 * h.phnum + size) first taken) (rw whole (below h.phnum size)))
-  where
-    below : (p n : ℕ) → 64 + (448 * p + n) ≤ 128 + 448 * p + n
-    below p n = omega arith
-
 -- ---- the faults of other calls
 
 pub head_fault : (P Q : Defect → Type 0) (f : HeadFault) (r : ObjectFault) → r ≡ of_head f → ((x : Defect) → P x → Q x) → head_facts.IfBad (Err f) P → IfBad {X = Object} (Err r) Q
 head_fault P Q (head_faults.Bad x) r e f h = subst (λ r. IfBad {X = Object} (Err r) Q) (sym e) (f x h)
 head_fault P Q head_faults.StoreFault r e f h = subst (λ r. IfBad {X = Object} (Err r) Q) (sym e) tt
-
-pub head_store : (f : HeadFault) (r : ObjectFault) → r ≡ of_head f → r ≡ faults.StoreFault → f ≡ head_faults.StoreFault
-head_store (head_faults.Bad x) r e h = absurd (cc)
-head_store head_faults.StoreFault r e h = refl
 
 pub object_not : (held : Option Contents) (key : List ℕ) (f : ObjectFault) (x : Defect) → f ≡ faults.Bad x → IfBad {X = Object} (Err f) (λ d. OfContent held key (λ bytes. object bytes ≡ Err d)) → OfContent held key (λ bytes. analysis bytes ≡ Not x)
 object_not held key f x e h = content_not held key x (subst (λ f. IfBad {X = Object} (Err f) (λ d. OfContent held key (λ bytes. object bytes ≡ Err d))) e h)

@@ -21,6 +21,7 @@ use Rattle.elf_dynamic.specs.declared.fault.ObjectFault.TheVariants as faults
 use Rattle.elf_dynamic.specs.Faults.{IfBad}
 use Rattle.tree_face.specs.Known.{IfKnown}
 use Rattle.tree_face.specs.Store.{StoreState}
+use Rattle.tree_face.specs.StoreUse.{Ending}
 use Rattle.elf_headers.specs.Reading.{known_content, OfKnown, OnlyReads, TakesAtMost}
 use Rattle.elf_headers.specs.declared.kinds.Segment.{Segment}
 use Rattle.elf_headers.specs.Layout.{segments}
@@ -197,7 +198,7 @@ known_taken (Some bytes) a b c n m w s f table h k =
     (raised_more a b c n (m + 65536 * counted (table bytes) (no_texts f) (dynamic_entries w bytes s)) h k) (omega (arith, count))
 
 -- the same of a store, with the table before the texts
-pub texts_taken_by : (s t u : StoreState) (n m w : ℕ) (d : Segment) (f : Bool) (table : Table) → OnlyReads s t → TakesAtMost n s t →
+pub texts_taken_by : {e : Ending} (s t u : StoreState) (n m w : ℕ) (d : Segment) (f : Bool) (table : Table) → OnlyReads e s t → TakesAtMost n s t →
     OfKnown t (λ bytes. TakesAtMost (m + 65536 * counted (bytes_of table bytes) (no_texts f) (dynamic_entries w bytes d)) t u) → OfKnown s (λ bytes. TakesAtMost (n + m + 65536 * counting_in w bytes d) s u)
 texts_taken_by s t u n m w d f table reads first taken =
     known_taken (known_content s) s.taken t.taken u.taken n m w d f (bytes_of table) first
@@ -284,7 +285,7 @@ pub flagged : (keep : Keep) (known : Option (List ℕ)) (w : ℕ) (s : Segment) 
 flagged keep known w s t f v d e h = subst (λ f. IfKnown known (λ bytes. kept_of keep (gathered (t bytes) (no_texts f) (dynamic_entries w bytes s)) ≡ Ok (kept keep d))) e h
 
 -- the values as they were read
-pub values_after : (s t : StoreState) (w : ℕ) (d : Segment) (v : Values) → OnlyReads s t → IfKnown (known_content s) (λ bytes. v ≡ values_of (dynamic_entries w bytes d)) → IfKnown (known_content t) (λ bytes. v ≡ values_of (dynamic_entries w bytes d))
+pub values_after : {e : Ending} (s t : StoreState) (w : ℕ) (d : Segment) (v : Values) → OnlyReads e s t → IfKnown (known_content s) (λ bytes. v ≡ values_of (dynamic_entries w bytes d)) → IfKnown (known_content t) (λ bytes. v ≡ values_of (dynamic_entries w bytes d))
 values_after s t w d v r h = after (λ bytes. v ≡ values_of (dynamic_entries w bytes d)) s t r h
 
 pub textless_taken : (known : Option (List ℕ)) (a b n m w : ℕ) (s : Segment) → b ≤ raised a n → IfKnown known (λ bytes. b ≤ raised a (n + m + 65536 * counting_in w bytes s))

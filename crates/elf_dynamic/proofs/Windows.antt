@@ -3,6 +3,7 @@ use Rattle.std.proofs.Common.{◌≡◌, ℕ, ◌+◌, ◌-◌, ◌≤◌, Bool,
 use Rattle.std.proofs.lemmas.Bool.Decides.{nat_tests}
 use Rattle.tree_face.specs.Known.{IfKnown}
 use Rattle.tree_face.specs.Store.{StoreState}
+use Rattle.tree_face.specs.StoreUse.{Ending}
 use Rattle.elf_headers.specs.declared.kinds.Head.{Head}
 use Rattle.elf_headers.specs.Reading.{known_content, OnlyReads}
 use Rattle.elf_dynamic.specs.declared.window.Window.{Window}
@@ -21,7 +22,7 @@ ready_on w at n h = by (nat_lt at w.at) refl h (nat_lt (at + n) w.at) refl
     by false ea h false eb = grind (arith, nat_tests)
 
 -- other reading leaves a window as it is
-pub window_after : (s t : StoreState) (h : Head) (w : Window) → OnlyReads s t → IsWindowOf s h w → IsWindowOf t h w
+pub window_after : {e : Ending} (s t : StoreState) (h : Head) (w : Window) → OnlyReads e s t → IsWindowOf s h w → IsWindowOf t h w
 window_after s t h w r o = record {
   room = o.room;
   count = o.count;
@@ -52,7 +53,7 @@ part_known s h w at o =
     with {P = λ bytes. take w.count w.bytes ≡ take w.count (drop w.at bytes)} {Q = λ bytes. part w at ≡ take (ready w at) (drop at bytes)} (known_content s) o.bytes (λ bytes e. part_is w at bytes e)
 
 -- what was taken of a window after reading, in the content before
-pub next_part : (s t : StoreState) (h : Head) (w : Window) (at : ℕ) (front : List ℕ) → OnlyReads s t → IsWindowOf t h w → front ≡ part w at → IfKnown (known_content s) (λ bytes. front ≡ take (ready w at) (drop at bytes))
+pub next_part : {e : Ending} (s t : StoreState) (h : Head) (w : Window) (at : ℕ) (front : List ℕ) → OnlyReads e s t → IsWindowOf t h w → front ≡ part w at → IfKnown (known_content s) (λ bytes. front ≡ take (ready w at) (drop at bytes))
 next_part s t h w at front r o e =
     before (λ bytes. front ≡ take (ready w at) (drop at bytes)) s t r
     (with {P = λ bytes. part w at ≡ take (ready w at) (drop at bytes)} {Q = λ bytes. front ≡ take (ready w at) (drop at bytes)} (known_content t) (part_known t h w at o) (λ bytes is. e ∙ is))

@@ -5,6 +5,7 @@ pub mod Kept
 pub mod Object
 pub mod Section
 pub mod Sections
+pub mod Taken
 pub mod Texts
 pub mod Values
 pub mod Wanted

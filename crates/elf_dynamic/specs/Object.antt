@@ -6,7 +6,7 @@ use Rattle.lib_types.specs.Name.{is_name}
 use Rattle.lib_types.specs.declared.analysis.Defect.{Defect}
 use Rattle.lib_types.specs.declared.analysis.Defect.TheVariants.{BadMachine, DynOutside, NoStrtab, OutsideLoad, BadString, BadSoname}
 use Rattle.elf_headers.specs.declared.kinds.Segment.{Segment}
-use Rattle.elf_headers.specs.Layout.{is_wide, word_size, etype, machine, phnum, segments}
+use Rattle.elf_headers.specs.Layout.{is_wide, word_size, etype, machine, segments}
 use Rattle.elf_headers.specs.Header.{Sentence, first_defect, unless_defect, header_sentences, abi}
 use Rattle.elf_dynamic.specs.declared.kinds.DynamicEntry.{DynamicEntry}
 use Rattle.elf_dynamic.specs.declared.kinds.Dynamic.{Dynamic}
@@ -105,27 +105,3 @@ as_object bytes =
 
 unfoldable pub object : List ℕ → Result Object Defect
 object bytes = unless_defect (first_defect (object_sentences bytes)) (as_object bytes)
-
--- ---- how much of a file is read
-
--- the PT_DYNAMIC, if it is read
-abbrev pub section_if : Bool → Option Segment → Option Segment
-section_if true s = s
-section_if false s = None
-
-abbrev pub readable_section : ℕ → List ℕ → Option Segment
-readable_section w bytes =
-    let s = dynamic_segment w bytes in section_if (not (option_map_or (is_outside bytes) s false)) s
-
--- for each of its bytes and of its entries that count
-abbrev pub section_reading : ℕ → List ℕ → Option Segment → ℕ
-section_reading w bytes s = option_map_or (λ s. 8 * s.filesz + 131072 * length (counting_entries (dynamic_entries w bytes s))) s 0
-
--- and for each program header
-abbrev pub reading_after : Option Defect → ℕ → List ℕ → ℕ
-reading_after (Some d) w bytes = 128
-reading_after None w bytes = 128 + 448 * phnum w bytes + section_reading w bytes (readable_section w bytes)
-
--- at most so many bytes of a file are read
-unfoldable pub most_taken : List ℕ → ℕ
-most_taken bytes = reading_after (first_defect (header_sentences bytes)) (word_size (is_wide bytes)) bytes

@@ -1,7 +1,7 @@
 //! The entries of a dynamic section, one after another.
 ghost use Rattle.std.specs.Prelude.{◌≡◌, ◌⊎◌, ◌≤◌, ◌<◌, ◌+◌, ◌-◌, ◌*◌, ◌∷◌, [], min, length, take, drop, IfOk, OnOk, OnErr, IfSome, MatchOption, ◌^◌};
 ghost use Rattle.elf_headers.specs.Layout.{word_size};
-ghost use Rattle.elf_headers.specs.Reading.{OnlyReads, IsHeadOf, OfKnown, TakesAtMost, StoreFails};
+ghost use Rattle.elf_headers.specs.Reading.{OfKnown, TakesAtMost, reading_ending, OnlyReads, IsHeadOf};
 ghost use Rattle.elf_dynamic.specs.Section.{entry_at};
 ghost use Rattle.elf_dynamic.specs.Entries.{rest_of, IsIn, unread_in};
 ghost use Rattle.elf_dynamic.specs.Windows.{IsWindowOf};
@@ -82,8 +82,7 @@ impl Entries {
         ensures inside { IsIn head.now self.new }
         ensures fewer { IfOk result (λ e. IfSome e (λ _. self.new.left < self.old.left)) }
         ensures begun_head { IsHeadOf (S.state store.new) head.now }
-        ensures cause { OnErr result (StoreFails (S.state store.old) (S.state store.new)) }
-        ensures reads { OnlyReads (S.state store.old) (S.state store.new) }
+        ensures reads { OnlyReads (reading_ending result) (S.state store.old) (S.state store.new) }
         ensures taken { TakesAtMost (unread_in window.old self.old) (S.state store.old) (S.state store.new) }
         ensures taken_entry { IfOk result (λ e. IfSome e (λ _.
             TakesAtMost (unread_in window.old self.old - unread_in window.new self.new) (S.state store.old) (S.state store.new))) }

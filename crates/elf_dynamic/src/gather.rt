@@ -1,9 +1,9 @@
 //! The texts that the entries name.
 ghost use Rattle.std.specs.Prelude.{◌≡◌, ◌⊎◌, ◌≤◌, ◌+◌, ◌-◌, ◌*◌, ◌∷◌, [], ℕ, List, length, Ok, Err, IfOk, OnOk, IfErr, IsErrOf, if◌then◌else◌};
 ghost use Rattle.elf_headers.specs.Layout.{word_size};
-ghost use Rattle.elf_headers.specs.Reading.{OnlyReads, IsHeadOf, OfKnown, TakesAtMost, StoreFails};
+ghost use Rattle.elf_headers.specs.Reading.{OfKnown, TakesAtMost, OnlyReads, IsHeadOf};
 ghost use Rattle.elf_dynamic.specs.declared.kinds.DynamicEntry.{DynamicEntry};
-ghost use Rattle.elf_dynamic.specs.Faults.{IfBad, IsBadString};
+ghost use Rattle.elf_dynamic.specs.Faults.{IfBad, IsBadString, object_ending};
 ghost use Rattle.elf_dynamic.specs.Kept.{keeps, kept, kept_of};
 ghost use Rattle.elf_dynamic.specs.Section.{dynamic_entries};
 ghost use Rattle.elf_dynamic.specs.Texts.{bytes_of, counts, with_text, no_texts, add_one, gathered, counted};
@@ -101,8 +101,7 @@ fn add<S: Store>(
     ensures range { IfBad result IsBadString }
     ensures window { OnOk result (IsWindowOf (S.state store.new) head.now window.new) }
     ensures begun_head { IsHeadOf (S.state store.new) head.now }
-    ensures cause { IsErrOf result ObjectFault.StoreFault → StoreFails (S.state store.old) (S.state store.new) }
-    ensures reads { OnlyReads (S.state store.old) (S.state store.new) }
+    ensures reads { OnlyReads (object_ending result) (S.state store.old) (S.state store.new) }
     ensures taken { TakesAtMost (if counts found.old entry.tag then 65536 else 0) (S.state store.old) (S.state store.new) }
 {
     if !counts(found, entry.tag) {
@@ -153,8 +152,7 @@ pub fn gather<S: Store>(
         gathered (bytes_of table bytes) (no_texts nodeflib) (dynamic_entries (word_size head.now.wide) bytes dynamic) ≡ Err d)) }
     ensures range { IfBad result IsBadString }
     ensures begun_head { IsHeadOf (S.state store.new) head.now }
-    ensures cause { IsErrOf result ObjectFault.StoreFault → StoreFails (S.state store.old) (S.state store.new) }
-    ensures reads { OnlyReads (S.state store.old) (S.state store.new) }
+    ensures reads { OnlyReads (object_ending result) (S.state store.old) (S.state store.new) }
     ensures taken { OfKnown (S.state store.old) (λ bytes. TakesAtMost
         (2 * dynamic.filesz + 65536 * counted (bytes_of table bytes) (no_texts nodeflib) (dynamic_entries (word_size head.now.wide) bytes dynamic)) (S.state store.old) (S.state store.new)) }
 {

@@ -1,13 +1,12 @@
 //! Files in a store.
-ghost use Rattle.std.specs.Prelude.{◌≡◌, ◌⊎◌, ◌≤◌, Ok, Err, IfOk, IsErrOf};
-ghost use Rattle.tree_face.specs.Store.{BeginsAtMost};
+ghost use Rattle.std.specs.Prelude.{◌≡◌, Ok, Err, IfOk};
 ghost use Rattle.elf_headers.specs.Range.{IsInRange};
-ghost use Rattle.elf_headers.specs.Reading.{OfContent, IfHeld, TakesAtMost, FailsAt};
+ghost use Rattle.elf_headers.specs.Reading.{OfContent, ReadsFile};
 ghost use Rattle.elf_dynamic.specs.Analysis as analyses;
-ghost use Rattle.elf_dynamic.specs.Faults.{IfBad, HasName};
+ghost use Rattle.elf_dynamic.specs.Faults.{IfBad, HasName, object_ending, analyse_ending};
 ghost use Rattle.elf_dynamic.specs.Kept.{kept_object, kept_object_of};
-ghost use Rattle.elf_dynamic.specs.Object.{most_taken};
 ghost use Rattle.elf_dynamic.specs.Object as objects;
+ghost use Rattle.elf_dynamic.specs.Taken.{most_known};
 
 use crate::gather::Keep;
 use crate::kinds::{Dynamic, Object};
@@ -32,11 +31,7 @@ fn read<S: Store>(
     ensures defect { IfBad result (λ d. OfContent (S.state store.old).held key.now (λ bytes. objects.object bytes ≡ Err d)) }
     ensures name { IfOk result HasName }
     ensures range { IfBad result IsInRange }
-    ensures cause { IsErrOf result ObjectFault.StoreFault → FailsAt key.now (S.state store.old) (S.state store.new) }
-    ensures held { (S.state store.new).held ≡ (S.state store.old).held }
-    ensures begun { BeginsAtMost 1 (S.state store.old) (S.state store.new) }
-    ensures taken { IfHeld (S.state store.old).held key.now (λ bytes. TakesAtMost (most_taken bytes) (S.state store.old) (S.state store.new)) }
-    ensures faults { (S.state store.old).faults ≤ (S.state store.new).faults }
+    ensures reads { ReadsFile key.now (most_known (S.state store.old).held key.now) (object_ending result) (S.state store.old) (S.state store.new) }
 {
     let head = match head(store, key) {
         Ok(head) => head,
@@ -58,11 +53,7 @@ pub fn object<S: Store>(alloc: Global, store: &mut S, key: &[u8]) -> Result<Obje
     ensures defect { IfBad result (λ d. OfContent (S.state store.old).held key.now (λ bytes. objects.object bytes ≡ Err d)) }
     ensures name { IfOk result HasName }
     ensures range { IfBad result IsInRange }
-    ensures cause { IsErrOf result ObjectFault.StoreFault → FailsAt key.now (S.state store.old) (S.state store.new) }
-    ensures held { (S.state store.new).held ≡ (S.state store.old).held }
-    ensures begun { BeginsAtMost 1 (S.state store.old) (S.state store.new) }
-    ensures taken { IfHeld (S.state store.old).held key.now (λ bytes. TakesAtMost (most_taken bytes) (S.state store.old) (S.state store.new)) }
-    ensures faults { (S.state store.old).faults ≤ (S.state store.new).faults }
+    ensures reads { ReadsFile key.now (most_known (S.state store.old).held key.now) (object_ending result) (S.state store.old) (S.state store.new) }
 {
     read(alloc, Keep::All, store, key)
 }
@@ -94,11 +85,7 @@ pub fn analyse<S: Store>(alloc: Global, store: &mut S, key: &[u8]) -> Result<Ana
     ensures analysis { IfOk result (λ a. OfContent (S.state store.old).held key.now (λ bytes. analyses.analysis bytes ≡ a)) }
     ensures name { IfOk result analyses.HasName }
     ensures range { IfOk result analyses.IsDefectInRange }
-    ensures cause { IsErrOf result AnalyseFault.StoreFault → FailsAt key.now (S.state store.old) (S.state store.new) }
-    ensures held { (S.state store.new).held ≡ (S.state store.old).held }
-    ensures begun { BeginsAtMost 1 (S.state store.old) (S.state store.new) }
-    ensures taken { IfHeld (S.state store.old).held key.now (λ bytes. TakesAtMost (most_taken bytes) (S.state store.old) (S.state store.new)) }
-    ensures faults { (S.state store.old).faults ≤ (S.state store.new).faults }
+    ensures reads { ReadsFile key.now (most_known (S.state store.old).held key.now) (analyse_ending result) (S.state store.old) (S.state store.new) }
 {
     match read(alloc, Keep::Soname, store, key) {
         Ok(object) => Ok(analysis_of(object)),

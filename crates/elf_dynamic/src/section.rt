@@ -5,12 +5,13 @@ ghost use Rattle.lib_types.specs.Name.{is_name};
 ghost use Rattle.lib_types.specs.declared.analysis.Defect.TheVariants.{BadSoname};
 ghost use Rattle.elf_headers.specs.Layout.{word_size};
 ghost use Rattle.elf_headers.specs.Range.{IsInRange};
-ghost use Rattle.elf_headers.specs.Reading.{OnlyReads, IsHeadOf, OfKnown, TakesAtMost, StoreFails};
-ghost use Rattle.elf_dynamic.specs.Faults.{IfBad, HasSoname};
+ghost use Rattle.elf_headers.specs.Reading.{OfKnown, TakesAtMost, OnlyReads, IsHeadOf};
+ghost use Rattle.elf_dynamic.specs.Faults.{IfBad, HasSoname, object_ending};
 ghost use Rattle.elf_dynamic.specs.Kept.{kept, kept_of, kept_in_file};
-ghost use Rattle.elf_dynamic.specs.Object.{has_nodeflib, section_reading, readable_section};
+ghost use Rattle.elf_dynamic.specs.Object.{has_nodeflib};
 ghost use Rattle.elf_dynamic.specs.Section.{dynamic_entries};
 ghost use Rattle.elf_dynamic.specs.Sections.{section_in, sections_in, counting_in, table_by, name_of, has_good_name};
+ghost use Rattle.elf_dynamic.specs.Taken.{section_reading, readable_section};
 ghost use Rattle.elf_dynamic.specs.Texts.{bytes_of};
 ghost use Rattle.elf_dynamic.specs.Values.{values_of};
 ghost use Rattle.elf_dynamic.specs.Windows.{IsWindowOf};
@@ -102,8 +103,7 @@ fn find_strings<S: Store>(
     ensures range { IfBad result IsInRange }
     ensures window { OnOk result (IsWindowOf (S.state store.new) head.now window.new) }
     ensures begun_head { IsHeadOf (S.state store.new) head.now }
-    ensures cause { IsErrOf result ObjectFault.StoreFault → StoreFails (S.state store.old) (S.state store.new) }
-    ensures reads { OnlyReads (S.state store.old) (S.state store.new) }
+    ensures reads { OnlyReads (object_ending result) (S.state store.old) (S.state store.new) }
     ensures taken { TakesAtMost (112 * head.now.phnum) (S.state store.old) (S.state store.new) }
 {
     let Some(address) = strtab else {
@@ -141,8 +141,7 @@ fn read_texts<S: Store>(
     ensures name { IfOk result HasSoname }
     ensures range { IfBad result IsInRange }
     ensures begun_head { IsHeadOf (S.state store.new) head.now }
-    ensures cause { IsErrOf result ObjectFault.StoreFault → StoreFails (S.state store.old) (S.state store.new) }
-    ensures reads { OnlyReads (S.state store.old) (S.state store.new) }
+    ensures reads { OnlyReads (object_ending result) (S.state store.old) (S.state store.new) }
     ensures taken { OfKnown (S.state store.old) (λ bytes. TakesAtMost
         (112 * head.now.phnum + 2 * dynamic.filesz + 65536 * counting_in (word_size head.now.wide) bytes dynamic) (S.state store.old) (S.state store.new)) }
 {
@@ -190,8 +189,7 @@ fn read_section<S: Store>(
     ensures name { IfOk result HasSoname }
     ensures range { IfBad result IsInRange }
     ensures begun_head { IsHeadOf (S.state store.new) head.now }
-    ensures cause { IsErrOf result ObjectFault.StoreFault → StoreFails (S.state store.old) (S.state store.new) }
-    ensures reads { OnlyReads (S.state store.old) (S.state store.new) }
+    ensures reads { OnlyReads (object_ending result) (S.state store.old) (S.state store.new) }
     ensures taken { OfKnown (S.state store.old) (λ bytes. TakesAtMost
         (112 * head.now.phnum + 4 * dynamic.filesz + 65536 * counting_in (word_size head.now.wide) bytes dynamic) (S.state store.old) (S.state store.new)) }
 {
@@ -233,8 +231,7 @@ pub fn read_dynamic<S: Store>(
     ensures name { IfOk result (λ d. IfSome d HasSoname) }
     ensures range { IfBad result IsInRange }
     ensures begun_head { IsHeadOf (S.state store.new) head.now }
-    ensures cause { IsErrOf result ObjectFault.StoreFault → StoreFails (S.state store.old) (S.state store.new) }
-    ensures reads { OnlyReads (S.state store.old) (S.state store.new) }
+    ensures reads { OnlyReads (object_ending result) (S.state store.old) (S.state store.new) }
     ensures taken { OfKnown (S.state store.old) (λ bytes. TakesAtMost
         (448 * head.now.phnum + section_reading (word_size head.now.wide) bytes (readable_section (word_size head.now.wide) bytes)) (S.state store.old) (S.state store.new)) }
 {

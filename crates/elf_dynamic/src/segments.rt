@@ -1,7 +1,7 @@
 //! The segments that are looked for.
 ghost use Rattle.std.specs.Prelude.{◌≡◌, ◌⊎◌, ◌≤◌, ◌<◌, ◌+◌, ◌-◌, ◌*◌, ◌^◌, true, find, length, IfOk, IfSome, OnOk, OnErr};
 ghost use Rattle.elf_headers.specs.Layout.{word_size, program_header_length, segment_at, segment, segments};
-ghost use Rattle.elf_headers.specs.Reading.{OnlyReads, IsHeadOf, OfKnown, TakesAtMost, StoreFails};
+ghost use Rattle.elf_headers.specs.Reading.{OfKnown, TakesAtMost, reading_ending, OnlyReads, IsHeadOf};
 ghost use Rattle.elf_dynamic.specs.Wanted.{is_wanted};
 ghost use Rattle.elf_dynamic.specs.Windows.{IsWindowOf, header_at, unread_from};
 
@@ -78,8 +78,7 @@ fn read_segment<S: Store>(
     ensures segment { IfOk result (λ s. OfKnown (S.state store.old) (λ bytes. s ≡ segment (word_size head.now.wide) bytes index)) }
     ensures window { OnOk result (IsWindowOf (S.state store.new) head.now window.new) }
     ensures begun_head { IsHeadOf (S.state store.new) head.now }
-    ensures cause { OnErr result (StoreFails (S.state store.old) (S.state store.new)) }
-    ensures reads { OnlyReads (S.state store.old) (S.state store.new) }
+    ensures reads { OnlyReads (reading_ending result) (S.state store.old) (S.state store.new) }
     ensures taken { TakesAtMost (unread_from window.old head.now index) (S.state store.old) (S.state store.new) }
     ensures taken_segment { OnOk result (TakesAtMost
         (unread_from window.old head.now index - unread_from window.new head.now (index + 1)) (S.state store.old) (S.state store.new)) }
@@ -104,8 +103,7 @@ pub fn find_segment<S: Store>(
     ensures wanted { IfOk result (λ s. IfSome s (λ s. is_wanted wanted s ≡ true)) }
     ensures window { OnOk result (IsWindowOf (S.state store.new) head.now window.new) }
     ensures begun_head { IsHeadOf (S.state store.new) head.now }
-    ensures cause { OnErr result (StoreFails (S.state store.old) (S.state store.new)) }
-    ensures reads { OnlyReads (S.state store.old) (S.state store.new) }
+    ensures reads { OnlyReads (reading_ending result) (S.state store.old) (S.state store.new) }
     ensures taken { TakesAtMost (112 * head.now.phnum) (S.state store.old) (S.state store.new) }
 {
     for index in 0..head.phnum {

@@ -1,7 +1,7 @@
 //! The string table.
 ghost use Rattle.std.specs.Prelude.{◌≡◌, ◌≤◌, ◌+◌, ◌*◌, ℕ, List, length, IfOk, IfSome, OnOk, OnErr};
 ghost use Rattle.elf_headers.specs.Layout.{word_size, segments};
-ghost use Rattle.elf_headers.specs.Reading.{OnlyReads, IsHeadOf, OfKnown, TakesAtMost, StoreFails};
+ghost use Rattle.elf_headers.specs.Reading.{OfKnown, TakesAtMost, reading_ending, OnlyReads, IsHeadOf};
 ghost use Rattle.elf_dynamic.specs.Section.{table_in, table_at};
 ghost use Rattle.elf_dynamic.specs.Texts.{bytes_if};
 ghost use Rattle.elf_dynamic.specs.Windows.{IsWindowOf};
@@ -51,8 +51,7 @@ pub fn find_table<S: Store>(
     ensures within { IfOk result (λ t. IfSome t (λ t. t.at + t.size ≤ head.now.length)) }
     ensures window { OnOk result (IsWindowOf (S.state store.new) head.now window.new) }
     ensures begun_head { IsHeadOf (S.state store.new) head.now }
-    ensures cause { OnErr result (StoreFails (S.state store.old) (S.state store.new)) }
-    ensures reads { OnlyReads (S.state store.old) (S.state store.new) }
+    ensures reads { OnlyReads (reading_ending result) (S.state store.old) (S.state store.new) }
     ensures taken { TakesAtMost (112 * head.now.phnum) (S.state store.old) (S.state store.new) }
 {
     match find_segment(store, head, window, Wanted::LoadAt(address))? {

@@ -1,7 +1,8 @@
 //! The texts of a string table.
 ghost use Rattle.std.specs.Prelude.{◌≡◌, ◌⊎◌, ◌≤◌, ◌+◌, ◌++◌, not, length, take, drop, position, take_while, option_map, Ok, Err, IfOk, OnOk, IsErrOf};
 ghost use Rattle.std.specs.List.{list_any};
-ghost use Rattle.elf_headers.specs.Reading.{OnlyReads, IsHeadOf, OfKnown, TakesAtMost, StoreFails};
+ghost use Rattle.elf_headers.specs.Reading.{OfKnown, TakesAtMost, OnlyReads, IsHeadOf};
+ghost use Rattle.elf_dynamic.specs.Faults.{analyse_ending};
 ghost use Rattle.elf_dynamic.specs.Section.{is_nul};
 ghost use Rattle.elf_dynamic.specs.Kept.{kept_text};
 ghost use Rattle.elf_dynamic.specs.Texts.{bytes_of, before_nul, text_found};
@@ -80,8 +81,7 @@ fn read_text<S: Store>(
     ensures text { IfOk result (λ t. OfKnown (S.state store.old) (λ bytes. t ≡ option_map (kept_text kept) (before_nul (take most (drop from bytes))))) }
     ensures window { OnOk result (IsWindowOf (S.state store.new) head.now window.new) }
     ensures begun_head { IsHeadOf (S.state store.new) head.now }
-    ensures cause { IsErrOf result AnalyseFault.StoreFault → StoreFails (S.state store.old) (S.state store.new) }
-    ensures reads { OnlyReads (S.state store.old) (S.state store.new) }
+    ensures reads { OnlyReads (analyse_ending result) (S.state store.old) (S.state store.new) }
     ensures taken { TakesAtMost most (S.state store.old) (S.state store.new) }
 {
     let mut found = Vec::new(alloc);
@@ -116,8 +116,7 @@ pub fn text_at<S: Store>(
     ensures text { IfOk result (λ t. OfKnown (S.state store.old) (λ bytes. t ≡ option_map (kept_text kept) (text_found (bytes_of table bytes) offset))) }
     ensures window { OnOk result (IsWindowOf (S.state store.new) head.now window.new) }
     ensures begun_head { IsHeadOf (S.state store.new) head.now }
-    ensures cause { IsErrOf result AnalyseFault.StoreFault → StoreFails (S.state store.old) (S.state store.new) }
-    ensures reads { OnlyReads (S.state store.old) (S.state store.new) }
+    ensures reads { OnlyReads (analyse_ending result) (S.state store.old) (S.state store.new) }
     ensures taken { TakesAtMost 65536 (S.state store.old) (S.state store.new) }
 {
     if offset >= table.size {

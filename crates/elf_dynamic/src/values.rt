@@ -1,7 +1,7 @@
 //! What the entries say beside their texts.
 ghost use Rattle.std.specs.Prelude.{◌≡◌, ◌≤◌, ◌*◌, ◌+◌, ◌<◌, ◌^◌, ◌∷◌, [], ◌==◌, ◌||◌, None, Some, ℕ, List, IfOk, OnOk, OnErr};
 ghost use Rattle.elf_headers.specs.Layout.{word_size};
-ghost use Rattle.elf_headers.specs.Reading.{OnlyReads, IsHeadOf, OfKnown, TakesAtMost, StoreFails};
+ghost use Rattle.elf_headers.specs.Reading.{OfKnown, TakesAtMost, reading_ending, OnlyReads, IsHeadOf};
 ghost use Rattle.elf_dynamic.specs.declared.kinds.DynamicEntry.{DynamicEntry};
 ghost use Rattle.elf_dynamic.specs.Section.{dynamic_entries};
 ghost use Rattle.elf_dynamic.specs.Values.{first_of, joined, values_of};
@@ -82,8 +82,7 @@ pub fn read_values<S: Store>(
     ensures values { IfOk result (λ v. OfKnown (S.state store.old) (λ bytes. v ≡ values_of (dynamic_entries (word_size head.now.wide) bytes dynamic))) }
     ensures window { OnOk result (IsWindowOf (S.state store.new) head.now window.new) }
     ensures begun_head { IsHeadOf (S.state store.new) head.now }
-    ensures cause { OnErr result (StoreFails (S.state store.old) (S.state store.new)) }
-    ensures reads { OnlyReads (S.state store.old) (S.state store.new) }
+    ensures reads { OnlyReads (reading_ending result) (S.state store.old) (S.state store.new) }
     ensures taken { TakesAtMost (2 * dynamic.filesz) (S.state store.old) (S.state store.new) }
 {
     let mut values = Values::none();

@@ -1,6 +1,6 @@
 //! Windows of a file: bytes that were read and are kept, so that what lies near them isn't read again.
 ghost use Rattle.std.specs.Prelude.{◌≡◌, ◌≤◌, ◌<◌, ◌+◌, ◌-◌, ◌^◌, min, length, take, drop, OnOk, OnErr};
-ghost use Rattle.elf_headers.specs.Reading.{OnlyReads, IsHeadOf, OfKnown, TakesAtMost, StoreFails};
+ghost use Rattle.elf_headers.specs.Reading.{OfKnown, TakesAtMost, reading_ending, OnlyReads, IsHeadOf};
 ghost use Rattle.elf_dynamic.specs.Windows.{ready, part, unread, IsWindowOf};
 ghost use Rattle.elf_dynamic.specs.declared.window.TheConstants.{WINDOW};
 
@@ -27,8 +27,7 @@ fn read_piece<S: Store>(store: &mut S, head: &Head, at: u64, piece: &mut [u8]) -
     requires within { at + length piece.old ≤ head.now.length }
     ensures piece { OnOk result (OfKnown (S.state store.old) (λ bytes. piece.new ≡ take (length piece.old) (drop at bytes))) }
     ensures begun_head { IsHeadOf (S.state store.new) head.now }
-    ensures cause { OnErr result (StoreFails (S.state store.old) (S.state store.new)) }
-    ensures reads { OnlyReads (S.state store.old) (S.state store.new) }
+    ensures reads { OnlyReads (reading_ending result) (S.state store.old) (S.state store.new) }
     ensures taken { TakesAtMost (length piece.old) (S.state store.old) (S.state store.new) }
 {
     store.read_at(at, piece)?;
@@ -88,8 +87,7 @@ impl Window {
         ensures window { OnOk result (IsWindowOf (S.state store.new) head.now self.new) }
         ensures ready { OnOk result (ready self.new at ≡ min WINDOW (end - at)) }
         ensures begun_head { IsHeadOf (S.state store.new) head.now }
-        ensures cause { OnErr result (StoreFails (S.state store.old) (S.state store.new)) }
-        ensures reads { OnlyReads (S.state store.old) (S.state store.new) }
+        ensures reads { OnlyReads (reading_ending result) (S.state store.old) (S.state store.new) }
         ensures taken { TakesAtMost (min WINDOW (end - at)) (S.state store.old) (S.state store.new) }
     {
         let count = (end - at).min(WINDOW as u64) as usize;
@@ -116,8 +114,7 @@ impl Window {
         ensures window { OnOk result (IsWindowOf (S.state store.new) head.now self.new) }
         ensures ready { OnOk result (least ≤ ready self.new at) }
         ensures begun_head { IsHeadOf (S.state store.new) head.now }
-        ensures cause { OnErr result (StoreFails (S.state store.old) (S.state store.new)) }
-        ensures reads { OnlyReads (S.state store.old) (S.state store.new) }
+        ensures reads { OnlyReads (reading_ending result) (S.state store.old) (S.state store.new) }
         ensures taken { TakesAtMost (min (unread self.old end at) (end - at)) (S.state store.old) (S.state store.new) }
         ensures taken_held { OnOk result (TakesAtMost (min (ready self.new at) (end - at)) (S.state store.old) (S.state store.new)) }
         ensures taken_item { OnOk result (TakesAtMost (unread self.old end at - unread self.new end (at + least)) (S.state store.old) (S.state store.new)) }

@@ -1,3 +1,4 @@
 pub mod Fields
 pub mod Heads
 pub mod Windows
+pub mod Endings

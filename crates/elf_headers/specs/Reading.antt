@@ -1,8 +1,10 @@
 -- A store from which a file is read in windows.
-use Rattle.std.specs.Prelude.{◌≡◌, ◌⊎◌, ◌≤◌, ◌<◌, ◌^◌, ◌+◌, ◌*◌, ℕ, List, Option, Some, IfSome, IsSomeAnd, option_and_then, Ok}
+use Rattle.std.specs.Prelude.{◌≡◌, ◌⊎◌, ◌≤◌, ◌<◌, ◌^◌, ◌+◌, ◌*◌, ℕ, List, [], ◌∷◌, Option, Some, IsSomeAnd, option_and_then, Result, Ok, Err}
 use Rattle.lib_types.specs.Counts.{raised, HasRisen}
+use Rattle.lib_types.specs.declared.fault.Failed.{Failed}
 use Rattle.tree_face.specs.Known.{IfKnown}
 use Rattle.tree_face.specs.Store.{Contents, StoreState, Lacks}
+use Rattle.tree_face.specs.StoreUse.{Ending, Complete, StoreFailed, GaveUp, ReadsFiles}
 use Rattle.elf_headers.specs.declared.kinds.Head.{Head}
 use Rattle.elf_headers.specs.Layout.{word_size, program_header_length}
 use Rattle.elf_headers.specs.Header.{head}
@@ -19,31 +21,43 @@ OfKnown s P = IfKnown (known_content s) P
 abbrev pub TakesAtMost : ℕ → StoreState → StoreState → Type 0
 TakesAtMost n old new = new.taken ≤ raised old.taken n
 
--- the store has failed
-abbrev pub StoreFails : StoreState → StoreState → Type 0
-StoreFails old new = HasRisen old.faults new.faults
-
--- the store has failed, or doesn't hold the key
-abbrev pub FailsAt : List ℕ → StoreState → StoreState → Type 0
-FailsAt key old new = StoreFails old new ⊎ Lacks old.held key
-
 -- if contents are known, the key has one, and the fact holds of it
 abbrev pub OfContent : Option Contents → List ℕ → (List ℕ → Type 0) → Type 0
 OfContent held key P = IfKnown held (λ held. IsSomeAnd (held key) P)
 
--- a fact of the content under a key, if it is known and there
-abbrev pub IfHeld : Option Contents → List ℕ → (List ℕ → Type 0) → Type 0
-IfHeld held key P = IfKnown held (λ held. IfSome (held key) P)
+-- ---- how a call ends, and what it does with the store
 
--- what reading leaves of a store: all but its counts of bytes and faults, which don't fall
-pub record OnlyReads (old new : StoreState) : Type 0 where
+-- a call that fails only if the store does
+abbrev pub reading_ending : {X : Type 0} → Result X Failed → Ending
+reading_ending (Ok x) = Complete
+reading_ending (Err f) = StoreFailed
+
+-- the call begins this key, and takes at most so many bytes
+abbrev pub ReadsFile : List ℕ → Option ℕ → Ending → StoreState → StoreState → Type 0
+ReadsFile key most ending old new = ReadsFiles (Lacks old.held key) (Some (key ∷ [])) most ending old new
+
+-- the file that was begun stays the same
+pub record KeepsFile (old new : StoreState) : Type 0 where
+  pub key : new.key ≡ old.key
+  pub content : new.content ≡ old.content
+  pub size : new.size ≡ old.size
+
+-- the count of faults rises if the store has failed, and only then
+abbrev pub CountsFaults : Ending → ℕ → ℕ → Type 0
+CountsFaults Complete before after = after ≡ before
+CountsFaults StoreFailed before after = HasRisen before after
+CountsFaults GaveUp before after = after ≡ before
+
+-- a private function only reads from the file that was begun: nothing else changes but the counts of bytes and faults
+pub record OnlyReads (ending : Ending) (old new : StoreState) : Type 0 where
   pub held : new.held ≡ old.held
   pub key : new.key ≡ old.key
   pub content : new.content ≡ old.content
   pub size : new.size ≡ old.size
   pub begun : new.begun ≡ old.begun
+  pub keys : new.keys ≡ old.keys
   pub taken : old.taken ≤ new.taken
-  pub faults : old.faults ≤ new.faults
+  pub faults : CountsFaults ending old.faults new.faults
 
 -- the header is that of the begun key
 pub record IsHeadOf (s : StoreState) (h : Head) : Type 0 where

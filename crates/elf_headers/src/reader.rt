@@ -1,12 +1,13 @@
 //! The headers of a file in a store.
-ghost use Rattle.std.specs.Prelude.{◌≡◌, ◌⊎◌, ◌≤◌, ◌<◌, Some, Ok, Err, IfOk, OnErr, IsErrOf};
-ghost use Rattle.tree_face.specs.Store.{BeginsAtMost};
-ghost use Rattle.elf_headers.specs.Faults.{IfBad};
+ghost use Rattle.std.specs.Prelude.{◌≡◌, ◌⊎◌, ◌<◌, [], Some, Ok, Err, IfOk};
+ghost use Rattle.tree_face.specs.Store.{Lacks};
+ghost use Rattle.tree_face.specs.StoreUse.{ReadsFiles};
+ghost use Rattle.elf_headers.specs.Faults.{IfBad, head_ending};
 ghost use Rattle.elf_headers.specs.Header as spec;
 ghost use Rattle.elf_headers.specs.Layout.{word_size};
 ghost use Rattle.elf_headers.specs.Layout as layout;
 ghost use Rattle.elf_headers.specs.Range.{IsInRange};
-ghost use Rattle.elf_headers.specs.Reading.{known_content, OfContent, OnlyReads, IsHeadOf, OfKnown, TakesAtMost, StoreFails, FailsAt};
+ghost use Rattle.elf_headers.specs.Reading.{known_content, OfContent, OfKnown, TakesAtMost, reading_ending, ReadsFile, KeepsFile, OnlyReads, IsHeadOf};
 
 use crate::HeadFault;
 use crate::class::{Class, head_of};
@@ -21,11 +22,8 @@ pub fn head<S: Store>(store: &mut S, key: &[u8]) -> Result<Head, HeadFault>
     ensures content { IfOk result (λ _. OfContent (S.state store.old).held key.now (λ bytes. known_content (S.state store.new) ≡ Some bytes)) }
     ensures defect { IfBad result (λ d. OfContent (S.state store.old).held key.now (λ bytes. spec.head bytes ≡ Err d)) }
     ensures range { IfBad result IsInRange }
-    ensures cause { IsErrOf result HeadFault.StoreFault → FailsAt key.now (S.state store.old) (S.state store.new) }
-    ensures held { (S.state store.new).held ≡ (S.state store.old).held }
-    ensures begun { BeginsAtMost 1 (S.state store.old) (S.state store.new) }
-    ensures taken { TakesAtMost 64 (S.state store.old) (S.state store.new) }
-    ensures faults { (S.state store.old).faults ≤ (S.state store.new).faults }
+    ensures reads { ReadsFile key.now (Some 64) (head_ending result) (S.state store.old) (S.state store.new) }
+    ensures not_held { Lacks (S.state store.old).held key.now → (S.state store.new).taken ≡ (S.state store.old).taken }
 {
     let size = store.begin(key)?;
     let mut front = [0u8; 64];
@@ -37,14 +35,14 @@ pub fn head<S: Store>(store: &mut S, key: &[u8]) -> Result<Head, HeadFault>
 }
 
 /// Reads the program header with this index: at most 56 bytes.
+#[tactic(auto, using(crate::proofs::Endings::reads_nothing))]
 pub fn segment<S: Store>(store: &mut S, head: &Head, index: u16) -> Result<Segment, Failed>
     requires head { IsHeadOf (S.state store.old) head.now }
     requires index { index < head.now.phnum }
     ensures segment { IfOk result (λ s. OfKnown (S.state store.old) (λ bytes. s ≡ layout.segment (word_size head.now.wide) bytes index)) }
     ensures begun_head { IsHeadOf (S.state store.new) head.now }
-    ensures cause { OnErr result (StoreFails (S.state store.old) (S.state store.new)) }
-    ensures reads { OnlyReads (S.state store.old) (S.state store.new) }
-    ensures taken { TakesAtMost 56 (S.state store.old) (S.state store.new) }
+    ensures keeps { KeepsFile (S.state store.old) (S.state store.new) }
+    ensures reads { ReadsFiles ⊥ (Some []) (Some 56) (reading_ending result) (S.state store.old) (S.state store.new) }
 {
     if head.wide {
         segment_of_class::<S, 8>(store, head, index)
@@ -64,8 +62,7 @@ fn segment_of_class<S: Store, const W: usize>(
     requires index { index < head.now.phnum }
     ensures segment { IfOk result (λ s. OfKnown (S.state store.old) (λ bytes. s ≡ layout.segment W bytes index)) }
     ensures begun_head { IsHeadOf (S.state store.new) head.now }
-    ensures cause { OnErr result (StoreFails (S.state store.old) (S.state store.new)) }
-    ensures reads { OnlyReads (S.state store.old) (S.state store.new) }
+    ensures reads { OnlyReads (reading_ending result) (S.state store.old) (S.state store.new) }
     ensures taken { TakesAtMost 56 (S.state store.old) (S.state store.new) }
 {
     let each = Class::<W>::program_header_length();

@@ -1,5 +1,6 @@
 use Rattle.std.proofs.Common.{◌≡◌, ◌≤◌, ◌*◌}
 use Rattle.tree_face.specs.Known.{IfKnown}
+use Rattle.tree_face.specs.StoreUse.{Complete}
 use Rattle.elf_headers.specs.Layout.{word_size}
 use Rattle.elf_headers.specs.Reading.{known_content, OnlyReads, IsHeadOf}
 use Rattle.elf_dynamic.specs.Kept.{kept_of}
@@ -21,7 +22,7 @@ invariant-loop-found g l =
       section : IsWindowOf new l.head l.section;
       window : IsWindowOf new l.head l.window;
       inside : IsIn l.head l.entries;
-      reads : OnlyReads old new;
+      reads : OnlyReads Complete old new;
       rest : IfKnown (known_content old) (λ bytes.
           kept_of l.fn.keep (gathered (bytes_of l.fn.table bytes) l.found (rest_of l.entries bytes))
           ≡ kept_of l.fn.keep (gathered (bytes_of l.fn.table bytes) (no_texts l.fn.nodeflib) (dynamic_entries (word_size l.head.wide) bytes l.fn.dynamic)));

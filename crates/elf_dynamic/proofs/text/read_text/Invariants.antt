@@ -1,6 +1,7 @@
 use Rattle.std.proofs.Common.{◌≡◌, ◌≤◌, ◌+◌, ◌-◌, ◌++◌, take, drop, option_map}
 use Rattle.lib_types.specs.Counts.{raised}
 use Rattle.tree_face.specs.Known.{IfKnown}
+use Rattle.tree_face.specs.StoreUse.{Complete}
 use Rattle.elf_headers.specs.Reading.{known_content, OnlyReads, IsHeadOf}
 use Rattle.elf_dynamic.specs.Kept.{kept_text}
 use Rattle.elf_dynamic.specs.Texts.{before_nul}
@@ -15,7 +16,7 @@ invariant-loop-left g l =
     record {
       is_head : IsHeadOf new l.head;
       window : IsWindowOf new l.head l.window;
-      reads : OnlyReads old new;
+      reads : OnlyReads Complete old new;
       within : l.at + l.left ≤ l.head.length;
       less : l.left ≤ l.fn.most;
       rest : IfKnown (known_content old) (λ bytes. option_map (λ r. l.found.items ++ kept_text l.fn.kept r) (before_nul (take l.left (drop l.at bytes))) ≡ option_map (kept_text l.fn.kept) (before_nul (take l.fn.most (drop l.fn.from bytes))));

@@ -1,6 +1,7 @@
 use Rattle.std.proofs.Common.{◌≡◌, ◌≤◌, ◌+◌, ◌*◌, ◌-◌}
 use Rattle.lib_types.specs.Counts.{raised}
 use Rattle.tree_face.specs.Known.{IfKnown}
+use Rattle.tree_face.specs.StoreUse.{Complete}
 use Rattle.elf_headers.specs.Layout.{word_size}
 use Rattle.elf_headers.specs.Reading.{known_content, OnlyReads, IsHeadOf}
 use Rattle.elf_dynamic.specs.Section.{dynamic_entries}
@@ -18,7 +19,7 @@ invariant-loop-entry g l =
       is_head : IsHeadOf new l.head;
       window : IsWindowOf new l.head l.window;
       inside : IsIn l.head l.entries;
-      reads : OnlyReads old new;
+      reads : OnlyReads Complete old new;
       rest : IfKnown (known_content old) (λ bytes. joined l.values (rest_of l.entries bytes) ≡ values_of (dynamic_entries (word_size l.head.wide) bytes l.fn.dynamic));
       few : l.values.texts + l.entries.left ≤ l.fn.dynamic.filesz;
       still : unread_in l.window l.entries ≤ 2 * l.fn.dynamic.filesz;

@@ -1,0 +1,39 @@
+-- How many bytes of a file are read at most.
+use Rattle.std.specs.Prelude.{ℕ, ◌+◌, ◌*◌, Bool, true, false, not, List, length, Option, Some, None, option_map}
+use Rattle.std.specs.Option.{option_map_or}
+use Rattle.lib_types.specs.declared.analysis.Defect.{Defect}
+use Rattle.tree_face.specs.Store.{Contents}
+use Rattle.elf_headers.specs.declared.kinds.Segment.{Segment}
+use Rattle.elf_headers.specs.Layout.{is_wide, word_size, phnum}
+use Rattle.elf_headers.specs.Header.{first_defect, header_sentences}
+use Rattle.elf_dynamic.specs.Section.{dynamic_segment, is_outside, dynamic_entries, counting_entries}
+
+-- the PT_DYNAMIC, if it is read
+abbrev pub section_if : Bool → Option Segment → Option Segment
+section_if true s = s
+section_if false s = None
+
+abbrev pub readable_section : ℕ → List ℕ → Option Segment
+readable_section w bytes =
+    let s = dynamic_segment w bytes in section_if (not (option_map_or (is_outside bytes) s false)) s
+
+-- for each of its bytes and of its entries that count
+abbrev pub section_reading : ℕ → List ℕ → Option Segment → ℕ
+section_reading w bytes s = option_map_or (λ s. 8 * s.filesz + 131072 * length (counting_entries (dynamic_entries w bytes s))) s 0
+
+-- and for each program header
+abbrev pub reading_after : Option Defect → ℕ → List ℕ → ℕ
+reading_after (Some d) w bytes = 128
+reading_after None w bytes = 128 + 448 * phnum w bytes + section_reading w bytes (readable_section w bytes)
+
+-- at most so many bytes of a file are read
+unfoldable pub most_taken : List ℕ → ℕ
+most_taken bytes = reading_after (first_defect (header_sentences bytes)) (word_size (is_wide bytes)) bytes
+
+-- of the file under a key; none of one that isn't held
+abbrev pub most_under : Contents → List ℕ → ℕ
+most_under held key = option_map_or most_taken (held key) 0
+
+-- the same, if contents are known
+abbrev pub most_known : Option Contents → List ℕ → Option ℕ
+most_known held key = option_map (λ held. most_under held key) held
