@@ -36,7 +36,7 @@ use Rattle.place_files.specs.Places.{by_place}
 use Rattle.path_walk.specs.Files.{file_at, file_by, is_file}
 use Rattle.place_files.specs.Search.{followed_by, followed_in, link_in}
 use Rattle.place_files.specs.declared.links.FollowedLink.{FollowedLink}
-use Rattle.place_files.specs.Table.{Analyses, analysis_at, have_names}
+use Rattle.place_files.specs.Analyses.{Analyses, HaveNames}
 use Rattle.cache_entries.specs.Winner.{has_own_name, library_behind, linked, links_to_libraries, named, named_links, or_else, other_links, unnamed, winner, winners_in}
 use Rattle.place_files.specs.Libraries.{last_name}
 use Rattle.place_files.specs.Library.{Library}
@@ -99,15 +99,15 @@ module _ (t : Nodes) where
       let same : made ≡ link = cc in
       subst (λ (l : FollowedLink). is_named_well l ≡ true) same (and_from _ _ n (led path (file_at t path) refl))
 
-  module _ (table : Analyses) (names : have_names table ≡ true) where
+  module _ (what : Analyses) (names : HaveNames what) where
     linked_named : (name : List ℕ) (library : Library) (file : Option (List ℕ)) → is_name name ≡ true → is_led file ≡ true
-        → library_behind table name file ≡ Some library → has_names library ≡ true
+        → library_behind what name file ≡ Some library → has_names library ≡ true
     linked_named name library None n last e = absurd (cc)
-    linked_named name library (Some file) n last e = at_named table names file name (last_name file) library (analysis_at table file) n last refl e
+    linked_named name library (Some file) n last e = at_named what names file name (last_name file) library (what file) n last refl e
 
-    pub links_named_well : (tree : IsTree t) (place : Place) → list_all has_names (links_to_libraries table t place) ≡ true
+    pub links_named_well : (tree : IsTree t) (place : Place) → list_all has_names (links_to_libraries what t place) ≡ true
     links_named_well tree place =
-        all_given has_names is_named_well (linked table)
+        all_given has_names is_named_well (linked what)
         (λ link library named e. let parts = and_parts (is_name link.name) (is_led link.file) named in linked_named link.name library link.file parts.0 parts.1 e) (followed_in t place.real)
         (all_given is_named_well is_name (followed_by t place.real) (λ name link n e. followed_named name link (link_in t place.real name) n e)
         (children_of t place.real) (children_named t place.real tree.entries))
@@ -157,13 +157,13 @@ path_short spelled name short h =
     let size : length (join spelled name) ≤ 4700 = omega (arith, few, name_short name h, joined_size spelled name) in
     grind (arith, nat_tests)
 
-module _ (table : Analyses) (names : have_names table ≡ true) (t : Nodes) (tree : IsTree t) where
-  winners_named : (place : Place) → list_all has_names (winners_in table t place) ≡ true
+module _ (what : Analyses) (names : HaveNames what) (t : Nodes) (tree : IsTree t) where
+  winners_named : (place : Place) → list_all has_names (winners_in what t place) ≡ true
   winners_named place =
-      let files = libraries_in table t place in
-      let links = links_to_libraries table t place in
+      let files = libraries_in what t place in
+      let links = links_to_libraries what t place in
       all_given has_names any_item (winner files links)
-      (λ soname library any e. winner_named files links (libraries_named table names t place tree.entries) (links_named_well t table names tree place) soname library e)
+      (λ soname library any e. winner_named files links (libraries_named what names t place tree.entries) (links_named_well t what names tree place) soname library e)
       (sonames (files ++ (named_links links ++ other_links links))) (all_items (sonames (files ++ (named_links links ++ other_links links))))
 
   -- ---- the entries
@@ -186,20 +186,20 @@ module _ (table : Analyses) (names : have_names table ≡ true) (t : Nodes) (tre
   entries_fit number place (library ∷ libraries) spelled all =
       and_from _ _ (entry_fits number place library spelled (and_parts _ _ all).0) (entries_fit number place libraries spelled (and_parts _ _ all).1)
 
-  by_place_fit : (places : List Place) (number : ℕ) → are_spelled places ≡ true → list_all is_fit (by_place (entries_in table t) number places) ≡ true
+  by_place_fit : (places : List Place) (number : ℕ) → are_spelled places ≡ true → list_all is_fit (by_place (entries_in what t) number places) ≡ true
   by_place_fit [] number all = refl
   by_place_fit (place ∷ places) number all =
       let parts = and_parts _ _ all in
-      list_all-append is_fit (entries_in table t number place) (by_place (entries_in table t) (number + 1) places)
-      ∙ and_from _ _ (entries_fit number place (winners_in table t place) parts.0 (winners_named place)) (by_place_fit places (number + 1) parts.1)
+      list_all-append is_fit (entries_in what t number place) (by_place (entries_in what t) (number + 1) places)
+      ∙ and_from _ _ (entries_fit number place (winners_in what t place) parts.0 (winners_named place)) (by_place_fit places (number + 1) parts.1)
 
-  pub found_fit : (places : List Place) → are_spelled places ≡ true → list_all is_fit (found table t places) ≡ true
+  pub found_fit : (places : List Place) → are_spelled places ≡ true → list_all is_fit (found what t places) ≡ true
   unfolding found
   found_fit places all = by_place_fit places 0 all
 
   -- in any order
-  pub sorted_fit : (places : List Place) (entries : List Entry) → AreEntriesOf (found table t places) entries → are_spelled places ≡ true → All IsFit entries
-  sorted_fit places entries are all = All-permutation IsFit (found table t places) entries are.all (each_fits (found table t places) (found_fit places all))
+  pub sorted_fit : (places : List Place) (entries : List Entry) → AreEntriesOf (found what t places) entries → are_spelled places ≡ true → All IsFit entries
+  sorted_fit places entries are all = All-permutation IsFit (found what t places) entries are.all (each_fits (found what t places) (found_fit places all))
 
 -- ---- what a cache's writer asks of the entries
 

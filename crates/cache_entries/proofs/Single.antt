@@ -20,7 +20,7 @@ use Rattle.place_files.specs.Best.{best}
 use Rattle.cache_entries.specs.Entries.{AreEntriesOf, cap_of, entries_in, entry_of, entry_order, entry_order-total, flags_in, found, has_no_cap}
 use Rattle.place_files.specs.Libraries.{libraries_in}
 use Rattle.place_files.specs.Places.{by_place}
-use Rattle.place_files.specs.Table.{Analyses}
+use Rattle.place_files.specs.Analyses.{Analyses}
 use Rattle.cache_entries.specs.Winner.{links_to_libraries, named_links, or_else, other_links, winner}
 use Rattle.place_files.specs.Library.{Library}
 
@@ -44,9 +44,9 @@ both_equal Greater s e = absurd (cc)
 
 -- ---- an entry by its soname and the number of its place
 
-module _ (table : Analyses) (t : Nodes) where
+module _ (what : Analyses) (t : Nodes) where
   abbrev winner_in : Place → List ℕ → Option Library
-  winner_in place soname = winner (libraries_in table t place) (links_to_libraries table t place) soname
+  winner_in place soname = winner (libraries_in what t place) (links_to_libraries what t place) soname
 
   -- the entry of a soname in the place with this number, where the first place has the first number
   abbrev entry_at : ℕ → List Place → ℕ → List ℕ → Option Entry
@@ -63,7 +63,7 @@ module _ (table : Analyses) (t : Nodes) where
     -- the entry of a winner
     here : (soname : List ℕ) (library : Library) → winner_in place soname ≡ Some library → IsFoundAt first (place ∷ places) (entry_of t first place library)
     here soname library e =
-        let own : library.soname ≡ soname = winner_has (libraries_in table t place) (links_to_libraries table t place) soname library e in
+        let own : library.soname ≡ soname = winner_has (libraries_in what t place) (links_to_libraries what t place) soname library e in
         let same : nat_eq first first ≡ true = grind (arith, nat_tests) in
         let won : winner_in place library.soname ≡ Some library = ap (winner_in place) own ∙ e in
         record { from = omega arith; at = rw same (ap (option_map (entry_of t first place)) won) }
@@ -83,10 +83,10 @@ module _ (table : Analyses) (t : Nodes) where
         let other : nat_eq first entry.place ≡ false = grind (arith, nat_tests) in
         record { from = omega (arith, from); at = rw other is.at }
 
-  each_found : (places : List Place) (first : ℕ) → All (IsFoundAt first places) (by_place (entries_in table t) first places)
+  each_found : (places : List Place) (first : ℕ) → All (IsFoundAt first places) (by_place (entries_in what t) first places)
   each_found [] first = All-nil _
   each_found (place ∷ places) first =
-      All-append (IsFoundAt first (place ∷ places)) (entries_in table t first place) (by_place (entries_in table t) (first + 1) places)
+      All-append (IsFoundAt first (place ∷ places)) (entries_in what t first place) (by_place (entries_in what t) (first + 1) places)
       (each_here first place places _)
       (λ k d within. behind first place places _ (each_found places (first + 1) k d within))
 
@@ -103,8 +103,8 @@ module _ (table : Analyses) (t : Nodes) where
       cc
 
 -- two sorted lists of the entries are one list
-pub one_list : (table : Analyses) (t : Nodes) (places : List Place) (a b : List Entry) → AreEntriesOf (found table t places) a → AreEntriesOf (found table t places) b → a ≡ b
+pub one_list : (what : Analyses) (t : Nodes) (places : List Place) (a b : List Entry) → AreEntriesOf (found what t places) a → AreEntriesOf (found what t places) b → a ≡ b
 unfolding found
-one_list table t places a b are others =
-    one_sorted entry_order-total (IsFoundAt table t 0 places) (tied_same table t 0 places)
-    (found table t places) a b (each_found table t places 0) are.all are.ordered others.all others.ordered
+one_list what t places a b are others =
+    one_sorted entry_order-total (IsFoundAt what t 0 places) (tied_same what t 0 places)
+    (found what t places) a b (each_found what t places 0) are.all are.ordered others.all others.ordered

@@ -19,7 +19,7 @@ use Rattle.tree_face.specs.Node.{has_no_nul}
 use Rattle.tree_face.specs.Tree.{Nodes}
 use Rattle.place_files.specs.Best.{is_own}
 use Rattle.place_files.specs.Places.{by_place, is_plain, links_to}
-use Rattle.place_files.specs.Table.{Analyses}
+use Rattle.place_files.specs.Analyses.{Analyses}
 use Rattle.cache_entries.specs.Winner.{winners_in}
 use Rattle.cache_entries.specs.declared.fault.EntryFault.{EntryFault}
 use Rattle.cache_entries.specs.declared.fault.EntryFault.TheVariants.{TooMany, NoMemory}
@@ -42,11 +42,11 @@ entry_of t number place winner = record {
 }
 
 abbrev pub entries_in : Analyses → Nodes → ℕ → Place → List Entry
-entries_in table t number place = map (entry_of t number place) (winners_in table t place)
+entries_in what t number place = map (entry_of t number place) (winners_in what t place)
 
 -- All entries, place by place.
 unfoldable pub found : Analyses → Nodes → List Place → List Entry
-found table t places = by_place (entries_in table t) 0 places
+found what t places = by_place (entries_in what t) 0 places
 
 -- ---- their order
 
@@ -88,6 +88,10 @@ is_fit entry = is_name entry.soname && is_cap entry.cap && nat_le (length entry.
 pub record AreEntriesOf (found : List Entry) (entries : List Entry) : Type 0 where
   pub all : IsPermutation found entries
   pub ordered : IsSorted entry_order entries
+
+-- there is no other list of them in this order
+abbrev pub IsOnlyListOf : List Entry → List Entry → Type 0
+IsOnlyListOf found entries = (others : List Entry) → AreEntriesOf found others → others ≡ entries
 
 -- too many, and how many
 abbrev pub IsEntryFault : List Entry → EntryFault → Type 0

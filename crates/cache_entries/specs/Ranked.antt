@@ -1,5 +1,6 @@
 -- What private functions say of the files and links of a place in one list, each with its class.
 use Rattle.std.specs.Prelude.{ℕ, Bool, List, ◌&&◌, ◌||◌, map, nat_eq, nat_lt, if◌then◌else◌}
+use Rattle.std.specs.Map.{values_of}
 use Rattle.place_files.specs.Best.{is_preferred}
 use Rattle.cache_entries.specs.Winner.{has_own_name}
 use Rattle.place_files.specs.Library.{Library}
@@ -30,6 +31,10 @@ ranked_link link =
     if has_own_name link
     then record { library = record { name = link.name; soname = link.name; abi = link.abi }; class = Named }
     else record { library = link; class = Other }
+
+-- the libraries of what was found by sonames
+abbrev pub libraries_of : List (List ℕ × Ranked) → List Library
+libraries_of found = map (λ ranked. ranked.library) (values_of found)
 
 abbrev pub by_sonames : List Ranked → List (List ℕ × Ranked)
 by_sonames items = map (λ item. (soname_of item, item)) items

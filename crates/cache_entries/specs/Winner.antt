@@ -6,7 +6,7 @@ use Rattle.tree_face.specs.Tree.{Nodes}
 use Rattle.place_files.specs.Best.{best, is_own, sonames}
 use Rattle.place_files.specs.Libraries.{last_name, libraries_in, library_at}
 use Rattle.place_files.specs.Search.{followed_in}
-use Rattle.place_files.specs.Table.{Analyses}
+use Rattle.place_files.specs.Analyses.{Analyses}
 use Rattle.place_files.specs.Library.{Library}
 use Rattle.place_files.specs.declared.links.FollowedLink.{FollowedLink}
 
@@ -14,15 +14,15 @@ use Rattle.place_files.specs.declared.links.FollowedLink.{FollowedLink}
 
 -- the library to which a link leads, by the link's name
 abbrev pub library_behind : Analyses → List ℕ → Option (List ℕ) → Option Library
-library_behind table name (Some file) = library_at table file name (last_name file)
-library_behind table name None = None
+library_behind what name (Some file) = library_at what file name (last_name file)
+library_behind what name None = None
 
 abbrev pub linked : Analyses → FollowedLink → Option Library
-linked table link = library_behind table link.name link.file
+linked what link = library_behind what link.name link.file
 
 -- the links with library names in a place that lead to libraries
 abbrev pub links_to_libraries : Analyses → Nodes → Place → List Library
-links_to_libraries table t place = filter_map (linked table) (followed_in t place.real)
+links_to_libraries what t place = filter_map (linked what) (followed_in t place.real)
 
 -- ---- the classes
 
@@ -63,4 +63,4 @@ abbrev pub winners_among : List Library → List Library → List Library
 winners_among files links = filter_map (winner files links) (sonames (files ++ (named_links links ++ other_links links)))
 
 abbrev pub winners_in : Analyses → Nodes → Place → List Library
-winners_in table t place = winners_among (libraries_in table t place) (links_to_libraries table t place)
+winners_in what t place = winners_among (libraries_in what t place) (links_to_libraries what t place)

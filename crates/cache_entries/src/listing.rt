@@ -6,11 +6,11 @@ ghost use Rattle.std.specs.Ordering.{as_partial_cmp, eq_by_cmp};
 ghost use Rattle.cache_writer.specs.declared.writer.TheConstants.{ENTRIES_MAX};
 ghost use Rattle.hwcap_dirs.specs.Places.{are_spelled};
 ghost use Rattle.tree_face.specs.Paths.{join};
-ghost use Rattle.place_files.specs.Best.{bests, bests_of};
-ghost use Rattle.place_files.specs.Libraries.{libraries_in};
+ghost use Rattle.place_files.specs.Best.{bests_in, bests_of};
 ghost use Rattle.place_files.specs.Places.{links_to};
 ghost use Rattle.place_files.specs.Search.{folder_links, followed};
-ghost use Rattle.cache_entries.specs.Entries.{cap_of, entries_in, entry_of, entry_order, entry_order-total, found, is_by_soname, is_fit, AreEntriesOf, IsEntryFault};
+ghost use Rattle.cache_entries.specs.Entries.{cap_of, entries_in, entry_of, entry_order, entry_order-total, found, is_by_soname, is_fit, AreEntriesOf, IsEntryFault, IsOnlyListOf};
+ghost use Rattle.place_files.specs.Table.{analysis_at};
 
 use crate::fault::EntryFault;
 use crate::winner::winners_in;
@@ -179,9 +179,9 @@ fn add_entries(
     links: &FolderLinks,
     found: &mut Vec<Entry>,
 ) -> Result<(), NoMemory>
-    requires files { files.now ≡ bests (libraries_in table.now tree.now place.now) }
+    requires files { files.now ≡ bests_in (analysis_at table.now) tree.now place.now }
     requires links { links.now ≡ folder_links tree.now place.now }
-    ensures { OnOk result (found.new.items ≡ found.old.items ++ entries_in table.now tree.now number place.now) }
+    ensures { OnOk result (found.new.items ≡ found.old.items ++ entries_in (analysis_at table.now) tree.now number place.now) }
 {
     let mut path = Vec::new(alloc);
     for winner in winners_in(alloc, table, files, links)? {
@@ -200,9 +200,9 @@ fn found(
     bests: &PlaceBests,
     links: &PlaceLinks,
 ) -> Result<Vec<Entry>, NoMemory>
-    requires bests { bests.now ≡ bests_of table.now tree.now dirs.now.places }
+    requires bests { bests.now ≡ bests_of (analysis_at table.now) tree.now dirs.now.places }
     requires links { links.now ≡ followed tree.now dirs.now.places }
-    ensures { IfOk result (λ entries. entries.items ≡ found table.now tree.now dirs.now.places) }
+    ensures { IfOk result (λ entries. entries.items ≡ found (analysis_at table.now) tree.now dirs.now.places) }
 {
     let mut found = Vec::new(alloc);
     let mut number: u32 = 0;
@@ -264,13 +264,13 @@ pub fn entries_by(
     bests: &PlaceBests,
     links: &PlaceLinks,
 ) -> Result<Entries, EntryFault>
-    requires bests { bests.now ≡ bests_of table.now tree.now dirs.now.places }
+    requires bests { bests.now ≡ bests_of (analysis_at table.now) tree.now dirs.now.places }
     requires links { links.now ≡ followed tree.now dirs.now.places }
-    ensures entries { IfOk result (AreEntriesOf (found table.now tree.now dirs.now.places)) }
-    ensures single { IfOk result (λ entries. (others : List Entry) → AreEntriesOf (found table.now tree.now dirs.now.places) others → others ≡ entries) }
+    ensures entries { IfOk result (AreEntriesOf (found (analysis_at table.now) tree.now dirs.now.places)) }
+    ensures single { IfOk result (IsOnlyListOf (found (analysis_at table.now) tree.now dirs.now.places)) }
     ensures fit { IfOk result (λ entries. IsTrue (are_spelled dirs.now.places) → All (λ entry. IsTrue (is_fit entry)) entries) }
-    ensures few { IfOk result (λ _. length (found table.now tree.now dirs.now.places) ≤ ENTRIES_MAX) }
-    ensures fault { IfErr result (IsEntryFault (found table.now tree.now dirs.now.places)) }
+    ensures few { IfOk result (λ _. length (found (analysis_at table.now) tree.now dirs.now.places) ≤ ENTRIES_MAX) }
+    ensures fault { IfErr result (IsEntryFault (found (analysis_at table.now) tree.now dirs.now.places)) }
 {
     tree.know();
     table.know();

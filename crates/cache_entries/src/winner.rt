@@ -1,18 +1,18 @@
 //! The winners of a place.
 ghost use Rattle.std.specs.Prelude.{◌≡◌, ◌<◌, ◌∷◌, ◌++◌, length, map, position, IfOk, IfSome, OnOk};
 ghost use Rattle.std.specs.List.{filter_map, slice_split};
-ghost use Rattle.std.specs.Map.{values_of};
 ghost use Rattle.std.specs.Option.{option_copied};
 ghost use Rattle.hwcap_dirs.specs.declared.kinds.Place.{Place};
 ghost use Rattle.tree_face.specs.Paths.{is_slash};
 ghost use Rattle.tree_face.specs.Tree.{Nodes};
-ghost use Rattle.place_files.specs.Best.{bests};
-ghost use Rattle.place_files.specs.Libraries.{last_name, libraries_in};
+ghost use Rattle.place_files.specs.Best.{bests_in};
+ghost use Rattle.place_files.specs.Libraries.{last_name};
 ghost use Rattle.place_files.specs.Pick.{better_by};
 ghost use Rattle.place_files.specs.Search.{folder_links};
 ghost use Rattle.cache_entries.specs.Parts.{parts_of};
-ghost use Rattle.cache_entries.specs.Ranked.{by_sonames, is_before, rank_of, ranked_file, ranked_link, soname_of};
+ghost use Rattle.cache_entries.specs.Ranked.{by_sonames, is_before, libraries_of, rank_of, ranked_file, ranked_link, soname_of};
 ghost use Rattle.cache_entries.specs.Winner.{has_own_name, is_dev_name, linked, winners_among, winners_in};
+ghost use Rattle.place_files.specs.Table.{analysis_at};
 
 use lib_types::NoMemory;
 use place_files::{
@@ -59,7 +59,7 @@ fn last_name(path: &[u8]) -> &[u8]
 
 // The library to which a link leads.
 fn linked<'a>(table: &'a Table, link: &'a FollowedLink) -> Option<Library<'a>>
-    ensures { result ≡ linked table.now link.now }
+    ensures { result ≡ linked (analysis_at table.now) link.now }
 {
     match &link.file {
         Some(file) => {
@@ -190,7 +190,7 @@ fn add_links<'a>(
     table: &'a Table,
     links: &'a [FollowedLink],
 ) -> Result<(), NoMemory>
-    ensures { OnOk result (candidates.new.items ≡ candidates.old.items ++ by_sonames (map ranked_link (filter_map (linked table.now) links.now))) }
+    ensures { OnOk result (candidates.new.items ≡ candidates.old.items ++ by_sonames (map ranked_link (filter_map (linked (analysis_at table.now)) links.now))) }
 {
     for link in links {
         if let Some(library) = linked(table, link) {
@@ -207,7 +207,7 @@ fn winners_of<'a>(
     files: &'a [BestLibrary],
     links: &'a [FollowedLink],
 ) -> Result<Candidates<'a>, NoMemory>
-    ensures { IfOk result (λ winners. map (λ ranked. ranked.library) (values_of winners.items) ≡ winners_among files.now (filter_map (linked table.now) links.now)) }
+    ensures { IfOk result (λ winners. libraries_of winners.items ≡ winners_among files.now (filter_map (linked (analysis_at table.now)) links.now)) }
 {
     let mut candidates = Vec::with_capacity(alloc, files.len())?;
     add_files(&mut candidates, files)?;
@@ -217,7 +217,7 @@ fn winners_of<'a>(
 }
 
 fn listed<'a>(alloc: Global, winners: Candidates<'a>) -> Result<Vec<Library<'a>>, NoMemory>
-    ensures { IfOk result (λ libraries. libraries.items ≡ map (λ ranked. ranked.library) (values_of winners.entry.items)) }
+    ensures { IfOk result (λ libraries. libraries.items ≡ libraries_of winners.entry.items) }
 {
     let mut libraries = Vec::with_capacity(alloc, winners.len())?;
     for winner in winners {
@@ -235,8 +235,8 @@ pub(crate) fn winners_in<'a>(
     files: &'a [BestLibrary],
     links: &'a FolderLinks,
 ) -> Result<Vec<Library<'a>>, NoMemory>
-    ensures { (t : Nodes) (place : Place) → links.now ≡ folder_links t place → files.now ≡ bests (libraries_in table.now t place)
-        → IfOk result (λ winners. winners.items ≡ winners_in table.now t place) }
+    ensures { (t : Nodes) (place : Place) → links.now ≡ folder_links t place → files.now ≡ bests_in (analysis_at table.now) t place
+        → IfOk result (λ winners. winners.items ≡ winners_in (analysis_at table.now) t place) }
 {
     let winners = winners_of(alloc, table, files, links.links.as_slice())?;
     listed(alloc, winners)

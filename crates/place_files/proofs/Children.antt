@@ -19,7 +19,7 @@ use Rattle.tree_face.specs.declared.tree.Kind.TheVariants as kinds
 use Rattle.place_files.specs.Children.{IsChild, file_of, is_file_node, is_link_node, library_of}
 use Rattle.place_files.specs.Libraries.{library_at, library_in}
 use Rattle.place_files.specs.Search.{file_in, is_link, link_in}
-use Rattle.place_files.specs.Table.{Analyses}
+use Rattle.place_files.specs.Analyses.{Analyses}
 
 -- ---- the kind of a path by its node
 
@@ -72,11 +72,11 @@ module _ {Y : Type 0} (t : Nodes) (folder : List ℕ) (f : List ℕ × Option No
 pub files_listed : (t : Nodes) (folder : List ℕ) → IsTree t → filter_map (file_of folder) (listing_of t folder) ≡ filter_map (file_in t folder) (children_of t folder)
 files_listed t folder tree = all_same t folder (file_of folder) (file_in t folder) (file_same t tree folder) (children_of t folder)
 
-pub libraries_listed : (table : Analyses) (t : Nodes) (folder : List ℕ) → IsTree t
-    → filter_map (library_of table folder) (listing_of t folder) ≡ filter_map (library_in table t folder) (children_of t folder)
-libraries_listed table t folder tree =
-    all_same t folder (library_of table folder) (library_in table t folder)
-    (λ name. ap (option_and_then (λ path. library_at table path name name)) (file_same t tree folder name)) (children_of t folder)
+pub libraries_listed : (what : Analyses) (t : Nodes) (folder : List ℕ) → IsTree t
+    → filter_map (library_of what folder) (listing_of t folder) ≡ filter_map (library_in what t folder) (children_of t folder)
+libraries_listed what t folder tree =
+    all_same t folder (library_of what folder) (library_in what t folder)
+    (λ name. ap (option_and_then (λ path. library_at what path name name)) (file_same t tree folder name)) (children_of t folder)
 
 pub names_listed : {Y : Type 0} (t : Nodes) (folder : List ℕ) (g : List ℕ → Option Y) → filter_map (λ child. g child.0) (listing_of t folder) ≡ filter_map g (children_of t folder)
 names_listed t folder g = all_same t folder (λ child. g child.0) g (λ name. refl) (children_of t folder)

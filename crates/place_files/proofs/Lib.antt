@@ -6,4 +6,5 @@ pub mod Gathered
 pub mod InOrder
 pub mod Members
 pub mod Named
+pub mod NoOtherFiles
 pub mod Ordered

@@ -20,24 +20,25 @@ use Rattle.place_files.specs.Best.{best, better, has_soname, is_preferred}
 use Rattle.place_files.specs.Libraries.{libraries_in, library_at, library_by, library_in}
 use Rattle.place_files.specs.Pick.{is_better_by}
 use Rattle.place_files.specs.Search.{file_in}
-use Rattle.place_files.specs.Table.{Analyses, analysis_at, has_name, have_names, with_analysis}
+use Rattle.place_files.specs.Analyses.{Analyses, HaveNames, has_name}
+use Rattle.place_files.specs.Table.{Rows, analysis_at, have_names, with_analysis}
 use Rattle.place_files.specs.Library.{Library}
 
 -- ---- the analyses
 
-pub still_named : (table : Analyses) (path : List ℕ) (analysis : Analysis) → have_names table ≡ true → has_name analysis ≡ true → have_names (with_analysis table path analysis) ≡ true
+pub still_named : (rows : Rows) (path : List ℕ) (analysis : Analysis) → have_names rows ≡ true → has_name analysis ≡ true → have_names (with_analysis rows path analysis) ≡ true
 still_named [] path analysis all h = and_from _ _ h refl
-still_named (e ∷ table) path analysis all h = by_test (bytes_eq path e.0)
+still_named (e ∷ rows) path analysis all h = by_test (bytes_eq path e.0)
     (λ here. rw here (and_from _ _ h (and_parts _ _ all).1))
-    (λ other. rw other (and_from _ _ (and_parts _ _ all).0 (still_named table path analysis (and_parts _ _ all).1 h)))
+    (λ other. rw other (and_from _ _ (and_parts _ _ all).0 (still_named rows path analysis (and_parts _ _ all).1 h)))
 
-named_at : (table : Analyses) (path : List ℕ) (analysis : Analysis) → have_names table ≡ true → analysis_at table path ≡ Some analysis → has_name analysis ≡ true
-named_at [] path analysis all e = absurd (cc)
-named_at (first ∷ table) path analysis all e = by_test (bytes_eq path first.0)
+pub names_of_rows : (rows : Rows) → have_names rows ≡ true → HaveNames (analysis_at rows)
+names_of_rows [] all path analysis e = absurd (cc)
+names_of_rows (first ∷ rows) all path analysis e = by_test (bytes_eq path first.0)
     (λ here.
-    let found : Some first.1 ≡ Some analysis = sym (ap (λ b. cond b (Some first.1) (lookup (bytes_eq path) table)) here) ∙ e in
+    let found : Some first.1 ≡ Some analysis = sym (ap (λ b. cond b (Some first.1) (lookup (bytes_eq path) rows)) here) ∙ e in
     let same : first.1 ≡ analysis = cc in subst (λ (a : Analysis). has_name a ≡ true) same (and_parts _ _ all).0)
-    (λ other. named_at table path analysis (and_parts _ _ all).1 (sym (ap (λ b. cond b (Some first.1) (lookup (bytes_eq path) table)) other) ∙ e))
+    (λ other. names_of_rows rows (and_parts _ _ all).1 path analysis (sym (ap (λ b. cond b (Some first.1) (lookup (bytes_eq path) rows)) other) ∙ e))
 
 -- ---- the libraries
 
@@ -54,20 +55,20 @@ by_named name own (Lib abi (Some soname)) library n o h e =
     let made : Library = record { name = name; soname = soname; abi = abi } in
     let same : made ≡ library = cc in subst (λ (l : Library). has_names l ≡ true) same (and_from _ _ n h)
 
-module _ (table : Analyses) (named : have_names table ≡ true) where
-  pub at_named : (path name own : List ℕ) (library : Library) (o : Option Analysis) → is_name name ≡ true → is_name own ≡ true → analysis_at table path ≡ o
+module _ (what : Analyses) (named : HaveNames what) where
+  pub at_named : (path name own : List ℕ) (library : Library) (o : Option Analysis) → is_name name ≡ true → is_name own ≡ true → what path ≡ o
       → option_and_then (library_by name own) o ≡ Some library → has_names library ≡ true
   at_named path name own library None n m a e = absurd (cc)
-  at_named path name own library (Some analysis) n m a e = by_named name own analysis library n m (named_at table path analysis named a) e
+  at_named path name own library (Some analysis) n m a e = by_named name own analysis library n m (named path analysis a) e
 
   in_named : (name : List ℕ) (library : Library) (o : Option (List ℕ)) → is_name name ≡ true
-      → option_and_then (λ path. library_at table path name name) o ≡ Some library → has_names library ≡ true
+      → option_and_then (λ path. library_at what path name name) o ≡ Some library → has_names library ≡ true
   in_named name library None n e = absurd (cc)
-  in_named name library (Some path) n e = at_named path name name library (analysis_at table path) n n refl e
+  in_named name library (Some path) n e = at_named path name name library (what path) n n refl e
 
-  pub libraries_named : (t : Nodes) (place : Place) → list_all is_entry t ≡ true → list_all has_names (libraries_in table t place) ≡ true
+  pub libraries_named : (t : Nodes) (place : Place) → list_all is_entry t ≡ true → list_all has_names (libraries_in what t place) ≡ true
   libraries_named t place entries =
-      all_given has_names is_name (library_in table t place.real) (λ name library n e. in_named name library (file_in t place.real name) n e)
+      all_given has_names is_name (library_in what t place.real) (λ name library n e. in_named name library (file_in t place.real name) n e)
       (children_of t place.real) (children_named t place.real entries)
 
 -- ---- the best ones
@@ -96,7 +97,7 @@ best_has libraries soname library e =
     (bytes_eq-Decides library.soname soname).0
     (subst (λ o. if_some p o ≡ true) e (best_of p kept None refl (list_all-from_AllPass p kept (filter_passes p libraries))))
 
-module _ (table : Analyses) (t : Nodes) (entries : list_all is_entry t ≡ true) (named : have_names table ≡ true) where
+module _ (what : Analyses) (t : Nodes) (entries : list_all is_entry t ≡ true) (named : HaveNames what) where
   -- the soname of a best library is a name, and so is the library's own
-  pub best_named : (place : Place) (soname : List ℕ) (library : Library) → best (libraries_in table t place) soname ≡ Some library → has_names library ≡ true
-  best_named place soname library e = best_meets has_names (libraries_in table t place) soname library (libraries_named table named t place entries) e
+  pub best_named : (place : Place) (soname : List ℕ) (library : Library) → best (libraries_in what t place) soname ≡ Some library → has_names library ≡ true
+  best_named place soname library e = best_meets has_names (libraries_in what t place) soname library (libraries_named what named t place entries) e

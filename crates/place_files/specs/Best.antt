@@ -9,7 +9,7 @@ use Rattle.place_files.specs.Order.{ascending}
 use Rattle.place_files.specs.Pick.{best_with, better_by}
 use Rattle.place_files.specs.Libraries.{libraries_in}
 use Rattle.place_files.specs.Library.{Library}
-use Rattle.place_files.specs.Table.{Analyses}
+use Rattle.place_files.specs.Analyses.{Analyses}
 use Rattle.tree_face.specs.Tree.{Nodes}
 
 -- its name is its soname
@@ -37,6 +37,9 @@ sonames libraries = ascending (map (λ library. library.soname) libraries)
 abbrev pub bests : List Library → List Library
 bests libraries = filter_map (best libraries) (sonames libraries)
 
+abbrev pub bests_in : Analyses → Nodes → Place → List Library
+bests_in what t place = bests (libraries_in what t place)
+
 -- those of each place
 unfoldable pub bests_of : Analyses → Nodes → List Place → List (List Library)
-bests_of table t places = map (λ place. bests (libraries_in table t place)) places
+bests_of what t places = map (bests_in what t) places

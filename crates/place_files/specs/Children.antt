@@ -9,7 +9,7 @@ use Rattle.tree_face.specs.declared.node.Node.{Node}
 use Rattle.tree_face.specs.declared.node.Node.TheVariants as node
 use Rattle.tree_face.specs.declared.tree.Kind.TheVariants.{Dir}
 use Rattle.place_files.specs.Libraries.{library_at}
-use Rattle.place_files.specs.Table.{Analyses}
+use Rattle.place_files.specs.Analyses.{Analyses}
 use Rattle.place_files.specs.Library.{Library}
 
 -- the name stands in the directory with this node
@@ -37,4 +37,4 @@ file_of folder child = if is_library_name child.0 && is_file_node child.1 then S
 
 -- the library that a child is
 abbrev pub library_of : Analyses → List ℕ → List ℕ × Option Node → Option Library
-library_of table folder child = option_and_then (λ path. library_at table path child.0 child.0) (file_of folder child)
+library_of what folder child = option_and_then (λ path. library_at what path child.0 child.0) (file_of folder child)

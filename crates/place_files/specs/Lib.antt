@@ -1,3 +1,4 @@
+pub mod Analyses
 pub mod Best
 pub mod Children
 pub mod Folders

@@ -8,7 +8,7 @@ use Rattle.lib_types.specs.declared.analysis.Analysis.TheVariants.{Lib, Not}
 use Rattle.tree_face.specs.Paths.{is_slash}
 use Rattle.tree_face.specs.Tree.{Nodes, children_of}
 use Rattle.place_files.specs.Search.{file_in}
-use Rattle.place_files.specs.Table.{Analyses, analysis_at}
+use Rattle.place_files.specs.Analyses.{Analyses}
 use Rattle.place_files.specs.Library.{Library}
 
 -- The soname of a library is its DT_SONAME, or its file's own name if it has none.
@@ -18,7 +18,7 @@ library_by name own (Not defect) = None
 
 -- what the name of a file, or of a link to it, is a name of, if the file is a library; a file without an analysis is none
 abbrev pub library_at : Analyses → List ℕ → List ℕ → List ℕ → Option Library
-library_at table path name own = option_and_then (library_by name own) (analysis_at table path)
+library_at what path name own = option_and_then (library_by name own) (what path)
 
 -- the last name of a path
 abbrev pub last_name : List ℕ → List ℕ
@@ -26,8 +26,8 @@ last_name path = fold (λ _ part. part) [] (slice_split is_slash path)
 
 -- the library of this name in a folder
 abbrev pub library_in : Analyses → Nodes → List ℕ → List ℕ → Option Library
-library_in table t folder name = option_and_then (λ path. library_at table path name name) (file_in t folder name)
+library_in what t folder name = option_and_then (λ path. library_at what path name name) (file_in t folder name)
 
 -- the files with library names in a place that are libraries
 abbrev pub libraries_in : Analyses → Nodes → Place → List Library
-libraries_in table t place = filter_map (library_in table t place.real) (children_of t place.real)
+libraries_in what t place = filter_map (library_in what t place.real) (children_of t place.real)

@@ -3,6 +3,7 @@ ghost use Rattle.std.specs.Prelude.{◌≡◌, IfOk, unwrap_or};
 ghost use Rattle.std.specs.Option.{option_copied};
 ghost use Rattle.place_files.specs.Children.{is_file_node, library_of};
 ghost use Rattle.place_files.specs.Libraries.{libraries_in, library_at, library_by};
+ghost use Rattle.place_files.specs.Table.{analysis_at};
 
 use crate::table::Table;
 use hwcap_dirs::Place;
@@ -69,7 +70,7 @@ pub fn library_at<'a>(
     name: &'a [u8],
     own: &'a [u8],
 ) -> Option<Library<'a>>
-    ensures { result ≡ library_at table.now path.now name.now own.now }
+    ensures { result ≡ library_at (analysis_at table.now) path.now name.now own.now }
 {
     match table.get(path) {
         Some(analysis) => library_by(name, own, analysis),
@@ -94,7 +95,7 @@ fn library_of<'a>(
     node: Option<&Node>,
     path: &mut Vec<u8>,
 ) -> Result<Option<Library<'a>>, NoMemory>
-    ensures { IfOk result (λ library. library ≡ library_of table.now folder.now (name.now, option_copied node.entry)) }
+    ensures { IfOk result (λ library. library ≡ library_of (analysis_at table.now) folder.now (name.now, option_copied node.entry)) }
 {
     if !is_file_node(node) || !is_library_name(name) {
         return Ok(None);
@@ -111,7 +112,7 @@ pub fn libraries_in<'a>(
     table: &'a Table,
     place: &Place,
 ) -> Result<Vec<Library<'a>>, NoMemory>
-    ensures { IfOk result (λ libraries. libraries.items ≡ libraries_in table.now tree.now place.now) }
+    ensures { IfOk result (λ libraries. libraries.items ≡ libraries_in (analysis_at table.now) tree.now place.now) }
 {
     let mut libraries = Vec::new(alloc);
     let mut path = Vec::new(alloc);

@@ -1,7 +1,8 @@
 //! The analyses of files by their paths.
 ghost use Rattle.std.specs.Prelude.{◌≡◌, [], IfOk, IsTrue, OnOk, OnErr};
 ghost use Rattle.std.specs.Option.{option_copied};
-ghost use Rattle.place_files.specs.Table.{analysis_at, defective, has_name, have_names, is_defect, with_analysis};
+ghost use Rattle.place_files.specs.Analyses.{has_name, HaveNames};
+ghost use Rattle.place_files.specs.Table.{analysis_at, defective, is_defect, with_analysis};
 
 use crate::key::{Key, KeyQuery};
 use indexmap::IndexMap;
@@ -27,9 +28,9 @@ pub struct Table {
 
 impl Model for Table {
     ghost use Rattle.std.specs.Prelude.{IsTrue};
-    ghost use Rattle.place_files.specs.Table.{Analyses, have_names};
+    ghost use Rattle.place_files.specs.Table.{Rows, have_names};
 
-    ghost Value = { Analyses };
+    ghost Value = { Rows };
 
     ghost view = { λ t. t.analyses.entries };
 
@@ -77,8 +78,9 @@ impl Table {
     }
 
     /// Lets contracts know what each table meets. It does nothing.
+    #[tactic(auto, using(crate::proofs::Named::names_of_rows))]
     pub fn know(&self)
-        ensures { IsTrue (have_names self.now) }
+        ensures { HaveNames (analysis_at self.now) }
     {
         let _ = &self.analyses;
     }

@@ -4,7 +4,7 @@ use Rattle.hwcap_dirs.specs.Places.{are_dirs}
 use Rattle.hwcap_dirs.specs.declared.kinds.Place.{Place}
 use Rattle.soname_links.proofs.Rooms.{have_room}
 use Rattle.soname_links.specs.Plan.{links, with_links}
-use Rattle.place_files.specs.Table.{Analyses, have_names}
+use Rattle.place_files.specs.Analyses.{Analyses, HaveNames}
 use Rattle.soname_links.specs.declared.kinds.Planned.{Planned}
 use Rattle.tree_face.specs.Tree.{Nodes, IsTree}
 use Rattle.planned_links.proofs.Alike.{IsAlike, same_key}
@@ -13,9 +13,9 @@ use Rattle.planned_links.proofs.Planned.{planned_alike}
 use Rattle.planned_links.proofs.Reading.{same_reading}
 use Rattle.planned_links.specs.Search.{IsSearchedAlike}
 
-pub searched_alike : (t new : Nodes) (plan : List Planned) (table : Analyses) (places : List Place) → IsTree t → IsTree new → have_names table ≡ true → are_dirs t places ≡ true
-    → plan ≡ links table t places → new ≡ with_links t plan → IsSearchedAlike t new
-searched_alike t new plan table places tree after named dirs made put =
-    let room = have_room table named t tree places dirs in
-    let alike : IsAlike t new = subst (λ (n : Nodes). IsAlike t n) (sym (put ∙ ap (with_links t) made)) (planned_alike t (links table t places) room) in
+pub searched_alike : (t new : Nodes) (plan : List Planned) (what : Analyses) (places : List Place) → IsTree t → IsTree new → HaveNames what → are_dirs t places ≡ true
+    → plan ≡ links what t places → new ≡ with_links t plan → IsSearchedAlike t new
+searched_alike t new plan what places tree after named dirs made put =
+    let room = have_room what named t tree places dirs in
+    let alike : IsAlike t new = subst (λ (n : Nodes). IsAlike t n) (sym (put ∙ ap (with_links t) made)) (planned_alike t (links what t places) room) in
     record { conf = same_reading t new tree after alike; places = same_places t new tree after alike; files = same_key t new alike }

@@ -9,6 +9,7 @@ ghost use Rattle.soname_links.specs.Settled.{IsSettled};
 ghost use Rattle.tree_face.specs.Tree.{IsTree};
 ghost use Rattle.tree_face.specs.declared.tree.TheConstants.{NODES_MAX};
 ghost use Rattle.planned_links.specs.Search.{IsSearchedAlike};
+ghost use Rattle.place_files.specs.Table.{analysis_at};
 
 use hwcap_dirs::Dirs;
 use place_files::Table;
@@ -27,17 +28,17 @@ pub fn plan_links(
     table: &Table,
 ) -> Result<Survey, ApplyFault>
     requires { IsTrue (are_dirs tree.old dirs.now.places) }
-    ensures plan { IfOk result (λ found. found.plan ≡ links table.now tree.old dirs.now.places) }
-    ensures tree { IfOk result (λ found. tree.new ≡ with_links tree.old (links table.now tree.old dirs.now.places)) }
+    ensures plan { IfOk result (λ found. found.plan ≡ links (analysis_at table.now) tree.old dirs.now.places) }
+    ensures tree { IfOk result (λ found. tree.new ≡ with_links tree.old (links (analysis_at table.now) tree.old dirs.now.places)) }
     ensures alike { IfOk result (λ found. IsSearchedAlike tree.old tree.new) }
-    ensures settled { IfOk result (λ found. IsSettled table.now tree.old dirs.now.places tree.new) }
-    ensures few { IfOk result (λ found. nodes_with tree.old (links table.now tree.old dirs.now.places) ≤ NODES_MAX) }
+    ensures settled { IfOk result (λ found. IsSettled (analysis_at table.now) tree.old dirs.now.places tree.new) }
+    ensures few { IfOk result (λ found. nodes_with tree.old (links (analysis_at table.now) tree.old dirs.now.places) ≤ NODES_MAX) }
     ensures is_tree { IfOk result (λ found. IsTree tree.new) }
-    ensures blocked { IfOk result (λ found. found.blocked ≡ blocked table.now tree.old dirs.now.places) }
-    ensures mixed { IfOk result (λ found. found.mixed ≡ mixed table.now tree.old dirs.now.places) }
-    ensures bests { IfOk result (λ found. found.bests ≡ bests_of table.now tree.old dirs.now.places) }
+    ensures blocked { IfOk result (λ found. found.blocked ≡ blocked (analysis_at table.now) tree.old dirs.now.places) }
+    ensures mixed { IfOk result (λ found. found.mixed ≡ mixed (analysis_at table.now) tree.old dirs.now.places) }
+    ensures bests { IfOk result (λ found. found.bests ≡ bests_of (analysis_at table.now) tree.old dirs.now.places) }
     ensures too_large { (nodes : ℕ) → IsErrOf result (ApplyFault.TooLarge nodes) →
-        (nodes ≡ nodes_with tree.old (links table.now tree.old dirs.now.places)) × (NODES_MAX < nodes) }
+        (nodes ≡ nodes_with tree.old (links (analysis_at table.now) tree.old dirs.now.places)) × (NODES_MAX < nodes) }
 {
     tree.know();
     let found = survey(alloc, tree, dirs, table)?;

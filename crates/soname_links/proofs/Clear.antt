@@ -12,7 +12,7 @@ use Rattle.hwcap_dirs.specs.declared.kinds.Place.{Place}
 use Rattle.lib_types.proofs.Bools.{not_true}
 use Rattle.lib_types.proofs.SortedPairs.{by_test}
 use Rattle.path_walk.proofs.KindsAt.{at_path}
-use Rattle.place_files.specs.Table.{Analyses, have_names}
+use Rattle.place_files.specs.Analyses.{Analyses, HaveNames}
 use Rattle.tree_face.proofs.Above.{clash_below, found_passes}
 use Rattle.tree_face.proofs.Below.{not_root}
 use Rattle.tree_face.proofs.Clear.{none_put}
@@ -96,7 +96,7 @@ module _ (first : Nodes) where
   clear_in_turn (planned ∷ plan) t room all =
       and_from _ _ (ap not all.0) (clear_in_turn plan (with_link t planned) room.1 (clear_later planned room.0 t plan room.1 all.1))
 
-pub links_clear : (table : Analyses) (t : Nodes) (places : List Place) → have_names table ≡ true → IsTree t → are_dirs t places ≡ true → are_clear t (links table t places) ≡ true
-links_clear table t places named tree dirs =
-    let room = have_room table named t tree places dirs in
-    clear_in_turn t (links table t places) t room (all_clear t tree (links table t places) room)
+pub links_clear : (what : Analyses) (t : Nodes) (places : List Place) → HaveNames what → IsTree t → are_dirs t places ≡ true → are_clear t (links what t places) ≡ true
+links_clear what t places named tree dirs =
+    let room = have_room what named t tree places dirs in
+    clear_in_turn t (links what t places) t room (all_clear t tree (links what t places) room)

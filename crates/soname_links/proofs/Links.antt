@@ -12,7 +12,7 @@ use Rattle.place_files.specs.Best.{best, sonames}
 use Rattle.place_files.specs.Libraries.{libraries_in}
 use Rattle.place_files.specs.Places.{by_place, is_plain, links_to}
 use Rattle.soname_links.specs.Plan.{is_blocked, is_regarded, link_for, links, links_in}
-use Rattle.place_files.specs.Table.{Analyses}
+use Rattle.place_files.specs.Analyses.{Analyses}
 use Rattle.place_files.specs.Library.{Library}
 use Rattle.soname_links.specs.declared.kinds.Planned.{Planned}
 
@@ -37,17 +37,17 @@ link_is t number place library planned e =
     record { wanted = parts.0; free = free; path = ap (λ (p : Planned). p.path) same; file = ap (λ (p : Planned). p.file) same })
     (λ w. let none : None ≡ Some planned = sym (ap (λ b. cond b (Some made) None) w) ∙ e in absurd (cc))
 
-module _ (table : Analyses) (t : Nodes) (P : Planned → Type 0)
+module _ (what : Analyses) (t : Nodes) (P : Planned → Type 0)
     (holds : (number : ℕ) (place : Place) (soname : List ℕ) (library : Library) (planned : Planned) → is_dir (kind_at t place.real) ≡ true
-    → best (libraries_in table t place) soname ≡ Some library → IsLinkFor t place library planned → P planned) where
+    → best (libraries_in what t place) soname ≡ Some library → IsLinkFor t place library planned → P planned) where
   module _ (number : ℕ) (place : Place) (here : is_dir (kind_at t place.real) ≡ true) where
     abbrev some_links : List (List ℕ) → List Planned
-    some_links names = filter_map (link_for t number place) (filter_map (best (libraries_in table t place)) names)
+    some_links names = filter_map (link_for t number place) (filter_map (best (libraries_in what t place)) names)
 
     of_sonames : (names : List (List ℕ)) → AllByRecursion P (some_links names)
     of_sonames [] = tt
-    of_sonames (soname ∷ names) = elim (best (libraries_in table t place) soname) as (λ o. best (libraries_in table t place) soname ≡ o
-        → AllByRecursion P (filter_map (link_for t number place) (cons_option o (filter_map (best (libraries_in table t place)) names)))) [
+    of_sonames (soname ∷ names) = elim (best (libraries_in what t place) soname) as (λ o. best (libraries_in what t place) soname ≡ o
+        → AllByRecursion P (filter_map (link_for t number place) (cons_option o (filter_map (best (libraries_in what t place)) names)))) [
           | None ↦ λ e. of_sonames names
           | Some library ↦ λ e. elim (link_for t number place library) as (λ o. link_for t number place library ≡ o → AllByRecursion P (cons_option o (some_links names))) [
             | None ↦ λ f. of_sonames names
@@ -55,23 +55,23 @@ module _ (table : Analyses) (t : Nodes) (P : Planned → Type 0)
           ] refl
         ] refl
 
-    of_place : AllByRecursion P (links_in table t number place)
+    of_place : AllByRecursion P (links_in what t number place)
     of_place = by_test (is_plain place)
-        (λ e. rw e (of_sonames (sonames (libraries_in table t place))))
+        (λ e. rw e (of_sonames (sonames (libraries_in what t place))))
         (λ e. rw e tt)
 
   all_both : (first more : List Planned) → AllByRecursion P first → AllByRecursion P more → AllByRecursion P (first ++ more)
   all_both [] more all rest = rest
   all_both (planned ∷ first) more all rest = (all.0, all_both first more all.1 rest)
 
-  of_places : (number : ℕ) (places : List Place) → are_dirs t places ≡ true → AllByRecursion P (by_place (links_in table t) number places)
+  of_places : (number : ℕ) (places : List Place) → are_dirs t places ≡ true → AllByRecursion P (by_place (links_in what t) number places)
   of_places number [] dirs = tt
   of_places number (place ∷ places) dirs =
       let parts = and_parts (is_dir (kind_at t place.real)) (are_dirs t places) dirs in
-      all_both (links_in table t number place) (by_place (links_in table t) (number + 1) places) (of_place number place parts.0) (of_places (number + 1) places parts.1)
+      all_both (links_in what t number place) (by_place (links_in what t) (number + 1) places) (of_place number place parts.0) (of_places (number + 1) places parts.1)
 
   -- what holds of the link for each best library in a directory holds of all links
-  pub each_link : (places : List Place) → are_dirs t places ≡ true → AllByRecursion P (links table t places)
+  pub each_link : (places : List Place) → are_dirs t places ≡ true → AllByRecursion P (links what t places)
   unfolding links
   each_link places dirs = of_places 0 places dirs
 
@@ -80,8 +80,8 @@ all_pass test [] all = refl
 all_pass test (planned ∷ plan) all = and_from _ _ all.0 (all_pass test plan all.1)
 
 -- the same of a test
-pub all_links : (table : Analyses) (t : Nodes) (test : Planned → Bool)
+pub all_links : (what : Analyses) (t : Nodes) (test : Planned → Bool)
     → ((number : ℕ) (place : Place) (soname : List ℕ) (library : Library) (planned : Planned) → is_dir (kind_at t place.real) ≡ true
-    → best (libraries_in table t place) soname ≡ Some library → IsLinkFor t place library planned → test planned ≡ true)
-    → (places : List Place) → are_dirs t places ≡ true → list_all test (links table t places) ≡ true
-all_links table t test passes places dirs = all_pass test (links table t places) (each_link table t (λ planned. test planned ≡ true) passes places dirs)
+    → best (libraries_in what t place) soname ≡ Some library → IsLinkFor t place library planned → test planned ≡ true)
+    → (places : List Place) → are_dirs t places ≡ true → list_all test (links what t places) ≡ true
+all_links what t test passes places dirs = all_pass test (links what t places) (each_link what t (λ planned. test planned ≡ true) passes places dirs)

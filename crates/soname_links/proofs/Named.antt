@@ -19,7 +19,7 @@ use Rattle.soname_links.specs.Apply.{is_link, is_plan}
 use Rattle.place_files.specs.Best.{best}
 use Rattle.place_files.specs.Libraries.{libraries_in}
 use Rattle.soname_links.specs.Plan.{is_taken, links}
-use Rattle.place_files.specs.Table.{Analyses, have_names}
+use Rattle.place_files.specs.Analyses.{Analyses, HaveNames}
 use Rattle.place_files.specs.Library.{Library}
 use Rattle.soname_links.specs.declared.kinds.Planned.{Planned}
 
@@ -32,15 +32,15 @@ is_dir_kind kinds.Absent h = absurd (cc)
 is_dir_kind kinds.File h = absurd (cc)
 is_dir_kind kinds.Link h = absurd (cc)
 
-module _ (table : Analyses) (t : Nodes) (entries : list_all is_entry t ≡ true) (named : have_names table ≡ true) where
+module _ (what : Analyses) (t : Nodes) (entries : list_all is_entry t ≡ true) (named : HaveNames what) where
   pub link_named : (number : ℕ) (place : Place) (soname : List ℕ) (library : Library) (planned : Planned) → is_dir (kind_at t place.real) ≡ true
-      → best (libraries_in table t place) soname ≡ Some library → IsLinkFor t place library planned → is_link planned ≡ true
+      → best (libraries_in what t place) soname ≡ Some library → IsLinkFor t place library planned → is_link planned ≡ true
   link_named number place soname library planned here e link =
-      let parts = and_parts (is_name library.name) (is_name library.soname) (best_named table t entries named place soname library e) in
+      let parts = and_parts (is_name library.name) (is_name library.soname) (best_named what t entries named place soname library e) in
       let path = join place.real library.soname in
       let few = short (length path) (or_parts (nat_lt PATH_MAX (length path)) (is_taken (kind_at t path)) link.free).0 in
       let proper = path_of_name place.real library.soname (folder_of_dir t place.real (is_dir_kind _ here)) parts.1 few in
       and_from _ _ (subst (λ (p : List ℕ). is_path p ≡ true) link.path proper) (subst (λ (f : List ℕ). is_name f ≡ true) link.file parts.0)
 
-  pub links_named : (places : List Place) → are_dirs t places ≡ true → is_plan (links table t places) ≡ true
-  links_named = all_links table t is_link link_named
+  pub links_named : (places : List Place) → are_dirs t places ≡ true → is_plan (links what t places) ≡ true
+  links_named = all_links what t is_link link_named

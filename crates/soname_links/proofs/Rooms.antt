@@ -12,7 +12,7 @@ use Rattle.path_walk.proofs.Linked.{folder_of_dir, name_alone}
 use Rattle.place_files.proofs.Named.{best_named}
 use Rattle.place_files.specs.Best.{best, is_own}
 use Rattle.place_files.specs.Libraries.{last_name, libraries_in}
-use Rattle.place_files.specs.Table.{Analyses, have_names}
+use Rattle.place_files.specs.Analyses.{Analyses, HaveNames}
 use Rattle.place_files.specs.Library.{Library}
 use Rattle.tree_face.proofs.Below.{below_from, below_is}
 use Rattle.tree_face.specs.Paths.{is_below, is_path, join, root, stem}
@@ -95,17 +95,17 @@ room_of t d name tree dir named library proper free = record {
 
 -- ---- the planned links
 
-module _ (table : Analyses) (named : have_names table ≡ true) (t : Nodes) (tree : IsTree t) where
+module _ (what : Analyses) (named : HaveNames what) (t : Nodes) (tree : IsTree t) where
   link_has_room : (number : ℕ) (place : Place) (soname : List ℕ) (library : Library) (planned : Planned) → is_dir (kind_at t place.real) ≡ true
-      → best (libraries_in table t place) soname ≡ Some library → IsLinkFor t place library planned → IsRoom t planned.path
+      → best (libraries_in what t place) soname ≡ Some library → IsLinkFor t place library planned → IsRoom t planned.path
   link_has_room number place soname library planned here e link =
       let path = join place.real library.soname in
-      let names = and_parts (is_name library.name) (is_name library.soname) (best_named table t tree.entries named place soname library e) in
-      let whole = and_parts (is_path planned.path) (is_name planned.file) (link_named table t tree.entries named number place soname library planned here e link) in
+      let names = and_parts (is_name library.name) (is_name library.soname) (best_named what t tree.entries named place soname library e) in
+      let whole = and_parts (is_path planned.path) (is_name planned.file) (link_named what t tree.entries named number place soname library planned here e link) in
       let regarded = and_parts (is_library_name library.soname) (not (is_own library)) link.wanted in
       let free = (or_parts (nat_lt PATH_MAX (length path)) (is_taken (kind_at t path)) link.free).1 in
       subst (λ (p : List ℕ). IsRoom t p) link.path
       (room_of t place.real library.soname tree (is_dir_kind _ here) names.1 regarded.0 (ap is_path link.path ∙ whole.0) free)
 
-  pub have_room : (places : List Place) → are_dirs t places ≡ true → HaveRoom t (links table t places)
-  have_room = each_link table t (λ planned. IsRoom t planned.path) link_has_room
+  pub have_room : (places : List Place) → are_dirs t places ≡ true → HaveRoom t (links what t places)
+  have_room = each_link what t (λ planned. IsRoom t planned.path) link_has_room

@@ -23,7 +23,7 @@ use Rattle.place_files.specs.Places.{by_place, is_link_to, is_plain, links_to}
 use Rattle.soname_links.specs.Plan.{is_blocked, is_regarded, is_taken, link_for, links, links_in, with_links}
 use Rattle.place_files.specs.Search.{files_in, wanted}
 use Rattle.soname_links.specs.Settled.{IsSettled, Settles}
-use Rattle.place_files.specs.Table.{Analyses, have_names}
+use Rattle.place_files.specs.Analyses.{Analyses, HaveNames}
 use Rattle.place_files.specs.Library.{Library}
 use Rattle.soname_links.specs.declared.kinds.Planned.{Planned}
 use Rattle.soname_links.proofs.OneText.{all_same, one_text}
@@ -40,12 +40,12 @@ all_open t (planned ∷ plan) proper free =
     let untaken = (or_parts (nat_lt PATH_MAX (length planned.path)) (is_taken (kind_at t planned.path)) (not_true (is_blocked t planned.path) frees.0)).1 in
     and_from _ _ (open_free t planned.path (and_parts (is_path planned.path) _ paths.0).0 untaken) (all_open t plan paths.1 frees.1)
 
-module _ (table : Analyses) (named : have_names table ≡ true) (t : Nodes) (tree : IsTree t) where
+module _ (what : Analyses) (named : HaveNames what) (t : Nodes) (tree : IsTree t) where
   -- ---- the planned tree
 
-  module _ (places : List Place) (dirs : are_dirs t places ≡ true) (ready : IsReady t (links table t places)) where
+  module _ (places : List Place) (dirs : are_dirs t places ≡ true) (ready : IsReady t (links what t places)) where
     abbrev new : Nodes
-    new = with_links t (links table t places)
+    new = with_links t (links what t places)
 
     abbrev is_there : Planned → Bool
     is_there planned = is_link_to planned.file (node_at new planned.path)
@@ -53,7 +53,7 @@ module _ (table : Analyses) (named : have_names table ≡ true) (t : Nodes) (tre
     blocked_stays : (q : List ℕ) → is_blocked t q ≡ true → is_blocked new q ≡ true
     blocked_stays q h = by_test (nat_lt PATH_MAX (length q))
         (λ e. ap (λ b. b || is_taken (kind_at new q)) e)
-        (λ e. ap (λ b. b || is_taken (kind_at new q)) e ∙ taken_stay (links table t places) t ready q (sym (ap (λ b. b || is_taken (kind_at t q)) e) ∙ h))
+        (λ e. ap (λ b. b || is_taken (kind_at new q)) e ∙ taken_stay (links what t places) t ready q (sym (ap (λ b. b || is_taken (kind_at t q)) e) ∙ h))
 
     -- no link is planned where none can be, or where the link is
     unplanned : (number : ℕ) (place : Place) (library : Library) → (is_blocked new (join place.real library.soname) || links_to new (join place.real library.soname) library.name) ≡ true
@@ -63,7 +63,7 @@ module _ (table : Analyses) (named : have_names table ≡ true) (t : Nodes) (tre
         let made : Planned = record { place = number; soname = library.soname; file = library.name; path = path } in
         ap (λ b. cond (is_regarded library && not b) (Some made) None) h ∙ ap (λ b. cond b (Some made) None) (and_false (is_regarded library))
 
-    module _ (number : ℕ) (place : Place) (soname : List ℕ) (library : Library) (here : is_dir (kind_at t place.real) ≡ true) (e : best (libraries_in table t place) soname ≡ Some library) where
+    module _ (number : ℕ) (place : Place) (soname : List ℕ) (library : Library) (here : is_dir (kind_at t place.real) ≡ true) (e : best (libraries_in what t place) soname ≡ Some library) where
       abbrev path : List ℕ
       path = join place.real library.soname
 
@@ -78,7 +78,7 @@ module _ (table : Analyses) (named : have_names table ≡ true) (t : Nodes) (tre
           (λ b. unplanned number place library (ap (λ c. c || links_to new path library.name) (blocked_stays path b)))
           (λ b.
           let linked : links_to t path library.name ≡ true = sym (ap (λ c. c || links_to t path library.name) b) ∙ k in
-          unplanned number place library (ap (λ c. is_blocked new path || c) (link_stays path library.name (links table t places) t (one_text table named t tree place soname library here e places dirs) linked) ∙ or_true _)))
+          unplanned number place library (ap (λ c. is_blocked new path || c) (link_stays path library.name (links what t places) t (one_text what named t tree place soname library here e places dirs) linked) ∙ or_true _)))
           (λ k.
           let some : link_for t number place library ≡ Some made = ap (λ c. cond (c && not kept) (Some made) None) r ∙ ap (λ c. cond (not c) (Some made) None) k in
           let z : Some made ≡ None = sym some ∙ none in absurd (cc)))
@@ -94,7 +94,7 @@ module _ (table : Analyses) (named : have_names table ≡ true) (t : Nodes) (tre
 
     module _ (number : ℕ) (place : Place) (here : is_dir (kind_at t place.real) ≡ true) where
       abbrev libraries : List Library
-      libraries = libraries_in table t place
+      libraries = libraries_in what t place
 
       no_more : (names : List (List ℕ)) → list_all is_there (filter_map (link_for t number place) (filter_map (best libraries) names)) ≡ true
           → filter_map (link_for new number place) (filter_map (best libraries) names) ≡ []
@@ -115,44 +115,44 @@ module _ (table : Analyses) (named : have_names table ≡ true) (t : Nodes) (tre
                 ] refl
           ] refl all
 
-      pub same_libraries : libraries_in table new place ≡ libraries_in table t place
+      pub same_libraries : libraries_in what new place ≡ libraries_in what t place
       same_libraries =
-          files_stay (λ name found. option_and_then (λ path. library_at table path name name) found) (λ name. refl) place.real (links table t places) t ready (is_dir_kind _ here)
+          files_stay (λ name found. option_and_then (λ path. library_at what path name name) found) (λ name. refl) place.real (links what t places) t ready (is_dir_kind _ here)
 
       pub same_files : files_in new place ≡ files_in t place
-      same_files = files_stay (λ name found. found) (λ name. refl) place.real (links table t places) t ready (is_dir_kind _ here)
+      same_files = files_stay (λ name found. found) (λ name. refl) place.real (links what t places) t ready (is_dir_kind _ here)
 
-      none_in : list_all is_there (links_in table t number place) ≡ true → links_in table new number place ≡ []
+      none_in : list_all is_there (links_in what t number place) ≡ true → links_in what new number place ≡ []
       none_in all = elim (is_plain place) as (λ b. list_all is_there (cond b (filter_map (link_for t number place) (bests libraries)) []) ≡ true
-          → cond b (filter_map (link_for new number place) (bests (libraries_in table new place))) [] ≡ []) [
+          → cond b (filter_map (link_for new number place) (bests (libraries_in what new place))) [] ≡ []) [
             | true ↦ λ all. ap (λ found. filter_map (link_for new number place) (bests found)) same_libraries ∙ no_more (sonames libraries) all
             | false ↦ λ all. refl
           ] all
 
-    none_by_place : (some : List Place) (number : ℕ) → are_dirs t some ≡ true → list_all is_there (by_place (links_in table t) number some) ≡ true
-        → by_place (links_in table new) number some ≡ []
+    none_by_place : (some : List Place) (number : ℕ) → are_dirs t some ≡ true → list_all is_there (by_place (links_in what t) number some) ≡ true
+        → by_place (links_in what new) number some ≡ []
     none_by_place [] number found all = refl
     none_by_place (place ∷ some) number found all =
         let parts = and_parts (is_dir (kind_at t place.real)) (are_dirs t some) found in
-        let links = and_parts _ _ (sym (list_all-append is_there (links_in table t number place) (by_place (links_in table t) (number + 1) some)) ∙ all) in
-        ap (λ xs. xs ++ by_place (links_in table new) (number + 1) some) (none_in number place parts.0 links.0) ∙ none_by_place some (number + 1) parts.1 links.1
+        let links = and_parts _ _ (sym (list_all-append is_there (links_in what t number place) (by_place (links_in what t) (number + 1) some)) ∙ all) in
+        ap (λ xs. xs ++ by_place (links_in what new) (number + 1) some) (none_in number place parts.0 links.0) ∙ none_by_place some (number + 1) parts.1 links.1
 
-    none_again : links table new places ≡ []
+    none_again : links what new places ≡ []
     unfolding links
-    none_again = none_by_place places 0 dirs (links_there (links table t places) t (all_same table named t tree places dirs))
+    none_again = none_by_place places 0 dirs (links_there (links what t places) t (all_same what named t tree places dirs))
 
     dirs_again : (some : List Place) → are_dirs t some ≡ true → are_dirs new some ≡ true
     dirs_again [] found = refl
     dirs_again (place ∷ some) found =
         let parts = and_parts (is_dir (kind_at t place.real)) (are_dirs t some) found in
-        and_from _ _ (ap is_dir (dirs_stay (links table t places) t ready place.real (is_dir_kind _ parts.0))) (dirs_again some parts.1)
+        and_from _ _ (ap is_dir (dirs_stay (links what t places) t ready place.real (is_dir_kind _ parts.0))) (dirs_again some parts.1)
 
-    all_libraries : (some : List Place) → are_dirs t some ≡ true → map (libraries_in table new) some ≡ map (libraries_in table t) some
+    all_libraries : (some : List Place) → are_dirs t some ≡ true → map (libraries_in what new) some ≡ map (libraries_in what t) some
     all_libraries [] found = refl
     all_libraries (place ∷ some) found =
         let parts = and_parts (is_dir (kind_at t place.real)) (are_dirs t some) found in
-        let first : libraries_in table new place ≡ libraries_in table t place = same_libraries 0 place parts.0 in
-        let rest : map (libraries_in table new) some ≡ map (libraries_in table t) some = all_libraries some parts.1 in
+        let first : libraries_in what new place ≡ libraries_in what t place = same_libraries 0 place parts.0 in
+        let rest : map (libraries_in what new) some ≡ map (libraries_in what t) some = all_libraries some parts.1 in
         cc
 
     all_files : (some : List Place) → are_dirs t some ≡ true → flat_map (files_in new) some ≡ flat_map (files_in t) some
@@ -165,16 +165,16 @@ module _ (table : Analyses) (named : have_names table ≡ true) (t : Nodes) (tre
     unfolding wanted
     same_wanted = ap ascending (all_files places dirs)
 
-    settled : IsSettled table t places (with_links t (links table t places))
+    settled : IsSettled what t places (with_links t (links what t places))
     settled = record { dirs = dirs_again places dirs; files = same_wanted; libraries = all_libraries places dirs; none = none_again }
 
 -- a plan that was put, and that was made for the tree, settles its places
 pub settles : (t : Nodes) (plan : List Planned) (after : Nodes) → IsTree t → is_plan plan ≡ true → are_clear t plan ≡ true → after ≡ with_links t plan → Settles t plan after
-settles t plan after tree proper clear put table places named dirs made =
-    let all : list_all (λ planned. not (is_blocked t planned.path)) (links table t places) ≡ true =
-    all_links table t (λ planned. not (is_blocked t planned.path)) (λ number place soname library planned here e link.
+settles t plan after tree proper clear put what places named dirs made =
+    let all : list_all (λ planned. not (is_blocked t planned.path)) (links what t places) ≡ true =
+    all_links what t (λ planned. not (is_blocked t planned.path)) (λ number place soname library planned here e link.
     subst (λ (q : List ℕ). not (is_blocked t q) ≡ true) link.path (ap not link.free)) places dirs in
-    let links_proper : is_plan (links table t places) ≡ true = subst (λ (p : List Planned). is_plan p ≡ true) made proper in
-    let links_clear : are_clear t (links table t places) ≡ true = subst (λ (p : List Planned). are_clear t p ≡ true) made clear in
-    let ready : IsReady t (links table t places) = record { sorted = tree.sorted; free = all_open t (links table t places) links_proper all; clear = links_clear } in
-    subst (λ (n : Nodes). IsSettled table t places n) (sym (put ∙ ap (with_links t) made)) (settled table named t tree places dirs ready)
+    let links_proper : is_plan (links what t places) ≡ true = subst (λ (p : List Planned). is_plan p ≡ true) made proper in
+    let links_clear : are_clear t (links what t places) ≡ true = subst (λ (p : List Planned). are_clear t p ≡ true) made clear in
+    let ready : IsReady t (links what t places) = record { sorted = tree.sorted; free = all_open t (links what t places) links_proper all; clear = links_clear } in
+    subst (λ (n : Nodes). IsSettled what t places n) (sym (put ∙ ap (with_links t) made)) (settled what named t tree places dirs ready)

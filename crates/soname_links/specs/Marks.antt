@@ -10,7 +10,7 @@ use Rattle.place_files.specs.Libraries.{libraries_in}
 use Rattle.place_files.specs.Order.{ascending}
 use Rattle.place_files.specs.Places.{by_place, is_plain}
 use Rattle.soname_links.specs.Plan.{is_blocked, is_regarded}
-use Rattle.place_files.specs.Table.{Analyses}
+use Rattle.place_files.specs.Analyses.{Analyses}
 use Rattle.place_files.specs.Library.{Library}
 use Rattle.soname_links.specs.declared.kinds.Mark.{Mark}
 
@@ -23,10 +23,10 @@ abbrev pub blocked_for : Nodes → ℕ → Place → Library → Option Mark
 blocked_for t number place best = if is_regarded best && is_blocked t (join place.real best.soname) then Some (mark number best.soname) else None
 
 abbrev pub blocked_in : Analyses → Nodes → ℕ → Place → List Mark
-blocked_in table t number place = if is_plain place then filter_map (blocked_for t number place) (bests (libraries_in table t place)) else []
+blocked_in what t number place = if is_plain place then filter_map (blocked_for t number place) (bests (libraries_in what t place)) else []
 
 unfoldable pub blocked : Analyses → Nodes → List Place → List Mark
-blocked table t places = by_place (blocked_in table t) 0 places
+blocked what t places = by_place (blocked_in what t) 0 places
 
 -- ---- mixed sonames: libraries with this soname in one place have different ABIs
 
@@ -43,7 +43,7 @@ abbrev pub mixed_among : List Library → List (List ℕ)
 mixed_among libraries = ascending (filter_map (λ library. odd_soname (best libraries library.soname) library) libraries)
 
 abbrev pub mixed_in : Analyses → Nodes → ℕ → Place → List Mark
-mixed_in table t number place = map (mark number) (mixed_among (libraries_in table t place))
+mixed_in what t number place = map (mark number) (mixed_among (libraries_in what t place))
 
 unfoldable pub mixed : Analyses → Nodes → List Place → List Mark
-mixed table t places = by_place (mixed_in table t) 0 places
+mixed what t places = by_place (mixed_in what t) 0 places

@@ -12,7 +12,7 @@ use Rattle.tree_face.specs.declared.tree.Kind.TheVariants as kinds
 use Rattle.place_files.specs.Best.{is_own, bests}
 use Rattle.place_files.specs.Libraries.{libraries_in}
 use Rattle.place_files.specs.Places.{by_place, is_plain, links_to}
-use Rattle.place_files.specs.Table.{Analyses}
+use Rattle.place_files.specs.Analyses.{Analyses}
 use Rattle.place_files.specs.Library.{Library}
 use Rattle.soname_links.specs.declared.kinds.Planned.{Planned}
 
@@ -39,11 +39,11 @@ link_for t number place best =
     else None
 
 abbrev pub links_in : Analyses → Nodes → ℕ → Place → List Planned
-links_in table t number place = if is_plain place then filter_map (link_for t number place) (bests (libraries_in table t place)) else []
+links_in what t number place = if is_plain place then filter_map (link_for t number place) (bests (libraries_in what t place)) else []
 
 -- The links that are planned, by place and then by the bytes of the sonames.
 unfoldable pub links : Analyses → Nodes → List Place → List Planned
-links table t places = by_place (links_in table t) 0 places
+links what t places = by_place (links_in what t) 0 places
 
 -- ---- the planned tree
 

@@ -6,17 +6,17 @@ use Rattle.tree_face.specs.Tree.{Nodes}
 use Rattle.place_files.specs.Libraries.{libraries_in}
 use Rattle.soname_links.specs.Plan.{links}
 use Rattle.place_files.specs.Search.{wanted}
-use Rattle.place_files.specs.Table.{Analyses, have_names}
+use Rattle.place_files.specs.Analyses.{Analyses, HaveNames}
 use Rattle.soname_links.specs.declared.kinds.Planned.{Planned}
 
 -- the places are directories still, have the same files and libraries, and want no link
-pub record IsSettled (table : Analyses) (t : Nodes) (places : List Place) (new : Nodes) : Type 0 where
+pub record IsSettled (what : Analyses) (t : Nodes) (places : List Place) (new : Nodes) : Type 0 where
   pub dirs : IsTrue (are_dirs new places)
   pub files : wanted new places ≡ wanted t places
-  pub libraries : map (libraries_in table new) places ≡ map (libraries_in table t) places
-  pub none : links table new places ≡ []
+  pub libraries : map (libraries_in what new) places ≡ map (libraries_in what t) places
+  pub none : links what new places ≡ []
 
 -- whichever places and analyses the plan was made for are settled
 abbrev pub Settles : Nodes → List Planned → Nodes → Type 0
 Settles t plan new =
-    (table : Analyses) (places : List Place) → IsTrue (have_names table) → IsTrue (are_dirs t places) → plan ≡ links table t places → IsSettled table t places new
+    (what : Analyses) (places : List Place) → HaveNames what → IsTrue (are_dirs t places) → plan ≡ links what t places → IsSettled what t places new

@@ -3,6 +3,7 @@ ghost use Rattle.std.specs.Prelude.{◌≡◌, Some, IfOk};
 ghost use Rattle.place_files.specs.Libraries.{libraries_in};
 ghost use Rattle.soname_links.specs.Marks.{is_odd};
 ghost use Rattle.soname_links.specs.Survey.{groups, keyed, with_library};
+ghost use Rattle.place_files.specs.Table.{analysis_at};
 
 use hwcap_dirs::Place;
 use lib_types::NoMemory;
@@ -70,7 +71,7 @@ pub(crate) fn groups_in<'a>(
     table: &'a Table,
     place: &Place,
 ) -> Result<Groups<'a>, NoMemory>
-    ensures { IfOk result (λ found. found.items ≡ groups (libraries_in table.now tree.now place.now)) }
+    ensures { IfOk result (λ found. found.items ≡ groups (libraries_in (analysis_at table.now) tree.now place.now)) }
 {
     let libraries = libraries_in(alloc, tree, table, place)?;
     let items = by_sonames(alloc, libraries)?;

@@ -1,6 +1,7 @@
 //! The sonames that are reported.
 ghost use Rattle.std.specs.Prelude.{◌≡◌, IfOk};
 ghost use Rattle.soname_links.specs.Marks.{blocked, mixed};
+ghost use Rattle.place_files.specs.Table.{analysis_at};
 
 use crate::kinds::Marks;
 use crate::surveying::survey;
@@ -12,14 +13,14 @@ use tree_face::Tree;
 
 /// The sonames for which a link is wanted where none can be, by place and then by their bytes.
 pub fn blocked(alloc: Global, tree: &Tree, dirs: &Dirs, table: &Table) -> Result<Marks, NoMemory>
-    ensures { IfOk result (λ marks. marks ≡ blocked table.now tree.now dirs.now.places) }
+    ensures { IfOk result (λ marks. marks ≡ blocked (analysis_at table.now) tree.now dirs.now.places) }
 {
     Ok(survey(alloc, tree, dirs, table)?.blocked)
 }
 
 /// The sonames of which a place has libraries with different ABIs, by place and then by their bytes.
 pub fn mixed(alloc: Global, tree: &Tree, dirs: &Dirs, table: &Table) -> Result<Marks, NoMemory>
-    ensures { IfOk result (λ marks. marks ≡ mixed table.now tree.now dirs.now.places) }
+    ensures { IfOk result (λ marks. marks ≡ mixed (analysis_at table.now) tree.now dirs.now.places) }
 {
     Ok(survey(alloc, tree, dirs, table)?.mixed)
 }

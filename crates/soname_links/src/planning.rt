@@ -2,8 +2,9 @@
 ghost use Rattle.std.specs.Prelude.{◌≡◌, IfOk, IsTrue};
 ghost use Rattle.hwcap_dirs.specs.Places.{are_dirs};
 ghost use Rattle.soname_links.specs.Apply.{are_clear, is_plan};
-ghost use Rattle.place_files.specs.Table.{have_names};
+ghost use Rattle.place_files.specs.Analyses.{HaveNames};
 ghost use Rattle.soname_links.specs.Plan.{links};
+ghost use Rattle.place_files.specs.Table.{analysis_at};
 
 use crate::kinds::Plan;
 use crate::surveying::survey;
@@ -16,10 +17,10 @@ use tree_face::Tree;
 /// The links that are planned, by place and then by the bytes of the sonames. They can be put into the tree one
 /// after another if the places are directories of it: none of them clashes.
 pub fn plan(alloc: Global, tree: &Tree, dirs: &Dirs, table: &Table) -> Result<Plan, NoMemory>
-    ensures links { IfOk result (λ plan. plan ≡ links table.now tree.now dirs.now.places) }
+    ensures links { IfOk result (λ plan. plan ≡ links (analysis_at table.now) tree.now dirs.now.places) }
     ensures is_plan { IfOk result (λ plan. IsTrue (are_dirs tree.now dirs.now.places) → IsTrue (is_plan plan)) }
     ensures clear { IfOk result (λ plan. IsTrue (are_dirs tree.now dirs.now.places) → IsTrue (are_clear tree.now plan)) }
-    ensures names { IsTrue (have_names table.now) }
+    ensures names { HaveNames (analysis_at table.now) }
 {
     Ok(survey(alloc, tree, dirs, table)?.plan)
 }

@@ -6,9 +6,9 @@ ghost use Rattle.soname_links.specs.Apply.{are_clear, is_plan};
 ghost use Rattle.soname_links.specs.Marks.{blocked, blocked_for, blocked_in, mark, mixed, mixed_in};
 ghost use Rattle.soname_links.specs.Plan.{is_regarded, is_taken, link_for, links, links_in};
 ghost use Rattle.soname_links.specs.Survey.{blocked_of, mixed_of, planned_of, spot_at, spot_by};
-ghost use Rattle.place_files.specs.Best.{bests, bests_of};
-ghost use Rattle.place_files.specs.Libraries.{libraries_in};
-ghost use Rattle.place_files.specs.Table.{have_names};
+ghost use Rattle.place_files.specs.Best.{bests_in, bests_of};
+ghost use Rattle.place_files.specs.Analyses.{HaveNames};
+ghost use Rattle.place_files.specs.Table.{analysis_at};
 
 use crate::groups::{Group, groups_in};
 use crate::kinds::{Mark, Planned, Survey};
@@ -174,10 +174,10 @@ fn add_place(
     place: &Place,
     survey: &mut Survey,
 ) -> Result<(), NoMemory>
-    ensures plan { OnOk result (survey.new.plan ≡ survey.old.plan ++ links_in table.now tree.now number place.now) }
-    ensures blocked { OnOk result (survey.new.blocked ≡ survey.old.blocked ++ blocked_in table.now tree.now number place.now) }
-    ensures mixed { OnOk result (survey.new.mixed ≡ survey.old.mixed ++ mixed_in table.now tree.now number place.now) }
-    ensures bests { OnOk result (survey.new.bests ≡ survey.old.bests ++ bests (libraries_in table.now tree.now place.now) ∷ []) }
+    ensures plan { OnOk result (survey.new.plan ≡ survey.old.plan ++ links_in (analysis_at table.now) tree.now number place.now) }
+    ensures blocked { OnOk result (survey.new.blocked ≡ survey.old.blocked ++ blocked_in (analysis_at table.now) tree.now number place.now) }
+    ensures mixed { OnOk result (survey.new.mixed ≡ survey.old.mixed ++ mixed_in (analysis_at table.now) tree.now number place.now) }
+    ensures bests { OnOk result (survey.new.bests ≡ survey.old.bests ++ bests_in (analysis_at table.now) tree.now place.now ∷ []) }
 {
     let mut path = Vec::new(alloc);
     let mut bests = Seq::new(alloc);
@@ -192,10 +192,10 @@ fn add_place(
 // What one place after the other gives.
 #[tactic(auto, unfolding(crate::specs::Plan::links, crate::specs::Marks::blocked, crate::specs::Marks::mixed, place_files::specs::Best::bests_of))]
 fn surveyed(alloc: Global, tree: &Tree, dirs: &Dirs, table: &Table) -> Result<Survey, NoMemory>
-    ensures plan { IfOk result (λ survey. survey.plan ≡ links table.now tree.now dirs.now.places) }
-    ensures blocked { IfOk result (λ survey. survey.blocked ≡ blocked table.now tree.now dirs.now.places) }
-    ensures mixed { IfOk result (λ survey. survey.mixed ≡ mixed table.now tree.now dirs.now.places) }
-    ensures bests { IfOk result (λ survey. survey.bests ≡ bests_of table.now tree.now dirs.now.places) }
+    ensures plan { IfOk result (λ survey. survey.plan ≡ links (analysis_at table.now) tree.now dirs.now.places) }
+    ensures blocked { IfOk result (λ survey. survey.blocked ≡ blocked (analysis_at table.now) tree.now dirs.now.places) }
+    ensures mixed { IfOk result (λ survey. survey.mixed ≡ mixed (analysis_at table.now) tree.now dirs.now.places) }
+    ensures bests { IfOk result (λ survey. survey.bests ≡ bests_of (analysis_at table.now) tree.now dirs.now.places) }
 {
     let mut survey = Survey {
         plan: Seq::new(alloc),
@@ -215,13 +215,13 @@ fn surveyed(alloc: Global, tree: &Tree, dirs: &Dirs, table: &Table) -> Result<Su
 /// another if the places are directories of it: none of them clashes.
 #[tactic(auto, using(crate::proofs::Named::links_named, crate::proofs::Clear::links_clear))]
 pub fn survey(alloc: Global, tree: &Tree, dirs: &Dirs, table: &Table) -> Result<Survey, NoMemory>
-    ensures plan { IfOk result (λ survey. survey.plan ≡ links table.now tree.now dirs.now.places) }
+    ensures plan { IfOk result (λ survey. survey.plan ≡ links (analysis_at table.now) tree.now dirs.now.places) }
     ensures is_plan { IfOk result (λ survey. IsTrue (are_dirs tree.now dirs.now.places) → IsTrue (is_plan survey.plan)) }
     ensures clear { IfOk result (λ survey. IsTrue (are_dirs tree.now dirs.now.places) → IsTrue (are_clear tree.now survey.plan)) }
-    ensures names { IsTrue (have_names table.now) }
-    ensures blocked { IfOk result (λ survey. survey.blocked ≡ blocked table.now tree.now dirs.now.places) }
-    ensures mixed { IfOk result (λ survey. survey.mixed ≡ mixed table.now tree.now dirs.now.places) }
-    ensures bests { IfOk result (λ survey. survey.bests ≡ bests_of table.now tree.now dirs.now.places) }
+    ensures names { HaveNames (analysis_at table.now) }
+    ensures blocked { IfOk result (λ survey. survey.blocked ≡ blocked (analysis_at table.now) tree.now dirs.now.places) }
+    ensures mixed { IfOk result (λ survey. survey.mixed ≡ mixed (analysis_at table.now) tree.now dirs.now.places) }
+    ensures bests { IfOk result (λ survey. survey.bests ≡ bests_of (analysis_at table.now) tree.now dirs.now.places) }
 {
     tree.know();
     table.know();

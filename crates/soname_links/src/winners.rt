@@ -1,9 +1,10 @@
 //! The entries of a cache, of a tree whose links weren't followed and whose libraries weren't compared yet.
 ghost use Rattle.std.specs.Prelude.{◌≡◌, ◌≤◌, All, IfErr, IfOk, IsTrue, List, length};
-ghost use Rattle.cache_entries.specs.Entries.{found, is_fit, AreEntriesOf, IsEntryFault};
+ghost use Rattle.cache_entries.specs.Entries.{found, is_fit, AreEntriesOf, IsEntryFault, IsOnlyListOf};
 ghost use Rattle.cache_writer.specs.declared.writer.TheConstants.{ENTRIES_MAX};
 ghost use Rattle.hwcap_dirs.specs.Places.{are_spelled};
 ghost use Rattle.lib_types.specs.declared.entry.Entry.{Entry};
+ghost use Rattle.place_files.specs.Table.{analysis_at};
 
 use crate::surveying::survey;
 use cache_entries::{EntryFault, entries_by};
@@ -20,11 +21,11 @@ pub fn entries(
     dirs: &Dirs,
     table: &Table,
 ) -> Result<Entries, EntryFault>
-    ensures entries { IfOk result (AreEntriesOf (found table.now tree.now dirs.now.places)) }
-    ensures single { IfOk result (λ entries. (others : List Entry) → AreEntriesOf (found table.now tree.now dirs.now.places) others → others ≡ entries) }
+    ensures entries { IfOk result (AreEntriesOf (found (analysis_at table.now) tree.now dirs.now.places)) }
+    ensures single { IfOk result (IsOnlyListOf (found (analysis_at table.now) tree.now dirs.now.places)) }
     ensures fit { IfOk result (λ entries. IsTrue (are_spelled dirs.now.places) → All (λ entry. IsTrue (is_fit entry)) entries) }
-    ensures few { IfOk result (λ _. length (found table.now tree.now dirs.now.places) ≤ ENTRIES_MAX) }
-    ensures fault { IfErr result (IsEntryFault (found table.now tree.now dirs.now.places)) }
+    ensures few { IfOk result (λ _. length (found (analysis_at table.now) tree.now dirs.now.places) ≤ ENTRIES_MAX) }
+    ensures fault { IfErr result (IsEntryFault (found (analysis_at table.now) tree.now dirs.now.places)) }
 {
     let survey = survey(alloc, tree, dirs, table)?;
     let links = follow(alloc, tree, dirs)?;

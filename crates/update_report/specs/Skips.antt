@@ -3,7 +3,7 @@ use Rattle.std.specs.Prelude.{ℕ, Bool, List, Option, Some, None, is_some}
 use Rattle.std.specs.Option.{option_and_then}
 use Rattle.lib_types.specs.declared.analysis.Analysis.{Analysis}
 use Rattle.lib_types.specs.declared.analysis.Analysis.TheVariants.{Lib, Not}
-use Rattle.place_files.specs.Table.{Analyses, analysis_at}
+use Rattle.place_files.specs.Analyses.{Analyses}
 use Rattle.update_report.specs.declared.kinds.Skipped.{Skipped}
 
 abbrev pub skip_by : List ℕ → Analysis → Option Skipped
@@ -12,7 +12,7 @@ skip_by path (Lib abi soname) = None
 
 -- the file at a path, if its analysis is a defect
 abbrev pub skip_at : Analyses → List ℕ → Option Skipped
-skip_at table path = option_and_then (skip_by path) (analysis_at table path)
+skip_at what path = option_and_then (skip_by path) (what path)
 
 abbrev pub is_skipped : Analyses → List ℕ → Bool
-is_skipped table path = is_some (skip_at table path)
+is_skipped what path = is_some (skip_at what path)

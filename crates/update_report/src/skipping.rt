@@ -4,6 +4,7 @@ ghost use Rattle.std.specs.List.{filter_map};
 ghost use Rattle.std.specs.Map.{keys_of};
 ghost use Rattle.place_files.specs.Order.{ascending};
 ghost use Rattle.update_report.specs.Skips.{skip_at};
+ghost use Rattle.place_files.specs.Table.{analysis_at};
 
 use crate::kinds::{Skipped, Skips};
 use lib_types::{Analysis, NoMemory, Seq, Text, Texts};
@@ -12,7 +13,7 @@ use std::alloc::Global;
 
 // The file at a path, if its analysis is a defect.
 fn skip_at(alloc: Global, table: &Table, path: &Text) -> Result<Option<Skipped>, NoMemory>
-    ensures { IfOk result (λ skipped. skipped ≡ skip_at table.now path.now) }
+    ensures { IfOk result (λ skipped. skipped ≡ skip_at (analysis_at table.now) path.now) }
 {
     match table.get(path.as_bytes()) {
         Some(Analysis::Not(defect)) => Ok(Some(Skipped {
@@ -25,7 +26,7 @@ fn skip_at(alloc: Global, table: &Table, path: &Text) -> Result<Option<Skipped>,
 
 /// Those of these files that are no libraries.
 pub fn skips(alloc: Global, table: &Table, files: &Texts) -> Result<Skips, NoMemory>
-    ensures { IfOk result (λ skips. skips ≡ filter_map (skip_at table.now) files.now) }
+    ensures { IfOk result (λ skips. skips ≡ filter_map (skip_at (analysis_at table.now)) files.now) }
 {
     let mut skips = Seq::new(alloc);
     for path in files.as_slice() {
@@ -39,7 +40,7 @@ pub fn skips(alloc: Global, table: &Table, files: &Texts) -> Result<Skips, NoMem
 /// All files of a table that are no libraries, in the order of the bytes of their paths.
 #[tactic(auto, using(crate::proofs::Picked::all_picked))]
 pub fn skips_in(alloc: Global, table: &Table) -> Result<Skips, NoMemory>
-    ensures { IfOk result (λ skips. skips ≡ filter_map (skip_at table.now) (ascending (keys_of table.now))) }
+    ensures { IfOk result (λ skips. skips ≡ filter_map (skip_at (analysis_at table.now)) (ascending (keys_of table.now))) }
 {
     let files = ascending(alloc, table.defective(alloc)?)?;
     let skips = skips(alloc, table, &files)?;

@@ -3,14 +3,15 @@ use Rattle.lib_types.specs.declared.entry.Entry.{Entry}
 use Rattle.cache_entries.proofs.Fit.{sorted_fit}
 use Rattle.cache_entries.proofs.Single.{one_list}
 use Rattle.cache_entries.specs.Entries.{AreEntriesOf}
+use Rattle.place_files.specs.Table.{analysis_at}
 use Rattle.cache_entries.proofs.listing.entries_by.Goals as goal
 
 -- src/listing.rt:238:1
 pub returns-clause-fit : goal.returns-clause-fit
-returns-clause-fit c = λ all. sorted_fit c.args.table.now c.know-2.ensures c.args.tree.now c.know.ensures c.args.dirs.now.places c.in_ok-entries.entries
+returns-clause-fit c = λ all. sorted_fit (analysis_at c.args.table.now) c.know-2.ensures c.args.tree.now c.know.ensures c.args.dirs.now.places c.in_ok-entries.entries
     (subst (λ (f : List Entry). AreEntriesOf f c.in_ok-entries.entries) c.in_ok-found.ensures c.in_ok-entries.ensures) all
 
 -- src/listing.rt:238:1
 pub returns-clause-single : goal.returns-clause-single
-returns-clause-single c = λ others are. one_list c.args.table.now c.args.tree.now c.args.dirs.now.places others c.in_ok-entries.entries are
+returns-clause-single c = λ others are. one_list (analysis_at c.args.table.now) c.args.tree.now c.args.dirs.now.places others c.in_ok-entries.entries are
     (subst (λ (f : List Entry). AreEntriesOf f c.in_ok-entries.entries) c.in_ok-found.ensures c.in_ok-entries.ensures)

@@ -3,11 +3,12 @@ use Rattle.std.specs.List.{filter_map}
 use Rattle.cache_entries.proofs.Ranks.{all_winners}
 use Rattle.cache_entries.specs.Ranked.{by_sonames, ranked_file, ranked_link}
 use Rattle.cache_entries.specs.Winner.{linked}
+use Rattle.place_files.specs.Table.{analysis_at}
 use Rattle.cache_entries.proofs.winner.winners_of.Goals as goal
 
 pub returns : goal.returns
 returns c =
-    let links = filter_map (linked c.args.table.now) c.args.links.now in
+    let links = filter_map (linked (analysis_at c.args.table.now)) c.args.links.now in
     let files : c.add_files.new.candidates.items ≡ by_sonames (map ranked_file c.args.files.now) =
     c.in_ok-add_files.ensures ∙ ap (λ items. items ++ by_sonames (map ranked_file c.args.files.now)) c.in_ok-candidates.ensures.items in
     all_winners c.args.files.now links c.add_links.new.candidates.items c.in_ok-winners.winners.items

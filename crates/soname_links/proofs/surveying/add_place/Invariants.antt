@@ -6,14 +6,15 @@ use Rattle.place_files.specs.Libraries.{libraries_in}
 use Rattle.soname_links.specs.Plan.{links_in}
 use Rattle.soname_links.specs.Survey.{blocked_of, mixed_of, planned_of}
 use Rattle.soname_links.specs.declared.groups.Group.{Group}
+use Rattle.place_files.specs.Table.{analysis_at}
 use Rattle.soname_links.proofs.surveying.add_place.Given as goal
 
 -- the sonames that are left give the rest
 abbrev pub invariant-loop-group : goal.invariant-loop-group
 invariant-loop-group l = record {
-  plan : l.survey.plan ++ filter_map (planned_of l.tree l.number l.place) l.group-iterator.rest.items ≡ l.fn.survey.plan ++ links_in l.table l.tree l.number l.place;
-  blocked : l.survey.blocked ++ filter_map (blocked_of l.tree l.number l.place) l.group-iterator.rest.items ≡ l.fn.survey.blocked ++ blocked_in l.table l.tree l.number l.place;
+  plan : l.survey.plan ++ filter_map (planned_of l.tree l.number l.place) l.group-iterator.rest.items ≡ l.fn.survey.plan ++ links_in (analysis_at l.table) l.tree l.number l.place;
+  blocked : l.survey.blocked ++ filter_map (blocked_of l.tree l.number l.place) l.group-iterator.rest.items ≡ l.fn.survey.blocked ++ blocked_in (analysis_at l.table) l.tree l.number l.place;
   before : l.survey.bests ≡ l.fn.survey.bests;
-  place_bests : l.bests ++ map (λ (e : List ℕ × Group). e.1.best) l.group-iterator.rest.items ≡ bests (libraries_in l.table l.tree l.place);
-  mixed : l.survey.mixed ++ filter_map (mixed_of l.number) l.group-iterator.rest.items ≡ l.fn.survey.mixed ++ mixed_in l.table l.tree l.number l.place;
+  place_bests : l.bests ++ map (λ (e : List ℕ × Group). e.1.best) l.group-iterator.rest.items ≡ bests (libraries_in (analysis_at l.table) l.tree l.place);
+  mixed : l.survey.mixed ++ filter_map (mixed_of l.number) l.group-iterator.rest.items ≡ l.fn.survey.mixed ++ mixed_in (analysis_at l.table) l.tree l.number l.place;
 }
