@@ -33,7 +33,7 @@ module _ {X : Type 0} (lt : X → X → Bool) (o : IsStrictWeakOrder lt) where
           let few = sum_by-le counts_below 0 (x ∷ xs) none in
           absurd (omega (arith, one, few, same counts_below, sum_by-cons counts_below y ys))
 
-  sorted_rest : (x : X) (xs : List X) → IsSortedBy lt (x ∷ xs) → IsSortedBy lt xs
+  pub sorted_rest : (x : X) (xs : List X) → IsSortedBy lt (x ∷ xs) → IsSortedBy lt xs
   sorted_rest x xs sorted k d low high =
       let e : suc k + 1 ≡ suc (k + 1) = omega arith in
       subst (λ n. lt (get_or (x ∷ xs) n d) (get_or xs k d) ≡ false) e (sorted (suc k) d (omega arith) (omega arith))

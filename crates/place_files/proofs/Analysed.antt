@@ -1,9 +1,9 @@
--- The libraries of places stay while files elsewhere get an analysis.
-use Rattle.std.proofs.Common.{◌≡◌, ℕ, Bool, true, false, cond, ◌&&◌, ◌||◌, List, [], ◌∷◌, ◌++◌, flat_map, map, refl, ap, sym, subst, ◌∙◌, Some, None}
+-- What is wanted are files, and their libraries stay while files elsewhere get an analysis.
+use Rattle.std.proofs.Common.{◌≡◌, ℕ, Bool, true, false, cond, ◌&&◌, ◌||◌, List, [], ◌∷◌, flat_map, ap, sym, subst, ◌∙◌, Some, None}
 use Rattle.std.proofs.lemmas.Bool.{and_parts}
+use Rattle.std.proofs.lemmas.List.Folds.{list_any-append}
 use Rattle.std.proofs.lemmas.Slice.Eq.{bytes_eq-Decides}
-use Rattle.std.specs.List.{cons_option, filter_map, list_all, list_any}
-use Rattle.std.specs.Option.{is_some, option_and_then}
+use Rattle.std.specs.List.{list_all, list_any}
 use Rattle.std.specs.Str.{bytes_eq}
 use Rattle.hwcap_dirs.proofs.Reals.{all_given, all_items, any_item}
 use Rattle.hwcap_dirs.specs.declared.kinds.Place.{Place}
@@ -13,11 +13,11 @@ use Rattle.path_walk.specs.Files.{is_file}
 use Rattle.tree_face.specs.Paths.{join}
 use Rattle.tree_face.specs.Tree.{Nodes, children_of, kind_at}
 use Rattle.place_files.proofs.InOrder.{in_ascending}
-use Rattle.place_files.proofs.Members.{is_in, itself}
-use Rattle.place_files.specs.Best.{bests, bests_of}
-use Rattle.place_files.specs.Libraries.{libraries_in, library_at, library_by, library_in}
-use Rattle.place_files.specs.Search.{file_in, files_in, wanted}
+use Rattle.place_files.proofs.Members.{is_in}
+use Rattle.place_files.proofs.NoOtherFiles.{bests_agree, kept_agree}
 use Rattle.place_files.specs.Analyses.{Analyses, HaveAnalyses, KeepsAnalyses}
+use Rattle.place_files.specs.Best.{bests_of}
+use Rattle.place_files.specs.Search.{file_in, files_in, wanted}
 
 -- what all texts meet, each of them meets
 pub each_meets : (p : List ℕ → Bool) (xs : List (List ℕ)) (z : List ℕ) → list_all p xs ≡ true → is_in xs z ≡ true → p z ≡ true

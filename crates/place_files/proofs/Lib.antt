@@ -1,5 +1,6 @@
 pub mod Analysed
 pub mod Children
+pub mod Counted
 pub mod Either
 mod Folders
 pub mod Gathered
