@@ -21,8 +21,8 @@ module _ (held : Contents) where
   until_append : (ks more : List (List ℕ)) → until_lacking held (ks ++ more) ≡ until_lacking held ks ++ rest ks more
   until_append [] more = refl
   until_append (key ∷ ks) more = by_test (is_lacking held key)
-      (λ e. rw (e, e, e) refl)
-      (λ e. rw (e, e, e) (ap (λ l. key ∷ l) (until_append ks more)))
+      (λ e. rw e refl)
+      (λ e. rw e (ap (λ l. key ∷ l) (until_append ks more)))
 
   most_append : (xs ys : List (List ℕ)) → most_of held (xs ++ ys) ≡ most_of held xs + most_of held ys
   most_append xs ys = sum_by-append (most_under held) xs ys

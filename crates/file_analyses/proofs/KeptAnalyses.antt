@@ -2,6 +2,7 @@
 use Rattle.std.proofs.Common.{◌≡◌, ◌<◌, ◌+◌, ◌++◌, ◌||◌, ℕ, Bool, true, false, cond, List, [], ◌∷◌, drop, drop-cons, get_or, length, suc, refl, ap, sym, subst, ◌∙◌, arith, Option, Some, None}
 use Rattle.std.proofs.lemmas.Map.Keys.{sorted_tail}
 use Rattle.std.proofs.lemmas.Slice.Eq.{bytes_eq-Decides}
+use Rattle.std.proofs.lemmas.Cmp.{tied_itself}
 use Rattle.std.specs.Cmp.Lexicographic.{nat_list_cmp_total, slice_cmp}
 use Rattle.std.specs.declared.cmp.Ordering.TheVariants.{Less, Equal, Greater}
 use Rattle.std.specs.List.{AllByRecursion, cons_option, filter_map, list_any}
@@ -103,7 +104,7 @@ module _ (t : Nodes) where
   AreOthers path what new = (other : List ℕ) → bytes_eq other path ≡ false → new other ≡ what other
 
   -- their keys don't depend on it
-  unread_others : (what new : Analyses) (path : List ℕ) (paths : List (List ℕ)) → AreOthers path what new → is_in paths path ≡ false
+  pub unread_others : (what new : Analyses) (path : List ℕ) (paths : List (List ℕ)) → AreOthers path what new → is_in paths path ≡ false
       → unread_keys t new paths ≡ unread_keys t what paths
   unread_others what new path [] same out = refl
   unread_others what new path (q ∷ paths) same out = by_test (bytes_eq path q)

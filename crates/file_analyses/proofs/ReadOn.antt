@@ -113,8 +113,8 @@ module _ (t : Nodes) (known : Option Contents) (all : List (List ℕ)) where
   }
     where
       nothing : (k : Option Contents) → ReadsBy k [] Complete s s
-      nothing None = ?
-      nothing (Some held) = ?
+      nothing None = reads_none _ _ s
+      nothing (Some held) = reads_none _ _ s
       none : (k : Option Contents) → IfKnown k (λ held. lacks_one held [] ≡ false)
       none None = tt
       none (Some held) = refl

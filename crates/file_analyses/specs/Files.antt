@@ -35,7 +35,11 @@ AreRight held t what = (path : List ℕ) → is_some (what path) ≡ true → wh
 abbrev pub unread_key : Nodes → Analyses → List ℕ → Option (List ℕ)
 unread_key t what path = if is_none (what path) then key_in (node_at t path) else None
 
--- those of the files at these paths, in their order
+-- the keys of the files at these paths, in their order
+abbrev pub file_keys : Nodes → List (List ℕ) → List (List ℕ)
+file_keys t paths = filter_map (λ path. key_in (node_at t path)) paths
+
+-- those of the files that have no analysis yet
 abbrev pub unread_keys : Nodes → Analyses → List (List ℕ) → List (List ℕ)
 unread_keys t what paths = filter_map (unread_key t what) paths
 

@@ -1,10 +1,11 @@
-pub mod Cache
+pub mod Begun
 pub mod Faults
-pub mod Image
+pub mod Ldconfig
 pub mod Manifest
 pub mod Outcome
 pub mod Replace
 pub mod Session
 pub mod Settled
 pub mod Stages
+pub mod Texts
 pub mod Update

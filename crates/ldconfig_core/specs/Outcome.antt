@@ -1,21 +1,19 @@
--- What an update of a manifest comes to, for given contents.
+-- What an update of a loaded image comes to, for given contents.
 use Rattle.std.specs.Prelude.{ℕ, Bool, false, List, [], ◌∷◌, nat_lt, if◌then◌else◌, length, Option, Some, None}
 use Rattle.cache_writer.specs.declared.writer.TheConstants.{ENTRIES_MAX}
+use Rattle.file_analyses.specs.Files.{lacks_one}
+use Rattle.ldso_conf.specs.Reading.{conf_lacks}
 use Rattle.mtree_manifest.specs.Canon.{canon}
-use Rattle.mtree_manifest.specs.declared.fault.ManifestFault.{ManifestFault}
 use Rattle.mtree_manifest.specs.declared.fault.TheConstants.{TEXT_MAX}
 use Rattle.soname_links.specs.Apply.{nodes_with}
 use Rattle.soname_links.specs.declared.kinds.Planned.{Planned}
 use Rattle.tree_face.specs.Store.{Contents}
 use Rattle.tree_face.specs.Tree.{Nodes}
-use Rattle.ldconfig_core.specs.Image.{conf_in, wanted_in, links_in, planned_in, files_in, entries_in, has_too_many_nodes}
-use Rattle.ldconfig_core.specs.Manifest.{Manifest, Empty, Faulty, HasTree}
+use Rattle.ldconfig_core.specs.Begun.{behind_keys, has_too_many_nodes, wanted_keys}
+use Rattle.ldconfig_core.specs.Ldconfig.{entries_in, links_in, planned_in}
+use Rattle.ldconfig_core.specs.Session.{Loaded}
 
 pub data Outcome : Type 0 where
-  -- there is no manifest
-  NoManifest : Outcome
-  -- the manifest has no tree
-  BadManifest : ManifestFault → Outcome
   -- the content of a conf file or of a library file isn't held
   Lacking : Outcome
   -- the tree with the planned links has more nodes than a tree may have, or its manifest more bytes than a manifest may have
@@ -30,8 +28,8 @@ abbrev pub manifest_with : Nodes → List Planned → Option (List ℕ)
 manifest_with t [] = None
 manifest_with t (planned ∷ plan) = Some (canon t)
 
-unfoldable pub new_manifest : Contents → Nodes → Option (List ℕ)
-new_manifest held t = manifest_with (planned_in held t) (links_in held t)
+unfoldable pub new_manifest : Contents → Loaded → Option (List ℕ)
+new_manifest held s = manifest_with (planned_in held s.tree) (links_in held s.tree)
 
 abbrev pub is_too_long : Option (List ℕ) → Bool
 is_too_long None = false
@@ -45,14 +43,14 @@ size_of (Some text) = length text
 abbrev pub Refusal : Type 0
 Refusal = Bool × Outcome
 
-abbrev pub refusals : Contents → Nodes → List Refusal
-refusals held t =
-    ((conf_in held t).lacks, Lacking)
-    ∷ ((wanted_in held t).lacks, Lacking)
-    ∷ (has_too_many_nodes held t, TooLarge (nodes_with t (links_in held t)) 0)
-    ∷ ((files_in held t).lacks, Lacking)
-    ∷ (is_too_long (new_manifest held t), TooLarge (length (planned_in held t)) (size_of (new_manifest held t)))
-    ∷ (nat_lt ENTRIES_MAX (length (entries_in held t)), TooMany (length (entries_in held t)))
+abbrev pub refusals : Contents → Loaded → List Refusal
+refusals held s =
+    (conf_lacks held s.tree, Lacking)
+    ∷ (lacks_one held (wanted_keys held s.tree), Lacking)
+    ∷ (has_too_many_nodes held s.tree, TooLarge (nodes_with s.tree (links_in held s.tree)) 0)
+    ∷ (lacks_one held (behind_keys held s.tree), Lacking)
+    ∷ (is_too_long (new_manifest held s), TooLarge (length (planned_in held s.tree)) (size_of (new_manifest held s)))
+    ∷ (nat_lt ENTRIES_MAX (length (entries_in held s.tree)), TooMany (length (entries_in held s.tree)))
     ∷ []
 
 -- the first whose condition holds
@@ -60,10 +58,5 @@ abbrev pub first_refusal : List Refusal → Outcome
 first_refusal [] = Writes
 first_refusal (refusal ∷ rest) = if refusal.0 then refusal.1 else first_refusal rest
 
-unfoldable pub update_outcome : Contents → Nodes → Outcome
-update_outcome held t = first_refusal (refusals held t)
-
-abbrev pub outcome : Contents → Manifest → Outcome
-outcome held Empty = NoManifest
-outcome held (Faulty fault) = BadManifest fault
-outcome held (HasTree t) = update_outcome held t
+unfoldable pub update_outcome : Contents → Loaded → Outcome
+update_outcome held s = first_refusal (refusals held s)

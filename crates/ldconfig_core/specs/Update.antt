@@ -1,69 +1,99 @@
--- What an update leaves on the disk, and what it returns.
-use Rattle.std.specs.Prelude.{◌≡◌, ℕ, List, Option, length}
-use Rattle.tree_face.specs.declared.disk.DoneCall.{DoneCall}
-use Rattle.tree_face.specs.declared.disk.Slot.{Slot}
+-- One update of a loaded image: what it returns, and what it leaves on the store and on the disk.
+use Rattle.std.specs.Prelude.{◌≡◌, ◌⊎◌, ◌≤◌, ℕ, length, Option, Result, Ok, Err, IfOk, IsSomeAnd, ⊤}
+use Rattle.std.specs.Option.{option_map}
+use Rattle.lib_types.specs.Counts.{HasRisen}
 use Rattle.tree_face.specs.declared.disk.Tag.{Tag}
-use Rattle.tree_face.specs.Disk.{DiskContent}
+use Rattle.tree_face.specs.Disk.{DiskState}
 use Rattle.tree_face.specs.Known.{IfKnown}
-use Rattle.tree_face.specs.Store.{Contents}
-use Rattle.tree_face.specs.Tree.{Nodes}
-use Rattle.ldconfig_core.specs.Cache.{AreTextsOf, UpdateTexts}
-use Rattle.ldconfig_core.specs.Image.{begun_in, links_in, entries_in, files_in}
-use Rattle.ldconfig_core.specs.Manifest.{Manifest, Empty, Faulty, HasTree}
-use Rattle.ldconfig_core.specs.Outcome.{Outcome, outcome, new_manifest}
-use Rattle.ldconfig_core.specs.Replace.{FailsToReplace, ReplacesBoth, calls_for}
+use Rattle.tree_face.specs.Store.{Contents, StoreState}
+use Rattle.tree_face.specs.StoreUse.{Ending, Complete, StoreFailed, GaveUp, ReadsFiles}
+use Rattle.ldconfig_core.specs.Begun.{opened_in, update_bytes, update_keys}
+use Rattle.ldconfig_core.specs.declared.fault.DiskFault.{DiskFault}
+use Rattle.ldconfig_core.specs.declared.fault.UpdateFault.{UpdateFault}
+use Rattle.ldconfig_core.specs.declared.fault.UpdateFault.TheVariants as faults
 use Rattle.ldconfig_core.specs.declared.report.Report.{Report}
+use Rattle.ldconfig_core.specs.Ldconfig.{entries_in, links_in, planned_in}
+use Rattle.ldconfig_core.specs.Outcome.{Outcome, Lacking, TooLarge, TooMany, Writes, new_manifest, update_outcome}
+use Rattle.ldconfig_core.specs.Replace.{KeepsRestMade, WritesAll, WritesPart, update_slots}
+use Rattle.ldconfig_core.specs.Session.{Loaded}
+use Rattle.ldconfig_core.specs.Settled.{AreSettled, IfReads}
+use Rattle.ldconfig_core.specs.Texts.{AreTexts, AreTextsOf, UpdateTexts, writes_of}
 
--- what the update of a manifest comes to, if the store's contents are known
-abbrev pub ComesTo : Option Contents → Manifest → Outcome → Type 0
-ComesTo held m end = IfKnown held (λ contents. outcome contents m ≡ end)
+-- ---- the results, one row for each
 
--- the texts of the update of a manifest that has a tree
-abbrev pub AreTextsFor : Contents → Manifest → UpdateTexts → Type 0
-AreTextsFor held (HasTree t) texts = AreTextsOf held t texts
-AreTextsFor held (Faulty fault) texts = ⊥
-AreTextsFor held Empty texts = ⊥
+-- the result is that of the outcome, or the store has failed, or memory is out
+abbrev pub IsAnswer : {A : Type 0} → Outcome → Result A UpdateFault → StoreState → StoreState → Type 0
+IsAnswer outcome (Ok updated) old new = outcome ≡ Writes
+IsAnswer outcome (Err faults.StoreFault) old new = HasRisen old.faults new.faults ⊎ (outcome ≡ Lacking)
+IsAnswer outcome (Err (faults.TooLarge nodes bytes)) old new = outcome ≡ TooLarge nodes bytes
+IsAnswer outcome (Err (faults.TooMany count)) old new = outcome ≡ TooMany count
+IsAnswer outcome (Err (faults.DiskFault fault)) old new = outcome ≡ Writes
+IsAnswer outcome (Err faults.NoMemory) old new = ⊤
 
--- the manifest that the update of a manifest with a tree writes, if any
-abbrev pub IsNewManifest : Contents → Manifest → Option (List ℕ) → Type 0
-IsNewManifest held (HasTree t) manifest = manifest ≡ new_manifest held t
-IsNewManifest held (Faulty fault) manifest = ⊥
-IsNewManifest held Empty manifest = ⊥
+-- how the reading of files ended
+abbrev pub update_ending : {A : Type 0} → Result A UpdateFault → Ending
+update_ending (Ok updated) = Complete
+update_ending (Err faults.StoreFault) = StoreFailed
+update_ending (Err (faults.TooLarge nodes bytes)) = Complete
+update_ending (Err (faults.TooMany count)) = Complete
+update_ending (Err (faults.DiskFault fault)) = Complete
+update_ending (Err faults.NoMemory) = GaveUp
 
--- how many files are begun for a manifest
-abbrev pub begun_for : Contents → Manifest → ℕ
-begun_for held (HasTree t) = begun_in held t
-begun_for held (Faulty fault) = 0
-begun_for held Empty = 0
+-- ---- the store
 
--- the texts are those of the update of a manifest, if the store's contents are known
-abbrev pub AreTexts : Option Contents → Manifest → UpdateTexts → Type 0
-AreTexts held m texts = IfKnown held (λ contents. AreTextsFor contents m texts)
+-- the keys of the update are begun, and no others
+abbrev pub ReadsUpdate : Loaded → Ending → StoreState → StoreState → Type 0
+ReadsUpdate s ending old new =
+    ReadsFiles (IsSomeAnd old.held (λ held. update_outcome held s ≡ Lacking)) (option_map (λ held. update_keys held s.tree) old.held)
+    (option_map (λ held. update_bytes held s.tree) old.held) ending old new
 
--- the slots are replaced by the texts of the manifest's update, and this is its report
-pub record LeavesUpdate (tag : ℕ) (held : Option Contents) (m : Manifest) (report : List ℕ) (a b : DiskContent) : Type 0 where
+-- ---- the disk
+
+-- the texts of the update are written, and this is its report
+pub record Leaves (tag : Tag) (s : Loaded) (known : Option Contents) (report : Report) (old new : DiskState) : Type 0 where
   pub texts : UpdateTexts
-  pub are : AreTexts held m texts
-  pub report_is : texts.report ≡ report
-  pub written : ReplacesBoth tag texts.manifest texts.cache a b
+  pub are : AreTexts texts
+  pub are_of : IfKnown known (λ held. AreTextsOf held s texts)
+  pub report_is : report.text ≡ texts.report
+  pub written : WritesAll tag (writes_of texts.manifest texts.cache) old new
 
--- the replacement of this slot by the texts of the manifest's update failed
-pub record MayLeaveUpdate (tag : ℕ) (held : Option Contents) (m : Manifest) (slot : Slot) (a b : DiskContent) : Type 0 where
+-- a writing call of these texts failed
+pub record MayLeave (tag : Tag) (s : Loaded) (known : Option Contents) (fault : DiskFault) (old new : DiskState) : Type 0 where
   pub texts : UpdateTexts
-  pub are : AreTexts held m texts
-  pub written : FailsToReplace tag texts.manifest texts.cache slot a b
+  pub are : AreTexts texts
+  pub are_of : IfKnown known (λ held. AreTextsOf held s texts)
+  pub written : WritesPart tag (writes_of texts.manifest texts.cache) fault old new
 
--- the writing calls are those of the two replacements
-pub record MakesCalls (P : List DoneCall → List DoneCall → List DoneCall → Type 0) (tag : Tag) (held : Option Contents) (m : Manifest) (a b : List DoneCall) : Type 0 where
-  pub manifest : Option (List ℕ)
-  pub is_new : IfKnown held (λ contents. IsNewManifest contents m manifest)
-  pub calls : P (calls_for tag manifest) a b
+-- Nothing is written unless all texts were made.
+abbrev pub DiskAfter : Tag → Loaded → Option Contents → Result (Loaded × Report) UpdateFault → DiskState → DiskState → Type 0
+DiskAfter tag s known (Ok updated) old new = Leaves tag s known updated.1 old new
+DiskAfter tag s known (Err (faults.DiskFault fault)) old new = MayLeave tag s known fault old new
+DiskAfter tag s known (Err faults.StoreFault) old new = new ≡ old
+DiskAfter tag s known (Err (faults.TooLarge nodes bytes)) old new = new ≡ old
+DiskAfter tag s known (Err (faults.TooMany count)) old new = new ≡ old
+DiskAfter tag s known (Err faults.NoMemory) old new = new ≡ old
 
--- the report and its numbers are those of the update of a tree
-pub record IsReportFor (contents : Contents) (t : Nodes) (report : Report) : Type 0 where
-  pub texts : UpdateTexts
-  pub are : AreTextsOf contents t texts
-  pub text_is : report.text ≡ texts.report
-  pub libs : report.libs ≡ length (entries_in contents t)
-  pub links : report.links ≡ length (links_in contents t)
-  pub opened : report.opened ≡ (files_in contents t).begun
+-- ---- the updated image
+
+-- the numbers of the report are those of the update
+pub record IsReportFor (held : Contents) (s : Loaded) (report : Report) : Type 0 where
+  pub libs : report.libs ≡ length (entries_in held s.tree)
+  pub links : report.links ≡ length (links_in held s.tree)
+  pub opened : report.opened ≡ opened_in held s.tree
+
+-- It is the image with the planned links, which is settled, and as which a manifest that is written reads.
+pub record IsUpdated (held : Contents) (s : Loaded) (updated : Loaded × Report) : Type 0 where
+  pub planned : updated.0 ≡ record { tree = planned_in held s.tree }
+  pub settled : AreSettled held s updated.0
+  pub reads : IfReads (new_manifest held s) updated.0
+  pub report : IsReportFor held s updated.1
+
+-- ---- one update
+
+pub record Updates (tag : Tag) (s : Loaded) (result : Result (Loaded × Report) UpdateFault) (store after_store : StoreState) (disk after_disk : DiskState) : Type 0 where
+  pub answers : IfKnown store.held (λ held. IsAnswer (update_outcome held s) result store after_store)
+  pub reads : ReadsUpdate s (update_ending result) store after_store
+  pub disk : DiskAfter tag s store.held result disk after_disk
+  pub made : KeepsRestMade tag.0 update_slots disk after_disk
+  pub disk_faults : disk.faults ≤ after_disk.faults
+  pub updated : IfOk result (λ updated. IfKnown store.held (λ held. IsUpdated held s updated))

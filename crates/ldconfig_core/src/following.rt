@@ -1,12 +1,15 @@
 //! What is found in the tree with the planned links.
-ghost use Rattle.std.specs.Prelude.{◌≡◌, ◌⊎◌, ◌≤◌, ◌-◌, true, IfErr, IfOk, IsErrOf, IsSomeAnd, OnOk};
-ghost use Rattle.file_analyses.specs.Files.{seen, with_files};
-ghost use Rattle.lib_types.specs.Counts.{HasRisen};
+ghost use Rattle.std.specs.Prelude.{◌≡◌, ◌+◌, ◌||◌, ℕ, List, true, false, length, IfErr, IfOk, OnOk};
+ghost use Rattle.std.specs.List.{list_any};
+ghost use Rattle.std.specs.Map.{keys_of};
+ghost use Rattle.std.specs.Str.{bytes_eq};
+ghost use Rattle.file_analyses.specs.Files.{AreRead, AreRight, ReadsKeys, lacks_one, unread_keys};
+ghost use Rattle.place_files.specs.Analyses.{KeepsAnalyses};
 ghost use Rattle.place_files.specs.Search.{dangling, followed, reached};
-ghost use Rattle.place_files.specs.Table.{KeepsAnalyses};
+ghost use Rattle.place_files.specs.Table.{analysis_at};
 ghost use Rattle.tree_face.specs.Known.{IfKnown};
-ghost use Rattle.tree_face.specs.Store.{BeginsAtMost};
 ghost use Rattle.ldconfig_core.specs.Faults.{is_store_fault};
+ghost use Rattle.ldconfig_core.specs.Update.{update_ending};
 
 use crate::fault::UpdateFault;
 use file_analyses::{Files, read_files};
@@ -16,13 +19,12 @@ use place_files::{PlaceLinks, dangling_among, files_behind, follow};
 use std::alloc::Global;
 use tree_face::{Store, Tree};
 
-/// The files to which links with library names lead.
+/// The links with library names.
 #[derive(Drop)]
 pub struct Followed {
-    /// The links of each place.
+    /// Those of each place.
     pub links: PlaceLinks,
-    pub reached: Texts,
-    /// The links that lead to no file.
+    /// Those that lead to no file.
     pub dangling: Texts,
 }
 
@@ -35,26 +37,24 @@ pub fn follow_links<S: Store>(
     files: &mut Files,
 ) -> Result<Followed, UpdateFault>
     ensures links { IfOk result (λ found. found.links ≡ followed tree.now dirs.now.places) }
-    ensures reached { IfOk result (λ found. found.reached ≡ reached tree.now dirs.now.places) }
     ensures dangling { IfOk result (λ found. found.dangling ≡ dangling tree.now dirs.now.places) }
-    ensures read { IfOk result (λ _. IfKnown (S.state store.old).held
-        (λ held. seen files.new ≡ with_files held tree.now (seen files.old) (reached tree.now dirs.now.places))) }
-    ensures kept { OnOk result (KeepsAnalyses files.old.table files.new.table) }
-    ensures cause { IsErrOf result UpdateFault.StoreFault → HasRisen (S.state store.old).faults (S.state store.new).faults
-        ⊎ IsSomeAnd (S.state store.old).held (λ held. (with_files held tree.now (seen files.old) (reached tree.now dirs.now.places)).lacks ≡ true) }
+    ensures right { OnOk result (IfKnown (S.state store.old).held
+        (λ held. AreRight held tree.now (analysis_at files.old.table) → AreRight held tree.now (analysis_at files.new.table))) }
+    ensures kept { OnOk result (KeepsAnalyses (analysis_at files.old.table) (analysis_at files.new.table)) }
+    ensures all { OnOk result (AreRead tree.now (analysis_at files.new.table) (reached tree.now dirs.now.places)) }
+    ensures only { OnOk result ((path : List ℕ) → list_any (bytes_eq path) (keys_of files.new.table) ≡ true →
+        (list_any (bytes_eq path) (keys_of files.old.table) || list_any (bytes_eq path) (reached tree.now dirs.now.places)) ≡ true) }
+    ensures begun { OnOk result (files.new.begun ≡
+        files.old.begun + length (unread_keys tree.now (analysis_at files.old.table) (reached tree.now dirs.now.places))) }
+    ensures none_lacks { OnOk result (IfKnown (S.state store.old).held
+        (λ held. lacks_one held (unread_keys tree.now (analysis_at files.old.table) (reached tree.now dirs.now.places)) ≡ false)) }
+    ensures reads { ReadsKeys (unread_keys tree.now (analysis_at files.old.table) (reached tree.now dirs.now.places)) (update_ending result)
+        (S.state store.old) (S.state store.new) }
     ensures others { IfErr result (λ fault. is_store_fault fault ≡ true) }
-    ensures held { (S.state store.new).held ≡ (S.state store.old).held }
-    ensures faults { (S.state store.old).faults ≤ (S.state store.new).faults }
-    ensures begun { IfKnown (S.state store.old).held (λ held. BeginsAtMost
-        ((with_files held tree.now (seen files.old) (reached tree.now dirs.now.places)).begun - files.old.begun) (S.state store.old) (S.state store.new)) }
 {
     let links = follow(alloc, tree, dirs)?;
-    let reached = files_behind(alloc, &links)?;
-    read_files(alloc, tree, store, &reached, files)?;
+    let paths = files_behind(alloc, &links)?;
+    read_files(alloc, tree, store, &paths, files)?;
     let dangling = dangling_among(alloc, &links)?;
-    Ok(Followed {
-        links,
-        reached,
-        dangling,
-    })
+    Ok(Followed { links, dangling })
 }

@@ -1,21 +1,18 @@
 //! What an update is about to write.
-ghost use Rattle.std.specs.Prelude.{◌≡◌, ◌⊎◌, ◌<◌, ◌≤◌, ℕ, false, true, length, IfErr, IfOk, IsErrOf, IsSomeAnd, IsTrue};
-ghost use Rattle.lib_types.specs.Counts.{HasRisen};
+ghost use Rattle.std.specs.Prelude.{◌≡◌, ◌<◌, ℕ, false, true, length, IfErr, IfOk, IsErrOf, IsTrue};
 ghost use Rattle.place_files.specs.Best.{bests_of};
 ghost use Rattle.place_files.specs.Search.{followed};
+ghost use Rattle.place_files.specs.Table.{analysis_at};
 ghost use Rattle.tree_face.specs.Known.{IfKnown};
-ghost use Rattle.tree_face.specs.Store.{BeginsAtMost};
-ghost use Rattle.ldconfig_core.specs.Cache.{IsReport, AreTextsOf};
 ghost use Rattle.cache_writer.specs.declared.writer.TheConstants.{ENTRIES_MAX};
 ghost use Rattle.hwcap_dirs.specs.Places.{are_spelled};
 ghost use Rattle.ldconfig_core.specs.Faults.{is_of_making, is_of_preparing, is_size_fault};
-ghost use Rattle.ldconfig_core.specs.Image.{begun_in, planned_in};
-ghost use Rattle.ldconfig_core.specs.Outcome as outcomes;
 ghost use Rattle.ldconfig_core.specs.Outcome.{is_too_long, manifest_with, size_of, update_outcome};
 ghost use Rattle.ldconfig_core.specs.Replace.{manifest_bytes};
-ghost use Rattle.ldconfig_core.specs.Settled.{AreSettled, IfReads};
-ghost use Rattle.ldconfig_core.specs.Stages.{entries_of, said_of, texts_of, IsMadeOf};
-ghost use Rattle.ldconfig_core.specs.Update.{IsReportFor};
+ghost use Rattle.ldconfig_core.specs.Settled.{IfReads};
+ghost use Rattle.ldconfig_core.specs.Stages.{entries_of, loaded, said_of, texts_of, IsMadeOf};
+ghost use Rattle.ldconfig_core.specs.Texts.{AreTexts, AreTextsOf};
+ghost use Rattle.ldconfig_core.specs.Update.{IsAnswer, IsUpdated, ReadsUpdate, update_ending};
 ghost use Rattle.update_report.specs.Report.{report_text};
 
 use crate::fault::UpdateFault;
@@ -42,7 +39,7 @@ pub struct Prepared {
 fn new_manifest(alloc: Global, tree: &Tree, plan: &Plan) -> Result<Option<Vec<u8>>, UpdateFault>
     ensures text { IfOk result (λ text. manifest_bytes text ≡ manifest_with tree.now plan.now) }
     ensures short { IfOk result (λ _. is_too_long (manifest_with tree.now plan.now) ≡ false) }
-    ensures reads { IfOk result (λ text. IfReads (manifest_bytes text) tree.now) }
+    ensures reads { IfOk result (λ text. IfReads (manifest_bytes text) (loaded tree.now)) }
     ensures too_large { (nodes bytes : ℕ) → IsErrOf result (UpdateFault.TooLarge nodes bytes) →
         (nodes ≡ length tree.now) × ((bytes ≡ size_of (manifest_with tree.now plan.now)) × (is_too_long (manifest_with tree.now plan.now) ≡ true)) }
     ensures others { IfErr result (λ fault. is_size_fault fault ≡ true) }
@@ -103,7 +100,7 @@ fn count(items: usize) -> Result<u32, NoMemory>
 // Makes what is written of what was found in the tree with its planned links.
 fn make(alloc: Global, tree: &Tree, found: &Found) -> Result<Prepared, UpdateFault>
     requires spelled { IsTrue (are_spelled found.now.search.dirs.places) }
-    requires bests { found.now.links.bests ≡ bests_of found.now.search.files.table tree.now found.now.search.dirs.places }
+    requires bests { found.now.links.bests ≡ bests_of (analysis_at found.now.search.files.table) tree.now found.now.search.dirs.places }
     requires links { found.now.followed.links ≡ followed tree.now found.now.search.dirs.places }
     ensures made { IfOk result (IsMadeOf found.now tree.now) }
     ensures too_large { (nodes bytes : ℕ) → IsErrOf result (UpdateFault.TooLarge nodes bytes) →
@@ -136,23 +133,13 @@ pub fn prepare<S: Store>(
     tree: &mut Tree,
     store: &mut S,
 ) -> Result<Prepared, UpdateFault>
-    ensures tree { IfOk result (λ _. IfKnown (S.state store.old).held (λ held. tree.new ≡ planned_in held tree.old)) }
-    ensures settled { IfOk result (λ _. IfKnown (S.state store.old).held (λ held. AreSettled held tree.old tree.new)) }
-    ensures reads { IfOk result (λ _. IfKnown (S.state store.old).held (λ held. IfReads (outcomes.new_manifest held tree.old) tree.new)) }
-    ensures texts { IfOk result (λ prepared. IfKnown (S.state store.old).held (λ held. AreTextsOf held tree.old (texts_of prepared))) }
-    ensures report { IfOk result (λ prepared. IsReport prepared.report.text) }
-    ensures report_of { IfOk result (λ prepared. IfKnown (S.state store.old).held (λ held. IsReportFor held tree.old prepared.report)) }
-    ensures store_fault { IsErrOf result UpdateFault.StoreFault → HasRisen (S.state store.old).faults (S.state store.new).faults
-        ⊎ IsSomeAnd (S.state store.old).held (λ held. update_outcome held tree.old ≡ outcomes.Lacking) }
-    ensures too_large { (nodes bytes : ℕ) → IsErrOf result (UpdateFault.TooLarge nodes bytes) →
-        IfKnown (S.state store.old).held (λ held. update_outcome held tree.old ≡ outcomes.TooLarge nodes bytes) }
-    ensures too_many { (count : ℕ) → IsErrOf result (UpdateFault.TooMany count) →
-        IfKnown (S.state store.old).held (λ held. update_outcome held tree.old ≡ outcomes.TooMany count) }
-    ensures writes { IfOk result (λ _. IfKnown (S.state store.old).held (λ held. update_outcome held tree.old ≡ outcomes.Writes)) }
+    ensures updated { IfOk result (λ prepared. IfKnown (S.state store.old).held
+        (λ held. IsUpdated held (loaded tree.old) (loaded tree.new, prepared.report))) }
+    ensures texts { IfOk result (λ prepared. AreTexts (texts_of prepared)) }
+    ensures texts_of { IfOk result (λ prepared. IfKnown (S.state store.old).held (λ held. AreTextsOf held (loaded tree.old) (texts_of prepared))) }
+    ensures answers { IfKnown (S.state store.old).held (λ held. IsAnswer (update_outcome held (loaded tree.old)) result (S.state store.old) (S.state store.new)) }
     ensures others { IfErr result (λ fault. is_of_preparing fault ≡ true) }
-    ensures held { (S.state store.new).held ≡ (S.state store.old).held }
-    ensures faults { (S.state store.old).faults ≤ (S.state store.new).faults }
-    ensures begun { IfKnown (S.state store.old).held (λ held. BeginsAtMost (begun_in held tree.old) (S.state store.old) (S.state store.new)) }
+    ensures reads { ReadsUpdate (loaded tree.old) (update_ending result) (S.state store.old) (S.state store.new) }
 {
     let found = find(alloc, tree, store)?;
     let prepared = make(alloc, tree, &found)?;

@@ -1,11 +1,12 @@
 //! The replacement of slots.
-ghost use Rattle.std.specs.Prelude.{◌≡◌, ◌≤◌, Some, OnOk, OnErr, IfErr};
+ghost use Rattle.std.specs.Prelude.{◌≡◌, ◌≤◌, ◌∷◌, [], OnOk, OnErr, IfErr, MatchResult};
 ghost use Rattle.lib_types.specs.Counts.{HasRisen};
 ghost use Rattle.tree_face.specs.Calls.{replacement};
 ghost use Rattle.tree_face.specs.Disk.{KeepsOthersMade};
+ghost use Rattle.tree_face.specs.Follows.{IsFollowedBy};
 ghost use Rattle.tree_face.specs.Known.{Relates};
-ghost use Rattle.tree_face.specs.Follows.{IsFollowedBy, IsFollowedByPart};
-ghost use Rattle.ldconfig_core.specs.Replace.{calls_for, manifest_bytes, FailsToReplace, KeepsRestMade, MayReplace, Replaces, ReplacesBoth};
+ghost use Rattle.ldconfig_core.specs.Replace.{call_by, manifest_bytes, update_slots, KeepsRestMade, MayReplaceSlot, ReplacesSlot, StopsAt, WritesAll, WritesPart};
+ghost use Rattle.ldconfig_core.specs.Texts.{of_manifest, writes_of};
 
 use crate::fault::DiskFault;
 use lib_types::Failed;
@@ -19,12 +20,14 @@ fn make_calls<D: Disk>(
     bytes: &[u8],
     call: &mut Call,
 ) -> Result<(), Failed>
-    ensures done { OnOk result (Relates (Replaces tag.0 slot bytes.now) (D.state disk.old).contents (D.state disk.new).contents) }
-    ensures failed { OnErr result (Relates (MayReplace tag.0 slot bytes.now) (D.state disk.old).contents (D.state disk.new).contents) }
+    ensures done { OnOk result (Relates (ReplacesSlot tag.0 (slot, bytes.now)) (D.state disk.old).contents (D.state disk.new).contents) }
+    ensures failed { OnErr result (Relates (MayReplaceSlot tag.0 (slot, bytes.now)) (D.state disk.old).contents (D.state disk.new).contents) }
     ensures calls { OnOk result (Relates (IsFollowedBy (replacement tag slot)) (D.state disk.old).calls (D.state disk.new).calls) }
-    ensures calls_failed { OnErr result (Relates (IsFollowedByPart (replacement tag slot)) (D.state disk.old).calls (D.state disk.new).calls) }
+    ensures calls_failed { OnErr result (Relates (StopsAt (call_by tag slot call.new) (replacement tag slot)) (D.state disk.old).calls (D.state disk.new).calls) }
     ensures made { KeepsOthersMade tag.0 slot (D.state disk.old) (D.state disk.new) }
+    ensures reads { (D.state disk.new).reads ≡ (D.state disk.old).reads }
     ensures faults { (D.state disk.old).faults ≤ (D.state disk.new).faults }
+    ensures no_fault { OnOk result ((D.state disk.new).faults ≡ (D.state disk.old).faults) }
     ensures read_faults { (D.state disk.new).read_faults ≡ (D.state disk.old).read_faults }
     ensures cause { OnErr result (HasRisen (D.state disk.old).faults (D.state disk.new).faults) }
 {
@@ -42,15 +45,10 @@ fn make_calls<D: Disk>(
 
 /// Replaces what a slot holds by these bytes, by way of a temporary file.
 pub fn replace<D: Disk>(disk: &mut D, tag: Tag, slot: Slot, bytes: &[u8]) -> Result<(), DiskFault>
-    ensures done { OnOk result (Relates (Replaces tag.0 slot bytes.now) (D.state disk.old).contents (D.state disk.new).contents) }
-    ensures failed { OnErr result (Relates (MayReplace tag.0 slot bytes.now) (D.state disk.old).contents (D.state disk.new).contents) }
-    ensures slot { IfErr result (λ fault. fault.slot ≡ slot) }
-    ensures calls { OnOk result (Relates (IsFollowedBy (replacement tag slot)) (D.state disk.old).calls (D.state disk.new).calls) }
-    ensures calls_failed { OnErr result (Relates (IsFollowedByPart (replacement tag slot)) (D.state disk.old).calls (D.state disk.new).calls) }
+    ensures done { OnOk result (WritesAll tag ((slot, bytes.now) ∷ []) (D.state disk.old) (D.state disk.new)) }
+    ensures failed { IfErr result (λ fault. WritesPart tag ((slot, bytes.now) ∷ []) fault (D.state disk.old) (D.state disk.new)) }
     ensures made { KeepsOthersMade tag.0 slot (D.state disk.old) (D.state disk.new) }
     ensures faults { (D.state disk.old).faults ≤ (D.state disk.new).faults }
-    ensures read_faults { (D.state disk.new).read_faults ≡ (D.state disk.old).read_faults }
-    ensures cause { OnErr result (HasRisen (D.state disk.old).faults (D.state disk.new).faults) }
 {
     let mut call = Call::Create;
     match make_calls(disk, tag, slot, bytes, &mut call) {
@@ -59,27 +57,21 @@ pub fn replace<D: Disk>(disk: &mut D, tag: Tag, slot: Slot, bytes: &[u8]) -> Res
     }
 }
 
-// Replaces the manifest, and then the cache.
-fn replace_two<D: Disk>(
+// Replaces the manifest, if there is a new one.
+fn replace_manifest<D: Disk>(
     disk: &mut D,
     tag: Tag,
-    manifest: &[u8],
-    cache: &[u8],
+    manifest: &Option<Vec<u8>>,
 ) -> Result<(), DiskFault>
-    ensures done { OnOk result (Relates (ReplacesBoth tag.0 (Some manifest.now) cache.now) (D.state disk.old).contents (D.state disk.new).contents) }
-    ensures failed { IfErr result (λ fault.
-        Relates (FailsToReplace tag.0 (Some manifest.now) cache.now fault.slot) (D.state disk.old).contents (D.state disk.new).contents) }
-    ensures calls { OnOk result (Relates (IsFollowedBy (calls_for tag (Some manifest.now))) (D.state disk.old).calls (D.state disk.new).calls) }
-    ensures calls_failed { OnErr result
-        (Relates (IsFollowedByPart (calls_for tag (Some manifest.now))) (D.state disk.old).calls (D.state disk.new).calls) }
-    ensures made { KeepsRestMade tag.0 (D.state disk.old) (D.state disk.new) }
+    ensures done { OnOk result (WritesAll tag (of_manifest (manifest_bytes manifest.now)) (D.state disk.old) (D.state disk.new)) }
+    ensures failed { IfErr result (λ fault. WritesPart tag (of_manifest (manifest_bytes manifest.now)) fault (D.state disk.old) (D.state disk.new)) }
+    ensures made { KeepsRestMade tag.0 update_slots (D.state disk.old) (D.state disk.new) }
     ensures faults { (D.state disk.old).faults ≤ (D.state disk.new).faults }
-    ensures read_faults { (D.state disk.new).read_faults ≡ (D.state disk.old).read_faults }
-    ensures cause { OnErr result (HasRisen (D.state disk.old).faults (D.state disk.new).faults) }
 {
-    replace(disk, tag, Slot::Manifest, manifest)?;
-    replace(disk, tag, Slot::Cache, cache)?;
-    Ok(())
+    match manifest {
+        Some(text) => replace(disk, tag, Slot::Manifest, text),
+        None => Ok(()),
+    }
 }
 
 /// Replaces the manifest, if there is a new one, and then the cache.
@@ -89,22 +81,11 @@ pub fn replace_both<D: Disk>(
     manifest: &Option<Vec<u8>>,
     cache: &[u8],
 ) -> Result<(), DiskFault>
-    ensures done { OnOk result (Relates (ReplacesBoth tag.0 (manifest_bytes manifest.now) cache.now) (D.state disk.old).contents (D.state disk.new).contents) }
-    ensures failed { IfErr result (λ fault.
-        Relates (FailsToReplace tag.0 (manifest_bytes manifest.now) cache.now fault.slot) (D.state disk.old).contents (D.state disk.new).contents) }
-    ensures calls { OnOk result (Relates (IsFollowedBy (calls_for tag (manifest_bytes manifest.now))) (D.state disk.old).calls (D.state disk.new).calls) }
-    ensures calls_failed { OnErr result
-        (Relates (IsFollowedByPart (calls_for tag (manifest_bytes manifest.now))) (D.state disk.old).calls (D.state disk.new).calls) }
-    ensures made { KeepsRestMade tag.0 (D.state disk.old) (D.state disk.new) }
+    ensures done { OnOk result (WritesAll tag (writes_of (manifest_bytes manifest.now) cache.now) (D.state disk.old) (D.state disk.new)) }
+    ensures failed { IfErr result (λ fault. WritesPart tag (writes_of (manifest_bytes manifest.now) cache.now) fault (D.state disk.old) (D.state disk.new)) }
+    ensures made { KeepsRestMade tag.0 update_slots (D.state disk.old) (D.state disk.new) }
     ensures faults { (D.state disk.old).faults ≤ (D.state disk.new).faults }
-    ensures read_faults { (D.state disk.new).read_faults ≡ (D.state disk.old).read_faults }
-    ensures cause { OnErr result (HasRisen (D.state disk.old).faults (D.state disk.new).faults) }
 {
-    match manifest {
-        Some(text) => replace_two(disk, tag, text, cache),
-        None => {
-            replace(disk, tag, Slot::Cache, cache)?;
-            Ok(())
-        }
-    }
+    replace_manifest(disk, tag, manifest)?;
+    replace(disk, tag, Slot::Cache, cache)
 }

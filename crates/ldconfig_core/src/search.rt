@@ -1,21 +1,21 @@
 //! What is found in an image before its links are planned.
-ghost use Rattle.std.specs.Prelude.{◌≡◌, ◌⊎◌, ◌≤◌, true, IfErr, IfOk, IsErrOf, IsSomeAnd, IsTrue};
+ghost use Rattle.std.specs.Prelude.{◌≡◌, ℕ, List, true, IfErr, IfOk, IsTrue};
+ghost use Rattle.std.specs.List.{list_any};
+ghost use Rattle.std.specs.Map.{keys_of};
+ghost use Rattle.std.specs.Str.{bytes_eq};
+ghost use Rattle.file_analyses.specs.Files.{AreRead};
 ghost use Rattle.hwcap_dirs.specs.Places.{are_dirs, are_spelled};
-ghost use Rattle.lib_types.specs.Counts.{HasRisen};
 ghost use Rattle.place_files.specs.Search.{wanted};
-ghost use Rattle.place_files.specs.Table.{HaveAnalyses};
+ghost use Rattle.place_files.specs.Table.{analysis_at};
 ghost use Rattle.tree_face.specs.Known.{IfKnown};
-ghost use Rattle.tree_face.specs.Store.{BeginsAtMost};
 ghost use Rattle.ldconfig_core.specs.Faults.{is_store_fault};
-ghost use Rattle.ldconfig_core.specs.Outcome as outcomes;
-ghost use Rattle.ldconfig_core.specs.Outcome.{update_outcome};
-ghost use Rattle.ldconfig_core.specs.Stages.{begun_searching, IsSearched};
+ghost use Rattle.ldconfig_core.specs.Stages.{IsSearched, ReadsSearch};
+ghost use Rattle.ldconfig_core.specs.Update.{update_ending};
 
 use crate::fault::UpdateFault;
 use file_analyses::{Files, read_files};
 use hwcap_dirs::{Dirs, order};
 use ldso_conf::{Conf, read_conf};
-use lib_types::Texts;
 use place_files::wanted;
 use std::alloc::Global;
 use tree_face::{Store, Tree};
@@ -26,14 +26,11 @@ pub struct Search {
     pub conf: Conf,
     /// Where libraries are looked for.
     pub dirs: Dirs,
-    /// The paths of the files with library names.
-    pub wanted: Texts,
-    /// What these files are.
+    /// What the files with library names there are.
     pub files: Files,
 }
 
 /// Reads the conf files, and then the files with library names in the places.
-#[tactic(auto, using(crate::proofs::Bests::wanted_read))]
 pub fn search_image<S: Store>(
     alloc: Global,
     tree: &Tree,
@@ -42,24 +39,17 @@ pub fn search_image<S: Store>(
     ensures found { IfOk result (λ search. IfKnown (S.state store.old).held (λ held. IsSearched held tree.now search)) }
     ensures real { IfOk result (λ search. IsTrue (are_dirs tree.now search.dirs.places)) }
     ensures spelled { IfOk result (λ search. IsTrue (are_spelled search.dirs.places)) }
-    ensures read { IfOk result (λ search. HaveAnalyses search.files.table (wanted tree.now search.dirs.places)) }
-    ensures cause { IsErrOf result UpdateFault.StoreFault → HasRisen (S.state store.old).faults (S.state store.new).faults
-        ⊎ IsSomeAnd (S.state store.old).held (λ held. update_outcome held tree.now ≡ outcomes.Lacking) }
+    ensures read { IfOk result (λ search. AreRead tree.now (analysis_at search.files.table) (wanted tree.now search.dirs.places)) }
+    ensures only { IfOk result (λ search. (path : List ℕ) → list_any (bytes_eq path) (keys_of search.files.table) ≡ true →
+        list_any (bytes_eq path) (wanted tree.now search.dirs.places) ≡ true) }
+    ensures reads { ReadsSearch tree.now (update_ending result) (S.state store.old) (S.state store.new) }
     ensures others { IfErr result (λ fault. is_store_fault fault ≡ true) }
-    ensures held { (S.state store.new).held ≡ (S.state store.old).held }
-    ensures faults { (S.state store.old).faults ≤ (S.state store.new).faults }
-    ensures begun { IfKnown (S.state store.old).held (λ held. BeginsAtMost (begun_searching held tree.now) (S.state store.old) (S.state store.new)) }
 {
     tree.know();
     let conf = read_conf(alloc, tree, store)?;
     let dirs = order(alloc, tree, &conf.dirs)?;
-    let wanted = wanted(alloc, tree, &dirs)?;
+    let paths = wanted(alloc, tree, &dirs)?;
     let mut files = Files::new(alloc);
-    read_files(alloc, tree, store, &wanted, &mut files)?;
-    Ok(Search {
-        conf,
-        dirs,
-        wanted,
-        files,
-    })
+    read_files(alloc, tree, store, &paths, &mut files)?;
+    Ok(Search { conf, dirs, files })
 }

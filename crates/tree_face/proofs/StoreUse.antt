@@ -156,24 +156,24 @@ module _ (e : Ending) (a b : StoreState) (partial : IsPartial e) where
   }
 
 -- a call that reads nothing
-pub reads_none : (a b : StoreState) (n : ℕ) → b ≡ a → ReadsFiles ⊥ (Some []) (Some n) Complete a b
-reads_none a b n same = rw same (none a)
+pub reads_none : (l : Type 0) (m : Option ℕ) (s : StoreState) → ReadsFiles l (Some []) m Complete s s
+reads_none l m s = record {
+  held = refl;
+  begins = unchanged s.keys;
+  begun = omega arith;
+  begun_before = omega arith;
+  taken = untaken m;
+  taken_before = omega arith;
+  faults = omega arith;
+  cause = refl;
+}
   where
-    none : (s : StoreState) → ReadsFiles ⊥ (Some []) (Some n) Complete s s
-    none s = record {
-      held = refl;
-      begins = unchanged s.keys;
-      begun = omega arith;
-      begun_before = omega arith;
-      taken = omega arith;
-      taken_before = omega arith;
-      faults = omega arith;
-      cause = refl;
-    }
-      where
-        unchanged : (keys : Option (List (List ℕ))) → Relates (BeginsKeys Complete []) keys keys
-        unchanged None = tt
-        unchanged (Some keys) = sym (append-nil keys)
+    unchanged : (keys : Option (List (List ℕ))) → Relates (BeginsKeys Complete []) keys keys
+    unchanged None = tt
+    unchanged (Some keys) = sym (append-nil keys)
+    untaken : (most : Option ℕ) → IfTaken most s s
+    untaken None = tt
+    untaken (Some n) = omega arith
 
 module _ (k : Option (List (List ℕ))) (m : Option ℕ) (a b : StoreState) where
   -- a file that isn't held, in other words

@@ -1,5 +1,6 @@
 pub mod Calls
 pub mod Disk
+pub mod DiskUse
 pub mod Failures
 pub mod Follows
 pub mod Index
