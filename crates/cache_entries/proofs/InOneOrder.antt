@@ -1,8 +1,8 @@
 -- Whatever is found has a list in the order of entries.
-use Rattle.std.proofs.Common.{◌≡◌, ℕ, ◌<◌, Bool, true, false, cond, zero, suc, List, [], ◌∷◌, length, get_or, refl, ap, ◌∙◌, arith}
+use Rattle.std.proofs.Common.{◌≡◌, ◌+◌, ◌<◌, Bool, true, false, cond, zero, suc, List, [], ◌∷◌, length, get_or, refl, ap, subst, ◌∙◌, arith}
 use Rattle.std.proofs.lemmas.List.Sorted.{IsPermutation-cons, IsPermutation-middle, IsPermutation-refl, IsPermutation-trans, ranks_by}
 use Rattle.std.specs.Cmp.{IsTotalOrder}
-use Rattle.std.specs.List.Sorted.{IsPermutation, IsSorted, IsSortedBy}
+use Rattle.std.specs.List.Sorted.{IsPermutation, IsSorted}
 use Rattle.std.specs.Ordering.{is_lt, ordering_reverse}
 use Rattle.std.specs.declared.cmp.Ordering.{Ordering}
 use Rattle.std.specs.declared.cmp.Ordering.TheVariants.{Less, Equal, Greater}
@@ -25,7 +25,7 @@ module _ {X : Type 0} (cmp : X → X → Ordering) (total : IsTotalOrder cmp) wh
 
   -- ---- an item more, in front of the first that isn't below it
 
-  inserted : X → List X → List X
+  abbrev inserted : X → List X → List X
   inserted x [] = x ∷ []
   inserted x (y ∷ ys) = cond (below y x) (y ∷ inserted x ys) (x ∷ y ∷ ys)
 
@@ -34,7 +34,9 @@ module _ {X : Type 0} (cmp : X → X → Ordering) (total : IsTotalOrder cmp) wh
 
   sorted_cons : (x : X) (ys : List X) → IsNoneBelow x ys → IsSorted cmp ys → IsSorted cmp (x ∷ ys)
   sorted_cons x ys first sorted zero d from within = first d (omega arith)
-  sorted_cons x ys first sorted (suc k) d from within = sorted k d (omega arith) (omega arith)
+  sorted_cons x ys first sorted (suc k) d from within =
+      let e : suc (k + 1) ≡ suc k + 1 = omega arith in
+      subst (λ n. below (get_or (x ∷ ys) n d) (get_or ys k d) ≡ false) e (sorted k d (omega arith) (omega arith))
 
   first_inserted : (z x : X) (ys : List X) → below x z ≡ false → IsNoneBelow z ys → IsNoneBelow z (inserted x ys)
   first_inserted z x [] h none d some = h
@@ -58,12 +60,12 @@ module _ {X : Type 0} (cmp : X → X → Ordering) (total : IsTotalOrder cmp) wh
 
   -- ---- all of them
 
-  sorted_of : List X → List X
+  abbrev sorted_of : List X → List X
   sorted_of [] = []
   sorted_of (x ∷ xs) = inserted x (sorted_of xs)
 
   is_sorted : (xs : List X) → IsSorted cmp (sorted_of xs)
-  is_sorted [] k d from within = absurd (omega arith)
+  is_sorted [] = λ k d from within. absurd (omega arith)
   is_sorted (x ∷ xs) = sorted_inserted x (sorted_of xs) (is_sorted xs)
 
   has_all : (xs : List X) → IsPermutation xs (sorted_of xs)

@@ -1,5 +1,5 @@
 -- Winners and entries depend on the files of the places and on those behind their links alone.
-use Rattle.std.proofs.Common.{◌≡◌, ℕ, List, [], ◌∷◌, ◌++◌, flat_map, map, refl, ap, ◌∙◌, Option, Some, None}
+use Rattle.std.proofs.Common.{◌≡◌, ℕ, List, [], ◌∷◌, flat_map, map, refl, ap, ◌∙◌, Some, None}
 use Rattle.std.proofs.lemmas.Bool.{or_left, or_right}
 use Rattle.std.specs.List.{cons_option, filter_map}
 use Rattle.std.specs.Option.{option_and_then}
@@ -10,7 +10,6 @@ use Rattle.place_files.proofs.Members.{is_in, itself}
 use Rattle.place_files.proofs.NoOtherFiles.{agree_first, agree_in_order, agree_later, by_place_same, libraries_agree}
 use Rattle.place_files.specs.Analyses.{Analyses, AgreeOn}
 use Rattle.place_files.specs.Libraries.{last_name, libraries_in, library_by}
-use Rattle.place_files.specs.Library.{Library}
 use Rattle.place_files.specs.Search.{files_of, folder_links, followed, followed_in, reached, wanted}
 use Rattle.place_files.specs.declared.links.FollowedLink.{FollowedLink}
 use Rattle.cache_entries.specs.Entries.{entry_of, found}

@@ -1,5 +1,5 @@
 //! The entries of a cache.
-ghost use Rattle.std.specs.Prelude.{◌≡◌, ◌≤◌, ◌++◌, All, IfErr, IfOk, IsTrue, List, OnOk, length};
+ghost use Rattle.std.specs.Prelude.{◌≡◌, ◌≤◌, ◌+◌, ◌++◌, All, IfErr, IfOk, IsTrue, OnOk, length, map};
 ghost use Rattle.std.proofs.Common.{refl};
 ghost use Rattle.std.specs.Cmp.{eq_by_cmp_equiv, partial_equiv_from_equiv, partial_order_from_total};
 ghost use Rattle.std.specs.Ordering.{as_partial_cmp, eq_by_cmp};
@@ -11,6 +11,7 @@ ghost use Rattle.place_files.specs.Places.{links_to};
 ghost use Rattle.place_files.specs.Search.{folder_links, followed};
 ghost use Rattle.cache_entries.specs.Entries.{cap_of, entries_in, entry_of, entry_order, entry_order-total, found, is_by_soname, is_fit, AreEntriesOf, IsEntryFault, IsOnlyListOf};
 ghost use Rattle.place_files.specs.Table.{analysis_at};
+ghost use Rattle.cache_entries.specs.Parts.{IsCountFault};
 
 use crate::fault::EntryFault;
 use crate::winner::winners_in;
@@ -168,8 +169,33 @@ fn entry_of(
     })
 }
 
-// Adds the entries of a place.
+/// What is found: the entries, and how many they are. Past the limit they are counted and not kept.
+#[derive(Drop)]
+struct Counted {
+    entries: Vec<Entry>,
+    count: usize,
+}
+
+// Adds the entries of a place's winners.
 fn add_entries(
+    alloc: Global,
+    tree: &Tree,
+    number: u32,
+    place: &Place,
+    winners: &[Library<'_>],
+    entries: &mut Vec<Entry>,
+) -> Result<(), NoMemory>
+    ensures { OnOk result (entries.new.items ≡ entries.old.items ++ map (entry_of tree.now number place.now) winners.now) }
+{
+    let mut path = Vec::new(alloc);
+    for winner in winners {
+        entries.push(entry_of(alloc, tree, number, place, winner, &mut path)?)?;
+    }
+    Ok(())
+}
+
+// Adds the entries of a place.
+fn add_place(
     alloc: Global,
     tree: &Tree,
     table: &Table,
@@ -177,15 +203,18 @@ fn add_entries(
     place: &Place,
     files: &[BestLibrary],
     links: &FolderLinks,
-    found: &mut Vec<Entry>,
+    found: &mut Counted,
 ) -> Result<(), NoMemory>
     requires files { files.now ≡ bests_in (analysis_at table.now) tree.now place.now }
     requires links { links.now ≡ folder_links tree.now place.now }
-    ensures { OnOk result (found.new.items ≡ found.old.items ++ entries_in (analysis_at table.now) tree.now number place.now) }
+    ensures count { OnOk result (found.new.count ≡ found.old.count + length (entries_in (analysis_at table.now) tree.now number place.now)) }
+    ensures kept { OnOk result (found.new.count ≤ ENTRIES_MAX
+        → found.new.entries.items ≡ found.old.entries.items ++ entries_in (analysis_at table.now) tree.now number place.now) }
 {
-    let mut path = Vec::new(alloc);
-    for winner in winners_in(alloc, table, files, links)? {
-        found.push(entry_of(alloc, tree, number, place, &winner, &mut path)?)?;
+    let winners = winners_in(alloc, table, files, links)?;
+    found.count = found.count.checked_add(winners.len()).ok_or(NoMemory)?;
+    if found.count <= ENTRIES_MAX {
+        add_entries(alloc, tree, number, place, winners.as_slice(), &mut found.entries)?;
     }
     Ok(())
 }
@@ -199,16 +228,20 @@ fn found(
     table: &Table,
     bests: &PlaceBests,
     links: &PlaceLinks,
-) -> Result<Vec<Entry>, NoMemory>
+) -> Result<Counted, NoMemory>
     requires bests { bests.now ≡ bests_of (analysis_at table.now) tree.now dirs.now.places }
     requires links { links.now ≡ followed tree.now dirs.now.places }
-    ensures { IfOk result (λ entries. entries.items ≡ found (analysis_at table.now) tree.now dirs.now.places) }
+    ensures count { IfOk result (λ kept. kept.count ≡ length (found (analysis_at table.now) tree.now dirs.now.places)) }
+    ensures kept { IfOk result (λ kept. kept.count ≤ ENTRIES_MAX → kept.entries.items ≡ found (analysis_at table.now) tree.now dirs.now.places) }
 {
-    let mut found = Vec::new(alloc);
+    let mut found = Counted {
+        entries: Vec::new(alloc),
+        count: 0,
+    };
     let mut number: u32 = 0;
     let there = bests.as_slice().iter().zip(links.as_slice());
     for (place, (bests, links)) in dirs.places.as_slice().iter().zip(there) {
-        add_entries(
+        add_place(
             alloc,
             tree,
             table,
@@ -254,6 +287,21 @@ fn sorted(alloc: Global, found: Vec<Entry>) -> Result<Entries, NoMemory>
     listed(alloc, entries)
 }
 
+// The entries that were found in their order, unless they are too many.
+fn in_order(alloc: Global, found: Counted) -> Result<Entries, EntryFault>
+    ensures entries { IfOk result (AreEntriesOf found.entries.items) }
+    ensures few { IfOk result (λ _. found.count ≤ ENTRIES_MAX) }
+    ensures fault { IfErr result (IsCountFault found.count) }
+{
+    if found.count > ENTRIES_MAX {
+        return Err(EntryFault::TooMany {
+            count: found.count as u64,
+        });
+    }
+    let entries = sorted(alloc, found.entries)?;
+    Ok(entries)
+}
+
 /// The entries of a cache, one for each place and soname with a winner, given the best libraries and the links of the places. The
 /// tree is one that has all planned links.
 pub fn entries_by(
@@ -275,11 +323,6 @@ pub fn entries_by(
     tree.know();
     table.know();
     let found = found(alloc, tree, dirs, table, bests, links)?;
-    if found.len() > ENTRIES_MAX {
-        return Err(EntryFault::TooMany {
-            count: found.len() as u64,
-        });
-    }
-    let entries = sorted(alloc, found)?;
+    let entries = in_order(alloc, found)?;
     Ok(entries)
 }

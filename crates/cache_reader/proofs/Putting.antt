@@ -56,8 +56,8 @@ all_moved text (Some a) (Some b) p = record { moved = text; parts = sym (append-
 
 -- a text that goes past an empty buffer
 pub passed_on : (text : List ℕ) (s0 s1 : SinkState) (r : Result (Unit {0}) Failed) → TakesAll s0 s1 text r → Puts text [] [] s0 s1 r
-passed_on text s0 s1 (Ok u) p = record { done = all_moved text s0.written s1.written p.done; failed = tt; faults = p.faults; cause = tt }
-passed_on text s0 s1 (Err e) p = record { done = tt; failed = p.failed; faults = p.faults; cause = p.cause }
+passed_on text s0 s1 (Ok u) p = record { done = all_moved text s0.written s1.written p.done; failed = tt; faults = p.faults; no_fault = p.no_fault; cause = tt }
+passed_on text s0 s1 (Err e) p = record { done = tt; failed = p.failed; faults = p.faults; no_fault = tt; cause = p.cause }
 
 all_taken : (text : List ℕ) (w0 w1 : Option (List ℕ)) → Relates (Moves text []) w0 w1 → Relates (IsFollowedBy text) w0 w1
 all_taken text None None p = tt
@@ -72,12 +72,14 @@ then {t1 = t1} {t2 = t2} {b0 = b0} {b1 = b1} {b2 = b2} {s0 = s0} {s1 = s1} {s2 =
   done = moves_on t1 t2 b0 b1 b2 s0.written s1.written s2.written p.done q.done;
   failed = tt;
   faults = omega (arith, p.faults, q.faults);
+  no_fault = q.no_fault ∙ p.no_fault;
   cause = tt;
 }
 then {t1 = t1} {t2 = t2} {b0 = b0} {b1 = b1} {b2 = b2} {s0 = s0} {s1 = s1} {s2 = s2} {r = Err e} p q = record {
   done = tt;
   failed = part_on t1 t2 b0 b1 s0.written s1.written s2.written p.done q.failed;
   faults = omega (arith, p.faults, q.faults);
+  no_fault = tt;
   cause = omega (arith, p.faults, q.cause);
 }
 
@@ -86,6 +88,7 @@ stop {t1 = t1} {b0 = b0} {b1 = b1} {s0 = s0} {s1 = s1} {e = e} t2 p = record {
   done = tt;
   failed = shorter_part t1 t2 b0 s0.written s1.written p.failed;
   faults = p.faults;
+  no_fault = tt;
   cause = p.cause;
 }
 
@@ -96,8 +99,8 @@ same_text {b0 = b0} {b1 = b1} {s0 = s0} {s1 = s1} {r = r} e p = subst (λ (x : L
 -- ---- the whole, from an empty buffer on
 
 finished : (text after : List ℕ) (s0 s1 : SinkState) (r : Result (Unit {0}) Failed) → OnOk r (after ≡ []) → Puts text [] after s0 s1 r → TakesAll s0 s1 text r
-finished text after s0 s1 (Ok u) e p = record { done = all_taken text s0.written s1.written (rw e at p.done); failed = tt; faults = p.faults; cause = tt }
-finished text after s0 s1 (Err e) h p = record { done = tt; failed = p.failed; faults = p.faults; cause = p.cause }
+finished text after s0 s1 (Ok u) e p = record { done = all_taken text s0.written s1.written (rw e at p.done); failed = tt; faults = p.faults; no_fault = p.no_fault; cause = tt }
+finished text after s0 s1 (Err e) h p = record { done = tt; failed = p.failed; faults = p.faults; no_fault = tt; cause = p.cause }
 
 pub whole_failed : {text before after : List ℕ} {s0 s1 : SinkState} {e : Failed} → before ≡ [] → Puts text before after s0 s1 (Err e) → TakesAll s0 s1 text (Err e)
 whole_failed {text = text} {after = after} {s0 = s0} {s1 = s1} {e = e} none p = finished text after s0 s1 (Err e) tt (rw none at p)

@@ -17,4 +17,5 @@ pub record Puts (text before after : List ℕ) (old new : SinkState) (result : R
   pub done : OnOk result (Relates (Moves (before ++ text) after) old.written new.written)
   pub failed : OnErr result (Relates (IsFollowedByPart (before ++ text)) old.written new.written)
   pub faults : old.faults ≤ new.faults
+  pub no_fault : OnOk result (new.faults ≡ old.faults)
   pub cause : OnErr result (HasRisen old.faults new.faults)

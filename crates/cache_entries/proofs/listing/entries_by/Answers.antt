@@ -6,12 +6,10 @@ use Rattle.cache_entries.specs.Entries.{AreEntriesOf}
 use Rattle.place_files.specs.Table.{analysis_at}
 use Rattle.cache_entries.proofs.listing.entries_by.Goals as goal
 
--- src/listing.rt:238:1
 pub returns-clause-fit : goal.returns-clause-fit
 returns-clause-fit c = λ all. sorted_fit (analysis_at c.args.table.now) c.know-2.ensures c.args.tree.now c.know.ensures c.args.dirs.now.places c.in_ok-entries.entries
-    (subst (λ (f : List Entry). AreEntriesOf f c.in_ok-entries.entries) c.in_ok-found.ensures c.in_ok-entries.ensures) all
+    (subst (λ (f : List Entry). AreEntriesOf f c.in_ok-entries.entries) (c.in_ok-found.ensures.kept c.in_ok-entries.ensures.few) c.in_ok-entries.ensures.entries) all
 
--- src/listing.rt:238:1
 pub returns-clause-single : goal.returns-clause-single
 returns-clause-single c = λ others are. one_list (analysis_at c.args.table.now) c.args.tree.now c.args.dirs.now.places others c.in_ok-entries.entries are
-    (subst (λ (f : List Entry). AreEntriesOf f c.in_ok-entries.entries) c.in_ok-found.ensures c.in_ok-entries.ensures)
+    (subst (λ (f : List Entry). AreEntriesOf f c.in_ok-entries.entries) (c.in_ok-found.ensures.kept c.in_ok-entries.ensures.few) c.in_ok-entries.ensures.entries)
