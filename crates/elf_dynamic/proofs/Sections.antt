@@ -41,7 +41,7 @@ none_with_text (e ∷ rest) h = by (none_with_text rest) (has_text e) h
     by ih true h = absurd (omega (arith, h))
     by ih false h = ih h
 
-some_with_text : (es : List DynamicEntry) → 0 < texts_in es → list_any has_text es ≡ true
+pub some_with_text : (es : List DynamicEntry) → 0 < texts_in es → list_any has_text es ≡ true
 some_with_text [] h = absurd (omega (arith, h))
 some_with_text (e ∷ rest) h = by (some_with_text rest) (has_text e) h
   where
@@ -112,7 +112,7 @@ outside es h k = rw (h, k) refl
 
 -- ---- the texts
 
-with_table : (t : List ℕ) (es : List DynamicEntry) → list_any has_text es ≡ true → (is_none (value_of strtab es) || is_none (value_of strsz es)) ≡ false →
+pub with_table : (t : List ℕ) (es : List DynamicEntry) → list_any has_text es ≡ true → (is_none (value_of strtab es) || is_none (value_of strsz es)) ≡ false →
     section_of (Some t) es
     ≡ cond (is_some (bad_entry (Some t) es)) (Err (BadString (option_map_or (λ e. e.tag) (bad_entry (Some t) es) 0)))
     (cond (not (option_map_or is_name (soname_of (Some t) es) true)) (Err BadSoname) (Ok (dynamic_of (Some t) es)))
@@ -176,7 +176,7 @@ strings_by w bytes (Some a) (Some n) d es ea en h e = by (table_at bytes (segmen
         ap (λ t. section_of t es) none ∙ outside es h (rw (ea, en) refl) ∙ ap err_of same
     by (Some t) eo e = absurd (cc)
 
-strings_there : (w : ℕ) (bytes : List ℕ) (a n : Option ℕ) (t : List ℕ) (es : List DynamicEntry) → value_of strtab es ≡ a → value_of strsz es ≡ n → table_by w bytes a n ≡ Ok t →
+pub strings_there : (w : ℕ) (bytes : List ℕ) (a n : Option ℕ) (t : List ℕ) (es : List DynamicEntry) → value_of strtab es ≡ a → value_of strsz es ≡ n → table_by w bytes a n ≡ Ok t →
     (string_table bytes (segments w bytes) es ≡ Some t) × ((is_none (value_of strtab es) || is_none (value_of strsz es)) ≡ false)
 strings_there w bytes None n t es ea en e = absurd (cc)
 strings_there w bytes (Some a) None t es ea en e = absurd (cc)
