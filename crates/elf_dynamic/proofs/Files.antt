@@ -4,6 +4,7 @@ use Rattle.lib_types.specs.declared.analysis.Defect.{Defect}
 use Rattle.lib_types.specs.declared.analysis.Defect.TheVariants.{DynOutside}
 use Rattle.tree_face.specs.Store.{StoreState}
 use Rattle.tree_face.specs.StoreUse.{Ending}
+use Rattle.tree_face.proofs.StoreUse.{raised-add, raised-mono}
 use Rattle.elf_headers.specs.declared.kinds.Head.{Head}
 use Rattle.elf_headers.specs.Layout.{word_size}
 use Rattle.elf_headers.specs.Reading.{known_content, OfKnown, OnlyReads, TakesAtMost, IsHeadOf}
@@ -20,7 +21,6 @@ use Rattle.elf_dynamic.specs.Taken.{section_reading, readable_section}
 use Rattle.elf_dynamic.specs.Sections.{section_in, sections_in, counting_in}
 use Rattle.elf_dynamic.proofs.Known.{with, three, before, sized}
 use Rattle.elf_dynamic.proofs.Kept.{unkept}
-use Rattle.elf_dynamic.proofs.Gathered.{raised_more, raised_less}
 use Rattle.elf_dynamic.proofs.Sections.{some_of, without, outside_file, in_file}
 
 abbrev there_is : Dynamic → Result (Option Dynamic) Defect
@@ -94,5 +94,5 @@ module _ (s : StoreState) (h : Head) (o : Option Segment) (found : OfKnown s (λ
         here false P Q e (before P s t reads taken)
         (λ bytes there inside taken.
         let all = reading w bytes there inside in
-        raised_less s.taken u.taken (112 * h.phnum + (112 * h.phnum + 4 * d.filesz + 65536 * counting_in w bytes d)) (448 * h.phnum + section_reading w bytes (readable_section w bytes))
-        (raised_more s.taken t.taken u.taken (112 * h.phnum) (112 * h.phnum + 4 * d.filesz + 65536 * counting_in w bytes d) first taken) (rw all (below h.phnum d.filesz (counting_in w bytes d))))
+        raised-mono s.taken u.taken (112 * h.phnum + (112 * h.phnum + 4 * d.filesz + 65536 * counting_in w bytes d)) (448 * h.phnum + section_reading w bytes (readable_section w bytes)) (rw all (below h.phnum d.filesz (counting_in w bytes d)))
+        (raised-add s.taken t.taken u.taken (112 * h.phnum) (112 * h.phnum + 4 * d.filesz + 65536 * counting_in w bytes d) first taken))

@@ -22,6 +22,7 @@ use Rattle.elf_dynamic.specs.Faults.{IfBad}
 use Rattle.tree_face.specs.Known.{IfKnown}
 use Rattle.tree_face.specs.Store.{StoreState}
 use Rattle.tree_face.specs.StoreUse.{Ending}
+use Rattle.tree_face.proofs.StoreUse.{raised-add, raised-mono}
 use Rattle.elf_headers.specs.Reading.{known_content, OfKnown, OnlyReads, TakesAtMost}
 use Rattle.elf_headers.specs.declared.kinds.Segment.{Segment}
 use Rattle.elf_headers.specs.Layout.{segments}
@@ -29,7 +30,7 @@ use Rattle.elf_dynamic.specs.declared.values.Values.{Values}
 use Rattle.elf_dynamic.specs.Values.{texts_in, values_of}
 use Rattle.elf_dynamic.proofs.Known.{before, after, with, both, three}
 use Rattle.elf_dynamic.proofs.Kept.{unkept, soname_alike, name_alike}
-use Rattle.elf_dynamic.proofs.Gathered.{all_texts, picked, gathered_all, counted_all, raised_more, raised_less}
+use Rattle.elf_dynamic.proofs.Gathered.{all_texts, picked, gathered_all, counted_all}
 
 -- ---- whether an entry has a text
 
@@ -194,8 +195,8 @@ unfolding counting_in
 known_taken None a b c n m w s f table h k = tt
 known_taken (Some bytes) a b c n m w s f table h k =
     let count = counted_all (table bytes) f (dynamic_entries w bytes s) in
-    raised_less a c (n + (m + 65536 * counted (table bytes) (no_texts f) (dynamic_entries w bytes s))) (n + m + 65536 * length (counting_entries (dynamic_entries w bytes s)))
-    (raised_more a b c n (m + 65536 * counted (table bytes) (no_texts f) (dynamic_entries w bytes s)) h k) (omega (arith, count))
+    raised-mono a c (n + (m + 65536 * counted (table bytes) (no_texts f) (dynamic_entries w bytes s))) (n + m + 65536 * length (counting_entries (dynamic_entries w bytes s))) (omega (arith, count))
+    (raised-add a b c n (m + 65536 * counted (table bytes) (no_texts f) (dynamic_entries w bytes s)) h k)
 
 -- the same of a store, with the table before the texts
 pub texts_taken_by : {e : Ending} (s t u : StoreState) (n m w : ℕ) (d : Segment) (f : Bool) (table : Table) → OnlyReads e s t → TakesAtMost n s t →
@@ -290,13 +291,13 @@ values_after s t w d v r h = after (λ bytes. v ≡ values_of (dynamic_entries w
 
 pub textless_taken : (known : Option (List ℕ)) (a b n m w : ℕ) (s : Segment) → b ≤ raised a n → IfKnown known (λ bytes. b ≤ raised a (n + m + 65536 * counting_in w bytes s))
 textless_taken None a b n m w s h = tt
-textless_taken (Some bytes) a b n m w s h = raised_less a b n (n + m + 65536 * counting_in w bytes s) h (omega arith)
+textless_taken (Some bytes) a b n m w s h = raised-mono a b n (n + m + 65536 * counting_in w bytes s) (omega arith) h
 
 pub texts_taken : (known : Option (List ℕ)) (a b c n m w : ℕ) (s : Segment) → b ≤ raised a n → IfKnown known (λ bytes. c ≤ raised b (m + n + 65536 * counting_in w bytes s)) →
     IfKnown known (λ bytes. c ≤ raised a (n + (m + n) + 65536 * counting_in w bytes s))
 texts_taken None a b c n m w s h k = tt
 texts_taken (Some bytes) a b c n m w s h k =
-    raised_less a c (n + (m + n + 65536 * counting_in w bytes s)) (n + (m + n) + 65536 * counting_in w bytes s) (raised_more a b c n (m + n + 65536 * counting_in w bytes s) h k) (omega arith)
+    raised-mono a c (n + (m + n + 65536 * counting_in w bytes s)) (n + (m + n) + 65536 * counting_in w bytes s) (omega arith) (raised-add a b c n (m + n + 65536 * counting_in w bytes s) h k)
 
 -- ---- the section of a file
 
