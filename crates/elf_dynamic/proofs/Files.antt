@@ -1,9 +1,10 @@
 -- The dynamic section of a file in known content.
-use Rattle.std.proofs.Common.{◌≡◌, ℕ, ◌+◌, ◌*◌, ◌≤◌, Bool, true, false, nat_lt, List, length, Option, Some, None, Result, Ok, Err, refl, ap, sym, ◌∙◌, arith}
+use Rattle.std.proofs.Common.{◌≡◌, ℕ, ◌+◌, ◌*◌, ◌≤◌, Bool, true, false, nat_lt, List, length, Option, Some, None, Result, Ok, Err, IfErr, refl, ap, sym, subst, ◌∙◌, arith}
 use Rattle.lib_types.specs.declared.analysis.Defect.{Defect}
 use Rattle.lib_types.specs.declared.analysis.Defect.TheVariants.{DynOutside}
 use Rattle.tree_face.specs.Store.{StoreState}
 use Rattle.tree_face.specs.StoreUse.{Ending}
+use Rattle.tree_face.proofs.StoreUse.{raised-add, raised-mono}
 use Rattle.elf_headers.specs.declared.kinds.Head.{Head}
 use Rattle.elf_headers.specs.Layout.{word_size}
 use Rattle.elf_headers.specs.Reading.{known_content, OfKnown, OnlyReads, TakesAtMost, IsHeadOf}
@@ -14,16 +15,20 @@ use Rattle.elf_dynamic.specs.declared.kinds.Dynamic.{Dynamic}
 use Rattle.elf_dynamic.specs.Faults.{IfBad}
 use Rattle.elf_dynamic.specs.declared.gather.Keep.{Keep}
 use Rattle.elf_dynamic.specs.Kept.{kept, kept_of, kept_in_file}
+use Rattle.elf_dynamic.specs.Memory.{IsBehindTexts, SectionTakesMemory}
 use Rattle.elf_dynamic.specs.Section.{dynamic_segment, is_outside}
 use Rattle.elf_dynamic.specs.Taken.{section_reading, readable_section}
 use Rattle.elf_dynamic.specs.Sections.{section_in, sections_in, counting_in}
 use Rattle.elf_dynamic.proofs.Known.{with, three, before, sized}
 use Rattle.elf_dynamic.proofs.Kept.{unkept}
-use Rattle.elf_dynamic.proofs.Gathered.{raised_more, raised_less}
 use Rattle.elf_dynamic.proofs.Sections.{some_of, without, outside_file, in_file}
 
 abbrev there_is : Dynamic → Result (Option Dynamic) Defect
 there_is d = Ok (Some d)
+
+some_takes : (r : Result Dynamic Defect) → IfErr r IsBehindTexts → SectionTakesMemory (some_of r)
+some_takes (Ok d) takes = refl
+some_takes (Err x) takes = takes
 
 module _ (s : StoreState) (h : Head) (o : Option Segment) (found : OfKnown s (λ bytes. o ≡ dynamic_segment (word_size h.wide) bytes)) where
   pub file_without : (keep : Keep) → o ≡ None → OfKnown s (λ bytes. kept_in_file keep (sections_in (word_size h.wide) bytes) ≡ Ok None)
@@ -66,6 +71,13 @@ module _ (s : StoreState) (h : Head) (o : Option Segment) (found : OfKnown s (λ
     file_fault faults.StoreFault bad = tt
     file_fault faults.NoMemory bad = tt
 
+    pub file_takes : OfKnown t (λ bytes. IfErr (section_in (word_size h.wide) bytes d) IsBehindTexts) → OfKnown s (λ bytes. SectionTakesMemory (sections_in (word_size h.wide) bytes))
+    file_takes takes =
+        let w = word_size h.wide in
+        let P = λ (bytes : List ℕ). IfErr (section_in w bytes d) IsBehindTexts in
+        here false P (λ bytes. SectionTakesMemory (sections_in w bytes)) e (before P s t reads takes)
+        (λ bytes there inside takes. subst SectionTakesMemory (sym (in_file w bytes d (section_in w bytes d) there inside refl)) (some_takes (section_in w bytes d) takes))
+
     reading : (w : ℕ) (bytes : List ℕ) → dynamic_segment w bytes ≡ Some d → is_outside bytes d ≡ false → section_reading w bytes (readable_section w bytes) ≡ 8 * d.filesz + 131072 * counting_in w bytes d
     unfolding counting_in
     reading w bytes there h = rw (there, h) refl
@@ -82,5 +94,5 @@ module _ (s : StoreState) (h : Head) (o : Option Segment) (found : OfKnown s (λ
         here false P Q e (before P s t reads taken)
         (λ bytes there inside taken.
         let all = reading w bytes there inside in
-        raised_less s.taken u.taken (112 * h.phnum + (112 * h.phnum + 4 * d.filesz + 65536 * counting_in w bytes d)) (448 * h.phnum + section_reading w bytes (readable_section w bytes))
-        (raised_more s.taken t.taken u.taken (112 * h.phnum) (112 * h.phnum + 4 * d.filesz + 65536 * counting_in w bytes d) first taken) (rw all (below h.phnum d.filesz (counting_in w bytes d))))
+        raised-mono s.taken u.taken (112 * h.phnum + (112 * h.phnum + 4 * d.filesz + 65536 * counting_in w bytes d)) (448 * h.phnum + section_reading w bytes (readable_section w bytes)) (rw all (below h.phnum d.filesz (counting_in w bytes d)))
+        (raised-add s.taken t.taken u.taken (112 * h.phnum) (112 * h.phnum + 4 * d.filesz + 65536 * counting_in w bytes d) first taken))

@@ -7,6 +7,7 @@ use Rattle.lib_types.specs.declared.analysis.Defect.TheVariants.{BadString}
 use Rattle.lib_types.specs.Counts.{raised}
 use Rattle.tree_face.specs.Known.{IfKnown}
 use Rattle.tree_face.specs.Store.{StoreState}
+use Rattle.tree_face.proofs.StoreUse.{raised-add, raised-mono}
 use Rattle.elf_dynamic.specs.declared.kinds.DynamicEntry.{DynamicEntry}
 use Rattle.elf_dynamic.specs.declared.kinds.Dynamic.{Dynamic}
 use Rattle.elf_dynamic.specs.Section.{has_tag, has_text, value_of, counts_after, counting_after, counting_entries, has_text_at, text_at}
@@ -104,14 +105,8 @@ rests_end keep (Some bytes) table rest all d none whole = sym whole ∙ ap (λ e
 
 -- ---- the bytes that were taken, in known content
 
-pub raised_more : (a b c n m : ℕ) → b ≤ raised a n → c ≤ raised b m → c ≤ raised a (n + m)
-raised_more a b c n m h k = omega arith
-
-pub raised_less : (a b n m : ℕ) → b ≤ raised a n → n ≤ m → b ≤ raised a m
-raised_less a b n m h k = omega arith
-
 raised_three : (a b c d n m k p : ℕ) → b ≤ raised a n → c ≤ raised b m → d ≤ raised c k → n + m + k ≤ p → d ≤ raised a p
-raised_three a b c d n m k p x y z h = raised_less a d (n + m + k) p (raised_more a c d (n + m) k (raised_more a b c n m x y) z) h
+raised_three a b c d n m k p x y z h = raised-mono a d (n + m + k) p h (raised-add a c d (n + m) k (raised-add a b c n m x y) z)
 
 sum_on : (most u v all had left one size : ℕ) → had ≡ one + left → had ≤ all → u ≤ most → v ≤ u → size ≡ 65536 * one → most - u + 65536 * (all - had) + (u - v) + size ≤ most - v + 65536 * (all - left)
 sum_on most u v all had left one size e h k l s = omega arith
@@ -165,8 +160,8 @@ pub stays_end : (known : Option (List ℕ)) (old mid new : StoreState) (most u :
     IfKnown known (λ bytes. new.taken ≤ raised old.taken (most + 65536 * counted (table bytes) first (all bytes)))
 stays_end None old mid new most u table rest all d first stays h a = tt
 stays_end (Some bytes) old mid new most u table rest all d first stays h a =
-    raised_less old.taken new.taken (most - u + 65536 * (counted (table bytes) first (all bytes) - counted (table bytes) d (rest bytes)) + u) (most + 65536 * counted (table bytes) first (all bytes))
-    (raised_more old.taken mid.taken new.taken (most - u + 65536 * (counted (table bytes) first (all bytes) - counted (table bytes) d (rest bytes))) u stays.taken a) (sum_end most u (counted (table bytes) first (all bytes)) (counted (table bytes) d (rest bytes)) h)
+    raised-mono old.taken new.taken (most - u + 65536 * (counted (table bytes) first (all bytes) - counted (table bytes) d (rest bytes)) + u) (most + 65536 * counted (table bytes) first (all bytes)) (sum_end most u (counted (table bytes) first (all bytes)) (counted (table bytes) d (rest bytes)) h)
+    (raised-add old.taken mid.taken new.taken (most - u + 65536 * (counted (table bytes) first (all bytes) - counted (table bytes) d (rest bytes))) u stays.taken a)
 
 pub stays_first : (known : Option (List ℕ)) (old : StoreState) (most u : ℕ) (table : List ℕ → List ℕ) (rest all : List ℕ → List DynamicEntry) (d first : Dynamic) →
     d ≡ first → IfKnown known (λ bytes. rest bytes ≡ all bytes) → IfKnown known (λ bytes. Stays old old most u (table bytes) d (rest bytes) first (all bytes))

@@ -10,3 +10,4 @@ pub mod Sections
 pub mod Files
 pub mod Objects
 pub mod Taken
+pub mod Memory

@@ -22,6 +22,7 @@ use Rattle.elf_dynamic.specs.Faults.{IfBad}
 use Rattle.tree_face.specs.Known.{IfKnown}
 use Rattle.tree_face.specs.Store.{StoreState}
 use Rattle.tree_face.specs.StoreUse.{Ending}
+use Rattle.tree_face.proofs.StoreUse.{raised-add, raised-mono}
 use Rattle.elf_headers.specs.Reading.{known_content, OfKnown, OnlyReads, TakesAtMost}
 use Rattle.elf_headers.specs.declared.kinds.Segment.{Segment}
 use Rattle.elf_headers.specs.Layout.{segments}
@@ -29,7 +30,7 @@ use Rattle.elf_dynamic.specs.declared.values.Values.{Values}
 use Rattle.elf_dynamic.specs.Values.{texts_in, values_of}
 use Rattle.elf_dynamic.proofs.Known.{before, after, with, both, three}
 use Rattle.elf_dynamic.proofs.Kept.{unkept, soname_alike, name_alike}
-use Rattle.elf_dynamic.proofs.Gathered.{all_texts, picked, gathered_all, counted_all, raised_more, raised_less}
+use Rattle.elf_dynamic.proofs.Gathered.{all_texts, picked, gathered_all, counted_all}
 
 -- ---- whether an entry has a text
 
@@ -41,7 +42,7 @@ none_with_text (e ∷ rest) h = by (none_with_text rest) (has_text e) h
     by ih true h = absurd (omega (arith, h))
     by ih false h = ih h
 
-some_with_text : (es : List DynamicEntry) → 0 < texts_in es → list_any has_text es ≡ true
+pub some_with_text : (es : List DynamicEntry) → 0 < texts_in es → list_any has_text es ≡ true
 some_with_text [] h = absurd (omega (arith, h))
 some_with_text (e ∷ rest) h = by (some_with_text rest) (has_text e) h
   where
@@ -112,7 +113,7 @@ outside es h k = rw (h, k) refl
 
 -- ---- the texts
 
-with_table : (t : List ℕ) (es : List DynamicEntry) → list_any has_text es ≡ true → (is_none (value_of strtab es) || is_none (value_of strsz es)) ≡ false →
+pub with_table : (t : List ℕ) (es : List DynamicEntry) → list_any has_text es ≡ true → (is_none (value_of strtab es) || is_none (value_of strsz es)) ≡ false →
     section_of (Some t) es
     ≡ cond (is_some (bad_entry (Some t) es)) (Err (BadString (option_map_or (λ e. e.tag) (bad_entry (Some t) es) 0)))
     (cond (not (option_map_or is_name (soname_of (Some t) es) true)) (Err BadSoname) (Ok (dynamic_of (Some t) es)))
@@ -176,7 +177,7 @@ strings_by w bytes (Some a) (Some n) d es ea en h e = by (table_at bytes (segmen
         ap (λ t. section_of t es) none ∙ outside es h (rw (ea, en) refl) ∙ ap err_of same
     by (Some t) eo e = absurd (cc)
 
-strings_there : (w : ℕ) (bytes : List ℕ) (a n : Option ℕ) (t : List ℕ) (es : List DynamicEntry) → value_of strtab es ≡ a → value_of strsz es ≡ n → table_by w bytes a n ≡ Ok t →
+pub strings_there : (w : ℕ) (bytes : List ℕ) (a n : Option ℕ) (t : List ℕ) (es : List DynamicEntry) → value_of strtab es ≡ a → value_of strsz es ≡ n → table_by w bytes a n ≡ Ok t →
     (string_table bytes (segments w bytes) es ≡ Some t) × ((is_none (value_of strtab es) || is_none (value_of strsz es)) ≡ false)
 strings_there w bytes None n t es ea en e = absurd (cc)
 strings_there w bytes (Some a) None t es ea en e = absurd (cc)
@@ -194,8 +195,8 @@ unfolding counting_in
 known_taken None a b c n m w s f table h k = tt
 known_taken (Some bytes) a b c n m w s f table h k =
     let count = counted_all (table bytes) f (dynamic_entries w bytes s) in
-    raised_less a c (n + (m + 65536 * counted (table bytes) (no_texts f) (dynamic_entries w bytes s))) (n + m + 65536 * length (counting_entries (dynamic_entries w bytes s)))
-    (raised_more a b c n (m + 65536 * counted (table bytes) (no_texts f) (dynamic_entries w bytes s)) h k) (omega (arith, count))
+    raised-mono a c (n + (m + 65536 * counted (table bytes) (no_texts f) (dynamic_entries w bytes s))) (n + m + 65536 * length (counting_entries (dynamic_entries w bytes s))) (omega (arith, count))
+    (raised-add a b c n (m + 65536 * counted (table bytes) (no_texts f) (dynamic_entries w bytes s)) h k)
 
 -- the same of a store, with the table before the texts
 pub texts_taken_by : {e : Ending} (s t u : StoreState) (n m w : ℕ) (d : Segment) (f : Bool) (table : Table) → OnlyReads e s t → TakesAtMost n s t →
@@ -290,13 +291,13 @@ values_after s t w d v r h = after (λ bytes. v ≡ values_of (dynamic_entries w
 
 pub textless_taken : (known : Option (List ℕ)) (a b n m w : ℕ) (s : Segment) → b ≤ raised a n → IfKnown known (λ bytes. b ≤ raised a (n + m + 65536 * counting_in w bytes s))
 textless_taken None a b n m w s h = tt
-textless_taken (Some bytes) a b n m w s h = raised_less a b n (n + m + 65536 * counting_in w bytes s) h (omega arith)
+textless_taken (Some bytes) a b n m w s h = raised-mono a b n (n + m + 65536 * counting_in w bytes s) (omega arith) h
 
 pub texts_taken : (known : Option (List ℕ)) (a b c n m w : ℕ) (s : Segment) → b ≤ raised a n → IfKnown known (λ bytes. c ≤ raised b (m + n + 65536 * counting_in w bytes s)) →
     IfKnown known (λ bytes. c ≤ raised a (n + (m + n) + 65536 * counting_in w bytes s))
 texts_taken None a b c n m w s h k = tt
 texts_taken (Some bytes) a b c n m w s h k =
-    raised_less a c (n + (m + n + 65536 * counting_in w bytes s)) (n + (m + n) + 65536 * counting_in w bytes s) (raised_more a b c n (m + n + 65536 * counting_in w bytes s) h k) (omega arith)
+    raised-mono a c (n + (m + n + 65536 * counting_in w bytes s)) (n + (m + n) + 65536 * counting_in w bytes s) (omega arith) (raised-add a b c n (m + n + 65536 * counting_in w bytes s) h k)
 
 -- ---- the section of a file
 

@@ -6,6 +6,7 @@ use Rattle.lib_types.specs.declared.analysis.Defect.{Defect}
 use Rattle.tree_face.specs.Known.{IfKnown}
 use Rattle.tree_face.specs.Store.{Contents, StoreState, Lacks}
 use Rattle.tree_face.specs.StoreUse.{Ending, Complete}
+use Rattle.tree_face.proofs.StoreUse.{raised-add, raised-mono}
 use Rattle.elf_headers.specs.declared.fault.HeadFault.{HeadFault}
 use Rattle.elf_headers.specs.declared.fault.HeadFault.TheVariants as head_faults
 use Rattle.elf_headers.specs.declared.kinds.Head.{Head}
@@ -19,7 +20,6 @@ use Rattle.elf_dynamic.specs.declared.fault.ObjectFault.{ObjectFault}
 use Rattle.elf_dynamic.specs.declared.kinds.Object.{Object}
 use Rattle.elf_dynamic.specs.Faults.{object_ending, of_head}
 use Rattle.elf_dynamic.specs.Taken.{section_reading, readable_section, reading_after, most_taken, most_known}
-use Rattle.elf_dynamic.proofs.Gathered.{raised_more, raised_less}
 use Rattle.elf_dynamic.proofs.Objects.{at_known}
 
 abbrev w_of : List ℕ → ℕ
@@ -45,7 +45,7 @@ taken_head (Some held) key a b h not_held = by (held key) not_held
   where
     by : (o : Option (List ℕ)) → (o ≡ None → b ≡ a) → b ≤ raised a (option_map_or most_taken o 0)
     by None not_held = let none = not_held refl in omega (arith, none)
-    by (Some bytes) not_held = raised_less a b 64 (most_taken bytes) h (let l = least bytes in omega (arith, l))
+    by (Some bytes) not_held = raised-mono a b 64 (most_taken bytes) (let l = least bytes in omega (arith, l)) h
 
 same_ending : (f : HeadFault) (r : ObjectFault) → r ≡ of_head f → object_ending {X = Object} (Err r) ≡ head_ending (Err f)
 same_ending (head_faults.Bad x) r e = ap (λ r. object_ending {X = Object} (Err r)) e
@@ -84,7 +84,7 @@ taken_of : (h : Head) (a b c : ℕ) (bytes : List ℕ) → b ≤ raised a 64 →
 taken_of h a b c bytes first is_head taken =
     let size = section_reading (word_size h.wide) bytes (readable_section (word_size h.wide) bytes) in
     let whole = accepted bytes h is_head in
-    raised_less a c (64 + (448 * h.phnum + size)) (most_taken bytes) (raised_more a b c 64 (448 * h.phnum + size) first taken) (rw whole (below h.phnum size))
+    raised-mono a c (64 + (448 * h.phnum + size)) (most_taken bytes) (rw whole (below h.phnum size)) (raised-add a b c 64 (448 * h.phnum + size) first taken)
   where
     below : (p n : ℕ) → 64 + (448 * p + n) ≤ 128 + 448 * p + n
     below p n = omega arith

@@ -2,6 +2,7 @@ pub mod Analysis
 pub mod Entries
 pub mod Faults
 pub mod Kept
+pub mod Memory
 pub mod Object
 pub mod Section
 pub mod Sections

@@ -1,10 +1,11 @@
 //! Files in a store.
-ghost use Rattle.std.specs.Prelude.{◌≡◌, Ok, Err, IfOk};
+ghost use Rattle.std.specs.Prelude.{◌≡◌, Ok, Err, IfOk, IsErrOf};
 ghost use Rattle.elf_headers.specs.Range.{IsInRange};
 ghost use Rattle.elf_headers.specs.Reading.{OfContent, ReadsFile};
 ghost use Rattle.elf_dynamic.specs.Analysis as analyses;
 ghost use Rattle.elf_dynamic.specs.Faults.{IfBad, HasName, object_ending, analyse_ending};
 ghost use Rattle.elf_dynamic.specs.Kept.{kept_object, kept_object_of};
+ghost use Rattle.elf_dynamic.specs.Memory.{ObjectTakesMemory, AnalysisTakesMemory};
 ghost use Rattle.elf_dynamic.specs.Object as objects;
 ghost use Rattle.elf_dynamic.specs.Taken.{most_known};
 
@@ -31,6 +32,7 @@ fn read<S: Store>(
     ensures defect { IfBad result (λ d. OfContent (S.state store.old).held key.now (λ bytes. objects.object bytes ≡ Err d)) }
     ensures name { IfOk result HasName }
     ensures range { IfBad result IsInRange }
+    ensures no_memory { IsErrOf result ObjectFault.NoMemory → OfContent (S.state store.old).held key.now (λ bytes. ObjectTakesMemory (objects.object bytes)) }
     ensures reads { ReadsFile key.now (most_known (S.state store.old).held key.now) (object_ending result) (S.state store.old) (S.state store.new) }
 {
     let head = match head(store, key) {
@@ -53,6 +55,7 @@ pub fn object<S: Store>(alloc: Global, store: &mut S, key: &[u8]) -> Result<Obje
     ensures defect { IfBad result (λ d. OfContent (S.state store.old).held key.now (λ bytes. objects.object bytes ≡ Err d)) }
     ensures name { IfOk result HasName }
     ensures range { IfBad result IsInRange }
+    ensures no_memory { IsErrOf result ObjectFault.NoMemory → OfContent (S.state store.old).held key.now (λ bytes. ObjectTakesMemory (objects.object bytes)) }
     ensures reads { ReadsFile key.now (most_known (S.state store.old).held key.now) (object_ending result) (S.state store.old) (S.state store.new) }
 {
     read(alloc, Keep::All, store, key)
@@ -85,6 +88,7 @@ pub fn analyse<S: Store>(alloc: Global, store: &mut S, key: &[u8]) -> Result<Ana
     ensures analysis { IfOk result (λ a. OfContent (S.state store.old).held key.now (λ bytes. analyses.analysis bytes ≡ a)) }
     ensures name { IfOk result analyses.HasName }
     ensures range { IfOk result analyses.IsDefectInRange }
+    ensures no_memory { IsErrOf result AnalyseFault.NoMemory → OfContent (S.state store.old).held key.now (λ bytes. AnalysisTakesMemory (analyses.analysis bytes)) }
     ensures reads { ReadsFile key.now (most_known (S.state store.old).held key.now) (analyse_ending result) (S.state store.old) (S.state store.new) }
 {
     match read(alloc, Keep::Soname, store, key) {

@@ -8,6 +8,7 @@ ghost use Rattle.elf_headers.specs.Range.{IsInRange};
 ghost use Rattle.elf_headers.specs.Reading.{OfKnown, TakesAtMost, OnlyReads, IsHeadOf};
 ghost use Rattle.elf_dynamic.specs.Faults.{IfBad, HasSoname, object_ending};
 ghost use Rattle.elf_dynamic.specs.Kept.{kept, kept_of, kept_in_file};
+ghost use Rattle.elf_dynamic.specs.Memory.{IsBehindTexts, SectionTakesMemory};
 ghost use Rattle.elf_dynamic.specs.Object.{has_nodeflib};
 ghost use Rattle.elf_dynamic.specs.Section.{dynamic_entries};
 ghost use Rattle.elf_dynamic.specs.Sections.{section_in, sections_in, counting_in, table_by, name_of, has_good_name};
@@ -102,6 +103,7 @@ fn find_strings<S: Store>(
     ensures bad { IfBad result (λ d. OfKnown (S.state store.old) (λ bytes. table_by (word_size head.now.wide) bytes strtab strsz ≡ Err d)) }
     ensures range { IfBad result IsInRange }
     ensures window { OnOk result (IsWindowOf (S.state store.new) head.now window.new) }
+    ensures no_memory { IsErrOf result ObjectFault.NoMemory → ⊥ }
     ensures begun_head { IsHeadOf (S.state store.new) head.now }
     ensures reads { OnlyReads (object_ending result) (S.state store.old) (S.state store.new) }
     ensures taken { TakesAtMost (112 * head.now.phnum) (S.state store.old) (S.state store.new) }
@@ -140,6 +142,7 @@ fn read_texts<S: Store>(
     ensures bad { IfBad result (λ d. OfKnown (S.state store.old) (λ bytes. section_in (word_size head.now.wide) bytes dynamic ≡ Err d)) }
     ensures name { IfOk result HasSoname }
     ensures range { IfBad result IsInRange }
+    ensures no_memory { IsErrOf result ObjectFault.NoMemory → OfKnown (S.state store.old) (λ bytes. IfErr (section_in (word_size head.now.wide) bytes dynamic) IsBehindTexts) }
     ensures begun_head { IsHeadOf (S.state store.new) head.now }
     ensures reads { OnlyReads (object_ending result) (S.state store.old) (S.state store.new) }
     ensures taken { OfKnown (S.state store.old) (λ bytes. TakesAtMost
@@ -188,6 +191,7 @@ fn read_section<S: Store>(
     ensures bad { IfBad result (λ d. OfKnown (S.state store.old) (λ bytes. section_in (word_size head.now.wide) bytes dynamic ≡ Err d)) }
     ensures name { IfOk result HasSoname }
     ensures range { IfBad result IsInRange }
+    ensures no_memory { IsErrOf result ObjectFault.NoMemory → OfKnown (S.state store.old) (λ bytes. IfErr (section_in (word_size head.now.wide) bytes dynamic) IsBehindTexts) }
     ensures begun_head { IsHeadOf (S.state store.new) head.now }
     ensures reads { OnlyReads (object_ending result) (S.state store.old) (S.state store.new) }
     ensures taken { OfKnown (S.state store.old) (λ bytes. TakesAtMost
@@ -230,6 +234,7 @@ pub fn read_dynamic<S: Store>(
     ensures bad { IfBad result (λ d. OfKnown (S.state store.old) (λ bytes. sections_in (word_size head.now.wide) bytes ≡ Err d)) }
     ensures name { IfOk result (λ d. IfSome d HasSoname) }
     ensures range { IfBad result IsInRange }
+    ensures no_memory { IsErrOf result ObjectFault.NoMemory → OfKnown (S.state store.old) (λ bytes. SectionTakesMemory (sections_in (word_size head.now.wide) bytes)) }
     ensures begun_head { IsHeadOf (S.state store.new) head.now }
     ensures reads { OnlyReads (object_ending result) (S.state store.old) (S.state store.new) }
     ensures taken { OfKnown (S.state store.old) (λ bytes. TakesAtMost

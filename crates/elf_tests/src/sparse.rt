@@ -48,7 +48,7 @@ fn fill(buf: &mut [u8], front: &[u8], at: u64) {
 impl Store for Sparse {
     ghost use Rattle.std.specs.Prelude.{None};
 
-    ghost state = { λ s. record { held = None; key = None; content = None; size = s.size; faults = s.faults; begun = s.begun; taken = s.taken } };
+    ghost state = { λ s. record { held = None; key = None; content = None; size = s.size; faults = s.faults; begun = s.begun; keys = None; taken = s.taken } };
 
     fn begin(&mut self, _key: &[u8]) -> Result<u64, Failed> {
         self.begun = self.begun.saturating_add(1);

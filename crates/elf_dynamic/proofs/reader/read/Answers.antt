@@ -3,6 +3,7 @@ use Rattle.elf_headers.specs.Reading.{known_content, OfContent}
 use Rattle.elf_headers.specs.Header.{head}
 use Rattle.elf_dynamic.specs.Object.{object}
 use Rattle.elf_dynamic.proofs.Objects.{content_object, content_fault, head_fault, content_head}
+use Rattle.elf_dynamic.proofs.Memory.{content_takes, fault_is}
 use Rattle.elf_dynamic.proofs.Taken.{file_read, file_refused}
 use Rattle.elf_dynamic.proofs.reader.read.Goals as goal
 
@@ -35,3 +36,8 @@ returns-in-Err-clause-defect g c =
 pub returns-in-Err-clause-reads : goal.returns-in-Err-clause-reads
 returns-in-Err-clause-reads g c =
     file_refused (g.S.Store.state c.args.store.now) (g.S.Store.state c.head.new.store) c.args.key.now c.in-Err.fault c.from.result c.from.ensures c.in-Err.ensures.reads c.in-Err.ensures.not_held
+
+pub returns-in-Err-read_dynamic-clause-no_memory : goal.returns-in-Err-read_dynamic-clause-no_memory
+returns-in-Err-read_dynamic-clause-no_memory g c none =
+    content_takes (g.S.Store.state c.args.store.now).held c.args.key.now (known_content (g.S.Store.state c.head.new.store)) c.in-Ok.head
+    c.in-Ok.ensures.content c.in-Ok.ensures.begun_head.content (c.in-Err-read_dynamic.ensures.no_memory (fault_is _ _ _ _ none))

@@ -7,6 +7,7 @@ use Rattle.elf_dynamic.specs.Kept.{kept, kept_of}
 use Rattle.elf_dynamic.specs.Sections.{section_in}
 use Rattle.elf_dynamic.specs.Texts.{bytes_of, no_texts, gathered}
 use Rattle.elf_dynamic.proofs.Known.{same, before}
+use Rattle.elf_dynamic.proofs.Memory.{texts_known}
 use Rattle.elf_dynamic.proofs.Sections.{table_fault, text_fault, texts_taken_by, known_bad_name, known_good, flagged}
 use Rattle.elf_dynamic.proofs.section.read_texts.Goals as goal
 
@@ -55,3 +56,7 @@ returns-in-Err-named-clause-bad g c =
     (known_bad_name c.args.keep (known_content s) w d c.args.values c.requires.values table c.in-Ok-gather.found c.requires.texts c.in-Err-named.ensures.bad_name c.in-Ok.ensures.found
     (flagged c.args.keep (known_content s) w d table c.has_nodeflib-nodeflib.result c.args.values c.in-Ok-gather.found c.has_nodeflib-nodeflib.ensures
     (before (λ bytes. kept_of c.args.keep (gathered (table bytes) (no_texts c.has_nodeflib-nodeflib.result) (dynamic_entries w bytes d)) ≡ Ok (kept c.args.keep c.in-Ok-gather.found)) s mid c.in-Ok.ensures.reads c.in-Ok-gather.ensures.gathered)))
+
+pub returns-in-Err-gather-clause-no_memory : goal.returns-in-Err-gather-clause-no_memory
+returns-in-Err-gather-clause-no_memory g c none =
+    texts_known (known_content (g.S.Store.state c.args.store.now)) (word_size c.args.head.now.wide) c.args.dynamic c.args.values (bytes_of c.in-Ok.table) c.requires.values c.requires.texts c.in-Ok.ensures.found
