@@ -1,10 +1,8 @@
-mod Bests
-pub mod Both
-pub mod Calls
-pub mod Known
-pub mod Leaving
-pub mod Preparing
-pub mod Searching
-pub mod Settled
-pub mod Single
-mod Skipped
+mod CallsOneByOne
+mod FilesAgree
+mod FoundParts
+mod KeysBegun
+mod OneText
+mod OutcomeRows
+mod SearchParts
+mod SettledImage

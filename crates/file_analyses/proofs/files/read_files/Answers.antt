@@ -20,9 +20,10 @@ returns-in_err-read_file-clause-reads g c =
     c.path-item.is ∙ ap (λ paths. get_or paths c.loop-path.path-index c.path-item.result) c.as_slice-path-items.ensures in
     let rest = split c.args.paths.now c.loop-path.path-index c.path-item.result within is in
     let failed : c.read_file.result ≡ Err c.in_err-read_file.field-0.0 = c.in_err-read_file.was in
-    read_last c.args.tree.now _ c.args.paths.now c.args.files.now c.loop-path.files _ _ c.path-item.result _ (rw rest at c.loop-path.invariant) (analyse_ending c.read_file.result) _
-    (rw failed (is_partial c.in_err-read_file.field-0.0))
-    (rw (c.as_bytes.ensures, c.loop-path.invariant.reads.held) at c.read_file.ensures.reads)
+    let same : c.from_residual.result ≡ Err c.in_err-read_file.field-0.0 = search rules in
+    rw same (read_last c.args.tree.now _ c.args.paths.now c.args.files.now c.loop-path.files _ _ c.path-item.result _ (rw rest at c.loop-path.invariant) (analyse_ending {X = Unit {0}} (Err c.in_err-read_file.field-0.0)) _
+    (is_partial c.in_err-read_file.field-0.0)
+    (rw (c.as_bytes.ensures, c.loop-path.invariant.reads.held, failed) at c.read_file.ensures.reads))
 
 pub loop-path-preserved : goal.loop-path-preserved
 loop-path-preserved g c =

@@ -1,0 +1,128 @@
+-- What was read of the files of an image is what they are.
+use Rattle.std.proofs.Common.{◌≡◌, ◌+◌, ◌||◌, ◌++◌, ℕ, Bool, true, false, cond, not, List, [], ◌∷◌, Option, Some, None, refl, ap, sym, subst, ◌∙◌, filter}
+use Rattle.std.proofs.lemmas.Bool.{or_left, or_right}
+use Rattle.std.proofs.lemmas.List.Folds.{list_any-append}
+use Rattle.std.specs.Cmp.Lexicographic.{slice_cmp}
+use Rattle.std.specs.List.{cons_option, filter_map, list_any}
+use Rattle.std.specs.List.Sorted.{IsStrictlySortedBy}
+use Rattle.std.specs.Map.{keys_of}
+use Rattle.std.specs.Option.{is_none, is_some, option_and_then, option_map}
+use Rattle.std.specs.Ordering.{nat_cmp}
+use Rattle.std.specs.Str.{bytes_eq}
+use Rattle.elf_dynamic.specs.Analysis.{analysis}
+use Rattle.file_analyses.specs.Files.{AreRead, AreRight, file_keys, key_in, unread_key, unread_keys, what_is}
+use Rattle.hwcap_dirs.specs.declared.kinds.Place.{Place}
+use Rattle.ldso_conf.specs.Reading as conf
+use Rattle.lib_types.proofs.SortedPairs.{by_test}
+use Rattle.lib_types.specs.declared.analysis.Analysis.{Analysis}
+use Rattle.place_files.proofs.InOrder.{ascending_sorted, in_ascending}
+use Rattle.place_files.proofs.Members.{is_in}
+use Rattle.place_files.specs.Analyses.{AgreeOn, Analyses, KeepsAnalyses}
+use Rattle.place_files.specs.Order.{ascending}
+use Rattle.place_files.specs.Search.{reached, wanted}
+use Rattle.place_files.specs.Table.{Rows, analysis_at}
+use Rattle.planned_links.specs.Search.{IsSearchedAlike}
+use Rattle.tree_face.specs.declared.node.Node.{Node}
+use Rattle.tree_face.specs.declared.node.Node.TheVariants as node
+use Rattle.tree_face.specs.Store.{Contents}
+use Rattle.tree_face.specs.Tree.{Nodes, node_at}
+use Rattle.update_report.proofs.Picked.{in_table, same_picked}
+use Rattle.update_report.proofs.SkipsOfFiles.{skips_agree}
+use Rattle.update_report.specs.Skips.{is_skipped, skip_at}
+
+-- ---- the order of the paths that are read
+
+pub wanted_sorted : (t : Nodes) (places : List Place) → IsStrictlySortedBy (slice_cmp nat_cmp) (wanted t places)
+unfolding wanted
+wanted_sorted t places = ascending_sorted _
+
+pub reached_sorted : (t : Nodes) (places : List Place) → IsStrictlySortedBy (slice_cmp nat_cmp) (reached t places)
+unfolding reached
+reached_sorted t places = ascending_sorted _
+
+-- ---- files that were read
+
+nothing_at : (held : Contents) (o : Option (List ℕ)) → o ≡ None → option_map analysis (option_and_then held o) ≡ None
+nothing_at held o none = rw none refl
+
+none_is : (a : Option Analysis) → is_some a ≡ false → a ≡ None
+none_is None e = refl
+none_is (Some a) e = absurd (cc)
+
+no_key : (a : Option Analysis) (k : Option (List ℕ)) → is_some a ≡ false → cond (is_none a) k None ≡ None → k ≡ None
+no_key None k e read = read
+no_key (Some a) k e read = absurd (cc)
+
+pub agree_read : (held : Contents) (t : Nodes) (what : Analyses) (paths : List (List ℕ)) → AreRight held t what → AreRead t what paths → AgreeOn paths (what_is held t) what
+agree_read held t what paths right read path there = by_test (is_some (what path))
+    (λ e. right path e)
+    (λ e. none_is (what path) e ∙ sym (nothing_at held (key_in (node_at t path)) (no_key (what path) (key_in (node_at t path)) e (read path there))))
+
+pub one_key : (o : Option Node) → key_in o ≡ conf.key_in o
+one_key None = refl
+one_key (Some node.Dir) = refl
+one_key (Some (node.File key id)) = refl
+one_key (Some (node.Link target)) = refl
+
+module _ (held : Contents) (t new : Nodes) (alike : IsSearchedAlike t new) where
+  pub key_same : (path : List ℕ) → key_in (node_at new path) ≡ key_in (node_at t path)
+  key_same path = one_key (node_at new path) ∙ alike.files path ∙ sym (one_key (node_at t path))
+
+  pub what_same : (path : List ℕ) → what_is held new path ≡ what_is held t path
+  what_same path = ap (λ k. option_map analysis (option_and_then held k)) (key_same path)
+
+  pub right_new : (what : Analyses) → AreRight held t what → AreRight held new what
+  right_new what right path there = right path there ∙ sym (what_same path)
+
+  -- what is read in the new tree of files that were read before
+  pub still_agree : (before after : Analyses) (paths : List (List ℕ)) → AgreeOn paths (what_is held t) before → KeepsAnalyses before after → AreRight held new after
+      → AgreeOn paths (what_is held t) after
+  still_agree before after paths agree keeps right path there = by_test (is_some (after path))
+      (λ e. right path e ∙ what_same path)
+      (λ e. by_test (is_some (before path))
+      (λ f. let z : true ≡ false = sym f ∙ ap is_some (sym (keeps path f)) ∙ e in absurd (cc))
+      (λ f. none_is (after path) e ∙ sym (none_is (before path) f) ∙ agree path there))
+
+  -- ---- the keys of the files behind links
+
+  module _ (rows : Rows) (wanted_paths : List (List ℕ)) (read : AreRead t (analysis_at rows) wanted_paths)
+      (only : (path : List ℕ) → is_in (keys_of rows) path ≡ true → is_in wanted_paths path ≡ true) where
+    none_there : (path : List ℕ) → is_in wanted_paths path ≡ false → analysis_at rows path ≡ None
+    none_there path out = by_test (is_some (analysis_at rows path))
+        (λ e. let z : true ≡ false = sym (only path (has_row rows path e)) ∙ out in absurd (cc))
+        (λ e. none_is (analysis_at rows path) e)
+      where
+        has_row : (rows : Rows) (path : List ℕ) → is_some (analysis_at rows path) ≡ true → is_in (keys_of rows) path ≡ true
+        has_row [] path h = absurd (cc)
+        has_row (e ∷ rows) path h = by_test (bytes_eq path e.0)
+            (λ f. or_left (bytes_eq path e.0) (is_in (keys_of rows) path) f)
+            (λ f. or_right (bytes_eq path e.0) (is_in (keys_of rows) path) (has_row rows path (rw f at h)))
+
+    read_new : (path : List ℕ) → is_in wanted_paths path ≡ true → unread_key new (analysis_at rows) path ≡ None
+    read_new path there = ap (λ k. cond (is_none (analysis_at rows path)) k None) (key_same path) ∙ read path there
+
+    pub behind_keys_are : (paths : List (List ℕ)) → unread_keys new (analysis_at rows) paths ≡ file_keys new (filter (λ path. not (is_in wanted_paths path)) paths)
+    behind_keys_are [] = refl
+    behind_keys_are (path ∷ paths) = by_test (is_in wanted_paths path)
+        (λ e. rw e (ap (λ o. cons_option o (unread_keys new (analysis_at rows) paths)) (read_new path e) ∙ behind_keys_are paths))
+        (λ e. rw e (ap (λ a. cons_option (cond (is_none a) (key_in (node_at new path)) None) (unread_keys new (analysis_at rows) paths)) (none_there path e)
+        ∙ ap (cons_option (key_in (node_at new path))) (behind_keys_are paths)))
+
+-- ---- the files that are no libraries
+
+module _ (what : Analyses) (rows : Rows) (wanted_paths reached_paths : List (List ℕ)) where
+  all_agree : AgreeOn wanted_paths what (analysis_at rows) → AgreeOn reached_paths what (analysis_at rows) → AgreeOn (ascending (wanted_paths ++ reached_paths)) what (analysis_at rows)
+  all_agree one other path there = by_test (is_in wanted_paths path)
+      (λ e. one path e)
+      (λ e. other path (sym (ap (λ b. b || is_in reached_paths path) e) ∙ sym (list_any-append (bytes_eq path) wanted_paths reached_paths)
+      ∙ sym (in_ascending (wanted_paths ++ reached_paths) path) ∙ there))
+
+  pub skips_are : AgreeOn wanted_paths what (analysis_at rows) → AgreeOn reached_paths what (analysis_at rows)
+      → ((path : List ℕ) → is_in (keys_of rows) path ≡ true → (is_in wanted_paths path || is_in reached_paths path) ≡ true)
+      → filter_map (skip_at (analysis_at rows)) (ascending (keys_of rows)) ≡ filter_map (skip_at what) (ascending (wanted_paths ++ reached_paths))
+  skips_are one other only =
+      same_picked (analysis_at rows) (keys_of rows) (wanted_paths ++ reached_paths)
+      (λ z h.
+      let there = in_table rows z h in
+      there ∙ sym (list_any-append (bytes_eq z) wanted_paths reached_paths ∙ only z there))
+      ∙ skips_agree what (analysis_at rows) (ascending (wanted_paths ++ reached_paths)) (all_agree one other)

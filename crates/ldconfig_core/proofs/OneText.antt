@@ -1,0 +1,55 @@
+-- The texts of an update are determined by the image and the contents, and there are some.
+use Rattle.std.proofs.Common.{◌≡◌, ℕ, List, Option, refl, sym, ap, subst, ◌∙◌}
+use Rattle.cache_entries.proofs.InOneOrder.{one_list_is}
+use Rattle.cache_entries.proofs.Single.{one_list}
+use Rattle.cache_entries.specs.Entries.{AreEntriesOf}
+use Rattle.cache_writer.specs.CacheText.{cache_text}
+use Rattle.file_analyses.specs.Files.{what_is}
+use Rattle.lib_types.specs.declared.entry.Entry.{Entry}
+use Rattle.tree_face.specs.Store.{Contents}
+use Rattle.update_report.specs.Report.{report_text}
+use Rattle.ldconfig_core.specs.Ldconfig.{entries_in, places_in, planned_in}
+use Rattle.ldconfig_core.specs.Outcome.{new_manifest}
+use Rattle.ldconfig_core.specs.Session.{Loaded}
+use Rattle.ldconfig_core.specs.Settled.{AreSettled, IsCacheAgain}
+use Rattle.ldconfig_core.specs.Texts.{AreTextsOf, UpdateTexts, said_with}
+
+abbrev texts_with : Option (List ℕ) → List ℕ → List ℕ → UpdateTexts
+texts_with m c r = record { manifest = m; cache = c; report = r }
+
+module _ (held : Contents) (s : Loaded) where
+  pub one_entries : (a b : List Entry) → AreEntriesOf (entries_in held s.tree) a → AreEntriesOf (entries_in held s.tree) b → a ≡ b
+  unfolding entries_in
+  one_entries a b are is = one_list (what_is held s.tree) (planned_in held s.tree) (places_in held s.tree) a b are is
+
+  pub one_update : (texts others : UpdateTexts) → AreTextsOf held s texts → AreTextsOf held s others → texts ≡ others
+  one_update texts others are is =
+      let same : are.entries ≡ is.entries = one_entries are.entries is.entries are.are is.are in
+      let manifest : texts.manifest ≡ others.manifest = are.manifest_is ∙ sym is.manifest_is in
+      let cache : texts.cache ≡ others.cache = are.cache_is ∙ ap cache_text same ∙ sym is.cache_is in
+      let report : texts.report ≡ others.report = are.report_is ∙ ap (λ entries. report_text (said_with held s.tree entries)) same ∙ sym is.report_is in
+      ap (λ m. texts_with m texts.cache texts.report) manifest ∙ ap (λ c. texts_with others.manifest c texts.report) cache
+      ∙ ap (λ r. texts_with others.manifest others.cache r) report
+
+  texts_by : (entries : List Entry) → AreEntriesOf (entries_in held s.tree) entries → (texts : UpdateTexts) × AreTextsOf held s texts
+  texts_by entries are =
+      (record { manifest = new_manifest held s; cache = cache_text entries; report = report_text (said_with held s.tree entries) },
+      record { entries = entries; are = are; manifest_is = refl; cache_is = refl; report_is = refl })
+
+  -- every image has texts
+  pub some_texts : (texts : UpdateTexts) × AreTextsOf held s texts
+  some_texts = let list = one_list_is (entries_in held s.tree) in texts_by list.0 list.1
+
+-- a further update has texts: no manifest, and the same cache
+pub again : (held : Contents) (s new : Loaded) (texts : UpdateTexts) → AreSettled held s new → AreTextsOf held s texts
+    → (others : UpdateTexts) × (AreTextsOf held new others × IsCacheAgain texts others)
+again held s new texts settled are =
+    let others : UpdateTexts = record { manifest = new_manifest held new; cache = cache_text are.entries; report = report_text (said_with held new.tree are.entries) } in
+    let is : AreTextsOf held new others = record {
+      entries = are.entries;
+      are = subst (λ (found : List Entry). AreEntriesOf found are.entries) (sym settled.entries) are.are;
+      manifest_is = refl;
+      cache_is = refl;
+      report_is = refl;
+    } in
+    (others, (is, settled.texts texts others are is))

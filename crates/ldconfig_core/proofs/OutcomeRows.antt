@@ -1,0 +1,59 @@
+-- What an update comes to, by its conditions.
+use Rattle.std.proofs.Common.{◌≡◌, ◌≤◌, ◌<◌, ◌||◌, ℕ, Bool, true, false, cond, nat_lt, length, refl, ap, sym, ◌∙◌, arith}
+use Rattle.std.proofs.lemmas.Bool.Decides.{nat_tests}
+use Rattle.cache_writer.specs.declared.writer.TheConstants.{ENTRIES_MAX}
+use Rattle.file_analyses.specs.Files.{lacks_one}
+use Rattle.ldso_conf.specs.Reading.{conf_lacks}
+use Rattle.soname_links.specs.Apply.{nodes_with}
+use Rattle.tree_face.specs.Store.{Contents}
+use Rattle.ldconfig_core.specs.Begun.{behind_keys, has_too_many_nodes, lacks_wanted, wanted_keys}
+use Rattle.ldconfig_core.specs.Ldconfig.{entries_in, links_in, planned_in}
+use Rattle.ldconfig_core.specs.Outcome.{Lacking, TooLarge, TooMany, Writes, is_too_long, new_manifest, size_of, update_outcome}
+use Rattle.ldconfig_core.specs.Session.{Loaded}
+
+pub over : (n m : ℕ) → n < m → nat_lt n m ≡ true
+over n m h = grind (arith, nat_tests)
+
+pub within : (n m : ℕ) → m ≤ n → nat_lt n m ≡ false
+within n m h = grind (arith, nat_tests)
+
+both_false : (a b : Bool) → (a || b) ≡ false → (a ≡ false) × (b ≡ false)
+both_false true b h = absurd (cc)
+both_false false b h = (refl, h)
+
+module _ (held : Contents) (s : Loaded) where
+  pub lacking_wanted : lacks_wanted held s.tree ≡ true → update_outcome held s ≡ Lacking
+  unfolding update_outcome
+  lacking_wanted lacks = by (conf_lacks held s.tree) (lacks_one held (wanted_keys held s.tree)) lacks
+    where
+      by : (a b : Bool) → (a || b) ≡ true → {rest : _} → cond a Lacking (cond b Lacking rest) ≡ Lacking
+      by true b h = refl
+      by false true h = refl
+      by false false h = absurd (cc)
+
+  module _ (none : lacks_wanted held s.tree ≡ false) where
+    abbrev no : (conf_lacks held s.tree ≡ false) × (lacks_one held (wanted_keys held s.tree) ≡ false)
+    no = both_false (conf_lacks held s.tree) (lacks_one held (wanted_keys held s.tree)) none
+
+    pub too_many_nodes : (nodes : ℕ) → has_too_many_nodes held s.tree ≡ true → nodes ≡ nodes_with s.tree (links_in held s.tree) → update_outcome held s ≡ TooLarge nodes 0
+    unfolding update_outcome
+    too_many_nodes nodes many is = rw (no.0, no.1, many, is) refl
+
+    module _ (few : has_too_many_nodes held s.tree ≡ false) where
+      pub lacking_behind : lacks_one held (behind_keys held s.tree) ≡ true → update_outcome held s ≡ Lacking
+      unfolding update_outcome
+      lacking_behind lacks = rw (no.0, no.1, few, lacks) refl
+
+      module _ (behind : lacks_one held (behind_keys held s.tree) ≡ false) where
+        pub too_long : is_too_long (new_manifest held s) ≡ true → update_outcome held s ≡ TooLarge (length (planned_in held s.tree)) (size_of (new_manifest held s))
+        unfolding update_outcome
+        too_long long = rw (no.0, no.1, few, behind, long) refl
+
+        module _ (short : is_too_long (new_manifest held s) ≡ false) where
+          pub too_many : nat_lt ENTRIES_MAX (length (entries_in held s.tree)) ≡ true → update_outcome held s ≡ TooMany (length (entries_in held s.tree))
+          unfolding update_outcome
+          too_many many = rw (no.0, no.1, few, behind, short, many) refl
+
+          pub writes : nat_lt ENTRIES_MAX (length (entries_in held s.tree)) ≡ false → update_outcome held s ≡ Writes
+          unfolding update_outcome
+          writes fit = rw (no.0, no.1, few, behind, short, fit) refl
