@@ -90,3 +90,10 @@ module _ (key : List ℕ) where
       } where
         count : m ≤ length before
         count = let size = b.size in let c = rw size at r.count in omega (arith, c)
+
+  -- out of memory behind a file that was read
+  pub gave_up : (known : Option Contents) (a b : StoreState) → ReadsFile key known Complete a b → ReadsFile key known GaveUp a b
+  gave_up known a b r = record {
+    held = r.held; begins = relates_by _ _ (λ x y. part_whole (key ∷ []) x y) _ _ r.begins; begun = r.begun; begun_before = r.begun_before;
+    taken = r.taken; taken_before = r.taken_before; faults = r.faults; cause = r.cause;
+  }

@@ -15,13 +15,15 @@ use Rattle.tree_face.specs.StoreUse.{Ending, Complete, StoreFailed, GaveUp, Begi
 use Rattle.tree_face.proofs.StoreUse.{IsPartial, reads_on, reads_part}
 use Rattle.conf_patterns.specs.Patterns.{Found}
 use Rattle.ldso_conf.specs.Endings.{ending_by}
-use Rattle.ldso_conf.specs.Reading.{Item, Reports, begun, bytes_taken, is_missing, key_begun, until_missing}
-use Rattle.ldso_conf.specs.Visits.{Progress, HasTaken, IsDone, IsDoneIn, ReadsFile, ReadsItems, bytes_in, keys_in, lacks_in, size_read, with_report}
+use Rattle.ldso_conf.specs.Reading.{Item, Reports, asked, asked_by, begun, bytes_taken, is_missing, key_begun, named, place_in, until_missing}
+use Rattle.ldso_conf.specs.Visits.{Progress, HasTaken, IsDone, IsDoneIn, ReadsFile, ReadsItems, bytes_in, keys_in, lacks_in, size_read, with_dir, with_report}
 use Rattle.ldso_conf.specs.declared.fault.ConfFault.{ConfFault}
 use Rattle.ldso_conf.specs.declared.fault.ConfFault.TheVariants.{StoreFault, NoMemory}
 use Rattle.ldso_conf.specs.declared.kinds.ConfReport.{ConfReport}
 use Rattle.ldso_conf.specs.declared.reading.TheConstants.{CONF_MAX}
-use Rattle.ldso_conf.proofs.Visiting.{take_report}
+use Rattle.ldso_conf.specs.declared.steps.Step.{Step}
+use Rattle.tree_face.specs.declared.path.TheConstants.{PATH_MAX}
+use Rattle.ldso_conf.proofs.Visiting.{take_dir, take_report}
 use Rattle.ldso_conf.proofs.Items.{behind, taken_more, until_behind, until_parts, until_whole}
 
 pub partial : (fault : ConfFault) → IsPartial (ending_by fault)
@@ -34,11 +36,20 @@ followed_same : (keys : Option (List (List ℕ))) → Relates (IsFollowedBy []) 
 followed_same None = tt
 followed_same (Some keys) = sym (append-nil keys)
 
-pub reads_nothing : (s : StoreState) → ReadsFiles ⊥ (Some []) (Some 0) Complete s s
-reads_nothing s = record {
+pub reads_no_key : (l : Type 0) (n : ℕ) (s : StoreState) → ReadsFiles l (Some []) (Some n) Complete s s
+reads_no_key l n s = record {
   held = refl; begins = followed_same s.keys; begun = omega arith; begun_before = omega arith; taken = omega arith; taken_before = omega arith;
   faults = omega arith; cause = refl;
 }
+
+key_of_named : (dir : List ℕ) → key_begun (named dir) ≡ []
+key_of_named dir = by_test {P = key_begun (named dir) ≡ []} (nat_le (length dir) PATH_MAX) (λ short. rw short refl) (λ long. rw long refl)
+
+held_named : (dir : List ℕ) → is_missing (named dir) ≡ false
+held_named dir = by_test {P = is_missing (named dir) ≡ false} (nat_le (length dir) PATH_MAX) (λ short. rw short refl) (λ long. rw long refl)
+
+pub reads_nothing : (s : StoreState) → ReadsFiles ⊥ (Some []) (Some 0) Complete s s
+reads_nothing s = reads_no_key ⊥ 0 s
 
 -- a call that reads all it is to read has no cause to say
 pub reads_all : (l1 l2 : Type 0) (keys : Option (List (List ℕ))) (most : Option ℕ) (a b : StoreState) → ReadsFiles l1 keys most Complete a b → ReadsFiles l2 keys most Complete a b
@@ -187,9 +198,39 @@ module _ (whole : Contents → List Item) where
     items_done None next d taken reads = reads_unknown ⊥ ⊥ None None Complete a b c (λ l. l) d reads
     items_done (Some held) next d taken reads =
         done_more start now a b c (whole held) (part held) (rest held) next d taken
-        (reads_all (lacks_in (part held)) ⊥ _ _ b c (rw (until_whole (part held) taken.held) at reads))
+        (reads_all _ ⊥ _ _ b c (rw (until_whole (part held) taken.held) at reads))
+
+  -- the call gives up at this place
+  pub stops_here : (rest : Contents → List Item) (start now : Progress) (a b : StoreState) (known : Option Contents) → IsDoneIn known whole rest start now a b → ReadsItems whole known GaveUp a b
+  stops_here rest start now a b known d = items_stop (λ held. []) rest start now a b b known GaveUp d tt (reads_none _ _ _ b)
+
+  module _ (file : Contents → List (List ℕ) → Found → List Item) (step : Step) (steps : List Step) (start now next : Progress) (a b c : StoreState) where
+    -- one step more is taken
+    pub step_done : (known : Option Contents) → IsDoneIn known whole (λ held. asked (file held) now.read (step ∷ steps)) start now a b →
+        IfKnown known (λ held. HasTaken (asked_by (file held) now.read step) now next) → ReadsItems (λ held. asked_by (file held) now.read step) known Complete b c →
+        IsDoneIn known whole (λ held. asked (file held) next.read steps) start next a c
+    step_done None d taken reads = reads_unknown ⊥ ⊥ None None Complete a b c (λ l. l) d reads
+    step_done (Some held) d taken reads =
+        subst (λ places. IsDone (whole held) (asked (file held) places steps) start next a c) (sym (ap (λ (p : Progress). p.read) taken.reader))
+        (items_done (λ k. asked_by (file k) now.read step) (λ k. asked (file k) (now.read ++ flat_map place_in (asked_by (file k) now.read step)) steps) start now a b c (Some held) next d taken reads)
 
   pub all_done : (known : Option Contents) (start now : Progress) (a b : StoreState) → IsDoneIn known whole (λ held. []) start now a b →
       IfKnown known (λ held. HasTaken (whole held) start now) × ReadsItems whole known Complete a b
   all_done None start now a b d = (tt, d)
   all_done (Some held) start now a b d = done_all start now a b (whole held) d
+
+-- ---- steps without a file
+
+module _ (known : Option Contents) (r new : Progress) (s : StoreState) where
+  alone_taken : (item : Item) → HasTaken (item ∷ []) r new → IfKnown known (λ held. HasTaken (item ∷ []) r new)
+  alone_taken item taken = if_all known (λ held. taken)
+
+  alone_reads : (k : Option Contents) (item : Item) → key_begun item ≡ [] → is_missing item ≡ false → ReadsItems (λ held. item ∷ []) k Complete s s
+  alone_reads None item none held = none_unknown s
+  alone_reads (Some c) item none held = rw (held, none) (reads_no_key _ (sum_by bytes_taken (item ∷ [])) s)
+
+  pub report_taken : (report : ConfReport) → new ≡ with_report r report → IfKnown known (λ held. HasTaken (Reports report ∷ []) r new) × ReadsItems (λ held. Reports report ∷ []) known Complete s s
+  report_taken report e = (alone_taken (Reports report) (take_report r new report e), alone_reads known (Reports report) refl refl)
+
+  pub dir_taken : (dir : List ℕ) → new ≡ with_dir r dir → IfKnown known (λ held. HasTaken (named dir ∷ []) r new) × ReadsItems (λ held. named dir ∷ []) known Complete s s
+  dir_taken dir e = (alone_taken (named dir) (take_dir r new dir e), alone_reads known (named dir) (key_of_named dir) (held_named dir))

@@ -31,6 +31,12 @@ take_dir r new dir e =
     (λ short. rw short record { held = refl; reader = (rw short at e) ∙ sym (rw (append-nil r.reports, append-nil r.read, add-zero r.files) refl) })
     (λ long. rw long (take_report r new (reported dir LongPath) (rw long at e)))
 
+pub dir_files : (r new : Progress) (dir : List ℕ) → new ≡ with_dir r dir → new.files ≡ r.files
+dir_files r new dir e =
+    by_test {P = new.files ≡ r.files} (nat_le (length dir) PATH_MAX)
+    (λ short. ap (λ (p : Progress). p.files) (rw short at e))
+    (λ long. ap (λ (p : Progress). p.files) (rw long at e))
+
 -- ---- a file that is not to be begun
 
 module _ (t : Nodes) (left : ℕ) (r : Progress) (f : Found) where
@@ -101,3 +107,13 @@ module _ (t : Nodes) (left : ℕ) (r : Progress) (f : Found) (new : Progress) (k
       by_file ∙ rw (← e, loaded.left, loaded.reader, b.same) (ap (λ places. item ∷ asked (included t held (left - 1)) (r.read ++ places) (steps_in t item)) places) where
     places : place_in item ≡ flat_map place_in (item ∷ [])
     places = sym (append-nil (place_in item))
+
+module _ (t : Nodes) (left : ℕ) (r : Progress) (f : Found) (new : Progress) (key : List ℕ) (b : IsToBeginAs t left r f new key) (now : Progress) (steps : List Step) where
+  pub steps_left : (known : Option Contents) → IfKnown known (λ held. HasLoaded t (begun f key (held key)) new now steps) →
+      IfKnown known (λ held. included t held left r.read f ≡ begun f key (held key) ∷ asked (included t held (left - 1)) now.read steps)
+  steps_left None loaded = tt
+  steps_left (Some held) loaded = by_steps t left r f new key b held (begun f key (held key)) now steps refl loaded
+
+  pub file_taken : (known : Option Contents) → IfKnown known (λ held. HasLoaded t (begun f key (held key)) new now steps) → IfKnown known (λ held. HasTaken (begun f key (held key) ∷ []) r now)
+  file_taken None loaded = tt
+  file_taken (Some held) loaded = record { held = rw loaded.held refl; reader = rw b.same at loaded.reader }

@@ -1,11 +1,14 @@
 -- The reading of the conf file, by where its path leads.
-use Rattle.std.proofs.Common.{◌≡◌, ◌+◌, ◌-◌, ◌∙◌, ℕ, List, [], length, Option, Some, None, refl, sym, ap, subst}
+use Rattle.std.proofs.Common.{◌≡◌, ◌+◌, ◌-◌, ◌∙◌, ℕ, true, List, [], length, Option, Some, None, refl, sym, ap, subst}
+use Rattle.std.proofs.Math.Nat.{zero-add}
+use Rattle.std.specs.List.{flat_map}
+use Rattle.std.specs.Prelude.{IsSomeAnd, option_map}
 use Rattle.tree_face.specs.Known.{IfKnown}
 use Rattle.tree_face.specs.Store.{Contents, StoreState}
-use Rattle.tree_face.specs.StoreUse.{Ending, Complete, GaveUp}
+use Rattle.tree_face.specs.StoreUse.{Ending, Complete, GaveUp, ReadsFiles}
 use Rattle.tree_face.specs.Tree.{Nodes}
 use Rattle.conf_patterns.specs.Patterns.{Found, found_at, place_at}
-use Rattle.ldso_conf.specs.Reading.{Item, all_from, conf_bytes, conf_items, conf_keys, conf_lacks, conf_path, included, reading, IsConfOf, ReadsConf}
+use Rattle.ldso_conf.specs.Reading.{Item, all_from, conf_bytes, conf_items, conf_keys, conf_lacks, conf_path, dir_in, included, key_begun, reading, report_in, IsConfOf, ReadsConf}
 use Rattle.ldso_conf.specs.Visits.{Progress, HasTaken, IsConfFrom, ReadsItems, nothing_read}
 use Rattle.ldso_conf.specs.declared.kinds.Conf.{Conf}
 use Rattle.ldso_conf.specs.declared.reading.TheConstants.{DEPTH_MAX}
@@ -21,17 +24,19 @@ module _ (t : Nodes) where
   unfolding reading conf_items conf_keys conf_lacks
   as_conf held conf reader taken is =
       let whole = until_whole (all_items held) taken.held in
-      let reads = taken.reader in
       record {
-        dirs = rw (whole, ← reads) is.dirs;
-        reports = rw (whole, ← reads) is.reports;
-        files = rw (whole, ← reads) is.files;
+        dirs = is.dirs ∙ ap (λ (p : Progress). p.dirs) taken.reader ∙ sym (ap (flat_map dir_in) whole);
+        reports = is.reports ∙ ap (λ (p : Progress). p.reports) taken.reader ∙ sym (ap (flat_map report_in) whole);
+        files = is.files ∙ ap (λ (p : Progress). p.files) taken.reader ∙ zero-add (length (flat_map key_begun (all_items held)))
+            ∙ sym (ap (λ items. length (flat_map key_begun items)) whole);
         all_held = rw whole taken.held;
       }
 
-  pub as_reads : (known : Option Contents) (e : Ending) (old new : StoreState) → old.held ≡ known → ReadsItems all_items known e old new → ReadsConf t e old new
+  as_reads : (e : Ending) (old new : StoreState) (known : Option Contents) → ReadsItems all_items known e old new →
+      ReadsFiles (IsSomeAnd known (λ held. conf_lacks held t ≡ true)) (option_map (λ held. conf_keys held t) known) (option_map (λ held. conf_bytes held t) known) e old new
   unfolding conf_items conf_keys conf_bytes conf_lacks
-  as_reads known e old new same reads = rw same reads
+  as_reads e old new None reads = reads
+  as_reads e old new (Some held) reads = reads
 
   conf_by : (known : Option Contents) (conf : Conf) (reader : Progress) → IfKnown known (λ held. HasTaken (all_items held) nothing_read reader) → IsConfFrom conf reader →
       IfKnown known (λ held. IsConfOf conf held t)
@@ -49,7 +54,7 @@ module _ (t : Nodes) where
   no_conf (Some held) conf reader e start is = as_conf held conf reader (rw (no_items e held) record { held = refl; reader = start }) is
 
   pub no_reads : (s : StoreState) → place_at t conf_path ≡ None → ReadsConf t Complete s s
-  no_reads s e = as_reads s.held Complete s s refl (at s.held) where
+  no_reads s e = as_reads Complete s s s.held (at s.held) where
     at : (known : Option Contents) → ReadsItems all_items known Complete s s
     at None = none_unknown s
     at (Some held) = rw (no_items e held) (reads_all ⊥ _ _ _ s s (reads_nothing s))
@@ -72,7 +77,7 @@ module _ (t : Nodes) where
     a_conf (Some held) conf reader taken is = as_conf held conf reader (subst (λ s. HasTaken (all_items held) s reader) none (subst (λ items. HasTaken items start reader) (from_start held) taken)) is
 
     pub a_reads : (e : Ending) (old new : StoreState) → ReadsItems visited old.held e old new → ReadsConf t e old new
-    a_reads e old new reads = as_reads old.held e old new refl (at old.held reads) where
+    a_reads e old new reads = as_reads e old new old.held (at old.held reads) where
       at : (known : Option Contents) → ReadsItems visited known e old new → ReadsItems all_items known e old new
       at None reads = reads
       at (Some held) reads = rw (← from_start held) reads

@@ -69,6 +69,7 @@ fn key_to_begin<'t>(
 }
 
 // Begins a file and reads it, or reports that it is too large; returns the steps of its lines.
+#[tactic(auto, using(crate::proofs::Files::gave_up))]
 fn load<S: Store>(
     alloc: Global,
     tree: &Tree,
