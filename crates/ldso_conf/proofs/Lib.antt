@@ -1,4 +1,5 @@
-mod Begun
-mod Growing
+mod Files
+mod Items
+mod Uses
 mod Visiting
 mod Whole

@@ -1,37 +1,64 @@
 -- The visit of a file, by what keeps it from being begun, or by its steps.
-use Rattle.std.proofs.Common.{◌≡◌, ◌≤◌, ◌<◌, ◌+◌, ◌-◌, ℕ, zero, suc, Bool, true, false, cond, List, [], ◌∷◌, length, Option, Some, None, Vec, Global, refl, ap, sym, ◌∙◌, arith, nat_le}
-use Rattle.std.specs.Prelude.{IsSomeAnd}
+use Rattle.std.proofs.Common.{◌≡◌, ◌≤◌, ◌<◌, ◌+◌, ◌-◌, ◌∙◌, ◌||◌, ℕ, zero, suc, Bool, true, false, cond, eqb, List, [], ◌∷◌, ◌++◌, length, Option, Some, None, Vec, Global, refl, sym, ap, arith, nat_le}
+use Rattle.std.proofs.Math.Nat.{add-zero}
+use Rattle.std.proofs.lemmas.List.{append-nil}
+use Rattle.std.specs.List.{flat_map, list_any}
+use Rattle.lib_types.proofs.SortedPairs.{by_test}
 use Rattle.tree_face.specs.Known.{IfKnown}
-use Rattle.tree_face.specs.Store.{Contents, Lacks}
+use Rattle.tree_face.specs.Store.{Contents, StoreState}
 use Rattle.tree_face.specs.Tree.{Nodes, node_at}
+use Rattle.tree_face.specs.declared.path.TheConstants.{PATH_MAX}
 use Rattle.conf_patterns.specs.Patterns.{Found}
-use Rattle.ldso_conf.specs.Reading.{Reading, with_report, was_read, with_begun, with_read, with_file, step_by, key_in, visit}
-use Rattle.ldso_conf.specs.Visits.{Grows, HasEnded, IsToBeginAs, taken, HasContent, Loads}
+use Rattle.ldso_conf.specs.Reading.{Item, Reports, Reads, Passes, asked, begun, included, included_by, is_missing, key_in, named, place_in, reported, steps_in, was_read, with_steps}
 use Rattle.ldso_conf.specs.Steps.{steps_of}
-use Rattle.ldso_conf.specs.declared.kinds.ConfKind.TheVariants.{NotFile, Repeated, TooDeep, TooLarge}
+use Rattle.ldso_conf.specs.Visits.{Progress, HasContent, HasEnded, HasLoaded, HasTaken, IsToBeginAs, with_begun, with_dir, with_items, with_read, with_report}
+use Rattle.ldso_conf.specs.declared.kinds.ConfKind.{ConfKind}
+use Rattle.ldso_conf.specs.declared.kinds.ConfKind.TheVariants.{NotFile, Repeated, TooDeep, TooLarge, LongPath}
+use Rattle.ldso_conf.specs.declared.kinds.ConfReport.{ConfReport}
 use Rattle.ldso_conf.specs.declared.reading.TheConstants.{CONF_MAX}
 use Rattle.ldso_conf.specs.declared.steps.Step.{Step}
-use Rattle.ldso_conf.specs.declared.steps.Step.TheVariants.{Include}
-use Rattle.ldso_conf.proofs.Growing.{grows_file, grows_taken, grows_visit}
 
-module _ (t : Nodes) (left : ℕ) (r : Reading) (f : Found) where
-  pub not_file : (new : Reading) → key_in (node_at t f.1) ≡ None → new ≡ with_report r f.0 NotFile → HasEnded t left r f new
-  not_file new none e = record { visited = λ held. e ∙ by held left; files = rw e refl } where
-    by : (held : Contents) (n : ℕ) → with_report r f.0 NotFile ≡ visit t held n r f
-    by held zero = rw none refl
-    by held (suc n) = rw none refl
+-- ---- items that no file is begun for
 
-  pub repeated : (new : Reading) (key : List ℕ) → key_in (node_at t f.1) ≡ Some key → was_read r f.1 ≡ true → new ≡ with_report r f.0 Repeated → HasEnded t left r f new
-  repeated new key some read e = record { visited = λ held. e ∙ by held left; files = rw e refl } where
-    by : (held : Contents) (n : ℕ) → with_report r f.0 Repeated ≡ visit t held n r f
-    by held zero = rw (some, read) refl
-    by held (suc n) = rw (some, read) refl
+pub take_report : (r new : Progress) (report : ConfReport) → new ≡ with_report r report → HasTaken (Reports report ∷ []) r new
+take_report r new report e = record { held = refl; reader = e ∙ sym same } where
+  same : with_items r (Reports report ∷ []) ≡ with_report r report
+  same = rw (append-nil r.dirs, append-nil r.read, add-zero r.files) refl
 
-  pub too_deep : (new : Reading) (key : List ℕ) → key_in (node_at t f.1) ≡ Some key → was_read r f.1 ≡ false → left ≡ 0 → new ≡ with_report r f.0 TooDeep → HasEnded t left r f new
-  too_deep new key some unread none e = record { visited = λ held. e ∙ rw (none, some, unread) refl; files = rw e refl }
+pub take_dir : (r new : Progress) (dir : List ℕ) → new ≡ with_dir r dir → HasTaken (named dir ∷ []) r new
+take_dir r new dir e =
+    by_test {P = HasTaken (named dir ∷ []) r new} (nat_le (length dir) PATH_MAX)
+    (λ short. rw short record { held = refl; reader = (rw short at e) ∙ sym (rw (append-nil r.reports, append-nil r.read, add-zero r.files) refl) })
+    (λ long. rw long (take_report r new (reported dir LongPath) (rw long at e)))
 
-  pub begins : (key : List ℕ) → key_in (node_at t f.1) ≡ Some key → was_read r f.1 ≡ false → 0 < left → IsToBeginAs t left r f r key
+pub dir_files : (r new : Progress) (dir : List ℕ) → new ≡ with_dir r dir → new.files ≡ r.files
+dir_files r new dir e =
+    by_test {P = new.files ≡ r.files} (nat_le (length dir) PATH_MAX)
+    (λ short. ap (λ (p : Progress). p.files) (rw short at e))
+    (λ long. ap (λ (p : Progress). p.files) (rw long at e))
+
+-- ---- a file that is not to be begun
+
+module _ (t : Nodes) (left : ℕ) (r : Progress) (f : Found) where
+  alone : (report : ConfReport) (held : Contents) → included_by held left r.read f (key_in (node_at t f.1)) ≡ Reports report → included t held left r.read f ≡ Reports report ∷ []
+  alone report held e = at left e where
+    at : (n : ℕ) → included_by held n r.read f (key_in (node_at t f.1)) ≡ Reports report → included t held n r.read f ≡ Reports report ∷ []
+    at zero e = ap (λ item. item ∷ []) e
+    at (suc n) e = ap (with_steps (included t held n) t r.read) e
+
+  pub not_file : (new : Progress) → key_in (node_at t f.1) ≡ None → new ≡ with_report r (reported f.0 NotFile) → HasEnded t left r f new
+  not_file new none e = record { report = reported f.0 NotFile; alone = λ held. alone (reported f.0 NotFile) held (rw none refl); reported = e }
+
+  pub repeated : (new : Progress) (key : List ℕ) → key_in (node_at t f.1) ≡ Some key → was_read r.read f.1 ≡ true → new ≡ with_report r (reported f.0 Repeated) → HasEnded t left r f new
+  repeated new key some read e = record { report = reported f.0 Repeated; alone = λ held. alone (reported f.0 Repeated) held (rw (some, read) refl); reported = e }
+
+  pub too_deep : (new : Progress) (key : List ℕ) → key_in (node_at t f.1) ≡ Some key → was_read r.read f.1 ≡ false → left ≡ 0 → new ≡ with_report r (reported f.0 TooDeep) → HasEnded t left r f new
+  too_deep new key some unread none e = record { report = reported f.0 TooDeep; alone = λ held. alone (reported f.0 TooDeep) held (rw (some, unread, none) refl); reported = e }
+
+  pub begins : (key : List ℕ) → key_in (node_at t f.1) ≡ Some key → was_read r.read f.1 ≡ false → 0 < left → IsToBeginAs t left r f r key
   begins key some unread deep = record { same = refl; deep = deep; there = some; unread = unread }
+
+-- ---- a file that is begun
 
 some_by : (b : Bool) (x y : List ℕ) → Some y ≡ cond b (Some x) None → (b ≡ true) × (y ≡ x)
 some_by true x y e = let same : y ≡ x = cc in (refl, same)
@@ -41,75 +68,52 @@ none_by : (b : Bool) (x : List ℕ) → None ≡ cond b (Some x) None → b ≡ 
 none_by true x e = absurd (cc)
 none_by false x e = refl
 
--- a reading with one file more
-abbrev counted : Reading → Reading
-counted r = record r { files = r.files + 1 }
-
-module _ (t : Nodes) (r : Reading) (f : Found) (key : List ℕ) where
-  load_small : (held : Contents) (content : Vec ℕ Global) → HasContent (held key) (Some content) → Loads t r f (held key) (with_read (counted r) f.1) (steps_of t f.0 content.items)
-  load_small held content h = λ take.
+module _ (t : Nodes) (r : Progress) (f : Found) (key : List ℕ) where
+  load_small : (held : Contents) (content : Vec ℕ Global) → HasContent (held key) (Some content) →
+      HasLoaded t (begun f key (held key)) r (with_read (with_begun r) f.1) (steps_of t f.0 content.items)
+  load_small held content h =
       let small = some_by (nat_le (length h.bytes) CONF_MAX) h.bytes content.items h.read in
-      rw (h.there, small.0, small.1) refl
+      rw (h.there, small.0, small.1) record { held = refl; reader = sym (rw (append-nil r.dirs, append-nil r.reports) refl); left = refl }
 
-  load_large : (held : Contents) → HasContent (held key) None → Loads t r f (held key) (with_report (counted r) f.0 TooLarge) []
-  load_large held h = λ take. let large = none_by (nat_le (length h.bytes) CONF_MAX) h.bytes h.read in rw (h.there, large) refl
+  load_large : (held : Contents) → HasContent (held key) None → HasLoaded t (begun f key (held key)) r (with_report (with_begun r) (reported f.0 TooLarge)) []
+  load_large held h =
+      let large = none_by (nat_le (length h.bytes) CONF_MAX) h.bytes h.read in
+      rw (h.there, large) record { held = refl; reader = sym (rw (append-nil r.dirs, append-nil r.read) refl); left = refl }
 
-  pub loads_small : (known : Option Contents) (content : Vec ℕ Global) (new : Reading) (steps : List Step) → new ≡ with_read (counted r) f.1 → steps ≡ steps_of t f.0 content.items →
-      IfKnown known (λ held. HasContent (held key) (Some content)) → IfKnown known (λ held. Loads t r f (held key) new steps)
+  pub loads_small : (known : Option Contents) (content : Vec ℕ Global) (new : Progress) (steps : List Step) → new ≡ with_read (with_begun r) f.1 → steps ≡ steps_of t f.0 content.items →
+      IfKnown known (λ held. HasContent (held key) (Some content)) → IfKnown known (λ held. HasLoaded t (begun f key (held key)) r new steps)
   loads_small None content new steps e k h = h
   loads_small (Some held) content new steps e k h = rw (e, k) (load_small held content h)
 
-  pub loads_large : (known : Option Contents) (new : Reading) (steps : List Step) → new ≡ with_report (counted r) f.0 TooLarge → steps ≡ [] →
-      IfKnown known (λ held. HasContent (held key) None) → IfKnown known (λ held. Loads t r f (held key) new steps)
+  pub loads_large : (known : Option Contents) (new : Progress) (steps : List Step) → new ≡ with_report (with_begun r) (reported f.0 TooLarge) → steps ≡ [] →
+      IfKnown known (λ held. HasContent (held key) None) → IfKnown known (λ held. HasLoaded t (begun f key (held key)) r new steps)
   loads_large None new steps e k h = h
   loads_large (Some held) new steps e k h = rw (e, k) (load_large held h)
 
--- ---- the visit of a file that is begun
-
-module _ (t : Nodes) (left : ℕ) (r : Reading) (f : Found) (new : Reading) (key : List ℕ) (b : IsToBeginAs t left r f new key) where
-  by_file : (held : Contents) → with_file (step_by (visit t held (left - 1))) t r f (held key) ≡ visit t held left r f
-  by_file held = at left b.deep where
-    at : (n : ℕ) → 0 < n → with_file (step_by (visit t held (n - 1))) t r f (held key) ≡ visit t held n r f
+module _ (t : Nodes) (left : ℕ) (r : Progress) (f : Found) (new : Progress) (key : List ℕ) (b : IsToBeginAs t left r f new key) (held : Contents) where
+  -- what the file asks for
+  pub by_file : included t held left r.read f ≡ with_steps (included t held (left - 1)) t r.read (begun f key (held key))
+  by_file = at left b.deep where
+    at : (n : ℕ) → 0 < n → included t held n r.read f ≡ with_steps (included t held (n - 1)) t r.read (begun f key (held key))
     at zero deep = absurd (omega arith)
     at (suc n) deep =
         let e : suc n - 1 ≡ n = omega arith in
-        rw (b.there, b.unread) (ap (λ m. with_file (step_by (visit t held m)) t r f (held key)) e)
+        rw (b.there, b.unread) (ap (λ m. with_steps (included t held m) t r.read (begun f key (held key))) (sym e))
 
-  -- its steps complete the visit
-  pub comes_to_steps : (known : Option Contents) (now : Reading) (steps : List Step) → IfKnown known (λ held. Loads t new f (held key) now steps) →
-      IfKnown known (λ held. taken t held (left - 1) now steps ≡ visit t held left r f)
-  comes_to_steps None now steps loads = loads
-  comes_to_steps (Some held) now steps loads =
-      sym (loads (step_by (visit t held (left - 1)))) ∙ ap (λ s. with_file (step_by (visit t held (left - 1))) t s f (held key)) b.same ∙ by_file held
+  -- it was loaded, and its steps are left
+  pub by_steps : (item : Item) (now : Progress) (steps : List Step) → item ≡ begun f key (held key) → HasLoaded t item new now steps →
+      included t held left r.read f ≡ (item ∷ []) ++ asked (included t held (left - 1)) now.read steps
+  by_steps item now steps e loaded =
+      by_file ∙ rw (← e, loaded.left, loaded.reader, b.same) (ap (λ places. item ∷ asked (included t held (left - 1)) (r.read ++ places) (steps_in t item)) places) where
+    places : place_in item ≡ flat_map place_in (item ∷ [])
+    places = sym (append-nil (place_in item))
 
-  -- it is counted
-  grows_from : (held : Contents) → Grows (with_begun r (held key)) (visit t held left r f)
-  grows_from held = rw (← by_file held) (grows_file t held (left - 1) (grows_visit t held (left - 1)) r f (held key))
+module _ (t : Nodes) (left : ℕ) (r : Progress) (f : Found) (new : Progress) (key : List ℕ) (b : IsToBeginAs t left r f new key) (now : Progress) (steps : List Step) where
+  pub steps_left : (known : Option Contents) → IfKnown known (λ held. HasLoaded t (begun f key (held key)) new now steps) →
+      IfKnown known (λ held. included t held left r.read f ≡ begun f key (held key) ∷ asked (included t held (left - 1)) now.read steps)
+  steps_left None loaded = tt
+  steps_left (Some held) loaded = by_steps t left r f new key b held (begun f key (held key)) now steps refl loaded
 
-  pub counts_one : (known : Option Contents) → IfKnown known (λ held. r.files + 1 ≤ (visit t held left r f).files)
-  counts_one None = tt
-  counts_one (Some held) = (grows_from held).files
-
-  pub lacks_one : (known : Option Contents) → Lacks known key → IsSomeAnd known (λ held. (visit t held left r f).lacks ≡ true)
-  lacks_one None lacks = lacks
-  lacks_one (Some held) lacks = (grows_from held).lacks (rw lacks refl)
-
-module _ (t : Nodes) (left : ℕ) (now : Reading) (whole : Contents → Reading) where
-  -- what is left only adds
-  pub counts_rest : (known : Option Contents) (steps : List Step) → IfKnown known (λ held. taken t held left now steps ≡ whole held) → IfKnown known (λ held. now.files ≤ (whole held).files)
-  counts_rest None steps e = e
-  counts_rest (Some held) steps e = rw (← e) (grows_taken t held left steps now).files
-
-  pub counts_visit : (known : Option Contents) (f : Found) (steps : List Step) → IfKnown known (λ held. taken t held left now (Include f.0 f.1 ∷ steps) ≡ whole held) →
-      IfKnown known (λ held. (visit t held left now f).files ≤ (whole held).files)
-  counts_visit None f steps e = e
-  counts_visit (Some held) f steps e = rw (← e) (grows_taken t held left steps (visit t held left now f)).files
-
-  pub lacks_visit : (known : Option Contents) (f : Found) (steps : List Step) → IfKnown known (λ held. taken t held left now (Include f.0 f.1 ∷ steps) ≡ whole held) →
-      IsSomeAnd known (λ held. (visit t held left now f).lacks ≡ true) → IsSomeAnd known (λ held. (whole held).lacks ≡ true)
-  lacks_visit None f steps e lacks = lacks
-  lacks_visit (Some held) f steps e lacks = rw (← e) ((grows_taken t held left steps (visit t held left now f)).lacks lacks)
-
-pub counts_more : (t : Nodes) (left : ℕ) (r : Reading) (f : Found) (known : Option Contents) → IfKnown known (λ held. r.files ≤ (visit t held left r f).files)
-counts_more t left r f None = tt
-counts_more t left r f (Some held) = (grows_visit t held left r f).files
+  pub file_taken : (known : Option Contents) → IfKnown known (λ held. HasLoaded t (begun f key (held key)) new now steps) → IfKnown known (λ held. HasTaken (begun f key (held key) ∷ []) r now)
+  file_taken None loaded = tt
+  file_taken (Some held) loaded = record { held = rw loaded.held refl; reader = rw b.same at loaded.reader }

@@ -1,45 +1,83 @@
 -- The reading of the conf file, by where its path leads.
-use Rattle.std.proofs.Common.{◌≡◌, ◌+◌, ◌-◌, List, ℕ, Option, Some, None, refl, sym, ◌∙◌, ap, arith, subst}
+use Rattle.std.proofs.Common.{◌≡◌, ◌+◌, ◌-◌, ◌∙◌, ℕ, true, List, [], length, Option, Some, None, refl, sym, ap, subst}
+use Rattle.std.proofs.Math.Nat.{zero-add}
+use Rattle.std.specs.List.{flat_map}
+use Rattle.std.specs.Prelude.{IsSomeAnd, option_map}
 use Rattle.tree_face.specs.Known.{IfKnown}
-use Rattle.tree_face.specs.Store.{Contents, StoreState, BeginsAtMost}
+use Rattle.tree_face.specs.Store.{Contents, StoreState}
+use Rattle.tree_face.specs.StoreUse.{Ending, Complete, GaveUp, ReadsFiles}
 use Rattle.tree_face.specs.Tree.{Nodes}
-use Rattle.conf_patterns.specs.Patterns.{place_at}
-use Rattle.ldso_conf.specs.Reading.{Reading, nothing_read, visit, conf_path, reading, IsConfOf}
+use Rattle.conf_patterns.specs.Patterns.{Found, found_at, place_at}
+use Rattle.ldso_conf.specs.Reading.{Item, all_from, conf_bytes, conf_items, conf_keys, conf_lacks, conf_path, dir_in, included, key_begun, reading, report_in, IsConfOf, ReadsConf}
+use Rattle.ldso_conf.specs.Visits.{Progress, HasTaken, IsConfFrom, ReadsItems, nothing_read}
 use Rattle.ldso_conf.specs.declared.kinds.Conf.{Conf}
 use Rattle.ldso_conf.specs.declared.reading.TheConstants.{DEPTH_MAX}
-
-as_conf : (conf : Conf) (r whole : Reading) → r ≡ whole → IsConfOf conf r → IsConfOf conf whole
-as_conf conf r whole e is = subst (IsConfOf conf) e is
-
-as_begun : (v whole start : Reading) (old new : StoreState) → v ≡ whole → start ≡ nothing_read → BeginsAtMost (v.files - start.files) old new → BeginsAtMost whole.files old new
-as_begun v whole start old new e s begun =
-    let files = ap (λ (r : Reading). r.files) e in
-    let none = ap (λ (r : Reading). r.files) s in omega (arith, files, none, begun)
+use Rattle.ldso_conf.proofs.Items.{until_whole}
+use Rattle.ldso_conf.proofs.Uses.{none_unknown, reads_all, reads_none, reads_nothing}
 
 module _ (t : Nodes) where
-  none_read : (held : Contents) → place_at t conf_path ≡ None → reading t held ≡ nothing_read
-  unfolding reading
-  none_read held e = rw e refl
+  abbrev all_items : Contents → List Item
+  all_items held = all_from t held (found_at t conf_path)
 
-  some_read : (held : Contents) (real : List ℕ) → place_at t conf_path ≡ Some real → reading t held ≡ visit t held (DEPTH_MAX + 1) nothing_read (conf_path, real)
-  unfolding reading
-  some_read held real e = rw e refl
+  -- all that is taken is what the conf files say
+  as_conf : (held : Contents) (conf : Conf) (reader : Progress) → HasTaken (all_items held) nothing_read reader → IsConfFrom conf reader → IsConfOf conf held t
+  unfolding reading conf_items conf_keys conf_lacks
+  as_conf held conf reader taken is =
+      let whole = until_whole (all_items held) taken.held in
+      record {
+        dirs = is.dirs ∙ ap (λ (p : Progress). p.dirs) taken.reader ∙ sym (ap (flat_map dir_in) whole);
+        reports = is.reports ∙ ap (λ (p : Progress). p.reports) taken.reader ∙ sym (ap (flat_map report_in) whole);
+        files = is.files ∙ ap (λ (p : Progress). p.files) taken.reader ∙ zero-add (length (flat_map key_begun (all_items held)))
+            ∙ sym (ap (λ items. length (flat_map key_begun items)) whole);
+        all_held = rw whole taken.held;
+      }
 
-  pub no_conf : (known : Option Contents) (conf : Conf) (reader : Reading) → place_at t conf_path ≡ None → reader ≡ nothing_read → IsConfOf conf reader → IfKnown known (λ held. IsConfOf conf (reading t held))
+  as_reads : (e : Ending) (old new : StoreState) (known : Option Contents) → ReadsItems all_items known e old new →
+      ReadsFiles (IsSomeAnd known (λ held. conf_lacks held t ≡ true)) (option_map (λ held. conf_keys held t) known) (option_map (λ held. conf_bytes held t) known) e old new
+  unfolding conf_items conf_keys conf_bytes conf_lacks
+  as_reads e old new None reads = reads
+  as_reads e old new (Some held) reads = reads
+
+  conf_by : (known : Option Contents) (conf : Conf) (reader : Progress) → IfKnown known (λ held. HasTaken (all_items held) nothing_read reader) → IsConfFrom conf reader →
+      IfKnown known (λ held. IsConfOf conf held t)
+  conf_by None conf reader taken is = tt
+  conf_by (Some held) conf reader taken is = as_conf held conf reader taken is
+
+  -- ---- there is no conf file
+
+  no_items : place_at t conf_path ≡ None → (held : Contents) → all_items held ≡ []
+  no_items e held = rw e refl
+
+  pub no_conf : (known : Option Contents) (conf : Conf) (reader : Progress) → place_at t conf_path ≡ None → reader ≡ nothing_read → IsConfFrom conf reader →
+      IfKnown known (λ held. IsConfOf conf held t)
   no_conf None conf reader e start is = tt
-  no_conf (Some held) conf reader e start is = as_conf conf reader (reading t held) (start ∙ sym (none_read held e)) is
+  no_conf (Some held) conf reader e start is = as_conf held conf reader (rw (no_items e held) record { held = refl; reader = start }) is
 
-  module _ (start : Reading) (spelled real : List ℕ) (place : place_at t conf_path ≡ Some real) (none : start ≡ nothing_read) (path : spelled ≡ conf_path) where
-    whole_read : (held : Contents) → visit t held (DEPTH_MAX + 1) start (spelled, real) ≡ reading t held
-    whole_read held =
-        ap (λ r. visit t held (DEPTH_MAX + 1) r (spelled, real)) none ∙ ap (λ p. visit t held (DEPTH_MAX + 1) nothing_read (p, real)) path ∙ sym (some_read held real place)
+  pub no_reads : (s : StoreState) → place_at t conf_path ≡ None → ReadsConf t Complete s s
+  no_reads s e = as_reads Complete s s s.held (at s.held) where
+    at : (known : Option Contents) → ReadsItems all_items known Complete s s
+    at None = none_unknown s
+    at (Some held) = rw (no_items e held) (reads_all ⊥ _ _ _ s s (reads_nothing s))
 
-    pub a_conf : (known : Option Contents) (conf : Conf) (reader : Reading) → IfKnown known (λ held. reader ≡ visit t held (DEPTH_MAX + 1) start (spelled, real)) → IsConfOf conf reader →
-        IfKnown known (λ held. IsConfOf conf (reading t held))
-    a_conf None conf reader v is = v
-    a_conf (Some held) conf reader v is = as_conf conf reader (reading t held) (v ∙ whole_read held) is
+  pub gave_up : (s : StoreState) → ReadsConf t GaveUp s s
+  gave_up s = reads_none _ _ _ s
 
-    pub a_begun : (known : Option Contents) (old new : StoreState) → IfKnown known (λ held. BeginsAtMost ((visit t held (DEPTH_MAX + 1) start (spelled, real)).files - start.files) old new) →
-        IfKnown known (λ held. BeginsAtMost (reading t held).files old new)
-    a_begun None old new begun = begun
-    a_begun (Some held) old new begun = as_begun (visit t held (DEPTH_MAX + 1) start (spelled, real)) (reading t held) start old new (whole_read held) none begun
+  -- ---- there is one
+
+  module _ (start : Progress) (spelled real : List ℕ) (place : place_at t conf_path ≡ Some real) (none : start ≡ nothing_read) (path : spelled ≡ conf_path) where
+    abbrev visited : Contents → List Item
+    visited held = included t held (DEPTH_MAX + 1) start.read (spelled, real)
+
+    from_start : (held : Contents) → visited held ≡ all_items held
+    from_start held = rw (none, path, place) refl
+
+    pub a_conf : (known : Option Contents) (conf : Conf) (reader : Progress) → IfKnown known (λ held. HasTaken (visited held) start reader) → IsConfFrom conf reader →
+        IfKnown known (λ held. IsConfOf conf held t)
+    a_conf None conf reader taken is = tt
+    a_conf (Some held) conf reader taken is = as_conf held conf reader (subst (λ s. HasTaken (all_items held) s reader) none (subst (λ items. HasTaken items start reader) (from_start held) taken)) is
+
+    pub a_reads : (e : Ending) (old new : StoreState) → ReadsItems visited old.held e old new → ReadsConf t e old new
+    a_reads e old new reads = as_reads e old new old.held (at old.held reads) where
+      at : (known : Option Contents) → ReadsItems visited known e old new → ReadsItems all_items known e old new
+      at None reads = reads
+      at (Some held) reads = rw (← from_start held) reads

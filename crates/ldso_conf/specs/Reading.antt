@@ -1,11 +1,13 @@
--- The reading of /etc/ld.so.conf (ldconfig(8)): the files that include one another are a tree, which is gone through in preorder.
-use Rattle.std.specs.Prelude.{◌≡◌, ℕ, zero, suc, ◌+◌, Bool, false, List, [], ◌∷◌, ◌++◌, ◌||◌, if◌then◌else◌, nat_le, fold, length, codes, Option, Some, None, unwrap_or, is_none}
+-- The reading of /etc/ld.so.conf (ldconfig(8)). The files that include one another are a tree, and what their lines ask for is written in
+-- preorder: behind an included file stands what its own lines ask for.
+use Rattle.std.specs.Prelude.{◌≡◌, ℕ, zero, suc, ◌+◌, Bool, true, false, List, [], ◌∷◌, ◌++◌, if◌then◌else◌, nat_le, flat_map, sum_by, length, codes, Option, Some, None, IsSomeAnd, option_map}
 use Rattle.std.specs.List.{list_any}
 use Rattle.std.specs.Str.{bytes_eq}
 use Rattle.tree_face.specs.declared.node.Node.{Node}
 use Rattle.tree_face.specs.declared.node.Node.TheVariants as node
 use Rattle.tree_face.specs.declared.path.TheConstants.{PATH_MAX}
-use Rattle.tree_face.specs.Store.{Contents}
+use Rattle.tree_face.specs.Store.{Contents, StoreState}
+use Rattle.tree_face.specs.StoreUse.{Ending, ReadsFiles}
 use Rattle.tree_face.specs.Tree.{Nodes, node_at}
 use Rattle.conf_patterns.specs.Patterns.{Found, found_at}
 use Rattle.ldso_conf.specs.Steps.{steps_of}
@@ -15,90 +17,184 @@ use Rattle.ldso_conf.specs.declared.kinds.ConfKind.TheVariants.{NotFile, Repeate
 use Rattle.ldso_conf.specs.declared.kinds.ConfReport.{ConfReport}
 use Rattle.ldso_conf.specs.declared.reading.TheConstants.{CONF_MAX, DEPTH_MAX}
 use Rattle.ldso_conf.specs.declared.steps.Step.{Step}
-use Rattle.ldso_conf.specs.declared.steps.Step.TheVariants.{Directory, Report, Include}
+use Rattle.ldso_conf.specs.declared.steps.Step.TheVariants as step
 
--- what has been read so far
-pub record Reading : Type 0 where
-  pub dirs : List (List ℕ)
-  pub reports : List ConfReport
-  -- where the files lead that were read, in their order
-  pub read : List (List ℕ)
-  -- how many files were begun
-  pub files : ℕ
-  -- one of those isn't held
-  pub lacks : Bool
+-- what a line asks for, or what becomes of a file that it includes
+pub data Item : Type 0 where
+  -- a directory
+  Names : List ℕ → Item
+  -- a directory or a file that can't be used
+  Reports : ConfReport → Item
+  -- a file that is begun under its key: it is read, is too large, or isn't held
+  Reads : Found → List ℕ → List ℕ → Item
+  Passes : Found → List ℕ → Item
+  Misses : Found → List ℕ → Item
 
-abbrev pub nothing_read : Reading
-nothing_read = record { dirs = []; reports = []; read = []; files = 0; lacks = false }
+-- ---- what the items say
 
-abbrev pub with_report : Reading → List ℕ → ConfKind → Reading
-with_report r place kind = record r { reports = r.reports ++ record { place = place; kind = kind } ∷ [] }
+abbrev pub reported : List ℕ → ConfKind → ConfReport
+reported place kind = record { place = place; kind = kind }
+
+abbrev pub dir_in : Item → List (List ℕ)
+dir_in (Names dir) = dir ∷ []
+dir_in (Reports report) = []
+dir_in (Reads f key content) = []
+dir_in (Passes f key) = []
+dir_in (Misses f key) = []
+
+abbrev pub report_in : Item → List ConfReport
+report_in (Names dir) = []
+report_in (Reports report) = report ∷ []
+report_in (Reads f key content) = []
+report_in (Passes f key) = reported f.0 TooLarge ∷ []
+report_in (Misses f key) = []
+
+-- where a file leads that is read
+abbrev pub place_in : Item → List (List ℕ)
+place_in (Names dir) = []
+place_in (Reports report) = []
+place_in (Reads f key content) = f.1 ∷ []
+place_in (Passes f key) = []
+place_in (Misses f key) = []
+
+-- the key of a file that is begun
+abbrev pub key_begun : Item → List (List ℕ)
+key_begun (Names dir) = []
+key_begun (Reports report) = []
+key_begun (Reads f key content) = key ∷ []
+key_begun (Passes f key) = key ∷ []
+key_begun (Misses f key) = key ∷ []
+
+-- how many bytes are taken of it
+abbrev pub bytes_taken : Item → ℕ
+bytes_taken (Names dir) = 0
+bytes_taken (Reports report) = 0
+bytes_taken (Reads f key content) = length content
+bytes_taken (Passes f key) = 0
+bytes_taken (Misses f key) = 0
+
+abbrev pub is_missing : Item → Bool
+is_missing (Names dir) = false
+is_missing (Reports report) = false
+is_missing (Reads f key content) = false
+is_missing (Passes f key) = false
+is_missing (Misses f key) = true
+
+-- ---- one item
 
 -- a directory of at most 4095 bytes
-abbrev pub with_dir : Reading → List ℕ → Reading
-with_dir r dir = if nat_le (length dir) PATH_MAX then record r { dirs = r.dirs ++ dir ∷ [] } else with_report r dir LongPath
+abbrev pub named : List ℕ → Item
+named dir = if nat_le (length dir) PATH_MAX then Names dir else Reports (reported dir LongPath)
 
-abbrev pub was_read : Reading → List ℕ → Bool
-was_read r place = list_any (bytes_eq place) r.read
-
--- ---- one file
-
--- a file that is begun, with its content if that is held
-abbrev pub with_begun : Reading → Option (List ℕ) → Reading
-with_begun r content = record r { files = r.files + 1; lacks = is_none content || r.lacks }
-
-abbrev pub with_read : Reading → List ℕ → Reading
-with_read r place = record r { read = r.read ++ place ∷ [] }
-
--- a file of this content, whose steps are taken if it isn't too large
-abbrev pub with_content : (Reading → Step → Reading) → Nodes → Reading → Found → List ℕ → Reading
-with_content take t r f content =
-    if nat_le (length content) CONF_MAX then fold take (with_read r f.1) (steps_of t f.0 content)
-    else with_report r f.0 TooLarge
-
--- a file that isn't held gives nothing
-abbrev pub with_file : (Reading → Step → Reading) → Nodes → Reading → Found → Option (List ℕ) → Reading
-with_file take t r f content = with_content take t (with_begun r content) f (unwrap_or content [])
-
--- ---- the tree of inclusions
-
--- an included file is visited where it stands
-abbrev pub step_by : (Reading → Found → Reading) → Reading → Step → Reading
-step_by visit r (Directory dir) = with_dir r dir
-step_by visit r (Report report) = record r { reports = r.reports ++ report ∷ [] }
-step_by visit r (Include spelled real) = visit r (spelled, real)
-
--- by the key of the file to which a path leads; it leads to a directory if there is none
+-- the key of the file to which a path leads; it leads to a directory if there is none
 abbrev pub key_in : Option Node → Option (List ℕ)
 key_in (Some (node.File key id)) = Some key
 key_in (Some node.Dir) = None
 key_in (Some (node.Link target)) = None
 key_in None = None
 
-abbrev pub by_key : Option (List ℕ) → Reading → Found → (List ℕ → Reading) → Reading
-by_key None r f file = with_report r f.0 NotFile
-by_key (Some key) r f file = if was_read r f.1 then with_report r f.0 Repeated else file key
+-- a file that is begun, by what is held under its key
+abbrev pub begun : Found → List ℕ → Option (List ℕ) → Item
+begun f key None = Misses f key
+begun f key (Some content) = if nat_le (length content) CONF_MAX then Reads f key content else Passes f key
 
--- The visit of a file, with at most so many files in a line from here on.
-abbrev pub visit : Nodes → Contents → ℕ → Reading → Found → Reading
-visit t held zero r f = by_key (key_in (node_at t f.1)) r f (λ key. with_report r f.0 TooDeep)
-visit t held (suc left) r f =
-    by_key (key_in (node_at t f.1)) r f (λ key. with_file (step_by (λ s g. visit t held left s g)) t r f (held key))
+abbrev pub was_read : List (List ℕ) → List ℕ → Bool
+was_read before place = list_any (bytes_eq place) before
+
+-- a file stands too deep if none more may stand in a line
+abbrev pub unless_deep : ℕ → Found → Item → Item
+unless_deep zero f item = Reports (reported f.0 TooDeep)
+unless_deep (suc left) f item = item
+
+-- an included file, given how many more may stand in a line, and where those lead that stand before it and are read
+abbrev pub included_by : Contents → ℕ → List (List ℕ) → Found → Option (List ℕ) → Item
+included_by held left before f None = Reports (reported f.0 NotFile)
+included_by held left before f (Some key) =
+    if was_read before f.1 then Reports (reported f.0 Repeated) else unless_deep left f (begun f key (held key))
+
+abbrev pub included_at : Nodes → Contents → ℕ → List (List ℕ) → Found → Item
+included_at t held left before f = included_by held left before f (key_in (node_at t f.1))
+
+-- ---- the preorder
+
+-- only a file that is read has lines
+abbrev pub steps_in : Nodes → Item → List Step
+steps_in t (Names dir) = []
+steps_in t (Reports report) = []
+steps_in t (Reads f key content) = steps_of t f.0 content
+steps_in t (Passes f key) = []
+steps_in t (Misses f key) = []
+
+-- what one step asks for, if files ask for so much
+abbrev pub asked_by : (List (List ℕ) → Found → List Item) → List (List ℕ) → Step → List Item
+asked_by file before (step.Directory dir) = named dir ∷ []
+asked_by file before (step.Report report) = Reports report ∷ []
+asked_by file before (step.Include spelled real) = file before (spelled, real)
+
+-- what steps ask for in turn: the files that one of them reads stand before the next one
+abbrev pub asked : (List (List ℕ) → Found → List Item) → List (List ℕ) → List Step → List Item
+asked file before [] = []
+asked file before (step ∷ steps) = asked_by file before step ++ asked file (before ++ flat_map place_in (asked_by file before step)) steps
+
+abbrev pub with_steps : (List (List ℕ) → Found → List Item) → Nodes → List (List ℕ) → Item → List Item
+with_steps file t before item = item ∷ asked file (before ++ place_in item) (steps_in t item)
+
+-- an included file, and behind it what its lines ask for
+abbrev pub included : Nodes → Contents → ℕ → List (List ℕ) → Found → List Item
+included t held zero before f = included_at t held zero before f ∷ []
+included t held (suc left) before f = with_steps (included t held left) t before (included_at t held (suc left) before f)
 
 abbrev pub conf_path : List ℕ
 conf_path = codes "/etc/ld.so.conf"
 
-abbrev pub visit_found : Nodes → Contents → Option Found → Reading
-visit_found t held None = nothing_read
-visit_found t held (Some f) = visit t held (DEPTH_MAX + 1) nothing_read f
+-- `/etc/ld.so.conf` has the depth 0; there are no items if it isn't there
+abbrev pub all_from : Nodes → Contents → Option Found → List Item
+all_from t held None = []
+all_from t held (Some f) = included t held (DEPTH_MAX + 1) [] f
 
--- The reading of an image's conf file; nothing is read if there is none.
+-- up to and with the first file that isn't held
+abbrev pub until_missing : List Item → List Item
+until_missing [] = []
+until_missing (item ∷ items) = item ∷ (if is_missing item then [] else until_missing items)
+
+-- ---- the reading
+
+-- What the conf files ask for, in preorder. The reading stops at the first file that isn't held.
+unfoldable pub conf_items : Contents → Nodes → List Item
+conf_items held t = until_missing (all_from t held (found_at t conf_path))
+
+-- what the conf files say
+pub record Reading : Type 0 where
+  pub dirs : List (List ℕ)
+  pub reports : List ConfReport
+
+abbrev pub reading_of : List Item → Reading
+reading_of items = record { dirs = flat_map dir_in items; reports = flat_map report_in items }
+
 unfoldable pub reading : Nodes → Contents → Reading
-reading t held = visit_found t held (found_at t conf_path)
+reading t held = reading_of (conf_items held t)
 
--- what is found is what the reading gives
-pub record IsConfOf (conf : Conf) (r : Reading) : Type 0 where
-  pub dirs : conf.dirs ≡ r.dirs
-  pub reports : conf.reports ≡ r.reports
-  pub files : conf.files ≡ r.files
-  pub held : r.lacks ≡ false
+-- the keys of the conf files that have to be begun, in their order
+unfoldable pub conf_keys : Contents → Nodes → List (List ℕ)
+conf_keys held t = flat_map key_begun (conf_items held t)
+
+-- the most bytes that are taken of them
+unfoldable pub conf_bytes : Contents → Nodes → ℕ
+conf_bytes held t = sum_by bytes_taken (conf_items held t)
+
+-- one of them isn't held
+unfoldable pub conf_lacks : Contents → Nodes → Bool
+conf_lacks held t = list_any is_missing (conf_items held t)
+
+-- what is found is what the reading gives, with a file counted for each key, and all are held
+pub record IsConfOf (conf : Conf) (held : Contents) (t : Nodes) : Type 0 where
+  pub dirs : conf.dirs ≡ (reading t held).dirs
+  pub reports : conf.reports ≡ (reading t held).reports
+  pub files : conf.files ≡ length (conf_keys held t)
+  pub all_held : conf_lacks held t ≡ false
+
+-- the conf files are read from a store, as far as the ending says
+abbrev pub ReadsConf : Nodes → Ending → StoreState → StoreState → Type 0
+ReadsConf t ending old new =
+    ReadsFiles (IsSomeAnd old.held (λ held. conf_lacks held t ≡ true)) (option_map (λ held. conf_keys held t) old.held)
+    (option_map (λ held. conf_bytes held t) old.held) ending old new

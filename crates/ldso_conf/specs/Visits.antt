@@ -1,12 +1,59 @@
--- How the code visits a conf file: it opens the file, and then takes its steps.
-use Rattle.std.specs.Prelude.{◌≡◌, ◌≤◌, ◌<◌, ℕ, true, false, List, fold, if◌then◌else◌, length, nat_le, Option, Some, None, option_map, Vec}
+-- How the code visits a file: it begins the file, and then takes its steps.
+use Rattle.std.specs.Prelude.{◌≡◌, ◌<◌, ◌+◌, ℕ, true, false, List, [], ◌∷◌, ◌++◌, flat_map, sum_by, if◌then◌else◌, length, nat_le, Option, Some, None, IsSomeAnd, option_map, Vec}
+use Rattle.std.specs.List.{list_any}
 use Rattle.std.specs.declared.alloc.Global.{Global}
-use Rattle.tree_face.specs.Store.{Contents}
+use Rattle.tree_face.specs.Known.{IfKnown}
+use Rattle.tree_face.specs.Store.{Contents, Lacks, StoreState}
+use Rattle.tree_face.specs.StoreUse.{Ending, Complete, ReadsFiles}
 use Rattle.tree_face.specs.Tree.{Nodes, node_at}
+use Rattle.tree_face.specs.declared.path.TheConstants.{PATH_MAX}
 use Rattle.conf_patterns.specs.Patterns.{Found}
-use Rattle.ldso_conf.specs.Reading.{Reading, key_in, step_by, visit, was_read, with_file}
+use Rattle.ldso_conf.specs.Reading.{Item, asked, begun, bytes_taken, dir_in, included, is_missing, key_begun, key_in, place_in, report_in, reported, steps_in, until_missing, was_read}
+use Rattle.ldso_conf.specs.declared.kinds.Conf.{Conf}
+use Rattle.ldso_conf.specs.declared.kinds.ConfKind.{ConfKind}
+use Rattle.ldso_conf.specs.declared.kinds.ConfKind.TheVariants.{LongPath}
+use Rattle.ldso_conf.specs.declared.kinds.ConfReport.{ConfReport}
 use Rattle.ldso_conf.specs.declared.reading.TheConstants.{CONF_MAX}
 use Rattle.ldso_conf.specs.declared.steps.Step.{Step}
+
+-- what has been read so far
+pub record Progress : Type 0 where
+  pub dirs : List (List ℕ)
+  pub reports : List ConfReport
+  -- where the files lead that were read
+  pub read : List (List ℕ)
+  -- how many files were begun
+  pub files : ℕ
+
+abbrev pub nothing_read : Progress
+nothing_read = record { dirs = []; reports = []; read = []; files = 0 }
+
+abbrev pub with_report : Progress → ConfReport → Progress
+with_report r report = record r { reports = r.reports ++ report ∷ [] }
+
+abbrev pub with_dir : Progress → List ℕ → Progress
+with_dir r dir = if nat_le (length dir) PATH_MAX then record r { dirs = r.dirs ++ dir ∷ [] } else with_report r (reported dir LongPath)
+
+abbrev pub with_read : Progress → List ℕ → Progress
+with_read r place = record r { read = r.read ++ place ∷ [] }
+
+abbrev pub with_begun : Progress → Progress
+with_begun r = record r { files = r.files + 1 }
+
+abbrev pub with_items : Progress → List Item → Progress
+with_items r items = record {
+  dirs = r.dirs ++ flat_map dir_in items;
+  reports = r.reports ++ flat_map report_in items;
+  read = r.read ++ flat_map place_in items;
+  files = r.files + length (flat_map key_begun items)
+}
+
+pub record IsConfFrom (conf : Conf) (r : Progress) : Type 0 where
+  pub dirs : conf.dirs ≡ r.dirs
+  pub reports : conf.reports ≡ r.reports
+  pub files : conf.files ≡ r.files
+
+-- ---- one file
 
 -- what is held was read, unless it is too large
 pub record HasContent (held : Option (List ℕ)) (content : Option (Vec ℕ Global)) : Type 0 where
@@ -14,30 +61,64 @@ pub record HasContent (held : Option (List ℕ)) (content : Option (Vec ℕ Glob
   pub there : held ≡ Some bytes
   pub read : option_map (λ v. v.items) content ≡ (if nat_le (length bytes) CONF_MAX then Some bytes else None)
 
--- with the steps of a file that are taken from a reading on
-abbrev pub taken : Nodes → Contents → ℕ → Reading → List Step → Reading
-taken t held left r steps = fold (step_by (visit t held left)) r steps
+-- how many bytes are taken of what is held
+abbrev pub size_read : Option (List ℕ) → ℕ
+size_read None = 0
+size_read (Some content) = if nat_le (length content) CONF_MAX then length content else 0
 
--- a file that is to be begun, or a visit that has ended
-pub record IsToBeginAs (t : Nodes) (left : ℕ) (r : Reading) (f : Found) (new : Reading) (key : List ℕ) : Type 0 where
+abbrev pub ReadsFile : List ℕ → Option Contents → Ending → StoreState → StoreState → Type 0
+ReadsFile key known ending old new = ReadsFiles (Lacks known key) (Some (key ∷ [])) (option_map (λ held. size_read (held key)) known) ending old new
+
+-- a file that is to be begun, or one that is reported
+pub record IsToBeginAs (t : Nodes) (left : ℕ) (r : Progress) (f : Found) (new : Progress) (key : List ℕ) : Type 0 where
   pub same : new ≡ r
   pub deep : 0 < left
   pub there : key_in (node_at t f.1) ≡ Some key
-  pub unread : was_read r f.1 ≡ false
+  pub unread : was_read r.read f.1 ≡ false
 
-pub record HasEnded (t : Nodes) (left : ℕ) (r : Reading) (f : Found) (new : Reading) : Type 0 where
-  pub visited : (held : Contents) → new ≡ visit t held left r f
-  pub files : new.files ≡ r.files
+pub record HasEnded (t : Nodes) (left : ℕ) (r : Progress) (f : Found) (new : Progress) : Type 0 where
+  pub report : ConfReport
+  pub alone : (held : Contents) → included t held left r.read f ≡ Item.Reports report ∷ []
+  pub reported : new ≡ with_report r report
 
-abbrev pub IsToBegin : Nodes → ℕ → Reading → Found → Reading → Option (List ℕ) → Type 0
+abbrev pub IsToBegin : Nodes → ℕ → Progress → Found → Progress → Option (List ℕ) → Type 0
 IsToBegin t left r f new None = HasEnded t left r f new
 IsToBegin t left r f new (Some key) = IsToBeginAs t left r f new key
 
 -- a file was loaded: these steps are left of it
-abbrev pub Loads : Nodes → Reading → Found → Option (List ℕ) → Reading → List Step → Type 0
-Loads t r f held new steps = (take : Reading → Step → Reading) → with_file take t r f held ≡ fold take new steps
+pub record HasLoaded (t : Nodes) (item : Item) (r new : Progress) (steps : List Step) : Type 0 where
+  pub held : is_missing item ≡ false
+  pub reader : new ≡ with_items r (item ∷ [])
+  pub left : steps ≡ steps_in t item
 
--- a later reading: no fewer files, and a file that isn't held is still not held
-pub record Grows (r s : Reading) : Type 0 where
-  pub files : r.files ≤ s.files
-  pub lacks : r.lacks ≡ true → s.lacks ≡ true
+-- ---- the items of a visit
+
+-- they were all taken
+pub record HasTaken (items : List Item) (r new : Progress) : Type 0 where
+  pub held : list_any is_missing items ≡ false
+  pub reader : new ≡ with_items r items
+
+abbrev pub keys_in : List Item → List (List ℕ)
+keys_in items = flat_map key_begun (until_missing items)
+
+abbrev pub bytes_in : List Item → ℕ
+bytes_in items = sum_by bytes_taken (until_missing items)
+
+abbrev pub lacks_in : List Item → Type 0
+lacks_in items = list_any is_missing (until_missing items) ≡ true
+
+-- the files of these items are read
+abbrev pub ReadsItems : (Contents → List Item) → Option Contents → Ending → StoreState → StoreState → Type 0
+ReadsItems items known ending old new =
+    ReadsFiles (IsSomeAnd known (λ held. lacks_in (items held))) (option_map (λ held. keys_in (items held)) known) (option_map (λ held. bytes_in (items held)) known) ending old new
+
+-- so many of the items were taken, and the rest is left
+pub record IsDone (whole rest : List Item) (start now : Progress) (old new : StoreState) : Type 0 where
+  pub done : List Item
+  pub parts : whole ≡ done ++ rest
+  pub taken : HasTaken done start now
+  pub reads : ReadsFiles ⊥ (Some (flat_map key_begun done)) (Some (sum_by bytes_taken done)) Complete old new
+
+abbrev pub IsDoneIn : Option Contents → (Contents → List Item) → (Contents → List Item) → Progress → Progress → StoreState → StoreState → Type 0
+IsDoneIn None whole rest start now old new = ReadsFiles ⊥ None None Complete old new
+IsDoneIn (Some held) whole rest start now old new = IsDone (whole held) (rest held) start now old new

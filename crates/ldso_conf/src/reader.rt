@@ -1,6 +1,7 @@
 //! What has been read of the conf files so far.
-ghost use Rattle.std.specs.Prelude.{◌≡◌, ◌∷◌, ◌++◌, ◌+◌, ◌≤◌, [], false, length, All, OnOk};
-ghost use Rattle.ldso_conf.specs.Reading.{nothing_read, was_read, with_dir, with_read, with_report, IsConfOf};
+ghost use Rattle.std.specs.Prelude.{◌≡◌, ◌≤◌, false, length, All, OnOk};
+ghost use Rattle.ldso_conf.specs.Reading.{reported, was_read};
+ghost use Rattle.ldso_conf.specs.Visits.{nothing_read, with_begun, with_dir, with_read, with_report, IsConfFrom};
 
 use crate::kinds::{Conf, ConfKind, ConfReport, ConfReports};
 use lib_types::{NoMemory, Text, Texts};
@@ -19,13 +20,13 @@ pub(crate) struct Reader {
 }
 
 impl Model for Reader {
-    ghost use Rattle.std.specs.Prelude.{◌≤◌, All, false, length};
+    ghost use Rattle.std.specs.Prelude.{◌≤◌, All, length};
     ghost use Rattle.tree_face.specs.declared.path.TheConstants.{PATH_MAX};
-    ghost use Rattle.ldso_conf.specs.Reading.{Reading};
+    ghost use Rattle.ldso_conf.specs.Visits.{Progress};
 
-    ghost Value = { Reading };
+    ghost Value = { Progress };
 
-    ghost view = { λ s. record { dirs = s.dirs; reports = s.reports; read = s.read; files = s.files; lacks = false } };
+    ghost view = { λ s. record { dirs = s.dirs; reports = s.reports; read = s.read; files = s.files } };
 
     ghost invariant = { λ s. All (λ dir. length dir ≤ PATH_MAX) s.dirs };
 }
@@ -45,14 +46,14 @@ impl Reader {
 
     /// Adds a report.
     pub(crate) fn add_report(&mut self, report: ConfReport) -> Result<(), NoMemory>
-        ensures { OnOk result (self.new ≡ record self.old { reports = self.old.reports ++ report ∷ [] }) }
+        ensures { OnOk result (self.new ≡ with_report self.old report) }
     {
         self.reports.push(report)
     }
 
     /// Reports this place.
     pub(crate) fn report(&mut self, place: Text, kind: ConfKind) -> Result<(), NoMemory>
-        ensures { OnOk result (self.new ≡ with_report self.old place kind) }
+        ensures { OnOk result (self.new ≡ with_report self.old (reported place kind)) }
     {
         self.add_report(ConfReport { place, kind })
     }
@@ -69,14 +70,14 @@ impl Reader {
 
     /// Whether the file at this place was read.
     pub(crate) fn was_read(&self, place: &[u8]) -> bool
-        ensures { result ≡ was_read self.now place.now }
+        ensures { result ≡ was_read self.now.read place.now }
     {
         self.read.contains(place)
     }
 
     /// Counts a file that is begun.
     pub(crate) fn count_file(&mut self) -> Result<(), NoMemory>
-        ensures { OnOk result (self.new ≡ record self.old { files = self.old.files + 1 }) }
+        ensures { OnOk result (self.new ≡ with_begun self.old) }
     {
         let Some(files) = self.files.checked_add(1) else {
             return Err(NoMemory);
@@ -87,7 +88,7 @@ impl Reader {
 
     /// Adds the place of a file that is read.
     pub(crate) fn add_read(&mut self, place: Text) -> Result<(), NoMemory>
-        requires { was_read self.old place ≡ false }
+        requires { was_read self.old.read place ≡ false }
         ensures { OnOk result (self.new ≡ with_read self.old place) }
     {
         self.read.insert(place)
@@ -95,7 +96,7 @@ impl Reader {
 
     /// What was found.
     pub(crate) fn into_conf(self) -> Conf
-        ensures conf { IsConfOf result self }
+        ensures conf { IsConfFrom result self }
         ensures short { All (λ dir. length dir ≤ PATH_MAX) result.dirs }
     {
         Conf {

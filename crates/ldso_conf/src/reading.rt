@@ -1,12 +1,12 @@
 //! The reading of the conf file, with the files that it includes.
-ghost use Rattle.std.specs.Prelude.{◌≡◌, ◌⊎◌, ◌≤◌, ◌+◌, ◌-◌, true, false, length, All, IfOk, OnOk, IsErrOf, IsSomeAnd};
+ghost use Rattle.std.specs.Prelude.{◌≡◌, ◌≤◌, ◌-◌, ◌+◌, false, length, All, IfOk, OnOk};
 ghost use Rattle.std.specs.Option.{option_copied};
-ghost use Rattle.lib_types.specs.Counts.{raised, HasRisen};
+ghost use Rattle.lib_types.specs.Counts.{raised};
 ghost use Rattle.tree_face.specs.Known.{IfKnown};
-ghost use Rattle.tree_face.specs.Store.{BeginsAtMost, Lacks};
 ghost use Rattle.tree_face.specs.Tree.{node_at};
-ghost use Rattle.ldso_conf.specs.Reading.{reading, key_in, visit, was_read, with_report, IsConfOf};
-ghost use Rattle.ldso_conf.specs.Visits.{IsToBegin, Loads};
+ghost use Rattle.ldso_conf.specs.Endings.{ending_of};
+ghost use Rattle.ldso_conf.specs.Reading.{begun, included, key_in, reported, was_read, IsConfOf, ReadsConf};
+ghost use Rattle.ldso_conf.specs.Visits.{with_report, HasLoaded, HasTaken, IsToBegin, ReadsFile, ReadsItems};
 
 use crate::content::content_of;
 use crate::fault::ConfFault;
@@ -36,7 +36,7 @@ fn key_at<'t>(tree: &'t Tree, place: &[u8]) -> Option<&'t [u8]>
 
 // Reports a place.
 fn report(alloc: Global, reader: &mut Reader, place: &Text, kind: ConfKind) -> Result<(), NoMemory>
-    ensures { OnOk result (reader.new ≡ with_report reader.old place.now kind) }
+    ensures { OnOk result (reader.new ≡ with_report reader.old (reported place.now kind)) }
 {
     reader.report(Text::copy_of(alloc, place.as_bytes())?, kind)
 }
@@ -69,6 +69,7 @@ fn key_to_begin<'t>(
 }
 
 // Begins a file and reads it, or reports that it is too large; returns the steps of its lines.
+#[tactic(auto, using(crate::proofs::Files::gave_up))]
 fn load<S: Store>(
     alloc: Global,
     tree: &Tree,
@@ -78,14 +79,12 @@ fn load<S: Store>(
     spelled: Text,
     real: Text,
 ) -> Result<Vec<Step>, ConfFault>
-    requires { was_read reader.old real ≡ false }
-    ensures loads { IfOk result (λ steps. IfKnown (S.state store.old).held (λ held. Loads tree.now reader.old (spelled, real) (held key.now) reader.new steps.items)) }
-    ensures cause { IsErrOf result ConfFault.StoreFault → HasRisen (S.state store.old).faults (S.state store.new).faults ⊎ Lacks (S.state store.old).held key.now }
-    ensures held { (S.state store.new).held ≡ (S.state store.old).held }
-    ensures faults { (S.state store.old).faults ≤ (S.state store.new).faults }
+    requires { was_read reader.old.read real ≡ false }
+    ensures loads { IfOk result (λ steps. IfKnown (S.state store.old).held
+        (λ held. HasLoaded tree.now (begun (spelled, real) key.now (held key.now)) reader.old reader.new steps.items)) }
     ensures files { IfOk result (λ _. reader.new.files ≡ reader.old.files + 1) }
     ensures begun { IfOk result (λ _. (S.state store.new).begun ≡ raised (S.state store.old).begun 1) }
-    ensures begun_at_most { BeginsAtMost 1 (S.state store.old) (S.state store.new) }
+    ensures reads { ReadsFile key.now (S.state store.old).held (ending_of result) (S.state store.old) (S.state store.new) }
 {
     reader.count_file()?;
     let Some(content) = content_of(alloc, store, key)? else {
@@ -97,6 +96,7 @@ fn load<S: Store>(
 }
 
 // Visits a file: reads it and takes the steps of its lines, with at most so many files in a line from here on.
+#[tactic(auto, using(crate::proofs::Uses::reads_none))]
 fn visit<S: Store>(
     alloc: Global,
     tree: &Tree,
@@ -106,15 +106,12 @@ fn visit<S: Store>(
     spelled: Text,
     real: Text,
 ) -> Result<(), ConfFault>
-    ensures visits { OnOk result (IfKnown (S.state store.old).held (λ held. reader.new ≡ visit tree.now held left reader.old (spelled, real))) }
-    ensures cause { IsErrOf result ConfFault.StoreFault → HasRisen (S.state store.old).faults (S.state store.new).faults
-        ⊎ IsSomeAnd (S.state store.old).held (λ held. (visit tree.now held left reader.old (spelled, real)).lacks ≡ true) }
-    ensures held { (S.state store.new).held ≡ (S.state store.old).held }
-    ensures faults { (S.state store.old).faults ≤ (S.state store.new).faults }
+    ensures visits { OnOk result (IfKnown (S.state store.old).held
+        (λ held. HasTaken (included tree.now held left reader.old.read (spelled, real)) reader.old reader.new)) }
     ensures files { OnOk result (reader.old.files ≤ reader.new.files) }
     ensures begun { OnOk result ((S.state store.new).begun ≡ raised (S.state store.old).begun (reader.new.files - reader.old.files)) }
-    ensures begun_at_most { IfKnown (S.state store.old).held
-        (λ held. BeginsAtMost ((visit tree.now held left reader.old (spelled, real)).files - reader.old.files) (S.state store.old) (S.state store.new)) }
+    ensures reads { ReadsItems (λ held. included tree.now held left reader.old.read (spelled, real)) (S.state store.old).held
+        (ending_of result) (S.state store.old) (S.state store.new) }
 {
     let Some(key) = key_to_begin(alloc, tree, reader, left, &spelled, &real)? else {
         return Ok(());
@@ -134,16 +131,12 @@ fn visit<S: Store>(
 /// Reads `/etc/ld.so.conf` with all that it includes.
 ///
 /// Takes memory for the content of the files that are open, at most 17 of them, and for what their lines ask for.
-#[tactic(auto, using(crate::proofs::Whole::no_conf), unfolding(crate::specs::Reading::reading))]
+#[tactic(auto, using(crate::proofs::Whole::no_conf, crate::proofs::Whole::no_reads, crate::proofs::Whole::gave_up))]
 pub fn read_conf<S: Store>(alloc: Global, tree: &Tree, store: &mut S) -> Result<Conf, ConfFault>
-    ensures conf { IfOk result (λ conf. IfKnown (S.state store.old).held (λ held. IsConfOf conf (reading tree.now held))) }
+    ensures conf { IfOk result (λ conf. IfKnown (S.state store.old).held (λ held. IsConfOf conf held tree.now)) }
     ensures short { IfOk result (λ conf. All (λ dir. length dir ≤ PATH_MAX) conf.dirs) }
-    ensures cause { IsErrOf result ConfFault.StoreFault → HasRisen (S.state store.old).faults (S.state store.new).faults
-        ⊎ IsSomeAnd (S.state store.old).held (λ held. (reading tree.now held).lacks ≡ true) }
-    ensures held { (S.state store.new).held ≡ (S.state store.old).held }
-    ensures faults { (S.state store.old).faults ≤ (S.state store.new).faults }
     ensures begun { IfOk result (λ conf. (S.state store.new).begun ≡ raised (S.state store.old).begun conf.files) }
-    ensures begun_at_most { IfKnown (S.state store.old).held (λ held. BeginsAtMost (reading tree.now held).files (S.state store.old) (S.state store.new)) }
+    ensures reads { ReadsConf tree.now (ending_of result) (S.state store.old) (S.state store.new) }
 {
     let path = b"/etc/ld.so.conf";
     let mut reader = Reader::new(alloc);

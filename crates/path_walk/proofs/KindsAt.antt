@@ -1,9 +1,10 @@
 -- What stands at the paths of a tree: only directories above a directory.
-use Rattle.std.proofs.Common.{◌≡◌, ◌+◌, ℕ, Bool, true, false, cond, ◌||◌, not, nat_eq, nat_le, List, [], ◌∷◌, ◌++◌, append_assoc, length, length-append, refl, ap, sym, subst, ◌∙◌, Option, Some, None, unwrap_or, arith}
+use Rattle.std.proofs.Common.{◌≡◌, ◌+◌, ℕ, Bool, true, false, cond, ◌||◌, not, nat_eq, nat_le, List, [], ◌∷◌, ◌++◌, append_assoc, length, length-append, refl, ap, sym, subst, ◌∙◌, Option, Some, None, unwrap_or, Result, Ok, Err, arith}
 use Rattle.std.proofs.lemmas.Bool.{and_from, and_parts}
 use Rattle.std.proofs.lemmas.Bool.Decides.{nat_tests}
 use Rattle.std.proofs.lemmas.List.Folds.{list_all-append}
 use Rattle.std.proofs.lemmas.Slice.Eq.{bytes_eq-Decides}
+use Rattle.std.specs.Result.{IfOk, MatchResult}
 use Rattle.std.specs.List.{list_all, slice_split, starts_with}
 use Rattle.std.specs.Str.{bytes_eq}
 use Rattle.lib_types.proofs.Bools.{not_true}
@@ -21,10 +22,11 @@ use Rattle.tree_face.specs.declared.path.TheConstants.{PATH_MAX}
 use Rattle.tree_face.specs.declared.tree.Kind.TheVariants.{Absent, Dir}
 use Rattle.path_walk.proofs.Joining.{parts_joined}
 use Rattle.path_walk.specs.Names.{before_last, more_before, parent, unless_empty}
-use Rattle.path_walk.specs.Stops.{EndsAt, HaltsAt, KeepsDir}
+use Rattle.path_walk.specs.Stops.{EndsAt, HaltsAt, KeepsDir, LinkIsLeft}
 use Rattle.path_walk.specs.Walk.{start_of}
 use Rattle.path_walk.specs.declared.walk.End.{End}
 use Rattle.path_walk.specs.declared.walk.End.TheVariants as end
+use Rattle.path_walk.specs.declared.walk.WalkFault.{WalkFault}
 use Rattle.path_walk.specs.declared.walk.Halt.{Halt}
 use Rattle.path_walk.specs.declared.walk.Halt.TheVariants as halt
 
@@ -174,3 +176,9 @@ module _ (t : Nodes) where
     pub halts_after : (h : Halt) → HaltsAt t q r h → HaltsAt t p r h
     halts_after (halt.Reached e) h = ends_after e h
     halts_after (halt.Link target rest) h = λ d. h (keeps d)
+
+  -- the last end of a walk is where it halts
+  pub last_ends : (p q r : List ℕ) → KeepsDir t p q → (h : Halt) → HaltsAt t q r h → (result : Result End WalkFault) → MatchResult result (λ e. h ≡ halt.Reached e) (LinkIsLeft h) →
+      IfOk result (EndsAt t p r)
+  last_ends p q r keeps h halts (Ok e) is = ends_after p q r keeps e (subst (HaltsAt t q r) is halts)
+  last_ends p q r keeps h halts (Err fault) is = tt

@@ -1,9 +1,13 @@
 -- The files to which path texts lead.
-use Rattle.std.specs.Prelude.{ℕ, Bool, true, false, List, if◌then◌else◌, Option, Some, None, Result, Ok, Err}
-use Rattle.tree_face.specs.Tree.{Nodes, kind_at}
+use Rattle.std.specs.Prelude.{◌≡◌, ℕ, Bool, true, false, List, if◌then◌else◌, Option, Some, None, Result, Ok, Err, IfOk, IsTrue}
+use Rattle.lib_types.specs.Name.{is_name}
+use Rattle.lib_types.specs.declared.fault.NoMemory.{NoMemory}
+use Rattle.tree_face.specs.Paths.{components, join}
+use Rattle.tree_face.specs.declared.node.Node.TheVariants.{Link}
+use Rattle.tree_face.specs.Tree.{Nodes, kind_at, node_at}
 use Rattle.tree_face.specs.declared.tree.Kind.{Kind}
 use Rattle.tree_face.specs.declared.tree.Kind.TheVariants as kinds
-use Rattle.path_walk.specs.Walk.{resolution}
+use Rattle.path_walk.specs.Walk.{resolution, steps, walk}
 use Rattle.path_walk.specs.declared.walk.Mode.TheVariants.{Full}
 use Rattle.path_walk.specs.declared.walk.WalkFault.{WalkFault}
 
@@ -18,6 +22,15 @@ abbrev pub file_by : Nodes → Result (List ℕ) WalkFault → Option (List ℕ)
 file_by t (Ok place) = if is_file (kind_at t place) then Some place else None
 file_by t (Err fault) = None
 
+-- the same of a walk by a path text from a folder, by at most so many links
+abbrev pub file_from : Nodes → ℕ → List ℕ → List ℕ → Option (List ℕ)
+file_from t links path folder = file_by t (walk t Full links (steps t Full (components path) folder))
+
 -- the file to which a path text leads, all links followed
 abbrev pub file_at : Nodes → List ℕ → Option (List ℕ)
 file_at t path = file_by t (resolution t path Full)
+
+-- a call gives the file to which a link of this folder leads: that of the link's path, whatever its name
+abbrev pub GivesFile : Nodes → List ℕ → List ℕ → Result (Option (List ℕ)) NoMemory → Type 0
+GivesFile t folder target result = (name : List ℕ) → kind_at t folder ≡ kinds.Dir → IsTrue (is_name name) → node_at t (join folder name) ≡ Some (Link target) →
+    IfOk result (λ file. file ≡ file_at t (join folder name))

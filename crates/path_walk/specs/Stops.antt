@@ -1,18 +1,18 @@
 -- What private functions say of a walk that stops.
-use Rattle.std.specs.Prelude.{◌≡◌, ◌⊎◌, ◌++◌, ◌&&◌, ◌+◌, ℕ, true, false, List, length, Option, Some, None, Ok, Err}
+use Rattle.std.specs.Prelude.{◌≡◌, ◌⊎◌, ◌++◌, ◌&&◌, ◌+◌, ◌∷◌, ℕ, true, false, List, length, Option, Some, None, Result, Ok, Err, MatchResult}
 use Rattle.std.specs.Option.{option_copied}
 use Rattle.name_order.specs.LibraryName.{is_library_name}
 use Rattle.tree_face.specs.declared.tree.Kind.TheVariants as kinds
 use Rattle.tree_face.specs.Tree.{Nodes, kind_at}
 use Rattle.tree_face.specs.Paths.{components, join}
 use Rattle.path_walk.specs.Rest.{names_in}
-use Rattle.path_walk.specs.Walk.{Stop, Ends, Follows, steps, is_plain, start_of, target_at}
+use Rattle.path_walk.specs.Walk.{Stop, Ends, Follows, at_file, steps, is_plain, start_of, target_at}
 use Rattle.path_walk.specs.declared.walk.Mode.{Mode}
 use Rattle.path_walk.specs.declared.walk.Mode.TheVariants.{Full}
 use Rattle.path_walk.specs.declared.files.Beside.{Beside}
 use Rattle.path_walk.specs.declared.files.Beside.TheVariants as beside
 use Rattle.path_walk.specs.declared.walk.WalkFault.{WalkFault}
-use Rattle.path_walk.specs.declared.walk.WalkFault.TheVariants.{Absent, NoMemory}
+use Rattle.path_walk.specs.declared.walk.WalkFault.TheVariants.{Absent, TooManyLinks, NoMemory}
 use Rattle.path_walk.specs.declared.walk.Child.{Child}
 use Rattle.path_walk.specs.declared.walk.Child.TheVariants as child
 use Rattle.path_walk.specs.declared.walk.End.{End}
@@ -31,6 +31,13 @@ IsAt t place child.Dir = kind_at t place ≡ kinds.Dir
 IsAt t place child.File = kind_at t place ≡ kinds.File
 IsAt t place (child.Link target) = (kind_at t place ≡ kinds.Link) × (target.now ≡ target_at t place)
 
+-- the name stands for this child at its place
+abbrev pub IsChildAt : Nodes → Mode → List ℕ → List ℕ → Child → Type 0
+IsChildAt t mode name place child.Dir = kind_at t place ≡ kinds.Dir
+IsChildAt t mode name place child.File = kind_at t place ≡ kinds.File
+IsChildAt t mode name place (child.Link target) =
+    (kind_at t place ≡ kinds.Link) × ((is_plain mode && is_library_name name) ≡ false) × (target.now ≡ target_at t place)
+
 -- in the folder `old` the name is this child, and `new` is the place from which the walk goes on
 abbrev pub IsChild : Nodes → Mode → List ℕ → List ℕ → List ℕ → Child → Type 0
 IsChild t mode name old new child.Dir = (kind_at t (join old name) ≡ kinds.Dir) × (new ≡ join old name)
@@ -38,21 +45,34 @@ IsChild t mode name old new child.File = (kind_at t (join old name) ≡ kinds.Fi
 IsChild t mode name old new (child.Link target) =
     (kind_at t (join old name) ≡ kinds.Link) × ((is_plain mode && is_library_name name) ≡ false) × (target.now ≡ target_at t (join old name)) × (new ≡ old)
 
--- the name counts as absent
-abbrev pub IsAbsent : Nodes → Mode → List ℕ → List ℕ → Type 0
-IsAbsent t mode name old =
-    (kind_at t (join old name) ≡ kinds.Absent) ⊎ ((kind_at t (join old name) ≡ kinds.Link) × ((is_plain mode && is_library_name name) ≡ true))
+-- the name counts as absent at its place
+abbrev pub IsAbsentAt : Nodes → Mode → List ℕ → List ℕ → Type 0
+IsAbsentAt t mode name place = (kind_at t place ≡ kinds.Absent) ⊎ ((kind_at t place ≡ kinds.Link) × ((is_plain mode && is_library_name name) ≡ true))
 
 abbrev pub IsNoChild : Nodes → Mode → List ℕ → List ℕ → WalkFault → Type 0
-IsNoChild t mode name old fault = (fault ≡ NoMemory) ⊎ ((fault ≡ Absent) × IsAbsent t mode name old)
+IsNoChild t mode name old fault = (fault ≡ NoMemory) ⊎ ((fault ≡ Absent) × IsAbsentAt t mode name (join old name))
 
 -- the walk stops so, or the walk is out of memory
 abbrev pub Fails : Stop → WalkFault → Type 0
 Fails stop fault = (fault ≡ NoMemory) ⊎ (stop ≡ Ends (Err fault))
 
+-- a walk that has reached a file ends there, or stops by this fault since names are left
+abbrev pub EndsAtFile : List (List ℕ) → Result (Unit {0}) WalkFault → Type 0
+EndsAtFile names result = (place : List ℕ) → MatchResult result (λ _. at_file names place ≡ Ends (Ok place)) (λ fault. at_file names place ≡ Ends (Err fault))
+
 -- the walk by these names from the old place halts so at the new one
 abbrev pub StopsAt : Nodes → Mode → List (List ℕ) → List ℕ → List ℕ → Halt → Type 0
 StopsAt t mode names old new h = steps t mode names old ≡ stop_of h new
+
+-- the walk by a name and then by the rest goes on by the rest from the new place, or halts so
+abbrev pub GoesOn : Nodes → Mode → List ℕ → List (List ℕ) → List ℕ → List ℕ → Option Halt → Type 0
+GoesOn t mode name rest old new None = steps t mode (name ∷ rest) old ≡ steps t mode rest new
+GoesOn t mode name rest old new (Some h) = StopsAt t mode (name ∷ rest) old new h
+
+-- a link is left that would have to be followed, and this is the fault
+abbrev pub LinkIsLeft : Halt → WalkFault → Type 0
+LinkIsLeft (halt.Reached e) fault = ⊥
+LinkIsLeft (halt.Link target rest) fault = fault ≡ TooManyLinks
 
 -- a walk leads from directories to directories
 abbrev pub KeepsDir : Nodes → List ℕ → List ℕ → Type 0

@@ -1,14 +1,10 @@
 //! The files to which paths and links lead.
-ghost use Rattle.std.specs.Prelude.{◌≡◌, ℕ, List, Some, IfOk, IsTrue};
-ghost use Rattle.lib_types.specs.Name.{is_name};
-ghost use Rattle.tree_face.specs.Tree.{IsTree, kind_at, node_at};
-ghost use Rattle.tree_face.specs.declared.node.Node.TheVariants as node;
+ghost use Rattle.std.specs.Prelude.{◌≡◌, IfOk};
+ghost use Rattle.tree_face.specs.Tree.{IsTree, kind_at};
 ghost use Rattle.tree_face.specs.declared.tree.Kind.TheVariants as kinds;
-ghost use Rattle.path_walk.specs.Files.{file_at, file_by};
-ghost use Rattle.tree_face.specs.Paths.{components, join};
+ghost use Rattle.path_walk.specs.Files.{file_at, file_from, GivesFile};
 ghost use Rattle.path_walk.specs.Stops.{IsBeside};
-ghost use Rattle.path_walk.specs.Walk.{start_of, steps, walk};
-ghost use Rattle.path_walk.specs.declared.walk.Mode.TheVariants as modes;
+ghost use Rattle.path_walk.specs.Walk.{start_of};
 
 use crate::names::join;
 use crate::walk::{End, LINKS_MAX, Mode, WalkFault, follow, restart};
@@ -25,7 +21,7 @@ fn file_from(
     links: usize,
 ) -> Result<Option<Text>, NoMemory>
     requires { IsTree tree.now }
-    ensures { kind_at tree.now folder.items ≡ kinds.Dir → IfOk result (λ file. file ≡ file_by tree.now (walk tree.now modes.Full links (steps tree.now modes.Full (components path.now) folder.items))) }
+    ensures { kind_at tree.now folder.items ≡ kinds.Dir → IfOk result (λ file. file ≡ file_from tree.now links path.now folder.items) }
 {
     let mut place = folder;
     let left = Vec::from_slice(alloc, path)?;
@@ -56,7 +52,7 @@ fn file_by_target(
     links: usize,
 ) -> Result<Option<Text>, NoMemory>
     requires { IsTree tree.now }
-    ensures { kind_at tree.now folder.now ≡ kinds.Dir → IfOk result (λ file. file ≡ file_by tree.now (walk tree.now modes.Full links (steps tree.now modes.Full (components target.now) (start_of target.now folder.now)))) }
+    ensures { kind_at tree.now folder.now ≡ kinds.Dir → IfOk result (λ file. file ≡ file_from tree.now links target.now (start_of target.now folder.now)) }
 {
     let mut place = Vec::from_slice(alloc, folder)?;
     restart(&mut place, target)?;
@@ -106,7 +102,7 @@ fn file_beside(
     links: usize,
 ) -> Result<Option<Text>, NoMemory>
     requires { IsTree tree.now }
-    ensures { kind_at tree.now folder.now ≡ kinds.Dir → IfOk result (λ file. file ≡ file_by tree.now (walk tree.now modes.Full links (steps tree.now modes.Full (components target.now) (start_of target.now folder.now)))) }
+    ensures { kind_at tree.now folder.now ≡ kinds.Dir → IfOk result (λ file. file ≡ file_from tree.now links target.now (start_of target.now folder.now)) }
 {
     let mut left = links;
     let mut text = target;
@@ -131,8 +127,7 @@ pub fn linked_file(
     folder: &[u8],
     target: &[u8],
 ) -> Result<Option<Text>, NoMemory>
-    ensures file { (name : List ℕ) → kind_at tree.now folder.now ≡ kinds.Dir → IsTrue (is_name name) → node_at tree.now (join folder.now name) ≡ Some (node.Link target.now)
-        → IfOk result (λ file. file ≡ file_at tree.now (join folder.now name)) }
+    ensures file { GivesFile tree.now folder.now target.now result }
 {
     tree.know();
     file_beside(alloc, tree, folder, target, LINKS_MAX - 1)

@@ -1,11 +1,12 @@
 //! The walk from name to name.
-ghost use Rattle.std.specs.Prelude.{◌≡◌, ◌∷◌, ℕ, List, None, IfOk, IfErr, Ok, MatchResult, MatchOption, OnOk};
+ghost use Rattle.std.specs.Prelude.{◌≡◌, ◌∷◌, None, IfOk, IfErr, Ok, MatchResult, MatchOption, OnOk};
 ghost use Rattle.std.specs.Option.{option_copied};
 ghost use Rattle.tree_face.specs.Paths.{components};
 ghost use Rattle.tree_face.specs.Tree.{IsTree, kind_at, node_at};
 ghost use Rattle.tree_face.specs.declared.tree.Kind.TheVariants as kinds;
-ghost use Rattle.path_walk.specs.Walk.{steps, walk, at_file, start_of, is_plain, LeadsNowhere, Ends, resolution};
-ghost use Rattle.path_walk.specs.Stops.{StopsAt, IsAt, IsChild, IsNoChild, KeepsDir, EndsAt, HaltsAt, Fails};
+ghost use Rattle.path_walk.specs.Walk.{steps, walk, start_of, is_plain, LeadsNowhere, resolution};
+ghost use Rattle.path_walk.specs.Stops.{StopsAt, IsAt, IsAbsentAt, IsChild, IsChildAt, IsNoChild, KeepsDir, EndsAt, EndsAtFile, GoesOn, HaltsAt, Fails, LinkIsLeft};
+ghost use Rattle.path_walk.specs.declared.walk.Halt.TheVariants as halts;
 ghost use Rattle.path_walk.specs.Rest.{names_in};
 ghost use Rattle.path_walk.specs.declared.walk.WalkFault.TheVariants as faults;
 
@@ -114,6 +115,25 @@ fn is_plain(mode: Mode) -> bool
     }
 }
 
+// What the name stands for at its place: in mode Plain a link with a library name counts as absent. Takes no memory.
+fn child_in<'t>(
+    tree: &'t Tree,
+    mode: Mode,
+    place: &[u8],
+    name: &[u8],
+) -> Result<Child<'t>, WalkFault>
+    ensures child { IfOk result (IsChildAt tree.now mode name.now place.now) }
+    ensures none { IfErr result (λ fault. (fault ≡ faults.Absent) × IsAbsentAt tree.now mode name.now place.now) }
+{
+    let child = child_at(tree, place).ok_or(WalkFault::Absent)?;
+    if let Child::Link(_) = child {
+        if is_plain(mode) && is_library_name(name) {
+            return Err(WalkFault::Absent);
+        }
+    }
+    Ok(child)
+}
+
 // Goes to the child of this name in the folder; to a link not, since the walk goes on by its target.
 fn step<'t>(
     tree: &'t Tree,
@@ -126,19 +146,16 @@ fn step<'t>(
 {
     let folder = place.len();
     enter(place, name)?;
-    let child = child_at(tree, place).ok_or(WalkFault::Absent)?;
+    let child = child_in(tree, mode, place, name)?;
     if let Child::Link(_) = child {
-        if is_plain(mode) && is_library_name(name) {
-            return Err(WalkFault::Absent);
-        }
         place.truncate(folder);
     }
     Ok(child)
 }
 
-// Ends a walk at a file, behind which no name may be left.
+// Ends a walk at a file, behind which no name may be left. Takes no memory.
 fn end_at_file(rest: Option<&[u8]>) -> Result<(), WalkFault>
-    ensures { (place : List ℕ) → MatchResult result (λ _. at_file (names_in (option_copied rest.entry)) place ≡ Ends (Ok place)) (Fails (at_file (names_in (option_copied rest.entry)) place)) }
+    ensures { EndsAtFile (names_in (option_copied rest.entry)) result }
 {
     match next_name(rest) {
         Some(_) => Err(WalkFault::NotDir),
@@ -156,9 +173,7 @@ fn go<'t, 'p>(
     rest: Option<&'p [u8]>,
 ) -> Result<Option<Halt<'t, 'p>>, WalkFault>
     requires { IsTree tree.now }
-    ensures goes { IfOk result (λ stop. MatchOption stop
-        (steps tree.now mode (name.now ∷ names_in (option_copied rest.entry)) place.old.items ≡ steps tree.now mode (names_in (option_copied rest.entry)) place.new.items)
-        (StopsAt tree.now mode (name.now ∷ names_in (option_copied rest.entry)) place.old.items place.new.items)) }
+    ensures goes { IfOk result (GoesOn tree.now mode name.now (names_in (option_copied rest.entry)) place.old.items place.new.items) }
     ensures stands { IfOk result (λ stop. MatchOption stop (KeepsDir tree.now place.old.items place.new.items) (HaltsAt tree.now place.old.items place.new.items)) }
     ensures fails { IfErr result (Fails (steps tree.now mode (name.now ∷ names_in (option_copied rest.entry)) place.old.items)) }
 {
@@ -209,6 +224,16 @@ pub(crate) fn restart(place: &mut Vec<u8>, target: &[u8]) -> Result<(), NoMemory
     Ok(())
 }
 
+// What a walk ends at that follows no further link. Takes no memory.
+fn last_end(halt: Halt<'_, '_>) -> Result<End, WalkFault>
+    ensures { MatchResult result (λ end. halt.entry ≡ halts.Reached end) (LinkIsLeft halt.entry) }
+{
+    match halt {
+        Halt::Reached(end) => Ok(end),
+        Halt::Link { .. } => Err(WalkFault::TooManyLinks),
+    }
+}
+
 // The walk by this path text from the place, which follows at most so many links.
 #[tactic(auto, using(crate::proofs::Walks::walk_ends, crate::proofs::Walks::walk_follows, crate::proofs::Walks::walk_stops, crate::proofs::KindsAt::start_dir))]
 pub(crate) fn follow(
@@ -235,10 +260,7 @@ pub(crate) fn follow(
         };
         path = more;
     }
-    match walk_names(tree, mode, place, Some(&path))? {
-        Halt::Reached(end) => Ok(end),
-        Halt::Link { .. } => Err(WalkFault::TooManyLinks),
-    }
+    last_end(walk_names(tree, mode, place, Some(&path))?)
 }
 
 /// The place to which a path text leads, without links. A text is taken below the root, with or without a slash in front.

@@ -1,73 +1,130 @@
-use Rattle.std.proofs.Common.{◌-◌, ap, inl, inr, arith, rules, IsErrOf}
-use Rattle.ldso_conf.specs.Reading.{Reading, visit}
-use Rattle.ldso_conf.specs.declared.fault.ConfFault.TheVariants.{StoreFault}
-use Rattle.ldso_conf.proofs.Begun.{begun_one, begun_rest, begun_inner}
-use Rattle.ldso_conf.proofs.Visiting.{comes_to_steps, counts_one, counts_rest, counts_visit, counts_more, lacks_one, lacks_visit}
+use Rattle.std.proofs.Common.{◌≡◌, ◌-◌, ◌++◌, ◌∙◌, [], ap, arith, rules, Err}
+use Rattle.std.proofs.lemmas.Grind.{common_steps}
+use Rattle.std.specs.List.{flat_map}
+use Rattle.tree_face.specs.StoreUse.{GaveUp}
+use Rattle.ldso_conf.specs.Reading.{asked, begun, included, place_in, steps_in}
+use Rattle.ldso_conf.specs.Visits.{Progress}
+use Rattle.ldso_conf.specs.Endings.{ending_by, ending_of}
+use Rattle.ldso_conf.specs.declared.steps.Step.TheVariants as step
+use Rattle.ldso_conf.proofs.Uses.{all_done, dir_taken, file_done, file_stops, items_stop, partial, report_taken, step_done, stops_here}
+use Rattle.ldso_conf.proofs.Visiting.{by_file, dir_files, file_taken, steps_left}
 use Rattle.ldso_conf.proofs.reading.+visit.Goals as goal
 
-pub returns-in_err-step-items-clause-cause : goal.returns-in_err-step-items-clause-cause
-returns-in_err-step-items-clause-cause g t c = λ e.
+pub returns-in_err-step-items-clause-reads : goal.returns-in_err-step-items-clause-reads
+returns-in_err-step-items-clause-reads g t c =
     let b = rw c.in-Some.is at c.in_ok-key.ensures.visits in
-    let fails : IsErrOf c.load.result StoreFault = search (rules, e) in
-    elim (c.load.ensures.cause fails) [
-      | inl risen ↦ inl risen
-      | inr lacks ↦ inr (lacks_one _ _ _ _ _ _ b (g.S.Store.state c.args.store.now).held lacks)
-    ]
-
-pub returns-in_err-step-items-clause-begun_at_most : goal.returns-in_err-step-items-clause-begun_at_most
-returns-in_err-step-items-clause-begun_at_most g t c =
-    let b = rw c.in-Some.is at c.in_ok-key.ensures.visits in
-    begun_one c.args.reader.now.files (g.S.Store.state c.args.store.now) (g.S.Store.state c.load.new.store) (λ held. (visit c.args.tree.now held c.args.left c.args.reader.now (c.args.spelled, c.args.real)).files)
-    (g.S.Store.state c.args.store.now).held (counts_one _ _ _ _ _ _ b (g.S.Store.state c.args.store.now).held) c.load.ensures.begun_at_most
+    let fault = c.in_err-step-items.field-0.0 in
+    let same : c.from_residual-in_err-step-items.result ≡ Err fault = search rules in
+    let was : c.load.result ≡ Err fault = search rules in
+    let key = c.in-Some.key.now in
+    let tree = c.args.tree.now in
+    rw same (file_stops (λ held. included tree held c.args.left c.args.reader.now.read (c.args.spelled, c.args.real)) (c.args.spelled, c.args.real) key
+        (λ held. asked (included tree held (c.args.left - 1)) (c.args.reader.now.read ++ place_in (begun (c.args.spelled, c.args.real) key (held key))) (steps_in tree (begun (c.args.spelled, c.args.real) key (held key))))
+        (g.S.Store.state c.args.store.now) (g.S.Store.state c.load.new.store) (g.S.Store.state c.args.store.now).held (ending_by fault)
+        (λ held. by_file tree c.args.left c.args.reader.now (c.args.spelled, c.args.real) c.key_to_begin.new.reader key b held) (partial fault) (rw was at c.load.ensures.reads))
 
 pub loop-step-init : goal.loop-step-init
 loop-step-init g t c =
     let b = rw c.in-Some.is at c.in_ok-key.ensures.visits in
     let gives = c.into_iter-step-iterator.ensures.into_iter_gives in
     let one = c.in_ok-step-items.ensures.files in
-    let begun = c.in_ok-step-items.ensures.begun in
-    let same = ap (λ (r : Reading). r.files) b.same in
+    let begins = c.in_ok-step-items.ensures.begun in
+    let same = ap (λ (r : Progress). r.files) b.same in
+    let key = c.in-Some.key.now in
+    let tree = c.args.tree.now in
+    let steps = c.in_ok-step-items.step-items.items in
+    let now = c.load.new.reader in
+    let known = (g.S.Store.state c.args.store.now).held in
     record {
       deep = b.deep;
-      rest = rw gives.0 (comes_to_steps c.args.tree.now c.args.left c.args.reader.now (c.args.spelled, c.args.real) c.key_to_begin.new.reader c.in-Some.key.now b
-          (g.S.Store.state c.args.store.now).held c.load.new.reader c.in_ok-step-items.step-items.items c.in_ok-step-items.ensures.loads);
-      held = c.load.ensures.held;
-      faults = c.load.ensures.faults;
+      done = rw gives.0 (file_done (λ held. included tree held c.args.left c.args.reader.now.read (c.args.spelled, c.args.real)) (c.args.spelled, c.args.real) key (λ held. asked (included tree held (c.args.left - 1)) now.read steps)
+          (g.S.Store.state c.args.store.now) (g.S.Store.state c.load.new.store) known c.args.reader.now now
+          (steps_left tree c.args.left c.args.reader.now (c.args.spelled, c.args.real) c.key_to_begin.new.reader key b now steps known c.in_ok-step-items.ensures.loads)
+          (file_taken tree c.args.left c.args.reader.now (c.args.spelled, c.args.real) c.key_to_begin.new.reader key b now steps known c.in_ok-step-items.ensures.loads)
+          c.in_ok-step-items.ensures.reads);
+      held = c.load.ensures.reads.held;
       files = omega (arith, one, same);
-      begun = omega (arith, one, same, begun);
+      begun = omega (arith, one, same, begins);
     }
 
-pub returns-in_err-add_dir-in-Directory-clause-begun_at_most : goal.returns-in_err-add_dir-in-Directory-clause-begun_at_most
-returns-in_err-add_dir-in-Directory-clause-begun_at_most g t c =
-    begun_rest c.args.reader.now.files (g.S.Store.state c.args.store.now) (g.S.Store.state c.loop-step.store) (λ held. (visit c.args.tree.now held c.args.left c.args.reader.now (c.args.spelled, c.args.real)).files)
-    (g.S.Store.state c.args.store.now).held c.loop-step.reader.files c.loop-step.invariant.files
-    (counts_rest c.args.tree.now (c.args.left - 1) c.loop-step.reader (λ held. visit c.args.tree.now held c.args.left c.args.reader.now (c.args.spelled, c.args.real)) (g.S.Store.state c.args.store.now).held c.loop-step.step-iterator.rest.items c.loop-step.invariant.rest)
-    c.loop-step.invariant.begun
+pub loop-step-preserved-in-Continue-branch-4 : goal.loop-step-preserved-in-Continue-branch-4
+loop-step-preserved-in-Continue-branch-4 g t c =
+    let left = rw (c.in-Some-step.ensures.steps.0, c.in-Directory.is) at c.loop-step.invariant.done in
+    let parts = dir_taken (g.S.Store.state c.args.store.now).held c.loop-step.reader c.add_dir.new.self (g.S.Store.state c.loop-step.store) c.in-Directory.dir c.in_ok-add_dir-in-Directory.ensures in
+    let same = dir_files c.loop-step.reader c.add_dir.new.self c.in-Directory.dir c.in_ok-add_dir-in-Directory.ensures in
+    let files = c.loop-step.invariant.files in
+    let begins = c.loop-step.invariant.begun in
+    record {
+      deep = c.loop-step.invariant.deep;
+      done = step_done (λ held. included c.args.tree.now held c.args.left c.args.reader.now.read (c.args.spelled, c.args.real)) (λ held. included c.args.tree.now held (c.args.left - 1))
+          (step.Directory c.in-Directory.dir) c.next.new.self.rest.items c.args.reader.now c.loop-step.reader c.add_dir.new.self (g.S.Store.state c.args.store.now) (g.S.Store.state c.loop-step.store) (g.S.Store.state c.loop-step.store) (g.S.Store.state c.args.store.now).held left parts.0 parts.1;
+      held = c.loop-step.invariant.held;
+      files = omega (arith, files, same);
+      begun = omega (arith, same, begins);
+    }
 
-pub returns-in_err-add_report-in-Report-clause-begun_at_most : goal.returns-in_err-add_report-in-Report-clause-begun_at_most
-returns-in_err-add_report-in-Report-clause-begun_at_most g t c =
-    begun_rest c.args.reader.now.files (g.S.Store.state c.args.store.now) (g.S.Store.state c.loop-step.store) (λ held. (visit c.args.tree.now held c.args.left c.args.reader.now (c.args.spelled, c.args.real)).files)
-    (g.S.Store.state c.args.store.now).held c.loop-step.reader.files c.loop-step.invariant.files
-    (counts_rest c.args.tree.now (c.args.left - 1) c.loop-step.reader (λ held. visit c.args.tree.now held c.args.left c.args.reader.now (c.args.spelled, c.args.real)) (g.S.Store.state c.args.store.now).held c.loop-step.step-iterator.rest.items c.loop-step.invariant.rest)
-    c.loop-step.invariant.begun
+pub returns-in_err-add_dir-in-Directory-clause-reads : goal.returns-in_err-add_dir-in-Directory-clause-reads
+returns-in_err-add_dir-in-Directory-clause-reads g t c =
+    let stops = stops_here (λ held. included c.args.tree.now held c.args.left c.args.reader.now.read (c.args.spelled, c.args.real))
+        (λ held. asked (included c.args.tree.now held (c.args.left - 1)) c.loop-step.reader.read c.loop-step.step-iterator.rest.items)
+        c.args.reader.now c.loop-step.reader (g.S.Store.state c.args.store.now) (g.S.Store.state c.loop-step.store) (g.S.Store.state c.args.store.now).held c.loop-step.invariant.done in
+    let ends : ending_of c.from_residual-in_err-add_dir-in-Directory.result ≡ GaveUp = search rules in
+    rw ends stops
 
-pub returns-in_err-visit-in-Include-clause-cause : goal.returns-in_err-visit-in-Include-clause-cause
-returns-in_err-visit-in-Include-clause-cause g t c = λ e.
-    let left = rw (c.in-Some-step.ensures.steps.0, c.in-Include.is) at c.loop-step.invariant.rest in
-    let fails : IsErrOf c.visit.result StoreFault = search (rules, e) in
-    elim (c.visit.ensures.cause fails) [
-      | inl risen ↦ inl (let faults = c.loop-step.invariant.faults in omega (arith, risen, faults))
-      | inr lacks ↦ inr (lacks_visit c.args.tree.now (c.args.left - 1) c.loop-step.reader (λ held. visit c.args.tree.now held c.args.left c.args.reader.now (c.args.spelled, c.args.real))
-          (g.S.Store.state c.args.store.now).held (c.in-Include.spelled, c.in-Include.real) c.next.new.self.rest.items left (rw c.loop-step.invariant.held at lacks))
-    ]
+pub loop-step-preserved-in-Continue-branch-5 : goal.loop-step-preserved-in-Continue-branch-5
+loop-step-preserved-in-Continue-branch-5 g t c =
+    let left = rw (c.in-Some-step.ensures.steps.0, c.in-Report.is) at c.loop-step.invariant.done in
+    let parts = report_taken (g.S.Store.state c.args.store.now).held c.loop-step.reader c.add_report.new.self (g.S.Store.state c.loop-step.store) c.in-Report.report c.in_ok-add_report-in-Report.ensures in
+    let same = ap (λ (r : Progress). r.files) c.in_ok-add_report-in-Report.ensures in
+    let files = c.loop-step.invariant.files in
+    let begins = c.loop-step.invariant.begun in
+    record {
+      deep = c.loop-step.invariant.deep;
+      done = step_done (λ held. included c.args.tree.now held c.args.left c.args.reader.now.read (c.args.spelled, c.args.real)) (λ held. included c.args.tree.now held (c.args.left - 1))
+          (step.Report c.in-Report.report) c.next.new.self.rest.items c.args.reader.now c.loop-step.reader c.add_report.new.self (g.S.Store.state c.args.store.now) (g.S.Store.state c.loop-step.store) (g.S.Store.state c.loop-step.store) (g.S.Store.state c.args.store.now).held left parts.0 parts.1;
+      held = c.loop-step.invariant.held;
+      files = omega (arith, files, same);
+      begun = omega (arith, same, begins);
+    }
 
-pub returns-in_err-visit-in-Include-clause-begun_at_most : goal.returns-in_err-visit-in-Include-clause-begun_at_most
-returns-in_err-visit-in-Include-clause-begun_at_most g t c =
-    let left = rw (c.in-Some-step.ensures.steps.0, c.in-Include.is) at c.loop-step.invariant.rest in
-    begun_inner c.args.reader.now.files (g.S.Store.state c.args.store.now) (g.S.Store.state c.visit.new.store) (λ held. (visit c.args.tree.now held c.args.left c.args.reader.now (c.args.spelled, c.args.real)).files)
-    (g.S.Store.state c.args.store.now).held c.loop-step.reader.files (g.S.Store.state c.loop-step.store)
-    (λ held. (visit c.args.tree.now held (c.args.left - 1) c.loop-step.reader (c.in-Include.spelled, c.in-Include.real)).files) c.loop-step.invariant.files
-    (counts_more c.args.tree.now (c.args.left - 1) c.loop-step.reader (c.in-Include.spelled, c.in-Include.real) (g.S.Store.state c.args.store.now).held)
-    (counts_visit c.args.tree.now (c.args.left - 1) c.loop-step.reader (λ held. visit c.args.tree.now held c.args.left c.args.reader.now (c.args.spelled, c.args.real))
-    (g.S.Store.state c.args.store.now).held (c.in-Include.spelled, c.in-Include.real) c.next.new.self.rest.items left)
-    c.loop-step.invariant.begun (rw c.loop-step.invariant.held at c.visit.ensures.begun_at_most)
+pub returns-in_err-add_report-in-Report-clause-reads : goal.returns-in_err-add_report-in-Report-clause-reads
+returns-in_err-add_report-in-Report-clause-reads g t c =
+    let stops = stops_here (λ held. included c.args.tree.now held c.args.left c.args.reader.now.read (c.args.spelled, c.args.real))
+        (λ held. asked (included c.args.tree.now held (c.args.left - 1)) c.loop-step.reader.read c.loop-step.step-iterator.rest.items)
+        c.args.reader.now c.loop-step.reader (g.S.Store.state c.args.store.now) (g.S.Store.state c.loop-step.store) (g.S.Store.state c.args.store.now).held c.loop-step.invariant.done in
+    let ends : ending_of c.from_residual-in_err-add_report-in-Report.result ≡ GaveUp = search rules in
+    rw ends stops
+
+pub loop-step-preserved : goal.loop-step-preserved
+loop-step-preserved g t c =
+    let left = rw (c.in-Some-step.ensures.steps.0, c.in-Include.is) at c.loop-step.invariant.done in
+    let files = c.loop-step.invariant.files in
+    let begins = c.loop-step.invariant.begun in
+    let more = c.in_ok-visit-in-Include.ensures.files in
+    let next = c.in_ok-visit-in-Include.ensures.begun in
+    record {
+      deep = c.loop-step.invariant.deep;
+      done = step_done (λ held. included c.args.tree.now held c.args.left c.args.reader.now.read (c.args.spelled, c.args.real)) (λ held. included c.args.tree.now held (c.args.left - 1))
+          (step.Include c.in-Include.spelled c.in-Include.real) c.next.new.self.rest.items c.args.reader.now c.loop-step.reader c.visit.new.reader (g.S.Store.state c.args.store.now) (g.S.Store.state c.loop-step.store) (g.S.Store.state c.visit.new.store) (g.S.Store.state c.args.store.now).held left (rw c.loop-step.invariant.held at c.in_ok-visit-in-Include.ensures.visits) (rw c.loop-step.invariant.held at c.in_ok-visit-in-Include.ensures.reads);
+      held = c.visit.ensures.reads.held ∙ c.loop-step.invariant.held;
+      files = omega (arith, files, more);
+      begun = omega (arith, files, begins, more, next);
+    }
+
+pub returns-in_err-visit-in-Include-clause-reads : goal.returns-in_err-visit-in-Include-clause-reads
+returns-in_err-visit-in-Include-clause-reads g t c =
+    let left = rw (c.in-Some-step.ensures.steps.0, c.in-Include.is) at c.loop-step.invariant.done in
+    let fault = c.in_err-visit-in-Include.field-0.0 in
+    let same : c.from_residual-in_err-visit-in-Include.result ≡ Err fault = search rules in
+    let was : c.visit.result ≡ Err fault = search rules in
+    rw same (items_stop (λ held. included c.args.tree.now held c.args.left c.args.reader.now.read (c.args.spelled, c.args.real))
+        (λ held. included c.args.tree.now held (c.args.left - 1) c.loop-step.reader.read (c.in-Include.spelled, c.in-Include.real))
+        (λ held. asked (included c.args.tree.now held (c.args.left - 1))
+            (c.loop-step.reader.read ++ flat_map place_in (included c.args.tree.now held (c.args.left - 1) c.loop-step.reader.read (c.in-Include.spelled, c.in-Include.real))) c.next.new.self.rest.items)
+        c.args.reader.now c.loop-step.reader (g.S.Store.state c.args.store.now) (g.S.Store.state c.loop-step.store) (g.S.Store.state c.visit.new.store) (g.S.Store.state c.args.store.now).held (ending_by fault) left (partial fault)
+        (rw (was, c.loop-step.invariant.held) at c.visit.ensures.reads))
+
+pub returns-clause-reads : goal.returns-clause-reads
+returns-clause-reads g t c =
+    let none : c.loop-step.step-iterator.rest.items ≡ [] = grind (arith, common_steps) in
+    (all_done (λ held. included c.args.tree.now held c.args.left c.args.reader.now.read (c.args.spelled, c.args.real)) (g.S.Store.state c.args.store.now).held c.args.reader.now c.loop-step.reader (g.S.Store.state c.args.store.now) (g.S.Store.state c.loop-step.store) (rw none at c.loop-step.invariant.done)).1

@@ -1,18 +1,16 @@
 use Rattle.std.proofs.Common.{◌≡◌, ◌≤◌, ◌<◌, ◌-◌}
 use Rattle.lib_types.specs.Counts.{raised}
-use Rattle.tree_face.specs.Known.{IfKnown}
-use Rattle.ldso_conf.specs.Reading.{visit}
-use Rattle.ldso_conf.specs.Visits.{taken}
+use Rattle.ldso_conf.specs.Reading.{asked, included}
+use Rattle.ldso_conf.specs.Visits.{IsDoneIn}
 use Rattle.ldso_conf.proofs.reading.+visit.Given as goal
 
 -- the steps that are left complete the visit
 abbrev pub invariant-loop-step : goal.invariant-loop-step
 invariant-loop-step g l = record {
   deep : 0 < l.left;
-  rest : IfKnown (g.S.Store.state l.fn.store).held (λ held.
-      taken l.tree held (l.left - 1) l.reader l.step-iterator.rest.items ≡ visit l.tree held l.left l.fn.reader (l.fn.spelled, l.fn.real));
+  done : IsDoneIn (g.S.Store.state l.fn.store).held (λ held. included l.tree held l.left l.fn.reader.read (l.fn.spelled, l.fn.real))
+      (λ held. asked (included l.tree held (l.left - 1)) l.reader.read l.step-iterator.rest.items) l.fn.reader l.reader (g.S.Store.state l.fn.store) (g.S.Store.state l.store);
   held : (g.S.Store.state l.store).held ≡ (g.S.Store.state l.fn.store).held;
-  faults : (g.S.Store.state l.fn.store).faults ≤ (g.S.Store.state l.store).faults;
   files : l.fn.reader.files ≤ l.reader.files;
   begun : (g.S.Store.state l.store).begun ≡ raised (g.S.Store.state l.fn.store).begun (l.reader.files - l.fn.reader.files);
 }

@@ -1,6 +1,7 @@
 use Rattle.std.proofs.Common.{◌∙◌, ap}
-use Rattle.ldso_conf.specs.Reading.{with_read, with_report}
+use Rattle.ldso_conf.specs.Reading.{reported}
 use Rattle.ldso_conf.specs.Steps.{steps_of}
+use Rattle.ldso_conf.specs.Visits.{with_read, with_report}
 use Rattle.ldso_conf.specs.declared.kinds.ConfKind.TheVariants.{TooLarge}
 use Rattle.ldso_conf.proofs.Visiting.{loads_small, loads_large}
 use Rattle.ldso_conf.proofs.reading.load.Goals as goal
@@ -8,7 +9,7 @@ use Rattle.ldso_conf.proofs.reading.load.Goals as goal
 pub returns-in_default-clause-loads : goal.returns-in_default-clause-loads
 returns-in_default-clause-loads g c =
     loads_large c.args.tree.now c.args.reader.now (c.args.spelled, c.args.real) c.args.key.now (g.S.Store.state c.args.store.now).held c.report.new.self c.new.result.items
-    (c.in_ok-report.ensures ∙ ap (λ r. with_report r c.args.spelled TooLarge) c.in_ok-count_file.ensures) c.new.ensures.items
+    (c.in_ok-report.ensures ∙ ap (λ r. with_report r (reported c.args.spelled TooLarge)) c.in_ok-count_file.ensures) c.new.ensures.items
     (rw c.in_default.is at c.in_ok-content.ensures.content)
 
 pub returns-clause-loads : goal.returns-clause-loads

@@ -1,5 +1,5 @@
 use Rattle.std.proofs.Common.{subst}
-use Rattle.path_walk.proofs.KindsAt.{ends_after}
+use Rattle.path_walk.proofs.KindsAt.{ends_after, last_ends}
 use Rattle.path_walk.specs.Stops.{HaltsAt}
 use Rattle.path_walk.proofs.walk.follow.Goals as goal
 
@@ -11,10 +11,7 @@ returns-in-Reached-clause-stands c =
     ends_after t c.args.place.now.items here end c.loop-link.invariant.1 c.in-Reached.end
     (subst (HaltsAt t here end) c.in-Reached.is c.in_ok-end.ensures.stands)
 
-pub returns-in-Reached-2-clause-stands : goal.returns-in-Reached-2-clause-stands
-returns-in-Reached-2-clause-stands c =
-    let t = c.args.tree.now in
-    let here = c.loop-link.place.items in
-    let end = c.walk_names-2.new.place.items in
-    ends_after t c.args.place.now.items here end c.loop-link.invariant.1 c.in-Reached-2.end
-    (subst (HaltsAt t here end) c.in-Reached-2.is c.in_ok-end-2.ensures.stands)
+pub returns-clause-stands : goal.returns-clause-stands
+returns-clause-stands c =
+    last_ends c.args.tree.now c.args.place.now.items c.loop-link.place.items c.walk_names-2.new.place.items c.loop-link.invariant.1
+    c.in_ok-walk_names.field-0 c.in_ok-walk_names.ensures.stands c.last_end.result c.last_end.ensures

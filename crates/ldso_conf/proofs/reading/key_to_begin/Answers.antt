@@ -1,0 +1,14 @@
+use Rattle.std.proofs.Common.{◌≡◌, Some, true, rules}
+use Rattle.tree_face.specs.Tree.{node_at}
+use Rattle.ldso_conf.specs.Reading.{key_in, reported, was_read}
+use Rattle.ldso_conf.specs.Visits.{with_report}
+use Rattle.ldso_conf.specs.declared.kinds.ConfKind.TheVariants.{Repeated}
+use Rattle.ldso_conf.proofs.Visiting.{repeated}
+use Rattle.ldso_conf.proofs.reading.key_to_begin.Goals as goal
+
+pub returns-then-was_read : goal.returns-then-was_read
+returns-then-was_read c =
+    let there : key_in (node_at c.args.tree.now c.args.real.now) ≡ Some c.in-Some.key.now = search rules in
+    let read : was_read c.args.reader.now.read c.args.real.now ≡ true = search rules in
+    let new : c.report-then-was_read.new.reader ≡ with_report c.args.reader.now (reported c.args.spelled.now Repeated) = search rules in
+    record { visits = repeated c.args.tree.now c.args.left c.args.reader.now (c.args.spelled.now, c.args.real.now) c.report-then-was_read.new.reader c.in-Some.key.now there read new }
