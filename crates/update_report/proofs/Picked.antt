@@ -56,4 +56,4 @@ in_defective ((path, Lib abi soname) ∷ rows) z h = by_test (bytes_eq z path)
     (λ f. in_defective rows z (rw f at h))
 
 pub all_picked : (rows : Rows) → filter_map (skip_at (analysis_at rows)) (ascending (defective rows)) ≡ filter_map (skip_at (analysis_at rows)) (ascending (keys_of rows))
-all_picked rows = same_picked rows (defective rows) (keys_of rows) (λ z h. in_defective rows z h ∙ sym (in_table rows z h))
+all_picked rows = same_picked (analysis_at rows) (defective rows) (keys_of rows) (λ z h. in_defective rows z h ∙ sym (in_table rows z h))
