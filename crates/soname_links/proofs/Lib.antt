@@ -8,6 +8,8 @@ pub mod KindsAt
 mod Linked
 pub mod Links
 pub mod Named
+mod NewPaths
+pub mod NoOtherFiles
 mod OneText
 pub mod Put
 pub mod Rooms

@@ -1,6 +1,6 @@
 -- The tree with the planned links wants no further link.
 use Rattle.std.proofs.Common.{◌≡◌, ◌++◌, ◌+◌, ℕ, Bool, true, false, cond, not, ◌&&◌, ◌||◌, nat_lt, List, [], ◌∷◌, length, map, refl, ap, sym, subst, ◌∙◌, Some, None}
-use Rattle.std.proofs.lemmas.Bool.{and_from, and_parts, or_parts}
+use Rattle.std.proofs.lemmas.Bool.{and_from, and_parts, or_parts, or_right}
 use Rattle.std.proofs.lemmas.List.Folds.{list_all-append}
 use Rattle.std.specs.List.{cons_option, filter_map, flat_map, list_all}
 use Rattle.std.specs.Option.{option_and_then}
@@ -27,10 +27,6 @@ use Rattle.place_files.specs.Analyses.{Analyses, HaveNames}
 use Rattle.place_files.specs.Library.{Library}
 use Rattle.soname_links.specs.declared.kinds.Planned.{Planned}
 use Rattle.soname_links.proofs.OneText.{all_same, one_text}
-
-or_true : (a : Bool) → (a || true) ≡ true
-or_true true = refl
-or_true false = refl
 
 all_open : (t : Nodes) (plan : List Planned) → is_plan plan ≡ true → list_all (λ planned. not (is_blocked t planned.path)) plan ≡ true → are_open t plan ≡ true
 all_open t [] proper free = refl
@@ -78,7 +74,7 @@ module _ (what : Analyses) (named : HaveNames what) (t : Nodes) (tree : IsTree t
           (λ b. unplanned number place library (ap (λ c. c || links_to new path library.name) (blocked_stays path b)))
           (λ b.
           let linked : links_to t path library.name ≡ true = sym (ap (λ c. c || links_to t path library.name) b) ∙ k in
-          unplanned number place library (ap (λ c. is_blocked new path || c) (link_stays path library.name (links what t places) t (one_text what named t tree place soname library here e places dirs) linked) ∙ or_true _)))
+          unplanned number place library (ap (λ c. is_blocked new path || c) (link_stays path library.name (links what t places) t (one_text what named t tree place soname library here e places dirs) linked) ∙ or_right _ true refl)))
           (λ k.
           let some : link_for t number place library ≡ Some made = ap (λ c. cond (c && not kept) (Some made) None) r ∙ ap (λ c. cond (not c) (Some made) None) k in
           let z : Some made ≡ None = sym some ∙ none in absurd (cc)))
@@ -90,7 +86,7 @@ module _ (what : Analyses) (named : HaveNames what) (t : Nodes) (tree : IsTree t
           let linked : links_to new path library.name ≡ true =
           subst (λ (q : List ℕ). is_link_to library.name (node_at new q) ≡ true) (sym link.path)
           (subst (λ (f : List ℕ). is_link_to f (node_at new planned.path) ≡ true) (sym link.file) there) in
-          unplanned number place library (ap (λ c. is_blocked new path || c) linked ∙ or_true _)
+          unplanned number place library (ap (λ c. is_blocked new path || c) linked ∙ or_right _ true refl)
 
     module _ (number : ℕ) (place : Place) (here : is_dir (kind_at t place.real) ≡ true) where
       abbrev libraries : List Library

@@ -1,7 +1,8 @@
 -- The tree with the links that are planned, and how many nodes it has.
-use Rattle.std.specs.Prelude.{◌≡◌, ◌<◌, ◌+◌, ◌&&◌, not, ℕ, Bool, true, List, [], ◌∷◌, if◌then◌else◌, length, take, Option, Some, None}
-use Rattle.std.specs.List.{filter_map, list_all}
-use Rattle.std.specs.Option.{is_none}
+use Rattle.std.specs.Prelude.{◌≡◌, ◌<◌, ◌≤◌, ◌+◌, ◌&&◌, not, nat_lt, ℕ, Bool, true, List, [], ◌∷◌, if◌then◌else◌, length, take, Option, Some, None}
+use Rattle.std.specs.List.{filter_map, list_all, list_any}
+use Rattle.std.specs.Option.{is_none, is_some}
+use Rattle.std.specs.Str.{bytes_eq}
 use Rattle.lib_types.specs.Name.{is_name}
 use Rattle.tree_face.specs.Paths.{is_path}
 use Rattle.tree_face.specs.Tree.{Nodes, clashes, node_at}
@@ -32,6 +33,18 @@ new_paths t plan = ascending (filter_map (new_path t) plan)
 abbrev pub nodes_with : Nodes → List Planned → ℕ
 nodes_with t plan = length t + length (new_paths t plan)
 
+-- that number, if it is more than a tree may have
+abbrev pub too_many : Nodes → List Planned → Option ℕ
+too_many t plan = if nat_lt NODES_MAX (nodes_with t plan) then Some (nodes_with t plan) else None
+
+-- the path is the link's
+abbrev pub is_at_path : List ℕ → Planned → Bool
+is_at_path path planned = bytes_eq path planned.path
+
+-- the tree has no node at the link's path, and none of the later links is there
+abbrev pub is_last_new : Nodes → Planned → List Planned → Bool
+is_last_new t planned later = is_some (new_path t planned) && not (list_any (is_at_path planned.path) later)
+
 -- when a link is put after those before it, nothing lies below it, and no file or link above it
 abbrev pub are_clear : Nodes → List Planned → Bool
 are_clear t [] = true
@@ -41,7 +54,7 @@ are_clear t (planned ∷ plan) = not (clashes t planned.path (Link planned.file)
 abbrev pub HasSome : Nodes → List Planned → Nodes → Type 0
 HasSome t plan new = (n : ℕ) × (new ≡ with_links t (take n plan))
 
--- the tree would have more nodes than a tree may have, and is unchanged; or memory is out, and some links were put
+-- the tree would have more nodes than a tree may have, and is unchanged; or it has room, but memory is out, and some links were put
 abbrev pub IsApplyFault : Nodes → List Planned → Nodes → ApplyFault → Type 0
 IsApplyFault t plan new (TooLarge nodes) = (nodes ≡ nodes_with t plan) × (NODES_MAX < nodes) × (new ≡ t)
-IsApplyFault t plan new NoMemory = HasSome t plan new
+IsApplyFault t plan new NoMemory = HasSome t plan new × (nodes_with t plan ≤ NODES_MAX)

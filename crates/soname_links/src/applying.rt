@@ -1,11 +1,13 @@
 //! The tree with the links that are planned.
 ghost use Rattle.std.specs.Prelude.{◌≡◌, ◌≤◌, false, All, IfErr, IfOk, IsTrue, OnErr, OnOk, length};
+ghost use Rattle.std.specs.List.{filter_map, list_any};
+ghost use Rattle.std.specs.Option.{option_copied};
 ghost use Rattle.lib_types.specs.Name.{is_name};
 ghost use Rattle.tree_face.specs.Paths.{is_path};
 ghost use Rattle.tree_face.specs.Tree.{clashes};
 ghost use Rattle.tree_face.specs.declared.node.Node.TheVariants.{Link};
 ghost use Rattle.tree_face.specs.declared.tree.TheConstants.{NODES_MAX};
-ghost use Rattle.soname_links.specs.Apply.{are_clear, is_link, is_plan, new_path, new_paths, nodes_with, HasSome, IsApplyFault};
+ghost use Rattle.soname_links.specs.Apply.{are_clear, is_at_path, is_last_new, is_link, is_plan, new_path, new_paths, nodes_with, too_many, HasSome, IsApplyFault};
 ghost use Rattle.soname_links.specs.Plan.{with_link, with_links};
 ghost use Rattle.soname_links.specs.Settled.{Settles};
 
@@ -16,13 +18,27 @@ use std::alloc::Global;
 use tree_face::{NODES_MAX, Node, Tree, is_path};
 
 // The path of a link, if the tree has no node there.
-fn new_path(alloc: Global, tree: &Tree, planned: &Planned) -> Result<Option<Text>, NoMemory>
-    ensures { IfOk result (λ path. path ≡ new_path tree.now planned.now) }
+fn new_path<'a>(tree: &Tree, planned: &'a Planned) -> Option<&'a Text>
+    ensures { option_copied result ≡ new_path tree.now planned.now }
 {
     if tree.node(planned.path.as_bytes()).is_some() {
-        return Ok(None);
+        return None;
     }
-    Ok(Some(Text::copy_of(alloc, planned.path.as_bytes())?))
+    Some(&planned.path)
+}
+
+// How many of the links are at such paths.
+fn count_new(tree: &Tree, plan: &[Planned]) -> usize
+    ensures count { result ≡ length (filter_map (new_path tree.now) plan.now) }
+    ensures few { result ≤ length plan.now }
+{
+    let mut count = 0;
+    for planned in plan {
+        if new_path(tree, planned).is_some() {
+            count += 1;
+        }
+    }
+    count
 }
 
 // The paths at which the tree gets a node.
@@ -31,11 +47,69 @@ fn new_paths(alloc: Global, tree: &Tree, plan: &[Planned]) -> Result<Texts, NoMe
 {
     let mut paths = Vec::new(alloc);
     for planned in plan {
-        if let Some(path) = new_path(alloc, tree, planned)? {
-            paths.push(path)?;
+        if let Some(path) = new_path(tree, planned) {
+            paths.push(Text::copy_of(alloc, path.as_bytes())?)?;
         }
     }
     ascending(alloc, paths)
+}
+
+// Whether one of the links has this path.
+fn has_path(plan: &[Planned], path: &[u8]) -> bool
+    ensures { result ≡ list_any (is_at_path path.now) plan.now }
+{
+    for planned in plan {
+        if path == planned.path.as_bytes() {
+            return true;
+        }
+    }
+    false
+}
+
+// Whether the link is the last one at a path where the tree has no node.
+fn is_last_new(tree: &Tree, planned: &Planned, later: &[Planned]) -> bool
+    ensures { result ≡ is_last_new tree.now planned.now later.now }
+{
+    new_path(tree, planned).is_some() && !has_path(later, planned.path.as_bytes())
+}
+
+// How many paths those are, compared one with another. It takes no memory.
+fn count_compared(tree: &Tree, plan: &[Planned]) -> usize
+    ensures { result ≡ length (new_paths tree.now plan.now) }
+{
+    let mut count = 0;
+    for i in 0..plan.len() {
+        if is_last_new(tree, &plan[i], &plan[i + 1..]) {
+            count += 1;
+        }
+    }
+    count
+}
+
+// The same, sorted if there is memory.
+fn count_paths(alloc: Global, tree: &Tree, plan: &[Planned]) -> usize
+    ensures { result ≡ length (new_paths tree.now plan.now) }
+{
+    match new_paths(alloc, tree, plan) {
+        Ok(paths) => paths.len(),
+        Err(NoMemory) => count_compared(tree, plan),
+    }
+}
+
+// The number of nodes of the tree with the links, if it is more than a tree may have. Few links need no comparison of their paths.
+#[tactic(auto, using(crate::proofs::NewPaths::few_paths))]
+fn too_many(alloc: Global, tree: &Tree, plan: &[Planned]) -> Option<u64>
+    ensures { result ≡ too_many tree.now plan.now }
+{
+    tree.know();
+    if count_new(tree, plan) <= NODES_MAX - tree.len() {
+        return None;
+    }
+    let nodes = tree.len() + count_paths(alloc, tree, plan);
+    if nodes <= NODES_MAX {
+        return None;
+    }
+    Some(nodes as u64)
 }
 
 // Puts a link. One that would clash is answered with NoMemory as well.
@@ -90,7 +164,7 @@ pub fn is_plan(plan: &Plan) -> bool
 ///
 /// A plan that was made for this tree has links only where there is a link or nothing, in its directories. Once they are put,
 /// a plan for the same places and analyses has none. Where a link would clash it returns NoMemory as well; no link of a plan
-/// that was made for this tree does.
+/// that was made for this tree does. Too many nodes are TooLarge even if memory is out.
 #[tactic(auto, using(crate::proofs::Counted::nodes_counted, crate::proofs::Targets::paths_of, crate::proofs::Targets::files_of))]
 pub fn apply(alloc: Global, tree: &mut Tree, plan: &Plan) -> Result<(), ApplyFault>
     requires { IsTrue (is_plan plan.now) }
@@ -102,14 +176,8 @@ pub fn apply(alloc: Global, tree: &mut Tree, plan: &Plan) -> Result<(), ApplyFau
     ensures fault { IfErr result (IsApplyFault tree.old plan.now tree.new) }
 {
     tree.know();
-    let more = new_paths(alloc, tree, plan.as_slice())?;
-    let Some(nodes) = tree.len().checked_add(more.len()) else {
-        return Err(ApplyFault::NoMemory);
-    };
-    if nodes > NODES_MAX {
-        return Err(ApplyFault::TooLarge {
-            nodes: nodes as u64,
-        });
+    if let Some(nodes) = too_many(alloc, tree, plan.as_slice()) {
+        return Err(ApplyFault::TooLarge { nodes });
     }
     put_links(alloc, tree, plan.as_slice())?;
     Ok(())

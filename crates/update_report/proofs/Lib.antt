@@ -1,3 +1,4 @@
 mod Neighbours
 mod Numbers
 pub mod Picked
+pub mod SkipsOfFiles

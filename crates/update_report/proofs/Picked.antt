@@ -1,5 +1,6 @@
 -- Lists that agree on the files that are no libraries give the same of them.
-use Rattle.std.proofs.Common.{◌≡◌, ◌∙◌, ◌&&◌, ◌||◌, ℕ, Bool, true, false, List, [], ◌∷◌, Option, Some, None, refl, ap, sym, is_some}
+use Rattle.std.proofs.Common.{◌≡◌, ◌∙◌, ◌&&◌, ℕ, Bool, true, false, List, [], ◌∷◌, Option, Some, None, refl, ap, sym, is_some}
+use Rattle.std.proofs.lemmas.Bool.{or_left, or_right}
 use Rattle.std.proofs.lemmas.List.Kept.{IsStrictlySortedBy-filter}
 use Rattle.std.specs.Cmp.Lexicographic.{slice_cmp}
 use Rattle.std.specs.List.{filter, filter_map}
@@ -11,7 +12,8 @@ use Rattle.lib_types.specs.declared.analysis.Analysis.TheVariants.{Lib, Not}
 use Rattle.place_files.proofs.InOrder.{ascending_sorted, in_ascending}
 use Rattle.place_files.proofs.Members.{is_in, kept_in, left_out, same_members}
 use Rattle.place_files.specs.Order.{ascending}
-use Rattle.place_files.specs.Table.{Analyses, defective}
+use Rattle.place_files.specs.Analyses.{Analyses}
+use Rattle.place_files.specs.Table.{Rows, analysis_at, defective}
 use Rattle.update_report.specs.Skips.{is_skipped, skip_at, skip_by}
 use Rattle.update_report.specs.declared.kinds.Skipped.{Skipped}
 
@@ -23,13 +25,13 @@ both : (keep a b : Bool) → (keep ≡ true → a ≡ b) → (keep && a) ≡ (ke
 both true a b h = h refl
 both false a b h = refl
 
-pub same_picked : (table : Analyses) (xs ys : List (List ℕ)) → ((z : List ℕ) → is_skipped table z ≡ true → is_in xs z ≡ is_in ys z)
-    → filter_map (skip_at table) (ascending xs) ≡ filter_map (skip_at table) (ascending ys)
-same_picked table xs ys same =
-    let keep = is_skipped table in
-    let left : (zs : List (List ℕ)) → filter_map (skip_at table) (filter keep zs) ≡ filter_map (skip_at table) zs = left_out keep (skip_at table) (λ path e. nothing (skip_at table path) e) in
+pub same_picked : (what : Analyses) (xs ys : List (List ℕ)) → ((z : List ℕ) → is_skipped what z ≡ true → is_in xs z ≡ is_in ys z)
+    → filter_map (skip_at what) (ascending xs) ≡ filter_map (skip_at what) (ascending ys)
+same_picked what xs ys same =
+    let keep = is_skipped what in
+    let left : (zs : List (List ℕ)) → filter_map (skip_at what) (filter keep zs) ≡ filter_map (skip_at what) zs = left_out keep (skip_at what) (λ path e. nothing (skip_at what path) e) in
     sym (left (ascending xs))
-    ∙ ap (filter_map (skip_at table)) (same_members (filter keep (ascending xs)) (filter keep (ascending ys))
+    ∙ ap (filter_map (skip_at what)) (same_members (filter keep (ascending xs)) (filter keep (ascending ys))
     (IsStrictlySortedBy-filter (slice_cmp nat_cmp) keep (ascending xs) (ascending_sorted xs))
     (IsStrictlySortedBy-filter (slice_cmp nat_cmp) keep (ascending ys) (ascending_sorted ys))
     (λ z.
@@ -37,28 +39,21 @@ same_picked table xs ys same =
     ∙ sym (kept_in keep z (ascending ys))))
     ∙ left (ascending ys)
 
-first_or : (a b : Bool) → a ≡ true → (a || b) ≡ true
-first_or a b h = ap (λ c. c || b) h
-
-second_or : (a b : Bool) → b ≡ true → (a || b) ≡ true
-second_or true b h = refl
-second_or false b h = h
-
--- a file that is skipped is in the table
-pub in_table : (table : Analyses) (z : List ℕ) → is_skipped table z ≡ true → is_in (keys_of table) z ≡ true
+-- a file of a table that is skipped is in it
+pub in_table : (rows : Rows) (z : List ℕ) → is_skipped (analysis_at rows) z ≡ true → is_in (keys_of rows) z ≡ true
 in_table [] z h = absurd (cc)
-in_table (e ∷ table) z h = by_test (bytes_eq z e.0)
-    (λ f. first_or (bytes_eq z e.0) (is_in (keys_of table) z) f)
-    (λ f. second_or (bytes_eq z e.0) (is_in (keys_of table) z) (in_table table z (rw f at h)))
+in_table (e ∷ rows) z h = by_test (bytes_eq z e.0)
+    (λ f. or_left (bytes_eq z e.0) (is_in (keys_of rows) z) f)
+    (λ f. or_right (bytes_eq z e.0) (is_in (keys_of rows) z) (in_table rows z (rw f at h)))
 
-in_defective : (table : Analyses) (z : List ℕ) → is_skipped table z ≡ true → is_in (defective table) z ≡ true
+in_defective : (rows : Rows) (z : List ℕ) → is_skipped (analysis_at rows) z ≡ true → is_in (defective rows) z ≡ true
 in_defective [] z h = absurd (cc)
-in_defective ((path, Not defect) ∷ table) z h = by_test (bytes_eq z path)
-    (λ f. first_or (bytes_eq z path) (is_in (defective table) z) f)
-    (λ f. second_or (bytes_eq z path) (is_in (defective table) z) (in_defective table z (rw f at h)))
-in_defective ((path, Lib abi soname) ∷ table) z h = by_test (bytes_eq z path)
+in_defective ((path, Not defect) ∷ rows) z h = by_test (bytes_eq z path)
+    (λ f. or_left (bytes_eq z path) (is_in (defective rows) z) f)
+    (λ f. or_right (bytes_eq z path) (is_in (defective rows) z) (in_defective rows z (rw f at h)))
+in_defective ((path, Lib abi soname) ∷ rows) z h = by_test (bytes_eq z path)
     (λ f. let none : is_some (skip_by z (Lib abi soname)) ≡ true = (rw f at h) in absurd (cc))
-    (λ f. in_defective table z (rw f at h))
+    (λ f. in_defective rows z (rw f at h))
 
-pub all_picked : (table : Analyses) → filter_map (skip_at table) (ascending (defective table)) ≡ filter_map (skip_at table) (ascending (keys_of table))
-all_picked table = same_picked table (defective table) (keys_of table) (λ z h. in_defective table z h ∙ sym (in_table table z h))
+pub all_picked : (rows : Rows) → filter_map (skip_at (analysis_at rows)) (ascending (defective rows)) ≡ filter_map (skip_at (analysis_at rows)) (ascending (keys_of rows))
+all_picked rows = same_picked (analysis_at rows) (defective rows) (keys_of rows) (λ z h. in_defective rows z h ∙ sym (in_table rows z h))
