@@ -1,7 +1,3 @@
-pub mod Completing
-pub mod Lacking
-pub mod OnlyArgument
-pub mod Printing
-pub mod Saying
-pub mod Settling
-pub mod Slots
+mod OnlyArgument
+mod Saying
+mod SettledSlots

@@ -1,21 +1,40 @@
--- A fault line with a number is written.
-use Rattle.std.proofs.Common.{◌≡◌, ℕ, List, Result, Ok, Err, inl, inr}
-use Rattle.std.specs.Prelude.{OnOk, OnErr}
-use Rattle.lib_types.specs.Counts.{HasRisen}
+-- What is written part by part.
+use Rattle.std.proofs.Common.{◌≡◌, ◌++◌, ℕ, List, Option, Some, None, Result, Ok, Err, inl, inr, arith, ◌∙◌}
 use Rattle.lib_types.specs.declared.fault.Failed.{Failed}
-use Rattle.tree_face.specs.Known.{Relates}
-use Rattle.tree_face.specs.Follows.{IsFollowedBy, IsFollowedByPart}
-use Rattle.tree_face.specs.Stream.{SinkState}
-use Rattle.ldconfig_cli.specs.Status.{Says, count_text, fault_line}
-use Rattle.ldconfig_cli.specs.declared.status.Status.{Status}
-use Rattle.ldconfig_cli.specs.declared.status.Status.TheVariants.{TooMany}
+use Rattle.tree_face.proofs.Follows.{follow, follow_part, part_of}
+use Rattle.tree_face.proofs.Known.{relates_by, relates_on}
+use Rattle.tree_face.specs.Stream.{SinkState, TakesAll}
+use Rattle.ldconfig_cli.specs.Status.{Says}
 
-said : (text : List ℕ) (old new : SinkState) (r : Result (Unit {0}) Failed) → OnOk r (Relates (IsFollowedBy text) old.written new.written)
-    → OnErr r (Relates (IsFollowedByPart text) old.written new.written) → OnErr r (HasRisen old.faults new.faults) → Says text old new
-said text old new (Ok x) done failed cause = inl done
-said text old new (Err e) done failed cause = inr (cause, failed)
+module _ (xs ys : List ℕ) (a b c : SinkState) where
+  -- one text, and then another
+  pub takes_on : (r : Result (Unit {0}) Failed) → TakesAll a b xs (Ok tt) → TakesAll b c ys r → TakesAll a c (xs ++ ys) r
+  takes_on (Ok done) first next = record {
+    done = relates_on _ _ _ (follow xs ys) _ _ _ first.done next.done;
+    failed = tt;
+    faults = omega (arith, first.faults, next.faults);
+    no_fault = next.no_fault ∙ first.no_fault;
+    cause = tt;
+  }
+  takes_on (Err fault) first next = record {
+    done = tt;
+    failed = relates_on _ _ _ (follow_part xs ys) _ _ _ first.done next.failed;
+    faults = omega (arith, first.faults, next.faults);
+    no_fault = tt;
+    cause = rw (← first.no_fault) next.cause;
+  }
 
-pub said_count : (status : Status) (count : ℕ) (text : List ℕ) → status ≡ TooMany count → text ≡ count_text count → (old new : SinkState) (r : Result (Unit {0}) Failed)
-    → OnOk r (Relates (IsFollowedBy text) old.written new.written) → OnErr r (Relates (IsFollowedByPart text) old.written new.written)
-    → OnErr r (HasRisen old.faults new.faults) → Says (fault_line status) old new
-said_count status count text is e old new r done failed cause = rw (is, ← e) (said text old new r done failed cause)
+  -- the first text isn't written whole
+  pub takes_part : (fault : Failed) → TakesAll a b xs (Err fault) → TakesAll a b (xs ++ ys) (Err fault)
+  takes_part fault first = record {
+    done = tt;
+    failed = relates_by _ _ (part_of xs ys) _ _ first.failed;
+    faults = first.faults;
+    no_fault = tt;
+    cause = first.cause;
+  }
+
+-- a text is written, or a prefix of it if the sink has failed
+pub says : (text : List ℕ) (a b : SinkState) (r : Result (Unit {0}) Failed) → TakesAll a b text r → Says text a b
+says text a b (Ok done) takes = inl (takes.done, takes.no_fault)
+says text a b (Err fault) takes = inr (takes.failed, takes.cause)

@@ -14,7 +14,7 @@ is_only text arguments = (length arguments == 1) && list_all (bytes_eq text) arg
 -- the command of these arguments, if they are those of one
 abbrev pub command_in : List (List ℕ) → Option Command
 command_in arguments =
-    if is_only (codes "update") arguments then Some Update
+    if is_only (codes "update") arguments then Some (Update (record { 0 = 0 }))
     else if is_only (codes "print") arguments || is_only (codes "-p") arguments then Some Print
     else None
 

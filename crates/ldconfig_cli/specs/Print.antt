@@ -1,94 +1,101 @@
 -- The command `print`: which status it returns, and what it writes (ldconfig(8), option -p).
-use Rattle.std.specs.Prelude.{◌≡◌, ◌⊎◌, ℕ, Bool, true, false, List, Option, Some, None, codes}
+use Rattle.std.specs.Prelude.{◌≡◌, ◌∷◌, ℕ, List, [], Vec, Option, Some, None, Result, Ok, Err, codes, ⊤}
+use Rattle.std.specs.declared.alloc.Global.{Global}
 use Rattle.lib_types.specs.Counts.{HasRisen}
-use Rattle.tree_face.specs.Disk.{DiskContent, KeepsAll}
-use Rattle.tree_face.specs.Known.{IfKnown, Relates, IsSame}
-use Rattle.tree_face.specs.Follows.{IsFollowedBy, IsFollowedByPart}
-use Rattle.tree_face.specs.Stream.{SinkState}
 use Rattle.cache_reader.specs.Cache.{defect}
-use Rattle.cache_reader.specs.Printed.{printed}
 use Rattle.cache_reader.specs.declared.defect.CacheDefect.{CacheDefect}
-use Rattle.ldconfig_cli.specs.Devices.{Devices}
-use Rattle.ldconfig_cli.specs.Status.{fault_line, Says}
+use Rattle.cache_reader.specs.Printed.{printed}
+use Rattle.tree_face.specs.declared.disk.Slot.TheVariants as slots
+use Rattle.tree_face.specs.Disk.{DiskContent}
+use Rattle.tree_face.specs.DiskUse.{ReadsOnly}
+use Rattle.tree_face.specs.Follows.{IsFollowedBy, IsFollowedByPart}
+use Rattle.tree_face.specs.Known.{IfKnown, Relates}
+use Rattle.tree_face.specs.StoreUse.{Ending, Complete, StoreFailed, GaveUp}
+use Rattle.tree_face.specs.Stream.{SinkState}
 use Rattle.ldconfig_cli.specs.declared.status.Status.{Status}
-use Rattle.ldconfig_cli.specs.declared.status.Status.TheVariants.{Done, NoCache, BadCache, DiskFault, OutputFault, NoMemory}
+use Rattle.ldconfig_cli.specs.declared.status.Status.TheVariants.{Done, Usage, BadManifest, NoCache, BadCache, StoreFault, DiskFault, OutputFault, NoMemory, NoManifest, TooLarge, TooMany}
+use Rattle.ldconfig_cli.specs.Devices.{Devices}
+use Rattle.ldconfig_cli.specs.Status.{EndsWith}
 
 -- the name of the cache on the first line
 abbrev pub cache_name : List ℕ
 cache_name = codes "/etc/ld.so.cache"
 
--- the status by the first defect of a cache
-abbrev pub by_defect : Option CacheDefect → Status
-by_defect (Some d) = BadCache d
-by_defect None = Done
+-- the Cache slot holds this, if that is known
+abbrev pub IsInSlot : Option DiskContent → Option (List ℕ) → Type 0
+IsInSlot disk content = IfKnown disk (λ c. c.now.cache ≡ content)
 
--- the status by what the Cache slot holds, if no count rises and memory suffices
-abbrev pub status_by : Option (List ℕ) → Status
-status_by None = NoCache
-status_by (Some bytes) = by_defect (defect bytes)
-
--- this is the status by what the slot holds
-abbrev pub IsBySlot : Option DiskContent → Status → Type 0
-IsBySlot disk status = IfKnown disk (λ content. status_by content.now.cache ≡ status)
-
--- only these come, beside Done
-abbrev pub is_of_print : Status → Bool
-is_of_print Done = true
-is_of_print NoCache = true
-is_of_print (BadCache defect) = true
-is_of_print DiskFault = true
-is_of_print OutputFault = true
-is_of_print NoMemory = true
-is_of_print _ = false
-
--- the statuses of a print that has no bytes to print
-abbrev pub is_of_reading : Status → Bool
-is_of_reading NoCache = true
-is_of_reading DiskFault = true
-is_of_reading NoMemory = true
-is_of_reading _ = false
-
--- these bytes are printed, or have this defect, or the output has failed behind a prefix of their text
-abbrev pub IsPrinted : List ℕ → SinkState → SinkState → Status → Type 0
-IsPrinted bytes old new Done = (defect bytes ≡ None) × Relates (IsFollowedBy (printed bytes cache_name)) old.written new.written
-IsPrinted bytes old new OutputFault = HasRisen old.faults new.faults × Relates (IsFollowedByPart (printed bytes cache_name)) old.written new.written
-IsPrinted bytes old new (BadCache d) = (defect bytes ≡ Some d) × (new ≡ old)
-IsPrinted bytes old new _ = ⊥
-
--- the text of a cache follows what was written, in full or as this relation says; it is that of the slot
-pub record Prints (P : List ℕ → List ℕ → List ℕ → Type 0) (disk : Option DiskContent) (a b : List ℕ) : Type 0 where
+-- these bytes are in the slot, have no defect, and their text follows what was written, in full or as this relation says
+pub record Prints (P : List ℕ → List ℕ → List ℕ → Type 0) (disk : Option DiskContent) (old new : SinkState) : Type 0 where
   pub bytes : List ℕ
-  pub written : P (printed bytes cache_name) a b
-  pub in_slot : IfKnown disk (λ content. content.now.cache ≡ Some bytes)
+  pub in_slot : IsInSlot disk (Some bytes)
+  pub accepted : defect bytes ≡ None
+  pub written : Relates (P (printed bytes cache_name)) old.written new.written
 
--- the text, a prefix of it if the output has failed, or the fault line
-abbrev pub OutputAfter : Status → Option DiskContent → SinkState → SinkState → Type 0
-OutputAfter Done disk old new = Relates (Prints IsFollowedBy disk) old.written new.written
-OutputAfter OutputFault disk old new = Relates (Prints IsFollowedByPart disk) old.written new.written
-OutputAfter NoMemory disk old new = Relates IsSame old.written new.written
-OutputAfter status disk old new = Says (fault_line status) old new
+-- these bytes are in the slot, and this is their first defect
+pub record HasDefect (disk : Option DiskContent) (d : CacheDefect) : Type 0 where
+  pub bytes : List ℕ
+  pub in_slot : IsInSlot disk (Some bytes)
+  pub refused : defect bytes ≡ Some d
 
--- before the fault line is written
-abbrev pub OutputBefore : Status → Option DiskContent → SinkState → SinkState → Type 0
-OutputBefore Done disk old new = Relates (Prints IsFollowedBy disk) old.written new.written
-OutputBefore OutputFault disk old new = Relates (Prints IsFollowedByPart disk) old.written new.written
-OutputBefore _ disk old new = new ≡ old
+-- ---- the statuses, one row for each: when it comes, and what is written before its fault line
 
--- the disk or the output has failed in this call
-abbrev pub HasFailed : Devices → Devices → Type 0
-HasFailed old new = HasRisen old.disk.faults new.disk.faults ⊎ HasRisen old.output.faults new.output.faults
+abbrev pub PrintedBy : Status → Option DiskContent → SinkState → SinkState → Type 0
+PrintedBy Done disk old new = Prints IsFollowedBy disk old new × (new.faults ≡ old.faults)
+PrintedBy OutputFault disk old new = Prints IsFollowedByPart disk old new × HasRisen old.faults new.faults
+PrintedBy NoCache disk old new = IsInSlot disk None × (new ≡ old)
+PrintedBy (BadCache d) disk old new = HasDefect disk d × (new ≡ old)
+PrintedBy DiskFault disk old new = new ≡ old
+PrintedBy NoMemory disk old new = new ≡ old
+PrintedBy Usage disk old new = ⊥
+PrintedBy (BadManifest fault) disk old new = ⊥
+PrintedBy StoreFault disk old new = ⊥
+PrintedBy NoManifest disk old new = ⊥
+PrintedBy (TooLarge nodes bytes) disk old new = ⊥
+PrintedBy (TooMany count) disk old new = ⊥
 
+-- how the reading of the slot ended
+abbrev pub print_ending : Status → Ending
+print_ending DiskFault = StoreFailed
+print_ending NoMemory = GaveUp
+print_ending Done = Complete
+print_ending OutputFault = Complete
+print_ending NoCache = Complete
+print_ending (BadCache d) = Complete
+print_ending Usage = Complete
+print_ending (BadManifest fault) = Complete
+print_ending StoreFault = Complete
+print_ending NoManifest = Complete
+print_ending (TooLarge nodes bytes) = Complete
+print_ending (TooMany count) = Complete
+
+-- The Cache slot is read once, and nothing else is.
 pub record PrintRun (old new : Devices) (status : Status) : Type 0 where
-  -- when each status comes
-  pub only : is_of_print status ≡ true
-  pub done : status ≡ Done → IsBySlot old.disk.contents Done
-  pub no_cache : status ≡ NoCache → IsBySlot old.disk.contents NoCache
-  pub bad_cache : (d : CacheDefect) → status ≡ BadCache d → IsBySlot old.disk.contents (BadCache d)
-  pub disk_fault : status ≡ DiskFault → HasRisen old.disk.faults new.disk.faults
-  pub output_fault : status ≡ OutputFault → HasRisen old.output.faults new.output.faults
-  -- nothing else keeps a cache from being printed
-  pub complete : IfKnown old.disk.contents (λ content. (status ≡ status_by content.now.cache) ⊎ ((status ≡ NoMemory) ⊎ HasFailed old new))
-  -- what is left on the devices
+  -- the output before the fault line
+  pub before : SinkState
+  pub printed_by : PrintedBy status old.disk.contents old.output before
+  pub line : EndsWith status before new.output
+  pub reads : ReadsOnly (slots.Cache ∷ []) (print_ending status) old.disk new.disk
   pub store : new.store ≡ old.store
-  pub disk : KeepsAll old.disk new.disk
-  pub output : OutputAfter status old.disk.contents old.output new.output
+  pub input : new.input ≡ old.input
+
+-- ---- what private functions say
+
+-- the bytes of the slot, or the status of a print without them
+abbrev pub IsRead : Result (Vec ℕ Global) Status → Option DiskContent → Type 0
+IsRead (Ok bytes) disk = IsInSlot disk (Some bytes.items)
+IsRead (Err NoCache) disk = IsInSlot disk None
+IsRead (Err DiskFault) disk = ⊤
+IsRead (Err NoMemory) disk = ⊤
+IsRead (Err status) disk = ⊥
+
+abbrev pub read_ending : Result (Vec ℕ Global) Status → Ending
+read_ending (Ok bytes) = Complete
+read_ending (Err status) = print_ending status
+
+-- the text of these bytes is written, or this is their first defect
+abbrev pub PrintsBytes : List ℕ → Status → SinkState → SinkState → Type 0
+PrintsBytes bytes Done old new = (defect bytes ≡ None) × (Relates (IsFollowedBy (printed bytes cache_name)) old.written new.written × (new.faults ≡ old.faults))
+PrintsBytes bytes OutputFault old new = (defect bytes ≡ None) × (Relates (IsFollowedByPart (printed bytes cache_name)) old.written new.written × HasRisen old.faults new.faults)
+PrintsBytes bytes (BadCache d) old new = (defect bytes ≡ Some d) × (new ≡ old)
+PrintsBytes bytes status old new = ⊥

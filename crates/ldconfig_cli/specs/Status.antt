@@ -1,5 +1,5 @@
 -- The exit status of each status, and the fault line on the output.
-use Rattle.std.specs.Prelude.{◌⊎◌, ℕ, Bool, true, false, List, [], ◌++◌, codes}
+use Rattle.std.specs.Prelude.{◌≡◌, ◌⊎◌, ℕ, List, [], ◌++◌, codes, Option, Some, None}
 use Rattle.std.specs.Fmt.{decimal}
 use Rattle.lib_types.specs.Counts.{HasRisen}
 use Rattle.mtree_manifest.specs.declared.fault.LineKind.{LineKind}
@@ -66,28 +66,31 @@ manifest_text manifest_faults.NoMemory = []
 abbrev pub count_text : ℕ → List ℕ
 count_text count = line (codes "fault: TooMany " ++ decimal count)
 
--- the fault line is the same for each such status
-abbrev pub is_fixed : Status → Bool
-is_fixed (BadManifest fault) = false
-is_fixed (BadCache defect) = false
-is_fixed (TooMany count) = false
-is_fixed _ = true
+-- the fault line, if the status has one
+abbrev pub fault_line : Status → Option (List ℕ)
+fault_line Done = None
+fault_line Usage = Some (line (codes "fault: Usage"))
+fault_line (BadManifest fault) = Some (manifest_text fault)
+fault_line NoCache = Some (line (codes "fault: NoCache"))
+fault_line (BadCache defect) = Some (cache_fault defect)
+fault_line (TooMany count) = Some (count_text count)
+fault_line StoreFault = Some (line (codes "fault: StoreFault"))
+fault_line DiskFault = Some (line (codes "fault: DiskFault"))
+fault_line OutputFault = None
+fault_line NoMemory = None
+fault_line NoManifest = Some (line (codes "fault: NoManifest"))
+fault_line (TooLarge nodes bytes) = Some (line (codes "fault: TooLarge"))
 
--- the fault line, empty for a status that has none
-abbrev pub fault_line : Status → List ℕ
-fault_line (BadManifest fault) = manifest_text fault
-fault_line (BadCache defect) = cache_fault defect
-fault_line NoCache = line (codes "fault: NoCache")
-fault_line Usage = line (codes "fault: Usage")
-fault_line StoreFault = line (codes "fault: StoreFault")
-fault_line DiskFault = line (codes "fault: DiskFault")
-fault_line NoManifest = line (codes "fault: NoManifest")
-fault_line (TooLarge nodes bytes) = line (codes "fault: TooLarge")
-fault_line (TooMany count) = count_text count
-fault_line _ = []
-
--- a line is written, or a prefix of it if the sink has failed
+-- a text is written, or a prefix of it if the sink has failed
 abbrev pub Says : List ℕ → SinkState → SinkState → Type 0
 Says text old new =
-    Relates (IsFollowedBy text) old.written new.written
-    ⊎ (HasRisen old.faults new.faults × Relates (IsFollowedByPart text) old.written new.written)
+    (Relates (IsFollowedBy text) old.written new.written × (new.faults ≡ old.faults))
+    ⊎ (Relates (IsFollowedByPart text) old.written new.written × HasRisen old.faults new.faults)
+
+abbrev pub EndsBy : Option (List ℕ) → SinkState → SinkState → Type 0
+EndsBy None old new = new ≡ old
+EndsBy (Some text) old new = Says text old new
+
+-- The fault line, if the status has one, ends the output. A sink that fails at it changes no status.
+abbrev pub EndsWith : Status → SinkState → SinkState → Type 0
+EndsWith status old new = EndsBy (fault_line status) old new

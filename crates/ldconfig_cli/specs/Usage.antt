@@ -1,7 +1,7 @@
 -- Arguments that are those of no command.
 use Rattle.std.specs.Prelude.{◌≡◌}
 use Rattle.ldconfig_cli.specs.Devices.{Devices}
-use Rattle.ldconfig_cli.specs.Status.{fault_line, Says}
+use Rattle.ldconfig_cli.specs.Status.{EndsWith}
 use Rattle.ldconfig_cli.specs.declared.status.Status.{Status}
 use Rattle.ldconfig_cli.specs.declared.status.Status.TheVariants.{Usage}
 
@@ -11,4 +11,4 @@ pub record UsageRun (old new : Devices) (status : Status) : Type 0 where
   pub store : new.store ≡ old.store
   pub disk : new.disk ≡ old.disk
   pub input : new.input ≡ old.input
-  pub output : Says (fault_line Usage) old.output new.output
+  pub output : EndsWith Usage old.output new.output

@@ -3,11 +3,13 @@ ghost use Rattle.std.specs.Prelude.{◌≡◌};
 ghost use Rattle.std.specs.List.{list_all};
 ghost use Rattle.ldconfig_cli.specs.Command.{command_of, are_only, has_text};
 
+use tree_face::Tag;
+
 /// What the program is asked to do.
 #[derive(Clone, Copy, Debug, PartialEq, Eq)]
 pub enum Command {
-    /// To write the cache of the image.
-    Update,
+    /// To write the cache of the image, by way of the temporary files of this tag.
+    Update { tag: Tag },
     /// To print the cache.
     Print,
 }
@@ -18,7 +20,7 @@ pub fn command_of(arguments: &Vec<String>) -> Option<Command>
     ensures { result ≡ command_of arguments.now }
 {
     if are_only(arguments, "update") {
-        Some(Command::Update)
+        Some(Command::Update { tag: Tag(0) })
     } else if are_only(arguments, "print") || are_only(arguments, "-p") {
         Some(Command::Print)
     } else {

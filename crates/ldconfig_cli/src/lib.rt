@@ -2,8 +2,8 @@
 #![tactic(auto)]
 
 mod arguments;
-mod cache_fault;
 mod command;
+mod fault_line;
 mod print;
 mod status;
 

@@ -1,13 +1,13 @@
 //! How a command ends.
-ghost use Rattle.std.specs.Prelude.{◌≡◌, true, IfOk};
-ghost use Rattle.ldconfig_cli.specs.Status.{code_of, count_text, fault_line, is_fixed, kind_text, line_text, manifest_text, of_load, of_update};
-ghost use Rattle.std.specs.String.{string_bytes};
+ghost use Rattle.std.specs.Prelude.{◌≡◌};
+ghost use Rattle.std.specs.Option.{option_map};
+ghost use Rattle.ldconfig_cli.specs.FaultLine.{line_bytes};
+ghost use Rattle.ldconfig_cli.specs.Status.{code_of, fault_line, of_load, of_update};
 
+use crate::fault_line::{FaultLine, cache_line, manifest_line, numbered, whole};
 use cache_reader::CacheDefect;
 use ldconfig_core::{LoadFault, UpdateFault};
-use lib_types::NoMemory;
-use mtree_manifest::{LineKind, ManifestFault};
-use std::alloc::Global;
+use mtree_manifest::ManifestFault;
 
 /// How a command ended.
 #[derive(Clone, Copy, Debug, PartialEq, Eq)]
@@ -59,23 +59,21 @@ impl Status {
         }
     }
 
-    // The fault line of a status that has always the same, empty if it has none.
-    pub(crate) fn fault_line(self) -> &'static [u8]
-        ensures { is_fixed self ≡ true → result.now ≡ fault_line self }
+    /// The fault line, if the status has one.
+    pub(crate) fn fault_line(self) -> Option<FaultLine>
+        ensures { option_map line_bytes result ≡ fault_line self }
     {
         match self {
-            Status::Usage => b"fault: Usage\n",
-            Status::NoCache => b"fault: NoCache\n",
-            Status::StoreFault => b"fault: StoreFault\n",
-            Status::DiskFault => b"fault: DiskFault\n",
-            Status::NoManifest => b"fault: NoManifest\n",
-            Status::TooLarge { .. } => b"fault: TooLarge\n",
-            Status::Done
-            | Status::OutputFault
-            | Status::NoMemory
-            | Status::BadManifest(_)
-            | Status::BadCache(_)
-            | Status::TooMany { .. } => b"",
+            Status::Done | Status::OutputFault | Status::NoMemory => None,
+            Status::Usage => Some(whole(b"fault: Usage\n")),
+            Status::BadManifest(fault) => Some(manifest_line(fault)),
+            Status::NoCache => Some(whole(b"fault: NoCache\n")),
+            Status::BadCache(defect) => Some(cache_line(defect)),
+            Status::TooMany { count } => Some(numbered(b"fault: TooMany ", count, b"\n")),
+            Status::StoreFault => Some(whole(b"fault: StoreFault\n")),
+            Status::DiskFault => Some(whole(b"fault: DiskFault\n")),
+            Status::NoManifest => Some(whole(b"fault: NoManifest\n")),
+            Status::TooLarge { .. } => Some(whole(b"fault: TooLarge\n")),
         }
     }
 }
@@ -107,44 +105,3 @@ impl From<UpdateFault> for Status {
     }
 }
 
-fn kind_text(kind: LineKind) -> &'static str
-    ensures { result.now ≡ kind_text kind }
-{
-    match kind {
-        LineKind::BadLine => "BadLine",
-        LineKind::BadEscape => "BadEscape",
-        LineKind::BadNumber => "BadNumber",
-        LineKind::BadType => "BadType",
-        LineKind::NoTarget => "NoTarget",
-    }
-}
-
-fn line_text(alloc: Global, number: u64, kind: &str) -> Result<String, NoMemory>
-    ensures { IfOk result (λ line. string_bytes line ≡ line_text number kind.now) }
-{
-    let line = format!(in alloc; "fault: BadManifest line {number}: {kind}\n")?;
-    Ok(line)
-}
-
-/// The fault line of a manifest without a tree.
-pub(crate) fn manifest_text(alloc: Global, fault: ManifestFault) -> Result<String, NoMemory>
-    ensures { IfOk result (λ line. string_bytes line ≡ manifest_text fault) }
-{
-    match fault {
-        ManifestFault::TooLong { .. } => {
-            Ok(String::from_str(alloc, "fault: BadManifest: TooLong\n")?)
-        }
-        ManifestFault::Bad { line, kind } => line_text(alloc, line, kind_text(kind)),
-        ManifestFault::Clash { line } => line_text(alloc, line, "Clash"),
-        ManifestFault::TooMany { line } => line_text(alloc, line, "TooMany"),
-        ManifestFault::NoMemory => Ok(String::new(alloc)),
-    }
-}
-
-/// The fault line of too many entries.
-pub(crate) fn count_text(alloc: Global, count: u64) -> Result<String, NoMemory>
-    ensures { IfOk result (λ line. string_bytes line ≡ count_text count) }
-{
-    let line = format!(in alloc; "fault: TooMany {count}\n")?;
-    Ok(line)
-}

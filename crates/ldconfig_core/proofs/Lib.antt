@@ -2,7 +2,7 @@ mod CallsOneByOne
 mod FilesAgree
 mod FoundParts
 mod KeysBegun
-mod OneText
+pub mod OneText
 mod OutcomeRows
 mod SearchParts
 mod SettledImage

@@ -8,7 +8,7 @@ use Rattle.cache_writer.specs.declared.writer.TheConstants.{ENTRIES_MAX}
 use Rattle.file_analyses.specs.Files.{file_keys, key_in, lacks_one, what_is}
 use Rattle.hwcap_dirs.specs.declared.kinds.Place.{Place}
 use Rattle.hwcap_dirs.specs.Places.{places}
-use Rattle.ldso_conf.specs.Reading.{Item, conf_items, conf_lacks, reading, reading_of}
+use Rattle.ldso_conf.specs.Reading.{conf_lacks, is_missing, reading, reading_of}
 use Rattle.lib_types.specs.declared.entry.Entry.{Entry}
 use Rattle.place_files.specs.Order.{ascending}
 use Rattle.place_files.specs.Search.{reached, wanted}
@@ -52,7 +52,7 @@ module _ (held : Contents) (t new : Nodes) (alike : IsSearchedAlike t new) (put 
 
   same_lacks : conf_lacks held new ≡ conf_lacks held t
   unfolding conf_lacks
-  same_lacks = ap (λ (items : List Item). list_any _ items) (alike.conf held)
+  same_lacks = ap (λ items. list_any is_missing items) (alike.conf held)
 
   same_places : places_in held new ≡ places_in held t
   unfolding places_in

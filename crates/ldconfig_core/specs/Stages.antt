@@ -1,13 +1,14 @@
 -- What private functions say of the parts of an update, one after the other.
-use Rattle.std.specs.Prelude.{◌≡◌, ◌≤◌, ◌||◌, ℕ, true, false, List, length, Option, None, IsSomeAnd}
+use Rattle.std.specs.Prelude.{◌≡◌, ◌≤◌, ◌||◌, ℕ, true, false, List, length, map, Option, None, IsSomeAnd}
 use Rattle.std.specs.List.{filter_map, list_any}
 use Rattle.std.specs.Map.{keys_of}
 use Rattle.std.specs.Option.{option_map}
 use Rattle.std.specs.Str.{bytes_eq}
 use Rattle.cache_entries.specs.Entries as entries
 use Rattle.cache_entries.specs.Entries.{AreEntriesOf}
-use Rattle.cache_reader.specs.Cache.{defect}
-use Rattle.cache_writer.specs.CacheText.{cache_text}
+use Rattle.cache_reader.specs.Cache.{defect, read}
+use Rattle.cache_writer.specs.CacheText.{cache_text, hwcaps_names}
+use Rattle.cache_writer.specs.ReadBack.{as_read}
 use Rattle.cache_writer.specs.declared.writer.TheConstants.{ENTRIES_MAX}
 use Rattle.file_analyses.specs.Files.{AreRight, lacks_one, what_is}
 use Rattle.hwcap_dirs.specs.Places.{absent}
@@ -104,6 +105,7 @@ pub record IsMadeOf (found : Found) (tree : Nodes) (prepared : Prepared) : Type 
   pub reads : IfReads (manifest_bytes prepared.manifest) (loaded tree)
   pub cache : prepared.cache.items ≡ cache_text entries
   pub accepted : defect prepared.cache.items ≡ None
+  pub read_back : read prepared.cache.items ≡ map (as_read (hwcaps_names entries)) entries
   pub text : prepared.report.text ≡ report_text (said_of found entries)
   pub libs : prepared.report.libs ≡ length entries
   pub links : prepared.report.links ≡ length found.links.plan

@@ -1,9 +1,10 @@
 -- The texts that an update makes.
-use Rattle.std.specs.Prelude.{◌≡◌, ℕ, List, [], ◌∷◌, ◌++◌, Option, Some, None}
+use Rattle.std.specs.Prelude.{◌≡◌, ℕ, List, [], ◌∷◌, ◌++◌, map, Option, Some, None}
 use Rattle.std.specs.List.{filter_map}
 use Rattle.cache_entries.specs.Entries.{AreEntriesOf}
-use Rattle.cache_reader.specs.Cache.{defect}
-use Rattle.cache_writer.specs.CacheText.{cache_text}
+use Rattle.cache_reader.specs.Cache.{defect, read}
+use Rattle.cache_writer.specs.CacheText.{cache_text, hwcaps_names}
+use Rattle.cache_writer.specs.ReadBack.{as_read}
 use Rattle.file_analyses.specs.Files.{what_is}
 use Rattle.hwcap_dirs.specs.Places.{absent}
 use Rattle.lib_types.specs.declared.entry.Entry.{Entry}
@@ -54,12 +55,13 @@ pub record AreTextsOf (held : Contents) (s : Loaded) (texts : UpdateTexts) : Typ
   pub cache_is : texts.cache ≡ cache_text entries
   pub report_is : texts.report ≡ report_text (said_with held s.tree entries)
 
--- whatever is known of contents, the cache is one of some entries and the report one of some findings
+-- Whatever is known of contents, the cache is one of some entries, which a reader accepts and reads as these, and the report one of some findings.
 pub record AreTexts (texts : UpdateTexts) : Type 0 where
   pub said : Said
   pub report_is : texts.report ≡ report_text said
   pub cache_is : texts.cache ≡ cache_text said.entries
   pub accepted : defect texts.cache ≡ None
+  pub read_back : read texts.cache ≡ map (as_read (hwcaps_names said.entries)) said.entries
 
 -- ---- what is written
 

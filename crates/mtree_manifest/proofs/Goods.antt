@@ -16,7 +16,7 @@ use Rattle.mtree_manifest.specs.Keys.{Values, Given, no_values, given_by, divide
 use Rattle.mtree_manifest.specs.Decoding.{first_byte}
 use Rattle.mtree_manifest.proofs.Names.{path_key}
 use Rattle.mtree_manifest.proofs.Decode.{decoded_step, then_rest}
-use Rattle.mtree_manifest.specs.Manifest.{State, ◌>>=◌, Faulty, Defaults, Puts, head_of, with_put, with_node, with_reading, entry_fault, entry, node_of, node_by, text_of, key_of, id_of, target_fault, unless_faulty, put_by, stack_behind, is_dir, outcome, HasOneOutcome}
+use Rattle.mtree_manifest.specs.Manifest.{State, ◌>>=◌, Faulty, Defaults, Puts, head_of, with_put, with_node, with_reading, entry_fault, entry, node_of, node_by, text_of, key_of, id_of, target_fault, unless_faulty, put_by, stack_behind, is_dir, outcome}
 use Rattle.mtree_manifest.specs.Paths.{Stack, closed, place, place_fault_of, path_of, names_of, below, base_of, is_place, is_directive}
 use Rattle.mtree_manifest.specs.declared.fault.LineKind.{LineKind}
 use Rattle.mtree_manifest.specs.declared.fault.LineKind.TheVariants.{BadLine}
@@ -218,12 +218,3 @@ defaults_good s t o e good line = behind_keeps o.number s t o.first o.given e go
 
 pub started_good : (n : ℕ) (v : Values) → are_good v ≡ true → IsGoodOpen (started n v)
 started_good n v good = good
-
--- ---- the outcome of a text
-
-one_of : (r : Result Nodes ManifestFault) → MatchOption (result_ok r) (IsSome (result_err r)) (λ _. IsNone (result_err r))
-one_of (Ok tree) = refl
-one_of (Err fault) = refl
-
-pub one_outcome : (text : List ℕ) → HasOneOutcome text
-one_outcome text = one_of (outcome text)

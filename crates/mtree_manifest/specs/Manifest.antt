@@ -178,7 +178,3 @@ tree_of text = result_ok (outcome text)
 
 abbrev pub first_bad : List ℕ → Option ManifestFault
 first_bad text = result_err (outcome text)
-
--- A text has a tree or a first bad line, and never both. (Each line has one reading, since `reading` is a function.)
-abbrev pub HasOneOutcome : List ℕ → Type 0
-HasOneOutcome text = MatchOption (tree_of text) (IsSome (first_bad text)) (λ _. IsNone (first_bad text))

@@ -1,8 +1,9 @@
 //! What a line with a path makes.
-ghost use Rattle.std.specs.Prelude.{◌≡◌, None, drop, IfOk, IfSome, OnOk, IsTrue};
+ghost use Rattle.std.specs.Prelude.{◌≡◌, None, drop, IfOk, IfSome, IsErrOf, OnOk, IsTrue};
 ghost use Rattle.std.specs.Option.{option_copied};
 ghost use Rattle.tree_face.specs.Node.{is_node};
 ghost use Rattle.tree_face.specs.Paths.{is_path};
+ghost use Rattle.tree_face.specs.Tree.{IsFullFor};
 ghost use Rattle.mtree_manifest.specs.Ends.{Ends};
 ghost use Rattle.mtree_manifest.specs.Manifest.{text_of, key_of, id_of, node_of, is_dir, is_link, target_fault, with_node};
 ghost use Rattle.mtree_manifest.specs.Paths.{names_of, place_fault_of, path_of, base_by};
@@ -178,7 +179,8 @@ pub(crate) fn put_node(
 ) -> Result<(), ManifestFault>
     requires path { IsTrue (is_path path.now) }
     requires node { IsTrue (is_node node) }
-    ensures { Ends result (with_node number tree.old (path.now, node)) tree.new }
+    ensures put { Ends result (with_node number tree.old (path.now, node)) tree.new }
+    ensures no_memory { IsErrOf result ManifestFault.NoMemory → IsFullFor tree.old path.now node → ⊥ }
 {
     match tree.put(path, node) {
         Ok(()) => Ok(()),

@@ -1,12 +1,12 @@
 //! A manifest's tree.
 ghost use Rattle.mtree_manifest.specs.declared.fault.TheConstants.{TEXT_MAX};
 ghost use Rattle.mtree_manifest.specs.declared.fault.ManifestFault.TheVariants as faults;
-ghost use Rattle.std.specs.Prelude.{◌≡◌, ◌⊎◌, ◌≤◌, Some, None, length, OnOk, IfOk, IfErr, IsTrue};
+ghost use Rattle.std.specs.Prelude.{◌≡◌, ◌⊎◌, ◌≤◌, Some, None, length, OnOk, IfOk, IfErr, IsErrOf, IsTrue};
 ghost use Rattle.mtree_manifest.specs.Ends.{Ends};
 ghost use Rattle.mtree_manifest.specs.Good.{IsGood, IsGoodOpen, are_good};
 ghost use Rattle.mtree_manifest.specs.Lines.{lines_in};
 ghost use Rattle.mtree_manifest.specs.Lining.{line_in};
-ghost use Rattle.mtree_manifest.specs.Manifest.{no_lines, set_line, close_line, entry_fault, entry, stack_behind, with_reading, with_lines, tree_of, first_bad, HasOneOutcome};
+ghost use Rattle.mtree_manifest.specs.Manifest.{no_lines, set_line, close_line, entry_fault, entry, stack_behind, with_reading, with_lines, tree_of, first_bad};
 ghost use Rattle.mtree_manifest.specs.Paths.{place};
 ghost use Rattle.mtree_manifest.specs.Progress.{line_ended, physical_taken};
 ghost use Rattle.mtree_manifest.specs.Reader.{state_in, progress_in, entry_put};
@@ -194,11 +194,11 @@ fn read_lines<'a>(reader: &mut Reader<'a>, text: &'a [u8]) -> Result<(), Manifes
 }
 
 /// The tree of a manifest, or its first fault: the text's length, or the first line that is bad.
-#[tactic(auto, unfolding(crate::specs::Manifest::outcome), using(crate::proofs::Goods::one_outcome))]
+#[tactic(auto, unfolding(crate::specs::Manifest::outcome))]
 pub fn read(alloc: Global, text: &[u8]) -> Result<Tree, ManifestFault>
     ensures tree { IfOk result (λ tree. tree_of text.now ≡ Some tree) }
-    ensures one_outcome { HasOneOutcome text.now }
     ensures fault { IfErr result (λ fault. (fault ≡ faults.NoMemory) ⊎ (first_bad text.now ≡ Some fault)) }
+    ensures no_memory { IsErrOf result faults.NoMemory → length text.now ≤ TEXT_MAX }
 {
     if text.len() > TEXT_MAX {
         return Err(ManifestFault::TooLong {

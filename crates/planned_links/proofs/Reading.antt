@@ -1,14 +1,14 @@
 -- The conf file reads the same in trees that are alike.
-use Rattle.std.proofs.Common.{◌≡◌, ℕ, zero, suc, ◌+◌, cond, nat_le, List, map, fold, [], length, refl, ap, ◌∙◌, Option, Some, None, unwrap_or}
+use Rattle.std.proofs.Common.{◌≡◌, ℕ, zero, suc, ◌+◌, ◌++◌, List, map, [], ◌∷◌, refl, ap, ◌∙◌, Option, Some, None}
 use Rattle.std.specs.List.{flat_map}
 use Rattle.conf_patterns.specs.Patterns.{Found, found_at, results}
 use Rattle.ldso_conf.specs.Lines.{arguments_of, hwcap, include, lines_of, text_of, words_of}
-use Rattle.ldso_conf.specs.Reading.{Reading, by_key, conf_path, key_in, reading, step_by, visit, visit_found, with_begun, with_file, with_read, with_report, nothing_read}
+use Rattle.ldso_conf.specs.Reading.{Item, Names, Reports, Reads, Passes, Misses, all_from, asked, conf_items, conf_path, included_at, included_by, place_in, steps_in, until_missing, with_steps}
+use Rattle.ldso_conf.specs.Reading as conf
 use Rattle.ldso_conf.specs.Steps.{included, line_steps, steps_by, steps_of}
-use Rattle.ldso_conf.specs.declared.kinds.ConfKind.TheVariants.{TooDeep, TooLarge}
-use Rattle.ldso_conf.specs.declared.reading.TheConstants.{CONF_MAX, DEPTH_MAX}
+use Rattle.ldso_conf.specs.declared.reading.TheConstants.{DEPTH_MAX}
 use Rattle.tree_face.specs.Store.{Contents}
-use Rattle.tree_face.specs.Tree.{Nodes, IsTree, node_at}
+use Rattle.tree_face.specs.Tree.{Nodes, IsTree}
 use Rattle.planned_links.proofs.Agree.{agree}
 use Rattle.planned_links.proofs.Alike.{IsAlike, same_key}
 use Rattle.planned_links.proofs.Patterns.{same_found, same_results}
@@ -29,32 +29,34 @@ module _ (t new : Nodes) (tree : IsTree t) (after : IsTree new) (alike : IsAlike
       ap (λ f. flat_map f (lines_of content)) (agree (line_steps new file) (line_steps t file)
       (λ line. by_same file (text_of line) (arguments_of include (text_of line)) (arguments_of hwcap (text_of line))))
 
-  file_same : (next : Reading → Found → Reading) (r : Reading) (f : Found) (o : Option (List ℕ)) → with_file (step_by next) new r f o ≡ with_file (step_by next) t r f o
-  file_same next r f o =
-      let content = unwrap_or o [] in
-      let begun = with_begun r o in
-      ap (λ steps. cond (nat_le (length content) CONF_MAX) (fold (step_by next) (with_read begun f.1) steps) (with_report begun f.0 TooLarge)) (steps_same f.0 content)
+  steps_in_same : (item : Item) → steps_in new item ≡ steps_in t item
+  steps_in_same (Names dir) = refl
+  steps_in_same (Reports report) = refl
+  steps_in_same (Reads f key content) = steps_same f.0 content
+  steps_in_same (Passes f key) = refl
+  steps_in_same (Misses f key) = refl
 
-  -- ---- the visits
+  -- ---- the items
 
   module _ (held : Contents) where
-    abbrev deeper : Nodes → (Reading → Found → Reading) → Reading → Found → List ℕ → Reading
-    deeper s next r f key = with_file (step_by next) s r f (held key)
+    item_same : (left : ℕ) (before : List (List ℕ)) (f : Found) → included_at new held left before f ≡ included_at t held left before f
+    item_same left before f = ap (included_by held left before f) (same_key t new alike f.1)
 
-    visit_at : (left : ℕ) (r : Reading) (f : Found) → visit new held left r f ≡ visit t held left r f
-    visit_at zero r f = ap (λ k. by_key k r f (λ key. with_report r f.0 TooDeep)) (same_key t new alike f.1)
-    visit_at (suc left) r f =
-        let next = agree (visit new held left) (visit t held left) (λ s. agree (visit new held left s) (visit t held left s) (visit_at left s)) in
-        ap (λ k. by_key k r f (deeper new (visit new held left) r f)) (same_key t new alike f.1)
-        ∙ ap (λ v. by_key (key_in (node_at t f.1)) r f (deeper new v r f)) next
-        ∙ ap (by_key (key_in (node_at t f.1)) r f) (agree (deeper new (visit t held left) r f) (deeper t (visit t held left) r f)
-        (λ key. file_same (visit t held left) r f (held key)))
+    items_same : (left : ℕ) (before : List (List ℕ)) (f : Found) → conf.included new held left before f ≡ conf.included t held left before f
+    items_same zero before f = ap (λ item. item ∷ []) (item_same zero before f)
+    items_same (suc left) before f =
+        let item = included_at t held (suc left) before f in
+        let next = agree (conf.included new held left) (conf.included t held left)
+            (λ b. agree (conf.included new held left b) (conf.included t held left b) (λ g. items_same left b g)) in
+        ap (with_steps (conf.included new held left) new before) (item_same (suc left) before f)
+        ∙ ap (λ steps. item ∷ asked (conf.included new held left) (before ++ place_in item) steps) (steps_in_same item)
+        ∙ ap (λ file. with_steps file t before item) next
 
-    found_same : (o : Option Found) → visit_found new held o ≡ visit_found t held o
-    found_same None = refl
-    found_same (Some f) = visit_at (DEPTH_MAX + 1) nothing_read f
+    from_same : (o : Option Found) → all_from new held o ≡ all_from t held o
+    from_same None = refl
+    from_same (Some f) = items_same (DEPTH_MAX + 1) [] f
 
-  pub same_reading : (held : Contents) → reading new held ≡ reading t held
-  unfolding reading
-  same_reading held =
-      ap (λ found. visit_found new held (found conf_path)) (same_found t new tree after alike) ∙ found_same held (found_at t conf_path)
+  pub same_items : (held : Contents) → conf_items held new ≡ conf_items held t
+  unfolding conf_items
+  same_items held =
+      ap (λ found. until_missing (all_from new held (found conf_path))) (same_found t new tree after alike) ∙ ap until_missing (from_same held (found_at t conf_path))

@@ -10,7 +10,7 @@ use Rattle.tree_face.specs.Tree.{Nodes, IsTree}
 use Rattle.planned_links.proofs.Alike.{IsAlike, same_key}
 use Rattle.planned_links.proofs.Places.{same_places}
 use Rattle.planned_links.proofs.Planned.{planned_alike}
-use Rattle.planned_links.proofs.Reading.{same_reading}
+use Rattle.planned_links.proofs.Reading.{same_items}
 use Rattle.planned_links.specs.Search.{IsSearchedAlike}
 
 pub searched_alike : (t new : Nodes) (plan : List Planned) (what : Analyses) (places : List Place) → IsTree t → IsTree new → HaveNames what → are_dirs t places ≡ true
@@ -18,4 +18,4 @@ pub searched_alike : (t new : Nodes) (plan : List Planned) (what : Analyses) (pl
 searched_alike t new plan what places tree after named dirs made put =
     let room = have_room what named t tree places dirs in
     let alike : IsAlike t new = subst (λ (n : Nodes). IsAlike t n) (sym (put ∙ ap (with_links t) made)) (planned_alike t (links what t places) room) in
-    record { conf = same_reading t new tree after alike; places = same_places t new tree after alike; files = same_key t new alike }
+    record { conf = same_items t new tree after alike; places = same_places t new tree after alike; files = same_key t new alike }
