@@ -13,7 +13,9 @@ use std::alloc::Global;
 use std::process::ExitCode;
 use std::{fs, io};
 
-const TABLES: &[&str] = &["plans", "winners", "folders", "reports", "limits"];
+const TABLES: &[&str] = &[
+    "plans", "surveys", "winners", "entries", "folders", "reports", "limits",
+];
 
 // Tries a table, and says what differs.
 fn try_file(rt: &HostRuntime, alloc: Global, name: &str) -> io::Result<Counts> {
@@ -25,10 +27,7 @@ fn try_file(rt: &HostRuntime, alloc: Global, name: &str) -> io::Result<Counts> {
     }
     match tried {
         Ok(counts) => Ok(counts),
-        Err(_) => Ok(Counts {
-            rows: 0,
-            differ: 1,
-        }),
+        Err(_) => Ok(Counts { rows: 0, differ: 1 }),
     }
 }
 

@@ -7,7 +7,7 @@ use lib_types::NoMemory;
 use std::alloc::Global;
 
 /// The lines of a row behind its head, and maybe of further rows.
-pub(crate) type Row<'a> = [&'a [u8]];
+pub(crate) type Row<'a> = &'a [&'a [u8]];
 
 /// How many rows a table has, and how many of them differ.
 #[derive(Clone, Copy)]
@@ -21,7 +21,7 @@ fn is_head(line: &[u8]) -> bool {
 }
 
 // The lines before the next head.
-fn own_lines<'a, 'b>(lines: &'b [&'a [u8]]) -> &'b Row<'a> {
+fn own_lines<'a>(lines: &'a [&'a [u8]]) -> Row<'a> {
     for (index, line) in lines.iter().enumerate() {
         if is_head(line) {
             return &lines[..index];
@@ -31,7 +31,7 @@ fn own_lines<'a, 'b>(lines: &'b [&'a [u8]]) -> &'b Row<'a> {
 }
 
 /// What stands behind the word with which a line begins, of the first such line.
-pub(crate) fn value<'a>(row: &Row<'a>, name: &[u8]) -> Option<&'a [u8]> {
+pub(crate) fn value<'a>(row: Row<'a>, name: &[u8]) -> Option<&'a [u8]> {
     for line in row {
         let (first, rest) = divide(b' ', line);
         if first == name {
@@ -42,7 +42,7 @@ pub(crate) fn value<'a>(row: &Row<'a>, name: &[u8]) -> Option<&'a [u8]> {
 }
 
 /// The number behind that word, 0 if there is none.
-pub(crate) fn count(row: &Row<'_>, name: &[u8]) -> u64 {
+pub(crate) fn count(row: Row<'_>, name: &[u8]) -> u64 {
     match value(row, name) {
         Some(digits) => number(digits),
         None => 0,
@@ -50,7 +50,7 @@ pub(crate) fn count(row: &Row<'_>, name: &[u8]) -> u64 {
 }
 
 /// The text below the first line that is this word, empty if there is none.
-pub(crate) fn text(alloc: Global, row: &Row<'_>, name: &[u8]) -> Result<Vec<u8>, NoMemory> {
+pub(crate) fn text(alloc: Global, row: Row<'_>, name: &[u8]) -> Result<Vec<u8>, NoMemory> {
     for (index, line) in row.iter().enumerate() {
         if *line == name {
             return block(alloc, &row[index + 1..]);
@@ -61,8 +61,18 @@ pub(crate) fn text(alloc: Global, row: &Row<'_>, name: &[u8]) -> Result<Vec<u8>,
 
 // The words with which a row's lines begin, but for the lines of a block.
 const WORDS: &[&[u8]] = &[
-    b"", b"manifest", b"library", b"library-i386", b"nameless", b"file", b"begun", b"report", b"again", b"new",
-    b"print", b"size",
+    b"",
+    b"manifest",
+    b"library",
+    b"library-i386",
+    b"nameless",
+    b"file",
+    b"begun",
+    b"report",
+    b"again",
+    b"new",
+    b"print",
+    b"size",
 ];
 
 fn is_known(line: &[u8]) -> bool {
@@ -79,7 +89,7 @@ fn is_known(line: &[u8]) -> bool {
 }
 
 // Whether each line of a row is one that a row can have; says which isn't.
-fn are_known(row: &Row<'_>, said: &mut Vec<u8>) -> Result<bool, NoMemory> {
+fn are_known(row: Row<'_>, said: &mut Vec<u8>) -> Result<bool, NoMemory> {
     for line in row {
         if !is_known(line) {
             say_row(said, b"no line of a row: ", line)?;
@@ -93,7 +103,7 @@ fn are_known(row: &Row<'_>, said: &mut Vec<u8>) -> Result<bool, NoMemory> {
 fn is_right(
     alloc: Global,
     head: &[u8],
-    row: &Row<'_>,
+    row: Row<'_>,
     said: &mut Vec<u8>,
 ) -> Result<bool, SampleFault> {
     let is_right = are_known(row, said)? && is_as_written(alloc, row, said)?;
@@ -103,11 +113,7 @@ fn is_right(
     Ok(is_right)
 }
 
-fn try_rows(
-    alloc: Global,
-    lines: &[&[u8]],
-    said: &mut Vec<u8>,
-) -> Result<Counts, SampleFault> {
+fn try_rows(alloc: Global, lines: &[&[u8]], said: &mut Vec<u8>) -> Result<Counts, SampleFault> {
     let (mut rows, mut differ) = (0u64, 0u64);
     for (index, line) in lines.iter().enumerate() {
         if is_head(line) {

@@ -51,7 +51,7 @@ fn put_pair(held: &mut Pairs, key: Text, content: Text) -> Result<(), NoMemory> 
     Ok(())
 }
 
-fn held_of(alloc: Global, row: &Row<'_>) -> Result<Pairs, SampleFault> {
+fn held_of(alloc: Global, row: Row<'_>) -> Result<Pairs, SampleFault> {
     let mut held = Vec::new(alloc);
     for (index, line) in row.iter().enumerate() {
         put_held(alloc, &mut held, line, &row[index + 1..])?;
@@ -59,14 +59,14 @@ fn held_of(alloc: Global, row: &Row<'_>) -> Result<Pairs, SampleFault> {
     Ok(held)
 }
 
-fn devices_of(alloc: Global, row: &Row<'_>) -> Result<Devices, SampleFault> {
+fn devices_of(alloc: Global, row: Row<'_>) -> Result<Devices, SampleFault> {
     let manifest = text(alloc, row, b"manifest")?;
     let held = held_of(alloc, row)?;
     Ok(make_devices(alloc, image(&manifest), held)?)
 }
 
 // The first of these words for which the row has a line.
-fn either<'a>(row: &Row<'_>, first: &'a [u8], second: &'a [u8]) -> &'a [u8] {
+fn either<'a>(row: Row<'_>, first: &'a [u8], second: &'a [u8]) -> &'a [u8] {
     if value(row, first).is_some() {
         first
     } else {
@@ -77,7 +77,7 @@ fn either<'a>(row: &Row<'_>, first: &'a [u8], second: &'a [u8]) -> &'a [u8] {
 // Whether this is the row's text of this name.
 fn is_text(
     alloc: Global,
-    row: &Row<'_>,
+    row: Row<'_>,
     name: &[u8],
     got: &[u8],
     said: &mut Vec<u8>,
@@ -97,7 +97,7 @@ fn content(alloc: Global, devices: &mut Devices, slot: Slot) -> Vec<u8> {
 // Runs a command with a new sink. Whether it is done, and writes the row's text of this name.
 fn is_run(
     alloc: Global,
-    row: &Row<'_>,
+    row: Row<'_>,
     word: &str,
     name: &[u8],
     devices: &mut Devices,
@@ -111,16 +111,22 @@ fn is_run(
 // Whether the manifest is the one that an update leaves.
 fn is_left(
     alloc: Global,
-    row: &Row<'_>,
+    row: Row<'_>,
     devices: &mut Devices,
     said: &mut Vec<u8>,
 ) -> Result<bool, NoMemory> {
     let manifest = content(alloc, devices, Slot::Manifest);
-    is_text(alloc, row, either(row, b"new", b"manifest"), &manifest, said)
+    is_text(
+        alloc,
+        row,
+        either(row, b"new", b"manifest"),
+        &manifest,
+        said,
+    )
 }
 
 // The slots that the first update writes, and those that both write, of which the second writes the Cache slot alone.
-fn slots(row: &Row<'_>, both: bool) -> &'static [Slot] {
+fn slots(row: Row<'_>, both: bool) -> &'static [Slot] {
     match (value(row, b"new").is_some(), both) {
         (false, false) => &[Slot::Cache],
         (false, true) => &[Slot::Cache, Slot::Cache],
@@ -146,13 +152,19 @@ fn has_replaced(
 
 fn is_first(
     alloc: Global,
-    row: &Row<'_>,
+    row: Row<'_>,
     devices: &mut Devices,
     said: &mut Vec<u8>,
 ) -> Result<bool, NoMemory> {
     Ok(
         is_run(alloc, row, "update", b"report", devices, said)?
-            && is_number(alloc, said, b"begun", count(row, b"begun"), devices.store.begun())?
+            && is_number(
+                alloc,
+                said,
+                b"begun",
+                count(row, b"begun"),
+                devices.store.begun(),
+            )?
             && has_replaced(alloc, devices, slots(row, false), said)?
             && is_left(alloc, row, devices, said)?,
     )
@@ -161,7 +173,7 @@ fn is_first(
 // Whether a cache has the length that the row says, if it says one.
 fn is_long(
     alloc: Global,
-    row: &Row<'_>,
+    row: Row<'_>,
     cache: &[u8],
     said: &mut Vec<u8>,
 ) -> Result<bool, NoMemory> {
@@ -172,14 +184,20 @@ fn is_long(
 // Whether the second update reports the same but for the links, and leaves this cache and no Aux slot.
 fn is_second(
     alloc: Global,
-    row: &Row<'_>,
+    row: Row<'_>,
     devices: &mut Devices,
     cache: &[u8],
     said: &mut Vec<u8>,
 ) -> Result<bool, NoMemory> {
     Ok(
-        is_run(alloc, row, "update", either(row, b"again", b"report"), devices, said)?
-            && has_replaced(alloc, devices, slots(row, true), said)?
+        is_run(
+            alloc,
+            row,
+            "update",
+            either(row, b"again", b"report"),
+            devices,
+            said,
+        )? && has_replaced(alloc, devices, slots(row, true), said)?
             && is_left(alloc, row, devices, said)?
             && is_same(said, b"cache", cache, &content(alloc, devices, Slot::Cache))?
             && has(alloc, &mut devices.disk, Slot::Aux, None),
@@ -189,7 +207,7 @@ fn is_second(
 /// Updates a row's image, prints its cache, and updates it once more. Whether all that is left and written is as the row says.
 pub(crate) fn is_as_written(
     alloc: Global,
-    row: &Row<'_>,
+    row: Row<'_>,
     said: &mut Vec<u8>,
 ) -> Result<bool, SampleFault> {
     let mut devices = devices_of(alloc, row)?;

@@ -1,9 +1,6 @@
-//! The tests of planned links and of reported sonames.
+//! Tests of the calls for planned links, files, marks and entries, each once. What they give of other images are rows of
+//! `links_update_tests`.
 #![tactic(auto)]
 
 #[cfg(test)]
-mod plans;
-#[cfg(test)]
 mod searches;
-#[cfg(test)]
-mod surveys;
