@@ -1,63 +1,16 @@
 //! One row: an update of an image, a print of its cache, and a second update.
-use crate::lines::{block, divide};
-use crate::said::{is_number, is_same};
-use crate::table::{Row, count, text, value};
-use elf_samples::{SampleFault, library_file};
+use crate::held::held_of;
+use elf_samples::SampleFault;
 use ldconfig_cli::Status;
-use lib_types::{Abi, NoMemory, Text};
+use lib_types::NoMemory;
 use std::alloc::Global;
+use table_rows::{Row, Said, Trial, count, text, value};
 use tree_face::{Disk, MemSink, Slot};
-use update_fixture::{
-    Devices, Pairs, has, image, library, make_devices, nameless, replacing_calls, run_words,
-};
+use update_fixture::{Devices, has, image, make_devices, replacing_calls, run_words};
 
-// The content of a file that is held, if this is the kind of one. The lines are those below it.
-fn content_of(
-    alloc: Global,
-    kind: &[u8],
-    soname: &[u8],
-    lines: &[&[u8]],
-) -> Result<Option<Vec<u8>>, SampleFault> {
-    if kind == b"library".as_slice() {
-        Ok(Some(library(alloc, soname)?))
-    } else if kind == b"library-i386".as_slice() {
-        Ok(Some(library_file(alloc, Abi::I386, soname)?))
-    } else if kind == b"nameless".as_slice() {
-        Ok(Some(nameless(alloc)?))
-    } else if kind == b"file".as_slice() {
-        Ok(Some(block(alloc, lines)?))
-    } else {
-        Ok(None)
-    }
-}
-
-// Puts what a line says is held. The lines are those below it.
-fn put_held(
-    alloc: Global,
-    held: &mut Pairs,
-    line: &[u8],
-    lines: &[&[u8]],
-) -> Result<(), SampleFault> {
-    let (kind, rest) = divide(b' ', line);
-    let (key, soname) = divide(b' ', rest);
-    if let Some(content) = content_of(alloc, kind, soname, lines)? {
-        put_pair(held, Text::copy_of(alloc, key)?, Text::from_vec(content))?;
-    }
-    Ok(())
-}
-
-fn put_pair(held: &mut Pairs, key: Text, content: Text) -> Result<(), NoMemory> {
-    held.push((key, content))?;
-    Ok(())
-}
-
-fn held_of(alloc: Global, row: Row<'_>) -> Result<Pairs, SampleFault> {
-    let mut held = Vec::new(alloc);
-    for (index, line) in row.iter().enumerate() {
-        put_held(alloc, &mut held, line, &row[index + 1..])?;
-    }
-    Ok(held)
-}
+/// A row has a manifest, what the store holds, how many files are begun, the report, that of the second update if it is another
+/// one, the new manifest if one is written, what is printed of the cache, and its length if that is compared.
+pub(crate) struct Update;
 
 fn devices_of(alloc: Global, row: Row<'_>) -> Result<Devices, SampleFault> {
     let manifest = text(alloc, row, b"manifest")?;
@@ -65,7 +18,7 @@ fn devices_of(alloc: Global, row: Row<'_>) -> Result<Devices, SampleFault> {
     Ok(make_devices(alloc, image(&manifest), held)?)
 }
 
-// The first of these words for which the row has a line.
+// The first word if the row has a line of it, else the second.
 fn either<'a>(row: Row<'_>, first: &'a [u8], second: &'a [u8]) -> &'a [u8] {
     if value(row, first).is_some() {
         first
@@ -80,10 +33,10 @@ fn is_text(
     row: Row<'_>,
     name: &[u8],
     got: &[u8],
-    said: &mut Vec<u8>,
+    said: &mut Said,
 ) -> Result<bool, NoMemory> {
     let want = text(alloc, row, name)?;
-    is_same(said, name, &want, got)
+    said.is_same(name, &want, got)
 }
 
 // What a slot holds, nothing if it can't be read.
@@ -101,7 +54,7 @@ fn is_run(
     word: &str,
     name: &[u8],
     devices: &mut Devices,
-    said: &mut Vec<u8>,
+    said: &mut Said,
 ) -> Result<bool, NoMemory> {
     devices.out = MemSink::new(alloc, Vec::new(alloc));
     let status = run_words(alloc, &[word], devices)?;
@@ -113,7 +66,7 @@ fn is_left(
     alloc: Global,
     row: Row<'_>,
     devices: &mut Devices,
-    said: &mut Vec<u8>,
+    said: &mut Said,
 ) -> Result<bool, NoMemory> {
     let manifest = content(alloc, devices, Slot::Manifest);
     is_text(
@@ -125,7 +78,7 @@ fn is_left(
     )
 }
 
-// The slots that the first update writes, and those that both write, of which the second writes the Cache slot alone.
+// The slots that the first update writes, or those that both write, of which the second writes the Cache slot alone.
 fn slots(row: Row<'_>, both: bool) -> &'static [Slot] {
     match (value(row, b"new").is_some(), both) {
         (false, false) => &[Slot::Cache],
@@ -135,17 +88,17 @@ fn slots(row: Row<'_>, both: bool) -> &'static [Slot] {
     }
 }
 
-// Whether these slots were replaced, one after another.
+// Whether these slots were replaced, one after another, and nothing else was written.
 fn has_replaced(
     alloc: Global,
     devices: &Devices,
     slots: &[Slot],
-    said: &mut Vec<u8>,
+    said: &mut Said,
 ) -> Result<bool, NoMemory> {
     let calls = replacing_calls(alloc, slots)?;
     let is_so = devices.disk.calls() == calls.as_slice();
     if !is_so {
-        is_same(said, b"writing calls", b"those of the slots", b"others")?;
+        said.say(b"other writing calls", b"")?;
     }
     Ok(is_so)
 }
@@ -154,31 +107,20 @@ fn is_first(
     alloc: Global,
     row: Row<'_>,
     devices: &mut Devices,
-    said: &mut Vec<u8>,
+    said: &mut Said,
 ) -> Result<bool, NoMemory> {
     Ok(
         is_run(alloc, row, "update", b"report", devices, said)?
-            && is_number(
-                alloc,
-                said,
-                b"begun",
-                count(row, b"begun"),
-                devices.store.begun(),
-            )?
+            && said.is_number(alloc, b"begun", count(row, b"begun"), devices.store.begun())?
             && has_replaced(alloc, devices, slots(row, false), said)?
             && is_left(alloc, row, devices, said)?,
     )
 }
 
 // Whether a cache has the length that the row says, if it says one.
-fn is_long(
-    alloc: Global,
-    row: Row<'_>,
-    cache: &[u8],
-    said: &mut Vec<u8>,
-) -> Result<bool, NoMemory> {
+fn is_long(alloc: Global, row: Row<'_>, cache: &[u8], said: &mut Said) -> Result<bool, NoMemory> {
     let size = count(row, b"size");
-    Ok(size == 0 || is_number(alloc, said, b"size", size, cache.len() as u64)?)
+    Ok(size == 0 || said.is_number(alloc, b"size", size, cache.len() as u64)?)
 }
 
 // Whether the second update reports the same but for the links, and leaves this cache and no Aux slot.
@@ -187,7 +129,7 @@ fn is_second(
     row: Row<'_>,
     devices: &mut Devices,
     cache: &[u8],
-    said: &mut Vec<u8>,
+    said: &mut Said,
 ) -> Result<bool, NoMemory> {
     Ok(
         is_run(
@@ -199,25 +141,55 @@ fn is_second(
             said,
         )? && has_replaced(alloc, devices, slots(row, true), said)?
             && is_left(alloc, row, devices, said)?
-            && is_same(said, b"cache", cache, &content(alloc, devices, Slot::Cache))?
+            && said.is_same(b"cache", cache, &content(alloc, devices, Slot::Cache))?
             && has(alloc, &mut devices.disk, Slot::Aux, None),
     )
 }
 
-/// Updates a row's image, prints its cache, and updates it once more. Whether all that is left and written is as the row says.
-pub(crate) fn is_as_written(
+// Updates an image, prints its cache, and updates it once more.
+fn is_as_written(
     alloc: Global,
     row: Row<'_>,
-    said: &mut Vec<u8>,
-) -> Result<bool, SampleFault> {
-    let mut devices = devices_of(alloc, row)?;
-    if !is_first(alloc, row, &mut devices, said)? {
+    devices: &mut Devices,
+    said: &mut Said,
+) -> Result<bool, NoMemory> {
+    if !is_first(alloc, row, devices, said)? {
         return Ok(false);
     }
-    let cache = content(alloc, &mut devices, Slot::Cache);
+    let cache = content(alloc, devices, Slot::Cache);
     Ok(
         is_long(alloc, row, &cache, said)?
-            && is_run(alloc, row, "print", b"print", &mut devices, said)?
-            && is_second(alloc, row, &mut devices, &cache, said)?,
+            && is_run(alloc, row, "print", b"print", devices, said)?
+            && is_second(alloc, row, devices, &cache, said)?,
     )
+}
+
+const WORDS: &[&[u8]] = &[
+    b"manifest",
+    b"library",
+    b"library-i386",
+    b"nameless",
+    b"file",
+    b"begun",
+    b"report",
+    b"again",
+    b"new",
+    b"print",
+    b"size",
+];
+
+impl Trial for Update {
+    fn words() -> &'static [&'static [u8]] {
+        WORDS
+    }
+
+    fn is_right(alloc: Global, row: Row<'_>, said: &mut Said) -> Result<bool, NoMemory> {
+        match devices_of(alloc, row) {
+            Ok(mut devices) => is_as_written(alloc, row, &mut devices, said),
+            Err(_) => {
+                said.say(b"no such library", b"")?;
+                Ok(false)
+            }
+        }
+    }
 }
