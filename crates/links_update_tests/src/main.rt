@@ -1,5 +1,6 @@
-//! Tests of the command `update` over images with links, conf files and subdirectories for processors: what it reports, the
-//! manifest that it leaves, its cache as it is printed, and that a second update plans nothing more. Each table is a file of data/.
+//! Tests of the command `update` over images: with links, conf files, subdirectories for processors, damaged libraries, and what is
+//! refused: what it reports, the manifest that it leaves, its cache, its cache as it is printed, and that a second update plans nothing
+//! more. Each table is a file of data/.
 #![tactic(auto)]
 
 mod held;
@@ -11,7 +12,8 @@ use std::process::ExitCode;
 use table_rows::{status, try_tables};
 
 const TABLES: &[&str] = &[
-    "plans", "surveys", "winners", "entries", "folders", "reports", "limits",
+    "images", "damages", "refusals", "plans", "surveys", "winners", "entries", "folders",
+    "reports", "limits",
 ];
 
 fn main(rt: HostRuntime) -> io::Result<ExitCode> {

@@ -1,21 +1,28 @@
 //! One row: an update of an image, a print of its cache, and a second update.
 use crate::held::held_of;
 use elf_samples::SampleFault;
-use ldconfig_cli::Status;
 use lib_types::NoMemory;
 use std::alloc::Global;
 use table_rows::{Row, Said, Trial, count, text, value};
 use tree_face::{Disk, MemSink, Slot};
-use update_fixture::{Devices, has, image, make_devices, replacing_calls, run_words};
+use update_fixture::{Devices, OLD, Setting, has, image, make_devices, replacing_calls, run_words};
 
-/// A row has a manifest, what the store holds, how many files are begun, the report, that of the second update if it is another
-/// one, the new manifest if one is written, what is printed of the cache, and its length if that is compared.
+/// A row has a manifest, if there is one, what the store holds, the status if the update is refused, how many files are begun, and
+/// the report or the fault line. If the update is done: the report of a second one if it is another, the new manifest if one is
+/// written, what is printed of the cache, and its length or its bytes if they are compared.
 pub(crate) struct Update;
 
 fn devices_of(alloc: Global, row: Row<'_>) -> Result<Devices, SampleFault> {
     let manifest = text(alloc, row, b"manifest")?;
     let held = held_of(alloc, row)?;
-    Ok(make_devices(alloc, image(&manifest), held)?)
+    let setting = match value(row, b"manifest") {
+        Some(_) => image(&manifest),
+        None => Setting {
+            manifest: None,
+            ..image(b"")
+        },
+    };
+    Ok(make_devices(alloc, setting, held)?)
 }
 
 // The first word if the row has a line of it, else the second.
@@ -47,18 +54,22 @@ fn content(alloc: Global, devices: &mut Devices, slot: Slot) -> Vec<u8> {
     }
 }
 
-// Runs a command with a new sink. Whether it is done, and writes the row's text of this name.
+// Runs a command with a new sink. Whether it has this exit status, and writes the row's text of this name.
 fn is_run(
     alloc: Global,
     row: Row<'_>,
     word: &str,
+    status: u64,
     name: &[u8],
     devices: &mut Devices,
     said: &mut Said,
 ) -> Result<bool, NoMemory> {
     devices.out = MemSink::new(alloc, Vec::new(alloc));
-    let status = run_words(alloc, &[word], devices)?;
-    Ok(is_text(alloc, row, name, devices.out.written(), said)? && status == Status::Done)
+    let got = run_words(alloc, &[word], devices)?;
+    Ok(
+        is_text(alloc, row, name, devices.out.written(), said)?
+            && said.is_number(alloc, b"status", status, u64::from(got.code()))?,
+    )
 }
 
 // Whether the manifest is the one that an update leaves.
@@ -78,8 +89,12 @@ fn is_left(
     )
 }
 
-// The slots that the first update writes, or those that both write, of which the second writes the Cache slot alone.
+// The slots that the first update writes, or those that both write, of which the second writes the Cache slot alone. One that is
+// refused writes none.
 fn slots(row: Row<'_>, both: bool) -> &'static [Slot] {
+    if value(row, b"status").is_some() {
+        return &[];
+    }
     match (value(row, b"new").is_some(), both) {
         (false, false) => &[Slot::Cache],
         (false, true) => &[Slot::Cache, Slot::Cache],
@@ -109,18 +124,22 @@ fn is_first(
     devices: &mut Devices,
     said: &mut Said,
 ) -> Result<bool, NoMemory> {
+    let status = count(row, b"status");
     Ok(
-        is_run(alloc, row, "update", b"report", devices, said)?
+        is_run(alloc, row, "update", status, b"report", devices, said)?
             && said.is_number(alloc, b"begun", count(row, b"begun"), devices.store.begun())?
             && has_replaced(alloc, devices, slots(row, false), said)?
             && is_left(alloc, row, devices, said)?,
     )
 }
 
-// Whether a cache has the length that the row says, if it says one.
-fn is_long(alloc: Global, row: Row<'_>, cache: &[u8], said: &mut Said) -> Result<bool, NoMemory> {
+// Whether a cache has the length and the bytes that the row says, if it says them.
+fn is_cache(alloc: Global, row: Row<'_>, cache: &[u8], said: &mut Said) -> Result<bool, NoMemory> {
     let size = count(row, b"size");
-    Ok(size == 0 || said.is_number(alloc, b"size", size, cache.len() as u64)?)
+    Ok(
+        (size == 0 || said.is_number(alloc, b"size", size, cache.len() as u64)?)
+            && (value(row, b"cache").is_none() || is_text(alloc, row, b"cache", cache, said)?),
+    )
 }
 
 // Whether the second update reports the same but for the links, and leaves this cache and no Aux slot.
@@ -136,6 +155,7 @@ fn is_second(
             alloc,
             row,
             "update",
+            0,
             either(row, b"again", b"report"),
             devices,
             said,
@@ -146,7 +166,8 @@ fn is_second(
     )
 }
 
-// Updates an image, prints its cache, and updates it once more.
+// Updates an image, prints its cache, and updates it once more. A `run` that always returns NoMemory meets its contract; this
+// refuses it.
 fn is_as_written(
     alloc: Global,
     row: Row<'_>,
@@ -157,9 +178,12 @@ fn is_as_written(
         return Ok(false);
     }
     let cache = content(alloc, devices, Slot::Cache);
+    if value(row, b"status").is_some() {
+        return said.is_same(b"cache", OLD, &cache);
+    }
     Ok(
-        is_long(alloc, row, &cache, said)?
-            && is_run(alloc, row, "print", b"print", devices, said)?
+        is_cache(alloc, row, &cache, said)?
+            && is_run(alloc, row, "print", 0, b"print", devices, said)?
             && is_second(alloc, row, devices, &cache, said)?,
     )
 }
@@ -168,6 +192,10 @@ const WORDS: &[&[u8]] = &[
     b"manifest",
     b"library",
     b"library-i386",
+    b"library-x32",
+    b"library-aarch64",
+    b"changed",
+    b"cut",
     b"nameless",
     b"file",
     b"begun",
@@ -176,6 +204,8 @@ const WORDS: &[&[u8]] = &[
     b"new",
     b"print",
     b"size",
+    b"cache",
+    b"status",
 ];
 
 impl Trial for Update {
