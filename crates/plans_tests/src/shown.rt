@@ -12,7 +12,7 @@ fn put_place(out: &mut Vec<u8>, place: u32) -> Result<(), NoMemory> {
 }
 
 /// The texts.
-pub fn texts_in(alloc: Global, texts: &Texts) -> Result<Vec<u8>, NoMemory> {
+pub(crate) fn texts_in(alloc: Global, texts: &Texts) -> Result<Vec<u8>, NoMemory> {
     let mut out = Vec::new(alloc);
     for text in texts.as_slice() {
         out.extend_from_slice(text.as_bytes())?;
@@ -22,7 +22,7 @@ pub fn texts_in(alloc: Global, texts: &Texts) -> Result<Vec<u8>, NoMemory> {
 }
 
 /// The links with their places and texts.
-pub fn plan_in(alloc: Global, plan: &Plan) -> Result<Vec<u8>, NoMemory> {
+pub(crate) fn plan_in(alloc: Global, plan: &Plan) -> Result<Vec<u8>, NoMemory> {
     let mut out = Vec::new(alloc);
     for planned in plan.as_slice() {
         put_place(&mut out, planned.place)?;
@@ -35,7 +35,7 @@ pub fn plan_in(alloc: Global, plan: &Plan) -> Result<Vec<u8>, NoMemory> {
 }
 
 /// The marks with their places.
-pub fn marks_in(alloc: Global, marks: &Marks) -> Result<Vec<u8>, NoMemory> {
+pub(crate) fn marks_in(alloc: Global, marks: &Marks) -> Result<Vec<u8>, NoMemory> {
     let mut out = Vec::new(alloc);
     for mark in marks.as_slice() {
         put_place(&mut out, mark.place)?;
@@ -46,7 +46,7 @@ pub fn marks_in(alloc: Global, marks: &Marks) -> Result<Vec<u8>, NoMemory> {
 }
 
 /// The entries with their places and paths.
-pub fn entries_in(alloc: Global, entries: &Entries) -> Result<Vec<u8>, NoMemory> {
+pub(crate) fn entries_in(alloc: Global, entries: &Entries) -> Result<Vec<u8>, NoMemory> {
     let mut out = Vec::new(alloc);
     for entry in entries.as_slice() {
         put_place(&mut out, entry.place)?;

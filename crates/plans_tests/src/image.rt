@@ -1,23 +1,23 @@
 //! Images of links, libraries and other files.
 use crate::fault::ImageFault;
 use hwcap_dirs::{Dirs, order};
-use lib_types::{Abi, Analysis, Defect, NoMemory, Text, Texts, is_name};
+use lib_types::{Abi, Analysis, NoMemory, Text, Texts, is_name};
 use soname_links::Table;
 use std::alloc::Global;
 use tree_face::{Node, Tree, TreeFault, is_node, is_path};
 
 /// A link's path and its text.
-pub type Link<'a> = (&'a str, &'a str);
+pub(crate) type Link<'a> = (&'a str, &'a str);
 
 /// A library's path and DT_SONAME; an empty one is none.
-pub type Library<'a> = (&'a str, &'a str);
+pub(crate) type Library<'a> = (&'a str, &'a str);
 
 /// A tree with the analyses of its files, and its directories.
 #[derive(Drop)]
-pub struct Image {
-    pub tree: Tree,
-    pub table: Table,
-    pub dirs: Dirs,
+pub(crate) struct Image {
+    pub(crate) tree: Tree,
+    pub(crate) table: Table,
+    pub(crate) dirs: Dirs,
 }
 
 // Puts a node that a tree can have.
@@ -39,7 +39,7 @@ fn put_file(alloc: Global, tree: &mut Tree, path: &str) -> Result<(), ImageFault
 }
 
 /// Puts a link.
-pub fn put_link(
+pub(crate) fn put_link(
     alloc: Global,
     tree: &mut Tree,
     path: &str,
@@ -58,7 +58,7 @@ fn soname_of(alloc: Global, soname: &str) -> Result<Option<Text>, NoMemory> {
 }
 
 /// Puts a library with its analysis.
-pub fn put_library(
+pub(crate) fn put_library(
     alloc: Global,
     image: &mut Image,
     path: &str,
@@ -74,14 +74,6 @@ pub fn put_library(
         return Err(ImageFault::NoImage);
     }
     image.table.insert(path, Analysis::Lib { abi, soname })?;
-    Ok(())
-}
-
-/// Puts a file that is no library.
-pub fn put_text(alloc: Global, image: &mut Image, path: &str) -> Result<(), ImageFault> {
-    put_file(alloc, &mut image.tree, path)?;
-    let path = Text::copy_of(alloc, path.as_bytes())?;
-    image.table.insert(path, Analysis::Not(Defect::NotElf))?;
     Ok(())
 }
 
@@ -104,7 +96,7 @@ fn tree_of(alloc: Global, links: &[Link<'_>]) -> Result<Tree, ImageFault> {
 }
 
 /// An image of these links, and of these libraries for x86-64, with these directories in its conf file.
-pub fn image_of(
+pub(crate) fn image_of(
     alloc: Global,
     links: &[Link<'_>],
     libraries: &[Library<'_>],

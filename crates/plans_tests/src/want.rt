@@ -7,11 +7,11 @@ use std::alloc::Global;
 
 /// What an image has to give: planned links, blocked sonames, dangling links and entries of the tree with the links.
 #[derive(Clone, Copy)]
-pub struct Want<'a> {
-    pub plan: &'a str,
-    pub blocked: &'a str,
-    pub dangling: &'a str,
-    pub entries: &'a str,
+pub(crate) struct Want<'a> {
+    pub(crate) plan: &'a str,
+    pub(crate) blocked: &'a str,
+    pub(crate) dangling: &'a str,
+    pub(crate) entries: &'a str,
 }
 
 // Whether the planned links and the blocked sonames are those; puts the links.
@@ -29,7 +29,7 @@ fn plans(alloc: Global, image: &mut Image, want: &Want<'_>) -> Result<bool, Imag
 }
 
 /// Whether an image gives what it has to give, once its planned links are put.
-pub fn gives(alloc: Global, image: &mut Image, want: &Want<'_>) -> Result<bool, ImageFault> {
+pub(crate) fn gives(alloc: Global, image: &mut Image, want: &Want<'_>) -> Result<bool, ImageFault> {
     let planned = plans(alloc, image, want)?;
     let links = dangling(alloc, &image.tree, &image.dirs)?;
     let found = entries(alloc, &image.tree, &image.dirs, &image.table)?;

@@ -1,13 +1,13 @@
 //! Why there is no image, or nothing is known of it.
 ghost use Rattle.std.specs.Prelude.{◌≡◌};
-ghost use Rattle.links_fixture.specs.declared.fault.ImageFault.TheVariants as faults;
+ghost use Rattle.plans_tests.specs.declared.fault.ImageFault.TheVariants as faults;
 
 use lib_types::NoMemory;
 use soname_links::{ApplyFault, EntryFault};
 
 /// Why there is no image, or nothing is known of it.
 #[derive(Clone, Copy, Debug, PartialEq, Eq)]
-pub enum ImageFault {
+pub(crate) enum ImageFault {
     /// A path, a node or a soname that no image has, or two nodes that clash.
     NoImage,
     /// Why its links aren't put.
