@@ -1,4 +1,4 @@
-//! Tests of caches, a crate of their own since a crate with tests is proved twice.
+//! Tests of caches that are read, a crate of their own since a crate with tests is proved twice.
 #![tactic(auto)]
 
 #[cfg(test)]
@@ -11,5 +11,3 @@ mod defects;
 mod plain;
 #[cfg(test)]
 mod prints;
-#[cfg(test)]
-mod writes;

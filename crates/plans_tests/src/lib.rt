@@ -1,9 +1,14 @@
-//! The tests of planned links and of reported sonames.
+//! Tests of the calls for planned links, files, marks and entries, each once, over images in memory. What they give of other images
+//! are rows of `links_update_tests`.
 #![tactic(auto)]
 
 #[cfg(test)]
-mod plans;
+mod fault;
+#[cfg(test)]
+mod image;
 #[cfg(test)]
 mod searches;
 #[cfg(test)]
-mod surveys;
+mod shown;
+#[cfg(test)]
+mod want;

@@ -1,9 +1,9 @@
 // The files that are looked at, mixed sonames and dangling links, from the rules of ldconfig(8).
+use crate::fault::ImageFault;
+use crate::image::{Image, Library, Link, image_of, put_library, put_link};
+use crate::shown::{marks_in, plan_in, texts_in};
+use crate::want::{Want, gives};
 use lib_types::Abi;
-use links_fixture::{
-    Image, ImageFault, Library, Link, Want, gives, image_of, marks_in, plan_in, put_library,
-    put_link, texts_in,
-};
 use soname_links::{dangling, mixed, plan, reached, wanted};
 use std::alloc::Global;
 use std::test::Fail;

@@ -1,12 +1,8 @@
-//! Tests of the command `update` over devices in memory: images and caches that are written down byte by byte, and each
-//! refusal.
+//! Tests of the command `update` that are no rows: devices that never fail, arguments that are no command's, and the exit statuses.
+//! Images and what is refused of them are rows of `links_update_tests`.
 #![tactic(auto)]
 
 #[cfg(test)]
-mod damages;
-#[cfg(test)]
-mod images;
-#[cfg(test)]
 mod refusals;
 #[cfg(test)]
-mod updates;
+mod sure;

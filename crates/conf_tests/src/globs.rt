@@ -1,0 +1,30 @@
+//! Which names a component of a pattern matches.
+use conf_patterns::glob_match;
+use lib_types::NoMemory;
+use std::alloc::Global;
+use table_rows::{Row, Said, Trial, divide};
+
+/// Each line has a pattern and a name behind `match`, or behind `other` if they don't match.
+pub(crate) struct Globs;
+
+fn is_as_said(line: &[u8]) -> bool {
+    let (word, rest) = divide(b' ', line);
+    let (pattern, name) = divide(b' ', rest);
+    line.is_empty() || glob_match(pattern, name) == (word == b"match".as_slice())
+}
+
+impl Trial for Globs {
+    fn words() -> &'static [&'static [u8]] {
+        &[b"match", b"other"]
+    }
+
+    fn is_right(_alloc: Global, row: Row<'_>, said: &mut Said) -> Result<bool, NoMemory> {
+        for line in row {
+            if !is_as_said(line) {
+                said.say(b"not so: ", line)?;
+                return Ok(false);
+            }
+        }
+        Ok(true)
+    }
+}

@@ -1,0 +1,129 @@
+//! The lines of a table, and what they say.
+use lib_types::NoMemory;
+use memchr::memchr;
+use std::alloc::Global;
+
+/// The lines of a row behind its head, without their ends.
+pub type Row<'a> = &'a [&'a [u8]];
+
+/// What stands before the first such byte, and behind it; all, and nothing, if there is none.
+pub fn divide(byte: u8, text: &[u8]) -> (&[u8], &[u8]) {
+    match memchr(byte, text) {
+        Some(at) => (&text[..at], &text[at + 1..]),
+        None => (text, b""),
+    }
+}
+
+/// The number of these digits.
+pub fn number(digits: &[u8]) -> u64 {
+    let mut number = 0u64;
+    for digit in digits {
+        let value = u64::from(digit.saturating_sub(b'0'));
+        number = number.saturating_mul(10).saturating_add(value);
+    }
+    number
+}
+
+fn push_repeated(out: &mut Vec<u8>, times: u64, piece: &[u8]) -> Result<(), NoMemory> {
+    for _ in 0..times {
+        out.extend_from_slice(piece)?;
+    }
+    Ok(())
+}
+
+// What stands for the text in these brackets.
+fn push_inside(out: &mut Vec<u8>, inside: &[u8]) -> Result<(), NoMemory> {
+    let (front, piece) = divide(b' ', inside);
+    if front.starts_with(b"#") {
+        out.push((number(&front[1..]) % 256) as u8)?;
+        return Ok(());
+    }
+    push_repeated(out, number(front), piece)
+}
+
+/// The text with so many times TEXT in place of each `<COUNT TEXT>`, and with one byte in place of its number in `<#NUMBER>`.
+pub(crate) fn expanded(alloc: Global, text: &[u8]) -> Result<Vec<u8>, NoMemory> {
+    let mut out = Vec::new(alloc);
+    let mut rest = text;
+    for _ in 0..text.len() {
+        if rest.is_empty() {
+            break;
+        }
+        let (front, behind) = divide(b'<', rest);
+        let (inside, behind) = divide(b'>', behind);
+        out.extend_from_slice(front)?;
+        push_inside(&mut out, inside)?;
+        rest = behind;
+    }
+    Ok(out)
+}
+
+/// The lines, without their ends.
+pub(crate) fn lines_of(alloc: Global, text: &[u8]) -> Result<Vec<&[u8]>, NoMemory> {
+    let mut lines = Vec::new(alloc);
+    let mut rest = text;
+    for _ in 0..text.len() {
+        if rest.is_empty() {
+            break;
+        }
+        let (line, behind) = divide(b'\n', rest);
+        lines.push(line)?;
+        rest = behind;
+    }
+    Ok(lines)
+}
+
+/// What a line of a text says: `| ` stands before a line, `|` for an empty one, and `+ ` before one without its end.
+pub(crate) fn of_text(line: &[u8]) -> Option<&[u8]> {
+    if line.starts_with(b"| ") || line.starts_with(b"+ ") {
+        Some(&line[2..])
+    } else if line == b"|".as_slice() {
+        Some(b"")
+    } else {
+        None
+    }
+}
+
+/// The text of the first lines, up to one that is of no text.
+pub fn text_below(alloc: Global, lines: Row<'_>) -> Result<Vec<u8>, NoMemory> {
+    let mut text = Vec::new(alloc);
+    for line in lines {
+        let Some(piece) = of_text(line) else {
+            break;
+        };
+        text.extend_from_slice(piece)?;
+        if line.starts_with(b"|") {
+            text.push(b'\n')?;
+        }
+    }
+    Ok(text)
+}
+
+/// The text below the first line that is this word, empty if there is none.
+pub fn text(alloc: Global, row: Row<'_>, word: &[u8]) -> Result<Vec<u8>, NoMemory> {
+    for (index, line) in row.iter().enumerate() {
+        if *line == word {
+            return text_below(alloc, &row[index + 1..]);
+        }
+    }
+    Ok(Vec::new(alloc))
+}
+
+/// What stands behind the first word of a line, of the first line that begins with this one.
+pub fn value<'a>(row: Row<'a>, word: &[u8]) -> Option<&'a [u8]> {
+    for line in row {
+        let (first, rest) = divide(b' ', line);
+        if first == word {
+            return Some(rest);
+        }
+    }
+    None
+}
+
+/// The number behind that word, 0 if there is none.
+pub fn count(row: Row<'_>, word: &[u8]) -> u64 {
+    match value(row, word) {
+        Some(digits) => number(digits),
+        None => 0,
+    }
+}

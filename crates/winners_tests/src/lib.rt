@@ -1,5 +1,0 @@
-//! The tests of winners and of the order of entries.
-#![tactic(auto)]
-
-#[cfg(test)]
-mod winners;
