@@ -7,7 +7,7 @@ use table_rows::{Row, Said, Trial, count, divide, number, text, text_below, valu
 use tree_face::{MemStore, Tree};
 
 /// A row has a manifest, the files that the store holds, and the directories, the reports and the number of conf files that are
-/// read. `fault` in their place is for a store whose call of the number behind `fail` fails, or that lacks a file.
+/// read, and perhaps the keys that are begun. `fault` in their place is for a store whose call of the number behind `fail` fails, or that lacks a file.
 pub(crate) struct Readings;
 
 fn push(held: &mut Vec<(Text, Text)>, key: Text, content: Text) -> Result<(), NoMemory> {
@@ -42,7 +42,7 @@ fn failing(alloc: Global, row: Row<'_>) -> Result<Vec<u64>, NoMemory> {
 
 fn store_of(alloc: Global, row: Row<'_>) -> Result<MemStore, NoMemory> {
     let held = held_of(alloc, row)?;
-    Ok(MemStore::new(held, failing(alloc, row)?))
+    Ok(MemStore::new(alloc, held, failing(alloc, row)?))
 }
 
 /// These texts, each as a line.
@@ -119,10 +119,24 @@ fn is_right_in(
 ) -> Result<bool, NoMemory> {
     let mut store = store_of(alloc, row)?;
     let fails = value(row, b"fault").is_some();
-    match read_conf(alloc, tree, &mut store) {
-        Ok(conf) => Ok(!fails && is_read(alloc, row, &conf, store.begun(), said)?),
-        Err(_) => Ok(fails),
+    let is_right = match read_conf(alloc, tree, &mut store) {
+        Ok(conf) => !fails && is_read(alloc, row, &conf, store.begun(), said)?,
+        Err(_) => fails,
+    };
+    Ok(is_right && has_begun(alloc, row, &store, said)?)
+}
+
+// Whether the keys that were begun are the row's, if it has some.
+fn has_begun(
+    alloc: Global,
+    row: Row<'_>,
+    store: &MemStore,
+    said: &mut Said,
+) -> Result<bool, NoMemory> {
+    if value(row, b"keys").is_none() {
+        return Ok(true);
     }
+    is_text(alloc, row, b"keys", &lines_in(alloc, store.keys())?, said)
 }
 
 /// The tree of a row's manifest.
@@ -148,6 +162,7 @@ impl Trial for Readings {
             b"file",
             b"dirs",
             b"reports",
+            b"keys",
             b"files",
             b"fail",
             b"fault",

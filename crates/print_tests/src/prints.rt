@@ -34,7 +34,7 @@ fn devices_of(alloc: Global, setting: &Setting<'_>) -> Result<Devices, Fail> {
     let cache = copy(alloc, setting.cache)?;
     let fail = number(alloc, setting.disk_fails)?;
     Ok(Devices {
-        store: MemStore::new(Vec::new(alloc), Vec::new(alloc)),
+        store: MemStore::new(alloc, Vec::new(alloc), Vec::new(alloc)),
         disk: MemDisk::new(alloc, None, cache, None, fail),
         input: MemSource::new(Vec::new(alloc), Vec::new(alloc)),
         out: MemSink::new(alloc, number(alloc, setting.out_fails)?),

@@ -19,7 +19,7 @@ fn held(alloc: Global) -> Result<Vec<(Text, Text)>, Fail> {
 }
 
 fn store_of(alloc: Global, fail: &[u64]) -> Result<MemStore, Fail> {
-    Ok(MemStore::new(held(alloc)?, Vec::from_slice(alloc, fail)?))
+    Ok(MemStore::new(alloc, held(alloc)?, Vec::from_slice(alloc, fail)?))
 }
 
 // What is read of the key `a` at an offset into three bytes, and how many they are.

@@ -123,7 +123,7 @@ pub fn copy(alloc: Global, bytes: Option<&[u8]>) -> Result<Option<Vec<u8>>, NoMe
 /// Devices in memory of this setting.
 pub fn make_devices(alloc: Global, setting: Setting<'_>, held: Pairs) -> Result<Devices, NoMemory> {
     Ok(Devices {
-        store: MemStore::new(held, number(alloc, setting.store_fails)?),
+        store: MemStore::new(alloc, held, number(alloc, setting.store_fails)?),
         disk: MemDisk::new(
             alloc,
             copy(alloc, setting.manifest)?,
