@@ -63,16 +63,20 @@ class Folder:
             self.root = os.open(name, os.O_RDONLY | os.O_DIRECTORY)
         self.path, self.opened = b"/", os.dup(self.root)
 
+    def shown(self, path):
+        """A path of the folder with the folder's own, for a person."""
+        return shown(self.name) if path in (b"", b"/") else shown(self.name).rstrip("/") + shown(path)
+
     @contextlib.contextmanager
     def told(self, path):
         """Names the path in a failing call."""
         try:
             yield
         except OSError as error:
-            raise Trouble(f"{shown(self.name).rstrip('/')}{shown(path)}: {error.strerror}") from error
+            raise Trouble(f"{self.shown(path)}: {error.strerror}") from error
 
     def refuse(self, path, mode, wanted):
-        raise Trouble(f"{shown(self.name).rstrip('/')}{shown(path)}: {kind_of(mode)} in place of {wanted}")
+        raise Trouble(f"{self.shown(path)}: {kind_of(mode)} in place of {wanted}")
 
     def mode_at(self, path):
         """The type and mode of what stands at a path, 0 if nothing does."""
