@@ -29,6 +29,8 @@ CACHE = b"/etc/ld.so.cache"
 KINDS = {stat.S_IFLNK: "a symbolic link", stat.S_IFDIR: "a directory", stat.S_IFREG: "a regular file", stat.S_IFIFO: "a pipe"}
 # So much of a file is copied at once.
 PIECE = 2**20
+# No cache is longer.
+LONGEST_CACHE = 2**30
 
 # The report of the program, the planned links (their targets by their paths in the tree), the cache, the image with its searched places.
 Plan = namedtuple("Plan", "report links cache image places")
@@ -59,7 +61,7 @@ class Folder:
 
     def __init__(self, name):
         self.name = name
-        with self.told(b""):
+        with self.naming(b""):
             self.root = os.open(name, os.O_RDONLY | os.O_DIRECTORY)
         self.path, self.opened = b"/", os.dup(self.root)
 
@@ -68,7 +70,7 @@ class Folder:
         return shown(self.name) if path in (b"", b"/") else shown(self.name).rstrip("/") + shown(path)
 
     @contextlib.contextmanager
-    def told(self, path):
+    def naming(self, path):
         """Names the path in a failing call."""
         try:
             yield
@@ -125,13 +127,15 @@ class Folder:
             self.refuse(path, mode, "a link")
         return os.readlink(last(path), dir_fd=self.directory(parent(path))) if mode else None
 
-    def cache(self):
-        """The bytes of the cache, or None if there is none, or a link in its place, which a new one replaces."""
-        mode = self.mode_at(parent(CACHE)) and self.mode_at(CACHE)
-        if not mode or stat.S_ISLNK(mode):
-            return None
-        with self.file(CACHE) as file:
-            return file.read()
+    def cache(self, most=LONGEST_CACHE):
+        """The bytes of the cache, and no more than so many and one; None if there is none, or a link in its place, which a new one
+        replaces."""
+        with self.naming(CACHE):
+            mode = self.mode_at(parent(CACHE)) and self.mode_at(CACHE)
+            if not mode or stat.S_ISLNK(mode):
+                return None
+            with self.file(CACHE) as file:
+                return file.read(most + 1)
 
 
 # ---- manifests
@@ -179,7 +183,10 @@ class Manifest:
         """The links which a canonical text has, and this one hasn't: their targets by their paths."""
         if text == self.text:
             return {}
-        return {path: node.text for path, node in map(node_of, (line for line in text.split(b"\n") if line not in self.lines))}
+        added = dict(map(node_of, (line for line in text.split(b"\n") if line not in self.lines)))
+        if any(node.kind != "link" for node in added.values()):
+            raise Trouble("the program's manifest has other new lines than links; nothing was changed")
+        return {path: node.text for path, node in added.items()}
 
 
 # ---- the private folder
@@ -198,7 +205,7 @@ class Copies:
         # A key with `..` the program refuses, and says so.
         if b".." in names or (key, parts_of) in self.made:
             return place
-        with self.folder.told(path):
+        with self.folder.naming(path):
             source = self.folder.file(path)
         with source, private(self.work):
             place.parent.mkdir(parents=True, exist_ok=True)
