@@ -44,6 +44,12 @@ class Trouble(Exception):
         self.line, self.status = line, status
 
 
+def check_outputs():
+    """Ends the script if it can't say anything. So no file that it opens comes to be an output."""
+    if sys.stdin is None or sys.stdout is None or sys.stderr is None:
+        sys.exit(f"{sys.argv[0]}: standard input, output or error output: closed")
+
+
 def shown(path):
     """A path for a person: the escapes of a manifest leave no control byte that could reach a terminal."""
     return mtree_model.escape(os.fsencode(path)).decode()
