@@ -8,7 +8,6 @@ the searched directories. docs/DECISIONS.md says why.
 import contextlib
 import os
 import re
-import shutil
 import stat
 import struct
 import subprocess
