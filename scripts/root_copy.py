@@ -1,6 +1,6 @@
 """Copies the part of a root tree in which ldconfig looks for libraries: conf files, directories, libraries and links.
 
-`copy_root` copies what /etc/ld.so.conf, its includes and the four system folders lead to, with the links on the way. Of each of
+`copy_root` copies what /etc/ld.so.conf, its includes and the system folders lead to, with the links on the way. Of each of
 these directories the files with names like those of libraries, all links, and the directories below are taken (of these the names
 alone, but for glibc-hwcaps and the older subdirectories for processors). Files are hard links where that can be, so nothing may be
 written into them.
@@ -14,6 +14,8 @@ import stat
 import struct
 
 SYSTEM_DIRS = ["/lib", "/usr/lib", "/lib64", "/usr/lib64"]
+# Debian's ldconfig has these too.
+DEBIAN_DIRS = ["/lib/*-linux-gnu*", "/usr/lib/*-linux-gnu*"]
 MOST_LINKS = 40
 # Subdirectories for processors and platforms that ldconfig and the loader knew before glibc 2.37.
 OLDER_CAPS = {"tls", "haswell", "xeon_phi", "avx512_1", "x86_64", "i386", "i486", "i586", "i686", "sse2", "atomics", "aarch64"}
@@ -153,7 +155,7 @@ def copy_root(root, folder):
     """Copies what ldconfig looks at in a root tree into a folder."""
     copy = Copy(root, folder)
     copy.conf("/etc/ld.so.conf", set())
-    for text in SYSTEM_DIRS:
+    for text in SYSTEM_DIRS + [text for pattern in DEBIAN_DIRS for text in copy.results(pattern)]:
         copy.directory(text)
 
 
