@@ -1,8 +1,9 @@
 """Copies the part of a root tree in which ldconfig looks for libraries: conf files, directories, libraries and links.
 
-`copy_root` copies what /etc/ld.so.conf, its includes and the four system folders lead to, with the links on the way. Of each of
-these directories the files with library names, all links, and the directories below are taken (of these the names alone, but for
-glibc-hwcaps). Files are hard links where that can be, so nothing may be written into them.
+`copy_root` copies what /etc/ld.so.conf, its includes and the system folders lead to, with the links on the way. Of each of
+these directories the files with names like those of libraries, all links, and the directories below are taken (of these the names
+alone, but for glibc-hwcaps and the older subdirectories for processors). Files are hard links where that can be, so nothing may be
+written into them.
 """
 
 import fnmatch
@@ -13,13 +14,26 @@ import stat
 import struct
 
 SYSTEM_DIRS = ["/lib", "/usr/lib", "/lib64", "/usr/lib64"]
+# Debian's ldconfig has these too.
+DEBIAN_DIRS = ["/lib/*-linux-gnu*", "/usr/lib/*-linux-gnu*"]
 MOST_LINKS = 40
+# Subdirectories for processors and platforms that ldconfig and the loader knew before glibc 2.37.
+OLDER_CAPS = {"tls", "haswell", "xeon_phi", "avx512_1", "x86_64", "i386", "i486", "i586", "i686", "sse2", "atomics", "aarch64"}
+
+
+def is_unfinished(name):
+    """Whether a file of this name is one that dpkg, rpm or prelink have not put in place yet."""
+    return name.endswith((".dpkg-new", ".dpkg-tmp", ".#prelink#")) or ";" in name
+
+
+def is_like_library(name):
+    """Whether ldconfig takes a file of this name for a library's, if it doesn't ask whether it is unfinished."""
+    return name.startswith(("lib", "ld-")) and ".so" in name
 
 
 def is_library_name(name):
     """Whether ldconfig(8) takes a file of this name for a library's."""
-    unfinished = name.endswith((".dpkg-new", ".dpkg-tmp", ".#prelink#"))
-    return name.startswith(("lib", "ld-")) and ".so" in name and ";" not in name and not unfinished
+    return is_like_library(name) and not is_unfinished(name)
 
 
 def mode_at(root, place):
@@ -102,10 +116,12 @@ class Copy:
         for name in self.names(text):
             there = f"{place.rstrip('/')}/{name}"
             mode = mode_at(self.root, there)
-            if stat.S_ISDIR(mode) or stat.S_ISLNK(mode) or is_library_name(name):
+            if stat.S_ISDIR(mode) or stat.S_ISLNK(mode) or is_like_library(name):
                 self.take(there)
-            if stat.S_ISLNK(mode) and is_library_name(name):
+            if stat.S_ISLNK(mode) and is_like_library(name):
                 self.walk(there)
+            if stat.S_ISDIR(mode) and name in OLDER_CAPS:
+                self.directory(f"{text}/{name}")
         for name in self.names(f"{text}/glibc-hwcaps"):
             self.directory(f"{text}/glibc-hwcaps/{name}")
 
@@ -139,7 +155,7 @@ def copy_root(root, folder):
     """Copies what ldconfig looks at in a root tree into a folder."""
     copy = Copy(root, folder)
     copy.conf("/etc/ld.so.conf", set())
-    for text in SYSTEM_DIRS:
+    for text in SYSTEM_DIRS + [text for pattern in DEBIAN_DIRS for text in copy.results(pattern)]:
         copy.directory(text)
 
 
@@ -161,6 +177,6 @@ def library_in(path):
             return machine, ""
         place = dynamic[5] + dynamic[14]
         start = [place - address + at for kind, at, address, length in segments if kind == 1 and address <= place < address + length][0]
-        return machine, data[start : data.find(b"\0", start)].decode()
+        return machine, os.fsdecode(data[start : data.find(b"\0", start)])
     except (OSError, LookupError, ValueError, struct.error):
         return None
