@@ -1,6 +1,6 @@
 -- Where the slots of an image stand in its folder (the cache where ld.so(8) reads it, "FILES"; the auxiliary cache where
 -- ldconfig(8) keeps it), how much of them is read, and what mode and owner their files get.
-use Rattle.std.specs.Prelude.{◌≡◌, ⊤, ℕ, ◌^◌, ◌+◌, Bool, true, false, ◌&&◌, not, List, [], ◌∷◌, Option, Some, None, codes, min, bit_and, nat_lt, ◌==◌, if◌then◌else◌}
+use Rattle.std.specs.Prelude.{◌≡◌, ⊤, ℕ, ◌^◌, ◌+◌, List, [], Option, Some, None, codes, min, bit_and, nat_lt, ◌==◌, if◌then◌else◌}
 use Rattle.tree_face.specs.declared.disk.Slot.{Slot}
 use Rattle.tree_face.specs.declared.disk.Slot.TheVariants.{Manifest, Cache, Aux}
 use Rattle.tree_real.specs.declared.standing.Stamp.{Stamp}
@@ -32,9 +32,9 @@ largest_slot = 2 ^ 31
 abbrev pub length_to_read : Slot → ℕ → Option ℕ
 length_to_read slot size = if nat_lt largest_slot size then None else Some (most_of slot size)
   where
-  most_of : Slot → ℕ → ℕ
-  most_of Manifest n = min n (2 ^ 26 + 1)
-  most_of _ n = n
+    most_of : Slot → ℕ → ℕ
+    most_of Manifest n = min n (2 ^ 26 + 1)
+    most_of _ n = n
 
 -- the mode of the slot's new file: everybody reads the cache; another file keeps the mode of the one that stood there
 abbrev pub mode_of : Slot → Option ℕ → ℕ

@@ -6,5 +6,5 @@ abbrev pub entries_in : List ℕ → Option ℕ
 entries_in bytes =
     if nat_le 24 (length bytes) && starts_with nat_eq bytes (codes "glibc-ld.so.cache1.1") then Some (nlibs bytes) else None
   where
-  nlibs : List ℕ → ℕ
-  nlibs b = get_or b 20 0 + 2 ^ 8 * get_or b 21 0 + 2 ^ 16 * get_or b 22 0 + 2 ^ 24 * get_or b 23 0
+    nlibs : List ℕ → ℕ
+    nlibs b = get_or b 20 0 + 2 ^ 8 * get_or b 21 0 + 2 ^ 16 * get_or b 22 0 + 2 ^ 24 * get_or b 23 0

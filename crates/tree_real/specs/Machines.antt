@@ -11,8 +11,8 @@ is_built number = (number == 3 || number == 62) || number == 183
 abbrev pub machine_in : List ℕ → Option ℕ
 machine_in head = if nat_le 20 (length head) && starts_with nat_eq head (127 ∷ codes "ELF") then Some (number head) else None
   where
-  number : List ℕ → ℕ
-  number h = if get_or h 5 0 == 2 then 2 ^ 8 * get_or h 18 0 + get_or h 19 0 else get_or h 18 0 + 2 ^ 8 * get_or h 19 0
+    number : List ℕ → ℕ
+    number h = if get_or h 5 0 == 2 then 2 ^ 8 * get_or h 18 0 + get_or h 19 0 else get_or h 18 0 + 2 ^ 8 * get_or h 19 0
 
 -- none for what is no ELF file and for a machine that caches are built for
 abbrev pub foreign_machine : List ℕ → Option ℕ

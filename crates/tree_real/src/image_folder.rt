@@ -348,11 +348,7 @@ pub fn open_file<R: Runtime>(rt: &R, path: &str) -> io::Result<(R::File, Metadat
 }
 
 // Opens the folder of a path, if it may be read. The dot keeps the system from opening a pipe that stands there by now.
-fn open_folder<R: Runtime>(
-    rt: &R,
-    path: &str,
-    found: &Metadata,
-) -> io::Result<Option<R::File>> {
+fn open_folder<R: Runtime>(rt: &R, path: &str, found: &Metadata) -> io::Result<Option<R::File>> {
     let path = format!(in rt.alloc(); "{path}/.")?;
     match fs::open(rt, path.as_str()) {
         Ok(file) => {

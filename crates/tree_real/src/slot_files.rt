@@ -206,7 +206,9 @@ where
         let temporary = self.opened(tag, slot)?;
         let mode = temporary.mode;
         if mode_until_whole(mode) != mode {
-            temporary.file.set_permissions(Permissions::from_mode(mode))?;
+            temporary
+                .file
+                .set_permissions(Permissions::from_mode(mode))?;
         }
         temporary.file.sync_all()
     }
@@ -233,7 +235,10 @@ where
         if slot != Slot::Manifest {
             return Ok(true);
         }
-        let now = self.image.look(name_of(slot))?.map(|found| stamp_of(&found));
+        let now = self
+            .image
+            .look(name_of(slot))?
+            .map(|found| stamp_of(&found));
         if is_as_read(self.manifest, now) {
             return Ok(true);
         }
@@ -280,7 +285,11 @@ where
     // Removes the temporary file that is open.
     fn discard(&mut self) {
         if let Some(temporary) = &self.temporary {
-            if self.image.enter(folder_of(temporary.slot), Missing::IsFault).is_ok() {
+            if self
+                .image
+                .enter(folder_of(temporary.slot), Missing::IsFault)
+                .is_ok()
+            {
                 if let Ok(path) = self.image.path_beside(temporary.name.as_str()) {
                     let _ = self.image.rt.remove_file(path.as_str());
                 }

@@ -13,15 +13,17 @@ pub struct Identity {
     pub inode: u64,
 }
 
-/// Which file it is, and when its content or its name was changed last. Times are seconds since 1970 and nanoseconds.
+/// Which file it is, and when its content or its name was changed last. Times are the bits of signed numbers: seconds since 1970,
+/// and nanoseconds.
 #[derive(Clone, Copy, Debug, PartialEq, Eq)]
 pub struct Stamp {
-    pub file: Identity,
+    pub device: u64,
+    pub inode: u64,
     pub size: u64,
-    pub modified: i64,
-    pub modified_nanos: i64,
-    pub changed: i64,
-    pub changed_nanos: i64,
+    pub modified: u64,
+    pub modified_nanos: u64,
+    pub changed: u64,
+    pub changed_nanos: u64,
 }
 
 /// Whom a file belongs to.
@@ -40,12 +42,13 @@ pub fn identity_of(found: &Metadata) -> Identity {
 
 pub fn stamp_of(found: &Metadata) -> Stamp {
     Stamp {
-        file: identity_of(found),
+        device: found.dev(),
+        inode: found.ino(),
         size: found.len(),
-        modified: found.mtime(),
-        modified_nanos: found.mtime_nsec(),
-        changed: found.ctime(),
-        changed_nanos: found.ctime_nsec(),
+        modified: found.mtime().cast_unsigned(),
+        modified_nanos: found.mtime_nsec().cast_unsigned(),
+        changed: found.ctime().cast_unsigned(),
+        changed_nanos: found.ctime_nsec().cast_unsigned(),
     }
 }
 

@@ -14,6 +14,7 @@ use tree_face::{Sink, Source};
 
 // A stream that doesn't wait is asked again so often, with these pauses: about an hour.
 const MOST_TURNS: u64 = 360_000;
+
 const PAUSE_MILLIS: u64 = 10;
 
 /// What comes on standard input.
