@@ -1,5 +1,5 @@
 //! What a person can do after a command that ended so. The devices have said themselves what failed in them.
-ghost use Rattle.std.specs.Prelude.{◌≡◌, ◌↔◌, ◌<◌, ◌||◌, None, Some, IsTrue, IsSome};
+ghost use Rattle.std.specs.Prelude.{◌≡◌, ◌↔◌, ◌||◌, ℕ, None, Some, IsTrue, IsSome};
 ghost use Rattle.ldconfig.specs.Notes.{IsFewer};
 
 use ldconfig_cli::Status;
@@ -83,7 +83,10 @@ fn cause_of_form(line: &[u8]) -> &'static str {
         Some(end) => line.get(..end).unwrap_or(line),
         None => line,
     };
-    if path.split(|b| *b == b'/').any(|part| part == b"..".as_slice()) {
+    if path
+        .split(|b| *b == b'/')
+        .any(|part| part == b"..".as_slice())
+    {
         return "a path has .., or .. closes no directory";
     }
     if path.starts_with(b"/") {

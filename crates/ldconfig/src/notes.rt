@@ -14,10 +14,14 @@ pub fn note_update<R: Runtime>(rt: &R, store: &FolderStore<R>, written: Written)
         eprintln!(rt; "ldconfig: etc/ld.so.cache: no libraries: {why}")?;
     }
     if let Some((old, new)) = fewer(written.entries_before, written.entries) {
-        eprintln!(rt; "ldconfig: etc/ld.so.cache: {new} libraries, and the cache before had {old}")?;
+        eprintln!(rt;
+            "ldconfig: etc/ld.so.cache: {new} libraries, and the cache before had {old}"
+        )?;
     }
     if !store.has_read_conf() {
-        eprintln!(rt; "ldconfig: etc/ld.so.conf: none was read, so only /lib, /usr/lib, /lib64 and /usr/lib64 are searched")?;
+        eprintln!(rt;
+            "ldconfig: etc/ld.so.conf: none was read, so only /lib, /usr/lib, /lib64 and /usr/lib64 are searched"
+        )?;
     }
     note_machines(rt, store.machines())
 }
@@ -43,20 +47,28 @@ fn note_machines<R: Runtime>(rt: &R, machines: &Machines<R>) -> io::Result<()> {
     let number = first.number;
     let name = machine_name(number).unwrap_or("an unknown machine");
     let files = machines.files;
-    eprintln!(rt; "ldconfig: {path}: for {name} (machine {number}), for which no cache is made; files of such machines: {files}")
+    eprintln!(rt;
+        "ldconfig: {path}: for {name} (machine {number}), for which no cache is made; files of such machines: {files}"
+    )
 }
 
 /// Says by how much something is too large or too long.
 pub fn note_size<R: Runtime>(rt: &R, status: Status, length: Option<u64>) -> io::Result<()> {
     match status {
         Status::TooMany { count } => {
-            eprintln!(rt; "ldconfig: etc/ld.so.cache: the image has {count} libraries, and a cache at most 131072")
+            eprintln!(rt;
+                "ldconfig: etc/ld.so.cache: the image has {count} libraries, and a cache at most 131072"
+            )
         }
         Status::TooLarge { nodes, bytes: 0 } => {
-            eprintln!(rt; "ldconfig: image.mtree: with the links of its libraries it would have {nodes} nodes, and it may have 1048576")
+            eprintln!(rt;
+                "ldconfig: image.mtree: with the links of its libraries it would have {nodes} nodes, and it may have 1048576"
+            )
         }
         Status::TooLarge { bytes, .. } => {
-            eprintln!(rt; "ldconfig: image.mtree: with the links of its libraries it would have {bytes} bytes, and it may have 67108864")
+            eprintln!(rt;
+                "ldconfig: image.mtree: with the links of its libraries it would have {bytes} bytes, and it may have 67108864"
+            )
         }
         Status::BadManifest(ManifestFault::TooLong { .. }) => {
             let length = length.unwrap_or(0);
@@ -87,7 +99,9 @@ where
     };
     let shown = escaped(rt, &line)?;
     let dots = if line.len() > SHOWN { ".." } else { "" };
-    eprintln!(rt; "ldconfig: image.mtree: line {number}: {cause}: {shown}{dots}\nldconfig: docs/FORMATS.md says what a line may be")
+    eprintln!(rt;
+        "ldconfig: image.mtree: line {number}: {cause}: {shown}{dots}\nldconfig: docs/FORMATS.md says what a line may be"
+    )
 }
 
 fn cause_of_tree(fault: ManifestFault) -> &'static str {
