@@ -95,13 +95,23 @@ where
         Err(error) if is_there(error.kind()) => return Ok(None),
         Err(error) => return Err(error),
     };
-    let kept = file.take_lock().is_kept();
-    let made = file.metadata()?;
-    if kept && is_at(rt, path, &made)? {
-        Ok(Some(file))
-    } else {
-        Ok(None)
+    if !file.take_lock().is_kept() {
+        return Ok(None);
     }
+    match stands_at(rt, path, &file) {
+        Ok(true) => Ok(Some(file)),
+        Ok(false) => Ok(None),
+        Err(error) => {
+            let _ = rt.remove_file(path);
+            Err(error)
+        }
+    }
+}
+
+// Whether an open file stands at the path.
+fn stands_at<R: Runtime>(rt: &R, path: &str, file: &R::File) -> io::Result<bool> {
+    let made = file.metadata()?;
+    is_at(rt, path, &made)
 }
 
 // Makes an empty file, which isn't there yet.
