@@ -6,5 +6,6 @@ mod KeysBegun
 mod KnownParts
 pub mod OneText
 mod OutcomeRows
+mod PreparedTexts
 mod SearchParts
 mod SettledImage

@@ -1,0 +1,8 @@
+use Rattle.cache_entries.proofs.Fit.{few_fit, no_nul_fits}
+use Rattle.ldconfig_core.proofs.prepare.make.Goals as goal
+
+pub write-requires-clause-few : goal.write-requires-clause-few
+write-requires-clause-few c = few_fit _ c.in_ok-entries.entries c.in_ok-entries.ensures.entries c.in_ok-entries.ensures.few
+
+pub write-requires-clause-no_nul : goal.write-requires-clause-no_nul
+write-requires-clause-no_nul c = no_nul_fits c.in_ok-entries.entries (c.in_ok-entries.ensures.fit c.requires.spelled)
