@@ -1,4 +1,5 @@
 mod Bests
+mod CallsOneByOne
 mod Endings
 mod FilesAgree
 mod FoundParts

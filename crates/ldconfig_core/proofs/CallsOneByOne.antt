@@ -1,0 +1,204 @@
+-- Writing calls that are made one after another, and slots that are replaced one after another.
+use Rattle.std.proofs.Common.{◌≡◌, ◌⊎◌, ◌≤◌, ◌+◌, ◌==◌, ◌&&◌, ◌||◌, ℕ, zero, suc, true, false, List, [], ◌∷◌, ◌++◌, length, take, Option, Some, None, refl, sym, ap, subst, ◌∙◌, append_assoc, inl, inr, arith, Result, Ok, Err}
+use Rattle.std.specs.Result.{IfErr, OnErr}
+use Rattle.std.proofs.lemmas.List.{take-append-le}
+use Rattle.std.proofs.lemmas.Option.{slice_get_within}
+use Rattle.std.proofs.Math.Seq.{take-append-add, take-append_seam}
+use Rattle.std.specs.List.{flat_map, list_any, slice_get}
+use Rattle.tree_face.proofs.Follows.{follow}
+use Rattle.tree_face.proofs.Known.{relates_by, relates_on}
+use Rattle.tree_face.specs.Calls.{replacement}
+use Rattle.tree_face.specs.declared.disk.Call.{Call}
+use Rattle.tree_face.specs.declared.disk.DoneCall.{DoneCall}
+use Rattle.tree_face.specs.declared.disk.Slot.{Slot}
+use Rattle.tree_face.specs.declared.disk.Slot.TheVariants.{Manifest, Cache, Aux}
+use Rattle.tree_face.specs.declared.disk.Tag.{Tag}
+use Rattle.tree_face.specs.Disk.{DiskContent, DiskState, KeepsOthersMade, slot_eq}
+use Rattle.tree_face.specs.Follows.{IsFollowedBy, IsFollowedByPart}
+use Rattle.tree_face.specs.Known.{Relates}
+use Rattle.ldconfig_core.specs.declared.fault.DiskFault.{DiskFault}
+use Rattle.ldconfig_core.specs.Replace.{FailsToReplace, KeepsRestMade, MayReplaceSlot, Replaces, ReplacesSlot, StopsAt, WritesAll, WritesPart, call_by, calls_of, update_slots}
+use Rattle.ldconfig_core.specs.Texts.{Write}
+
+-- ---- items of a list
+
+get_later : (xs ys : List DoneCall) (n k : ℕ) → k ≡ length xs + n → slice_get (xs ++ ys) k ≡ slice_get ys n
+get_later [] ys n k e = ap (slice_get ys) (omega (arith, e))
+get_later (x ∷ xs) ys n zero e = let z : ⊥ = omega (arith, e) in absurd z
+get_later (x ∷ xs) ys n (suc k) e = get_later xs ys n k (omega (arith, e))
+
+get_first : (xs ys : List DoneCall) (n : ℕ) (x : DoneCall) → slice_get xs n ≡ Some x → slice_get (xs ++ ys) n ≡ Some x
+get_first [] ys n x e = absurd (cc)
+get_first (y ∷ xs) ys zero x e = e
+get_first (y ∷ xs) ys (suc n) x e = get_first xs ys n x e
+
+abbrev no_calls : List DoneCall
+no_calls = []
+
+take_none : (k : ℕ) → take k no_calls ≡ no_calls
+take_none zero = refl
+take_none (suc k) = refl
+
+-- ---- the call at which a replacement stops
+
+module _ (front : List DoneCall) (call : DoneCall) where
+  pub grows : (a b c : Option (List DoneCall)) → Relates (IsFollowedBy front) a b → Relates (IsFollowedBy (call ∷ [])) b c → Relates (IsFollowedBy (front ++ call ∷ [])) a c
+  grows a b c first next = relates_on _ _ _ (follow front (call ∷ [])) a b c first next
+
+  stop : (rest a b c : List DoneCall) → IsFollowedBy front a b → IsFollowedByPart (call ∷ []) b c → StopsAt call (front ++ call ∷ rest) a c
+  stop rest a b c first (n, last) = record { number = length front; at = get_later front (call ∷ rest) 0 (length front) (omega arith); made = by n last }
+    where
+      by : (n : ℕ) → c ≡ b ++ take n (call ∷ []) → (c ≡ a ++ take (length front) (front ++ call ∷ rest)) ⊎ (c ≡ a ++ take (length front + 1) (front ++ call ∷ rest))
+      by zero e = inl (e ∙ no_more b ∙ first ∙ ap (λ l. a ++ l) (sym (take-append_seam front (call ∷ rest))))
+        where
+          no_more : (l : List DoneCall) → l ++ [] ≡ l
+          no_more [] = refl
+          no_more (x ∷ l) = ap (λ m. x ∷ m) (no_more l)
+      by (suc k) e = inr (
+        e ∙ ap (λ l. b ++ call ∷ l) (take_none k) ∙ ap (λ l. l ++ call ∷ []) first ∙ append_assoc a front (call ∷ [])
+        ∙ ap (λ l. a ++ l) (sym (take-append-add front (call ∷ rest) 1)))
+
+  -- the calls before it were made, and perhaps this one, which failed
+  pub stops : (rest : List DoneCall) (a b c : Option (List DoneCall)) → Relates (IsFollowedBy front) a b → Relates (IsFollowedByPart (call ∷ [])) b c
+      → Relates (StopsAt call (front ++ call ∷ rest)) a c
+  stops rest a b c first last = relates_on _ _ _ (stop rest) a b c first last
+
+-- ---- calls that are followed by others
+
+module _ (xs ys : List DoneCall) (call : DoneCall) where
+  stop_first : (a b : List DoneCall) → StopsAt call xs a b → StopsAt call (xs ++ ys) a b
+  stop_first a b s =
+      let within = slice_get_within xs s.number call s.at in
+      record {
+        number = s.number;
+        at = get_first xs ys s.number call s.at;
+        made = elim s.made [
+          | inl e ↦ inl (e ∙ ap (λ l. a ++ l) (sym (take-append-le s.number xs ys (omega (arith, within)))))
+          | inr e ↦ inr (e ∙ ap (λ l. a ++ l) (sym (take-append-le (s.number + 1) xs ys (omega (arith, within)))))
+        ];
+      }
+
+  stop_second : (a b c : List DoneCall) → IsFollowedBy xs a b → StopsAt call ys b c → StopsAt call (xs ++ ys) a c
+  stop_second a b c first s = record {
+    number = length xs + s.number;
+    at = get_later xs ys s.number (length xs + s.number) refl ∙ s.at;
+    made = elim s.made [
+      | inl e ↦ inl (e ∙ joined s.number)
+      | inr e ↦ inr (e ∙ joined (s.number + 1) ∙ ap (λ n. a ++ take n (xs ++ ys)) (omega arith))
+    ];
+  }
+    where
+      joined : (n : ℕ) → b ++ take n ys ≡ a ++ take (length xs + n) (xs ++ ys)
+      joined n = ap (λ l. l ++ take n ys) first ∙ append_assoc a xs (take n ys) ∙ ap (λ l. a ++ l) (sym (take-append-add xs ys n))
+
+-- ---- slots that are replaced one after another
+
+module _ (tag : ℕ) where
+  both : (xs ys : List Write) (a b c : DiskContent) → Replaces tag xs a b → Replaces tag ys b c → Replaces tag (xs ++ ys) a c
+  both [] ys a b c first next = subst (λ (d : DiskContent). Replaces tag ys d c) first next
+  both (x ∷ xs) ys a b c (d, (one, rest)) next = (d, (one, both xs ys d b c rest next))
+
+  fails_first : (slot : Slot) (xs ys : List Write) (a b : DiskContent) → FailsToReplace tag slot xs a b → FailsToReplace tag slot (xs ++ ys) a b
+  fails_first slot [] ys a b fails = absurd fails
+  fails_first slot (x ∷ xs) ys a b (inl here) = inl here
+  fails_first slot (x ∷ xs) ys a b (inr (d, (one, rest))) = inr (d, (one, fails_first slot xs ys d b rest))
+
+  fails_second : (slot : Slot) (xs ys : List Write) (a b c : DiskContent) → Replaces tag xs a b → FailsToReplace tag slot ys b c → FailsToReplace tag slot (xs ++ ys) a c
+  fails_second slot [] ys a b c first next = subst (λ (d : DiskContent). FailsToReplace tag slot ys d c) first next
+  fails_second slot (x ∷ xs) ys a b c (d, (one, rest)) next = inr (d, (one, fails_second slot xs ys d b c rest next))
+
+calls_append : (tag : Tag) (xs ys : List Write) → calls_of tag (xs ++ ys) ≡ calls_of tag xs ++ calls_of tag ys
+calls_append tag [] ys = refl
+calls_append tag (x ∷ xs) ys = ap (λ l. replacement tag x.0 ++ l) (calls_append tag xs ys) ∙ sym (append_assoc (replacement tag x.0) (calls_of tag xs) (calls_of tag ys))
+
+module _ (tag : Tag) (xs ys : List Write) (old middle new : DiskState) where
+  pub writes_on : WritesAll tag xs old middle → WritesAll tag ys middle new → WritesAll tag (xs ++ ys) old new
+  writes_on first next = record {
+    contents = relates_on _ _ _ (both tag.0 xs ys) _ _ _ first.contents next.contents;
+    calls = rw (calls_append tag xs ys) (relates_on _ _ _ (follow (calls_of tag xs) (calls_of tag ys)) _ _ _ first.calls next.calls);
+    reads = next.reads ∙ first.reads;
+    faults = next.faults ∙ first.faults;
+    read_faults = next.read_faults ∙ first.read_faults;
+  }
+
+  pub part_first : (fault : DiskFault) → WritesPart tag xs fault old middle → WritesPart tag (xs ++ ys) fault old middle
+  part_first fault part = record {
+    contents = relates_by _ _ (fails_first tag.0 fault.slot xs ys) _ _ part.contents;
+    calls = rw (calls_append tag xs ys) (relates_by _ _ (stop_first (calls_of tag xs) (calls_of tag ys) (call_by tag fault.slot fault.call)) _ _ part.calls);
+    reads = part.reads;
+    faults = part.faults;
+    read_faults = part.read_faults;
+  }
+
+  pub part_second : (fault : DiskFault) → WritesAll tag xs old middle → WritesPart tag ys fault middle new → WritesPart tag (xs ++ ys) fault old new
+  part_second fault first part = record {
+    contents = relates_on _ _ _ (fails_second tag.0 fault.slot xs ys) _ _ _ first.contents part.contents;
+    calls = rw (calls_append tag xs ys) (relates_on _ _ _ (stop_second (calls_of tag xs) (calls_of tag ys) (call_by tag fault.slot fault.call)) _ _ _ first.calls part.calls);
+    reads = part.reads ∙ first.reads;
+    faults = rw (← first.faults) part.faults;
+    read_faults = part.read_faults ∙ first.read_faults;
+  }
+
+-- ---- one slot
+
+alone : (tag : ℕ) (write : Write) (a b : DiskContent) → ReplacesSlot tag write a b → Replaces tag (write ∷ []) a b
+alone tag write a b replaced = (b, (replaced, refl))
+
+pub one_written : (tag : ℕ) (write : Write) (a b : Option DiskContent) → Relates (ReplacesSlot tag write) a b → Relates (Replaces tag (write ∷ [])) a b
+one_written tag write a b replaced = relates_by _ _ (alone tag write) a b replaced
+
+alone_fails : (tag : ℕ) (write : Write) (a b : DiskContent) → MayReplaceSlot tag write a b → FailsToReplace tag write.0 (write ∷ []) a b
+alone_fails tag write a b may = inl (refl, may)
+
+pub one_fails : (tag : ℕ) (write : Write) (a b : Option DiskContent) → Relates (MayReplaceSlot tag write) a b → Relates (FailsToReplace tag write.0 (write ∷ [])) a b
+one_fails tag write a b may = relates_by _ _ (alone_fails tag write) a b may
+
+-- ---- temporary files
+
+pub nothing_written : (tag : Tag) (s : DiskState) → WritesAll tag [] s s
+nothing_written tag s = record { contents = same s.contents; calls = none s.calls; reads = refl; faults = refl; read_faults = refl }
+  where
+    same : (c : Option DiskContent) → Relates (Replaces tag.0 []) c c
+    same None = tt
+    same (Some c) = refl
+    none : (c : Option (List DoneCall)) → Relates (IsFollowedBy (calls_of tag [])) c c
+    none None = tt
+    none (Some c) = sym (no_more c)
+      where
+        no_more : (l : List DoneCall) → l ++ [] ≡ l
+        no_more [] = refl
+        no_more (x ∷ l) = ap (λ m. x ∷ m) (no_more l)
+
+module _ (tag : ℕ) where
+  other_slot : (t : ℕ) (s slot : Slot) → list_any (slot_eq slot) update_slots ≡ true → (t == tag) && list_any (slot_eq s) update_slots ≡ false → (t == tag) && slot_eq s slot ≡ false
+  other_slot t s slot u h = elim (t == tag) as (λ b. b && list_any (slot_eq s) update_slots ≡ false → b && slot_eq s slot ≡ false) [ true ↦ λ e. by s slot u e | false ↦ λ e. refl ] h
+    where
+      by : (s slot : Slot) → list_any (slot_eq slot) update_slots ≡ true → list_any (slot_eq s) update_slots ≡ false → slot_eq s slot ≡ false
+      by Manifest slot u h = absurd (cc)
+      by Cache slot u h = absurd (cc)
+      by Aux Manifest u h = refl
+      by Aux Cache u h = refl
+      by Aux Aux u h = absurd (cc)
+
+  pub rest_made : (slot : Slot) → list_any (slot_eq slot) update_slots ≡ true → (old new : DiskState) → KeepsOthersMade tag slot old new → KeepsRestMade tag update_slots old new
+  rest_made slot u old new kept = λ t s h. kept t s (other_slot t s slot u h)
+
+pub rest_on : (tag : ℕ) (slots : List Slot) (a b c : DiskState) → KeepsRestMade tag slots a b → KeepsRestMade tag slots b c → KeepsRestMade tag slots a c
+rest_on tag slots a b c first next = λ t s h. next t s h ∙ first t s h
+
+pub rest_same : (tag : ℕ) (slots : List Slot) (a : DiskState) → KeepsRestMade tag slots a a
+rest_same tag slots a = λ t s h. refl
+
+-- ---- results
+
+pub on_err : {A E : Type 0} (P : Type 0) (r : Result A E) → P → OnErr r P
+on_err P (Ok x) p = tt
+on_err P (Err e) p = p
+
+pub on_err_by : {A E : Type 0} (P Q : Type 0) (r : Result A E) → (P → Q) → OnErr r P → OnErr r Q
+on_err_by P Q (Ok x) f p = tt
+on_err_by P Q (Err e) f p = f p
+
+pub if_err_by : {A E : Type 0} (P Q : E → Type 0) (r : Result A E) → ((e : E) → P e → Q e) → IfErr r P → IfErr r Q
+if_err_by P Q (Ok x) f p = tt
+if_err_by P Q (Err e) f p = f e p
