@@ -13,7 +13,7 @@ use Rattle.elf_headers.specs.declared.kinds.Head.{Head}
 use Rattle.elf_headers.specs.Faults.{head_ending}
 use Rattle.elf_headers.specs.Header.{first_defect, header_sentences, head}
 use Rattle.elf_headers.specs.Layout.{is_wide, word_size}
-use Rattle.elf_headers.specs.Reading.{known_content, OfContent, OfKnown, TakesAtMost, ReadsFile, OnlyReads}
+use Rattle.elf_headers.specs.Reading.{known_content, OfContent, OfKnown, ReadsFile, OnlyReads}
 use Rattle.elf_headers.proofs.Endings.{begun_and_read}
 use Rattle.elf_headers.proofs.Heads.{gives}
 use Rattle.elf_dynamic.specs.declared.fault.ObjectFault.{ObjectFault}

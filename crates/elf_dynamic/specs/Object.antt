@@ -1,11 +1,10 @@
 -- What a file says of itself to the loader, or the first of its defects (gABI; what glibc's ldconfig and loader accept).
-use Rattle.std.specs.Prelude.{ℕ, ◌+◌, ◌*◌, Bool, true, false, ◌==◌, ◌&&◌, ◌||◌, not, bit_and, List, [], ◌∷◌, ◌++◌, map, filter, length, find, Option, Some, None, is_some, is_none, option_map, option_and_then, Result, Ok, Err}
+use Rattle.std.specs.Prelude.{ℕ, Bool, true, false, ◌==◌, ◌&&◌, ◌||◌, not, bit_and, List, [], ◌∷◌, ◌++◌, map, filter, find, Option, Some, None, is_some, is_none, option_map, option_and_then, Result, Ok, Err}
 use Rattle.std.specs.List.{list_any}
 use Rattle.std.specs.Option.{option_map_or}
 use Rattle.lib_types.specs.Name.{is_name}
 use Rattle.lib_types.specs.declared.analysis.Defect.{Defect}
 use Rattle.lib_types.specs.declared.analysis.Defect.TheVariants.{BadMachine, DynOutside, NoStrtab, OutsideLoad, BadString, BadSoname}
-use Rattle.elf_headers.specs.declared.kinds.Segment.{Segment}
 use Rattle.elf_headers.specs.Layout.{is_wide, word_size, etype, machine, segments}
 use Rattle.elf_headers.specs.Header.{Sentence, first_defect, unless_defect, header_sentences, abi}
 use Rattle.elf_dynamic.specs.declared.kinds.DynamicEntry.{DynamicEntry}
