@@ -16,10 +16,7 @@ const FILES: &[Content<'_>] = &[
 ];
 
 // The keys that are begun if the store holds these files of the image, and how the reading ends.
-fn keys_of(
-    alloc: Global,
-    held: &[Content<'_>],
-) -> Result<(MemStore, Option<ConfFault>), Fail> {
+fn keys_of(alloc: Global, held: &[Content<'_>]) -> Result<(MemStore, Option<ConfFault>), Fail> {
     let tree = tree_of(alloc, &[], &[], FILES)?;
     let mut store = MemStore::new(alloc, pairs_of(alloc, held)?, Vec::new(alloc));
     let fault = read_conf(alloc, &tree, &mut store).err();

@@ -214,11 +214,7 @@ const INCLUDING: &[Content<'_>] = &[(CONF, b"include x\n"), ("/etc/x", b"/x\n")]
 
 // Whether the reading fails, if the store holds these files and its calls of these numbers fail.
 fn fails(alloc: Global, tree: &Tree, held: &[Content<'_>], fail: &[u64]) -> Result<bool, Fail> {
-    let mut store = MemStore::new(
-        alloc,
-        pairs_of(alloc, held)?,
-        Vec::from_slice(alloc, fail)?,
-    );
+    let mut store = MemStore::new(alloc, pairs_of(alloc, held)?, Vec::from_slice(alloc, fail)?);
     let failed = read_conf(alloc, tree, &mut store);
     Ok(matches!(&failed, Err(ConfFault::StoreFault)))
 }
