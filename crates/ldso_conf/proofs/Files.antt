@@ -1,11 +1,11 @@
 -- One file that is begun and read whole.
-use Rattle.std.proofs.Common.{◌≡◌, ◌≤◌, ◌⊎◌, ◌∙◌, ℕ, min, true, false, cond, nat_le, List, [], ◌∷◌, ◌++◌, length, Option, Some, None, Ok, Err, refl, sym, ap, inl, inr, arith}
+use Rattle.std.proofs.Common.{◌≡◌, ◌≤◌, ◌∙◌, ℕ, List, [], ◌∷◌, length, Option, Some, None, Ok, Err, inl, arith}
 use Rattle.std.proofs.lemmas.Bool.{le-leb}
 use Rattle.std.specs.Prelude.{IfSome, option_map}
-use Rattle.lib_types.specs.Counts.{raised, HasRisen}
+use Rattle.lib_types.specs.Counts.{raised}
 use Rattle.lib_types.specs.declared.fault.Failed.{Failed}
 use Rattle.tree_face.specs.Known.{IfKnown}
-use Rattle.tree_face.specs.Store.{Contents, StoreState, Begins, HasBegun, Lacks, Reads}
+use Rattle.tree_face.specs.Store.{Contents, StoreState, Begins, HasBegun, Reads}
 use Rattle.tree_face.specs.StoreUse.{Complete, StoreFailed, GaveUp}
 use Rattle.tree_face.proofs.Follows.{part_whole}
 use Rattle.tree_face.proofs.Known.{relates_by}
@@ -94,6 +94,12 @@ module _ (key : List ℕ) where
   -- out of memory behind a file that was read
   pub gave_up : (known : Option Contents) (a b : StoreState) → ReadsFile key known Complete a b → ReadsFile key known GaveUp a b
   gave_up known a b r = record {
-    held = r.held; begins = relates_by _ _ (λ x y. part_whole (key ∷ []) x y) _ _ r.begins; begun = r.begun; begun_before = r.begun_before;
-    taken = r.taken; taken_before = r.taken_before; faults = r.faults; cause = r.cause;
+    held = r.held;
+    begins = relates_by _ _ (λ x y. part_whole (key ∷ []) x y) _ _ r.begins;
+    begun = r.begun;
+    begun_before = r.begun_before;
+    taken = r.taken;
+    taken_before = r.taken_before;
+    faults = r.faults;
+    cause = r.cause;
   }

@@ -1,11 +1,11 @@
 -- Items that are taken one after another, and up to the first file that isn't held.
-use Rattle.std.proofs.Common.{◌≡◌, ◌+◌, ℕ, Bool, true, false, ◌||◌, cond, List, [], ◌∷◌, ◌++◌, length, refl, sym, ap, ◌∙◌, append_assoc, arith}
-use Rattle.std.proofs.lemmas.List.{append-nil, length-append}
+use Rattle.std.proofs.Common.{◌≡◌, ◌+◌, ℕ, Bool, false, ◌||◌, cond, List, [], ◌∷◌, ◌++◌, length, refl, sym, ap, ◌∙◌, append_assoc, arith}
+use Rattle.std.proofs.lemmas.List.{length-append}
 use Rattle.std.proofs.lemmas.List.Concat.{flat_map-append}
 use Rattle.std.proofs.lemmas.List.Folds.{list_any-append}
 use Rattle.std.specs.List.{flat_map, list_any}
 use Rattle.lib_types.proofs.SortedPairs.{by_test}
-use Rattle.ldso_conf.specs.Reading.{Item, bytes_taken, dir_in, is_missing, key_begun, place_in, report_in, until_missing}
+use Rattle.ldso_conf.specs.Reading.{Item, dir_in, is_missing, key_begun, place_in, report_in, until_missing}
 use Rattle.ldso_conf.specs.Visits.{Progress, HasTaken, with_items}
 
 flat_more : {A B : Type 0} (f : A → List B) (r : List B) (xs ys : List A) → (r ++ flat_map f xs) ++ flat_map f ys ≡ r ++ flat_map f (xs ++ ys)

@@ -1,17 +1,17 @@
 -- The files of items that are taken one after another.
-use Rattle.std.proofs.Common.{◌≡◌, ◌≤◌, ◌+◌, ◌∙◌, ℕ, Bool, true, false, ◌||◌, cond, List, [], ◌∷◌, ◌++◌, length, nat_le, Option, Some, None, append_assoc, refl, sym, ap, subst, inl, inr, arith}
+use Rattle.std.proofs.Common.{◌≡◌, ◌+◌, ◌∙◌, ℕ, Bool, true, false, ◌||◌, cond, List, [], ◌∷◌, ◌++◌, length, nat_le, Option, Some, None, append_assoc, refl, sym, ap, subst, inl, inr, arith}
 use Rattle.std.proofs.Math.Nat.{add-zero}
 use Rattle.std.proofs.lemmas.List.{append-nil}
 use Rattle.std.proofs.lemmas.List.Concat.{flat_map-append}
 use Rattle.std.proofs.lemmas.List.Folds.{list_any-append}
 use Rattle.std.proofs.lemmas.List.Sums.{sum_by-append, sum_by-cons}
-use Rattle.std.specs.Prelude.{IfSome, IsSomeAnd, option_map, sum_by}
+use Rattle.std.specs.Prelude.{IfSome, sum_by}
 use Rattle.std.specs.List.{flat_map, list_any}
 use Rattle.lib_types.proofs.SortedPairs.{by_test}
 use Rattle.tree_face.specs.Follows.{IsFollowedBy, IsFollowedByPart}
 use Rattle.tree_face.specs.Known.{IfKnown, Relates}
-use Rattle.tree_face.specs.Store.{Contents, StoreState, Lacks}
-use Rattle.tree_face.specs.StoreUse.{Ending, Complete, StoreFailed, GaveUp, BeginsKeys, HasCause, ReadsFiles}
+use Rattle.tree_face.specs.Store.{Contents, StoreState}
+use Rattle.tree_face.specs.StoreUse.{Ending, Complete, StoreFailed, GaveUp, HasCause, ReadsFiles}
 use Rattle.tree_face.proofs.StoreUse.{IsPartial, reads_on, reads_part}
 use Rattle.conf_patterns.specs.Patterns.{Found}
 use Rattle.ldso_conf.specs.Endings.{ending_by}
@@ -38,8 +38,14 @@ followed_same (Some keys) = sym (append-nil keys)
 
 pub reads_no_key : (l : Type 0) (n : ℕ) (s : StoreState) → ReadsFiles l (Some []) (Some n) Complete s s
 reads_no_key l n s = record {
-  held = refl; begins = followed_same s.keys; begun = omega arith; begun_before = omega arith; taken = omega arith; taken_before = omega arith;
-  faults = omega arith; cause = refl;
+  held = refl;
+  begins = followed_same s.keys;
+  begun = omega arith;
+  begun_before = omega arith;
+  taken = omega arith;
+  taken_before = omega arith;
+  faults = omega arith;
+  cause = refl;
 }
 
 key_of_named : (dir : List ℕ) → key_begun (named dir) ≡ []
@@ -54,16 +60,27 @@ reads_nothing s = reads_no_key ⊥ 0 s
 -- a call that reads all it is to read has no cause to say
 pub reads_all : (l1 l2 : Type 0) (keys : Option (List (List ℕ))) (most : Option ℕ) (a b : StoreState) → ReadsFiles l1 keys most Complete a b → ReadsFiles l2 keys most Complete a b
 reads_all l1 l2 keys most a b r = record {
-  held = r.held; begins = r.begins; begun = r.begun; begun_before = r.begun_before; taken = r.taken; taken_before = r.taken_before;
-  faults = r.faults; cause = r.cause;
+  held = r.held;
+  begins = r.begins;
+  begun = r.begun;
+  begun_before = r.begun_before;
+  taken = r.taken;
+  taken_before = r.taken_before;
+  faults = r.faults;
+  cause = r.cause;
 }
 
 -- of files that aren't known
 pub reads_unknown : (l1 l2 : Type 0) (keys : Option (List (List ℕ))) (most : Option ℕ) (e : Ending) (a b c : StoreState) → (l1 → l2) → ReadsFiles ⊥ None None Complete a b →
     ReadsFiles l1 keys most e b c → ReadsFiles l2 None None e a c
 reads_unknown l1 l2 keys most e a b c f first next = record {
-  held = next.held ∙ first.held; begins = tt; begun = tt; begun_before = omega (arith, first.begun_before, next.begun_before);
-  taken = tt; taken_before = omega (arith, first.taken_before, next.taken_before); faults = omega (arith, first.faults, next.faults);
+  held = next.held ∙ first.held;
+  begins = tt;
+  begun = tt;
+  begun_before = omega (arith, first.begun_before, next.begun_before);
+  taken = tt;
+  taken_before = omega (arith, first.taken_before, next.taken_before);
+  faults = omega (arith, first.faults, next.faults);
   cause = at e first.cause next.cause;
 } where
   at : (e : Ending) → b.faults ≡ a.faults → HasCause l1 e b.faults c.faults → HasCause l2 e a.faults c.faults
@@ -83,13 +100,26 @@ part_none keys (Some old) = (0, sym (append-nil old))
 -- a call that gives up before it begins a file
 pub reads_none : (l : Type 0) (keys : Option (List (List ℕ))) (most : Option ℕ) (s : StoreState) → ReadsFiles l keys most GaveUp s s
 reads_none l keys most s = record {
-  held = refl; begins = if_all keys (λ k. part_none k s.keys); begun = if_all keys (λ k. omega arith); begun_before = omega arith;
-  taken = if_all most (λ n. omega arith); taken_before = omega arith; faults = omega arith; cause = refl;
+  held = refl;
+  begins = if_all keys (λ k. part_none k s.keys);
+  begun = if_all keys (λ k. omega arith);
+  begun_before = omega arith;
+  taken = if_all most (λ n. omega arith);
+  taken_before = omega arith;
+  faults = omega arith;
+  cause = refl;
 }
 
 pub none_unknown : (s : StoreState) → ReadsFiles ⊥ None None Complete s s
 none_unknown s = record {
-  held = refl; begins = tt; begun = tt; begun_before = omega arith; taken = tt; taken_before = omega arith; faults = omega arith; cause = refl;
+  held = refl;
+  begins = tt;
+  begun = tt;
+  begun_before = omega arith;
+  taken = tt;
+  taken_before = omega arith;
+  faults = omega arith;
+  cause = refl;
 }
 
 -- ---- the items of a file
@@ -114,16 +144,25 @@ module _ (start now : Progress) (a b c : StoreState) where
   done_stops : (whole part rest : List Item) (e : Ending) → IsDone whole (part ++ rest) start now a b → IsPartial e →
       ReadsFiles (lacks_in part) (Some (keys_in part)) (Some (bytes_in part)) e b c → ReadsFiles (lacks_in whole) (Some (keys_in whole)) (Some (bytes_in whole)) e a c
   done_stops whole part rest e d is_partial reads =
-      rw (d.parts, until_behind d.done (part ++ rest) d.taken.held, until_parts part rest, flat_map-append key_begun d.done (until_missing part ++ left),
-          flat_map-append key_begun (until_missing part) left, sum_by-append bytes_taken d.done (until_missing part ++ left), sum_by-append bytes_taken (until_missing part) left)
+      rw (
+        d.parts,
+        until_behind d.done (part ++ rest) d.taken.held,
+        until_parts part rest,
+        flat_map-append key_begun d.done (until_missing part ++ left),
+        flat_map-append key_begun (until_missing part) left,
+        sum_by-append bytes_taken d.done (until_missing part ++ left),
+        sum_by-append bytes_taken (until_missing part) left,
+      )
       (reads_on (flat_map key_begun d.done) (keys_in part ++ flat_map key_begun left) ⊥ (lacks_in part) lacking (sum_by bytes_taken d.done) (bytes_in part + sum_by bytes_taken left) e a b c
-          lacks d.reads
-          (reads_part (keys_in part) (flat_map key_begun left) (lacks_in part) (lacks_in part) (bytes_in part) (sum_by bytes_taken left) e b c (λ l. l) is_partial reads))
+      lacks d.reads
+      (reads_part (keys_in part) (flat_map key_begun left) (lacks_in part) (lacks_in part) (bytes_in part) (sum_by bytes_taken left) e b c (λ l. l) is_partial reads))
     where
       left : List Item
       left = behind (list_any is_missing part) (until_missing rest)
+
       lacking : Type 0
       lacking = list_any is_missing (d.done ++ (until_missing part ++ left)) ≡ true
+
       lacks : lacks_in part → lacking
       lacks l = rw (list_any-append is_missing d.done (until_missing part ++ left), d.taken.held, list_any-append is_missing (until_missing part) left) (or_true _ _ l)
 
@@ -154,10 +193,11 @@ module _ (f : Found) (key : List ℕ) where
     first_stops e lacks is_partial reads =
         rw (first, sum_by-cons bytes_taken (begun f key o) left, key_of_begun o, size_of_begun o)
         (reads_part (key ∷ []) (flat_map key_begun left) l lacking (size_read o) (sum_by bytes_taken left) e a b (λ h. rw (lacks h) refl) is_partial reads) where
-      left : List Item
-      left = cond (is_missing (begun f key o)) [] (until_missing rest)
-      lacking : Type 0
-      lacking = list_any is_missing (begun f key o ∷ left) ≡ true
+          left : List Item
+          left = cond (is_missing (begun f key o)) [] (until_missing rest)
+
+          lacking : Type 0
+          lacking = list_any is_missing (begun f key o ∷ left) ≡ true
 
     -- it is read, and its steps are left
     first_done : (r new : Progress) → HasTaken (begun f key o ∷ []) r new → ReadsFiles l (Some (key ∷ [])) (Some (size_read o)) Complete a b → IsDone whole rest r new a b

@@ -1,18 +1,17 @@
 -- The visit of a file, by what keeps it from being begun, or by its steps.
-use Rattle.std.proofs.Common.{◌≡◌, ◌≤◌, ◌<◌, ◌+◌, ◌-◌, ◌∙◌, ◌||◌, ℕ, zero, suc, Bool, true, false, cond, eqb, List, [], ◌∷◌, ◌++◌, length, Option, Some, None, Vec, Global, refl, sym, ap, arith, nat_le}
+use Rattle.std.proofs.Common.{◌≡◌, ◌<◌, ◌-◌, ◌∙◌, ℕ, zero, suc, Bool, true, false, cond, List, [], ◌∷◌, ◌++◌, length, Option, Some, None, Vec, Global, refl, sym, ap, arith, nat_le}
 use Rattle.std.proofs.Math.Nat.{add-zero}
 use Rattle.std.proofs.lemmas.List.{append-nil}
-use Rattle.std.specs.List.{flat_map, list_any}
+use Rattle.std.specs.List.{flat_map}
 use Rattle.lib_types.proofs.SortedPairs.{by_test}
 use Rattle.tree_face.specs.Known.{IfKnown}
-use Rattle.tree_face.specs.Store.{Contents, StoreState}
+use Rattle.tree_face.specs.Store.{Contents}
 use Rattle.tree_face.specs.Tree.{Nodes, node_at}
 use Rattle.tree_face.specs.declared.path.TheConstants.{PATH_MAX}
 use Rattle.conf_patterns.specs.Patterns.{Found}
-use Rattle.ldso_conf.specs.Reading.{Item, Reports, Reads, Passes, asked, begun, included, included_by, is_missing, key_in, named, place_in, reported, steps_in, was_read, with_steps}
+use Rattle.ldso_conf.specs.Reading.{Item, Reports, asked, begun, included, included_by, key_in, named, place_in, reported, steps_in, was_read, with_steps}
 use Rattle.ldso_conf.specs.Steps.{steps_of}
 use Rattle.ldso_conf.specs.Visits.{Progress, HasContent, HasEnded, HasLoaded, HasTaken, IsToBeginAs, with_begun, with_dir, with_items, with_read, with_report}
-use Rattle.ldso_conf.specs.declared.kinds.ConfKind.{ConfKind}
 use Rattle.ldso_conf.specs.declared.kinds.ConfKind.TheVariants.{NotFile, Repeated, TooDeep, TooLarge, LongPath}
 use Rattle.ldso_conf.specs.declared.kinds.ConfReport.{ConfReport}
 use Rattle.ldso_conf.specs.declared.reading.TheConstants.{CONF_MAX}
@@ -105,8 +104,8 @@ module _ (t : Nodes) (left : ℕ) (r : Progress) (f : Found) (new : Progress) (k
       included t held left r.read f ≡ (item ∷ []) ++ asked (included t held (left - 1)) now.read steps
   by_steps item now steps e loaded =
       by_file ∙ rw (← e, loaded.left, loaded.reader, b.same) (ap (λ places. item ∷ asked (included t held (left - 1)) (r.read ++ places) (steps_in t item)) places) where
-    places : place_in item ≡ flat_map place_in (item ∷ [])
-    places = sym (append-nil (place_in item))
+        places : place_in item ≡ flat_map place_in (item ∷ [])
+        places = sym (append-nil (place_in item))
 
 module _ (t : Nodes) (left : ℕ) (r : Progress) (f : Found) (new : Progress) (key : List ℕ) (b : IsToBeginAs t left r f new key) (now : Progress) (steps : List Step) where
   pub steps_left : (known : Option Contents) → IfKnown known (λ held. HasLoaded t (begun f key (held key)) new now steps) →

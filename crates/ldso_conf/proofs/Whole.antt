@@ -1,5 +1,5 @@
 -- The reading of the conf file, by where its path leads.
-use Rattle.std.proofs.Common.{◌≡◌, ◌+◌, ◌-◌, ◌∙◌, ℕ, true, List, [], length, Option, Some, None, refl, sym, ap, subst}
+use Rattle.std.proofs.Common.{◌≡◌, ◌+◌, ◌∙◌, ℕ, true, List, [], length, Option, Some, None, refl, sym, ap, subst}
 use Rattle.std.proofs.Math.Nat.{zero-add}
 use Rattle.std.specs.List.{flat_map}
 use Rattle.std.specs.Prelude.{IsSomeAnd, option_map}
@@ -7,7 +7,7 @@ use Rattle.tree_face.specs.Known.{IfKnown}
 use Rattle.tree_face.specs.Store.{Contents, StoreState}
 use Rattle.tree_face.specs.StoreUse.{Ending, Complete, GaveUp, ReadsFiles}
 use Rattle.tree_face.specs.Tree.{Nodes}
-use Rattle.conf_patterns.specs.Patterns.{Found, found_at, place_at}
+use Rattle.conf_patterns.specs.Patterns.{found_at, place_at}
 use Rattle.ldso_conf.specs.Reading.{Item, all_from, conf_bytes, conf_items, conf_keys, conf_lacks, conf_path, dir_in, included, key_begun, reading, report_in, IsConfOf, ReadsConf}
 use Rattle.ldso_conf.specs.Visits.{Progress, HasTaken, IsConfFrom, ReadsItems, nothing_read}
 use Rattle.ldso_conf.specs.declared.kinds.Conf.{Conf}

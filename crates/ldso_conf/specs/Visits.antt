@@ -2,15 +2,13 @@
 use Rattle.std.specs.Prelude.{◌≡◌, ◌<◌, ◌+◌, ℕ, true, false, List, [], ◌∷◌, ◌++◌, flat_map, sum_by, if◌then◌else◌, length, nat_le, Option, Some, None, IsSomeAnd, option_map, Vec}
 use Rattle.std.specs.List.{list_any}
 use Rattle.std.specs.declared.alloc.Global.{Global}
-use Rattle.tree_face.specs.Known.{IfKnown}
 use Rattle.tree_face.specs.Store.{Contents, Lacks, StoreState}
 use Rattle.tree_face.specs.StoreUse.{Ending, Complete, ReadsFiles}
 use Rattle.tree_face.specs.Tree.{Nodes, node_at}
 use Rattle.tree_face.specs.declared.path.TheConstants.{PATH_MAX}
 use Rattle.conf_patterns.specs.Patterns.{Found}
-use Rattle.ldso_conf.specs.Reading.{Item, asked, begun, bytes_taken, dir_in, included, is_missing, key_begun, key_in, place_in, report_in, reported, steps_in, until_missing, was_read}
+use Rattle.ldso_conf.specs.Reading.{Item, bytes_taken, dir_in, included, is_missing, key_begun, key_in, place_in, report_in, reported, steps_in, until_missing, was_read}
 use Rattle.ldso_conf.specs.declared.kinds.Conf.{Conf}
-use Rattle.ldso_conf.specs.declared.kinds.ConfKind.{ConfKind}
 use Rattle.ldso_conf.specs.declared.kinds.ConfKind.TheVariants.{LongPath}
 use Rattle.ldso_conf.specs.declared.kinds.ConfReport.{ConfReport}
 use Rattle.ldso_conf.specs.declared.reading.TheConstants.{CONF_MAX}
@@ -45,7 +43,7 @@ with_items r items = record {
   dirs = r.dirs ++ flat_map dir_in items;
   reports = r.reports ++ flat_map report_in items;
   read = r.read ++ flat_map place_in items;
-  files = r.files + length (flat_map key_begun items)
+  files = r.files + length (flat_map key_begun items);
 }
 
 pub record IsConfFrom (conf : Conf) (r : Progress) : Type 0 where

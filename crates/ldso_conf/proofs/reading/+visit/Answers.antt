@@ -19,9 +19,9 @@ returns-in_err-step-items-clause-reads g t c =
     let key = c.in-Some.key.now in
     let tree = c.args.tree.now in
     rw same (file_stops (λ held. included tree held c.args.left c.args.reader.now.read (c.args.spelled, c.args.real)) (c.args.spelled, c.args.real) key
-        (λ held. asked (included tree held (c.args.left - 1)) (c.args.reader.now.read ++ place_in (begun (c.args.spelled, c.args.real) key (held key))) (steps_in tree (begun (c.args.spelled, c.args.real) key (held key))))
-        (g.S.Store.state c.args.store.now) (g.S.Store.state c.load.new.store) (g.S.Store.state c.args.store.now).held (ending_by fault)
-        (λ held. by_file tree c.args.left c.args.reader.now (c.args.spelled, c.args.real) c.key_to_begin.new.reader key b held) (partial fault) (rw was at c.load.ensures.reads))
+    (λ held. asked (included tree held (c.args.left - 1)) (c.args.reader.now.read ++ place_in (begun (c.args.spelled, c.args.real) key (held key))) (steps_in tree (begun (c.args.spelled, c.args.real) key (held key))))
+    (g.S.Store.state c.args.store.now) (g.S.Store.state c.load.new.store) (g.S.Store.state c.args.store.now).held (ending_by fault)
+    (λ held. by_file tree c.args.left c.args.reader.now (c.args.spelled, c.args.real) c.key_to_begin.new.reader key b held) (partial fault) (rw was at c.load.ensures.reads))
 
 pub loop-step-init : goal.loop-step-init
 loop-step-init g t c =
@@ -66,8 +66,8 @@ loop-step-preserved-in-Continue-branch-4 g t c =
 pub returns-in_err-add_dir-in-Directory-clause-reads : goal.returns-in_err-add_dir-in-Directory-clause-reads
 returns-in_err-add_dir-in-Directory-clause-reads g t c =
     let stops = stops_here (λ held. included c.args.tree.now held c.args.left c.args.reader.now.read (c.args.spelled, c.args.real))
-        (λ held. asked (included c.args.tree.now held (c.args.left - 1)) c.loop-step.reader.read c.loop-step.step-iterator.rest.items)
-        c.args.reader.now c.loop-step.reader (g.S.Store.state c.args.store.now) (g.S.Store.state c.loop-step.store) (g.S.Store.state c.args.store.now).held c.loop-step.invariant.done in
+    (λ held. asked (included c.args.tree.now held (c.args.left - 1)) c.loop-step.reader.read c.loop-step.step-iterator.rest.items)
+    c.args.reader.now c.loop-step.reader (g.S.Store.state c.args.store.now) (g.S.Store.state c.loop-step.store) (g.S.Store.state c.args.store.now).held c.loop-step.invariant.done in
     let ends : ending_of c.from_residual-in_err-add_dir-in-Directory.result ≡ GaveUp = search rules in
     rw ends stops
 
@@ -90,8 +90,8 @@ loop-step-preserved-in-Continue-branch-5 g t c =
 pub returns-in_err-add_report-in-Report-clause-reads : goal.returns-in_err-add_report-in-Report-clause-reads
 returns-in_err-add_report-in-Report-clause-reads g t c =
     let stops = stops_here (λ held. included c.args.tree.now held c.args.left c.args.reader.now.read (c.args.spelled, c.args.real))
-        (λ held. asked (included c.args.tree.now held (c.args.left - 1)) c.loop-step.reader.read c.loop-step.step-iterator.rest.items)
-        c.args.reader.now c.loop-step.reader (g.S.Store.state c.args.store.now) (g.S.Store.state c.loop-step.store) (g.S.Store.state c.args.store.now).held c.loop-step.invariant.done in
+    (λ held. asked (included c.args.tree.now held (c.args.left - 1)) c.loop-step.reader.read c.loop-step.step-iterator.rest.items)
+    c.args.reader.now c.loop-step.reader (g.S.Store.state c.args.store.now) (g.S.Store.state c.loop-step.store) (g.S.Store.state c.args.store.now).held c.loop-step.invariant.done in
     let ends : ending_of c.from_residual-in_err-add_report-in-Report.result ≡ GaveUp = search rules in
     rw ends stops
 
@@ -118,11 +118,11 @@ returns-in_err-visit-in-Include-clause-reads g t c =
     let same : c.from_residual-in_err-visit-in-Include.result ≡ Err fault = search rules in
     let was : c.visit.result ≡ Err fault = search rules in
     rw same (items_stop (λ held. included c.args.tree.now held c.args.left c.args.reader.now.read (c.args.spelled, c.args.real))
-        (λ held. included c.args.tree.now held (c.args.left - 1) c.loop-step.reader.read (c.in-Include.spelled, c.in-Include.real))
-        (λ held. asked (included c.args.tree.now held (c.args.left - 1))
-            (c.loop-step.reader.read ++ flat_map place_in (included c.args.tree.now held (c.args.left - 1) c.loop-step.reader.read (c.in-Include.spelled, c.in-Include.real))) c.next.new.self.rest.items)
-        c.args.reader.now c.loop-step.reader (g.S.Store.state c.args.store.now) (g.S.Store.state c.loop-step.store) (g.S.Store.state c.visit.new.store) (g.S.Store.state c.args.store.now).held (ending_by fault) left (partial fault)
-        (rw (was, c.loop-step.invariant.held) at c.visit.ensures.reads))
+    (λ held. included c.args.tree.now held (c.args.left - 1) c.loop-step.reader.read (c.in-Include.spelled, c.in-Include.real))
+    (λ held. asked (included c.args.tree.now held (c.args.left - 1))
+    (c.loop-step.reader.read ++ flat_map place_in (included c.args.tree.now held (c.args.left - 1) c.loop-step.reader.read (c.in-Include.spelled, c.in-Include.real))) c.next.new.self.rest.items)
+    c.args.reader.now c.loop-step.reader (g.S.Store.state c.args.store.now) (g.S.Store.state c.loop-step.store) (g.S.Store.state c.visit.new.store) (g.S.Store.state c.args.store.now).held (ending_by fault) left (partial fault)
+    (rw (was, c.loop-step.invariant.held) at c.visit.ensures.reads))
 
 pub returns-clause-reads : goal.returns-clause-reads
 returns-clause-reads g t c =

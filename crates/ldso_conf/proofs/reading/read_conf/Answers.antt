@@ -10,7 +10,7 @@ returns-in_err-visit-clause-reads g c =
     let same : c.from_residual-in_err-visit.result ≡ Err fault = search rules in
     let was : c.visit.result ≡ Err fault = search rules in
     rw same (a_reads c.args.tree.now c.new-reader.result c.in_ok-spelled.spelled c.in-Some.real (sym c.in_ok-real.ensures ∙ c.in-Some.is) c.new-reader.ensures c.in_ok-spelled.ensures
-        (ending_by fault) (g.S.Store.state c.args.store.now) (g.S.Store.state c.visit.new.store) (rw was at c.visit.ensures.reads))
+    (ending_by fault) (g.S.Store.state c.args.store.now) (g.S.Store.state c.visit.new.store) (rw was at c.visit.ensures.reads))
 
 pub returns-clause-conf : goal.returns-clause-conf
 returns-clause-conf g c =
