@@ -214,7 +214,14 @@ fn add_place(
     let winners = winners_in(alloc, table, files, links)?;
     found.count = found.count.checked_add(winners.len()).ok_or(NoMemory)?;
     if found.count <= ENTRIES_MAX {
-        add_entries(alloc, tree, number, place, winners.as_slice(), &mut found.entries)?;
+        add_entries(
+            alloc,
+            tree,
+            number,
+            place,
+            winners.as_slice(),
+            &mut found.entries,
+        )?;
     }
     Ok(())
 }
