@@ -1,43 +1,25 @@
 //! `ldconfig` for images: keeps the loader's cache of a folder that has a manifest.
 #![tactic(auto)]
 
-ghost use Rattle.std.specs.Prelude.{◌≡◌, None};
+mod advice;
+mod notes;
+
+ghost use Rattle.std.specs.Prelude.{◌≡◌};
 ghost use Rattle.ldconfig.specs.Start.{code_of};
 
+use advice::{OUT_OF_MEMORY, advice, written_before};
 use ldconfig_cli::{Status, run};
 use lib_types::NoMemory;
+use notes::{note_manifest, note_size, note_update};
 use std::alloc::AllocError;
 use std::io::{Error, ErrorKind};
-use std::os::unix::fs::FileExt;
 use std::process::ExitCode;
 use std::random::RandomSource;
 use std::rt::Runtime;
 use std::{env, io, process};
-use tree_real::{FolderDisk, FolderStore, RunId, StdinSource, StdoutSink, write_error_line};
-
-// A line for each command.
-const USAGE: &str =
-    "usage: ldconfig update: makes etc/ld.so.cache of the libraries in image.mtree, in the folder of an image\nusage: ldconfig print: prints that cache";
-
-const NO_MANIFEST: &str =
-    "ldconfig: image.mtree: No such file or directory\nldconfig: this makes one: (echo '#mtree'; find usr -type f -printf './%p type=file\\n') >image.mtree";
-
-const OUT_OF_MEMORY: &str = "ldconfig: out of memory";
-
-const NO_CACHE: &str =
-    "ldconfig: etc/ld.so.cache: No such file or directory\nldconfig: ldconfig update makes it";
-
-const BAD_CACHE: &str =
-    "ldconfig: etc/ld.so.cache: the line on the output says what is wrong; docs/FORMATS.md explains it";
-
-const BAD_MANIFEST: &str =
-    "ldconfig: image.mtree: the line on the output says where and what; docs/FORMATS.md explains it";
-
-const TOO_LARGE: &str =
-    "ldconfig: image.mtree: there is no room for the links of its libraries: it would have more than 1048576 nodes or 67108864 bytes";
-
-const TOO_MANY: &str =
-    "ldconfig: etc/ld.so.cache: the image has more libraries than the 131072 that a cache may have";
+use tree_real::{
+    FolderDisk, FolderStore, HeldFile, RunId, StdinSource, StdoutSink, write_error_line,
+};
 
 /// Why no command was run.
 #[derive(Clone, Copy, Debug, PartialEq, Eq)]
@@ -93,7 +75,7 @@ impl From<io::Error> for StartFault {
 fn fault_of<R: Runtime>(rt: &R, name: &str, error: io::Error) -> StartFault {
     let fault = StartFault::from(error);
     if fault == StartFault::Other {
-        write_error_line(rt, name, error);
+        write_error_line(rt, name, "", error);
     }
     fault
 }
@@ -121,28 +103,40 @@ fn run_id<R: Runtime + RandomSource>(rt: &R, process: u32) -> io::Result<RunId> 
     })
 }
 
-// What a person can do after a command that ended so. The devices have said themselves what failed in them.
-fn advice(status: Status, wrote_cache: bool) -> Option<&'static str>
-    ensures { status ≡ Status.Done → result ≡ None }
+// Says on the error output what a person wants to know about the end of a command.
+fn explain<R: Runtime + AllocGlobal>(
+    rt: &R,
+    status: Status,
+    store: &FolderStore<R>,
+    disk: &mut FolderDisk<R>,
+) -> io::Result<()>
+where
+    R::File: HeldFile,
 {
+    let written = disk.written();
     match status {
-        Status::Usage => Some(USAGE),
-        Status::NoManifest => Some(NO_MANIFEST),
-        Status::BadManifest(_) => Some(BAD_MANIFEST),
-        Status::NoCache => Some(NO_CACHE),
-        Status::BadCache(_) => Some(BAD_CACHE),
-        Status::TooLarge { .. } => Some(TOO_LARGE),
-        Status::TooMany { .. } => Some(TOO_MANY),
-        Status::NoMemory => Some(OUT_OF_MEMORY),
-        Status::OutputFault if wrote_cache => Some("ldconfig: etc/ld.so.cache was written"),
-        _ => None,
+        Status::Done if written.cache => note_update(rt, store, written),
+        Status::BadManifest(fault) => {
+            note_size(rt, status, written.manifest_length)?;
+            note_manifest(rt, disk, fault)
+        }
+        Status::TooMany { .. } | Status::TooLarge { .. } => note_size(rt, status, None),
+        Status::OutputFault => say(rt, written_before(written.manifest, written.cache)),
+        _ => say(rt, advice(status)),
+    }
+}
+
+fn say<R: Runtime>(rt: &R, text: Option<&str>) -> io::Result<()> {
+    match text {
+        Some(text) => rt.eprintln(text),
+        None => Ok(()),
     }
 }
 
 // Runs the command in the current folder, and returns its exit status.
 fn run_here<R: Runtime + AllocGlobal + RandomSource>(rt: &R, process: u32) -> Result<u8, StartFault>
 where
-    R::File: FileExt,
+    R::File: HeldFile,
 {
     let arguments = match arguments(rt) {
         Ok(arguments) => arguments,
@@ -164,9 +158,8 @@ where
         &mut input,
         &mut output,
     );
-    if let Some(text) = advice(status, disk.wrote_cache()) {
-        let _ = rt.eprintln(text);
-    }
+    // A line that can't be written changes nothing.
+    let _ = explain(rt, status, &store, &mut disk);
     Ok(status.code())
 }
 

@@ -1,8 +1,10 @@
--- Where the slots of an image stand in its folder: the cache where ld.so(8) reads it ("FILES"), the auxiliary cache where
--- ldconfig(8) keeps it.
-use Rattle.std.specs.Prelude.{ℕ, List, [], ◌∷◌, codes}
+-- Where the slots of an image stand in its folder (the cache where ld.so(8) reads it, "FILES"; the auxiliary cache where
+-- ldconfig(8) keeps it), how much of them is read, and what mode and owner their files get.
+use Rattle.std.specs.Prelude.{◌≡◌, ⊤, ℕ, ◌^◌, ◌+◌, List, [], Option, Some, None, codes, min, bit_and, nat_lt, ◌==◌, if◌then◌else◌}
 use Rattle.tree_face.specs.declared.disk.Slot.{Slot}
 use Rattle.tree_face.specs.declared.disk.Slot.TheVariants.{Manifest, Cache, Aux}
+use Rattle.tree_real.specs.declared.standing.Stamp.{Stamp}
+use Rattle.tree_real.specs.declared.standing.Owner.{Owner}
 
 -- the slot's file, below the root
 abbrev pub file_of : Slot → List ℕ
@@ -10,8 +12,42 @@ file_of Manifest = codes "image.mtree"
 file_of Cache = codes "etc/ld.so.cache"
 file_of Aux = codes "var/cache/ldconfig/aux-cache"
 
--- the folders on the way to it from the root
-abbrev pub folders_to : Slot → List (List ℕ)
-folders_to Manifest = []
-folders_to Cache = codes "etc" ∷ []
-folders_to Aux = codes "var" ∷ codes "var/cache" ∷ codes "var/cache/ldconfig" ∷ []
+-- the folder in which it stands
+abbrev pub folder_of : Slot → List ℕ
+folder_of Manifest = []
+folder_of Cache = codes "etc"
+folder_of Aux = codes "var/cache/ldconfig"
+
+-- its name there
+abbrev pub name_of : Slot → List ℕ
+name_of Manifest = codes "image.mtree"
+name_of Cache = codes "ld.so.cache"
+name_of Aux = codes "aux-cache"
+
+-- a file of more bytes is not read
+abbrev pub largest_slot : ℕ
+largest_slot = 2 ^ 31
+
+-- how many bytes of a slot's file of this length are read: of a manifest that is too long so many that this shows
+abbrev pub length_to_read : Slot → ℕ → Option ℕ
+length_to_read slot size = if nat_lt largest_slot size then None else Some (most_of slot size)
+  where
+    most_of : Slot → ℕ → ℕ
+    most_of Manifest n = min n (2 ^ 26 + 1)
+    most_of _ n = n
+
+-- the mode of the slot's new file: everybody reads the cache; another file keeps the mode of the one that stood there
+abbrev pub mode_of : Slot → Option ℕ → ℕ
+mode_of Cache _ = 0o644
+mode_of _ None = 0o644
+mode_of _ (Some mode) = bit_and mode 0o777
+
+-- root gives a new file the owner of the one that stood there
+abbrev pub owner_to_give : Owner → Option Owner → Option Owner
+owner_to_give made None = None
+owner_to_give made (Some stood) = if made.user == 0 then Some stood else None
+
+-- the slot's file is the one that was read, or was not read at all
+abbrev pub IsAsRead : Option (Option Stamp) → Option Stamp → Type 0
+IsAsRead None now = ⊤
+IsAsRead (Some read) now = now ≡ read

@@ -2,20 +2,24 @@
 use std::io;
 use std::rt::Runtime;
 
-/// Writes a line with what failed, as a file's name below the image, and why. If the line can't be written, nothing
-/// changes: the status has its own line on the output.
-pub fn write_error_line<R: Runtime>(rt: &R, name: &str, error: io::Error) {
-    let _ = try_line(rt, name, error);
+/// Writes a line with what failed, as a file's name below the image, what was done with it, and why. If the line can't be
+/// written, nothing changes: the status has its own line on the output.
+pub fn write_error_line<R: Runtime>(rt: &R, name: &str, call: &str, error: io::Error) {
+    let _ = try_line(rt, name, call, error);
 }
 
-fn try_line<R: Runtime>(rt: &R, name: &str, error: io::Error) -> io::Result<()> {
-    let name: String<R::A> = name.chars().map(without_control).collect(rt.alloc())?;
+fn try_line<R: Runtime>(rt: &R, name: &str, call: &str, error: io::Error) -> io::Result<()> {
+    let name = printable(rt, name)?;
     let text = format!(in rt.alloc(); "{error}")?;
     let reason = without_number(text.as_str());
-    eprintln!(rt; "ldconfig: {name}: {reason}")
+    eprintln!(rt; "ldconfig: {name}: {call}{reason}")
 }
 
-// A name can have any characters. A newline in it would make lines of its own.
+/// A text without characters that could make lines of their own or steer a terminal.
+pub fn printable<R: Runtime>(rt: &R, text: &str) -> io::Result<String<R::A>> {
+    Ok(text.chars().map(without_control).collect(rt.alloc())?)
+}
+
 fn without_control(c: char) -> char {
     if c.is_control() { '?' } else { c }
 }

@@ -1,15 +1,17 @@
 //! The slots of an image that is unpacked in a folder, as a disk.
-ghost use Rattle.std.specs.Prelude.{◌≡◌, ◌≤◌, IfOk, OnErr};
+ghost use Rattle.std.specs.Prelude.{◌≡◌, ◌≤◌, IfOk, OnErr, OnOk};
 ghost use Rattle.std.specs.Result.{is_err};
 ghost use Rattle.lib_types.specs.Counts.{HasRisen};
 ghost use Rattle.tree_real.specs.Unknown.{unknown_disk};
 
 use crate::counts::one_more;
-use crate::slot_files::SlotFiles;
+use crate::kinds::is_out_of_memory;
+use crate::open_file::HeldFile;
+use crate::slot_files::{SlotFiles, Written};
 use crate::temporary::RunId;
 use lib_types::{Failed, NoMemory};
 use std::alloc::Global;
-use std::io::{self, ErrorKind};
+use std::io;
 use std::rt::Runtime;
 use tree_face::{Disk, DiskRead, Slot, Tag};
 
@@ -35,22 +37,36 @@ impl<R: Runtime> FolderDisk<R> {
         })
     }
 
-    /// Whether the cache was replaced.
-    pub fn wrote_cache(&self) -> bool {
-        self.files.wrote_cache()
+    /// What was replaced, and how many entries caches have.
+    pub fn written(&self) -> Written {
+        self.files.written()
+    }
+}
+
+impl<R: Runtime> FolderDisk<R>
+where
+    R::File: HeldFile,
+{
+    /// A line of the manifest as it is now, counted from 1, without its newline. It is read anew, and counts as no call of the
+    /// disk.
+    pub fn manifest_line(&mut self, alloc: Global, number: u64) -> io::Result<Vec<u8>> {
+        let text = self.files.read(alloc, Slot::Manifest)?;
+        let text = text.unwrap_or(Vec::new(alloc));
+        Ok(Vec::from_slice(alloc, line_of(&text, number))?)
     }
 
     // The result of a writing call, which counts a failure.
-    fn result(&mut self, done: io::Result<()>) -> Result<(), Failed>
+    fn result(&mut self, call: &str, done: io::Result<()>) -> Result<(), Failed>
         ensures same { is_err result ≡ is_err done }
         ensures faults { self.old.faults ≤ self.new.faults }
+        ensures not_counted { OnOk result (self.new.faults ≡ self.old.faults) }
         ensures read_faults { self.new.read_faults ≡ self.old.read_faults }
         ensures cause { OnErr result (HasRisen self.old.faults self.new.faults) }
     {
         match done {
             Ok(()) => Ok(()),
             Err(error) => {
-                self.files.fail(error);
+                self.files.fail(call, error);
                 self.faults = one_more(self.faults);
                 Err(Failed)
             }
@@ -58,7 +74,10 @@ impl<R: Runtime> FolderDisk<R> {
     }
 }
 
-impl<R: Runtime> Disk for FolderDisk<R> {
+impl<R: Runtime> Disk for FolderDisk<R>
+where
+    R::File: HeldFile,
+{
     ghost state = { λ d. unknown_disk d.faults d.read_faults };
 
     ghost made_if_there = { λ _. tt };
@@ -66,9 +85,9 @@ impl<R: Runtime> Disk for FolderDisk<R> {
     fn read(&mut self, alloc: Global, slot: Slot) -> Result<Option<Vec<u8>>, DiskRead> {
         match self.files.read(alloc, slot) {
             Ok(found) => Ok(found),
-            Err(error) if error.kind() == ErrorKind::OutOfMemory => Err(DiskRead::NoMemory),
+            Err(error) if is_out_of_memory(error.kind()) => Err(DiskRead::NoMemory),
             Err(error) => {
-                self.files.fail(error);
+                self.files.fail("read: ", error);
                 self.faults = one_more(self.faults);
                 self.read_faults = one_more(self.read_faults);
                 Err(DiskRead::Failed)
@@ -78,26 +97,32 @@ impl<R: Runtime> Disk for FolderDisk<R> {
 
     fn create(&mut self, tag: Tag, slot: Slot) -> Result<(), Failed> {
         let done = self.files.create(tag, slot);
-        self.result(done)
+        self.result("create: ", done)
     }
 
     fn append(&mut self, tag: Tag, slot: Slot, bytes: &[u8]) -> Result<(), Failed> {
         let done = self.files.append(tag, slot, bytes);
-        self.result(done)
+        self.result("write: ", done)
     }
 
     fn sync(&mut self, tag: Tag, slot: Slot) -> Result<(), Failed> {
         let done = self.files.sync(tag, slot);
-        self.result(done)
+        self.result("sync: ", done)
     }
 
     fn publish(&mut self, tag: Tag, slot: Slot) -> Result<(), Failed> {
         let done = self.files.publish(tag, slot);
-        self.result(done)
+        self.result("replace: ", done)
     }
 
     fn settle(&mut self, slot: Slot) -> Result<(), Failed> {
         let done = self.files.settle(slot);
-        self.result(done)
+        self.result("settle: ", done)
     }
+}
+
+// A line of a text, counted from 1, without its newline. It is empty if there is none.
+fn line_of(text: &[u8], number: u64) -> &[u8] {
+    let at = usize::try_from(number.saturating_sub(1)).unwrap_or(usize::MAX);
+    text.split(|b| *b == b'\n').nth(at).unwrap_or(&[])
 }

@@ -1,11 +1,14 @@
 //! A store of the files below a folder.
-ghost use Rattle.std.specs.Prelude.{◌≡◌, IfOk};
+ghost use Rattle.std.specs.Prelude.{◌≡◌, ◌-◌, min, IfOk};
 ghost use Rattle.tree_real.specs.Unknown.{no_counts, unknown_store};
 
 use crate::counts::{StoreCounts, one_more};
 use crate::image_folder::{ImageFolder, shorter};
+use crate::machines::{FirstFile, Machines, foreign_machine};
+use crate::open_file::HeldFile;
 use lib_types::{Failed, NoMemory};
-use std::io::{self, Error, ErrorKind, Seek, SeekFrom};
+use name_order::is_library_name;
+use std::io::{self, Error, ErrorKind};
 use std::os::unix::fs::FileExt;
 use std::rt::Runtime;
 use tree_face::Store;
@@ -16,6 +19,9 @@ pub struct FolderStore<R: Runtime> {
     image: ImageFolder<R>,
     file: Option<R::File>,
     counts: StoreCounts,
+    machines: Machines<R>,
+    // Whether the first key that was begun is no library's: a conf file is read before them.
+    read_conf: bool,
 }
 
 impl<R: Runtime> FolderStore<R> {
@@ -33,38 +39,106 @@ impl<R: Runtime> FolderStore<R> {
                 begun: 0,
                 taken: 0,
             },
+            machines: Machines {
+                files: 0,
+                first: None,
+            },
+            read_conf: false,
         })
+    }
+
+    /// The files for machines that no cache is built for.
+    pub fn machines(&self) -> &Machines<R> {
+        &self.machines
+    }
+
+    /// Whether a conf file was read: it comes before the libraries.
+    pub fn has_read_conf(&self) -> bool {
+        self.read_conf
+    }
+
+    /// How many files were begun.
+    pub fn begun(&self) -> u64
+        ensures { result ≡ self.now.counts.begun }
+    {
+        self.counts.begun
     }
 }
 
-// Opens the file of a key, and returns its length.
-fn open_key<R: Runtime>(image: &mut ImageFolder<R>, key: &[u8]) -> io::Result<(R::File, u64)> {
-    let Ok(path) = std::str::from_utf8(key) else {
-        let message = "a file name that isn't UTF-8 text";
-        return Err(Error::new(ErrorKind::InvalidInput, message));
+impl<R: Runtime> FolderStore<R>
+where
+    R::File: HeldFile,
+{
+    // Opens the file of a key, and returns its length.
+    fn open_key(&mut self, key: &[u8]) -> io::Result<(R::File, u64)>
+        ensures { self.new.counts ≡ self.old.counts }
+    {
+        let Ok(path) = std::str::from_utf8(key) else {
+            let message = "a file name that isn't UTF-8 text";
+            return Err(Error::new(ErrorKind::InvalidInput, message));
+        };
+        let (file, found) = self.image.open(path)?;
+        Ok((file, found.len()))
+    }
+
+    // Reads from an offset of the begun file. One system call, which needs no position of the file.
+    fn fill(&self, at: u64, buf: &mut [u8]) -> io::Result<()> {
+        match &self.file {
+            Some(file) => file.read_exact_at(buf, at),
+            None => Err(Error::new(ErrorKind::InvalidInput, "no file is open")),
+        }
+    }
+
+    // Notes a library for a machine that no cache is built for, by its first bytes.
+    fn note_machine(&mut self, head: &[u8])
+        ensures { self.new.counts ≡ self.old.counts }
+    {
+        if let Some(number) = foreign_machine(head) {
+            self.machines.files = one_more(self.machines.files);
+            if self.machines.first.is_none() {
+                if let Ok(path) = self.image.name() {
+                    self.machines.first = Some(FirstFile { path, number });
+                }
+            }
+        }
+    }
+}
+
+// How many bytes are read into a buffer of this length.
+fn count_at(size: u64, at: u64, room: usize) -> usize
+    ensures { result ≡ min room (size - at) }
+{
+    size.saturating_sub(at).min(room as u64) as usize
+}
+
+// Whether the last name of a path is a library's.
+fn is_library(key: &[u8]) -> bool {
+    let name = match key.iter().rposition(|b| *b == b'/') {
+        Some(at) => key.get(at + 1..).unwrap_or(key),
+        None => key,
     };
-    let mut file = image.open(path)?;
-    // Its end tells the length, at less cost than all its metadata. Readings have offsets of their own.
-    let size = file.seek(SeekFrom::End(0))?;
-    Ok((file, size))
+    is_library_name(name)
 }
 
 impl<R: Runtime> Store for FolderStore<R>
 where
-    R::File: FileExt,
+    R::File: HeldFile,
 {
     ghost state = { λ s. unknown_store s.counts };
 
     fn begin(&mut self, key: &[u8]) -> Result<u64, Failed> {
+        if self.counts.begun == 0 {
+            self.read_conf = !is_library(key);
+        }
         self.counts.begun = one_more(self.counts.begun);
-        match open_key(&mut self.image, key) {
+        match self.open_key(key) {
             Ok((file, size)) => {
                 self.file = Some(file);
                 self.counts.size = Some(size);
                 Ok(size)
             }
             Err(error) => {
-                self.image.write_error_line(error);
+                self.image.write_error_line("", error);
                 self.file = None;
                 self.counts.size = None;
                 self.counts.faults = one_more(self.counts.faults);
@@ -74,17 +148,14 @@ where
     }
 
     fn read_at(&mut self, at: u64, buf: &mut [u8]) -> Result<usize, Failed> {
-        let size = self.counts.size.unwrap_or(0);
-        let count = (size.saturating_sub(at)).min(buf.len() as u64) as usize;
-        // One system call, which needs no position of the file.
-        let filled = match &self.file {
-            Some(file) => file.read_exact_at(&mut buf[..count], at),
-            None => Err(Error::new(ErrorKind::InvalidInput, "no file is open")),
-        };
-        if let Err(error) = filled {
-            self.image.write_error_line(shorter(error));
+        let count = count_at(self.counts.size.unwrap_or(0), at, buf.len());
+        if let Err(error) = self.fill(at, &mut buf[..count]) {
+            self.image.write_error_line("", shorter(error));
             self.counts.faults = one_more(self.counts.faults);
             return Err(Failed);
+        }
+        if at == 0 {
+            self.note_machine(&buf[..count]);
         }
         self.counts.taken = self.counts.taken.saturating_add(count as u64);
         Ok(count)

@@ -1,134 +1,304 @@
 //! The files of an image that is unpacked in a folder.
 use crate::error_line::write_error_line;
+use crate::kinds::{is_cut, is_forbidden, is_missing, is_there};
+use crate::open_file::HeldFile;
+use crate::paths::{behind, divided, is_at_or_above, leads_on, leads_up};
+use crate::standing::identity_of;
 use lib_types::NoMemory;
 use std::alloc::AllocError;
-use std::fs::{self, FileType, OpenFile, Permissions};
+use std::fs::{self, DirBuilder, FileType, Metadata, OpenFile, Permissions, read_dir};
 use std::io::{self, Error, ErrorKind, Read};
-use std::os::unix::fs::{FileTypeExt, PermissionsExt};
+use std::os::fd::AsRawFd;
+use std::os::unix::fs::{DirBuilderExt, FileTypeExt, MetadataExt, PermissionsExt};
 use std::rt::Runtime;
 
 /// Folders that are made for a slot have this mode, whatever mode new folders have otherwise.
 const FOLDER_MODE: u32 = 0o755;
 
+/// So many folders of one path are open at once. Of a deeper path those at its end are.
+const MOST_OPEN: usize = 64;
+
+/// What is done with a folder on the way that isn't there.
+#[derive(Clone, Copy, PartialEq, Eq)]
+pub enum Missing {
+    IsFault,
+    IsMade,
+}
+
 /// A folder whose files are reached without following a symbolic link in it.
+///
+/// Each folder on the way to a file is opened, and what is in it is reached by the open folder: one that is exchanged for
+/// another, or for a link, while it is open doesn't matter.
 #[derive(Drop)]
 pub struct ImageFolder<R: Runtime> {
     pub rt: R,
-    // The image's folder, with a slash.
+    // The image's folder.
     root: String<R::A>,
-    // The path that the last call was about, from the current folder: `root` and its name below it. It is kept, so that a
-    // file costs no memory of its own.
+    // Whether the system shows what is open, below /proc/self/fd.
+    by_number: bool,
+    // The folders from the root to the one of the last file.
+    levels: Vec<Level<R>, R::A>,
+    // The path that the last call was about, for the system.
     path: String<R::A>,
-    // The name of what was found last to be a folder, without a link on the way.
-    checked: String<R::A>,
+    // Its last name. It is empty if the call was about the folder `said` itself.
+    last: String<R::A>,
+    // Which of the levels the last call was about.
+    said: usize,
+}
+
+/// A folder on the way to a file.
+#[derive(Drop)]
+struct Level<R: Runtime> {
+    // Its name below the root, which is empty for the root.
+    name: String<R::A>,
+    // What stands before the name of a file in it, for the system.
+    prefix: String<R::A>,
+    // A folder may be one that can be entered and not read: then it isn't open.
+    open: Option<R::File>,
 }
 
 impl<R: Runtime> ImageFolder<R> {
     /// The image in the folder `root`.
     pub fn new(rt: R, root: &str) -> Result<ImageFolder<R>, NoMemory> {
-        let root = format!(in rt.alloc(); "{root}/")?;
-        let path = root.clone()?;
-        let checked = String::new(rt.alloc());
+        let root = String::from_str(rt.alloc(), root)?;
+        let levels = Vec::new(rt.alloc());
+        let path = String::new(rt.alloc());
+        let last = String::new(rt.alloc());
         Ok(ImageFolder {
             rt,
             root,
+            by_number: false,
+            levels,
             path,
-            checked,
+            last,
+            said: 0,
         })
     }
 
-    /// Writes the line that the last call failed on the error output, with the path that it failed at.
-    pub fn write_error_line(&self, error: Error) {
-        let name = name_below(self.root.as_str(), self.path.as_str());
-        write_error_line(&self.rt, name, error);
+    /// What the last call was about, as it is named below the image.
+    pub fn name(&self) -> Result<String<R::A>, AllocError> {
+        let folder = match self.levels.get(self.said) {
+            Some(level) => level.name.as_str(),
+            None => "",
+        };
+        let last = self.last.as_str();
+        match (folder.is_empty(), last.is_empty()) {
+            (true, true) => String::from_str(self.rt.alloc(), "."),
+            (true, false) => String::from_str(self.rt.alloc(), last),
+            (false, true) => String::from_str(self.rt.alloc(), folder),
+            (false, false) => format!(in self.rt.alloc(); "{folder}/{last}"),
+        }
     }
 
-    /// From here on faults are about this path.
-    pub fn go_to(&mut self, path: &str) -> Result<(), AllocError> {
+    /// Writes the line that the last call failed on the error output, with what was done and the path that it failed at.
+    pub fn write_error_line(&self, call: &str, error: Error) {
+        match self.name() {
+            Ok(name) => write_error_line(&self.rt, name.as_str(), call, error),
+            Err(_) => write_error_line(&self.rt, self.last.as_str(), call, error),
+        }
+    }
+
+    /// From here on faults are about the file of this name in the folder that was entered.
+    pub fn go_to(&mut self, name: &str) -> Result<(), AllocError> {
         self.path.clear();
-        self.path.push_str(self.root.as_str())?;
-        self.path.push_str(path)
-    }
-
-    /// The path that the last call was about, from the current folder.
-    pub fn full_path(&self) -> Result<String<R::A>, AllocError> {
-        self.path.clone()
-    }
-
-    /// Opens a regular file. A symbolic link on the way, or anything else than a regular file at the end, is an error before
-    /// it is opened: a link may lead out of the image, and opening a pipe would wait.
-    pub fn open(&mut self, path: &str) -> io::Result<R::File> {
-        // Files come folder by folder, so most need no walk.
-        if is_file_of(path, self.checked.as_str()) {
-            self.go_to(path)?;
-        } else {
-            self.walk_to(path)?;
+        if let Some(level) = self.levels.last() {
+            self.path.push_str(level.prefix.as_str())?;
         }
-        let kind = fs::symlink_metadata(&self.rt, self.path.as_str())?.file_type();
-        if !kind.is_file() {
-            return Err(Error::new(ErrorKind::InvalidInput, no_file(kind)));
-        }
-        fs::open(&self.rt, self.path.as_str())
+        self.path.push_str(name)?;
+        self.last.clear();
+        self.last.push_str(name)?;
+        self.said = self.levels.len().saturating_sub(1);
+        Ok(())
     }
 
-    // Goes to a path part by part, and checks that the parts before the last are folders.
-    fn walk_to(&mut self, path: &str) -> io::Result<()> {
-        if path.split('/').any(|part| part == "..") {
-            self.go_to(path)?;
+    /// The path that the last call was about, for the system.
+    pub fn path(&self) -> &str {
+        self.path.as_str()
+    }
+
+    /// A path of another name in the folder that was entered, for the system.
+    pub fn path_beside(&self, name: &str) -> Result<String<R::A>, AllocError> {
+        let mut path = String::new(self.rt.alloc());
+        if let Some(level) = self.levels.last() {
+            path.push_str(level.prefix.as_str())?;
+        }
+        path.push_str(name)?;
+        Ok(path)
+    }
+}
+
+impl<R: Runtime> ImageFolder<R>
+where
+    R::File: HeldFile,
+{
+    /// Opens a regular file, and says what it is. A symbolic link on the way, or anything else than a regular file at the end,
+    /// is an error before it is opened: a link may lead out of the image, and opening a pipe would wait.
+    pub fn open(&mut self, path: &str) -> io::Result<(R::File, Metadata)> {
+        let (folder, name) = divided(path);
+        self.enter(folder, Missing::IsFault)?;
+        self.go_to(name)?;
+        if !leads_on(name.as_bytes()) || leads_up(name.as_bytes()) {
+            return Err(Error::new(ErrorKind::InvalidInput, "the path has no file's name"));
+        }
+        open_file(&self.rt, self.path.as_str())
+    }
+
+    /// What stands under a name in the folder that was entered, if anything does.
+    pub fn look(&mut self, name: &str) -> io::Result<Option<Metadata>> {
+        self.go_to(name)?;
+        match fs::symlink_metadata(&self.rt, self.path.as_str()) {
+            Ok(found) => Ok(Some(found)),
+            Err(error) if is_missing(error.kind()) => Ok(None),
+            Err(error) => Err(error),
+        }
+    }
+
+    /// Goes to a folder, part by part from the one that is open already and on the way to it.
+    pub fn enter(&mut self, folder: &str, missing: Missing) -> io::Result<()> {
+        if self.is_in(folder) {
+            return Ok(());
+        }
+        self.open_root()?;
+        self.leave_others(folder);
+        let name = self.entered()?;
+        let Some(rest) = behind(folder, name.as_str()) else {
+            return Err(Error::new(ErrorKind::InvalidInput, "another folder is open"));
+        };
+        for part in rest.split('/') {
+            if leads_on(part.as_bytes()) {
+                self.step(part, missing)?;
+            }
+        }
+        Ok(())
+    }
+
+    // Whether this folder was entered last.
+    fn is_in(&self, folder: &str) -> bool {
+        match self.levels.last() {
+            Some(level) => level.name.as_str() == folder,
+            None => false,
+        }
+    }
+
+    // The name of the folder that was entered last.
+    fn entered(&self) -> Result<String<R::A>, AllocError> {
+        match self.levels.last() {
+            Some(level) => level.name.clone(),
+            None => Ok(String::new(self.rt.alloc())),
+        }
+    }
+
+    // Closes the folders that aren't on the way to this one.
+    fn leave_others(&mut self, folder: &str) {
+        for _ in 0..self.levels.len() {
+            match self.levels.last() {
+                Some(level) if !is_at_or_above(level.name.as_bytes(), folder.as_bytes()) => {
+                    let _ = self.levels.pop();
+                }
+                _ => return,
+            }
+        }
+    }
+
+    // The image's own folder. A link to it is followed: it isn't in the image.
+    fn open_root(&mut self) -> io::Result<()> {
+        if !self.levels.is_empty() {
+            return Ok(());
+        }
+        let root = self.root.clone()?;
+        self.go_to(root.as_str())?;
+        let found = fs::metadata(&self.rt, root.as_str())?;
+        let open = open_folder(&self.rt, root.as_str(), &found)?;
+        if let Some(file) = &open {
+            let by_number = path_of(&self.rt, file)?;
+            self.by_number = is_shown(&self.rt, by_number.as_str(), &found)?;
+        }
+        self.push("", open)
+    }
+
+    // One part further, which has to be a folder.
+    fn step(&mut self, part: &str, missing: Missing) -> io::Result<()> {
+        self.go_to(part)?;
+        if leads_up(part.as_bytes()) {
             return Err(Error::new(ErrorKind::InvalidInput, "the path has \"..\""));
         }
-        self.go_to("")?;
-        for part in path.split('/') {
-            self.step(part)?;
+        let (found, made) = self.find_folder(missing)?;
+        require_folder(found.file_type())?;
+        let open = open_folder(&self.rt, self.path.as_str(), &found)?;
+        if let Some(file) = &open {
+            if made || (missing == Missing::IsMade && self.was_left(&found)) {
+                set_mode(file, &found)?;
+            }
         }
-        Ok(())
+        self.push(part, open)
     }
 
-    // One part further: the path so far has to be a folder.
-    fn step(&mut self, part: &str) -> io::Result<()> {
-        if part.is_empty() || part == "." {
-            return Ok(());
-        }
-        if self.path != self.root {
-            self.check_folder()?;
-            self.path.push('/')?;
-        }
-        self.path.push_str(part)?;
-        Ok(())
-    }
-
-    // Sees that the path is a folder and no link to one. A folder that was checked isn't checked again for the next
-    // file in it or in a folder above.
-    fn check_folder(&mut self) -> io::Result<()> {
-        let name = name_below(self.root.as_str(), self.path.as_str());
-        if is_at_or_above(name, self.checked.as_str()) {
-            return Ok(());
-        }
-        require_folder(&self.rt, self.path.as_str())?;
-        self.checked.clear();
-        self.checked.push_str(name)?;
-        Ok(())
-    }
-
-    /// Makes a folder if there is none.
-    pub fn make_folder(&mut self, path: &str) -> io::Result<()> {
-        self.go_to(path)?;
-        let full = self.path.as_str();
-        match fs::create_dir(&self.rt, full) {
-            Ok(()) => self
-                .rt
-                .set_permissions(full, Permissions::from_mode(FOLDER_MODE)),
-            Err(error) if error.kind() == ErrorKind::AlreadyExists => {
-                require_folder(&self.rt, full)
+    // What stands at the path, and whether that is a folder that was made now.
+    fn find_folder(&self, missing: Missing) -> io::Result<(Metadata, bool)> {
+        let path = self.path.as_str();
+        match fs::symlink_metadata(&self.rt, path) {
+            Ok(found) => Ok((found, false)),
+            Err(error) if is_missing(error.kind()) && missing == Missing::IsMade => {
+                let made = make_folder(&self.rt, path)?;
+                Ok((fs::symlink_metadata(&self.rt, path)?, made))
             }
             Err(error) => Err(error),
         }
     }
 
-    /// Flushes a folder to stable storage.
-    pub fn sync_folder(&mut self, path: &str) -> io::Result<()> {
-        self.go_to(path)?;
-        fs::open(&self.rt, self.path.as_str())?.sync_all()
+    // Whether the folder at the path is one that a run has made and was stopped before others could enter it: nothing is in it.
+    fn was_left(&self, found: &Metadata) -> bool {
+        if !is_closed(found.mode()) {
+            return false;
+        }
+        match read_dir(&self.rt, self.path.as_str()) {
+            Ok(mut names) => names.next().is_none(),
+            Err(_) => false,
+        }
+    }
+
+    // Puts the folder at the path behind those that are open.
+    fn push(&mut self, part: &str, open: Option<R::File>) -> io::Result<()> {
+        let alloc = self.rt.alloc();
+        let name = match self.levels.last() {
+            Some(level) if !level.name.is_empty() => {
+                let above = level.name.as_str();
+                format!(in alloc; "{above}/{part}")?
+            }
+            _ => String::from_str(alloc, part)?,
+        };
+        let prefix = match &open {
+            Some(file) if self.by_number => path_of(&self.rt, file)?,
+            _ => {
+                let path = self.path.as_str();
+                format!(in self.rt.alloc(); "{path}/")?
+            }
+        };
+        if self.levels.len() >= MOST_OPEN {
+            let _ = self.levels.pop();
+        }
+        self.levels.push(Level { name, prefix, open })?;
+        Ok(())
+    }
+
+    /// Flushes the folder that was entered, and those on the way to it, to stable storage.
+    pub fn sync_folders(&mut self) -> io::Result<()> {
+        self.last.clear();
+        for at in 0..self.levels.len() {
+            self.said = at;
+            if let Some(level) = self.levels.get(at) {
+                sync_folder(&self.rt, level)?;
+            }
+        }
+        Ok(())
+    }
+}
+
+// A folder that isn't open can't be opened now either: the error says why.
+fn sync_folder<R: Runtime>(rt: &R, level: &Level<R>) -> io::Result<()> {
+    match &level.open {
+        Some(file) => file.sync_all(),
+        None => fs::open(rt, level.prefix.as_str())?.sync_all(),
     }
 }
 
@@ -139,42 +309,96 @@ pub fn read_whole<F: Read>(file: &mut F, buf: &mut [u8]) -> io::Result<()> {
 
 /// The error of reading a file, which names it if the file became shorter while it was read.
 pub fn shorter(error: Error) -> Error {
-    if error.kind() == ErrorKind::UnexpectedEof {
+    if is_cut(error.kind()) {
         Error::new(error.kind(), "the file ends before its length")
     } else {
         error
     }
 }
 
-// What a path is named below the root.
-fn name_below<'a>(root: &str, path: &'a str) -> &'a str {
-    path.strip_prefix(root).unwrap_or("")
+// What the system calls what is in an open folder.
+fn path_of<R: Runtime>(rt: &R, file: &R::File) -> Result<String<R::A>, AllocError>
+where
+    R::File: HeldFile,
+{
+    let number = file.as_raw_fd();
+    format!(in rt.alloc(); "/proc/self/fd/{number}/")
 }
 
-// Whether the path is that of a file in this folder, or in a folder on the way to it. The parts of the folder's path aren't
-// empty and no dots, so this file's aren't either.
-fn is_file_of(path: &str, folder: &str) -> bool {
-    match path.rsplit_once('/') {
-        Some((front, name)) => {
-            !front.is_empty()
-                && is_at_or_above(front, folder)
-                && !name.is_empty()
-                && !name.starts_with('.')
+// Whether what is open is shown under this path. A system without /proc has no such path.
+fn is_shown<R: Runtime>(rt: &R, path: &str, found: &Metadata) -> io::Result<bool> {
+    match fs::metadata(rt, path) {
+        Ok(shown) => Ok(identity_of(&shown) == identity_of(found)),
+        Err(error) if is_missing(error.kind()) || is_forbidden(error.kind()) => Ok(false),
+        Err(error) => Err(error),
+    }
+}
+
+/// Opens the regular file of a path.
+pub fn open_file<R: Runtime>(rt: &R, path: &str) -> io::Result<(R::File, Metadata)> {
+    let found = fs::symlink_metadata(rt, path)?;
+    let kind = found.file_type();
+    if !kind.is_file() {
+        return Err(Error::new(ErrorKind::InvalidInput, no_file(kind)));
+    }
+    let file = fs::open(rt, path)?;
+    let opened = file.metadata()?;
+    require_same(&found, &opened)?;
+    Ok((file, opened))
+}
+
+// Opens the folder of a path, if it may be read. The dot keeps the system from opening a pipe that stands there by now.
+fn open_folder<R: Runtime>(rt: &R, path: &str, found: &Metadata) -> io::Result<Option<R::File>> {
+    let path = format!(in rt.alloc(); "{path}/.")?;
+    match fs::open(rt, path.as_str()) {
+        Ok(file) => {
+            require_same(found, &file.metadata()?)?;
+            Ok(Some(file))
         }
-        None => false,
+        Err(error) if is_forbidden(error.kind()) => Ok(None),
+        Err(error) => Err(error),
     }
 }
 
-// Whether the path is the other one, or a folder on the way to it.
-fn is_at_or_above(path: &str, other: &str) -> bool {
-    match other.strip_prefix(path) {
-        Some(rest) => rest.is_empty() || rest.starts_with('/'),
-        None => false,
+// What was opened has to be what was looked at before: else a link or another file was put there meanwhile.
+fn require_same(found: &Metadata, opened: &Metadata) -> io::Result<()> {
+    if identity_of(found) == identity_of(opened) {
+        Ok(())
+    } else {
+        Err(changed())
     }
 }
 
-fn require_folder<R: Runtime>(rt: &R, path: &str) -> io::Result<()> {
-    let kind = fs::symlink_metadata(rt, path)?.file_type();
+/// The error of a file that is another one by now.
+pub fn changed() -> Error {
+    Error::new(ErrorKind::ResourceBusy, "changed meanwhile")
+}
+
+// Makes a folder, and says whether it did: another run may have made it at the same time.
+fn make_folder<R: Runtime>(rt: &R, path: &str) -> io::Result<bool> {
+    let mut builder = DirBuilder::new();
+    builder.mode(FOLDER_MODE);
+    match builder.create(rt, path) {
+        Ok(()) => Ok(true),
+        Err(error) if is_there(error.kind()) => Ok(false),
+        Err(error) => Err(error),
+    }
+}
+
+// The mode of new folders may leave less of it.
+fn set_mode<F: OpenFile>(file: &F, found: &Metadata) -> io::Result<()> {
+    if found.mode() & 0o777 == FOLDER_MODE {
+        return Ok(());
+    }
+    file.set_permissions(Permissions::from_mode(FOLDER_MODE))
+}
+
+// Whether a folder of this mode is closed to others.
+fn is_closed(mode: u32) -> bool {
+    mode & 0o055 != 0o055
+}
+
+fn require_folder(kind: FileType) -> io::Result<()> {
     if kind.is_dir() {
         Ok(())
     } else {

@@ -1,16 +1,37 @@
 //! The files of an image's slots, and how they are replaced.
-ghost use Rattle.std.specs.Prelude.{◌≡◌, map, IfOk, IsSomeAnd};
-ghost use Rattle.tree_real.specs.Folder.{file_of, folders_to};
+ghost use Rattle.std.specs.Prelude.{◌≡◌, IfOk, IsSomeAnd};
+ghost use Rattle.tree_real.specs.Folder.{file_of, folder_of, name_of};
 
-use crate::image_folder::{ImageFolder, read_whole};
-use crate::temporary::{RunId, Temporary, make_file, remove_leftovers, temporary_path};
+use crate::head::{HEAD_SIZE, entries_in};
+use crate::image_folder::{ImageFolder, Missing, changed, open_file, read_whole};
+use crate::kinds::is_missing;
+use crate::open_file::HeldFile;
+use crate::same_bytes::have_same_bytes;
+use crate::standing::{
+    Owner, Stamp, is_as_read, length_to_read, mode_of, mode_until_whole, owner_of, owner_to_give,
+    stamp_of,
+};
+use crate::temporary::{RunId, Temporary, make_own, remove_left};
 use lib_types::NoMemory;
 use std::alloc::Global;
-use std::fs::{OpenFile, Permissions};
+use std::fs::{self, Metadata, OpenFile, Permissions};
 use std::io::{self, Error, ErrorKind, Write};
-use std::os::unix::fs::PermissionsExt;
+use std::os::unix::fs::{MetadataExt, PermissionsExt};
 use std::rt::Runtime;
 use tree_face::{Slot, Tag};
+
+/// What was replaced, and how many entries caches have.
+#[derive(Clone, Copy, Debug, Default)]
+pub struct Written {
+    pub manifest: bool,
+    pub cache: bool,
+    /// The entries of the cache that was replaced, if there was one.
+    pub entries_before: Option<u32>,
+    /// The entries of the cache that was written.
+    pub entries: Option<u32>,
+    /// The length of the manifest that was read.
+    pub manifest_length: Option<u64>,
+}
 
 /// The files `image.mtree`, `etc/ld.so.cache` and `var/cache/ldconfig/aux-cache` of an image.
 ///
@@ -21,14 +42,12 @@ pub struct SlotFiles<R: Runtime> {
     image: ImageFolder<R>,
     run: RunId,
     temporary: Option<Temporary<R>>,
-    wrote_cache: bool,
+    // Which manifest was read, if it was: none if there was none.
+    manifest: Option<Option<Stamp>>,
+    // Whether what runs have left was removed.
+    is_clean: bool,
+    written: Written,
 }
-
-// A slot of more bytes isn't read.
-const LARGEST_SLOT: u64 = 1 << 31;
-
-// Everybody reads the cache, whatever mode new files have otherwise.
-const CACHE_MODE: u32 = 0o644;
 
 // A slot's file, below the root.
 fn file_of(slot: Slot) -> &'static str
@@ -41,14 +60,25 @@ fn file_of(slot: Slot) -> &'static str
     }
 }
 
-// The folders on the way from the root to a slot's file.
-fn folders_to(slot: Slot) -> &'static [&'static str]
-    ensures { map (λ folder. folder.now) result.now ≡ folders_to slot }
+// The folder in which it stands.
+fn folder_of(slot: Slot) -> &'static str
+    ensures { result.now ≡ folder_of slot }
 {
     match slot {
-        Slot::Manifest => &[],
-        Slot::Cache => &["etc"],
-        Slot::Aux => &["var", "var/cache", "var/cache/ldconfig"],
+        Slot::Manifest => "",
+        Slot::Cache => "etc",
+        Slot::Aux => "var/cache/ldconfig",
+    }
+}
+
+// Its name there.
+fn name_of(slot: Slot) -> &'static str
+    ensures { result.now ≡ name_of slot }
+{
+    match slot {
+        Slot::Manifest => "image.mtree",
+        Slot::Cache => "ld.so.cache",
+        Slot::Aux => "aux-cache",
     }
 }
 
@@ -60,113 +90,253 @@ impl<R: Runtime> SlotFiles<R> {
             image,
             run,
             temporary: None,
-            wrote_cache: false,
+            manifest: None,
+            is_clean: false,
+            written: Written::default(),
         })
     }
 
-    /// Whether the cache was replaced.
-    pub fn wrote_cache(&self) -> bool {
-        self.wrote_cache
+    /// What was replaced, and how many entries caches have.
+    pub fn written(&self) -> Written {
+        self.written
     }
+}
 
-    /// The bytes of a slot's file, none if there is no such file.
+impl<R: Runtime> SlotFiles<R>
+where
+    R::File: HeldFile,
+{
+    /// The bytes of a slot's file, none if there is no such file. Of a manifest that is too long they are so many that this
+    /// shows.
     pub fn read(&mut self, alloc: Global, slot: Slot) -> io::Result<Option<Vec<u8>>> {
-        let mut file = match self.image.open(file_of(slot)) {
-            Ok(file) => file,
-            Err(error) if error.kind() == ErrorKind::NotFound => return Ok(None),
+        let (mut file, found) = match self.image.open(file_of(slot)) {
+            Ok(opened) => opened,
+            Err(error) if is_missing(error.kind()) => {
+                self.note_read(slot, None);
+                return Ok(None);
+            }
             Err(error) => return Err(error),
         };
-        let size = file.metadata()?.len();
-        if size > LARGEST_SLOT {
+        self.note_read(slot, Some(&found));
+        let Some(length) = length_to_read(slot, found.len()) else {
             let message = "more than 2147483648 bytes";
             return Err(Error::new(ErrorKind::FileTooLarge, message));
-        }
-        let mut bytes = vec![in alloc; 0u8; size as usize]?;
+        };
+        let mut bytes = vec![in alloc; 0u8; length as usize]?;
         read_whole(&mut file, &mut bytes)?;
         Ok(Some(bytes))
+    }
+
+    // From here on this is the manifest that was read.
+    fn note_read(&mut self, slot: Slot, found: Option<&Metadata>) {
+        if slot == Slot::Manifest {
+            self.manifest = Some(found.map(stamp_of));
+            self.written.manifest_length = found.map(|f| f.len());
+        }
     }
 
     /// Makes an empty temporary file, and the folders that it needs.
     pub fn create(&mut self, tag: Tag, slot: Slot) -> io::Result<()> {
         self.discard();
-        for folder in folders_to(slot) {
-            self.image.make_folder(folder)?;
+        self.clean();
+        self.image.enter(folder_of(slot), Missing::IsMade)?;
+        let stood = self.image.look(name_of(slot))?;
+        if slot == Slot::Cache {
+            let before = self.entries_there();
+            self.written.entries_before = before;
         }
-        self.image.go_to(file_of(slot))?;
-        let path = self.image.full_path()?;
-        remove_leftovers(&self.image.rt, path.as_str(), self.run);
-        let path = temporary_path(&self.image.rt, path.as_str(), tag, self.run)?;
-        let file = make_file(&self.image.rt, path.as_str())?;
-        let done = match slot {
-            Slot::Cache => file.set_permissions(Permissions::from_mode(CACHE_MODE)),
-            Slot::Manifest | Slot::Aux => Ok(()),
-        };
+        let (name, file) = make_own(&self.image, name_of(slot), tag, self.run)?;
+        let stood = stood.filter(|found| found.is_file());
+        let mode = mode_of(slot, stood.as_ref().map(|found| found.mode()));
+        let done = hand_over(&file, stood.map(|found| owner_of(&found)), mode);
         self.temporary = Some(Temporary {
             tag,
             slot,
-            path,
+            name,
             file,
+            mode,
         });
         done
     }
 
+    // How many entries the cache has that stands where faults are about now.
+    fn entries_there(&self) -> Option<u32> {
+        head_entries(&self.image.rt, self.image.path())
+    }
+
+    // Removes what runs have left that are gone, once.
+    fn clean(&mut self) {
+        if !self.is_clean {
+            self.is_clean = true;
+            for slot in [Slot::Manifest, Slot::Cache, Slot::Aux] {
+                let _ = self.clean_beside(slot);
+            }
+        }
+    }
+
+    fn clean_beside(&mut self, slot: Slot) -> io::Result<()> {
+        self.image.enter(folder_of(slot), Missing::IsFault)?;
+        let folder = self.image.path_beside("")?;
+        remove_left(&self.image.rt, folder.as_str(), name_of(slot))
+    }
+
     // The open temporary file of this tag and slot.
-    fn opened(&mut self, tag: Tag, slot: Slot) -> io::Result<&mut R::File>
+    fn opened(&mut self, tag: Tag, slot: Slot) -> io::Result<&mut Temporary<R>>
         ensures { IfOk result (λ _. IsSomeAnd self.old.temporary (λ t. (t.tag ≡ tag) × (t.slot ≡ slot))) }
     {
-        self.image.go_to(file_of(slot))?;
+        self.image.enter(folder_of(slot), Missing::IsFault)?;
+        self.image.go_to(name_of(slot))?;
         match &mut self.temporary {
-            Some(temporary) if temporary.tag == tag && temporary.slot == slot => {
-                Ok(&mut temporary.file)
-            }
+            Some(temporary) if temporary.tag == tag && temporary.slot == slot => Ok(temporary),
             _ => Err(Error::new(ErrorKind::NotFound, "no temporary file is open")),
         }
     }
 
     /// Adds bytes to the temporary file.
     pub fn append(&mut self, tag: Tag, slot: Slot, bytes: &[u8]) -> io::Result<()> {
-        self.opened(tag, slot)?.write_all(bytes)
+        self.opened(tag, slot)?.file.write_all(bytes)?;
+        if slot == Slot::Cache {
+            self.written.entries = entries_in(bytes);
+        }
+        Ok(())
     }
 
     /// Flushes the temporary file to stable storage.
     pub fn sync(&mut self, tag: Tag, slot: Slot) -> io::Result<()> {
-        self.opened(tag, slot)?.sync_all()
+        let temporary = self.opened(tag, slot)?;
+        let mode = temporary.mode;
+        if mode_until_whole(mode) != mode {
+            temporary
+                .file
+                .set_permissions(Permissions::from_mode(mode))?;
+        }
+        temporary.file.sync_all()
     }
 
     /// Makes the temporary file the slot's.
     pub fn publish(&mut self, tag: Tag, slot: Slot) -> io::Result<()> {
         self.opened(tag, slot)?;
-        let path = self.image.full_path()?;
+        if self.may_replace(slot)? {
+            self.replace(slot)?;
+        } else {
+            self.discard();
+        }
+        match slot {
+            Slot::Manifest => self.written.manifest = true,
+            Slot::Cache => self.written.cache = true,
+            Slot::Aux => {}
+        }
+        Ok(())
+    }
+
+    // Whether the slot's file is to be replaced: not if another update has written the same bytes meanwhile. It is an error if the
+    // manifest is another than the one that was read: that one would be lost.
+    fn may_replace(&mut self, slot: Slot) -> io::Result<bool> {
+        if slot != Slot::Manifest {
+            return Ok(true);
+        }
+        let now = self
+            .image
+            .look(name_of(slot))?
+            .map(|found| stamp_of(&found));
+        if is_as_read(self.manifest, now) {
+            return Ok(true);
+        }
+        if !self.has_new_bytes()? {
+            return Err(changed());
+        }
+        self.manifest = Some(now);
+        Ok(false)
+    }
+
+    // Whether the file that stands there has the bytes of the temporary file.
+    fn has_new_bytes(&self) -> io::Result<bool> {
+        match &self.temporary {
+            Some(temporary) => has_bytes_of(&self.image.rt, self.image.path(), &temporary.file),
+            None => Ok(false),
+        }
+    }
+
+    fn replace(&mut self, slot: Slot) -> io::Result<()> {
         if let Some(temporary) = &self.temporary {
-            self.image
-                .rt
-                .rename(temporary.path.as_str(), path.as_str())?;
+            rename_beside(&self.image, temporary.name.as_str(), name_of(slot))?;
+            if slot == Slot::Manifest {
+                // The renaming changes its stamp.
+                let found = temporary.file.metadata();
+                self.manifest = found.ok().map(|found| Some(stamp_of(&found)));
+            }
         }
         self.temporary = None;
-        self.wrote_cache = self.wrote_cache || slot == Slot::Cache;
         Ok(())
     }
 
     /// Flushes the root and the folders on the way to a slot's file, some of which `create` may have made.
     pub fn settle(&mut self, slot: Slot) -> io::Result<()> {
-        self.image.sync_folder(".")?;
-        for folder in folders_to(slot) {
-            self.image.sync_folder(folder)?;
-        }
-        Ok(())
+        self.image.enter(folder_of(slot), Missing::IsFault)?;
+        self.image.sync_folders()
     }
 
-    /// Writes on the error output why the last call failed, and removes the temporary file that is open.
-    pub fn fail(&mut self, error: Error) {
-        self.image.write_error_line(error);
+    /// Writes on the error output what call failed and why, and removes the temporary file that is open.
+    pub fn fail(&mut self, call: &str, error: Error) {
+        self.image.write_error_line(call, error);
         self.discard();
     }
 
     // Removes the temporary file that is open.
     fn discard(&mut self) {
         if let Some(temporary) = &self.temporary {
-            let _ = self.image.rt.remove_file(temporary.path.as_str());
+            if self
+                .image
+                .enter(folder_of(temporary.slot), Missing::IsFault)
+                .is_ok()
+            {
+                if let Ok(path) = self.image.path_beside(temporary.name.as_str()) {
+                    let _ = self.image.rt.remove_file(path.as_str());
+                }
+            }
         }
         self.temporary = None;
     }
+}
+
+// Renames a file in the folder that was entered.
+fn rename_beside<R: Runtime>(image: &ImageFolder<R>, from: &str, to: &str) -> io::Result<()> {
+    let from = image.path_beside(from)?;
+    let to = image.path_beside(to)?;
+    image.rt.rename(from.as_str(), to.as_str())
+}
+
+// Gives a new file the owner of the one that stood in its place, if that can be done, and the mode that it has while it is written.
+fn hand_over<F: OpenFile + HeldFile>(file: &F, stood: Option<Owner>, mode: u32) -> io::Result<()> {
+    let made = file.metadata()?;
+    if let Some(owner) = owner_to_give(owner_of(&made), stood) {
+        let _ = file.give_to(owner.user, owner.group);
+    }
+    file.set_permissions(Permissions::from_mode(mode_until_whole(mode)))
+}
+
+// Whether the file of a path has the bytes of this one.
+fn has_bytes_of<R: Runtime>(rt: &R, path: &str, file: &R::File) -> io::Result<bool>
+where
+    R::File: HeldFile,
+{
+    match open_file(rt, path) {
+        Ok((other, found)) => {
+            let length = file.metadata()?.len();
+            Ok(length == found.len() && have_same_bytes(&other, file, length)?)
+        }
+        Err(error) if is_missing(error.kind()) => Ok(false),
+        Err(error) => Err(error),
+    }
+}
+
+// How many entries the cache of a path has, if it says.
+fn head_entries<R: Runtime>(rt: &R, path: &str) -> Option<u32>
+where
+    R::File: HeldFile,
+{
+    let (mut file, _) = open_file(rt, path).ok()?;
+    let mut head = [0u8; HEAD_SIZE];
+    read_whole(&mut file, &mut head).ok()?;
+    entries_in(&head)
 }

@@ -5,31 +5,40 @@ ghost use Rattle.std.specs.Fmt.{decimal};
 ghost use Rattle.std.specs.List.{list_all};
 ghost use Rattle.tree_real.specs.Temporary.{IsMadeBy, is_number, temporary_name};
 
+use crate::image_folder::{ImageFolder, open_file};
+use crate::kinds::{is_missing, is_no_text, is_there};
+use crate::open_file::HeldFile;
+use crate::paths::behind;
+use crate::standing::identity_of;
 use std::alloc::AllocError;
-use std::fs::{OpenOptions, read_dir};
-use std::io::{self, ErrorKind};
+use std::fs::{self, Metadata, OpenFile, OpenOptions, read_dir};
+use std::io::{self, Error, ErrorKind};
+use std::os::unix::fs::OpenOptionsExt;
 use std::rt::Runtime;
 use tree_face::{Slot, Tag};
 
 /// What no other running program has.
 #[derive(Clone, Copy)]
 pub struct RunId {
-    /// The process's number: by it a later run sees that this one is gone.
+    /// The process's number, which tells a person where a file is from.
     pub process: u32,
     /// A random number, since programs that don't see each other's processes can have one process number.
     pub random: u64,
 }
 
-/// An open temporary file.
+/// An open temporary file, with a lock on it as long as it is open.
 #[derive(Drop)]
 pub struct Temporary<R: Runtime> {
     pub tag: Tag,
     pub slot: Slot,
-    pub path: String<R::A>,
+    /// Its name in the folder of the slot's file.
+    pub name: String<R::A>,
     pub file: R::File,
+    /// The mode that it has in the slot's place.
+    pub mode: u32,
 }
 
-/// The name of a run's temporary file for the slot's file of this path.
+/// The name of a run's temporary file for the slot's file of this name.
 pub fn temporary_path<R: Runtime>(
     rt: &R,
     path: &str,
@@ -44,30 +53,114 @@ pub fn temporary_path<R: Runtime>(
     format!(in rt.alloc(); "{path}.tmp{tag}.{process}.{random}")
 }
 
-/// Makes an empty file, which isn't there yet.
-pub fn make_file<R: Runtime>(rt: &R, path: &str) -> io::Result<R::File> {
-    OpenOptions::new()
-        .write(true)
-        .create_new(true)
-        .open(rt, path)
+// So many names are tried, should one be taken.
+const MOST_NAMES: u64 = 100;
+
+// New files aren't writable for others, whatever mode they get in their slot's place.
+const NEW_MODE: u32 = 0o644;
+
+/// Makes an empty temporary file for the slot's file of this name in the folder that was entered, with a lock by which other
+/// runs see that it is in use. Gives its name, too.
+pub fn make_own<R: Runtime>(
+    image: &ImageFolder<R>,
+    slot_name: &str,
+    tag: Tag,
+    run: RunId,
+) -> io::Result<(String<R::A>, R::File)>
+where
+    R::File: HeldFile,
+{
+    for turn in 0..MOST_NAMES {
+        let run = RunId {
+            process: run.process,
+            random: run.random.wrapping_add(turn),
+        };
+        let name = temporary_path(&image.rt, slot_name, tag, run)?;
+        let path = image.path_beside(name.as_str())?;
+        if let Some(file) = make_locked(&image.rt, path.as_str())? {
+            return Ok((name, file));
+        }
+    }
+    Err(Error::new(ErrorKind::AlreadyExists, "its temporary files are taken"))
 }
 
-/// Removes the temporary files of a slot's file that runs left which are gone. `path` is the slot's file. What can't be
-/// looked at or removed stays.
-pub fn remove_leftovers<R: Runtime>(rt: &R, path: &str, run: RunId) {
-    if let Some((folder, name)) = path.rsplit_once('/') {
-        let _ = remove_from_folder(rt, folder, name, run);
+// Makes an empty file with a lock. There is none if something has the path's name, or if a run has taken the file, before it
+// had its lock, for one that was left.
+fn make_locked<R: Runtime>(rt: &R, path: &str) -> io::Result<Option<R::File>>
+where
+    R::File: HeldFile,
+{
+    let file = match make_file(rt, path) {
+        Ok(file) => file,
+        Err(error) if is_there(error.kind()) => return Ok(None),
+        Err(error) => return Err(error),
+    };
+    if !file.take_lock().is_kept() {
+        return Ok(None);
+    }
+    match stands_at(rt, path, &file) {
+        Ok(true) => Ok(Some(file)),
+        Ok(false) => Ok(None),
+        Err(error) => {
+            let _ = rt.remove_file(path);
+            Err(error)
+        }
     }
 }
 
-fn remove_from_folder<R: Runtime>(rt: &R, folder: &str, name: &str, run: RunId) -> io::Result<()> {
+// Whether an open file stands at the path.
+fn stands_at<R: Runtime>(rt: &R, path: &str, file: &R::File) -> io::Result<bool> {
+    let made = file.metadata()?;
+    is_at(rt, path, &made)
+}
+
+// Makes an empty file, which isn't there yet.
+fn make_file<R: Runtime>(rt: &R, path: &str) -> io::Result<R::File> {
+    OpenOptions::new()
+        .read(true)
+        .write(true)
+        .create_new(true)
+        .mode(NEW_MODE)
+        .open(rt, path)
+}
+
+// Whether this file stands at the path.
+fn is_at<R: Runtime>(rt: &R, path: &str, file: &Metadata) -> io::Result<bool> {
+    match fs::symlink_metadata(rt, path) {
+        Ok(found) => Ok(identity_of(&found) == identity_of(file)),
+        Err(error) if is_missing(error.kind()) => Ok(false),
+        Err(error) => Err(error),
+    }
+}
+
+/// Removes the temporary files for the slot's file of this name which runs left that are gone, from the folder of this path.
+/// What can't be looked at or removed stays.
+pub fn remove_left<R: Runtime>(rt: &R, folder: &str, slot_name: &str) -> io::Result<()>
+where
+    R::File: HeldFile,
+{
     for entry in read_dir(rt, folder)? {
-        let entry = entry?;
-        if let Some(process) = maker_of(entry.file_name(), name) {
-            if is_gone(rt, process, run)? {
-                let _ = rt.remove_file(entry.path().as_str());
+        match entry {
+            Ok(entry) if maker_of(entry.file_name(), slot_name).is_some() => {
+                let _ = remove_if_left(rt, entry.path().as_str());
             }
+            Ok(_) => {}
+            Err(error) if is_no_text(error.kind()) => {}
+            Err(error) => return Err(error),
         }
+    }
+    Ok(())
+}
+
+// Removes a temporary file if no program has its lock. As long as this one has it, no other run removes the file, so that the
+// path can't become another file's.
+fn remove_if_left<R: Runtime>(rt: &R, path: &str) -> io::Result<()>
+where
+    R::File: HeldFile,
+{
+    let (file, opened) = open_file(rt, path)?;
+    if file.take_lock().is_left() && is_at(rt, path, &opened)? {
+        rt.remove_file(path)?;
     }
     Ok(())
 }
@@ -85,13 +178,6 @@ fn maker_of<'a>(name: &'a str, file: &str) -> Option<&'a str>
     } else {
         None
     }
-}
-
-// What stands behind the front of a text.
-fn behind<'a>(text: &'a str, front: &str) -> Option<&'a str>
-    ensures { IfSome result (λ rest. text.now ≡ front.now ++ rest.now) }
-{
-    text.strip_prefix(front)
 }
 
 // The parts before and behind the first dot.
@@ -112,24 +198,4 @@ fn are_digits(bytes: &[u8]) -> bool
     ensures { result ≡ list_all is_ascii_digit bytes.now }
 {
     bytes.iter().all(|b| b.is_ascii_digit())
-}
-
-// Whether a process doesn't run any more. The number of this process is no other running one's. What isn't known counts
-// as running.
-fn is_gone<R: Runtime>(rt: &R, process: &str, run: RunId) -> io::Result<bool> {
-    let own = run.process;
-    let own = format!(in rt.alloc(); "{own}")?;
-    if process == own.as_str() {
-        return Ok(true);
-    }
-    // The processes that are listed have to be those that this one is among.
-    if rt.read_link(rt.alloc(), "/proc/self")?.as_str() != own.as_str() {
-        return Ok(false);
-    }
-    // A process that has ended and isn't waited for yet has no program.
-    let program = format!(in rt.alloc(); "/proc/{process}/exe")?;
-    match rt.read_link(rt.alloc(), program.as_str()) {
-        Err(error) => Ok(error.kind() == ErrorKind::NotFound),
-        Ok(_) => Ok(false),
-    }
 }

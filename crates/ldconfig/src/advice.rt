@@ -1,0 +1,99 @@
+//! What a person can do after a command that ended so. The devices have said themselves what failed in them.
+ghost use Rattle.std.specs.Prelude.{◌≡◌, ◌↔◌, ◌||◌, ℕ, None, Some, IsTrue, IsSome};
+ghost use Rattle.ldconfig.specs.Notes.{IsFewer};
+
+use ldconfig_cli::Status;
+use mtree_manifest::LineKind;
+use std::str::from_utf8;
+
+/// The version, the kit, and a line for each command.
+pub const USAGE: &str =
+    "ldconfig for images, release version 1 (made with the Rattle kit, logic dac8208d650f15bf)
+usage: ldconfig update: plans the links of the libraries in image.mtree, in the folder of an image, and makes etc/ld.so.cache
+usage: ldconfig print, or -p: prints etc/ld.so.cache
+Both run in the folder of an image. What they write and every exit status: README.md and docs/FORMATS.md";
+
+const NO_MANIFEST: &str =
+    "ldconfig: image.mtree: No such file or directory\nldconfig: scripts/manifest makes one: scripts/manifest FOLDER >manifest && mv manifest FOLDER/image.mtree";
+
+pub const OUT_OF_MEMORY: &str = "ldconfig: out of memory";
+
+const NO_CACHE: &str =
+    "ldconfig: etc/ld.so.cache: No such file or directory\nldconfig: ldconfig update makes it";
+
+const BAD_CACHE: &str =
+    "ldconfig: etc/ld.so.cache: the line on the output says what is wrong, docs/FORMATS.md explains it; ldconfig update makes another";
+
+/// The lines that are the same whenever a command ends so.
+pub fn advice(status: Status) -> Option<&'static str>
+    ensures { status ≡ Status.Done → result ≡ None }
+{
+    match status {
+        Status::Usage => Some(USAGE),
+        Status::NoManifest => Some(NO_MANIFEST),
+        Status::NoCache => Some(NO_CACHE),
+        Status::BadCache(_) => Some(BAD_CACHE),
+        Status::NoMemory => Some(OUT_OF_MEMORY),
+        _ => None,
+    }
+}
+
+/// What was written before the output failed.
+pub fn written_before(manifest: bool, cache: bool) -> Option<&'static str>
+    ensures { IsSome result ↔ IsTrue (manifest || cache) }
+{
+    match (manifest, cache) {
+        (true, true) => Some(
+            "ldconfig: image.mtree and etc/ld.so.cache were written; the planned links stand in image.mtree, as lines with type=link",
+        ),
+        (true, false) => Some(
+            "ldconfig: image.mtree was written; the planned links stand in it, as lines with type=link",
+        ),
+        (false, true) => Some("ldconfig: etc/ld.so.cache was written; no link was planned"),
+        (false, false) => None,
+    }
+}
+
+/// The numbers of a cache that has fewer libraries than the one before it: before, now.
+pub fn fewer(before: Option<u32>, now: Option<u32>) -> Option<(u32, u32)>
+    ensures { (old new : ℕ) → (result ≡ Some (old, new)) ↔ IsFewer before now old new }
+{
+    match (before, now) {
+        (Some(old), Some(new)) if new < old => Some((old, new)),
+        _ => None,
+    }
+}
+
+/// Why a line of a manifest is refused, in words.
+pub fn cause_of(kind: LineKind, line: &[u8]) -> &'static str {
+    match kind {
+        LineKind::BadEscape => "a backslash begins no escape",
+        LineKind::BadNumber => "a number isn't 1 to 20 digits, or is 2^64 or more",
+        LineKind::BadType => "this type isn't one of file, dir, link, block, char, fifo, socket",
+        LineKind::NoTarget => "a link has no target",
+        LineKind::BadLine => cause_of_form(line),
+    }
+}
+
+fn cause_of_form(line: &[u8]) -> &'static str {
+    if from_utf8(line).is_err() {
+        return "it isn't UTF-8 text";
+    }
+    let path = match line.iter().position(|b| *b == b' ' || *b == b'\t') {
+        Some(end) => line.get(..end).unwrap_or(line),
+        None => line,
+    };
+    if path
+        .split(|b| *b == b'/')
+        .any(|part| part == b"..".as_slice())
+    {
+        return "a path has .., or .. closes no directory";
+    }
+    if path.starts_with(b"/") {
+        return "an absolute path that isn't /set, /unset or one with a further slash";
+    }
+    "a path or a keyword has no form that it may have"
+}
+
+/// So many first bytes of a line are shown.
+pub const SHOWN: usize = 60;

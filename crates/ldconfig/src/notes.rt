@@ -1,0 +1,129 @@
+//! Lines on the error output about an update that was done, and about what was too large.
+use crate::advice::{SHOWN, cause_of, fewer};
+use ldconfig_cli::Status;
+use mtree_manifest::ManifestFault;
+use std::alloc::AllocError;
+use std::io;
+use std::rt::Runtime;
+use tree_real::{FolderDisk, FolderStore, HeldFile, Machines, Written, machine_name, printable};
+
+/// Says what is remarkable about an update that was done. A cache is written only by an update.
+pub fn note_update<R: Runtime>(rt: &R, store: &FolderStore<R>, written: Written) -> io::Result<()> {
+    if written.entries == Some(0) {
+        let why = why_none(written.manifest_length, store.begun());
+        eprintln!(rt; "ldconfig: etc/ld.so.cache: no libraries: {why}")?;
+    }
+    if let Some((old, new)) = fewer(written.entries_before, written.entries) {
+        eprintln!(rt;
+            "ldconfig: etc/ld.so.cache: {new} libraries, and the cache before had {old}"
+        )?;
+    }
+    if !store.has_read_conf() {
+        eprintln!(rt;
+            "ldconfig: etc/ld.so.conf: none was read, so only /lib, /usr/lib, /lib64 and /usr/lib64 are searched"
+        )?;
+    }
+    note_machines(rt, store.machines())
+}
+
+// A manifest without a line has at most this many bytes.
+const HEAD_LENGTH: u64 = 7;
+
+fn why_none(length: Option<u64>, begun: u64) -> &'static str {
+    match length {
+        Some(length) if length <= HEAD_LENGTH => "image.mtree is empty",
+        _ if begun == 0 => {
+            "image.mtree has no file with a library's name in the directories that are searched"
+        }
+        _ => "no file that was read is one for the cache; the lines skip: on the output say why",
+    }
+}
+
+fn note_machines<R: Runtime>(rt: &R, machines: &Machines<R>) -> io::Result<()> {
+    let Some(first) = &machines.first else {
+        return Ok(());
+    };
+    let path = printable(rt, first.path.as_str())?;
+    let number = first.number;
+    let name = machine_name(number).unwrap_or("an unknown machine");
+    let files = machines.files;
+    eprintln!(rt;
+        "ldconfig: {path}: for {name} (machine {number}), for which no cache is made; files of such machines: {files}"
+    )
+}
+
+/// Says by how much something is too large or too long.
+pub fn note_size<R: Runtime>(rt: &R, status: Status, length: Option<u64>) -> io::Result<()> {
+    match status {
+        Status::TooMany { count } => {
+            eprintln!(rt;
+                "ldconfig: etc/ld.so.cache: the image has {count} libraries, and a cache at most 131072"
+            )
+        }
+        Status::TooLarge { nodes, bytes: 0 } => {
+            eprintln!(rt;
+                "ldconfig: image.mtree: with the links of its libraries it would have {nodes} nodes, and it may have 1048576"
+            )
+        }
+        Status::TooLarge { bytes, .. } => {
+            eprintln!(rt;
+                "ldconfig: image.mtree: with the links of its libraries it would have {bytes} bytes, and it may have 67108864"
+            )
+        }
+        Status::BadManifest(ManifestFault::TooLong { .. }) => {
+            let length = length.unwrap_or(0);
+            eprintln!(rt; "ldconfig: image.mtree: it has {length} bytes, and may have 67108864")
+        }
+        _ => Ok(()),
+    }
+}
+
+/// Says what is wrong with a line of the manifest, and shows its beginning.
+pub fn note_manifest<R: Runtime + AllocGlobal>(
+    rt: &R,
+    disk: &mut FolderDisk<R>,
+    fault: ManifestFault,
+) -> io::Result<()>
+where
+    R::File: HeldFile,
+{
+    let (number, kind) = match fault {
+        ManifestFault::Bad { line, kind } => (line, Some(kind)),
+        ManifestFault::Clash { line } | ManifestFault::TooMany { line } => (line, None),
+        ManifestFault::TooLong { .. } | ManifestFault::NoMemory => return Ok(()),
+    };
+    let line = disk.manifest_line(rt.alloc(), number)?;
+    let cause = match kind {
+        Some(kind) => cause_of(kind, &line),
+        None => cause_of_tree(fault),
+    };
+    let shown = escaped(rt, &line)?;
+    let dots = if line.len() > SHOWN { ".." } else { "" };
+    eprintln!(rt;
+        "ldconfig: image.mtree: line {number}: {cause}: {shown}{dots}\nldconfig: docs/FORMATS.md says what a line may be"
+    )
+}
+
+fn cause_of_tree(fault: ManifestFault) -> &'static str {
+    match fault {
+        ManifestFault::Clash { .. } => "something would stand below a file or a link",
+        _ => "the image would have more than 1048576 nodes",
+    }
+}
+
+// The first bytes of a line: what isn't printable ASCII is written as the number of the byte.
+fn escaped<R: Runtime>(rt: &R, line: &[u8]) -> Result<String<R::A>, AllocError> {
+    let mut shown = String::new(rt.alloc());
+    for byte in line.iter().take(SHOWN) {
+        push_escaped(rt, &mut shown, *byte)?;
+    }
+    Ok(shown)
+}
+
+fn push_escaped<R: Runtime>(rt: &R, shown: &mut String<R::A>, byte: u8) -> Result<(), AllocError> {
+    if byte == b' ' || byte.is_ascii_graphic() {
+        return shown.push(byte as char);
+    }
+    let escape = format!(in rt.alloc(); "\\{byte:03o}")?;
+    shown.push_str(escape.as_str())
+}

@@ -1,0 +1,13 @@
+-- Paths below the root of an image, whose own name is empty.
+use Rattle.std.specs.Prelude.{ℕ, Bool, true, ◌&&◌, ◌||◌, List, [], ◌∷◌, ◌==◌, nat_eq, length, drop}
+use Rattle.std.specs.List.{starts_with}
+
+-- nothing follows, or a slash
+abbrev pub ends_part : List ℕ → Bool
+ends_part [] = true
+ends_part (b ∷ _) = b == 47
+
+-- the first folder is the second one or on the way to it: the second is the first, or goes on behind it with a slash
+abbrev pub is_at_or_above : List ℕ → List ℕ → Bool
+is_at_or_above folder other =
+    length folder == 0 || (starts_with nat_eq other folder && ends_part (drop (length folder) other))

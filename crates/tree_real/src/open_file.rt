@@ -1,0 +1,57 @@
+//! What the devices ask of an open file.
+ghost use Rattle.std.specs.Prelude.{◌≡◌, ◌↔◌, ◌≢◌, IsTrue};
+
+use std::fs::{File, OpenFile, TryLockError};
+use std::io;
+use std::os::fd::{AsFd, AsRawFd};
+use std::os::unix::fs::{FileExt, fchown};
+
+/// Who has the lock on a file. The system gives it up when the file is closed, also as a program ends or is stopped.
+#[derive(Clone, Copy, Debug, PartialEq, Eq)]
+pub enum Lock {
+    /// This handle has it.
+    Own,
+    /// Another program has it.
+    Other,
+    /// The file system has no locks, or the call failed.
+    Unknown,
+}
+
+impl Lock {
+    /// Whether a new file is its maker's: no other program has taken it for one that was left.
+    pub fn is_kept(self) -> bool
+        ensures { IsTrue result ↔ self ≢ Lock.Other }
+    {
+        self != Lock::Other
+    }
+
+    /// Whether the file was left by a program that is gone: no other one has the lock, for certain.
+    pub fn is_left(self) -> bool
+        ensures { IsTrue result ↔ self ≡ Lock.Own }
+    {
+        self == Lock::Own
+    }
+}
+
+/// An open file with a number, by which what is below an open folder can be reached, and with a lock and an owner.
+pub trait HeldFile: FileExt + AsRawFd {
+    /// Takes the lock on the file if nobody has it.
+    fn take_lock(&self) -> Lock;
+
+    /// Gives the file to a user and a group.
+    fn give_to(&self, user: u32, group: u32) -> io::Result<()>;
+}
+
+impl HeldFile for File {
+    fn take_lock(&self) -> Lock {
+        match self.try_lock() {
+            Ok(()) => Lock::Own,
+            Err(TryLockError::WouldBlock) => Lock::Other,
+            Err(TryLockError::Error(_)) => Lock::Unknown,
+        }
+    }
+
+    fn give_to(&self, user: u32, group: u32) -> io::Result<()> {
+        fchown(self.as_fd(), Some(user), Some(group))
+    }
+}

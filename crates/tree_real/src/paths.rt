@@ -1,0 +1,47 @@
+//! What is decided about paths without a call.
+ghost use Rattle.std.specs.Prelude.{◌≡◌, ◌↔◌, ◌++◌, ◌⊎◌, ◌≢◌, ◌∷◌, [], codes, IfSome, IsTrue};
+ghost use Rattle.tree_real.specs.Paths.{ends_part, is_at_or_above};
+
+/// Whether the first folder is the second one, or on the way to it from the root. The root's name is empty.
+pub fn is_at_or_above(folder: &[u8], other: &[u8]) -> bool
+    ensures { result ≡ is_at_or_above folder.now other.now }
+{
+    folder.is_empty() || (other.starts_with(folder) && ends_part(&other[folder.len()..]))
+}
+
+fn ends_part(rest: &[u8]) -> bool
+    ensures { result ≡ ends_part rest.now }
+{
+    rest.is_empty() || rest[0] == b'/'
+}
+
+/// What stands behind the front of a text.
+pub fn behind<'a>(text: &'a str, front: &str) -> Option<&'a str>
+    ensures { IfSome result (λ rest. text.now ≡ front.now ++ rest.now) }
+{
+    text.strip_prefix(front)
+}
+
+/// Whether a part of a path leads on: it isn't empty and no `.`.
+pub fn leads_on(part: &[u8]) -> bool
+    ensures { IsTrue result ↔ (part.now ≢ [] × part.now ≢ codes ".") }
+{
+    !part.is_empty() && part != b".".as_slice()
+}
+
+/// Whether a part of a path leads up.
+pub fn leads_up(part: &[u8]) -> bool
+    ensures { IsTrue result ↔ part.now ≡ codes ".." }
+{
+    part == b"..".as_slice()
+}
+
+/// A path's folder, which is empty if it is the root, and the name there.
+pub fn divided(path: &str) -> (&str, &str)
+    ensures { (path.now ≡ result.0.now ++ 47 ∷ result.1.now) ⊎ ((result.0.now ≡ []) × (result.1.now ≡ path.now)) }
+{
+    match path.rsplit_once('/') {
+        Some((folder, name)) => (folder, name),
+        None => ("", path),
+    }
+}

@@ -1,0 +1,138 @@
+//! The file that stands in a slot's place, and what its successor takes over from it.
+ghost use Rattle.std.specs.Prelude.{◌≡◌, ◌↔◌, Some, IsTrue, bit_and};
+ghost use Rattle.tree_real.specs.Folder.{IsAsRead, length_to_read, mode_of, owner_to_give};
+
+use std::fs::Metadata;
+use std::os::unix::fs::MetadataExt;
+use tree_face::Slot;
+
+/// Which file it is, as the system tells files apart.
+#[derive(Clone, Copy, Debug, PartialEq, Eq)]
+pub struct Identity {
+    pub device: u64,
+    pub inode: u64,
+}
+
+/// Which file it is, and when its content or its name was changed last. Times are the bits of signed numbers: seconds since 1970,
+/// and nanoseconds.
+#[derive(Clone, Copy, Debug, PartialEq, Eq)]
+pub struct Stamp {
+    pub device: u64,
+    pub inode: u64,
+    pub size: u64,
+    pub modified: u64,
+    pub modified_nanos: u64,
+    pub changed: u64,
+    pub changed_nanos: u64,
+}
+
+/// Whom a file belongs to.
+#[derive(Clone, Copy, Debug, PartialEq, Eq)]
+pub struct Owner {
+    pub user: u32,
+    pub group: u32,
+}
+
+pub fn identity_of(found: &Metadata) -> Identity {
+    Identity {
+        device: found.dev(),
+        inode: found.ino(),
+    }
+}
+
+pub fn stamp_of(found: &Metadata) -> Stamp {
+    Stamp {
+        device: found.dev(),
+        inode: found.ino(),
+        size: found.len(),
+        modified: found.mtime().cast_unsigned(),
+        modified_nanos: found.mtime_nsec().cast_unsigned(),
+        changed: found.ctime().cast_unsigned(),
+        changed_nanos: found.ctime_nsec().cast_unsigned(),
+    }
+}
+
+pub fn owner_of(found: &Metadata) -> Owner {
+    Owner {
+        user: found.uid(),
+        group: found.gid(),
+    }
+}
+
+/// Whether the slot's file is the one that was read, if it was. A file that isn't there has no stamp.
+pub fn is_as_read(read: Option<Option<Stamp>>, now: Option<Stamp>) -> bool
+    ensures { IsTrue result ↔ IsAsRead read now }
+{
+    match read {
+        None => true,
+        Some(None) => now.is_none(),
+        Some(Some(read)) => is_stamp(now, read),
+    }
+}
+
+fn is_stamp(now: Option<Stamp>, read: Stamp) -> bool
+    ensures { IsTrue result ↔ now ≡ Some read }
+{
+    match now {
+        Some(now) => is_same(now, read),
+        None => false,
+    }
+}
+
+fn is_same(now: Stamp, read: Stamp) -> bool
+    ensures { IsTrue result ↔ now ≡ read }
+{
+    now == read
+}
+
+// A slot of more bytes isn't read.
+const LARGEST_SLOT: u64 = 1 << 31;
+
+// A manifest has at most 2^26 bytes, so that one byte more shows that it is too long.
+const TOO_LONG_MANIFEST: u64 = (1 << 26) + 1;
+
+/// How many bytes of a slot's file of this length are read, if it is read.
+pub fn length_to_read(slot: Slot, size: u64) -> Option<u64>
+    ensures { result ≡ length_to_read slot size }
+{
+    if size > LARGEST_SLOT {
+        return None;
+    }
+    match slot {
+        Slot::Manifest => Some(size.min(TOO_LONG_MANIFEST)),
+        Slot::Cache | Slot::Aux => Some(size),
+    }
+}
+
+// Who may do what with a file, of all bits of a mode.
+const PERMISSIONS: u32 = 0o777;
+
+const USUAL_MODE: u32 = 0o644;
+
+/// The mode of a slot's new file, if the one that stood there has this mode: everybody reads the cache, whatever mode new files
+/// have otherwise.
+pub fn mode_of(slot: Slot, stood: Option<u32>) -> u32
+    ensures { result ≡ mode_of slot stood }
+{
+    match (slot, stood) {
+        (Slot::Cache, _) | (_, None) => USUAL_MODE,
+        (Slot::Manifest | Slot::Aux, Some(mode)) => mode & PERMISSIONS,
+    }
+}
+
+/// The mode of a new file while it is written: nobody else may write it.
+pub fn mode_until_whole(mode: u32) -> u32
+    ensures { result ≡ bit_and mode 0o755 }
+{
+    mode & 0o755
+}
+
+/// The owner that a new file is to get, if it is another than it has. Only root gives files away.
+pub fn owner_to_give(made: Owner, stood: Option<Owner>) -> Option<Owner>
+    ensures { result ≡ owner_to_give made stood }
+{
+    match stood {
+        Some(stood) if made.user == 0 => Some(stood),
+        _ => None,
+    }
+}
