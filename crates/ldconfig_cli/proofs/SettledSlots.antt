@@ -88,7 +88,7 @@ module _ (tag : Tag) (status : Status) (store after_store : StoreState) (disk af
           → IfBothKnown store.held after_disk.contents (λ contents content. HoldsItsUpdate contents content)
       by (Err fault) updates reports = let z : true ≡ false = sym made ∙ ap is_made reports.0 ∙ not_updated fault in absurd (cc)
       by (Ok updated) updates reports =
-          settled store.held s updated updates.disk.texts tag.0 between.contents after_disk.contents (rw same load) updates.updated updates.disk.are_of updates.answers updates.disk.written.contents
+          settled store.held s updated updates.written.texts tag.0 between.contents after_disk.contents (rw same load) updates.updated updates.written.are_of updates.answers updates.written.written.contents
 
   pub settles : LoadsAndUpdates tag status store after_store disk after_disk output after_output → SettlesSlots status store.held after_disk.contents
   settles u made = by u.loaded u.loads u.after made

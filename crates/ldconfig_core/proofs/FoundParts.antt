@@ -61,7 +61,7 @@ module _ (held : Contents) (t : Nodes) (search : Search) (s : IsSearched held t 
 
   module _ (only : (path : List ℕ) → is_in (keys_of search.files.table) path ≡ true → is_in (wanted t search.dirs.places) path ≡ true) (new : Nodes) (alike : IsSearchedAlike t new)
       (put : new ≡ with_links t (links (analysis_at search.files.table) t search.dirs.places)) where
-    is_planned : new ≡ planned_in held t
+    pub is_planned : new ≡ planned_in held t
     is_planned = put ∙ tree_is
 
     reached_are : reached new search.dirs.places ≡ reached_in held t

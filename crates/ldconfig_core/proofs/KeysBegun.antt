@@ -46,7 +46,7 @@ module _ (t : Nodes) (e : Ending) where
       let both = reads_then e a b c (conf_lacks held t ≡ true) (lacks_one held keys ≡ true) (lacks_wanted held t ≡ true) (Some (conf_keys held t)) (Some (until_lacking held keys))
           (Some (conf_bytes held t)) (Some (most_of held (until_lacking held keys)))
           (λ lacks. or_right (conf_lacks held t) (lacks_one held (wanted_keys held t)) (ap (lacks_one held) (sym are) ∙ lacks)) first next in
-      rw all (rw are at both)
+      rw all (rw (are, all) at both)
 
 module _ (t : Nodes) (e : Ending) where
   -- only the search was made

@@ -1,7 +1,9 @@
-mod CallsOneByOne
+mod Bests
+mod Endings
 mod FilesAgree
 mod FoundParts
 mod KeysBegun
+mod KnownParts
 pub mod OneText
 mod OutcomeRows
 mod SearchParts

@@ -8,7 +8,7 @@ use Rattle.soname_links.specs.Apply.{nodes_with}
 use Rattle.tree_face.specs.Store.{Contents}
 use Rattle.ldconfig_core.specs.Begun.{behind_keys, has_too_many_nodes, lacks_wanted, wanted_keys}
 use Rattle.ldconfig_core.specs.Ldconfig.{entries_in, links_in, planned_in}
-use Rattle.ldconfig_core.specs.Outcome.{Lacking, TooLarge, TooMany, Writes, is_too_long, new_manifest, size_of, update_outcome}
+use Rattle.ldconfig_core.specs.Outcome.{Outcome, Lacking, TooLarge, TooMany, Writes, is_too_long, new_manifest, size_of, update_outcome}
 use Rattle.ldconfig_core.specs.Session.{Loaded}
 
 pub over : (n m : ℕ) → n < m → nat_lt n m ≡ true
@@ -24,12 +24,12 @@ both_false false b h = (refl, h)
 module _ (held : Contents) (s : Loaded) where
   pub lacking_wanted : lacks_wanted held s.tree ≡ true → update_outcome held s ≡ Lacking
   unfolding update_outcome
-  lacking_wanted lacks = by (conf_lacks held s.tree) (lacks_one held (wanted_keys held s.tree)) lacks
+  lacking_wanted lacks = by (conf_lacks held s.tree) (lacks_one held (wanted_keys held s.tree)) _ lacks
     where
-      by : (a b : Bool) → (a || b) ≡ true → {rest : _} → cond a Lacking (cond b Lacking rest) ≡ Lacking
-      by true b h = refl
-      by false true h = refl
-      by false false h = absurd (cc)
+      by : (a b : Bool) (rest : Outcome) → (a || b) ≡ true → cond a Lacking (cond b Lacking rest) ≡ Lacking
+      by true b rest h = refl
+      by false true rest h = refl
+      by false false rest h = absurd (cc)
 
   module _ (none : lacks_wanted held s.tree ≡ false) where
     abbrev no : (conf_lacks held s.tree ≡ false) × (lacks_one held (wanted_keys held s.tree) ≡ false)

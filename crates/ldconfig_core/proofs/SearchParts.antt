@@ -1,5 +1,5 @@
 -- What is found before the links are planned.
-use Rattle.std.proofs.Common.{◌≡◌, ◌+◌, ◌||◌, ℕ, true, false, List, [], length, Option, Some, None, refl, ap, sym, subst, ◌∙◌}
+use Rattle.std.proofs.Common.{◌≡◌, ◌+◌, ◌||◌, ℕ, true, false, List, [], length, Option, Some, None, refl, ap, sym, subst, ◌∙◌, arith}
 use Rattle.file_analyses.specs.Files.{AreRight, file_keys, lacks_one, unread_keys}
 use Rattle.file_analyses.specs.declared.files.Files.{Files}
 use Rattle.hwcap_dirs.specs.Places.{absent, places}
@@ -38,7 +38,7 @@ module _ (t : Nodes) (conf : Conf) where
           places = places_are search.dirs.places p;
           absent_is = a ∙ ap (absent t) is.dirs;
           right = right (subst (λ (rows : Rows). AreRight held t (analysis_at rows)) (sym none) (λ path there. absurd (cc)));
-          begun = begun ∙ ap (λ n. n + length (unread_keys t (analysis_at first.table) (wanted t search.dirs.places))) zero_begun ∙ ap length keys;
+          begun = omega (arith, begun, zero_begun, ap length keys);
           none_lacks = ap (λ b. b || lacks_one held (wanted_keys held t)) is.all_held ∙ ap (lacks_one held) (sym keys) ∙ lacks;
         }
 

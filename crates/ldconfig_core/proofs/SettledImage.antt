@@ -14,7 +14,7 @@ use Rattle.place_files.specs.Order.{ascending}
 use Rattle.place_files.specs.Search.{reached, wanted}
 use Rattle.planned_links.proofs.Agree.{agree}
 use Rattle.planned_links.specs.Search.{IsSearchedAlike}
-use Rattle.soname_links.proofs.NoOtherFiles.{settled_agrees}
+
 use Rattle.soname_links.specs.Apply.{nodes_with}
 use Rattle.soname_links.specs.declared.kinds.Planned.{Planned}
 use Rattle.soname_links.specs.Plan.{links, with_links}
@@ -151,3 +151,8 @@ module _ (held : Contents) (t new : Nodes) (alike : IsSearchedAlike t new) (put 
     outcome = still_writes;
     texts = cache_again;
   }
+
+-- the same by places that are those of the image
+pub are_settled_by : (held : Contents) (t new : Nodes) (at : List Place) → IsSearchedAlike t new → new ≡ planned_in held t → at ≡ places_in held t → IsSettled (what_is held t) t at new → IsTree new
+    → AreSettled held (loaded t) (loaded new)
+are_settled_by held t new at alike put same still tree = are_settled held t new alike put (subst (λ (p : List Place). IsSettled (what_is held t) t p new) same still) tree

@@ -93,7 +93,7 @@ pub record IsUpdated (held : Contents) (s : Loaded) (updated : Loaded × Report)
 pub record Updates (tag : Tag) (s : Loaded) (result : Result (Loaded × Report) UpdateFault) (store after_store : StoreState) (disk after_disk : DiskState) : Type 0 where
   pub answers : IfKnown store.held (λ held. IsAnswer (update_outcome held s) result store after_store)
   pub reads : ReadsUpdate s (update_ending result) store after_store
-  pub disk : DiskAfter tag s store.held result disk after_disk
+  pub written : DiskAfter tag s store.held result disk after_disk
   pub made : KeepsRestMade tag.0 update_slots disk after_disk
   pub disk_faults : disk.faults ≤ after_disk.faults
   pub updated : IfOk result (λ updated. IfKnown store.held (λ held. IsUpdated held s updated))

@@ -5,6 +5,7 @@ ghost use Rattle.std.specs.Map.{keys_of};
 ghost use Rattle.std.specs.Str.{bytes_eq};
 ghost use Rattle.file_analyses.specs.Files.{AreRead};
 ghost use Rattle.hwcap_dirs.specs.Places.{are_dirs, are_spelled};
+ghost use Rattle.place_files.specs.Analyses.{HaveAnalyses};
 ghost use Rattle.place_files.specs.Search.{wanted};
 ghost use Rattle.place_files.specs.Table.{analysis_at};
 ghost use Rattle.tree_face.specs.Known.{IfKnown};
@@ -40,6 +41,7 @@ pub fn search_image<S: Store>(
     ensures real { IfOk result (λ search. IsTrue (are_dirs tree.now search.dirs.places)) }
     ensures spelled { IfOk result (λ search. IsTrue (are_spelled search.dirs.places)) }
     ensures read { IfOk result (λ search. AreRead tree.now (analysis_at search.files.table) (wanted tree.now search.dirs.places)) }
+    ensures all { IfOk result (λ search. HaveAnalyses (analysis_at search.files.table) (wanted tree.now search.dirs.places)) }
     ensures only { IfOk result (λ search. (path : List ℕ) → list_any (bytes_eq path) (keys_of search.files.table) ≡ true →
         list_any (bytes_eq path) (wanted tree.now search.dirs.places) ≡ true) }
     ensures reads { ReadsSearch tree.now (update_ending result) (S.state store.old) (S.state store.new) }
