@@ -2,7 +2,7 @@
 use Rattle.std.proofs.Common.{◌≡◌, ℕ, List, length, Option, Some, None, IfSome, Ok, refl, sym, subst, ◌∙◌, arith}
 use Rattle.tree_face.specs.Known.{IfKnown}
 use Rattle.tree_face.specs.Store.{StoreState}
-use Rattle.tree_face.specs.StoreUse.{Ending, Complete, StoreFailed, GaveUp}
+use Rattle.tree_face.specs.StoreUse.{Ending, Complete, DeviceFailed, GaveUp}
 use Rattle.elf_headers.specs.declared.kinds.Head.{Head}
 use Rattle.elf_headers.specs.Header.{head}
 use Rattle.elf_headers.proofs.Heads.{gives}
@@ -38,7 +38,7 @@ sized s h i =
 
 counted_on : (e : Ending) (a b c : ℕ) → b ≡ a → CountsFaults e b c → CountsFaults e a c
 counted_on Complete a b c same last = last ∙ same
-counted_on StoreFailed a b c same last = rw (← same) last
+counted_on DeviceFailed a b c same last = rw (← same) last
 counted_on GaveUp a b c same last = last ∙ same
 
 pub chain : {e : Ending} (a b c : StoreState) → OnlyReads Complete a b → OnlyReads e b c → OnlyReads e a c

@@ -3,7 +3,7 @@ use Rattle.std.specs.Prelude.{◌≡◌, true, Result, Ok, Err, IfSome}
 use Rattle.lib_types.specs.Name.{is_name}
 use Rattle.lib_types.specs.declared.analysis.Defect.{Defect}
 use Rattle.lib_types.specs.declared.analysis.Defect.TheVariants.{BadString}
-use Rattle.tree_face.specs.StoreUse.{Ending, Complete, StoreFailed, GaveUp}
+use Rattle.tree_face.specs.StoreUse.{Ending, Complete, DeviceFailed, GaveUp}
 use Rattle.elf_headers.specs.Range.{IsTextTag}
 use Rattle.elf_dynamic.specs.declared.kinds.Dynamic.{Dynamic}
 use Rattle.elf_dynamic.specs.declared.kinds.Object.{Object}
@@ -26,12 +26,12 @@ IfBad (Err NoMemory) P = Unit {0}
 abbrev pub object_ending : {X : Type 0} → Result X ObjectFault → Ending
 object_ending (Ok x) = Complete
 object_ending (Err (Bad d)) = Complete
-object_ending (Err StoreFault) = StoreFailed
+object_ending (Err StoreFault) = DeviceFailed
 object_ending (Err NoMemory) = GaveUp
 
 abbrev pub analyse_ending : {X : Type 0} → Result X AnalyseFault → Ending
 analyse_ending (Ok x) = Complete
-analyse_ending (Err reading_faults.StoreFault) = StoreFailed
+analyse_ending (Err reading_faults.StoreFault) = DeviceFailed
 analyse_ending (Err reading_faults.NoMemory) = GaveUp
 
 -- ---- names

@@ -4,14 +4,14 @@ use Rattle.lib_types.specs.Counts.{raised}
 use Rattle.tree_face.specs.Follows.{IsFollowedBy}
 use Rattle.tree_face.specs.Known.{Relates}
 use Rattle.tree_face.specs.Store.{StoreState}
-use Rattle.tree_face.specs.StoreUse.{Ending, Complete, StoreFailed, GaveUp, BeginsKeys, HasCause, ReadsFiles}
+use Rattle.tree_face.specs.StoreUse.{Ending, Complete, DeviceFailed, GaveUp, BeginsKeys, HasCause, ReadsFiles}
 use Rattle.tree_face.proofs.Follows.{part_whole}
 use Rattle.tree_face.proofs.Known.{relates_by}
 use Rattle.elf_headers.specs.Reading.{TakesAtMost, ReadsFile, CountsFaults, OnlyReads}
 
 none_begun : (e : Ending) (a : List (List ℕ)) → BeginsKeys e [] a a
 none_begun Complete a = sym (append-nil a)
-none_begun StoreFailed a = (0, sym (append-nil a))
+none_begun DeviceFailed a = (0, sym (append-nil a))
 none_begun GaveUp a = (0, sym (append-nil a))
 
 same_keys : (e : Ending) (keys : Option (List (List ℕ))) → Relates (BeginsKeys e []) keys keys
@@ -20,12 +20,12 @@ same_keys e (Some a) = none_begun e a
 
 cause_of : (lacks : Type 0) (e : Ending) (a b c : ℕ) → b ≡ a → CountsFaults e b c → HasCause lacks e a c
 cause_of lacks Complete a b c none same = same ∙ none
-cause_of lacks StoreFailed a b c none risen = inl (rw (← none) risen)
+cause_of lacks DeviceFailed a b c none risen = inl (rw (← none) risen)
 cause_of lacks GaveUp a b c none same = same ∙ none
 
 counted : (e : Ending) (a b : ℕ) → CountsFaults e a b → a ≤ b
 counted Complete a b same = omega (arith, same)
-counted StoreFailed a b risen = omega (arith, risen)
+counted DeviceFailed a b risen = omega (arith, risen)
 counted GaveUp a b same = omega (arith, same)
 
 pub reads_nothing : {e : Ending} {n : ℕ} {old new : StoreState} → OnlyReads e old new → TakesAtMost n old new → ReadsFiles ⊥ (Some []) (Some n) e old new
@@ -42,7 +42,7 @@ reads_nothing {e = e} {n = n} {old = old} {new = new} reads taken = record {
 
 begun_keys : (key : List ℕ) (e : Ending) (a b : List (List ℕ)) → IsFollowedBy (key ∷ []) a b → BeginsKeys e (key ∷ []) a b
 begun_keys key Complete a b whole = whole
-begun_keys key StoreFailed a b whole = part_whole (key ∷ []) a b whole
+begun_keys key DeviceFailed a b whole = part_whole (key ∷ []) a b whole
 begun_keys key GaveUp a b whole = part_whole (key ∷ []) a b whole
 
 -- a file that is begun, and then only read from

@@ -1,7 +1,7 @@
 -- Facts of what `head` returns.
 use Rattle.std.specs.Prelude.{Result, Ok, Err}
 use Rattle.lib_types.specs.declared.analysis.Defect.{Defect}
-use Rattle.tree_face.specs.StoreUse.{Ending, Complete, StoreFailed}
+use Rattle.tree_face.specs.StoreUse.{Ending, Complete, DeviceFailed}
 use Rattle.elf_headers.specs.declared.kinds.Head.{Head}
 use Rattle.elf_headers.specs.declared.fault.HeadFault.{HeadFault}
 use Rattle.elf_headers.specs.declared.fault.HeadFault.TheVariants.{Bad, StoreFault}
@@ -16,4 +16,4 @@ IfBad (Err StoreFault) P = Unit {0}
 abbrev pub head_ending : Result Head HeadFault → Ending
 head_ending (Ok h) = Complete
 head_ending (Err (Bad d)) = Complete
-head_ending (Err StoreFault) = StoreFailed
+head_ending (Err StoreFault) = DeviceFailed

@@ -4,7 +4,7 @@ use Rattle.lib_types.specs.Counts.{raised, HasRisen}
 use Rattle.lib_types.specs.declared.fault.Failed.{Failed}
 use Rattle.tree_face.specs.Known.{IfKnown}
 use Rattle.tree_face.specs.Store.{Contents, StoreState, Lacks}
-use Rattle.tree_face.specs.StoreUse.{Ending, Complete, StoreFailed, GaveUp, ReadsFiles}
+use Rattle.tree_face.specs.StoreUse.{Ending, Complete, DeviceFailed, GaveUp, ReadsFiles}
 use Rattle.elf_headers.specs.declared.kinds.Head.{Head}
 use Rattle.elf_headers.specs.Layout.{word_size, program_header_length}
 use Rattle.elf_headers.specs.Header.{head}
@@ -30,7 +30,7 @@ OfContent held key P = IfKnown held (λ held. IsSomeAnd (held key) P)
 -- a call that fails only if the store does
 abbrev pub reading_ending : {X : Type 0} → Result X Failed → Ending
 reading_ending (Ok x) = Complete
-reading_ending (Err f) = StoreFailed
+reading_ending (Err f) = DeviceFailed
 
 -- the call begins this key, and takes at most so many bytes
 abbrev pub ReadsFile : List ℕ → Option ℕ → Ending → StoreState → StoreState → Type 0
@@ -45,7 +45,7 @@ pub record KeepsFile (old new : StoreState) : Type 0 where
 -- the count of faults rises if the store has failed, and only then
 abbrev pub CountsFaults : Ending → ℕ → ℕ → Type 0
 CountsFaults Complete before after = after ≡ before
-CountsFaults StoreFailed before after = HasRisen before after
+CountsFaults DeviceFailed before after = HasRisen before after
 CountsFaults GaveUp before after = after ≡ before
 
 -- a private function only reads from the file that was begun: nothing else changes but the counts of bytes and faults

@@ -10,7 +10,7 @@ use Rattle.tree_face.specs.Disk.{DiskContent}
 use Rattle.tree_face.specs.DiskUse.{ReadsOnly}
 use Rattle.tree_face.specs.Follows.{IsFollowedBy, IsFollowedByPart}
 use Rattle.tree_face.specs.Known.{IfKnown, Relates}
-use Rattle.tree_face.specs.StoreUse.{Ending, Complete, StoreFailed, GaveUp}
+use Rattle.tree_face.specs.StoreUse.{Ending, Complete, DeviceFailed, GaveUp}
 use Rattle.tree_face.specs.Stream.{SinkState}
 use Rattle.ldconfig_cli.specs.declared.status.Status.{Status}
 use Rattle.ldconfig_cli.specs.declared.status.Status.TheVariants.{Done, Usage, BadManifest, NoCache, BadCache, StoreFault, DiskFault, OutputFault, NoMemory, NoManifest, TooLarge, TooMany}
@@ -56,7 +56,7 @@ PrintedBy (TooMany count) disk old new = ⊥
 
 -- how the reading of the slot ended
 abbrev pub print_ending : Status → Ending
-print_ending DiskFault = StoreFailed
+print_ending DiskFault = DeviceFailed
 print_ending NoMemory = GaveUp
 print_ending Done = Complete
 print_ending OutputFault = Complete

@@ -13,7 +13,7 @@ use Rattle.soname_links.specs.declared.kinds.ApplyFault.TheVariants as applying
 use Rattle.tree_face.proofs.StoreUse.{reads_all}
 use Rattle.tree_face.specs.Known.{IfKnown}
 use Rattle.tree_face.specs.Store.{Contents, StoreState}
-use Rattle.tree_face.specs.StoreUse.{Complete, StoreFailed, GaveUp}
+use Rattle.tree_face.specs.StoreUse.{Complete, DeviceFailed, GaveUp}
 use Rattle.tree_face.specs.Tree.{Nodes}
 use Rattle.ldconfig_core.proofs.KeysBegun.{ConfBy, SearchBy, UpdateBy, conf_part, search_all, search_part, update_all, update_small}
 use Rattle.ldconfig_core.specs.Begun.{behind_keys, has_too_many_nodes, lacks_wanted, wanted_keys}
@@ -24,17 +24,17 @@ use Rattle.ldconfig_core.specs.Update.{update_ending}
 
 module _ (A B : Type 0) (t : Nodes) (known : Option Contents) where
   pub conf_failed : (fault : ConfFault) (a b : StoreState) → ConfBy t known (ending_of {A = A} (Err fault)) a b → SearchBy t known (update_ending {A = B} (Err (of_conf fault))) a b
-  conf_failed conf.StoreFault a b reads = conf_part t StoreFailed known a b tt reads
+  conf_failed conf.StoreFault a b reads = conf_part t DeviceFailed known a b tt reads
   conf_failed conf.NoMemory a b reads = conf_part t GaveUp known a b tt reads
 
   pub wanted_failed : (fault : AnalyseFault) (keys : List (List ℕ)) (a b c : StoreState) → IfKnown known (λ held. conf_lacks held t ≡ false) → IfKnown known (λ held. keys ≡ wanted_keys held t)
       → ConfBy t known Complete a b → ReadsBy known keys (analyse_ending {X = A} (Err fault)) b c → SearchBy t known (update_ending {A = B} (Err (of_reading fault))) a c
-  wanted_failed reading.StoreFault keys a b c all are first next = search_all t StoreFailed known keys a b c all are first next
+  wanted_failed reading.StoreFault keys a b c all are first next = search_all t DeviceFailed known keys a b c all are first next
   wanted_failed reading.NoMemory keys a b c all are first next = search_all t GaveUp known keys a b c all are first next
 
   -- the search fails
   pub search_failed : (fault : UpdateFault) (a b : StoreState) → is_store_fault fault ≡ true → SearchBy t known (update_ending {A = A} (Err fault)) a b → UpdateBy t known (update_ending {A = B} (Err fault)) a b
-  search_failed updating.StoreFault a b is reads = search_part t StoreFailed known a b tt reads
+  search_failed updating.StoreFault a b is reads = search_part t DeviceFailed known a b tt reads
   search_failed updating.NoMemory a b is reads = search_part t GaveUp known a b tt reads
   search_failed (updating.TooLarge nodes bytes) a b is reads = absurd (cc)
   search_failed (updating.TooMany count) a b is reads = absurd (cc)
@@ -50,7 +50,7 @@ module _ (A B : Type 0) (t : Nodes) (known : Option Contents) where
   pub behind_failed : (fault : UpdateFault) (keys : List (List ℕ)) (a b c : StoreState) → is_store_fault fault ≡ true → IfKnown known (λ held. lacks_wanted held t ≡ false)
       → IfKnown known (λ held. has_too_many_nodes held t ≡ false) → IfKnown known (λ held. keys ≡ behind_keys held t) → SearchBy t known Complete a b
       → ReadsBy known keys (update_ending {A = A} (Err fault)) b c → UpdateBy t known (update_ending {A = B} (Err fault)) a c
-  behind_failed updating.StoreFault keys a b c is none few are first next = update_all t StoreFailed known keys a b c none few are first next
+  behind_failed updating.StoreFault keys a b c is none few are first next = update_all t DeviceFailed known keys a b c none few are first next
   behind_failed updating.NoMemory keys a b c is none few are first next = update_all t GaveUp known keys a b c none few are first next
   behind_failed (updating.TooLarge nodes bytes) keys a b c is none few are first next = absurd (cc)
   behind_failed (updating.TooMany count) keys a b c is none few are first next = absurd (cc)

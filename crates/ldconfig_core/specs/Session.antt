@@ -5,7 +5,7 @@ use Rattle.tree_face.specs.declared.disk.Slot.TheVariants as slots
 use Rattle.tree_face.specs.Disk.{DiskContent, DiskState}
 use Rattle.tree_face.specs.DiskUse.{ReadsOnly}
 use Rattle.tree_face.specs.Known.{IfKnown}
-use Rattle.tree_face.specs.StoreUse.{Ending, Complete, StoreFailed, GaveUp}
+use Rattle.tree_face.specs.StoreUse.{Ending, Complete, DeviceFailed, GaveUp}
 use Rattle.tree_face.specs.Tree.{Nodes}
 use Rattle.ldconfig_core.specs.declared.fault.LoadFault.{LoadFault}
 use Rattle.ldconfig_core.specs.declared.fault.LoadFault.TheVariants as faults
@@ -36,7 +36,7 @@ abbrev pub load_ending : {A : Type 0} → Result A LoadFault → Ending
 load_ending (Ok loaded) = Complete
 load_ending (Err faults.NoManifest) = Complete
 load_ending (Err (faults.BadManifest fault)) = Complete
-load_ending (Err (faults.DiskFailed slot)) = StoreFailed
+load_ending (Err (faults.DiskFailed slot)) = DeviceFailed
 load_ending (Err faults.NoMemory) = GaveUp
 
 -- the slot that couldn't be read

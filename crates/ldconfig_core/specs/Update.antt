@@ -6,7 +6,7 @@ use Rattle.tree_face.specs.declared.disk.Tag.{Tag}
 use Rattle.tree_face.specs.Disk.{DiskState}
 use Rattle.tree_face.specs.Known.{IfKnown}
 use Rattle.tree_face.specs.Store.{Contents, StoreState}
-use Rattle.tree_face.specs.StoreUse.{Ending, Complete, StoreFailed, GaveUp, ReadsFiles}
+use Rattle.tree_face.specs.StoreUse.{Ending, Complete, DeviceFailed, GaveUp, ReadsFiles}
 use Rattle.ldconfig_core.specs.Begun.{opened_in, update_bytes, update_keys}
 use Rattle.ldconfig_core.specs.declared.fault.DiskFault.{DiskFault}
 use Rattle.ldconfig_core.specs.declared.fault.UpdateFault.{UpdateFault}
@@ -33,7 +33,7 @@ IsAnswer outcome (Err faults.NoMemory) old new = ⊤
 -- how the reading of files ended
 abbrev pub update_ending : {A : Type 0} → Result A UpdateFault → Ending
 update_ending (Ok updated) = Complete
-update_ending (Err faults.StoreFault) = StoreFailed
+update_ending (Err faults.StoreFault) = DeviceFailed
 update_ending (Err (faults.TooLarge nodes bytes)) = Complete
 update_ending (Err (faults.TooMany count)) = Complete
 update_ending (Err (faults.DiskFault fault)) = Complete

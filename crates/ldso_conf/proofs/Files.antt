@@ -6,7 +6,7 @@ use Rattle.lib_types.specs.Counts.{raised}
 use Rattle.lib_types.specs.declared.fault.Failed.{Failed}
 use Rattle.tree_face.specs.Known.{IfKnown}
 use Rattle.tree_face.specs.Store.{Contents, StoreState, Begins, HasBegun, Reads}
-use Rattle.tree_face.specs.StoreUse.{Complete, StoreFailed, GaveUp}
+use Rattle.tree_face.specs.StoreUse.{Complete, DeviceFailed, GaveUp}
 use Rattle.tree_face.proofs.Follows.{part_whole}
 use Rattle.tree_face.proofs.Known.{relates_by}
 use Rattle.tree_face.proofs.StoreUse.{raised-mono}
@@ -28,7 +28,7 @@ module _ (key : List ℕ) where
   most_held (Some held) s n a b begun small le = raised-mono a b n (size_read (held key)) (small_size (held key) begun.bytes n begun.under_key begun.size small) le
 
   module _ (old mid : StoreState) where
-    pub not_begun : (e : Failed) → Begins old mid key (Err e) → ReadsFile key old.held StoreFailed old mid
+    pub not_begun : (e : Failed) → Begins old mid key (Err e) → ReadsFile key old.held DeviceFailed old mid
     not_begun e b = record {
       held = b.held;
       begins = b.keys_refused;
@@ -65,7 +65,7 @@ module _ (key : List ℕ) where
     }
 
     module _ (new : StoreState) (n : ℕ) (before after : List ℕ) (b : Begins old mid key (Ok n)) (small : n ≤ CONF_MAX) (room : length before ≡ n) where
-      pub not_read : (e : Failed) → Reads mid new 0 before after (Err e) → ReadsFile key old.held StoreFailed old new
+      pub not_read : (e : Failed) → Reads mid new 0 before after (Err e) → ReadsFile key old.held DeviceFailed old new
       not_read e r = record {
         held = r.held ∙ b.held;
         begins = rw r.keys (relates_by _ _ (λ x y. part_whole (key ∷ []) x y) _ _ b.keys);

@@ -11,7 +11,7 @@ use Rattle.lib_types.proofs.SortedPairs.{by_test}
 use Rattle.tree_face.specs.Follows.{IsFollowedBy, IsFollowedByPart}
 use Rattle.tree_face.specs.Known.{IfKnown, Relates}
 use Rattle.tree_face.specs.Store.{Contents, StoreState}
-use Rattle.tree_face.specs.StoreUse.{Ending, Complete, StoreFailed, GaveUp, HasCause, ReadsFiles}
+use Rattle.tree_face.specs.StoreUse.{Ending, Complete, DeviceFailed, GaveUp, HasCause, ReadsFiles}
 use Rattle.tree_face.proofs.StoreUse.{IsPartial, reads_on, reads_part}
 use Rattle.conf_patterns.specs.Patterns.{Found}
 use Rattle.ldso_conf.specs.Endings.{ending_by}
@@ -85,8 +85,8 @@ reads_unknown l1 l2 keys most e a b c f first next = record {
 } where
   at : (e : Ending) → b.faults ≡ a.faults → HasCause l1 e b.faults c.faults → HasCause l2 e a.faults c.faults
   at Complete none last = last ∙ none
-  at StoreFailed none (inl risen) = inl (rw (← none) risen)
-  at StoreFailed none (inr lacks) = inr (f lacks)
+  at DeviceFailed none (inl risen) = inl (rw (← none) risen)
+  at DeviceFailed none (inr lacks) = inr (f lacks)
   at GaveUp none last = last ∙ none
 
 if_all : {A : Type 0} {P : A → Type 0} (o : Option A) → ((a : A) → P a) → IfSome o P

@@ -5,7 +5,7 @@ use Rattle.std.specs.Prelude.{IfSome}
 use Rattle.lib_types.specs.Counts.{raised}
 use Rattle.tree_face.specs.Follows.{IsFollowedBy}
 use Rattle.tree_face.specs.Store.{StoreState}
-use Rattle.tree_face.specs.StoreUse.{Ending, Complete, StoreFailed, GaveUp, BeginsKeys, HasCause, ReadsFiles}
+use Rattle.tree_face.specs.StoreUse.{Ending, Complete, DeviceFailed, GaveUp, BeginsKeys, HasCause, ReadsFiles}
 use Rattle.tree_face.proofs.Follows.{follow, follow_part, part_of, part_whole}
 use Rattle.tree_face.proofs.Known.{relates_on, relates_by}
 use Rattle.tree_face.specs.Known.{Relates}
@@ -19,14 +19,14 @@ raised-mono a b n m more first = omega (arith, more, first)
 module _ (ks1 ks2 : List (List ℕ)) where
   keys_on : (e : Ending) (a b c : List (List ℕ)) → IsFollowedBy ks1 a b → BeginsKeys e ks2 b c → BeginsKeys e (ks1 ++ ks2) a c
   keys_on Complete a b c = follow ks1 ks2 a b c
-  keys_on StoreFailed a b c = follow_part ks1 ks2 a b c
+  keys_on DeviceFailed a b c = follow_part ks1 ks2 a b c
   keys_on GaveUp a b c = follow_part ks1 ks2 a b c
 
   -- more faults before a call that fails, none before another
   cause_on : (l1 l2 l : Type 0) (e : Ending) (a b c : ℕ) → (l2 → l) → b ≡ a → HasCause l2 e b c → HasCause l e a c
   cause_on l1 l2 l Complete a b c f none last = last ∙ none
-  cause_on l1 l2 l StoreFailed a b c f none (inl risen) = inl (rw (← none) risen)
-  cause_on l1 l2 l StoreFailed a b c f none (inr lacks) = inr (f lacks)
+  cause_on l1 l2 l DeviceFailed a b c f none (inl risen) = inl (rw (← none) risen)
+  cause_on l1 l2 l DeviceFailed a b c f none (inr lacks) = inr (f lacks)
   cause_on l1 l2 l GaveUp a b c f none last = last ∙ none
 
   -- a call that reads all of its files, and then another one
@@ -46,19 +46,19 @@ module _ (ks1 ks2 : List (List ℕ)) where
 -- the call doesn't read all of its files
 abbrev pub IsPartial : Ending → Type 0
 IsPartial Complete = ⊥
-IsPartial StoreFailed = Unit {0}
+IsPartial DeviceFailed = Unit {0}
 IsPartial GaveUp = Unit {0}
 
 module _ (ks1 ks2 : List (List ℕ)) where
   keys_part : (e : Ending) (a b : List (List ℕ)) → IsPartial e → BeginsKeys e ks1 a b → BeginsKeys e (ks1 ++ ks2) a b
   keys_part Complete a b partial = absurd partial
-  keys_part StoreFailed a b partial = part_of ks1 ks2 a b
+  keys_part DeviceFailed a b partial = part_of ks1 ks2 a b
   keys_part GaveUp a b partial = part_of ks1 ks2 a b
 
   cause_part : (l1 l : Type 0) (e : Ending) (a b : ℕ) → (l1 → l) → HasCause l1 e a b → HasCause l e a b
   cause_part l1 l Complete a b f last = last
-  cause_part l1 l StoreFailed a b f (inl risen) = inl risen
-  cause_part l1 l StoreFailed a b f (inr lacks) = inr (f lacks)
+  cause_part l1 l DeviceFailed a b f (inl risen) = inl risen
+  cause_part l1 l DeviceFailed a b f (inr lacks) = inr (f lacks)
   cause_part l1 l GaveUp a b f last = last
 
   -- a call that doesn't read all of the first files reads none of those behind them

@@ -4,12 +4,12 @@ use Rattle.tree_face.specs.declared.disk.Slot.{Slot}
 use Rattle.tree_face.specs.Disk.{DiskState, KeepsAll}
 use Rattle.tree_face.specs.Follows.{IsFollowedBy, IsFollowedByPart}
 use Rattle.tree_face.specs.Known.{Relates}
-use Rattle.tree_face.specs.StoreUse.{Ending, Complete, StoreFailed, GaveUp, HasCause}
+use Rattle.tree_face.specs.StoreUse.{Ending, Complete, DeviceFailed, GaveUp, HasCause}
 
 -- all of these slots are read, or a prefix of them if the call ends before
 abbrev pub ReadsSlots : Ending → List Slot → List Slot → List Slot → Type 0
 ReadsSlots Complete slots = IsFollowedBy slots
-ReadsSlots StoreFailed slots = IsFollowedByPart slots
+ReadsSlots DeviceFailed slots = IsFollowedByPart slots
 ReadsSlots GaveUp slots = IsFollowedByPart slots
 
 -- these slots are read in their order, each once, nothing is written, and the counts rise only if the disk fails

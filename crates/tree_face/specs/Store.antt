@@ -38,10 +38,6 @@ pub record HasBegun (s : StoreState) (held : Contents) (key : List ℕ) (n : ℕ
   pub content : s.content ≡ Some bytes
   pub size : length bytes ≡ n
 
--- at most so many keys were begun
-abbrev pub BeginsAtMost : ℕ → StoreState → StoreState → Type 0
-BeginsAtMost n old new = new.begun ≤ raised old.begun n
-
 -- the call that begins a key
 pub record Begins (old new : StoreState) (key : List ℕ) (result : Result ℕ Failed) : Type 0 where
   pub held : new.held ≡ old.held

@@ -9,21 +9,21 @@ use Rattle.tree_face.specs.Store.{StoreState}
 pub data Ending : Type 0 where
   -- the files were read
   Complete : Ending
-  -- the store has failed, or doesn't hold a file
-  StoreFailed : Ending
-  -- it is out of memory, or refuses what it has read
+  -- the device has failed, or the store doesn't hold a file
+  DeviceFailed : Ending
+  -- it is out of memory
   GaveUp : Ending
 
 -- all of these keys are begun, or a prefix of them if the call doesn't read all
 abbrev pub BeginsKeys : Ending → List (List ℕ) → List (List ℕ) → List (List ℕ) → Type 0
 BeginsKeys Complete keys = IsFollowedBy keys
-BeginsKeys StoreFailed keys = IsFollowedByPart keys
+BeginsKeys DeviceFailed keys = IsFollowedByPart keys
 BeginsKeys GaveUp keys = IsFollowedByPart keys
 
--- The count of faults rises only if the store fails, and the call ends so only then, or because a file isn't held.
+-- The count of faults rises only if the device fails, and the call ends so only then, or because a file isn't held.
 abbrev pub HasCause : Type 0 → Ending → ℕ → ℕ → Type 0
 HasCause lacks Complete before after = after ≡ before
-HasCause lacks StoreFailed before after = HasRisen before after ⊎ lacks
+HasCause lacks DeviceFailed before after = HasRisen before after ⊎ lacks
 HasCause lacks GaveUp before after = after ≡ before
 
 -- the call begins these keys in their order and takes at most so many bytes, as far as they are known

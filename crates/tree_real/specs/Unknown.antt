@@ -13,6 +13,7 @@ unknown_store c = record {
   size = c.size;
   faults = c.faults;
   begun = c.begun;
+  keys = None;
   taken = c.taken;
 }
 
@@ -26,6 +27,7 @@ unknown_disk faults read_faults = record {
   contents = None;
   made = λ _ _. true;
   calls = None;
+  reads = None;
   faults = faults;
   read_faults = read_faults;
 }

@@ -163,7 +163,7 @@ impl MemStore {
         }
     }
 
-    /// The keys that were begun. One that was refused may be among them.
+    /// The keys that were begun, in their order, without those that were refused.
     pub fn keys(&self) -> &Texts
         ensures { (failing_state_of self.now).keys ≡ Some result.now }
     {
