@@ -84,7 +84,7 @@ module _ (known : Option Contents) (ks more : List (List ℕ)) (e : Ending) (a b
   keys_early partial first =
       let tail = rest_known known ks more in
       let early = reads_early e a b partial (LacksOne known ks) (LacksOne known (ks ++ more)) (Some (until_known known ks)) (Some tail)
-          (most_known_of known (until_known known ks)) (most_known_of known tail) (before_known known ks more) first in
+      (most_known_of known (until_known known ks)) (most_known_of known tail) (before_known known ks more) first in
       subst (λ l. ReadsFiles (LacksOne known (ks ++ more)) (Some l) (most_known_of known l) e a b) (sym (until_known_append known ks more))
       (rw (summed_known known (until_known known ks) tail) at early)
 

@@ -77,6 +77,7 @@ module _ (t : Nodes) (known : Option Contents) (all : List (List ℕ)) where
         second : (a b : _) → b ≡ true → (a || b) ≡ true
         second true b e = refl
         second false b e = e
+
         first : (a b : _) → (a || b) ≡ true → b ≡ false → a ≡ true
         first true b e f = refl
         first false b e f = let z : true ≡ false = sym e ∙ f in absurd (cc)
@@ -115,9 +116,11 @@ module _ (t : Nodes) (known : Option Contents) (all : List (List ℕ)) where
       nothing : (k : Option Contents) → ReadsBy k [] Complete s s
       nothing None = reads_none _ _ s
       nothing (Some held) = reads_none _ _ s
+
       none : (k : Option Contents) → IfKnown k (λ held. lacks_one held [] ≡ false)
       none None = tt
       none (Some held) = refl
+
       same : (k : Option Contents) → IfKnown k (λ held. AreRight held t (analysis_at old.table) → AreRight held t (analysis_at old.table))
       same None = tt
       same (Some held) = λ r. r

@@ -34,11 +34,13 @@ module _ (held : Contents) (s : Loaded) (updated : Loaded × Report) (is : IsUpd
       → Replaces tag (writes_of manifest texts.cache) a b → (manifest_of b.now.manifest ≡ HasTree updated.0.tree) × (b.now.cache ≡ Some texts.cache)
   slot_reads None e a b read (c, (replaced, same)) = (
     ap (λ (d : DiskContent). manifest_of d.now.manifest) same ∙ ap (λ s. manifest_of s.manifest) replaced.slots ∙ read ∙ ap HasTree (sym (is.settled.unchanged (sym e))),
-    ap (λ (d : DiskContent). d.now.cache) same ∙ ap (λ s. s.cache) replaced.slots)
+    ap (λ (d : DiskContent). d.now.cache) same ∙ ap (λ s. s.cache) replaced.slots,
+  )
   slot_reads (Some text) e a b read (c, (first, (d, (replaced, same)))) = (
     ap (λ (d : DiskContent). manifest_of d.now.manifest) same ∙ ap (λ s. manifest_of s.manifest) replaced.slots ∙ ap (λ s. manifest_of s.manifest) first.slots
-    ∙ subst (λ (manifest : Option (List ℕ)). IfReads manifest updated.0) (sym e) is.reads,
-    ap (λ (d : DiskContent). d.now.cache) same ∙ ap (λ s. s.cache) replaced.slots)
+        ∙ subst (λ (manifest : Option (List ℕ)). IfReads manifest updated.0) (sym e) is.reads,
+    ap (λ (d : DiskContent). d.now.cache) same ∙ ap (λ s. s.cache) replaced.slots,
+  )
 
   holds : (a b : DiskContent) → IsLoaded (Some a) s → Replaces tag (writes_of texts.manifest texts.cache) a b → update_outcome held s ≡ Writes → HoldsItsUpdate held b
   holds a b load replaced writes =

@@ -77,10 +77,22 @@ pub(crate) fn cache_line(defect: CacheDefect) -> FaultLine
         CacheDefect::Short { len } => numbered(b"fault: BadCache: Short ", len, b"\n"),
         CacheDefect::BadMagic => whole(b"fault: BadCache: BadMagic\n"),
         CacheDefect::BadEndian { flags } => numbered(b"fault: BadCache: BadEndian ", flags, b"\n"),
-        CacheDefect::EntriesOutside { nlibs } => numbered(b"fault: BadCache: EntriesOutside ", nlibs, b"\n"),
-        CacheDefect::StringOutside { entry } => numbered(b"fault: BadCache: StringOutside ", entry, b"\n"),
+        CacheDefect::EntriesOutside { nlibs } => numbered(
+            b"fault: BadCache: EntriesOutside ",
+            nlibs,
+            b"\n",
+        ),
+        CacheDefect::StringOutside { entry } => numbered(
+            b"fault: BadCache: StringOutside ",
+            entry,
+            b"\n",
+        ),
         CacheDefect::NoNul { entry } => numbered(b"fault: BadCache: NoNul ", entry, b"\n"),
-        CacheDefect::BadExtension { offset } => numbered(b"fault: BadCache: BadExtension ", offset, b"\n"),
+        CacheDefect::BadExtension { offset } => numbered(
+            b"fault: BadCache: BadExtension ",
+            offset,
+            b"\n",
+        ),
         CacheDefect::BadHwcap { entry } => numbered(b"fault: BadCache: BadHwcap ", entry, b"\n"),
         CacheDefect::Unsorted { entry } => numbered(b"fault: BadCache: Unsorted ", entry, b"\n"),
     }

@@ -104,4 +104,3 @@ impl From<UpdateFault> for Status {
         }
     }
 }
-

@@ -55,8 +55,8 @@ module _ (front : List DoneCall) (call : DoneCall) where
           no_more [] = refl
           no_more (x ∷ l) = ap (λ m. x ∷ m) (no_more l)
       by (suc k) e = inr (
-        e ∙ ap (λ l. b ++ call ∷ l) (take_none k) ∙ ap (λ l. l ++ call ∷ []) first ∙ append_assoc a front (call ∷ [])
-        ∙ ap (λ l. a ++ l) (sym (take-append-add front (call ∷ rest) 1)))
+          e ∙ ap (λ l. b ++ call ∷ l) (take_none k) ∙ ap (λ l. l ++ call ∷ []) first ∙ append_assoc a front (call ∷ [])
+          ∙ ap (λ l. a ++ l) (sym (take-append-add front (call ∷ rest) 1)))
 
   -- the calls before it were made, and perhaps this one, which failed
   pub stops : (rest : List DoneCall) (a b c : Option (List DoneCall)) → Relates (IsFollowedBy front) a b → Relates (IsFollowedByPart (call ∷ [])) b c
@@ -161,6 +161,7 @@ nothing_written tag s = record { contents = same s.contents; calls = none s.call
     same : (c : Option DiskContent) → Relates (Replaces tag.0 []) c c
     same None = tt
     same (Some c) = refl
+
     none : (c : Option (List DoneCall)) → Relates (IsFollowedBy (calls_of tag [])) c c
     none None = tt
     none (Some c) = sym (no_more c)

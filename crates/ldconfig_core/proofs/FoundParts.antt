@@ -97,11 +97,11 @@ module _ (held : Contents) (t : Nodes) (search : Search) (s : IsSearched held t 
       is_found plan few b m d right keeps all more begun none =
           let after = right (right_new held t new alike (analysis_at search.files.table) s.right) in
           let one : AgreeOn (wanted t search.dirs.places) (what_is held t) (analysis_at files.table) =
-              still_agree held t new alike (analysis_at search.files.table) (analysis_at files.table) (wanted t search.dirs.places) agree_wanted keeps after in
+          still_agree held t new alike (analysis_at search.files.table) (analysis_at files.table) (wanted t search.dirs.places) agree_wanted keeps after in
           let other : AgreeOn (reached new search.dirs.places) (what_is held t) (analysis_at files.table) =
-              λ path there. agree_read held new (analysis_at files.table) (reached new search.dirs.places) after all path there ∙ what_same held t new alike path in
+          λ path there. agree_read held new (analysis_at files.table) (reached new search.dirs.places) after all path there ∙ what_same held t new alike path in
           let one_new : AgreeOn (wanted new search.dirs.places) (what_is held t) (analysis_at files.table) =
-              subst (λ (paths : List (List ℕ)). AgreeOn paths (what_is held t) (analysis_at files.table)) (sym still.files) one in
+          subst (λ (paths : List (List ℕ)). AgreeOn paths (what_is held t) (analysis_at files.table)) (sym still.files) one in
           let behind = behind_are in
           record {
             conf = s.conf;

@@ -44,8 +44,8 @@ module _ (t : Nodes) (e : Ending) where
   search_all None keys a b c all are first next = reads_then e a b c ⊥ ⊥ ⊥ None (Some keys) None None (λ lacks. lacks) first next
   search_all (Some held) keys a b c all are first next =
       let both = reads_then e a b c (conf_lacks held t ≡ true) (lacks_one held keys ≡ true) (lacks_wanted held t ≡ true) (Some (conf_keys held t)) (Some (until_lacking held keys))
-          (Some (conf_bytes held t)) (Some (most_of held (until_lacking held keys)))
-          (λ lacks. or_right (conf_lacks held t) (lacks_one held (wanted_keys held t)) (ap (lacks_one held) (sym are) ∙ lacks)) first next in
+      (Some (conf_bytes held t)) (Some (most_of held (until_lacking held keys)))
+      (λ lacks. or_right (conf_lacks held t) (lacks_one held (wanted_keys held t)) (ap (lacks_one held) (sym are) ∙ lacks)) first next in
       rw all (rw (are, all) at both)
 
 module _ (t : Nodes) (e : Ending) where
@@ -65,8 +65,8 @@ module _ (t : Nodes) (e : Ending) where
   update_all None keys a b c none few are first next = reads_then e a b c ⊥ ⊥ ⊥ None (Some keys) None None (λ lacks. lacks) first next
   update_all (Some held) keys a b c none few are first next =
       let both = reads_then e a b c (lacks_wanted held t ≡ true) (lacks_one held keys ≡ true) (update_outcome held (loaded t) ≡ Lacking) (Some (search_keys held t)) (Some (until_lacking held keys))
-          (Some (search_bytes held t)) (Some (most_of held (until_lacking held keys)))
-          (λ lacks. lacking_behind held (loaded t) none few (ap (lacks_one held) (sym are) ∙ lacks)) first next in
+      (Some (search_bytes held t)) (Some (most_of held (until_lacking held keys)))
+      (λ lacks. lacking_behind held (loaded t) none few (ap (lacks_one held) (sym are) ∙ lacks)) first next in
       rw (none, few) (rw are at both)
 
 -- the planned links have no room, so that no link is followed
@@ -82,6 +82,7 @@ update_small t (Some held) a b many reads =
   where
     no_more : (n : ℕ) → n + 0 ≡ n
     no_more n = omega arith
+
     other : {k : Option (List (List ℕ))} {m : Option ℕ} {l1 l2 : Type 0} → ReadsFiles l1 k m Complete a b → ReadsFiles l2 k m Complete a b
     other reads = record {
       held = reads.held;

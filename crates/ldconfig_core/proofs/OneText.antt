@@ -32,9 +32,10 @@ module _ (held : Contents) (s : Loaded) where
       ∙ ap (λ r. texts_with others.manifest others.cache r) report
 
   texts_by : (entries : List Entry) → AreEntriesOf (entries_in held s.tree) entries → (texts : UpdateTexts) × AreTextsOf held s texts
-  texts_by entries are =
-      (record { manifest = new_manifest held s; cache = cache_text entries; report = report_text (said_with held s.tree entries) },
-      record { entries = entries; are = are; manifest_is = refl; cache_is = refl; report_is = refl })
+  texts_by entries are = (
+    record { manifest = new_manifest held s; cache = cache_text entries; report = report_text (said_with held s.tree entries) },
+    record { entries = entries; are = are; manifest_is = refl; cache_is = refl; report_is = refl },
+  )
 
   -- every image has texts
   pub some_texts : (texts : UpdateTexts) × AreTextsOf held s texts

@@ -14,7 +14,6 @@ use Rattle.place_files.specs.Order.{ascending}
 use Rattle.place_files.specs.Search.{reached, wanted}
 use Rattle.planned_links.proofs.Agree.{agree}
 use Rattle.planned_links.specs.Search.{IsSearchedAlike}
-
 use Rattle.soname_links.specs.Apply.{nodes_with}
 use Rattle.soname_links.specs.declared.kinds.Planned.{Planned}
 use Rattle.soname_links.specs.Plan.{links, with_links}
@@ -121,8 +120,8 @@ module _ (held : Contents) (t new : Nodes) (alike : IsSearchedAlike t new) (put 
   unfolding update_outcome
   still_writes h =
       let none = none_holds (conf_lacks held t) (lacks_one held (wanted_keys held t)) (has_too_many_nodes held t) (lacks_one held (behind_keys held t))
-          (is_too_long (new_manifest held (loaded t))) (nat_lt ENTRIES_MAX (length (entries_in held t))) (nodes_with t (links_in held t)) (length (planned_in held t))
-          (size_of (new_manifest held (loaded t))) (length (entries_in held t)) h in
+      (is_too_long (new_manifest held (loaded t))) (nat_lt ENTRIES_MAX (length (entries_in held t))) (nodes_with t (links_in held t)) (length (planned_in held t))
+      (size_of (new_manifest held (loaded t))) (length (entries_in held t)) h in
       let conf_held : conf_lacks held new ≡ false = same_lacks ∙ none.0 in
       let wanted_held : lacks_one held (wanted_keys held new) ≡ false = ap (lacks_one held) wanted_again ∙ none.1.0 in
       let files_held : lacks_one held (behind_keys held new) ≡ false = ap (lacks_one held) behind_again ∙ none.1.1.0 in

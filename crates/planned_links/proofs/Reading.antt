@@ -47,7 +47,7 @@ module _ (t new : Nodes) (tree : IsTree t) (after : IsTree new) (alike : IsAlike
     items_same (suc left) before f =
         let item = included_at t held (suc left) before f in
         let next = agree (conf.included new held left) (conf.included t held left)
-            (λ b. agree (conf.included new held left b) (conf.included t held left b) (λ g. items_same left b g)) in
+        (λ b. agree (conf.included new held left b) (conf.included t held left b) (λ g. items_same left b g)) in
         ap (with_steps (conf.included new held left) new before) (item_same (suc left) before f)
         ∙ ap (λ steps. item ∷ asked (conf.included new held left) (before ++ place_in item) steps) (steps_in_same item)
         ∙ ap (λ file. with_steps file t before item) next

@@ -171,6 +171,7 @@ reads_none l m s = record {
     unchanged : (keys : Option (List (List ℕ))) → Relates (BeginsKeys Complete []) keys keys
     unchanged None = tt
     unchanged (Some keys) = sym (append-nil keys)
+
     untaken : (most : Option ℕ) → IfTaken most s s
     untaken None = tt
     untaken (Some n) = omega arith
