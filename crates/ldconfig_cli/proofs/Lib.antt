@@ -1,3 +1,4 @@
+mod NotUsage
 mod OnlyArgument
 mod Saying
 mod SettledSlots

@@ -24,6 +24,7 @@ module _ (xs ys : List ℕ) (a b c : SinkState) where
     cause = rw (← first.no_fault) next.cause;
   }
 
+module _ (xs ys : List ℕ) (a b : SinkState) where
   -- the first text isn't written whole
   pub takes_part : (fault : Failed) → TakesAll a b xs (Err fault) → TakesAll a b (xs ++ ys) (Err fault)
   takes_part fault first = record {

@@ -12,6 +12,7 @@ use mtree_manifest::{LineKind, ManifestFault};
 use tree_face::{Sink, put_all};
 
 /// A line with a number in it, or without one.
+#[derive(Clone, Copy)]
 pub(crate) struct FaultLine {
     front: &'static [u8],
     number: Option<u64>,
