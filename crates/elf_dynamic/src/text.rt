@@ -12,19 +12,17 @@ use crate::AnalyseFault;
 use crate::table::Table;
 use crate::window::Window;
 use elf_headers::kinds::Head;
-use lib_types::Text;
-use memchr::memchr;
+use lib_types::{Text, find_byte};
 use std::alloc::{AllocError, Global};
 use tree_face::Store;
 
 /// The most bytes of a text that are looked at, its NUL among them.
 const TEXT_LIMIT: u64 = 65536;
 
-#[tactic(auto, using(crate::proofs::Nuls::first_nul_is))]
 fn first_nul(bytes: &[u8]) -> Option<usize>
     ensures { result ≡ position is_nul bytes.now }
 {
-    memchr(0, bytes)
+    find_byte(0, bytes)
 }
 
 // Adds these bytes, if they are kept.

@@ -1,7 +1,15 @@
--- Numbers in bytes, least byte first (gABI, ELFDATA2LSB).
-use Rattle.std.specs.Prelude.{ℕ, List}
+-- Bytes, and numbers in them, least byte first (gABI, ELFDATA2LSB).
+use Rattle.std.specs.Prelude.{ℕ, Bool, List, ◌==◌, ◌||◌}
 use Rattle.byteorder.specs.Endian.{little_from}
 
 -- the number of n bytes at an offset
 abbrev pub field : List ℕ → ℕ → ℕ → ℕ
 field bytes at n = little_from at n bytes
+
+-- the byte is this one
+abbrev pub is_byte : ℕ → ℕ → Bool
+is_byte byte b = b == byte
+
+-- the byte is one of these two
+abbrev pub is_either : ℕ → ℕ → ℕ → Bool
+is_either x y b = b == x || b == y

@@ -11,3 +11,4 @@ pub mod Progressing
 pub mod RoundTrip
 pub mod Tokens
 pub mod Opening
+pub mod Spelling

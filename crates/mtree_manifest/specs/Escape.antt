@@ -1,5 +1,5 @@
 -- Escapes in the words of a manifest (mtree(5): blanks, backslashes and other bytes are written as vis(3) writes them).
-use Rattle.std.specs.Prelude.{ℕ, ◌+◌, ◌-◌, ◌*◌, ◌/◌, ◌%◌, Bool, List, [], ◌∷◌, ◌==◌, ◌&&◌, not, nat_le, if◌then◌else◌, flat_map, Option, Some, None, option_map}
+use Rattle.std.specs.Prelude.{◌≡◌, ◌↔◌, ℕ, ◌+◌, ◌-◌, ◌*◌, ◌/◌, ◌%◌, Bool, List, [], ◌∷◌, ◌==◌, ◌&&◌, not, nat_le, if◌then◌else◌, flat_map, map, Option, Some, None, option_map}
 use Rattle.std.specs.Str.{byte}
 
 abbrev pub backslash : ℕ
@@ -48,6 +48,24 @@ decoded (b ∷ c ∷ d ∷ e ∷ rest) =
     if b == backslash
     then escape (letter c) (decoded (d ∷ e ∷ rest)) (octal c d e) (decoded rest)
     else in_front (Some b) (decoded (c ∷ d ∷ e ∷ rest))
+
+-- ---- the same as a relation: a word is a row of texts, each of which writes one byte
+
+-- the byte that a text writes: itself, but for a backslash; or a backslash and a letter, or three octal digits
+abbrev pub byte_of : List ℕ → Option ℕ
+byte_of (b ∷ []) = if b == backslash then None else Some b
+byte_of (b ∷ c ∷ []) = if b == backslash then letter c else None
+byte_of (b ∷ c ∷ d ∷ e ∷ []) = if b == backslash then octal c d e else None
+byte_of _ = None
+
+pub record StandsFor (word bytes : List ℕ) : Type 0 where
+  pub texts : List (List ℕ)
+  pub joined : flat_map (λ text. text) texts ≡ word
+  pub each : map byte_of texts ≡ map Some bytes
+
+-- Of all words those that stand for bytes are decoded, each to the bytes that it stands for.
+abbrev pub DecodesAll : Type 0
+DecodesAll = (word bytes : List ℕ) → (decoded word ≡ Some bytes) ↔ StandsFor word bytes
 
 -- the bytes that the canonical text leaves as they are: printable ASCII but the backslash and `#`
 abbrev pub is_plain : ℕ → Bool

@@ -4,7 +4,7 @@ ghost use Rattle.std.specs.List.{list_any};
 ghost use Rattle.mtree_manifest.specs.Escape.{letter, octal, is_octal, backslash, decoded};
 ghost use Rattle.mtree_manifest.specs.Decoding.{octal_at, escape_at, first_byte, Decodes};
 
-use lib_types::NoMemory;
+use lib_types::{NoMemory, has_byte};
 
 // The byte that a letter behind a backslash stands for.
 fn letter(c: u8) -> Option<u8>
@@ -101,7 +101,7 @@ fn decode_bytes(out: &mut Vec<u8>, word: &[u8]) -> Result<bool, NoMemory>
 pub(crate) fn has_backslash(word: &[u8]) -> bool
     ensures { result ≡ list_any (λ b. b == backslash) word.now }
 {
-    word.iter().any(|&b| b == b'\\')
+    has_byte(b'\\', word)
 }
 
 /// Appends the bytes that a word stands for, and says whether each of its escapes is one.

@@ -10,7 +10,7 @@ ghost use Rattle.mtree_manifest.specs.Views.{values_in, given_in, fault_of_text,
 
 use crate::escape::{decode, has_backslash};
 use crate::fault::LineKind;
-use lib_types::{NoMemory, is_utf8};
+use lib_types::{NoMemory, find_byte, is_utf8};
 use std::alloc::Global;
 
 /// The keywords that have a meaning here, and all others.
@@ -343,7 +343,7 @@ fn first_equals(word: &[u8]) -> Option<usize>
     ensures place { result ≡ position is_equals word.now }
     ensures within { IfSome result (λ n. n < length word.now) }
 {
-    word.iter().position(|&b| b == b'=')
+    find_byte(b'=', word)
 }
 
 /// Adds what one word more gives.

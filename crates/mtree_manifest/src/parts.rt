@@ -4,6 +4,7 @@ ghost use Rattle.std.specs.List.{slice_split};
 ghost use Rattle.std.specs.Option.{option_copied};
 ghost use Rattle.mtree_manifest.specs.Parts.{separates, parts_of};
 
+use lib_types::{find_byte, find_either};
 use std::marker::Model;
 
 /// What stands between two parts.
@@ -13,21 +14,14 @@ pub(crate) enum Separator {
     Slash,
 }
 
-// Whether the byte stands between two parts.
-fn separates(separator: Separator, b: u8) -> bool
-    ensures { result ≡ separates separator b }
-{
-    match separator {
-        Separator::Blank => b == b' ' || b == b'\t',
-        Separator::Slash => b == b'/',
-    }
-}
-
 fn first_separator(separator: Separator, bytes: &[u8]) -> Option<usize>
     ensures index { result ≡ position (separates separator) bytes.now }
     ensures within { IfSome result (λ n. n < length bytes.now) }
 {
-    bytes.iter().position(|&b| separates(separator, b))
+    match separator {
+        Separator::Blank => find_either(b' ', b'\t', bytes),
+        Separator::Slash => find_byte(b'/', bytes),
+    }
 }
 
 // The first part, and the bytes behind the separator that ends it.

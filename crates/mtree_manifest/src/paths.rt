@@ -5,7 +5,7 @@ ghost use Rattle.mtree_manifest.specs.Naming.{Names};
 
 use crate::escape::decode;
 use crate::parts::{Separator, split};
-use lib_types::{NoMemory, is_name};
+use lib_types::{NoMemory, has_byte, is_name};
 use tree_face::is_kept;
 
 /// The bytes without the first one: a word without its first character, or a path without its first slash.
@@ -19,7 +19,7 @@ pub(crate) fn behind_first(bytes: &[u8]) -> &[u8]
 pub(crate) fn is_full(word: &[u8]) -> bool
     ensures { result ≡ is_full word.now }
 {
-    behind_first(word).iter().any(|&b| b == b'/')
+    has_byte(b'/', behind_first(word))
 }
 
 /// Whether a word is `/NAME` without a further slash.

@@ -6,6 +6,7 @@ ghost use Rattle.mtree_manifest.specs.Ends.{Ends};
 ghost use Rattle.mtree_manifest.specs.Good.{IsGood, IsGoodOpen, are_good};
 ghost use Rattle.mtree_manifest.specs.Lines.{lines_in};
 ghost use Rattle.mtree_manifest.specs.Lining.{line_in};
+ghost use Rattle.mtree_manifest.specs.Escape.{DecodesAll};
 ghost use Rattle.mtree_manifest.specs.Manifest.{no_lines, set_line, close_line, entry_fault, entry, stack_behind, with_reading, with_lines, tree_of, first_bad};
 ghost use Rattle.mtree_manifest.specs.Paths.{place};
 ghost use Rattle.mtree_manifest.specs.Progress.{line_ended, physical_taken};
@@ -199,6 +200,9 @@ pub fn read(alloc: Global, text: &[u8]) -> Result<Tree, ManifestFault>
     ensures tree { IfOk result (λ tree. tree_of text.now ≡ Some tree) }
     ensures fault { IfErr result (λ fault. (fault ≡ faults.NoMemory) ⊎ (first_bad text.now ≡ Some fault)) }
     ensures no_memory { IsErrOf result faults.NoMemory → length text.now ≤ TEXT_MAX }
+
+    // What `decoded` gives for a word, of which the tree is made, is what the word stands for.
+    ensures words { DecodesAll }
 {
     if text.len() > TEXT_MAX {
         return Err(ManifestFault::TooLong {

@@ -1,6 +1,6 @@
 use Rattle.std.proofs.Common.{is_some, ap, ◌∙◌}
 use Rattle.elf_dynamic.specs.Section.{is_nul}
-use Rattle.elf_dynamic.proofs.Nuls.{is_some_position}
+use Rattle.lib_types.proofs.FirstByte.{is_some_position}
 use Rattle.elf_dynamic.proofs.text.add_text.Goals as goal
 
 pub returns-in_ok-add_kept-in-Some-clause-ended : goal.returns-in_ok-add_kept-in-Some-clause-ended
