@@ -175,6 +175,7 @@ stands_for (suc n) (x ∷ rest) bytes le h =
     from_first n (stands_for n) (first_byte (x ∷ rest)) x rest bytes le refl (sym (decoded_step x rest) ∙ h)
 
 pub decodes_all : DecodesAll
-decodes_all word bytes =
-    (λ h. stands_for (length word) word bytes (omega arith) h,
-     λ stands. ap decoded (sym stands.joined) ∙ all_decoded stands.texts bytes stands.each)
+decodes_all word bytes = (
+  λ h. stands_for (length word) word bytes (omega arith) h,
+  λ stands. ap decoded (sym stands.joined) ∙ all_decoded stands.texts bytes stands.each,
+)

@@ -106,22 +106,15 @@ pub(crate) fn fault_unless(holds: bool, kind: LineKind) -> Option<LineKind>
 fn keyword_of(key: &[u8]) -> Keyword
     ensures { result ≡ keyword_of key.now }
 {
-    if key == b"type".as_slice() {
-        Keyword::Type
-    } else if key == b"link".as_slice() {
-        Keyword::Link
-    } else if key == b"dev".as_slice() {
-        Keyword::Dev
-    } else if key == b"inode".as_slice() {
-        Keyword::Inode
-    } else if key == b"ctime".as_slice() {
-        Keyword::Ctime
-    } else if key == b"size".as_slice() {
-        Keyword::Size
-    } else if key == b"contents".as_slice() {
-        Keyword::Contents
-    } else {
-        Keyword::Other
+    match key {
+        b"type" => Keyword::Type,
+        b"link" => Keyword::Link,
+        b"dev" => Keyword::Dev,
+        b"inode" => Keyword::Inode,
+        b"ctime" => Keyword::Ctime,
+        b"size" => Keyword::Size,
+        b"contents" => Keyword::Contents,
+        _ => Keyword::Other,
     }
 }
 
@@ -147,16 +140,12 @@ fn makes_no_node(value: &[u8]) -> bool
 fn type_of(value: &[u8]) -> LineType
     ensures { result ≡ type_of value.now }
 {
-    if value == b"file".as_slice() {
-        LineType::File
-    } else if value == b"dir".as_slice() {
-        LineType::Dir
-    } else if value == b"link".as_slice() {
-        LineType::Link
-    } else if makes_no_node(value) {
-        LineType::NoNode
-    } else {
-        LineType::Unknown
+    match value {
+        b"file" => LineType::File,
+        b"dir" => LineType::Dir,
+        b"link" => LineType::Link,
+        _ if makes_no_node(value) => LineType::NoNode,
+        _ => LineType::Unknown,
     }
 }
 

@@ -10,7 +10,6 @@ pub mod Listed
 pub mod Names
 pub mod Order
 pub mod Pairs
-pub mod PlainNames
 pub mod Rising
 pub mod Runs
 pub mod StoreUse

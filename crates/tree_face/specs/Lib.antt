@@ -9,7 +9,6 @@ pub mod MemStore
 pub mod Memory
 pub mod Node
 pub mod Paths
-pub mod PlainNames
 pub mod Runs
 pub mod SlotFile
 pub mod Store

@@ -1,13 +1,12 @@
 //! Paths of a tree and their order.
 ghost use Rattle.std.specs.Prelude.{◌≡◌, ◌≢◌, ℕ, ◌+◌, ◌==◌, ◌^◌, ◌<◌, ◌≤◌, IfSome, IsTrue, length, drop};
 ghost use Rattle.byteorder.specs.Endian.{little_from};
-ghost use Rattle.tree_face.specs.PlainNames.{is_size, is_plain_at, plain_names};
 ghost use Rattle.tree_face.specs.Paths.{is_path, is_kept, is_slash, are_names, path_cmp, path_rank, stem, folder, is_below, name_behind};
 ghost use Rattle.std.specs.List.{before_first, position};
 ghost use Rattle.std.specs.Ordering.{nat_cmp};
 
 use byteorder::{ByteOrder, LittleEndian};
-use lib_types::{NAME_MAX, is_name};
+use lib_types::is_name;
 use std::cmp::Ordering;
 
 /// The most bytes of a path.
@@ -20,54 +19,11 @@ pub fn is_path(path: &[u8]) -> bool
     path.len() <= PATH_MAX && path.starts_with(b"/") && are_names(&path[1..])
 }
 
-// Whether a name has so many bytes.
-fn is_size(len: usize) -> bool
-    ensures { result ≡ is_size len }
-{
-    0 < len && len <= NAME_MAX
-}
-
-// Whether a byte stands for itself behind so many others of its name.
-fn is_plain_at(len: usize, b: u8) -> bool
-    ensures { result ≡ is_plain_at len b }
-{
-    b != 0 && b < 128 && !(len == 0 && b == b'.')
-}
-
-// Whether the bytes are names of ASCII without a dot in front. Nearly all are, and one pass shows it.
-fn are_plain_names(bytes: &[u8]) -> bool
-    ensures { result ≡ plain_names 0 bytes.now }
-{
-    let mut len = 0;
-    for &b in bytes {
-        if b == b'/' {
-            if !is_size(len) {
-                return false;
-            }
-            len = 0;
-        } else {
-            if !is_plain_at(len, b) {
-                return false;
-            }
-            len += 1;
-        }
-    }
-    is_size(len)
-}
-
-// Whether each part between slashes is a name.
-fn are_all_names(bytes: &[u8]) -> bool
-    ensures { result ≡ are_names bytes.now }
-{
-    bytes.split(|&b| b == b'/').all(|name| is_name(name))
-}
-
 // Whether the bytes are names with a slash between each two.
-#[tactic(auto, using(crate::proofs::PlainNames::plain_are_names))]
 fn are_names(bytes: &[u8]) -> bool
     ensures { result ≡ are_names bytes.now }
 {
-    are_plain_names(bytes) || are_all_names(bytes)
+    bytes.split(|&b| b == b'/').all(|name| is_name(name))
 }
 
 /// Whether a component of a path text leads anywhere, as an empty one and `.` don't.

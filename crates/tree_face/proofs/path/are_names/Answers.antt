@@ -2,7 +2,7 @@ use Rattle.std.proofs.Common.{rules}
 use Rattle.std.proofs.lemmas.Iterator.Search.{all_from_yields_List}
 use Rattle.std.proofs.lemmas.Iterator.Splits.{YieldsList-from_slice_split}
 use Rattle.lib_types.specs.Name.{is_name}
-use Rattle.tree_face.proofs.path.are_all_names.Goals as goal
+use Rattle.tree_face.proofs.path.are_names.Goals as goal
 
 -- the parts that come are those of the list, and the test is that of names
 pub returns : goal.returns
