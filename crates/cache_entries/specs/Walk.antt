@@ -1,5 +1,6 @@
--- Where the library of a soname is by a search of the directories in their order (ld.so(8): the glibc-hwcaps subdirectories for the
--- first hwcaps name of all directories, then those for the next one, and the directories themselves last). No cache is in it.
+-- Where the library of a soname is, by a search of the places that knows no cache: in their order those for the loader's first hwcaps name
+-- (ld.so(8): glibc-hwcaps subdirectories), then those for its next one, and the directories themselves last. That is the order of what a
+-- loader finds by its cache; the directories of a library path it searches one by one, each with its subdirectories first.
 use Rattle.std.specs.Prelude.{ℕ, Bool, List, [], ◌∷◌, ◌++◌, filter, if◌then◌else◌, map, nat_eq, Option, Some, None}
 use Rattle.std.specs.Option.{option_and_then, option_eq, option_or}
 use Rattle.std.specs.Str.{bytes_eq}
