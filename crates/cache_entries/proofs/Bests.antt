@@ -1,23 +1,20 @@
 -- The winners are those of the best files alone.
-use Rattle.std.proofs.Common.{◌≡◌, ℕ, Bool, true, false, cond, ◌||◌, List, [], ◌∷◌, ◌++◌, map, refl, ap, sym, subst, ◌∙◌, Option, Some, None}
-use Rattle.std.proofs.lemmas.Map.Keys.{sorted_head, sorted_tail}
-use Rattle.std.proofs.lemmas.Slice.Eq.{bytes_eq-Decides}
-use Rattle.std.specs.Cmp.Lexicographic.{slice_cmp}
+use Rattle.std.proofs.Common.{◌≡◌, ℕ, Bool, true, false, cond, ◌||◌, List, [], ◌∷◌, ◌++◌, map, refl, ap, sym, ◌∙◌, Option, Some, None}
 use Rattle.std.specs.List.{cons_option, filter, filter_map, fold}
 use Rattle.std.specs.Option.{is_some}
-use Rattle.std.specs.Ordering.{nat_cmp}
 use Rattle.std.specs.Str.{bytes_eq}
 use Rattle.lib_types.proofs.SortedPairs.{by_test}
 use Rattle.place_files.proofs.InOrder.{ascending_sorted, in_ascending}
-use Rattle.place_files.proofs.Members.{AreSorted, is_in, itself, none_below, same_members}
+use Rattle.place_files.proofs.Members.{is_in, itself, same_members}
 use Rattle.place_files.proofs.Named.{best_has}
 use Rattle.place_files.proofs.Ordered.{filtered_same}
 use Rattle.place_files.specs.Best.{best, bests, better, has_soname, is_preferred, sonames}
 use Rattle.place_files.specs.Library.{Library}
 use Rattle.place_files.specs.Pick.{is_better_by}
+use Rattle.cache_entries.proofs.OneEach.{none_left, one_left, turned}
 use Rattle.cache_entries.specs.Winner.{named_links, or_else, other_links, winner, winners_among}
 
-abbrev names_of : List Library → List (List ℕ)
+abbrev pub names_of : List Library → List (List ℕ)
 names_of libraries = map (λ library. library.soname) libraries
 
 abbrev in_option : Option Library → List ℕ → Bool
@@ -31,68 +28,39 @@ still_some [] found h = h
 still_some (library ∷ libraries) found h = still_some libraries (better found library)
     (elim (is_better_by is_preferred library found) as (λ b. is_some (cond b (Some library) found) ≡ true) [ true ↦ refl | false ↦ h ])
 
-turned : (x z : List ℕ) → bytes_eq z x ≡ bytes_eq x z
-turned x z = by_test (bytes_eq x z)
-    (λ e. let same : x ≡ z = (bytes_eq-Decides x z).0 e in (bytes_eq-Decides z x).1 (sym same) ∙ sym e)
-    (λ e. by_test (bytes_eq z x)
-    (λ f. let same : z ≡ x = (bytes_eq-Decides z x).0 f in let there : bytes_eq x z ≡ true = (bytes_eq-Decides x z).1 (sym same) in absurd (cc))
-    (λ f. f ∙ sym e))
-
 best_there : (libraries : List Library) (soname : List ℕ) → is_in (names_of libraries) soname ≡ is_some (best libraries soname)
 best_there [] soname = refl
 best_there (library ∷ libraries) soname = by_test (bytes_eq library.soname soname)
     (λ e. rw (turned library.soname soname, e) (sym (still_some (filter (has_soname soname) libraries) (Some library) refl)))
     (λ e. rw (turned library.soname soname, e) (best_there libraries soname))
 
+-- and none is if none has it
+pub none_best : (libraries : List Library) (soname : List ℕ) → is_in (names_of libraries) soname ≡ false → best libraries soname ≡ None
+none_best libraries soname h = elim (best libraries soname) as (λ o. is_some o ≡ false → o ≡ None)
+    [ None ↦ λ e. refl | Some library ↦ λ e. absurd (cc) ] (sym (best_there libraries soname) ∙ h)
+
+pub in_more : (xs more : List Library) (z : List ℕ) → is_in (names_of (xs ++ more)) z ≡ (is_in (names_of xs) z || is_in (names_of more) z)
+in_more [] more z = refl
+in_more (x ∷ xs) more z = ap (λ b. bytes_eq z x.soname || b) (in_more xs more z) ∙ grouped (bytes_eq z x.soname) (is_in (names_of xs) z) (is_in (names_of more) z)
+  where
+    grouped : (a b c : Bool) → (a || (b || c)) ≡ ((a || b) || c)
+    grouped true b c = refl
+    grouped false b c = refl
+
 module _ (files : List Library) where
   -- ---- each of the best ones is the only one of its soname
 
-  none_left : (soname : List ℕ) (names : List (List ℕ)) → is_in names soname ≡ false → filter (has_soname soname) (filter_map (best files) names) ≡ []
-  none_left soname [] h = refl
-  none_left soname (name ∷ names) h = by_test (bytes_eq soname name)
-      (λ e. let z : true ≡ false = sym (ap (λ b. b || is_in names soname) e) ∙ h in absurd (cc))
-      (λ e.
-      let rest : is_in names soname ≡ false = sym (ap (λ b. b || is_in names soname) e) ∙ h in
-      let others = none_left soname names rest in
-      elim (best files name) as (λ o. best files name ≡ o → filter (has_soname soname) (cons_option o (filter_map (best files) names)) ≡ []) [
-        | None ↦ λ f. others
-        | Some library ↦ λ f.
-            let other : bytes_eq library.soname soname ≡ false = ap (λ q. bytes_eq q soname) (best_has files name library f) ∙ sym (turned name soname) ∙ e in
-            rw other others
-      ] refl)
-
-  one_left : (soname : List ℕ) (names : List (List ℕ)) → AreSorted names → is_in names soname ≡ true
-      → fold better None (filter (has_soname soname) (filter_map (best files) names)) ≡ best files soname
-  one_left soname [] s h = absurd (cc)
-  one_left soname (name ∷ names) s h = by_test (bytes_eq soname name)
-      (λ e.
-      let same : soname ≡ name = (bytes_eq-Decides soname name).0 e in
-      let others : filter (has_soname soname) (filter_map (best files) names) ≡ [] =
-      none_left soname names (subst (λ (q : List ℕ). is_in names q ≡ false) (sym same) (none_below name names (sorted_head (slice_cmp nat_cmp) name names s))) in
-      elim (best files name) as (λ o. best files name ≡ o → fold better None (filter (has_soname soname) (cons_option o (filter_map (best files) names))) ≡ best files soname) [
-        | None ↦ λ f. ap (fold better None) others ∙ sym (ap (best files) same ∙ f)
-        | Some library ↦ λ f.
-            let here : bytes_eq library.soname soname ≡ true = ap (λ q. bytes_eq q soname) (best_has files name library f) ∙ sym (turned name soname) ∙ e in
-            rw here (ap (fold better (Some library)) others ∙ sym (ap (best files) same ∙ f))
-      ] refl)
-      (λ e.
-      let rest : is_in names soname ≡ true = sym (ap (λ b. b || is_in names soname) e) ∙ h in
-      let others = one_left soname names (sorted_tail (slice_cmp nat_cmp) name names s) rest in
-      elim (best files name) as (λ o. best files name ≡ o → fold better None (filter (has_soname soname) (cons_option o (filter_map (best files) names))) ≡ best files soname) [
-        | None ↦ λ f. others
-        | Some library ↦ λ f.
-            let other : bytes_eq library.soname soname ≡ false = ap (λ q. bytes_eq q soname) (best_has files name library f) ∙ sym (turned name soname) ∙ e in
-            rw other others
-      ] refl)
-
   nothing_best : (soname : List ℕ) → is_in (sonames files) soname ≡ false → None ≡ best files soname
-  nothing_best soname h = elim (best files soname) as (λ o. is_some o ≡ false → None ≡ o)
-      [ None ↦ λ e. refl | Some library ↦ λ e. absurd (cc) ] (sym (best_there files soname) ∙ sym (in_ascending (names_of files) soname) ∙ h)
+  nothing_best soname h = sym (none_best files soname (sym (in_ascending (names_of files) soname) ∙ h))
 
   same_best : (soname : List ℕ) → best (bests files) soname ≡ best files soname
   same_best soname = by_test (is_in (sonames files) soname)
-      (λ h. one_left soname (sonames files) (ascending_sorted (names_of files)) h)
-      (λ h. ap (fold better None) (none_left soname (sonames files) h) ∙ nothing_best soname h)
+      (λ h. ap (fold better None) (one_left (best files) (best_has files) soname (sonames files) (ascending_sorted (names_of files)) h) ∙ alone (best files soname))
+      (λ h. ap (fold better None) (none_left (best files) (best_has files) soname (sonames files) h) ∙ nothing_best soname h)
+    where
+      alone : (o : Option Library) → fold better None (cons_option o []) ≡ o
+      alone None = refl
+      alone (Some library) = refl
 
   -- ---- their sonames
 
@@ -114,14 +82,6 @@ module _ (files : List Library) where
   same_name z =
       names_left z (sonames files) (λ name h. sym (best_there files name) ∙ sym (in_ascending (names_of files) name) ∙ h)
       ∙ in_ascending (names_of files) z
-
-  in_more : (xs more : List Library) (z : List ℕ) → is_in (names_of (xs ++ more)) z ≡ (is_in (names_of xs) z || is_in (names_of more) z)
-  in_more [] more z = refl
-  in_more (x ∷ xs) more z = ap (λ b. bytes_eq z x.soname || b) (in_more xs more z) ∙ grouped (bytes_eq z x.soname) (is_in (names_of xs) z) (is_in (names_of more) z)
-    where
-      grouped : (a b c : Bool) → (a || (b || c)) ≡ ((a || b) || c)
-      grouped true b c = refl
-      grouped false b c = refl
 
   same_sonames : (more : List Library) → sonames (bests files ++ more) ≡ sonames (files ++ more)
   same_sonames more =

@@ -12,7 +12,7 @@ use Rattle.cache_entries.proofs.Sorts.{sorted_rest}
 use Rattle.cache_entries.specs.Entries.{AreEntriesOf, entry_order, entry_order-total}
 
 module _ {X : Type 0} (cmp : X → X → Ordering) (total : IsTotalOrder cmp) where
-  abbrev below : X → X → Bool
+  abbrev pub below : X → X → Bool
   below x y = is_lt (cmp x y)
 
   not_both : (x y : X) → below x y ≡ true → below y x ≡ false
@@ -29,10 +29,10 @@ module _ {X : Type 0} (cmp : X → X → Ordering) (total : IsTotalOrder cmp) wh
   inserted x [] = x ∷ []
   inserted x (y ∷ ys) = cond (below y x) (y ∷ inserted x ys) (x ∷ y ∷ ys)
 
-  abbrev IsNoneBelow : X → List X → Type 0
+  abbrev pub IsNoneBelow : X → List X → Type 0
   IsNoneBelow x ys = (d : X) → 0 < length ys → below (get_or ys 0 d) x ≡ false
 
-  sorted_cons : (x : X) (ys : List X) → IsNoneBelow x ys → IsSorted cmp ys → IsSorted cmp (x ∷ ys)
+  pub sorted_cons : (x : X) (ys : List X) → IsNoneBelow x ys → IsSorted cmp ys → IsSorted cmp (x ∷ ys)
   sorted_cons x ys first sorted zero d from within = first d (omega arith)
   sorted_cons x ys first sorted (suc k) d from within =
       let e : suc (k + 1) ≡ suc k + 1 = omega arith in

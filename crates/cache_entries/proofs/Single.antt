@@ -31,7 +31,7 @@ either_has : (a b : Option Library) (library : Library) (soname : List ℕ) → 
 either_has (Some first) b library soname f g e = f library e
 either_has None b library soname f g e = g library e
 
-winner_has : (files links : List Library) (soname : List ℕ) (library : Library) → winner files links soname ≡ Some library → library.soname ≡ soname
+pub winner_has : (files links : List Library) (soname : List ℕ) (library : Library) → winner files links soname ≡ Some library → library.soname ≡ soname
 winner_has files links soname library e =
     either_has (best files soname) _ library soname (best_has files soname)
     (λ l f. either_has (best (named_links links) soname) _ l soname (best_has (named_links links) soname) (best_has (other_links links) soname) f) e
@@ -45,19 +45,19 @@ both_equal Greater s e = absurd (cc)
 -- ---- an entry by its soname and the number of its place
 
 module _ (what : Analyses) (t : Nodes) where
-  abbrev winner_in : Place → List ℕ → Option Library
+  abbrev pub winner_in : Place → List ℕ → Option Library
   winner_in place soname = winner (libraries_in what t place) (links_to_libraries what t place) soname
 
   -- the entry of a soname in the place with this number, where the first place has the first number
-  abbrev entry_at : ℕ → List Place → ℕ → List ℕ → Option Entry
+  abbrev pub entry_at : ℕ → List Place → ℕ → List ℕ → Option Entry
   entry_at first [] number soname = None
   entry_at first (place ∷ places) number soname =
       cond (nat_eq first number) (option_map (entry_of t first place) (winner_in place soname)) (entry_at (first + 1) places number soname)
 
   -- the entry is the one of its soname and its place
-  record IsFoundAt (first : ℕ) (places : List Place) (entry : Entry) : Type 0 where
-    from : first ≤ entry.place
-    at : entry_at first places entry.place entry.soname ≡ Some entry
+  pub record IsFoundAt (first : ℕ) (places : List Place) (entry : Entry) : Type 0 where
+    pub from : first ≤ entry.place
+    pub at : entry_at first places entry.place entry.soname ≡ Some entry
 
   module _ (first : ℕ) (place : Place) (places : List Place) where
     -- the entry of a winner
@@ -83,7 +83,7 @@ module _ (what : Analyses) (t : Nodes) where
         let other : nat_eq first entry.place ≡ false = grind (arith, nat_tests) in
         record { from = omega (arith, from); at = rw other is.at }
 
-  each_found : (places : List Place) (first : ℕ) → All (IsFoundAt first places) (by_place (entries_in what t) first places)
+  pub each_found : (places : List Place) (first : ℕ) → All (IsFoundAt first places) (by_place (entries_in what t) first places)
   each_found [] first = All-nil _
   each_found (place ∷ places) first =
       All-append (IsFoundAt first (place ∷ places)) (entries_in what t first place) (by_place (entries_in what t) (first + 1) places)
@@ -91,7 +91,7 @@ module _ (what : Analyses) (t : Nodes) where
       (λ k d within. behind first place places _ (each_found places (first + 1) k d within))
 
   -- entries that tie have one soname and one place, so they are one entry
-  tied_same : (first : ℕ) (places : List Place) (x y : Entry) → IsFoundAt first places x → IsFoundAt first places y → entry_order x y ≡ Equal → x ≡ y
+  pub tied_same : (first : ℕ) (places : List Place) (x y : Entry) → IsFoundAt first places x → IsFoundAt first places y → entry_order x y ≡ Equal → x ≡ y
   tied_same first places x y h k e =
       let names = both_equal (name_order y.soname x.soname) _ e in
       let flags = both_equal (int_cmp (flags_in y) (flags_in x)) _ names.1 in

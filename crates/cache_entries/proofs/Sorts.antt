@@ -1,10 +1,11 @@
 -- A list has one sorted permutation where items that tie are equal.
-use Rattle.std.proofs.Common.{◌≡◌, ℕ, ◌+◌, ◌≤◌, Bool, true, false, cond, List, [], ◌∷◌, get_or, suc, refl, sym, ap, subst, arith}
-use Rattle.std.proofs.lemmas.List.Elements.{All-from_get_or, All-head, All-tail}
+use Rattle.std.proofs.Common.{◌≡◌, ℕ, ◌+◌, ◌≤◌, Bool, true, false, cond, List, [], ◌∷◌, get_or, suc, refl, sym, ap, subst, ◌∙◌, arith}
+use Rattle.std.proofs.lemmas.List.Elements.{All-filter, All-from_get_or, All-head, All-tail}
+use Rattle.std.proofs.lemmas.List.Kept.{IsSortedBy-filter}
 use Rattle.std.proofs.lemmas.List.Sorted.{All-permutation, IsPermutation-sym, IsPermutation-trans, ranks_by, sorted_far, sum_by-IsPermutation}
 use Rattle.std.proofs.lemmas.List.Sums.{sum_by-cons, sum_by-le}
 use Rattle.std.specs.Cmp.{IsStrictWeakOrder, IsTotalOrder}
-use Rattle.std.specs.List.{All, sum_by}
+use Rattle.std.specs.List.{All, filter, sum_by}
 use Rattle.std.specs.List.Sorted.{IsPermutation, IsSorted, IsSortedBy}
 use Rattle.std.specs.Ordering.{is_lt, ordering_reverse}
 use Rattle.std.specs.declared.cmp.Ordering.{Ordering}
@@ -65,3 +66,29 @@ one_sorted {cmp = cmp} o P exact items a b all p up q upward =
     (λ x y h k below above. exact x y h k (tie (cmp x y) below (rw (← o.antisymm y x) above)))
     a b (λ f. sum_by-IsPermutation f a b (IsPermutation-trans _ _ _ (IsPermutation-sym _ _ p) q))
     (All-permutation P items a p all) (All-permutation P items b q all) up upward
+
+-- ---- what passes a test
+
+module _ {X : Type 0} (p : X → Bool) where
+  kept_sum : (f : X → ℕ) (xs : List X) → sum_by f (filter p xs) ≡ sum_by (λ x. cond (p x) (f x) 0) xs
+  kept_sum f [] = refl
+  kept_sum f (x ∷ xs) =
+      let g : X → ℕ = λ x. cond (p x) (f x) 0 in
+      let more : sum_by f (cond (p x) (x ∷ filter p xs) (filter p xs)) ≡ cond (p x) (f x) 0 + sum_by g xs =
+      elim (p x) as (λ b. sum_by f (cond b (x ∷ filter p xs) (filter p xs)) ≡ cond b (f x) 0 + sum_by g xs) [
+        | true ↦ sum_by-cons f x (filter p xs) ∙ ap (λ n. f x + n) (kept_sum f xs)
+        | false ↦ kept_sum f xs ∙ (omega arith)
+      ] in
+      more ∙ sym (sum_by-cons g x xs)
+
+-- what passes a test stands in a sorted list as it stood before, if it stood in this order
+pub same_kept : {X : Type 0} {cmp : X → X → Ordering} → IsTotalOrder cmp → (P : X → Type 0) → ((x y : X) → P x → P y → cmp x y ≡ Equal → x ≡ y) → (p : X → Bool)
+    → (items a : List X) → All P items → IsPermutation items a → IsSorted cmp a → IsSorted cmp (filter p items) → filter p a ≡ filter p items
+same_kept {X = X} {cmp = cmp} o P exact p items a all moved up upward =
+    let lt : X → X → Bool = λ x y. is_lt (cmp x y) in
+    sorted_same lt (ranks_by o (λ x. x)) P
+    (λ x y h k below above. exact x y h k (tie (cmp x y) below (rw (← o.antisymm y x) above)))
+    (filter p a) (filter p items)
+    (λ f. kept_sum p f items ∙ sym (sum_by-IsPermutation (λ x. cond (p x) (f x) 0) items a moved) ∙ sym (kept_sum p f a))
+    (All-filter p P a (All-permutation P items a moved all)) (All-filter p P items all)
+    (IsSortedBy-filter lt (ranks_by o (λ x. x)) p a up) upward

@@ -1,4 +1,6 @@
 pub mod Entries
+pub mod Led
 pub mod Parts
 pub mod Ranked
+pub mod Walk
 pub mod Winner

@@ -10,6 +10,7 @@ ghost use Rattle.place_files.specs.Best.{bests_in, bests_of};
 ghost use Rattle.place_files.specs.Places.{links_to};
 ghost use Rattle.place_files.specs.Search.{folder_links, followed};
 ghost use Rattle.cache_entries.specs.Entries.{cap_of, entries_in, entry_of, entry_order, entry_order-total, found, is_by_soname, is_fit, AreEntriesOf, IsEntryFault, IsOnlyListOf};
+ghost use Rattle.cache_entries.specs.Led.{LeadAsSearched};
 ghost use Rattle.place_files.specs.Table.{analysis_at};
 ghost use Rattle.cache_entries.specs.Parts.{IsCountFault};
 
@@ -324,6 +325,7 @@ pub fn entries_by(
     ensures entries { IfOk result (AreEntriesOf (found (analysis_at table.now) tree.now dirs.now.places)) }
     ensures single { IfOk result (IsOnlyListOf (found (analysis_at table.now) tree.now dirs.now.places)) }
     ensures fit { IfOk result (λ entries. IsTrue (are_spelled dirs.now.places) → All (λ entry. IsTrue (is_fit entry)) entries) }
+    ensures led { IfOk result (LeadAsSearched (analysis_at table.now) tree.now dirs.now.places) }
     ensures few { IfOk result (λ _. length (found (analysis_at table.now) tree.now dirs.now.places) ≤ ENTRIES_MAX) }
     ensures fault { IfErr result (IsEntryFault (found (analysis_at table.now) tree.now dirs.now.places)) }
 {

@@ -1,4 +1,4 @@
--- What an update that was made leaves is settled.
+-- What an update that was made leaves is settled, and its cache answers look-ups as the search of the directories does.
 use Rattle.std.proofs.Common.{◌≡◌, true, false, ℕ, List, [], Option, Some, None, Result, Ok, Err, ap, sym, subst, ◌∙◌, refl}
 use Rattle.tree_face.specs.declared.disk.Slot.TheVariants.{Manifest, Cache}
 use Rattle.tree_face.specs.Disk.{DiskContent, DiskState}
@@ -6,23 +6,38 @@ use Rattle.tree_face.specs.Known.{IfKnown, Relates}
 use Rattle.tree_face.specs.Store.{Contents, StoreState}
 use Rattle.tree_face.specs.Stream.{SinkState}
 use Rattle.tree_face.specs.declared.disk.Tag.{Tag}
+use Rattle.ldconfig_core.proofs.LookedUp.{searched_too}
 use Rattle.ldconfig_core.proofs.OneText.{again}
 use Rattle.ldconfig_core.specs.declared.fault.LoadFault.{LoadFault}
 use Rattle.ldconfig_core.specs.declared.fault.LoadFault.TheVariants as loading
 use Rattle.ldconfig_core.specs.declared.fault.UpdateFault.{UpdateFault}
 use Rattle.ldconfig_core.specs.declared.fault.UpdateFault.TheVariants as updating
 use Rattle.ldconfig_core.specs.declared.report.Report.{Report}
+use Rattle.ldconfig_core.specs.Lookup.{FindsAsSearched}
 use Rattle.ldconfig_core.specs.Manifest.{HasTree, manifest_of}
 use Rattle.ldconfig_core.specs.Outcome.{Writes, new_manifest, update_outcome}
 use Rattle.ldconfig_core.specs.Replace.{Replaces}
 use Rattle.ldconfig_core.specs.Session.{IsLoaded, Loaded, Loads}
-use Rattle.ldconfig_core.specs.Settled.{IfReads}
-use Rattle.ldconfig_core.specs.Texts.{AreTextsOf, UpdateTexts, writes_of}
+use Rattle.ldconfig_core.specs.Settled.{AreSettled, IfReads}
+use Rattle.ldconfig_core.specs.Texts.{AreTexts, AreTextsOf, UpdateTexts, writes_of}
 use Rattle.ldconfig_core.specs.Update.{IsUpdated, Updates}
 use Rattle.ldconfig_cli.specs.declared.status.Status.{Status}
 use Rattle.ldconfig_cli.specs.Devices.{IfBothKnown}
 use Rattle.ldconfig_cli.specs.Status.{of_load, of_update}
-use Rattle.ldconfig_cli.specs.Update.{AfterLoad, HoldsItsUpdate, LoadsAndUpdates, Reports, SettlesSlots, UpdatesOnce, is_made}
+use Rattle.ldconfig_cli.specs.Update.{AfterLoad, FindsInSlots, HoldsItsUpdate, IsSearchedByCache, LoadsAndUpdates, Reports, SettlesSlots, UpdatesOnce, is_made}
+
+-- what an update that was made leaves on the disk: these texts of the image that was loaded, as which the manifest reads with its links
+record IsLeft (held : Contents) (content : DiskContent) : Type 0 where
+  before : Loaded
+  after : Loaded
+  texts : UpdateTexts
+  in_slot : manifest_of content.now.manifest ≡ HasTree after.tree
+  cache : content.now.cache ≡ Some texts.cache
+  settled : AreSettled held before after
+  made : update_outcome held before ≡ Writes
+  all : AreTexts texts
+  are : AreTextsOf held before texts
+  finds : FindsAsSearched held before.tree texts.cache
 
 -- what is loaded is what the slot says
 loaded_is : (a : DiskContent) (s : Loaded) → IsLoaded (Some a) s → manifest_of a.now.manifest ≡ HasTree s.tree
@@ -42,29 +57,33 @@ module _ (held : Contents) (s : Loaded) (updated : Loaded × Report) (is : IsUpd
     ap (λ (d : DiskContent). d.now.cache) same ∙ ap (λ s. s.cache) replaced.slots,
   )
 
-  holds : (a b : DiskContent) → IsLoaded (Some a) s → Replaces tag (writes_of texts.manifest texts.cache) a b → update_outcome held s ≡ Writes → HoldsItsUpdate held b
-  holds a b load replaced writes =
+  left : (a b : DiskContent) → IsLoaded (Some a) s → Replaces tag (writes_of texts.manifest texts.cache) a b → update_outcome held s ≡ Writes → AreTexts texts
+      → FindsAsSearched held s.tree texts.cache → IsLeft held b
+  left a b load replaced writes all finds =
       let slots = slot_reads texts.manifest are.manifest_is a b (loaded_is a s load) replaced in
-      let more = again held s updated.0 texts is.settled are in
       record {
-        loaded = updated.0;
+        before = s;
+        after = updated.0;
+        texts = texts;
         in_slot = slots.0;
-        made = is.settled.outcome writes;
-        texts = more.0;
-        are = more.1.0;
-        manifest = more.1.1.manifest;
-        cache = slots.1 ∙ ap (λ bytes. Some bytes) (sym more.1.1.cache);
+        cache = slots.1;
+        settled = is.settled;
+        made = writes;
+        all = all;
+        are = are;
+        finds = finds;
       }
 
 -- ---- if contents are known
 
-settled : (known : Option Contents) (s : Loaded) (updated : Loaded × Report) (texts : UpdateTexts) (tag : ℕ) (a b : Option DiskContent) → IsLoaded a s
+all_left : (known : Option Contents) (s : Loaded) (updated : Loaded × Report) (texts : UpdateTexts) (tag : ℕ) (a b : Option DiskContent) → IsLoaded a s
     → IfKnown known (λ held. IsUpdated held s updated) → IfKnown known (λ held. AreTextsOf held s texts) → IfKnown known (λ held. update_outcome held s ≡ Writes)
-    → Relates (Replaces tag (writes_of texts.manifest texts.cache)) a b → IfBothKnown known b (λ contents content. HoldsItsUpdate contents content)
-settled None s updated texts tag a b load is are writes replaced = tt
-settled (Some held) s updated texts tag a None load is are writes replaced = tt
-settled (Some held) s updated texts tag None (Some b) load is are writes replaced = absurd replaced
-settled (Some held) s updated texts tag (Some a) (Some b) load is are writes replaced = holds held s updated is texts are tag a b load replaced writes
+    → AreTexts texts → IfKnown known (λ held. FindsAsSearched held s.tree texts.cache)
+    → Relates (Replaces tag (writes_of texts.manifest texts.cache)) a b → IfBothKnown known b IsLeft
+all_left None s updated texts tag a b load is are writes all finds replaced = tt
+all_left (Some held) s updated texts tag a None load is are writes all finds replaced = tt
+all_left (Some held) s updated texts tag None (Some b) load is are writes all finds replaced = absurd replaced
+all_left (Some held) s updated texts tag (Some a) (Some b) load is are writes all finds replaced = left held s updated is texts are tag a b load replaced writes all finds
 
 -- ---- a status that is made
 
@@ -83,18 +102,60 @@ not_updated updating.NoMemory = refl
 
 module _ (tag : Tag) (status : Status) (store after_store : StoreState) (disk after_disk : DiskState) (output after_output : SinkState) where
   once : (s : Loaded) (between : DiskState) → between.contents ≡ disk.contents → IsLoaded disk.contents s
-      → UpdatesOnce tag s status store after_store between after_disk output after_output → SettlesSlots status store.held after_disk.contents
+      → UpdatesOnce tag s status store after_store between after_disk output after_output → is_made status ≡ true → IfBothKnown store.held after_disk.contents IsLeft
   once s between same load u made = by u.result u.updates u.reports
     where
       by : (result : Result (Loaded × Report) UpdateFault) → Updates tag s result store after_store between after_disk → Reports result status output after_output
-          → IfBothKnown store.held after_disk.contents (λ contents content. HoldsItsUpdate contents content)
+          → IfBothKnown store.held after_disk.contents IsLeft
       by (Err fault) updates reports = let z : true ≡ false = sym made ∙ ap is_made reports.0 ∙ not_updated fault in absurd (cc)
       by (Ok updated) updates reports =
-          settled store.held s updated updates.written.texts tag.0 between.contents after_disk.contents (rw same load) updates.updated updates.written.are_of updates.answers updates.written.written.contents
+          let written = updates.written in
+          all_left store.held s updated written.texts tag.0 between.contents after_disk.contents (rw same load) updates.updated written.are_of updates.answers
+          written.are written.finds written.written.contents
 
-  pub settles : LoadsAndUpdates tag status store after_store disk after_disk output after_output → SettlesSlots status store.held after_disk.contents
-  settles u made = by u.loaded u.loads u.after made
+  is_left : LoadsAndUpdates tag status store after_store disk after_disk output after_output → is_made status ≡ true → IfBothKnown store.held after_disk.contents IsLeft
+  is_left u made = by u.loaded u.loads u.after made
     where
-      by : (loaded : Result Loaded LoadFault) → Loads loaded disk u.between → AfterLoad tag loaded status store after_store u.between after_disk output after_output → SettlesSlots status store.held after_disk.contents
+      by : (loaded : Result Loaded LoadFault) → Loads loaded disk u.between → AfterLoad tag loaded status store after_store u.between after_disk output after_output → is_made status ≡ true
+          → IfBothKnown store.held after_disk.contents IsLeft
       by (Err fault) loads after made = let z : true ≡ false = sym made ∙ ap is_made after.0 ∙ not_loaded fault in absurd (cc)
       by (Ok s) loads after made = once s u.between loads.reads.keeps.contents loads.tree after made
+
+-- ---- what follows
+
+if_left : (P : Contents → DiskContent → Type 0) → ((held : Contents) (content : DiskContent) → IsLeft held content → P held content)
+    → (held : Option Contents) (disk : Option DiskContent) → IfBothKnown held disk IsLeft → IfBothKnown held disk P
+if_left P f None disk is = tt
+if_left P f (Some held) None is = tt
+if_left P f (Some held) (Some content) is = f held content is
+
+holds : (held : Contents) (content : DiskContent) → IsLeft held content → HoldsItsUpdate held content
+holds held content is =
+    let more = again held is.before is.after is.texts is.settled is.are in
+    record {
+      loaded = is.after;
+      in_slot = is.in_slot;
+      made = is.settled.outcome is.made;
+      texts = more.0;
+      are = more.1.0;
+      manifest = more.1.1.manifest;
+      cache = is.cache ∙ ap (λ bytes. Some bytes) (sym more.1.1.cache);
+    }
+
+searched : (held : Contents) (content : DiskContent) → IsLeft held content → IsSearchedByCache held content
+searched held content is = record {
+  loaded = is.after;
+  in_slot = is.in_slot;
+  cache = is.texts.cache;
+  cache_in_slot = is.cache;
+  accepted = is.all.accepted;
+  descending = is.all.descending;
+  finds = searched_too held is.before.tree is.after.tree is.texts.cache is.settled.entries is.finds;
+}
+
+module _ (tag : Tag) (status : Status) (store after_store : StoreState) (disk after_disk : DiskState) (output after_output : SinkState) where
+  pub settles : LoadsAndUpdates tag status store after_store disk after_disk output after_output → SettlesSlots status store.held after_disk.contents
+  settles u made = if_left HoldsItsUpdate holds store.held after_disk.contents (is_left tag status store after_store disk after_disk output after_output u made)
+
+  pub finds : LoadsAndUpdates tag status store after_store disk after_disk output after_output → FindsInSlots status store.held after_disk.contents
+  finds u made = if_left IsSearchedByCache searched store.held after_disk.contents (is_left tag status store after_store disk after_disk output after_output u made)

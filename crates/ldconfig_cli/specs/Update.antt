@@ -1,5 +1,7 @@
 -- The command `update`: the loading of the image, one update of it with its report, and the fault line.
 use Rattle.std.specs.Prelude.{◌≡◌, ℕ, Bool, true, false, List, Option, Some, None, Result, Ok, Err}
+use Rattle.cache_lookup.specs.Scan.{AreDescending}
+use Rattle.cache_reader.specs.Cache.{defect, read}
 use Rattle.lib_types.specs.Counts.{HasRisen}
 use Rattle.tree_face.specs.declared.disk.Tag.{Tag}
 use Rattle.tree_face.specs.Disk.{DiskContent, DiskState}
@@ -10,6 +12,7 @@ use Rattle.tree_face.specs.Stream.{SinkState}
 use Rattle.ldconfig_core.specs.declared.fault.LoadFault.{LoadFault}
 use Rattle.ldconfig_core.specs.declared.fault.UpdateFault.{UpdateFault}
 use Rattle.ldconfig_core.specs.declared.report.Report.{Report}
+use Rattle.ldconfig_core.specs.Lookup.{FindsAsSearched}
 use Rattle.ldconfig_core.specs.Manifest.{HasTree, manifest_of}
 use Rattle.ldconfig_core.specs.Outcome.{Writes, update_outcome}
 use Rattle.ldconfig_core.specs.Session.{Loaded, Loads}
@@ -66,6 +69,21 @@ pub record HoldsItsUpdate (held : Contents) (content : DiskContent) : Type 0 whe
   pub manifest : texts.manifest ≡ None
   pub cache : content.now.cache ≡ Some texts.cache
 
+-- ---- look-ups
+
+-- the cache that is in its slot is accepted, its names never rise in the loader's order, and the loader finds by it what the search of the
+-- directories finds in the image whose manifest is in its slot
+pub record IsSearchedByCache (held : Contents) (content : DiskContent) : Type 0 where
+  pub loaded : Loaded
+  pub in_slot : manifest_of content.now.manifest ≡ HasTree loaded.tree
+  pub cache : List ℕ
+  pub cache_in_slot : content.now.cache ≡ Some cache
+  pub accepted : defect cache ≡ None
+  pub descending : AreDescending (read cache)
+  pub finds : FindsAsSearched held loaded.tree cache
+
+-- ---- an update that was made
+
 -- the statuses after which the slots are written
 abbrev pub is_made : Status → Bool
 is_made Done = true
@@ -85,6 +103,10 @@ is_made (TooMany count) = false
 abbrev pub SettlesSlots : Status → Option Contents → Option DiskContent → Type 0
 SettlesSlots status held disk = is_made status ≡ true → IfBothKnown held disk (λ contents content. HoldsItsUpdate contents content)
 
+-- and by the cache that it leaves the loader finds what the search finds, if all contents are known
+abbrev pub FindsInSlots : Status → Option Contents → Option DiskContent → Type 0
+FindsInSlots status held disk = is_made status ≡ true → IfBothKnown held disk (λ contents content. IsSearchedByCache contents content)
+
 -- ---- the whole
 
 pub record UpdateRun (tag : Tag) (old new : Devices) (status : Status) : Type 0 where
@@ -93,4 +115,5 @@ pub record UpdateRun (tag : Tag) (old new : Devices) (status : Status) : Type 0 
   pub updates : LoadsAndUpdates tag status old.store new.store old.disk new.disk old.output reported
   pub line : EndsWith status reported new.output
   pub settles : SettlesSlots status old.store.held new.disk.contents
+  pub finds : FindsInSlots status old.store.held new.disk.contents
   pub input : new.input ≡ old.input

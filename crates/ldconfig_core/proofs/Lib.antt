@@ -5,6 +5,7 @@ mod FilesAgree
 mod FoundParts
 mod KeysBegun
 mod KnownParts
+pub mod LookedUp
 pub mod OneText
 mod OutcomeRows
 mod PreparedTexts

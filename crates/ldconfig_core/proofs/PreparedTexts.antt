@@ -1,22 +1,17 @@
 -- What an update is about to write is what the image's update writes.
-use Rattle.std.proofs.Common.{◌≡◌, ◌≤◌, ◌<◌, ℕ, true, false, nat_lt, List, length, Option, Some, None, Result, Ok, Err, refl, ap, sym, subst, ◌∙◌, inl, inr, arith}
+use Rattle.std.proofs.Common.{◌≡◌, ◌≤◌, ◌<◌, ℕ, true, false, nat_lt, List, length, Option, Some, None, Err, refl, ap, sym, subst, ◌∙◌, arith}
 use Rattle.std.proofs.lemmas.List.Sorted.{length_permutation}
-use Rattle.std.specs.List.{filter_map}
-use Rattle.std.specs.Map.{keys_of}
 use Rattle.cache_entries.specs.Entries.{AreEntriesOf}
 use Rattle.cache_writer.specs.declared.writer.TheConstants.{ENTRIES_MAX}
-use Rattle.file_analyses.specs.Files.{what_is}
 use Rattle.lib_types.specs.declared.entry.Entry.{Entry}
-use Rattle.place_files.specs.Order.{ascending}
-use Rattle.place_files.specs.Table.{analysis_at}
 use Rattle.tree_face.proofs.StoreUse.{reads_all}
 use Rattle.tree_face.specs.Known.{IfKnown}
 use Rattle.tree_face.specs.Store.{Contents, StoreState}
 use Rattle.tree_face.specs.StoreUse.{Complete}
 use Rattle.tree_face.specs.Tree.{Nodes}
 use Rattle.update_report.specs.Report.{report_text}
-use Rattle.update_report.specs.Skips.{skip_at}
 use Rattle.ldconfig_core.proofs.KeysBegun.{UpdateBy}
+use Rattle.ldconfig_core.proofs.LookedUp.{names_descend, searched}
 use Rattle.ldconfig_core.proofs.OutcomeRows as rows
 use Rattle.ldconfig_core.proofs.OutcomeRows.{over, within}
 use Rattle.ldconfig_core.specs.declared.fault.UpdateFault.{UpdateFault}
@@ -25,11 +20,12 @@ use Rattle.ldconfig_core.specs.declared.finding.Found.{Found}
 use Rattle.ldconfig_core.specs.declared.prepare.Prepared.{Prepared}
 use Rattle.ldconfig_core.specs.Faults.{is_of_finding, is_of_making}
 use Rattle.ldconfig_core.specs.Ldconfig.{conf_in, entries_in, planned_in}
-use Rattle.ldconfig_core.specs.Outcome.{Lacking, TooLarge, TooMany, Writes, is_too_long, manifest_with, new_manifest, size_of, update_outcome}
+use Rattle.ldconfig_core.specs.Lookup.{FindsAsSearched}
+use Rattle.ldconfig_core.specs.Outcome.{TooLarge, TooMany, Writes, is_too_long, manifest_with, new_manifest, size_of, update_outcome}
 use Rattle.ldconfig_core.specs.Settled.{AreSettled, IfReads}
 use Rattle.ldconfig_core.specs.Stages.{IsFound, IsMadeOf, entries_of, loaded, said_of, texts_of}
-use Rattle.ldconfig_core.specs.Texts.{AreTexts, AreTextsOf, library_files, said_with}
-use Rattle.ldconfig_core.specs.Update.{IsAnswer, IsReportFor, IsUpdated, update_ending}
+use Rattle.ldconfig_core.specs.Texts.{AreTexts, AreTextsOf, said_with}
+use Rattle.ldconfig_core.specs.Update.{IsAnswer, IsUpdated, update_ending}
 
 module _ (held : Contents) (t : Nodes) (found : Found) (tree : Nodes) (is : IsFound held t found tree) where
   manifest_is : manifest_with tree found.links.plan ≡ new_manifest held (loaded t)
@@ -107,6 +103,7 @@ some_texts found tree prepared made = record {
   cache_is = made.cache;
   accepted = made.accepted;
   read_back = made.read_back;
+  descending = names_descend made.entries prepared.cache.items made.are.ordered made.read_back;
 }
 
 -- ---- if contents are known
@@ -115,6 +112,10 @@ module _ (t : Nodes) (found : Found) (tree : Nodes) where
   pub texts_are : (known : Option Contents) → IfKnown known (λ held. IsFound held t found tree) → (prepared : Prepared) → IsMadeOf found tree prepared → IfKnown known (λ held. AreTextsOf held (loaded t) (texts_of prepared))
   texts_are None is prepared made = tt
   texts_are (Some held) is prepared made = are_texts held t found tree is prepared made
+
+  pub finds_all : (known : Option Contents) → IfKnown known (λ held. IsFound held t found tree) → (prepared : Prepared) → IsMadeOf found tree prepared → IfKnown known (λ held. FindsAsSearched held t (texts_of prepared).cache)
+  finds_all None is prepared made = tt
+  finds_all (Some held) is prepared made = searched held t made.entries prepared.cache.items (ordered held t found tree is prepared made) made.read_back
 
   pub updated_is : (known : Option Contents) → IfKnown known (λ held. IsFound held t found tree) → (prepared : Prepared) → IsMadeOf found tree prepared
       → IfKnown known (λ held. AreSettled held (loaded t) (loaded tree)) → IfKnown known (λ held. IsUpdated held (loaded t) (loaded tree, prepared.report))

@@ -1,10 +1,12 @@
 -- An update of an image as ldconfig(8) makes it, from the conf file to the cache, for the contents that a store holds.
-use Rattle.std.specs.Prelude.{ℕ, List}
+use Rattle.std.specs.Prelude.{ℕ, List, Option}
 use Rattle.cache_entries.specs.Entries.{found}
+use Rattle.cache_entries.specs.Walk.{walk}
 use Rattle.file_analyses.specs.Files.{what_is}
 use Rattle.hwcap_dirs.specs.declared.kinds.Place.{Place}
 use Rattle.hwcap_dirs.specs.Places.{places}
 use Rattle.ldso_conf.specs.Reading.{Reading, reading}
+use Rattle.lib_types.specs.declared.abi.Abi.{Abi}
 use Rattle.lib_types.specs.declared.entry.Entry.{Entry}
 use Rattle.place_files.specs.Search.{reached, wanted}
 use Rattle.soname_links.specs.declared.kinds.Planned.{Planned}
@@ -39,3 +41,8 @@ reached_in held t = reached (planned_in held t) (places_in held t)
 -- Each soname in a place has an entry in the cache, for the best of its files, or else of the links to its files. They are in no order here.
 unfoldable pub entries_in : Contents → Nodes → List Entry
 entries_in held t = found (what_is held t) (planned_in held t) (places_in held t)
+
+-- For a name, an ABI and a loader's hwcaps names, the search of the places gives the path of the first winner: in their order those for
+-- each hwcaps name, and then the directories themselves (ld.so(8): glibc-hwcaps).
+unfoldable pub walk_in : Contents → Nodes → List ℕ → Abi → List (List ℕ) → Option (List ℕ)
+walk_in held t = walk (what_is held t) (planned_in held t) (places_in held t)

@@ -2,6 +2,7 @@
 use Rattle.std.specs.Prelude.{◌≡◌, ℕ, List, [], ◌∷◌, ◌++◌, map, Option, Some, None}
 use Rattle.std.specs.List.{filter_map}
 use Rattle.cache_entries.specs.Entries.{AreEntriesOf}
+use Rattle.cache_lookup.specs.Scan.{AreDescending}
 use Rattle.cache_reader.specs.Cache.{defect, read}
 use Rattle.cache_writer.specs.CacheText.{cache_text, hwcaps_names}
 use Rattle.cache_writer.specs.ReadBack.{as_read}
@@ -55,13 +56,15 @@ pub record AreTextsOf (held : Contents) (s : Loaded) (texts : UpdateTexts) : Typ
   pub cache_is : texts.cache ≡ cache_text entries
   pub report_is : texts.report ≡ report_text (said_with held s.tree entries)
 
--- Whatever is known of contents, the cache is one of some entries, which a reader accepts and reads as these, and the report one of some findings.
+-- Whatever is known of contents, the cache is one of some entries, which a reader accepts and reads as these, in the loader's order of names,
+-- and the report one of some findings.
 pub record AreTexts (texts : UpdateTexts) : Type 0 where
   pub said : Said
   pub report_is : texts.report ≡ report_text said
   pub cache_is : texts.cache ≡ cache_text said.entries
   pub accepted : defect texts.cache ≡ None
   pub read_back : read texts.cache ≡ map (as_read (hwcaps_names said.entries)) said.entries
+  pub descending : AreDescending (read texts.cache)
 
 -- ---- what is written
 

@@ -1,5 +1,5 @@
 -- One update of a loaded image: what it returns, and what it leaves on the store and on the disk.
-use Rattle.std.specs.Prelude.{◌≡◌, ◌⊎◌, ◌≤◌, ℕ, length, Option, Result, Ok, Err, IfOk, IsSomeAnd, ⊤}
+use Rattle.std.specs.Prelude.{◌≡◌, ◌⊎◌, ◌≤◌, length, Option, Result, Ok, Err, IfOk, IsSomeAnd, ⊤}
 use Rattle.std.specs.Option.{option_map}
 use Rattle.lib_types.specs.Counts.{HasRisen}
 use Rattle.tree_face.specs.declared.disk.Tag.{Tag}
@@ -13,6 +13,7 @@ use Rattle.ldconfig_core.specs.declared.fault.UpdateFault.{UpdateFault}
 use Rattle.ldconfig_core.specs.declared.fault.UpdateFault.TheVariants as faults
 use Rattle.ldconfig_core.specs.declared.report.Report.{Report}
 use Rattle.ldconfig_core.specs.Ldconfig.{entries_in, links_in, planned_in}
+use Rattle.ldconfig_core.specs.Lookup.{FindsAsSearched}
 use Rattle.ldconfig_core.specs.Outcome.{Outcome, Lacking, TooLarge, TooMany, Writes, new_manifest, update_outcome}
 use Rattle.ldconfig_core.specs.Replace.{KeepsRestMade, WritesAll, WritesPart, update_slots}
 use Rattle.ldconfig_core.specs.Session.{Loaded}
@@ -54,6 +55,7 @@ pub record Leaves (tag : Tag) (s : Loaded) (known : Option Contents) (report : R
   pub texts : UpdateTexts
   pub are : AreTexts texts
   pub are_of : IfKnown known (λ held. AreTextsOf held s texts)
+  pub finds : IfKnown known (λ held. FindsAsSearched held s.tree texts.cache)
   pub report_is : report.text ≡ texts.report
   pub written : WritesAll tag (writes_of texts.manifest texts.cache) old new
 
@@ -62,6 +64,7 @@ pub record MayLeave (tag : Tag) (s : Loaded) (known : Option Contents) (fault : 
   pub texts : UpdateTexts
   pub are : AreTexts texts
   pub are_of : IfKnown known (λ held. AreTextsOf held s texts)
+  pub finds : IfKnown known (λ held. FindsAsSearched held s.tree texts.cache)
   pub written : WritesPart tag (writes_of texts.manifest texts.cache) fault old new
 
 -- Nothing is written unless all texts were made.

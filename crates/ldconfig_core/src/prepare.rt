@@ -7,6 +7,7 @@ ghost use Rattle.tree_face.specs.Known.{IfKnown};
 ghost use Rattle.cache_writer.specs.declared.writer.TheConstants.{ENTRIES_MAX};
 ghost use Rattle.hwcap_dirs.specs.Places.{are_spelled};
 ghost use Rattle.ldconfig_core.specs.Faults.{is_of_making, is_of_preparing, is_size_fault};
+ghost use Rattle.ldconfig_core.specs.Lookup.{FindsAsSearched};
 ghost use Rattle.ldconfig_core.specs.Outcome.{is_too_long, manifest_with, size_of, update_outcome};
 ghost use Rattle.ldconfig_core.specs.Replace.{manifest_bytes};
 ghost use Rattle.ldconfig_core.specs.Settled.{IfReads};
@@ -137,6 +138,7 @@ pub fn prepare<S: Store>(
         (λ held. IsUpdated held (loaded tree.old) (loaded tree.new, prepared.report))) }
     ensures texts { IfOk result (λ prepared. AreTexts (texts_of prepared)) }
     ensures texts_of { IfOk result (λ prepared. IfKnown (S.state store.old).held (λ held. AreTextsOf held (loaded tree.old) (texts_of prepared))) }
+    ensures finds { IfOk result (λ prepared. IfKnown (S.state store.old).held (λ held. FindsAsSearched held tree.old (texts_of prepared).cache)) }
     ensures answers { IfKnown (S.state store.old).held (λ held. IsAnswer (update_outcome held (loaded tree.old)) result (S.state store.old) (S.state store.new)) }
     ensures others { IfErr result (λ fault. is_of_preparing fault ≡ true) }
     ensures reads { ReadsUpdate (loaded tree.old) (update_ending result) (S.state store.old) (S.state store.new) }

@@ -1,5 +1,5 @@
 use Rattle.std.proofs.Common.{refl}
-use Rattle.ldconfig_cli.proofs.SettledSlots.{settles}
+use Rattle.ldconfig_cli.proofs.SettledSlots.{finds, settles}
 use Rattle.ldconfig_cli.proofs.command.run_update.Goals as goal
 
 pub returns : goal.returns
@@ -8,5 +8,6 @@ returns g c = λ input. record {
   updates = c.update-status.ensures;
   line = c.put_fault_line.ensures;
   settles = settles c.args.tag c.update-status.result _ _ _ _ _ _ c.update-status.ensures;
+  finds = finds c.args.tag c.update-status.result _ _ _ _ _ _ c.update-status.ensures;
   input = refl;
 }
