@@ -6,7 +6,6 @@ pub mod parts;
 pub mod patterns;
 mod pieces;
 mod set;
-pub mod spelled;
 pub mod trim;
 
 pub use glob::glob_match;

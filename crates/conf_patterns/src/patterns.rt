@@ -7,7 +7,6 @@ ghost use Rattle.conf_patterns.specs.Patterns.{base_of, chosen_in, components_of
 
 use crate::glob::glob_match;
 use crate::parts::{Parts, split};
-use crate::spelled::Spelled;
 use crate::trim::{before_last, behind, has_one};
 use lib_types::{NoMemory, Text};
 use name_order::is_library_name;
@@ -17,7 +16,7 @@ use std::collections::BTreeMap;
 use tree_face::{Kind, Tree};
 
 /// The results of a pattern: their texts, and where these lead.
-pub type Results = BTreeMap<Spelled, Text>;
+pub type Results = BTreeMap<Text, Text>;
 
 /// Whether a text begins at the root.
 pub fn is_absolute(text: &[u8]) -> bool
@@ -212,7 +211,7 @@ fn add_found(alloc: Global, tree: &Tree, found: &mut Results, text: Text) -> Res
     let Some(real) = place_of(alloc, tree, text.as_bytes())? else {
         return Ok(());
     };
-    found.insert(Spelled::of(text), real)?;
+    found.insert(text, real)?;
     Ok(())
 }
 

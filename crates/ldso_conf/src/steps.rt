@@ -71,8 +71,8 @@ fn add_directory(alloc: Global, text: &[u8], steps: &mut Vec<Step>) -> Result<()
 fn add_results(found: Results, steps: &mut Vec<Step>) -> Result<(), NoMemory>
     ensures { OnOk result (steps.new.items ≡ steps.old.items ++ map included found.entries) }
 {
-    for (spelled, real) in found {
-        steps.push(Step::Include(spelled.into_text(), real))?;
+    for (text, real) in found {
+        steps.push(Step::Include(text, real))?;
     }
     Ok(())
 }

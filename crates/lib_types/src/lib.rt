@@ -10,6 +10,7 @@ mod name;
 mod seq;
 mod steps;
 mod text;
+mod text_ref;
 
 pub use abi::Abi;
 pub use analysis::{Analysis, Defect};
@@ -20,6 +21,7 @@ pub use name::{NAME_MAX, is_name, is_utf8};
 pub use seq::{Seq, Texts};
 pub use steps::Steps;
 pub use text::Text;
+pub use text_ref::TextRef;
 
 #[cfg(test)]
 mod tests;

@@ -2,20 +2,20 @@
 #![tactic(auto)]
 
 mod best;
-mod key;
 mod libraries;
 mod links;
+mod order;
 mod places;
 mod search;
 mod sonames;
 mod table;
 
 pub use best::{BestLibrary, PlaceBests, is_own, is_preferred};
-pub use key::{Key, ascending};
 pub use libraries::{Library, libraries_in, library_at};
 pub use links::{
     FolderLinks, FollowedLink, PlaceLinks, dangling, dangling_among, files_behind, follow, reached,
 };
+pub use order::ascending;
 pub use places::{is_plain, links_to};
 pub use search::wanted;
 pub use sonames::{BySoname, Gather, gather_by_soname};

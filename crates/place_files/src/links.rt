@@ -8,7 +8,7 @@ ghost use Rattle.place_files.specs.Children.{IsChild};
 ghost use Rattle.place_files.specs.Folders.{by_folder, dangling_of};
 ghost use Rattle.place_files.specs.Search.{dangling, files_of, followed, followed_by, followed_in, link_in, reached};
 
-use crate::key::{Key, ascending};
+use crate::order::ascending;
 use hwcap_dirs::Dirs;
 use lib_types::{NoMemory, Seq, Text, Texts};
 use name_order::is_library_name;
@@ -129,7 +129,7 @@ pub fn files_behind(alloc: Global, links: &PlaceLinks) -> Result<Texts, NoMemory
     for folder in links.as_slice() {
         add_files(alloc, folder, &mut paths)?;
     }
-    ascending(alloc, paths)
+    ascending(paths)
 }
 
 /// The files to which links with library names in the places lead: their paths without links, by their bytes, each once.
@@ -154,13 +154,13 @@ fn dangling_of(alloc: Global, folder: &FolderLinks) -> Result<Texts, NoMemory>
 }
 
 // They by their folders: places may share one.
-fn by_folder(alloc: Global, links: &PlaceLinks) -> Result<BTreeMap<Key, Texts>, NoMemory>
+fn by_folder(alloc: Global, links: &PlaceLinks) -> Result<BTreeMap<Text, Texts>, NoMemory>
     ensures { IfOk result (λ found. found.entries ≡ by_folder links.now) }
 {
     let mut found = BTreeMap::new(alloc);
     for folder in links.as_slice() {
-        let key = Key::of(Text::copy_of(alloc, folder.folder.as_bytes())?);
-        found.insert(key, dangling_of(alloc, folder)?)?;
+        let path = Text::copy_of(alloc, folder.folder.as_bytes())?;
+        found.insert(path, dangling_of(alloc, folder)?)?;
     }
     Ok(found)
 }

@@ -5,7 +5,7 @@ ghost use Rattle.place_files.specs.Order.{ascending};
 ghost use Rattle.place_files.specs.Children.{file_of};
 ghost use Rattle.place_files.specs.Search.{files_in, wanted};
 
-use crate::key::ascending;
+use crate::order::ascending;
 use hwcap_dirs::{Dirs, Place};
 use lib_types::{NoMemory, Text, Texts};
 use name_order::is_library_name;
@@ -56,5 +56,5 @@ pub fn wanted(alloc: Global, tree: &Tree, dirs: &Dirs) -> Result<Texts, NoMemory
     for place in dirs.places.as_slice() {
         add_files(alloc, tree, place, &mut paths)?;
     }
-    ascending(alloc, paths)
+    ascending(paths)
 }

@@ -4,9 +4,8 @@ ghost use Rattle.std.specs.Option.{option_copied};
 ghost use Rattle.place_files.specs.Analyses.{has_name, HaveNames};
 ghost use Rattle.place_files.specs.Table.{analysis_at, defective, is_defect, with_analysis};
 
-use crate::key::{Key, KeyQuery};
 use indexmap::IndexMap;
-use lib_types::{Analysis, NoMemory, Text};
+use lib_types::{Analysis, NoMemory, Text, TextRef};
 use std::alloc::Global;
 use std::marker::Model;
 
@@ -23,7 +22,7 @@ fn is_defect(analysis: &Analysis) -> bool
 /// list of both, each path once.
 #[derive(Drop)]
 pub struct Table {
-    analyses: IndexMap<Key, Analysis>,
+    analyses: IndexMap<Text, Analysis>,
 }
 
 impl Model for Table {
@@ -53,7 +52,7 @@ impl Table {
         ensures done { OnOk result (self.new ≡ with_analysis self.old path analysis) }
         ensures refused { OnErr result (self.new ≡ self.old) }
     {
-        self.analyses.insert(Key::of(path), analysis)?;
+        self.analyses.insert(path, analysis)?;
         Ok(())
     }
 
@@ -61,7 +60,7 @@ impl Table {
     pub fn get(&self, path: &[u8]) -> Option<&Analysis>
         ensures { option_copied result ≡ analysis_at self.now path.now }
     {
-        self.analyses.get(KeyQuery { bytes: path })
+        self.analyses.get(TextRef { bytes: path })
     }
 
     /// The paths of the files that are no libraries, in no order.

@@ -51,7 +51,7 @@ fn new_paths(alloc: Global, tree: &Tree, plan: &[Planned]) -> Result<Texts, NoMe
             paths.push(Text::copy_of(alloc, path.as_bytes())?)?;
         }
     }
-    ascending(alloc, paths)
+    ascending(paths)
 }
 
 // Whether one of the links has this path.

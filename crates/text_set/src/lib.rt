@@ -7,7 +7,7 @@ ghost use Rattle.std.specs.Str.{bytes_eq};
 ghost use Rattle.indexmap.specs.IndexSet.{insert_key};
 
 use indexmap::IndexSet;
-use lib_types::{NoMemory, Text};
+use lib_types::{NoMemory, Text, TextRef};
 use std::alloc::Global;
 use std::marker::Model;
 
@@ -16,15 +16,15 @@ use std::marker::Model;
 /// A look-up takes the time of one text, however many there are.
 #[derive(Drop)]
 pub struct TextSet {
-    texts: IndexSet<Vec<u8>>,
+    texts: IndexSet<Text>,
 }
 
 impl Model for TextSet {
-    ghost use Rattle.std.specs.Prelude.{ℕ, List, map};
+    ghost use Rattle.std.specs.Prelude.{ℕ, List};
 
     ghost Value = { List (List ℕ) };
 
-    ghost view = { λ s. map (λ v. v.items) s.texts.keys };
+    ghost view = { λ s. s.texts.keys };
 }
 
 impl TextSet {
@@ -41,7 +41,7 @@ impl TextSet {
     pub fn contains(&self, text: &[u8]) -> bool
         ensures { result ≡ list_any (bytes_eq text.now) self.now }
     {
-        self.texts.contains(text)
+        self.texts.contains(TextRef { bytes: text })
     }
 
     /// Puts the text in, if it isn't there.
@@ -49,7 +49,7 @@ impl TextSet {
         ensures done { OnOk result (self.new ≡ insert_key bytes_eq self.old text) }
         ensures refused { OnErr result (self.new ≡ self.old) }
     {
-        self.texts.insert(text.into_vec())?;
+        self.texts.insert(text)?;
         Ok(())
     }
 }

@@ -42,7 +42,7 @@ pub fn skips(alloc: Global, table: &Table, files: &Texts) -> Result<Skips, NoMem
 pub fn skips_in(alloc: Global, table: &Table) -> Result<Skips, NoMemory>
     ensures { IfOk result (λ skips. skips ≡ filter_map (skip_at (analysis_at table.now)) (ascending (keys_of table.now))) }
 {
-    let files = ascending(alloc, table.defective(alloc)?)?;
+    let files = ascending(table.defective(alloc)?)?;
     let skips = skips(alloc, table, &files)?;
     Ok(skips)
 }
