@@ -6,6 +6,7 @@ use crate::counts::{StoreCounts, one_more};
 use crate::image_folder::{ImageFolder, shorter};
 use crate::machines::{FirstFile, Machines, foreign_machine};
 use crate::open_file::HeldFile;
+use crate::streams::Streams;
 use lib_types::{Failed, NoMemory};
 use name_order::is_library_name;
 use std::io::{self, Error, ErrorKind};
@@ -120,7 +121,7 @@ fn is_library(key: &[u8]) -> bool {
     is_library_name(name)
 }
 
-impl<R: Runtime> Store for FolderStore<R>
+impl<R: Runtime + Streams> Store for FolderStore<R>
 where
     R::File: HeldFile,
 {

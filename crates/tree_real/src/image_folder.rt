@@ -4,6 +4,7 @@ use crate::kinds::{is_cut, is_forbidden, is_missing, is_there};
 use crate::open_file::HeldFile;
 use crate::paths::{behind, divided, is_at_or_above, leads_on, leads_up};
 use crate::standing::identity_of;
+use crate::streams::Streams;
 use lib_types::NoMemory;
 use std::alloc::AllocError;
 use std::fs::{self, DirBuilder, FileType, Metadata, OpenFile, Permissions, read_dir};
@@ -90,14 +91,6 @@ impl<R: Runtime> ImageFolder<R> {
         }
     }
 
-    /// Writes the line that the last call failed on the error output, with what was done and the path that it failed at.
-    pub fn write_error_line(&self, call: &str, error: Error) {
-        match self.name() {
-            Ok(name) => write_error_line(&self.rt, name.as_str(), call, error),
-            Err(_) => write_error_line(&self.rt, self.last.as_str(), call, error),
-        }
-    }
-
     /// From here on faults are about the file of this name in the folder that was entered.
     pub fn go_to(&mut self, name: &str) -> Result<(), AllocError> {
         self.path.clear();
@@ -124,6 +117,16 @@ impl<R: Runtime> ImageFolder<R> {
         }
         path.push_str(name)?;
         Ok(path)
+    }
+}
+
+impl<R: Runtime + Streams> ImageFolder<R> {
+    /// Writes the line that the last call failed on the error output, with what was done and the path that it failed at.
+    pub fn write_error_line(&self, call: &str, error: Error) {
+        match self.name() {
+            Ok(name) => write_error_line(&self.rt, name.as_str(), call, error),
+            Err(_) => write_error_line(&self.rt, self.last.as_str(), call, error),
+        }
     }
 }
 
@@ -334,8 +337,21 @@ fn is_shown<R: Runtime>(rt: &R, path: &str, found: &Metadata) -> io::Result<bool
     }
 }
 
+// A file is looked at and opened so often, should another one be put in its place in between each time.
+const MOST_LOOKS: usize = 8;
+
 /// Opens the regular file of a path.
 pub fn open_file<R: Runtime>(rt: &R, path: &str) -> io::Result<(R::File, Metadata)> {
+    for _ in 0..MOST_LOOKS {
+        if let Some(opened) = look_and_open(rt, path)? {
+            return Ok(opened);
+        }
+    }
+    Err(changed())
+}
+
+// Opens what was found to be a regular file. It gives none if another regular file was put in its place in between.
+fn look_and_open<R: Runtime>(rt: &R, path: &str) -> io::Result<Option<(R::File, Metadata)>> {
     let found = fs::symlink_metadata(rt, path)?;
     let kind = found.file_type();
     if !kind.is_file() {
@@ -343,8 +359,13 @@ pub fn open_file<R: Runtime>(rt: &R, path: &str) -> io::Result<(R::File, Metadat
     }
     let file = fs::open(rt, path)?;
     let opened = file.metadata()?;
-    require_same(&found, &opened)?;
-    Ok((file, opened))
+    if identity_of(&found) == identity_of(&opened) {
+        Ok(Some((file, opened)))
+    } else if opened.is_file() {
+        Ok(None)
+    } else {
+        Err(changed())
+    }
 }
 
 // Opens the folder of a path, if it may be read. The dot keeps the system from opening a pipe that stands there by now.

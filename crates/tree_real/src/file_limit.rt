@@ -1,0 +1,42 @@
+//! How long this program may make a file (`RLIMIT_FSIZE`). The system ends one that writes past that, so it is asked before.
+ghost use Rattle.std.specs.Prelude.{◌≡◌};
+ghost use Rattle.tree_real.specs.Folder.{has_room};
+
+use std::fs;
+use std::io::{self, Read};
+use std::rt::Runtime;
+use std::str::from_utf8;
+
+// So many first bytes of the list of limits have the line on files.
+const LISTED: usize = 1024;
+
+/// The most bytes of a file, if there is a limit, and if the system shows it.
+pub fn file_limit<R: Runtime>(rt: &R) -> Option<u64> {
+    let mut list = [0u8; LISTED];
+    let count = read_start(rt, &mut list).ok()?;
+    limit_in(list.get(..count)?)
+}
+
+// Reads the beginning of the list of this program's limits.
+fn read_start<R: Runtime>(rt: &R, list: &mut [u8]) -> io::Result<usize> {
+    fs::open(rt, "/proc/self/limits")?.read(list)
+}
+
+// The limit that is in force stands first in its line, which is `unlimited` or a number. See proc(5).
+fn limit_in(list: &[u8]) -> Option<u64> {
+    let line = list
+        .split(|b| *b == b'\n')
+        .find(|line| line.starts_with(b"Max file size"))?;
+    let words = from_utf8(line.get(13..)?).ok()?;
+    words.split_whitespace().next()?.parse().ok()
+}
+
+/// Whether a file of this length has room for so many bytes more.
+pub fn has_room(limit: Option<u64>, length: u64, more: usize) -> bool
+    ensures { result ≡ has_room limit length more }
+{
+    match limit {
+        Some(limit) => more as u64 <= limit.saturating_sub(length),
+        None => true,
+    }
+}
