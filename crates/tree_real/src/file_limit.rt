@@ -3,7 +3,7 @@ ghost use Rattle.std.specs.Prelude.{◌≡◌};
 ghost use Rattle.tree_real.specs.Folder.{has_room};
 
 use std::fs;
-use std::io::{self, Read};
+use std::io::{self, Error, ErrorKind, Read};
 use std::rt::Runtime;
 use std::str::from_utf8;
 
@@ -39,4 +39,9 @@ pub fn has_room(limit: Option<u64>, length: u64, more: usize) -> bool
         Some(limit) => more as u64 <= limit.saturating_sub(length),
         None => true,
     }
+}
+
+/// The error of a file that would have more bytes, in the system's words.
+pub fn too_long() -> Error {
+    Error::new(ErrorKind::FileTooLarge, "File too large")
 }

@@ -78,8 +78,8 @@ where
             let message = "a file name that isn't UTF-8 text";
             return Err(Error::new(ErrorKind::InvalidInput, message));
         };
-        let (file, found) = self.image.open(path)?;
-        Ok((file, found.len()))
+        let (file, stamp) = self.image.open(path)?;
+        Ok((file, stamp.size))
     }
 
     // Reads from an offset of the begun file. One system call, which needs no position of the file.

@@ -2,22 +2,22 @@
 ghost use Rattle.std.specs.Prelude.{◌≡◌, IfOk, IsSomeAnd};
 ghost use Rattle.tree_real.specs.Folder.{file_of, folder_of, name_of};
 
-use crate::file_limit::{file_limit, has_room};
+use crate::file_limit::{file_limit, has_room, too_long};
 use crate::head::{HEAD_SIZE, entries_in};
 use crate::image_folder::{ImageFolder, Missing, changed, open_file, read_whole, shorter};
 use crate::kinds::is_missing;
 use crate::open_file::HeldFile;
 use crate::same_bytes::have_same_bytes;
 use crate::standing::{
-    Owner, Stamp, is_as_read, length_to_read, mode_of, mode_until_whole, owner_of, owner_to_give,
-    stamp_of,
+    Owner, Stamp, Standing, is_as_read, length_to_read, mode_of, mode_until_whole, owner_of,
+    owner_to_give, stamp_of, standing_of,
 };
 use crate::streams::Streams;
 use crate::temporary::{RunId, Temporary, make_own, remove_left};
 use lib_types::NoMemory;
 use std::alloc::Global;
-use std::fs::{self, Metadata, OpenFile, Permissions};
-use std::io::{self, Error, ErrorKind, Write};
+use std::fs::{OpenFile, Permissions};
+use std::io::{self, Error, ErrorKind, Read, Write};
 use std::os::unix::fs::{FileExt, MetadataExt, PermissionsExt};
 use std::rt::Runtime;
 use tree_face::{Slot, Tag};
@@ -111,29 +111,24 @@ where
     /// The bytes of a slot's file, none if there is no such file. Of a manifest that is too long they are so many that this
     /// shows, and of what is no cache the first bytes alone.
     pub fn read(&mut self, alloc: Global, slot: Slot) -> io::Result<Option<Vec<u8>>> {
-        let (mut file, found) = match self.image.open(file_of(slot)) {
-            Ok(opened) => opened,
+        match self.image.open(file_of(slot)) {
+            Ok((mut file, stamp)) => {
+                self.note_read(slot, Some(stamp));
+                Ok(Some(read_slot(alloc, slot, &mut file, stamp.size)?))
+            }
             Err(error) if is_missing(error.kind()) => {
                 self.note_read(slot, None);
-                return Ok(None);
+                Ok(None)
             }
-            Err(error) => return Err(error),
-        };
-        self.note_read(slot, Some(&found));
-        let is_cache = slot == Slot::Cache && begins_cache(&file, found.len())?;
-        let Some(length) = length_to_read(slot, is_cache, found.len()) else {
-            return Err(Error::new(ErrorKind::FileTooLarge, too_large(slot)));
-        };
-        let mut bytes = vec![in alloc; 0u8; length as usize]?;
-        read_whole(&mut file, &mut bytes)?;
-        Ok(Some(bytes))
+            Err(error) => Err(error),
+        }
     }
 
     // From here on this is the manifest that was read.
-    fn note_read(&mut self, slot: Slot, found: Option<&Metadata>) {
+    fn note_read(&mut self, slot: Slot, found: Option<Stamp>) {
         if slot == Slot::Manifest {
-            self.manifest = Some(found.map(stamp_of));
-            self.written.manifest_length = found.map(|f| f.len());
+            self.manifest = Some(found);
+            self.written.manifest_length = found.map(|stamp| stamp.size);
         }
     }
 
@@ -142,15 +137,10 @@ where
         self.discard();
         self.clean();
         self.image.enter(folder_of(slot), Missing::IsMade)?;
-        let stood = self.image.look(name_of(slot))?;
-        if slot == Slot::Cache {
-            let before = self.entries_there();
-            self.written.entries_before = before;
-        }
+        let stood = self.what_stands(slot)?;
+        let mode = mode_of(slot, stood.map(|file| file.mode));
         let (name, file) = make_own(&self.image, name_of(slot), tag, self.run)?;
-        let stood = stood.filter(|found| found.is_file());
-        let mode = mode_of(slot, stood.as_ref().map(|found| found.mode()));
-        let done = hand_over(&file, stood.map(|found| owner_of(&found)), mode);
+        let done = hand_over(&file, stood.map(|file| file.owner), mode);
         self.temporary = Some(Temporary {
             tag,
             slot,
@@ -159,6 +149,15 @@ where
             mode,
         });
         done
+    }
+
+    // What the slot's file hands on to its successor, if there is one.
+    fn what_stands(&mut self, slot: Slot) -> io::Result<Option<Standing>> {
+        let found = self.image.look(name_of(slot))?;
+        if slot == Slot::Cache {
+            self.written.entries_before = self.entries_there();
+        }
+        Ok(found.and_then(|found| standing_of(&found)))
     }
 
     // How many entries the cache has that stands where faults are about now.
@@ -314,7 +313,7 @@ fn require_room<F: OpenFile>(file: &F, limit: Option<u64>, more: usize) -> io::R
     if limit.is_none() || has_room(limit, file.metadata()?.len(), more) {
         Ok(())
     } else {
-        Err(Error::from(ErrorKind::FileTooLarge))
+        Err(too_long())
     }
 }
 
@@ -340,13 +339,29 @@ where
     R::File: HeldFile,
 {
     match open_file(rt, path) {
-        Ok((other, found)) => {
+        Ok((other, stamp)) => {
             let length = file.metadata()?.len();
-            Ok(length == found.len() && have_same_bytes(&other, file, length)?)
+            Ok(length == stamp.size && have_same_bytes(&other, file, length)?)
         }
         Err(error) if is_missing(error.kind()) => Ok(false),
         Err(error) => Err(error),
     }
+}
+
+// The bytes that are read of a slot's file of this length.
+fn read_slot<F: HeldFile + Read>(
+    alloc: Global,
+    slot: Slot,
+    file: &mut F,
+    size: u64,
+) -> io::Result<Vec<u8>> {
+    let is_cache = slot == Slot::Cache && begins_cache(file, size)?;
+    let Some(length) = length_to_read(slot, is_cache, size) else {
+        return Err(Error::new(ErrorKind::FileTooLarge, too_large(slot)));
+    };
+    let mut bytes = vec![in alloc; 0u8; length as usize]?;
+    read_whole(file, &mut bytes)?;
+    Ok(bytes)
 }
 
 // Whether a file of this length begins as a cache does.

@@ -26,11 +26,42 @@ pub struct Stamp {
     pub changed_nanos: u64,
 }
 
+impl Stamp {
+    /// Which file it is.
+    pub fn identity(self) -> Identity
+        ensures device { result.device ≡ self.device }
+        ensures inode { result.inode ≡ self.inode }
+    {
+        Identity {
+            device: self.device,
+            inode: self.inode,
+        }
+    }
+}
+
 /// Whom a file belongs to.
 #[derive(Clone, Copy, Debug, PartialEq, Eq)]
 pub struct Owner {
     pub user: u32,
     pub group: u32,
+}
+
+/// What a regular file hands on to the one that takes its place.
+#[derive(Clone, Copy, Debug)]
+pub struct Standing {
+    pub mode: u32,
+    pub owner: Owner,
+}
+
+pub fn standing_of(found: &Metadata) -> Option<Standing> {
+    if found.is_file() {
+        Some(Standing {
+            mode: found.mode(),
+            owner: owner_of(found),
+        })
+    } else {
+        None
+    }
 }
 
 pub fn identity_of(found: &Metadata) -> Identity {

@@ -1,7 +1,7 @@
 //! Writing to the standard streams, which never ends the program by a signal.
 ghost use Rattle.std.specs.Prelude.{◌≤◌, IfOk, length};
 
-use crate::file_limit::{file_limit, has_room};
+use crate::file_limit::{file_limit, has_room, too_long};
 use crate::kinds::is_for_now;
 use std::fs;
 use std::io::{self, Error, ErrorKind, Write};
@@ -47,7 +47,7 @@ fn require_room(rt: &HostRuntime, path: &str, bytes: &[u8]) -> io::Result<()> {
             if has_room(file_limit(rt), found.len(), bytes.len()) {
                 Ok(())
             } else {
-                Err(Error::from(ErrorKind::FileTooLarge))
+                Err(too_long())
             }
         }
         _ => Ok(()),
