@@ -14,7 +14,7 @@ const LISTED: usize = 1024;
 pub fn file_limit<R: Runtime>(rt: &R) -> Option<u64> {
     let mut list = [0u8; LISTED];
     let count = read_start(rt, &mut list).ok()?;
-    limit_in(list.get(..count)?)
+    limit_in(from_utf8(list.get(..count)?).ok()?)
 }
 
 // Reads the beginning of the list of this program's limits.
@@ -23,12 +23,10 @@ fn read_start<R: Runtime>(rt: &R, list: &mut [u8]) -> io::Result<usize> {
 }
 
 // The limit that is in force stands first in its line, which is `unlimited` or a number. See proc(5).
-fn limit_in(list: &[u8]) -> Option<u64> {
-    let line = list
-        .split(|b| *b == b'\n')
-        .find(|line| line.starts_with(b"Max file size"))?;
-    let words = from_utf8(line.get(13..)?).ok()?;
-    words.split_whitespace().next()?.parse().ok()
+fn limit_in(list: &str) -> Option<u64> {
+    let (_, line) = list.split_once("Max file size ")?;
+    let (limit, _) = line.trim_start().split_once(' ')?;
+    limit.parse().ok()
 }
 
 /// Whether a file of this length has room for so many bytes more.
