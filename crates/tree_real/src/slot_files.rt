@@ -165,11 +165,11 @@ where
         head_entries(&self.image.rt, self.image.path())
     }
 
-    // Removes what runs have left that are gone, once. The cache's folder comes last, since it is the next that is entered.
+    // Removes what runs have left that are gone, once. No slot's folder stays entered: one that `create` enters may be closed.
     fn clean(&mut self) {
         if !self.is_clean {
             self.is_clean = true;
-            for slot in [Slot::Manifest, Slot::Aux, Slot::Cache] {
+            for slot in [Slot::Manifest, Slot::Cache, Slot::Aux] {
                 let _ = self.clean_beside(slot);
             }
         }
