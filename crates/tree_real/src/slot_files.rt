@@ -165,7 +165,7 @@ where
         head_entries(&self.image.rt, self.image.path())
     }
 
-    // Removes what runs have left that are gone, once. No slot's folder stays entered: one that `create` enters may be closed.
+    // Removes what runs have left that are gone, once.
     fn clean(&mut self) {
         if !self.is_clean {
             self.is_clean = true;
