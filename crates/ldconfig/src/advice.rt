@@ -11,20 +11,21 @@ pub const USAGE: &str =
     "ldconfig for images, release version 1 (made with the Rattle kit, logic dac8208d650f15bf)
 usage: ldconfig update: plans the links of the libraries in image.mtree, in the folder of an image, and makes etc/ld.so.cache
 usage: ldconfig print, or -p: prints etc/ld.so.cache
-Both run in the folder of an image. What they write and every exit status: README.md and docs/FORMATS.md";
+Both run in the folder of an image. What they write and every exit status: README.md and docs/FORMATS.md
+";
 
 const NO_MANIFEST: &str =
-    "ldconfig: image.mtree: No such file or directory\nldconfig: scripts/manifest makes one: scripts/manifest FOLDER >manifest && mv manifest FOLDER/image.mtree";
+    "ldconfig: image.mtree: No such file or directory\nldconfig: scripts/manifest makes one: scripts/manifest FOLDER >manifest && mv manifest FOLDER/image.mtree\n";
 
-pub const OUT_OF_MEMORY: &str = "ldconfig: out of memory";
+pub const OUT_OF_MEMORY: &str = "ldconfig: out of memory\n";
 
 const NO_CACHE: &str =
-    "ldconfig: etc/ld.so.cache: No such file or directory\nldconfig: ldconfig update makes it";
+    "ldconfig: etc/ld.so.cache: No such file or directory\nldconfig: ldconfig update makes it\n";
 
 const BAD_CACHE: &str =
-    "ldconfig: etc/ld.so.cache: the line on the output says what is wrong, docs/FORMATS.md explains it; ldconfig update makes another";
+    "ldconfig: etc/ld.so.cache: the line on the output says what is wrong, docs/FORMATS.md explains it; ldconfig update makes another\n";
 
-/// The lines that are the same whenever a command ends so.
+/// The lines, each with its line feed, that are the same whenever a command ends so.
 pub fn advice(status: Status) -> Option<&'static str>
     ensures { status ≡ Status.Done → result ≡ None }
 {
@@ -44,12 +45,12 @@ pub fn written_before(manifest: bool, cache: bool) -> Option<&'static str>
 {
     match (manifest, cache) {
         (true, true) => Some(
-            "ldconfig: image.mtree and etc/ld.so.cache were written; the planned links stand in image.mtree, as lines with type=link",
+            "ldconfig: image.mtree and etc/ld.so.cache were written; the planned links stand in image.mtree, as lines with type=link\n",
         ),
         (true, false) => Some(
-            "ldconfig: image.mtree was written; the planned links stand in it, as lines with type=link",
+            "ldconfig: image.mtree was written; the planned links stand in it, as lines with type=link\n",
         ),
-        (false, true) => Some("ldconfig: etc/ld.so.cache was written; no link was planned"),
+        (false, true) => Some("ldconfig: etc/ld.so.cache was written; no link was planned\n"),
         (false, false) => None,
     }
 }

@@ -18,7 +18,8 @@ use std::random::RandomSource;
 use std::rt::Runtime;
 use std::{env, io, process};
 use tree_real::{
-    FolderDisk, FolderStore, HeldFile, RunId, StdinSource, StdoutSink, write_error_line,
+    FolderDisk, FolderStore, HeldFile, RunId, StdinSource, StdoutSink, Streams, write_error_line,
+    write_text,
 };
 
 /// Why no command was run.
@@ -72,7 +73,7 @@ impl From<io::Error> for StartFault {
 }
 
 // Why no command was run. What it is about is written on the error output; `main` writes that memory is out.
-fn fault_of<R: Runtime>(rt: &R, name: &str, error: io::Error) -> StartFault {
+fn fault_of<R: Runtime + Streams>(rt: &R, name: &str, error: io::Error) -> StartFault {
     let fault = StartFault::from(error);
     if fault == StartFault::Other {
         write_error_line(rt, name, "", error);
@@ -104,7 +105,7 @@ fn run_id<R: Runtime + RandomSource>(rt: &R, process: u32) -> io::Result<RunId> 
 }
 
 // Says on the error output what a person wants to know about the end of a command.
-fn explain<R: Runtime + AllocGlobal>(
+fn explain<R: Runtime + AllocGlobal + Streams>(
     rt: &R,
     status: Status,
     store: &FolderStore<R>,
@@ -126,15 +127,18 @@ where
     }
 }
 
-fn say<R: Runtime>(rt: &R, text: Option<&str>) -> io::Result<()> {
+fn say<R: Streams>(rt: &R, text: Option<&str>) -> io::Result<()> {
     match text {
-        Some(text) => rt.eprintln(text),
+        Some(text) => write_text(rt, text),
         None => Ok(()),
     }
 }
 
 // Runs the command in the current folder, and returns its exit status.
-fn run_here<R: Runtime + AllocGlobal + RandomSource>(rt: &R, process: u32) -> Result<u8, StartFault>
+fn run_here<R: Runtime + AllocGlobal + RandomSource + Streams>(
+    rt: &R,
+    process: u32,
+) -> Result<u8, StartFault>
 where
     R::File: HeldFile,
 {
@@ -169,7 +173,7 @@ fn main(rt: HostRuntime) -> ExitCode {
         Ok(code) => ExitCode::from(code),
         Err(fault) => {
             if fault == StartFault::NoMemory {
-                let _ = rt.eprintln(OUT_OF_MEMORY);
+                let _ = say(&rt, Some(OUT_OF_MEMORY));
             }
             ExitCode::from(fault.code())
         }

@@ -5,22 +5,32 @@ use mtree_manifest::ManifestFault;
 use std::alloc::AllocError;
 use std::io;
 use std::rt::Runtime;
-use tree_real::{FolderDisk, FolderStore, HeldFile, Machines, Written, machine_name, printable};
+use tree_real::{
+    FolderDisk, FolderStore, HeldFile, Machines, Streams, Written, machine_name, printable,
+    write_text,
+};
 
 /// Says what is remarkable about an update that was done. A cache is written only by an update.
-pub fn note_update<R: Runtime>(rt: &R, store: &FolderStore<R>, written: Written) -> io::Result<()> {
+pub fn note_update<R: Runtime + Streams>(
+    rt: &R,
+    store: &FolderStore<R>,
+    written: Written,
+) -> io::Result<()> {
     if written.entries == Some(0) {
         let why = why_none(written.manifest_length, store.begun());
-        eprintln!(rt; "ldconfig: etc/ld.so.cache: no libraries: {why}")?;
+        let line = format!(in rt.alloc(); "ldconfig: etc/ld.so.cache: no libraries: {why}\n")?;
+        write_text(rt, line.as_str())?;
     }
     if let Some((old, new)) = fewer(written.entries_before, written.entries) {
-        eprintln!(rt;
-            "ldconfig: etc/ld.so.cache: {new} libraries, and the cache before had {old}"
+        let line = format!(in rt.alloc();
+            "ldconfig: etc/ld.so.cache: {new} libraries, and the cache before had {old}\n"
         )?;
+        write_text(rt, line.as_str())?;
     }
     if !store.has_read_conf() {
-        eprintln!(rt;
-            "ldconfig: etc/ld.so.conf: none was read, so only /lib, /usr/lib, /lib64 and /usr/lib64 are searched"
+        write_text(
+            rt,
+            "ldconfig: etc/ld.so.conf: none was read, so only /lib, /usr/lib, /lib64 and /usr/lib64 are searched\n",
         )?;
     }
     note_machines(rt, store.machines())
@@ -39,7 +49,7 @@ fn why_none(length: Option<u64>, begun: u64) -> &'static str {
     }
 }
 
-fn note_machines<R: Runtime>(rt: &R, machines: &Machines<R>) -> io::Result<()> {
+fn note_machines<R: Runtime + Streams>(rt: &R, machines: &Machines<R>) -> io::Result<()> {
     let Some(first) = &machines.first else {
         return Ok(());
     };
@@ -47,39 +57,42 @@ fn note_machines<R: Runtime>(rt: &R, machines: &Machines<R>) -> io::Result<()> {
     let number = first.number;
     let name = machine_name(number).unwrap_or("an unknown machine");
     let files = machines.files;
-    eprintln!(rt;
-        "ldconfig: {path}: for {name} (machine {number}), for which no cache is made; files of such machines: {files}"
-    )
+    let line = format!(in rt.alloc();
+        "ldconfig: {path}: for {name} (machine {number}), for which no cache is made; files of such machines: {files}\n"
+    )?;
+    write_text(rt, line.as_str())
 }
 
 /// Says by how much something is too large or too long.
-pub fn note_size<R: Runtime>(rt: &R, status: Status, length: Option<u64>) -> io::Result<()> {
-    match status {
-        Status::TooMany { count } => {
-            eprintln!(rt;
-                "ldconfig: etc/ld.so.cache: the image has {count} libraries, and a cache at most 131072"
-            )
-        }
-        Status::TooLarge { nodes, bytes: 0 } => {
-            eprintln!(rt;
-                "ldconfig: image.mtree: with the links of its libraries it would have {nodes} nodes, and it may have 1048576"
-            )
-        }
-        Status::TooLarge { bytes, .. } => {
-            eprintln!(rt;
-                "ldconfig: image.mtree: with the links of its libraries it would have {bytes} bytes, and it may have 67108864"
-            )
-        }
+pub fn note_size<R: Runtime + Streams>(
+    rt: &R,
+    status: Status,
+    length: Option<u64>,
+) -> io::Result<()> {
+    let alloc = rt.alloc();
+    let line = match status {
+        Status::TooMany { count } => format!(in alloc;
+            "ldconfig: etc/ld.so.cache: the image has {count} libraries, and a cache at most 131072\n"
+        )?,
+        Status::TooLarge { nodes, bytes: 0 } => format!(in alloc;
+            "ldconfig: image.mtree: with the links of its libraries it would have {nodes} nodes, and it may have 1048576\n"
+        )?,
+        Status::TooLarge { bytes, .. } => format!(in alloc;
+            "ldconfig: image.mtree: with the links of its libraries it would have {bytes} bytes, and it may have 67108864\n"
+        )?,
         Status::BadManifest(ManifestFault::TooLong { .. }) => {
             let length = length.unwrap_or(0);
-            eprintln!(rt; "ldconfig: image.mtree: it has {length} bytes, and may have 67108864")
+            format!(in alloc;
+                "ldconfig: image.mtree: it has {length} bytes, and may have 67108864\n"
+            )?
         }
-        _ => Ok(()),
-    }
+        _ => return Ok(()),
+    };
+    write_text(rt, line.as_str())
 }
 
 /// Says what is wrong with a line of the manifest, and shows its beginning.
-pub fn note_manifest<R: Runtime + AllocGlobal>(
+pub fn note_manifest<R: Runtime + AllocGlobal + Streams>(
     rt: &R,
     disk: &mut FolderDisk<R>,
     fault: ManifestFault,
@@ -99,9 +112,10 @@ where
     };
     let shown = escaped(rt, &line)?;
     let dots = if line.len() > SHOWN { ".." } else { "" };
-    eprintln!(rt;
-        "ldconfig: image.mtree: line {number}: {cause}: {shown}{dots}\nldconfig: docs/FORMATS.md says what a line may be"
-    )
+    let lines = format!(in rt.alloc();
+        "ldconfig: image.mtree: line {number}: {cause}: {shown}{dots}\nldconfig: docs/FORMATS.md says what a line may be\n"
+    )?;
+    write_text(rt, lines.as_str())
 }
 
 fn cause_of_tree(fault: ManifestFault) -> &'static str {

@@ -1,6 +1,6 @@
 -- Where the slots of an image stand in its folder (the cache where ld.so(8) reads it, "FILES"; the auxiliary cache where
 -- ldconfig(8) keeps it), how much of them is read, and what mode and owner their files get.
-use Rattle.std.specs.Prelude.{◌≡◌, ⊤, ℕ, ◌^◌, ◌+◌, List, [], Option, Some, None, codes, min, bit_and, nat_lt, ◌==◌, if◌then◌else◌}
+use Rattle.std.specs.Prelude.{◌≡◌, ⊤, ℕ, ◌^◌, ◌+◌, ◌-◌, ◌*◌, Bool, true, List, [], Option, Some, None, codes, min, bit_and, nat_le, nat_lt, ◌==◌, if◌then◌else◌}
 use Rattle.tree_face.specs.declared.disk.Slot.{Slot}
 use Rattle.tree_face.specs.declared.disk.Slot.TheVariants.{Manifest, Cache, Aux}
 use Rattle.tree_real.specs.declared.standing.Stamp.{Stamp}
@@ -24,17 +24,21 @@ name_of Manifest = codes "image.mtree"
 name_of Cache = codes "ld.so.cache"
 name_of Aux = codes "aux-cache"
 
--- a file of more bytes is not read
-abbrev pub largest_slot : ℕ
-largest_slot = 2 ^ 31
+-- a file of more bytes is not read: a cache has at most 131072 entries of 24 bytes, each with two strings of at most 4,096
+-- bytes, and little more than these
+abbrev pub largest : Slot → ℕ
+largest Cache = 131072 * (24 + 2 * 4096) + 2 ^ 16
+largest _ = 2 ^ 31
 
--- how many bytes of a slot's file of this length are read: of a manifest that is too long so many that this shows
-abbrev pub length_to_read : Slot → ℕ → Option ℕ
-length_to_read slot size = if nat_lt largest_slot size then None else Some (most_of slot size)
+-- how many bytes of a slot's file of this length are read, if it does or doesn't begin as a cache: of a manifest that is too long
+-- and of what is no cache so many that this shows
+abbrev pub length_to_read : Slot → Bool → ℕ → Option ℕ
+length_to_read slot is_cache size = if nat_lt (largest slot) size then None else Some (most_of slot is_cache size)
   where
-    most_of : Slot → ℕ → ℕ
-    most_of Manifest n = min n (2 ^ 26 + 1)
-    most_of _ n = n
+    most_of : Slot → Bool → ℕ → ℕ
+    most_of Manifest _ n = min n (2 ^ 26 + 1)
+    most_of Cache is_cache n = if is_cache then n else min n 64
+    most_of Aux _ n = n
 
 -- the mode of the slot's new file: everybody reads the cache; another file keeps the mode of the one that stood there
 abbrev pub mode_of : Slot → Option ℕ → ℕ
@@ -51,3 +55,8 @@ owner_to_give made (Some stood) = if made.user == 0 then Some stood else None
 abbrev pub IsAsRead : Option (Option Stamp) → Option Stamp → Type 0
 IsAsRead None now = ⊤
 IsAsRead (Some read) now = now ≡ read
+
+-- a file of this length has room for so many bytes more, if no file may have more than the limit
+abbrev pub has_room : Option ℕ → ℕ → ℕ → Bool
+has_room None length more = true
+has_room (Some limit) length more = nat_le more (limit - length)

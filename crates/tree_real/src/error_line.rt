@@ -1,18 +1,25 @@
 //! The lines on the error output that say what failed.
+use crate::streams::{Streams, write_text};
 use std::io;
 use std::rt::Runtime;
 
 /// Writes a line with what failed, as a file's name below the image, what was done with it, and why. If the line can't be
 /// written, nothing changes: the status has its own line on the output.
-pub fn write_error_line<R: Runtime>(rt: &R, name: &str, call: &str, error: io::Error) {
+pub fn write_error_line<R: Runtime + Streams>(rt: &R, name: &str, call: &str, error: io::Error) {
     let _ = try_line(rt, name, call, error);
 }
 
-fn try_line<R: Runtime>(rt: &R, name: &str, call: &str, error: io::Error) -> io::Result<()> {
+fn try_line<R: Runtime + Streams>(
+    rt: &R,
+    name: &str,
+    call: &str,
+    error: io::Error,
+) -> io::Result<()> {
     let name = printable(rt, name)?;
     let text = format!(in rt.alloc(); "{error}")?;
     let reason = without_number(text.as_str());
-    eprintln!(rt; "ldconfig: {name}: {call}{reason}")
+    let line = format!(in rt.alloc(); "ldconfig: {name}: {call}{reason}\n")?;
+    write_text(rt, line.as_str())
 }
 
 /// A text without characters that could make lines of their own or steer a terminal.

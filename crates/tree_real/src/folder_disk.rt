@@ -8,6 +8,7 @@ use crate::counts::one_more;
 use crate::kinds::is_out_of_memory;
 use crate::open_file::HeldFile;
 use crate::slot_files::{SlotFiles, Written};
+use crate::streams::Streams;
 use crate::temporary::RunId;
 use lib_types::{Failed, NoMemory};
 use std::alloc::Global;
@@ -54,7 +55,12 @@ where
         let text = text.unwrap_or(Vec::new(alloc));
         Ok(Vec::from_slice(alloc, line_of(&text, number))?)
     }
+}
 
+impl<R: Runtime + Streams> FolderDisk<R>
+where
+    R::File: HeldFile,
+{
     // The result of a writing call, which counts a failure.
     fn result(&mut self, call: &str, done: io::Result<()>) -> Result<(), Failed>
         ensures same { is_err result ≡ is_err done }
@@ -74,7 +80,7 @@ where
     }
 }
 
-impl<R: Runtime> Disk for FolderDisk<R>
+impl<R: Runtime + Streams> Disk for FolderDisk<R>
 where
     R::File: HeldFile,
 {

@@ -6,6 +6,7 @@ use crate::counts::{StoreCounts, one_more};
 use crate::image_folder::{ImageFolder, shorter};
 use crate::machines::{FirstFile, Machines, foreign_machine};
 use crate::open_file::HeldFile;
+use crate::streams::Streams;
 use lib_types::{Failed, NoMemory};
 use name_order::is_library_name;
 use std::io::{self, Error, ErrorKind};
@@ -77,8 +78,8 @@ where
             let message = "a file name that isn't UTF-8 text";
             return Err(Error::new(ErrorKind::InvalidInput, message));
         };
-        let (file, found) = self.image.open(path)?;
-        Ok((file, found.len()))
+        let (file, stamp) = self.image.open(path)?;
+        Ok((file, stamp.size))
     }
 
     // Reads from an offset of the begun file. One system call, which needs no position of the file.
@@ -120,7 +121,7 @@ fn is_library(key: &[u8]) -> bool {
     is_library_name(name)
 }
 
-impl<R: Runtime> Store for FolderStore<R>
+impl<R: Runtime + Streams> Store for FolderStore<R>
 where
     R::File: HeldFile,
 {

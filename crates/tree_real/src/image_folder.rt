@@ -3,7 +3,8 @@ use crate::error_line::write_error_line;
 use crate::kinds::{is_cut, is_forbidden, is_missing, is_there};
 use crate::open_file::HeldFile;
 use crate::paths::{behind, divided, is_at_or_above, leads_on, leads_up};
-use crate::standing::identity_of;
+use crate::standing::{Identity, Stamp, identity_of, stamp_of};
+use crate::streams::Streams;
 use lib_types::NoMemory;
 use std::alloc::AllocError;
 use std::fs::{self, DirBuilder, FileType, Metadata, OpenFile, Permissions, read_dir};
@@ -38,10 +39,10 @@ pub struct ImageFolder<R: Runtime> {
     by_number: bool,
     // The folders from the root to the one of the last file.
     levels: Vec<Level<R>, R::A>,
-    // The path that the last call was about, for the system.
+    // The path that the last call was about, for the system. It is empty if that was about the folder `said` itself.
     path: String<R::A>,
-    // Its last name. It is empty if the call was about the folder `said` itself.
-    last: String<R::A>,
+    // At which offset of the path its last name begins.
+    name_at: usize,
     // Which of the levels the last call was about.
     said: usize,
 }
@@ -63,14 +64,13 @@ impl<R: Runtime> ImageFolder<R> {
         let root = String::from_str(rt.alloc(), root)?;
         let levels = Vec::new(rt.alloc());
         let path = String::new(rt.alloc());
-        let last = String::new(rt.alloc());
         Ok(ImageFolder {
             rt,
             root,
             by_number: false,
             levels,
             path,
-            last,
+            name_at: 0,
             said: 0,
         })
     }
@@ -81,7 +81,7 @@ impl<R: Runtime> ImageFolder<R> {
             Some(level) => level.name.as_str(),
             None => "",
         };
-        let last = self.last.as_str();
+        let last = self.last();
         match (folder.is_empty(), last.is_empty()) {
             (true, true) => String::from_str(self.rt.alloc(), "."),
             (true, false) => String::from_str(self.rt.alloc(), last),
@@ -90,25 +90,20 @@ impl<R: Runtime> ImageFolder<R> {
         }
     }
 
-    /// Writes the line that the last call failed on the error output, with what was done and the path that it failed at.
-    pub fn write_error_line(&self, call: &str, error: Error) {
-        match self.name() {
-            Ok(name) => write_error_line(&self.rt, name.as_str(), call, error),
-            Err(_) => write_error_line(&self.rt, self.last.as_str(), call, error),
-        }
+    // The last name of the path.
+    fn last(&self) -> &str {
+        self.path.as_str().get(self.name_at..).unwrap_or("")
     }
 
     /// From here on faults are about the file of this name in the folder that was entered.
     pub fn go_to(&mut self, name: &str) -> Result<(), AllocError> {
         self.path.clear();
+        self.said = self.levels.len().saturating_sub(1);
         if let Some(level) = self.levels.last() {
             self.path.push_str(level.prefix.as_str())?;
         }
-        self.path.push_str(name)?;
-        self.last.clear();
-        self.last.push_str(name)?;
-        self.said = self.levels.len().saturating_sub(1);
-        Ok(())
+        self.name_at = self.path.len();
+        self.path.push_str(name)
     }
 
     /// The path that the last call was about, for the system.
@@ -127,13 +122,23 @@ impl<R: Runtime> ImageFolder<R> {
     }
 }
 
+impl<R: Runtime + Streams> ImageFolder<R> {
+    /// Writes the line that the last call failed on the error output, with what was done and the path that it failed at.
+    pub fn write_error_line(&self, call: &str, error: Error) {
+        match self.name() {
+            Ok(name) => write_error_line(&self.rt, name.as_str(), call, error),
+            Err(_) => write_error_line(&self.rt, self.last(), call, error),
+        }
+    }
+}
+
 impl<R: Runtime> ImageFolder<R>
 where
     R::File: HeldFile,
 {
     /// Opens a regular file, and says what it is. A symbolic link on the way, or anything else than a regular file at the end,
     /// is an error before it is opened: a link may lead out of the image, and opening a pipe would wait.
-    pub fn open(&mut self, path: &str) -> io::Result<(R::File, Metadata)> {
+    pub fn open(&mut self, path: &str) -> io::Result<(R::File, Stamp)> {
         let (folder, name) = divided(path);
         self.enter(folder, Missing::IsFault)?;
         self.go_to(name)?;
@@ -210,8 +215,7 @@ where
         let found = fs::metadata(&self.rt, root.as_str())?;
         let open = open_folder(&self.rt, root.as_str(), &found)?;
         if let Some(file) = &open {
-            let by_number = path_of(&self.rt, file)?;
-            self.by_number = is_shown(&self.rt, by_number.as_str(), &found)?;
+            self.by_number = is_shown(&self.rt, file, &found)?;
         }
         self.push("", open)
     }
@@ -259,21 +263,8 @@ where
 
     // Puts the folder at the path behind those that are open.
     fn push(&mut self, part: &str, open: Option<R::File>) -> io::Result<()> {
-        let alloc = self.rt.alloc();
-        let name = match self.levels.last() {
-            Some(level) if !level.name.is_empty() => {
-                let above = level.name.as_str();
-                format!(in alloc; "{above}/{part}")?
-            }
-            _ => String::from_str(alloc, part)?,
-        };
-        let prefix = match &open {
-            Some(file) if self.by_number => path_of(&self.rt, file)?,
-            _ => {
-                let path = self.path.as_str();
-                format!(in self.rt.alloc(); "{path}/")?
-            }
-        };
+        let name = self.name_of(part)?;
+        let prefix = self.prefix_of(&open)?;
         if self.levels.len() >= MOST_OPEN {
             let _ = self.levels.pop();
         }
@@ -281,9 +272,32 @@ where
         Ok(())
     }
 
+    // The name below the root of what has this name in the folder that was entered.
+    fn name_of(&self, part: &str) -> Result<String<R::A>, AllocError> {
+        match self.levels.last() {
+            Some(level) if !level.name.is_empty() => {
+                let above = level.name.as_str();
+                format!(in self.rt.alloc(); "{above}/{part}")
+            }
+            _ => String::from_str(self.rt.alloc(), part),
+        }
+    }
+
+    // What stands before the names in the folder at the path, which is open or can't be, for the system.
+    fn prefix_of(&self, open: &Option<R::File>) -> Result<String<R::A>, AllocError> {
+        match open {
+            Some(file) if self.by_number => path_of(&self.rt, file),
+            _ => {
+                let path = self.path.as_str();
+                format!(in self.rt.alloc(); "{path}/")
+            }
+        }
+    }
+
     /// Flushes the folder that was entered, and those on the way to it, to stable storage.
     pub fn sync_folders(&mut self) -> io::Result<()> {
-        self.last.clear();
+        self.path.clear();
+        self.name_at = 0;
         for at in 0..self.levels.len() {
             self.said = at;
             if let Some(level) = self.levels.get(at) {
@@ -325,26 +339,55 @@ where
     format!(in rt.alloc(); "/proc/self/fd/{number}/")
 }
 
-// Whether what is open is shown under this path. A system without /proc has no such path.
-fn is_shown<R: Runtime>(rt: &R, path: &str, found: &Metadata) -> io::Result<bool> {
-    match fs::metadata(rt, path) {
+// Whether this folder, which is open, is shown by its number. A system without /proc shows none.
+fn is_shown<R: Runtime>(rt: &R, file: &R::File, found: &Metadata) -> io::Result<bool>
+where
+    R::File: HeldFile,
+{
+    let path = path_of(rt, file)?;
+    match fs::metadata(rt, path.as_str()) {
         Ok(shown) => Ok(identity_of(&shown) == identity_of(found)),
         Err(error) if is_missing(error.kind()) || is_forbidden(error.kind()) => Ok(false),
         Err(error) => Err(error),
     }
 }
 
+// A file is looked at and opened so often, should another one be put in its place in between each time.
+const MOST_LOOKS: usize = 8;
+
 /// Opens the regular file of a path.
-pub fn open_file<R: Runtime>(rt: &R, path: &str) -> io::Result<(R::File, Metadata)> {
-    let found = fs::symlink_metadata(rt, path)?;
-    let kind = found.file_type();
-    if !kind.is_file() {
-        return Err(Error::new(ErrorKind::InvalidInput, no_file(kind)));
+pub fn open_file<R: Runtime>(rt: &R, path: &str) -> io::Result<(R::File, Stamp)> {
+    for _ in 0..MOST_LOOKS {
+        if let Some(opened) = look_and_open(rt, path)? {
+            return Ok(opened);
+        }
     }
+    Err(changed())
+}
+
+// Opens what was found to be a regular file. It gives none if another regular file was put in its place in between.
+fn look_and_open<R: Runtime>(rt: &R, path: &str) -> io::Result<Option<(R::File, Stamp)>> {
+    let found = look_for_file(rt, path)?;
     let file = fs::open(rt, path)?;
     let opened = file.metadata()?;
-    require_same(&found, &opened)?;
-    Ok((file, opened))
+    if found == identity_of(&opened) {
+        Ok(Some((file, stamp_of(&opened))))
+    } else if opened.is_file() {
+        Ok(None)
+    } else {
+        Err(changed())
+    }
+}
+
+// Which regular file stands at a path.
+fn look_for_file<R: Runtime>(rt: &R, path: &str) -> io::Result<Identity> {
+    let found = fs::symlink_metadata(rt, path)?;
+    let kind = found.file_type();
+    if kind.is_file() {
+        Ok(identity_of(&found))
+    } else {
+        Err(Error::new(ErrorKind::InvalidInput, no_file(kind)))
+    }
 }
 
 // Opens the folder of a path, if it may be read. The dot keeps the system from opening a pipe that stands there by now.

@@ -3,6 +3,7 @@
 
 mod counts;
 mod error_line;
+mod file_limit;
 mod folder_disk;
 mod folder_store;
 mod head;
@@ -15,6 +16,7 @@ mod same_bytes;
 mod slot_files;
 mod standing;
 mod stdio;
+mod streams;
 mod temporary;
 
 pub use error_line::{printable, write_error_line};
@@ -24,4 +26,5 @@ pub use machines::{FirstFile, Machines, machine_name};
 pub use open_file::{HeldFile, Lock};
 pub use slot_files::Written;
 pub use stdio::{StdinSource, StdoutSink};
+pub use streams::{Streams, write_text};
 pub use temporary::RunId;

@@ -2,21 +2,23 @@
 ghost use Rattle.std.specs.Prelude.{◌≡◌, IfOk, IsSomeAnd};
 ghost use Rattle.tree_real.specs.Folder.{file_of, folder_of, name_of};
 
+use crate::file_limit::{file_limit, has_room, too_long};
 use crate::head::{HEAD_SIZE, entries_in};
-use crate::image_folder::{ImageFolder, Missing, changed, open_file, read_whole};
+use crate::image_folder::{ImageFolder, Missing, changed, open_file, read_whole, shorter};
 use crate::kinds::is_missing;
 use crate::open_file::HeldFile;
 use crate::same_bytes::have_same_bytes;
 use crate::standing::{
-    Owner, Stamp, is_as_read, length_to_read, mode_of, mode_until_whole, owner_of, owner_to_give,
-    stamp_of,
+    Owner, Stamp, Standing, is_as_read, length_to_read, mode_of, mode_until_whole, owner_of,
+    owner_to_give, stamp_of, standing_of,
 };
+use crate::streams::Streams;
 use crate::temporary::{RunId, Temporary, make_own, remove_left};
 use lib_types::NoMemory;
 use std::alloc::Global;
-use std::fs::{self, Metadata, OpenFile, Permissions};
-use std::io::{self, Error, ErrorKind, Write};
-use std::os::unix::fs::{MetadataExt, PermissionsExt};
+use std::fs::{OpenFile, Permissions};
+use std::io::{self, Error, ErrorKind, Read, Write};
+use std::os::unix::fs::{FileExt, MetadataExt, PermissionsExt};
 use std::rt::Runtime;
 use tree_face::{Slot, Tag};
 
@@ -107,31 +109,26 @@ where
     R::File: HeldFile,
 {
     /// The bytes of a slot's file, none if there is no such file. Of a manifest that is too long they are so many that this
-    /// shows.
+    /// shows, and of what is no cache the first bytes alone.
     pub fn read(&mut self, alloc: Global, slot: Slot) -> io::Result<Option<Vec<u8>>> {
-        let (mut file, found) = match self.image.open(file_of(slot)) {
-            Ok(opened) => opened,
+        match self.image.open(file_of(slot)) {
+            Ok((mut file, stamp)) => {
+                self.note_read(slot, Some(stamp));
+                Ok(Some(read_slot(alloc, slot, &mut file, stamp.size)?))
+            }
             Err(error) if is_missing(error.kind()) => {
                 self.note_read(slot, None);
-                return Ok(None);
+                Ok(None)
             }
-            Err(error) => return Err(error),
-        };
-        self.note_read(slot, Some(&found));
-        let Some(length) = length_to_read(slot, found.len()) else {
-            let message = "more than 2147483648 bytes";
-            return Err(Error::new(ErrorKind::FileTooLarge, message));
-        };
-        let mut bytes = vec![in alloc; 0u8; length as usize]?;
-        read_whole(&mut file, &mut bytes)?;
-        Ok(Some(bytes))
+            Err(error) => Err(error),
+        }
     }
 
     // From here on this is the manifest that was read.
-    fn note_read(&mut self, slot: Slot, found: Option<&Metadata>) {
+    fn note_read(&mut self, slot: Slot, found: Option<Stamp>) {
         if slot == Slot::Manifest {
-            self.manifest = Some(found.map(stamp_of));
-            self.written.manifest_length = found.map(|f| f.len());
+            self.manifest = Some(found);
+            self.written.manifest_length = found.map(|stamp| stamp.size);
         }
     }
 
@@ -140,15 +137,10 @@ where
         self.discard();
         self.clean();
         self.image.enter(folder_of(slot), Missing::IsMade)?;
-        let stood = self.image.look(name_of(slot))?;
-        if slot == Slot::Cache {
-            let before = self.entries_there();
-            self.written.entries_before = before;
-        }
+        let stood = self.what_stands(slot)?;
+        let mode = mode_of(slot, stood.map(|file| file.mode));
         let (name, file) = make_own(&self.image, name_of(slot), tag, self.run)?;
-        let stood = stood.filter(|found| found.is_file());
-        let mode = mode_of(slot, stood.as_ref().map(|found| found.mode()));
-        let done = hand_over(&file, stood.map(|found| owner_of(&found)), mode);
+        let done = hand_over(&file, stood.map(|file| file.owner), mode);
         self.temporary = Some(Temporary {
             tag,
             slot,
@@ -157,6 +149,15 @@ where
             mode,
         });
         done
+    }
+
+    // What the slot's file hands on to its successor, if there is one.
+    fn what_stands(&mut self, slot: Slot) -> io::Result<Option<Standing>> {
+        let found = self.image.look(name_of(slot))?;
+        if slot == Slot::Cache {
+            self.written.entries_before = self.entries_there();
+        }
+        Ok(found.and_then(|found| standing_of(&found)))
     }
 
     // How many entries the cache has that stands where faults are about now.
@@ -194,7 +195,10 @@ where
 
     /// Adds bytes to the temporary file.
     pub fn append(&mut self, tag: Tag, slot: Slot, bytes: &[u8]) -> io::Result<()> {
-        self.opened(tag, slot)?.file.write_all(bytes)?;
+        let limit = file_limit(&self.image.rt);
+        let temporary = self.opened(tag, slot)?;
+        require_room(&temporary.file, limit, bytes.len())?;
+        temporary.file.write_all(bytes)?;
         if slot == Slot::Cache {
             self.written.entries = entries_in(bytes);
         }
@@ -276,12 +280,6 @@ where
         self.image.sync_folders()
     }
 
-    /// Writes on the error output what call failed and why, and removes the temporary file that is open.
-    pub fn fail(&mut self, call: &str, error: Error) {
-        self.image.write_error_line(call, error);
-        self.discard();
-    }
-
     // Removes the temporary file that is open.
     fn discard(&mut self) {
         if let Some(temporary) = &self.temporary {
@@ -296,6 +294,26 @@ where
             }
         }
         self.temporary = None;
+    }
+}
+
+impl<R: Runtime + Streams> SlotFiles<R>
+where
+    R::File: HeldFile,
+{
+    /// Writes on the error output what call failed and why, and removes the temporary file that is open.
+    pub fn fail(&mut self, call: &str, error: Error) {
+        self.image.write_error_line(call, error);
+        self.discard();
+    }
+}
+
+// A file that would become longer than this program may make one is an error, and no signal.
+fn require_room<F: OpenFile>(file: &F, limit: Option<u64>, more: usize) -> io::Result<()> {
+    if limit.is_none() || has_room(limit, file.metadata()?.len(), more) {
+        Ok(())
+    } else {
+        Err(too_long())
     }
 }
 
@@ -321,12 +339,46 @@ where
     R::File: HeldFile,
 {
     match open_file(rt, path) {
-        Ok((other, found)) => {
+        Ok((other, stamp)) => {
             let length = file.metadata()?.len();
-            Ok(length == found.len() && have_same_bytes(&other, file, length)?)
+            Ok(length == stamp.size && have_same_bytes(&other, file, length)?)
         }
         Err(error) if is_missing(error.kind()) => Ok(false),
         Err(error) => Err(error),
+    }
+}
+
+// The bytes that are read of a slot's file of this length.
+fn read_slot<F: HeldFile + Read>(
+    alloc: Global,
+    slot: Slot,
+    file: &mut F,
+    size: u64,
+) -> io::Result<Vec<u8>> {
+    let is_cache = slot == Slot::Cache && begins_cache(file, size)?;
+    let Some(length) = length_to_read(slot, is_cache, size) else {
+        return Err(Error::new(ErrorKind::FileTooLarge, too_large(slot)));
+    };
+    let mut bytes = vec![in alloc; 0u8; length as usize]?;
+    read_whole(file, &mut bytes)?;
+    Ok(bytes)
+}
+
+// Whether a file of this length begins as a cache does.
+fn begins_cache<F: HeldFile>(file: &F, length: u64) -> io::Result<bool> {
+    let mut head = [0u8; HEAD_SIZE];
+    if length < HEAD_SIZE as u64 {
+        return Ok(false);
+    }
+    file.read_exact_at(&mut head, 0).map_err(shorter)?;
+    Ok(entries_in(&head).is_some())
+}
+
+// Why a slot's file isn't read.
+fn too_large(slot: Slot) -> &'static str {
+    match slot {
+        Slot::Cache => "more than 1076953088 bytes",
+        Slot::Manifest | Slot::Aux => "more than 2147483648 bytes",
     }
 }
 

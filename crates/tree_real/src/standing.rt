@@ -1,6 +1,6 @@
 //! The file that stands in a slot's place, and what its successor takes over from it.
 ghost use Rattle.std.specs.Prelude.{◌≡◌, ◌↔◌, Some, IsTrue, bit_and};
-ghost use Rattle.tree_real.specs.Folder.{IsAsRead, length_to_read, mode_of, owner_to_give};
+ghost use Rattle.tree_real.specs.Folder.{IsAsRead, largest, length_to_read, mode_of, owner_to_give};
 
 use std::fs::Metadata;
 use std::os::unix::fs::MetadataExt;
@@ -26,11 +26,42 @@ pub struct Stamp {
     pub changed_nanos: u64,
 }
 
+impl Stamp {
+    /// Which file it is.
+    pub fn identity(self) -> Identity
+        ensures device { result.device ≡ self.device }
+        ensures inode { result.inode ≡ self.inode }
+    {
+        Identity {
+            device: self.device,
+            inode: self.inode,
+        }
+    }
+}
+
 /// Whom a file belongs to.
 #[derive(Clone, Copy, Debug, PartialEq, Eq)]
 pub struct Owner {
     pub user: u32,
     pub group: u32,
+}
+
+/// What a regular file hands on to the one that takes its place.
+#[derive(Clone, Copy, Debug)]
+pub struct Standing {
+    pub mode: u32,
+    pub owner: Owner,
+}
+
+pub fn standing_of(found: &Metadata) -> Option<Standing> {
+    if found.is_file() {
+        Some(Standing {
+            mode: found.mode(),
+            owner: owner_of(found),
+        })
+    } else {
+        None
+    }
 }
 
 pub fn identity_of(found: &Metadata) -> Identity {
@@ -85,21 +116,32 @@ fn is_same(now: Stamp, read: Stamp) -> bool
     now == read
 }
 
-// A slot of more bytes isn't read.
-const LARGEST_SLOT: u64 = 1 << 31;
+// A slot of more bytes isn't read: a cache has at most so many entries, of so many bytes with two strings of a path's length.
+fn largest(slot: Slot) -> u64
+    ensures { result ≡ largest slot }
+{
+    match slot {
+        Slot::Cache => 131072 * (24 + 2 * 4096) + (1 << 16),
+        Slot::Manifest | Slot::Aux => 1 << 31,
+    }
+}
 
 // A manifest has at most 2^26 bytes, so that one byte more shows that it is too long.
 const TOO_LONG_MANIFEST: u64 = (1 << 26) + 1;
 
-/// How many bytes of a slot's file of this length are read, if it is read.
-pub fn length_to_read(slot: Slot, size: u64) -> Option<u64>
-    ensures { result ≡ length_to_read slot size }
+// So many first bytes show what is no cache.
+const NO_CACHE: u64 = 64;
+
+/// How many bytes of a slot's file of this length are read, if it is read. What doesn't begin as a cache isn't read as one.
+pub fn length_to_read(slot: Slot, is_cache: bool, size: u64) -> Option<u64>
+    ensures { result ≡ length_to_read slot is_cache size }
 {
-    if size > LARGEST_SLOT {
+    if size > largest(slot) {
         return None;
     }
     match slot {
         Slot::Manifest => Some(size.min(TOO_LONG_MANIFEST)),
+        Slot::Cache if !is_cache => Some(size.min(NO_CACHE)),
         Slot::Cache | Slot::Aux => Some(size),
     }
 }

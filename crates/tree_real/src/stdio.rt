@@ -5,6 +5,7 @@ ghost use Rattle.tree_real.specs.Unknown.{unknown_source, unknown_sink};
 use crate::counts::one_more;
 use crate::error_line::write_error_line;
 use crate::kinds::is_for_now;
+use crate::streams::Streams;
 use lib_types::Failed;
 use std::io::{self, Error, ErrorKind, Read};
 use std::rt::Runtime;
@@ -73,11 +74,11 @@ fn read_some<R: Runtime>(rt: &R, reader: &mut R::Reader, buf: &mut [u8]) -> io::
 }
 
 // Writes once; again if a signal came or the reader is behind.
-fn write_some<R: Runtime>(rt: &R, bytes: &[u8]) -> io::Result<usize>
+fn write_some<R: Runtime + Streams>(rt: &R, bytes: &[u8]) -> io::Result<usize>
     ensures { IfOk result (λ n. n ≤ length bytes.now) }
 {
     for _ in 0..MOST_TURNS {
-        match rt.write_some(bytes) {
+        match rt.write_output(bytes) {
             Err(error) if is_for_now(error.kind()) => pause(rt),
             done => return done,
         }
@@ -85,7 +86,7 @@ fn write_some<R: Runtime>(rt: &R, bytes: &[u8]) -> io::Result<usize>
     Err(Error::from(ErrorKind::TimedOut))
 }
 
-impl<R: Runtime> Source for StdinSource<R> {
+impl<R: Runtime + Streams> Source for StdinSource<R> {
     ghost state = { λ s. unknown_source s.faults };
 
     fn read(&mut self, buf: &mut [u8]) -> Result<usize, Failed> {
@@ -100,7 +101,7 @@ impl<R: Runtime> Source for StdinSource<R> {
     }
 }
 
-impl<R: Runtime> Sink for StdoutSink<R> {
+impl<R: Runtime + Streams> Sink for StdoutSink<R> {
     ghost state = { λ s. unknown_sink s.faults };
 
     fn write(&mut self, bytes: &[u8]) -> Result<usize, Failed> {

@@ -9,9 +9,9 @@ use crate::image_folder::{ImageFolder, open_file};
 use crate::kinds::{is_missing, is_no_text, is_there};
 use crate::open_file::HeldFile;
 use crate::paths::behind;
-use crate::standing::identity_of;
+use crate::standing::{Identity, identity_of};
 use std::alloc::AllocError;
-use std::fs::{self, Metadata, OpenFile, OpenOptions, read_dir};
+use std::fs::{self, OpenFile, OpenOptions, read_dir};
 use std::io::{self, Error, ErrorKind};
 use std::os::unix::fs::OpenOptionsExt;
 use std::rt::Runtime;
@@ -110,8 +110,8 @@ where
 
 // Whether an open file stands at the path.
 fn stands_at<R: Runtime>(rt: &R, path: &str, file: &R::File) -> io::Result<bool> {
-    let made = file.metadata()?;
-    is_at(rt, path, &made)
+    let made = identity_of(&file.metadata()?);
+    is_at(rt, path, made)
 }
 
 // Makes an empty file, which isn't there yet.
@@ -125,9 +125,9 @@ fn make_file<R: Runtime>(rt: &R, path: &str) -> io::Result<R::File> {
 }
 
 // Whether this file stands at the path.
-fn is_at<R: Runtime>(rt: &R, path: &str, file: &Metadata) -> io::Result<bool> {
+fn is_at<R: Runtime>(rt: &R, path: &str, file: Identity) -> io::Result<bool> {
     match fs::symlink_metadata(rt, path) {
-        Ok(found) => Ok(identity_of(&found) == identity_of(file)),
+        Ok(found) => Ok(identity_of(&found) == file),
         Err(error) if is_missing(error.kind()) => Ok(false),
         Err(error) => Err(error),
     }
@@ -158,8 +158,8 @@ fn remove_if_left<R: Runtime>(rt: &R, path: &str) -> io::Result<()>
 where
     R::File: HeldFile,
 {
-    let (file, opened) = open_file(rt, path)?;
-    if file.take_lock().is_left() && is_at(rt, path, &opened)? {
+    let (file, stamp) = open_file(rt, path)?;
+    if file.take_lock().is_left() && is_at(rt, path, stamp.identity())? {
         rt.remove_file(path)?;
     }
     Ok(())

@@ -1,0 +1,45 @@
+//! How long this program may make a file (`RLIMIT_FSIZE`). The system ends one that writes past that, so it is asked before.
+ghost use Rattle.std.specs.Prelude.{◌≡◌};
+ghost use Rattle.tree_real.specs.Folder.{has_room};
+
+use std::fs;
+use std::io::{self, Error, ErrorKind, Read};
+use std::rt::Runtime;
+use std::str::from_utf8;
+
+// So many first bytes of the list of limits have the line on files.
+const LISTED: usize = 1024;
+
+/// The most bytes of a file, if there is a limit, and if the system shows it.
+pub fn file_limit<R: Runtime>(rt: &R) -> Option<u64> {
+    let mut list = [0u8; LISTED];
+    let count = read_start(rt, &mut list).ok()?;
+    limit_in(from_utf8(list.get(..count)?).ok()?)
+}
+
+// Reads the beginning of the list of this program's limits.
+fn read_start<R: Runtime>(rt: &R, list: &mut [u8]) -> io::Result<usize> {
+    fs::open(rt, "/proc/self/limits")?.read(list)
+}
+
+// The limit that is in force stands first in its line, which is `unlimited` or a number. See proc(5).
+fn limit_in(list: &str) -> Option<u64> {
+    let (_, line) = list.split_once("Max file size ")?;
+    let (limit, _) = line.trim_start().split_once(' ')?;
+    limit.parse().ok()
+}
+
+/// Whether a file of this length has room for so many bytes more.
+pub fn has_room(limit: Option<u64>, length: u64, more: usize) -> bool
+    ensures { result ≡ has_room limit length more }
+{
+    match limit {
+        Some(limit) => more as u64 <= limit.saturating_sub(length),
+        None => true,
+    }
+}
+
+/// The error of a file that would have more bytes, in the system's words.
+pub fn too_long() -> Error {
+    Error::new(ErrorKind::FileTooLarge, "File too large")
+}

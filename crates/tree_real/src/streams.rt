@@ -1,0 +1,74 @@
+//! Writing to the standard streams, which never ends the program by a signal.
+ghost use Rattle.std.specs.Prelude.{◌≤◌, IfOk, length};
+
+use crate::file_limit::{file_limit, has_room, too_long};
+use crate::kinds::is_for_now;
+use std::fs;
+use std::io::{self, Error, ErrorKind, Write};
+use std::os::fd::{AsFd, BorrowedFd};
+use std::process::ChildStdin;
+
+/// The standard output and the error output. A call fails if nobody reads a stream any more (BrokenPipe), and if a file would
+/// become longer than this program may make one (FileTooLarge): neither raises a signal.
+pub trait Streams {
+    /// Writes some of the bytes to the standard output, and returns how many.
+    fn write_output(&self, bytes: &[u8]) -> io::Result<usize>
+        ensures { IfOk result (λ n. n ≤ length bytes.now) };
+
+    /// Writes some of the bytes to the error output, and returns how many.
+    fn write_error(&self, bytes: &[u8]) -> io::Result<usize>
+        ensures { IfOk result (λ n. n ≤ length bytes.now) };
+}
+
+impl Streams for HostRuntime {
+    fn write_output(&self, bytes: &[u8]) -> io::Result<usize> {
+        require_room(self, "/proc/self/fd/1", bytes)?;
+        write_to(self.stdout().as_fd(), bytes)
+    }
+
+    fn write_error(&self, bytes: &[u8]) -> io::Result<usize> {
+        require_room(self, "/proc/self/fd/2", bytes)?;
+        write_to(self.stderr().as_fd(), bytes)
+    }
+}
+
+// The library holds SIGPIPE back in the writing to a child's input alone, which any stream can be taken for.
+fn write_to(stream: BorrowedFd<'_>, bytes: &[u8]) -> io::Result<usize>
+    ensures { IfOk result (λ n. n ≤ length bytes.now) }
+{
+    let mut stream = ChildStdin::from(stream.try_clone_to_owned()?);
+    stream.write(bytes)
+}
+
+// A stream that is a file has no room past the limit of files.
+fn require_room(rt: &HostRuntime, path: &str, bytes: &[u8]) -> io::Result<()> {
+    match fs::metadata(rt, path) {
+        Ok(found) if found.is_file() => {
+            if has_room(file_limit(rt), found.len(), bytes.len()) {
+                Ok(())
+            } else {
+                Err(too_long())
+            }
+        }
+        _ => Ok(()),
+    }
+}
+
+// A text takes at most so many calls.
+const MOST_CALLS: usize = 100;
+
+/// Writes a text to the error output.
+pub fn write_text<R: Streams>(rt: &R, text: &str) -> io::Result<()> {
+    let mut rest = text.as_bytes();
+    for _ in 0..MOST_CALLS {
+        match rt.write_error(rest) {
+            Ok(count) => rest = rest.get(count..).unwrap_or(&[]),
+            Err(error) if is_for_now(error.kind()) => {}
+            Err(error) => return Err(error),
+        }
+        if rest.is_empty() {
+            return Ok(());
+        }
+    }
+    Err(Error::from(ErrorKind::TimedOut))
+}
