@@ -1,0 +1,3 @@
+//! Looks up a name in a cache as the loader does, without taking memory.
+#![tactic(auto)]
+
