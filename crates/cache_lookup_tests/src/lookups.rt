@@ -26,12 +26,7 @@ fn caps_of(alloc: Global, list: &[u8]) -> Result<Texts, NoMemory> {
 }
 
 // The path, and the number of steps.
-fn find<'a>(
-    cache: &Sorted<'a>,
-    name: &[u8],
-    abi: Abi,
-    caps: &Texts,
-) -> (Option<&'a [u8]>, u64) {
+fn find<'a>(cache: &Sorted<'a>, name: &[u8], abi: Abi, caps: &Texts) -> (Option<&'a [u8]>, u64) {
     let mut entries = Counted::new(cache);
     let path = match lookup(&mut entries, name, abi, caps) {
         Some(index) => cache.path(index),

@@ -1,6 +1,5 @@
 -- What an update that was made leaves is settled.
-use Rattle.std.proofs.Common.{◌≡◌, true, false, ℕ, List, [], Option, Some, None, Result, Ok, Err, ap, sym, subst, ◌∙◌, refl}
-use Rattle.tree_face.specs.declared.disk.Slot.TheVariants.{Manifest, Cache}
+use Rattle.std.proofs.Common.{◌≡◌, true, false, ℕ, List, Option, Some, None, Result, Ok, Err, ap, sym, subst, ◌∙◌, refl}
 use Rattle.tree_face.specs.Disk.{DiskContent, DiskState}
 use Rattle.tree_face.specs.Known.{IfKnown, Relates}
 use Rattle.tree_face.specs.Store.{Contents, StoreState}
