@@ -1,0 +1,7 @@
+mod Halving
+mod Indexed
+mod Least
+mod Positions
+mod Rises
+mod Runs
+mod Standing

@@ -1,5 +1,5 @@
 -- What a view keeps of the file, and what its entries are.
-use Rattle.std.specs.Prelude.{◌≡◌, ℕ, List, Option, None, option_map}
+use Rattle.std.specs.Prelude.{◌≡◌, ◌<◌, ◌^◌, ℕ, List, Option, None, option_map}
 use Rattle.std.specs.Borrow.{Bor}
 use Rattle.cache_reader.specs.declared.extension.Section.{Section}
 use Rattle.cache_reader.specs.declared.view.EntryView.{EntryView}
@@ -9,6 +9,7 @@ use Rattle.cache_reader.specs.Cache.{CachedEntry, defect, nlibs, names_section, 
 pub record IsView (bytes : List ℕ) (count : ℕ) (section : Option Section) (text : Option (Bor (List ℕ))) : Type 0 where
   pub accepted : defect bytes ≡ None
   pub entries : count ≡ nlibs bytes
+  pub few : count < 2 ^ 32
   pub names : section ≡ names_section bytes
   pub made : option_map (λ t. t.now) text ≡ generator bytes
 

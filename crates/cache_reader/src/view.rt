@@ -1,5 +1,5 @@
 //! A cache file that was accepted, read in place.
-ghost use Rattle.std.specs.Prelude.{◌≡◌, ◌<◌, ◌≤◌, true, None, Some, length, option_map, IfOk, IfErr, IfSome};
+ghost use Rattle.std.specs.Prelude.{◌≡◌, ◌<◌, ◌≤◌, ◌^◌, true, None, Some, length, option_map, IfOk, IfErr, IfSome};
 ghost use Rattle.std.specs.List.{before_first, position, slice_get, slice_index};
 ghost use Rattle.cache_layout.specs.Layout.{is_named, name_index};
 ghost use Rattle.cache_reader.specs.Checks.{AreSectionsOf, IsSound};
@@ -88,9 +88,10 @@ impl<'a> CacheView<'a> {
         })
     }
 
-    /// The number of entries.
+    /// The number of entries, which fits 32 bits.
     pub fn len(&self) -> usize
-        ensures { result ≡ length (read self.now) }
+        ensures value { result ≡ length (read self.now) }
+        ensures few { result < 2 ^ 32 }
     {
         self.count
     }
@@ -105,8 +106,8 @@ impl<'a> CacheView<'a> {
         Some(self.entry_within(i))
     }
 
-    /// The entry with this index.
-    pub(crate) fn entry_within(&self, i: usize) -> EntryView<'a>
+    /// The entry with this index, which is one of the file's.
+    pub fn entry_within(&self, i: usize) -> EntryView<'a>
         requires { i < length (read self.now) }
         ensures { entry_of result ≡ entry_at self.now i }
     {

@@ -11,7 +11,8 @@ pub const USAGE: &str =
     "ldconfig for images, release version 1 (made with the Rattle kit, logic dac8208d650f15bf)
 usage: ldconfig update: plans the links of the libraries in image.mtree, in the folder of an image, and makes etc/ld.so.cache
 usage: ldconfig print, or -p: prints etc/ld.so.cache
-Both run in the folder of an image. What they write and every exit status: README.md and docs/FORMATS.md
+usage: ldconfig lookup NAME [--abi ABI] [--caps LIST]: the path that the loader takes from etc/ld.so.cache; LIST: hwcaps names between colons
+All run in the folder of an image. What they write and every exit status: README.md and docs/FORMATS.md
 ";
 
 const NO_MANIFEST: &str =

@@ -1,5 +1,5 @@
 -- No command ends with the status of arguments that are none's.
-use Rattle.std.proofs.Common.{◌≡◌, Result, Ok, Err, sym, subst, ◌∙◌}
+use Rattle.std.proofs.Common.{◌≡◌, Result, Ok, Err, subst}
 use Rattle.tree_face.specs.declared.disk.Tag.{Tag}
 use Rattle.tree_face.specs.Disk.{DiskContent, DiskState}
 use Rattle.tree_face.specs.Store.{StoreState}
@@ -13,9 +13,11 @@ use Rattle.ldconfig_core.specs.declared.report.Report.{Report}
 use Rattle.ldconfig_core.specs.Session.{Loaded}
 use Rattle.ldconfig_cli.specs.declared.status.Status.{Status}
 use Rattle.ldconfig_cli.specs.declared.status.Status.TheVariants.{Usage}
+use Rattle.ldconfig_cli.specs.Asked.{Asked}
+use Rattle.ldconfig_cli.specs.Lookup.{AnsweredBy}
 use Rattle.ldconfig_cli.specs.Print.{PrintedBy}
 use Rattle.ldconfig_cli.specs.Status.{of_load, of_update}
-use Rattle.ldconfig_cli.specs.Update.{AfterLoad, LoadsAndUpdates, Reports, UpdatesOnce}
+use Rattle.ldconfig_cli.specs.Update.{AfterLoad, LoadsAndUpdates, Reports}
 
 load_usage : (fault : LoadFault) → Usage ≡ of_load fault → ⊥
 load_usage (loading.DiskFailed slot) e = absurd (cc)
@@ -47,3 +49,6 @@ no_usage_updates tag status store after_store disk after_disk output after_outpu
 
 pub no_usage_prints : (status : Status) (disk : Option DiskContent) (old new : SinkState) → PrintedBy status disk old new → status ≡ Usage → ⊥
 no_usage_prints status disk old new printed e = subst (λ (s : Status). PrintedBy s disk old new) e printed
+
+pub no_usage_answers : (asked : Asked) (status : Status) (disk : Option DiskContent) (old new : SinkState) → AnsweredBy asked status disk old new → status ≡ Usage → ⊥
+no_usage_answers asked status disk old new answered e = subst (λ (s : Status). AnsweredBy asked s disk old new) e answered

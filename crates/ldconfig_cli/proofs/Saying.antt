@@ -1,5 +1,6 @@
 -- What is written part by part.
-use Rattle.std.proofs.Common.{◌≡◌, ◌++◌, ℕ, List, Option, Some, None, Result, Ok, Err, inl, inr, arith, ◌∙◌}
+use Rattle.std.proofs.Common.{◌≡◌, ◌++◌, ℕ, false, List, Result, Ok, Err, inl, inr, arith, ◌∙◌}
+use Rattle.std.specs.Result.{OnOk, is_err}
 use Rattle.lib_types.specs.declared.fault.Failed.{Failed}
 use Rattle.tree_face.proofs.Follows.{follow, follow_part, part_of}
 use Rattle.tree_face.proofs.Known.{relates_by, relates_on}
@@ -39,3 +40,8 @@ module _ (xs ys : List ℕ) (a b : SinkState) where
 pub says : (text : List ℕ) (a b : SinkState) (r : Result (Unit {0}) Failed) → TakesAll a b text r → Says text a b
 says text a b (Ok done) takes = inl (takes.done, takes.no_fault)
 says text a b (Err fault) takes = inr (takes.failed, takes.cause)
+
+-- what holds after a call that hasn't failed
+pub succeeded : {P : Type 0} (r : Result (Unit {0}) Failed) → false ≡ is_err r → OnOk r P → P
+succeeded (Ok done) e p = p
+succeeded (Err fault) e p = absurd (cc)

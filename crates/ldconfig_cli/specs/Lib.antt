@@ -1,7 +1,9 @@
+pub mod Asked
 pub mod CacheFault
 pub mod Command
 pub mod Devices
 pub mod FaultLine
+pub mod Lookup
 pub mod Print
 pub mod Status
 pub mod Update

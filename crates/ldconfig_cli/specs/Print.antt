@@ -13,7 +13,7 @@ use Rattle.tree_face.specs.Known.{IfKnown, Relates}
 use Rattle.tree_face.specs.StoreUse.{Ending, Complete, DeviceFailed, GaveUp}
 use Rattle.tree_face.specs.Stream.{SinkState}
 use Rattle.ldconfig_cli.specs.declared.status.Status.{Status}
-use Rattle.ldconfig_cli.specs.declared.status.Status.TheVariants.{Done, Usage, BadManifest, NoCache, BadCache, StoreFault, DiskFault, OutputFault, NoMemory, NoManifest, TooLarge, TooMany}
+use Rattle.ldconfig_cli.specs.declared.status.Status.TheVariants.{Done, NoCache, BadCache, DiskFault, OutputFault, NoMemory}
 use Rattle.ldconfig_cli.specs.Devices.{Devices}
 use Rattle.ldconfig_cli.specs.Status.{EndsWith}
 
@@ -47,27 +47,13 @@ PrintedBy NoCache disk old new = IsInSlot disk None × (new ≡ old)
 PrintedBy (BadCache d) disk old new = HasDefect disk d × (new ≡ old)
 PrintedBy DiskFault disk old new = new ≡ old
 PrintedBy NoMemory disk old new = new ≡ old
-PrintedBy Usage disk old new = ⊥
-PrintedBy (BadManifest fault) disk old new = ⊥
-PrintedBy StoreFault disk old new = ⊥
-PrintedBy NoManifest disk old new = ⊥
-PrintedBy (TooLarge nodes bytes) disk old new = ⊥
-PrintedBy (TooMany count) disk old new = ⊥
+PrintedBy _ disk old new = ⊥
 
 -- how the reading of the slot ended
-abbrev pub print_ending : Status → Ending
-print_ending DiskFault = DeviceFailed
-print_ending NoMemory = GaveUp
-print_ending Done = Complete
-print_ending OutputFault = Complete
-print_ending NoCache = Complete
-print_ending (BadCache d) = Complete
-print_ending Usage = Complete
-print_ending (BadManifest fault) = Complete
-print_ending StoreFault = Complete
-print_ending NoManifest = Complete
-print_ending (TooLarge nodes bytes) = Complete
-print_ending (TooMany count) = Complete
+abbrev pub slot_ending : Status → Ending
+slot_ending DiskFault = DeviceFailed
+slot_ending NoMemory = GaveUp
+slot_ending _ = Complete
 
 -- The Cache slot is read once, and nothing else is.
 pub record PrintRun (old new : Devices) (status : Status) : Type 0 where
@@ -75,13 +61,13 @@ pub record PrintRun (old new : Devices) (status : Status) : Type 0 where
   pub before : SinkState
   pub printed_by : PrintedBy status old.disk.contents old.output before
   pub line : EndsWith status before new.output
-  pub reads : ReadsOnly (slots.Cache ∷ []) (print_ending status) old.disk new.disk
+  pub reads : ReadsOnly (slots.Cache ∷ []) (slot_ending status) old.disk new.disk
   pub store : new.store ≡ old.store
   pub input : new.input ≡ old.input
 
 -- ---- what private functions say
 
--- the bytes of the slot, or the status of a print without them
+-- the bytes of the slot, or the status of a command without them
 abbrev pub IsRead : Result (Vec ℕ Global) Status → Option DiskContent → Type 0
 IsRead (Ok bytes) disk = IsInSlot disk (Some bytes.items)
 IsRead (Err NoCache) disk = IsInSlot disk None
@@ -91,7 +77,7 @@ IsRead (Err status) disk = ⊥
 
 abbrev pub read_ending : Result (Vec ℕ Global) Status → Ending
 read_ending (Ok bytes) = Complete
-read_ending (Err status) = print_ending status
+read_ending (Err status) = slot_ending status
 
 -- the text of these bytes is written, or this is their first defect
 abbrev pub PrintsBytes : List ℕ → Status → SinkState → SinkState → Type 0

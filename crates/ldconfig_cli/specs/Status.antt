@@ -16,10 +16,11 @@ use Rattle.ldconfig_core.specs.declared.fault.UpdateFault.{UpdateFault}
 use Rattle.ldconfig_core.specs.declared.fault.UpdateFault.TheVariants as updating
 use Rattle.ldconfig_cli.specs.CacheFault.{cache_fault}
 use Rattle.ldconfig_cli.specs.declared.status.Status.{Status}
-use Rattle.ldconfig_cli.specs.declared.status.Status.TheVariants.{Done, Usage, BadManifest, NoCache, BadCache, StoreFault, DiskFault, OutputFault, NoMemory, NoManifest, TooLarge, TooMany}
+use Rattle.ldconfig_cli.specs.declared.status.Status.TheVariants.{Done, Missing, Usage, BadManifest, NoCache, BadCache, StoreFault, DiskFault, OutputFault, NoMemory, NoManifest, TooLarge, TooMany}
 
 abbrev pub code_of : Status → ℕ
 code_of Done = 0
+code_of Missing = 1
 code_of Usage = 2
 code_of (BadManifest fault) = 3
 code_of NoCache = 5
@@ -69,6 +70,7 @@ count_text count = line (codes "fault: TooMany " ++ decimal count)
 -- the fault line, if the status has one
 abbrev pub fault_line : Status → Option (List ℕ)
 fault_line Done = None
+fault_line Missing = None
 fault_line Usage = Some (line (codes "fault: Usage"))
 fault_line (BadManifest fault) = Some (manifest_text fault)
 fault_line NoCache = Some (line (codes "fault: NoCache"))

@@ -19,7 +19,7 @@ use Rattle.ldconfig_core.specs.Session.{Loaded, Loads}
 use Rattle.ldconfig_core.specs.Texts.{AreTextsOf, UpdateTexts}
 use Rattle.ldconfig_core.specs.Update.{Updates}
 use Rattle.ldconfig_cli.specs.declared.status.Status.{Status}
-use Rattle.ldconfig_cli.specs.declared.status.Status.TheVariants.{Done, Usage, BadManifest, NoCache, BadCache, StoreFault, DiskFault, OutputFault, NoMemory, NoManifest, TooLarge, TooMany}
+use Rattle.ldconfig_cli.specs.declared.status.Status.TheVariants.{Done, OutputFault}
 use Rattle.ldconfig_cli.specs.Devices.{Devices, IfBothKnown}
 use Rattle.ldconfig_cli.specs.Status.{EndsWith, of_load, of_update}
 
@@ -88,16 +88,7 @@ pub record IsSearchedByCache (held : Contents) (content : DiskContent) : Type 0 
 abbrev pub is_made : Status → Bool
 is_made Done = true
 is_made OutputFault = true
-is_made Usage = false
-is_made (BadManifest fault) = false
-is_made NoCache = false
-is_made (BadCache defect) = false
-is_made StoreFault = false
-is_made DiskFault = false
-is_made NoMemory = false
-is_made NoManifest = false
-is_made (TooLarge nodes bytes) = false
-is_made (TooMany count) = false
+is_made _ = false
 
 -- what an update that was made leaves is settled, if all contents are known
 abbrev pub SettlesSlots : Status → Option Contents → Option DiskContent → Type 0

@@ -5,6 +5,8 @@ ghost use Rattle.ldconfig_core.specs.Session.{Loaded};
 ghost use Rattle.ldconfig_core.specs.Texts.{AreTextsOf, UpdateTexts};
 ghost use Rattle.ldconfig_cli.specs.Command.{command_of};
 ghost use Rattle.ldconfig_cli.specs.Devices.{devices};
+ghost use Rattle.ldconfig_cli.specs.Asked.{Asked};
+ghost use Rattle.ldconfig_cli.specs.Lookup.{LookupRun};
 ghost use Rattle.ldconfig_cli.specs.Print.{PrintRun};
 ghost use Rattle.ldconfig_cli.specs.Status.{EndsWith};
 ghost use Rattle.ldconfig_cli.specs.Update.{LoadsAndUpdates, UpdateRun};
@@ -13,7 +15,9 @@ ghost use Rattle.tree_face.specs.Stream.{SourceState};
 ghost use Rattle.tree_face.specs.declared.disk.Tag.{Tag};
 
 use crate::arguments::{Command, command_of};
+use crate::asked::Lookup;
 use crate::fault_line::put_line;
+use crate::lookup::look_up;
 use crate::print::print;
 use crate::status::Status;
 use ldconfig_core::Session;
@@ -74,6 +78,23 @@ fn run_print<D: Disk, O: Sink>(alloc: Global, disk: &mut D, out: &mut O) -> Stat
     status
 }
 
+// The command `lookup`. The states of the store and the input are any, since nothing is read from them.
+fn run_lookup<D: Disk, O: Sink>(
+    alloc: Global,
+    disk: &mut D,
+    out: &mut O,
+    lookup: &Lookup<'_>,
+) -> Status
+    ensures { (store : StoreState) (input : SourceState) → LookupRun lookup.now
+        (devices store (D.state disk.old) input (O.state out.old))
+        (devices store (D.state disk.new) input (O.state out.new))
+        result }
+{
+    let status = look_up(alloc, disk, out, lookup);
+    put_fault_line(out, status);
+    status
+}
+
 // Writes the fault line of a status that has one.
 fn put_fault_line<O: Sink>(out: &mut O, status: Status)
     ensures { EndsWith status (O.state out.old) (O.state out.new) }
@@ -87,8 +108,8 @@ fn put_fault_line<O: Sink>(out: &mut O, status: Status)
 ///
 /// `update` plans the links of the libraries of the manifest's tree, puts them into the Manifest slot, the cache of the entries into
 /// the Cache slot, and writes a report.
-/// `print` writes the entries of the cache as text. Every other status than Done but OutputFault and NoMemory writes its
-/// fault line. Nothing is read from the input.
+/// `print` writes the entries of the cache as text, and `lookup` the path that the loader takes from it for a name. Every other status
+/// than Done and Missing but OutputFault and NoMemory writes its fault line. Nothing is read from the input.
 pub fn run<S: Store, D: Disk, I: Source, O: Sink>(
     alloc: Global,
     words: &Vec<String>,
@@ -110,6 +131,10 @@ pub fn run<S: Store, D: Disk, I: Source, O: Sink>(
         (devices (S.state store.old) (D.state disk.old) (I.state input.old) (O.state out.old))
         (devices (S.state store.new) (D.state disk.new) (I.state input.new) (O.state out.new))
         result }
+    ensures lookup { (asked : Asked) → command_of words.now ≡ Some (Command.Lookup asked) → LookupRun asked
+        (devices (S.state store.old) (D.state disk.old) (I.state input.old) (O.state out.old))
+        (devices (S.state store.new) (D.state disk.new) (I.state input.new) (O.state out.new))
+        result }
 
     // The texts of an update are determined by the image and the contents, and every image has some.
     ensures one_update { (held : Contents) (s : Loaded) (texts others : UpdateTexts) → AreTextsOf held s texts → AreTextsOf held s others → texts ≡ others }
@@ -118,6 +143,7 @@ pub fn run<S: Store, D: Disk, I: Source, O: Sink>(
     match command_of(words) {
         Some(Command::Update { tag }) => run_update(alloc, store, disk, out, tag),
         Some(Command::Print) => run_print(alloc, disk, out),
+        Some(Command::Lookup(lookup)) => run_lookup(alloc, disk, out, &lookup),
         None => {
             put_fault_line(out, Status::Usage);
             Status::Usage

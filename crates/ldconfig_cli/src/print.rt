@@ -2,7 +2,7 @@
 ghost use Rattle.std.specs.Prelude.{◌≡◌, ◌∷◌, []};
 ghost use Rattle.tree_face.specs.DiskUse.{ReadsOnly};
 ghost use Rattle.tree_face.specs.declared.disk.Slot.TheVariants as slots;
-ghost use Rattle.ldconfig_cli.specs.Print.{IsRead, PrintedBy, PrintsBytes, cache_name, print_ending, read_ending};
+ghost use Rattle.ldconfig_cli.specs.Print.{IsRead, PrintedBy, PrintsBytes, cache_name, slot_ending, read_ending};
 
 use crate::status::Status;
 use cache_reader::CacheView;
@@ -16,8 +16,8 @@ fn cache_name() -> &'static [u8]
     b"/etc/ld.so.cache"
 }
 
-// The bytes of the cache, or the status of a print without them.
-fn read_cache<D: Disk>(alloc: Global, disk: &mut D) -> Result<Vec<u8>, Status>
+// The bytes of the cache, or the status of a command without them.
+pub fn read_cache<D: Disk>(alloc: Global, disk: &mut D) -> Result<Vec<u8>, Status>
     ensures slot { IsRead result (D.state disk.old).contents }
     ensures reads { ReadsOnly (slots.Cache ∷ []) (read_ending result) (D.state disk.old) (D.state disk.new) }
 {
@@ -46,7 +46,7 @@ fn print_bytes<O: Sink>(bytes: &[u8], out: &mut O) -> Status
 /// Prints the cache, and writes no fault line.
 pub fn print<D: Disk, O: Sink>(alloc: Global, disk: &mut D, out: &mut O) -> Status
     ensures printed_by { PrintedBy result (D.state disk.old).contents (O.state out.old) (O.state out.new) }
-    ensures reads { ReadsOnly (slots.Cache ∷ []) (print_ending result) (D.state disk.old) (D.state disk.new) }
+    ensures reads { ReadsOnly (slots.Cache ∷ []) (slot_ending result) (D.state disk.old) (D.state disk.new) }
 {
     match read_cache(alloc, disk) {
         Ok(bytes) => print_bytes(&bytes, out),

@@ -14,6 +14,8 @@ use mtree_manifest::ManifestFault;
 pub enum Status {
     /// All was done.
     Done,
+    /// The cache has no path for the name.
+    Missing,
     /// The arguments are those of no command.
     Usage,
     /// The manifest has no tree. This fault is never NoMemory.
@@ -45,6 +47,7 @@ impl Status {
     {
         match self {
             Status::Done => 0,
+            Status::Missing => 1,
             Status::Usage => 2,
             Status::BadManifest(_) => 3,
             Status::NoCache => 5,
@@ -64,7 +67,7 @@ impl Status {
         ensures { option_map line_bytes result ≡ fault_line self }
     {
         match self {
-            Status::Done | Status::OutputFault | Status::NoMemory => None,
+            Status::Done | Status::Missing | Status::OutputFault | Status::NoMemory => None,
             Status::Usage => Some(whole(b"fault: Usage\n")),
             Status::BadManifest(fault) => Some(manifest_line(fault)),
             Status::NoCache => Some(whole(b"fault: NoCache\n")),

@@ -4,6 +4,7 @@
 #![tactic(auto)]
 
 mod held;
+mod lookups;
 mod trial;
 
 use crate::trial::Update;

@@ -1,5 +1,6 @@
-//! One row: an update of an image, a print of its cache, and a second update.
+//! One row: an update of an image, a print of its cache, look-ups in it, and a second update.
 use crate::held::held_of;
+use crate::lookups::are_answered;
 use elf_samples::SampleFault;
 use lib_types::NoMemory;
 use std::alloc::Global;
@@ -9,7 +10,7 @@ use update_fixture::{Devices, OLD, Setting, has, image, make_devices, replacing_
 
 /// A row has a manifest, if there is one, what the store holds, the status if the update is refused, how many files are begun, and
 /// the report or the fault line. If the update is done: the report of a second one if it is another, the new manifest if one is
-/// written, what is printed of the cache, and its length or its bytes if they are compared.
+/// written, what is printed of the cache, what look-ups in it answer, and its length or its bytes if they are compared.
 pub(crate) struct Update;
 
 fn devices_of(alloc: Global, row: Row<'_>) -> Result<Devices, SampleFault> {
@@ -166,7 +167,7 @@ fn is_second(
     )
 }
 
-// Updates an image, prints its cache, and updates it once more. A `run` that always returns NoMemory meets its contract; this
+// Updates an image, prints its cache, looks names up in it, and updates it once more. A `run` that always returns NoMemory meets its contract; this
 // refuses it.
 fn is_as_written(
     alloc: Global,
@@ -184,6 +185,7 @@ fn is_as_written(
     Ok(
         is_cache(alloc, row, &cache, said)?
             && is_run(alloc, row, "print", 0, b"print", devices, said)?
+            && are_answered(alloc, row, devices, said)?
             && is_second(alloc, row, devices, &cache, said)?,
     )
 }
@@ -203,6 +205,7 @@ const WORDS: &[&[u8]] = &[
     b"again",
     b"new",
     b"print",
+    b"lookup",
     b"size",
     b"cache",
     b"status",

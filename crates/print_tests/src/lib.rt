@@ -1,5 +1,7 @@
-//! Tests of the command `print` over devices in memory: each kind of Cache slot, and devices that fail.
+//! Tests of the commands `print` and `lookup` over devices in memory: each kind of Cache slot, and devices that fail.
 #![tactic(auto)]
 
+#[cfg(test)]
+mod lookups;
 #[cfg(test)]
 mod prints;

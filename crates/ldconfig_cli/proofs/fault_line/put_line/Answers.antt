@@ -1,4 +1,4 @@
-use Rattle.std.proofs.Common.{rules, ◌≡◌, ◌++◌, Result, Ok, Err}
+use Rattle.std.proofs.Common.{rules, ◌≡◌, ◌++◌, Ok, Err}
 use Rattle.ldconfig_cli.proofs.Saying.{takes_on, takes_part}
 use Rattle.ldconfig_cli.specs.FaultLine.{number_digits}
 use Rattle.ldconfig_cli.proofs.fault_line.put_line.Goals as goal

@@ -1,0 +1,114 @@
+//! Which path a cache gives for a name, an ABI and hwcaps names, in how many steps.
+use crate::bytes::cache_of;
+use cache_lookup::{Counted, Sorted, lookup, sorted};
+use cache_reader::CacheView;
+use lib_types::{Abi, NoMemory, Text, Texts};
+use std::alloc::Global;
+use table_rows::{Row, Said, Trial, count, divide, number, value};
+
+/// A row has the entries of a cache in their order, each behind `entry`: its flags, its hwcaps name (`-` for none, `#NUMBER` for a hwcap
+/// that is this number), its name and its path. `series COUNT` stands for so many entries of falling names. A line `find` has an ABI,
+/// hwcaps names between colons (`-` for none), a name, and the path (`-` for none); each takes at most as many steps as `steps` says.
+/// `rises` has the index of the first entry whose name is above the name before it.
+pub(crate) struct Lookups;
+
+fn caps_of(alloc: Global, list: &[u8]) -> Result<Texts, NoMemory> {
+    let mut caps = Texts::new(alloc);
+    let mut rest = list;
+    for _ in 0..list.len() {
+        let (cap, behind) = divide(b':', rest);
+        if !cap.is_empty() && cap != b"-".as_slice() {
+            caps.push(Text::copy_of(alloc, cap)?)?;
+        }
+        rest = behind;
+    }
+    Ok(caps)
+}
+
+// The path, and the number of steps.
+fn find<'a>(cache: &Sorted<'a>, name: &[u8], abi: Abi, caps: &Texts) -> (Option<&'a [u8]>, u64) {
+    let mut entries = Counted::new(cache);
+    let path = match lookup(&mut entries, name, abi, caps) {
+        Some(index) => cache.path(index),
+        None => None,
+    };
+    (path, entries.steps())
+}
+
+// `ABI CAPS NAME PATH`
+fn is_found(
+    alloc: Global,
+    cache: &Sorted<'_>,
+    line: &[u8],
+    most: u64,
+    said: &mut Said,
+) -> Result<bool, NoMemory> {
+    let (word, rest) = divide(b' ', line);
+    let (list, rest) = divide(b' ', rest);
+    let (name, want) = divide(b' ', rest);
+    let Some(abi) = Abi::of_word(word) else {
+        said.say(b"no ABI: ", word)?;
+        return Ok(false);
+    };
+    let (path, steps) = find(cache, name, abi, &caps_of(alloc, list)?);
+    if steps > most {
+        said.say(b"too many steps: ", line)?;
+        return Ok(false);
+    }
+    said.is_same(line, want, path.unwrap_or(b"-"))
+}
+
+// Whether each line behind `find` is as it says.
+fn are_found(
+    alloc: Global,
+    cache: &Sorted<'_>,
+    row: Row<'_>,
+    said: &mut Said,
+) -> Result<bool, NoMemory> {
+    let most = count(row, b"steps");
+    let mut are_found = true;
+    for line in row {
+        let (word, rest) = divide(b' ', *line);
+        if word == b"find".as_slice() {
+            are_found = is_found(alloc, cache, rest, most, said)? && are_found;
+        }
+    }
+    Ok(are_found)
+}
+
+fn try_cache(
+    alloc: Global,
+    view: CacheView<'_>,
+    row: Row<'_>,
+    said: &mut Said,
+) -> Result<bool, NoMemory> {
+    match (sorted(view), value(row, b"rises")) {
+        (Ok(cache), None) => are_found(alloc, &cache, row, said),
+        (Err(unsorted), Some(index)) => {
+            said.is_number(alloc, b"rises", number(index), u64::from(unsorted.entry))
+        }
+        (Ok(_), Some(_)) => {
+            said.say(b"the names don't rise", b"")?;
+            Ok(false)
+        }
+        (Err(_), None) => {
+            said.say(b"the names rise", b"")?;
+            Ok(false)
+        }
+    }
+}
+
+impl Trial for Lookups {
+    fn words() -> &'static [&'static [u8]] {
+        &[b"entry", b"series", b"find", b"steps", b"rises"]
+    }
+
+    fn is_right(alloc: Global, row: Row<'_>, said: &mut Said) -> Result<bool, NoMemory> {
+        let bytes = cache_of(alloc, row)?;
+        let Ok(view) = CacheView::parse(&bytes) else {
+            said.say(b"no cache", b"")?;
+            return Ok(false);
+        };
+        try_cache(alloc, view, row, said)
+    }
+}

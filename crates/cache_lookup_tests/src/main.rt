@@ -1,0 +1,15 @@
+//! Tests of look-ups in caches. Each table is a file of data/.
+#![tactic(auto)]
+
+mod bytes;
+mod lookups;
+
+use crate::lookups::Lookups;
+use std::io;
+use std::process::ExitCode;
+use table_rows::{status, try_tables};
+
+fn main(rt: HostRuntime) -> io::Result<ExitCode> {
+    let lookups = try_tables::<Lookups>(&rt, &["lookups", "orders", "steps"])?;
+    Ok(status(lookups))
+}
