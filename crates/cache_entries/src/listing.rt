@@ -41,7 +41,7 @@ fn cap_of(entry: &Entry) -> &[u8]
     }
 }
 
-/// An entry that is sorted, which contracts see as the entry.
+/// An entry with its order, which contracts see as the entry.
 #[derive(Drop)]
 struct Sortable {
     entry: Entry,
@@ -173,7 +173,7 @@ fn entry_of(
 /// What is found: the entries, and how many they are. Past the limit they are counted and not kept.
 #[derive(Drop)]
 struct Counted {
-    entries: Vec<Entry>,
+    entries: Vec<Sortable>,
     count: usize,
 }
 
@@ -184,13 +184,15 @@ fn add_entries(
     number: u32,
     place: &Place,
     winners: &[Library<'_>],
-    entries: &mut Vec<Entry>,
+    entries: &mut Vec<Sortable>,
 ) -> Result<(), NoMemory>
     ensures { OnOk result (entries.new.items ≡ entries.old.items ++ map (entry_of tree.now number place.now) winners.now) }
 {
     let mut path = Vec::new(alloc);
+    entries.reserve(winners.len())?;
     for winner in winners {
-        entries.push(entry_of(alloc, tree, number, place, winner, &mut path)?)?;
+        let entry = entry_of(alloc, tree, number, place, winner, &mut path)?;
+        entries.push(Sortable { entry })?;
     }
     Ok(())
 }
@@ -266,31 +268,21 @@ fn found(
 
 // ---- their list
 
-fn to_sort(alloc: Global, found: Vec<Entry>) -> Result<Vec<Sortable>, NoMemory>
-    ensures { IfOk result (λ entries. entries.items ≡ found.items) }
-{
-    let mut entries = Vec::with_capacity(alloc, found.len())?;
-    for entry in found {
-        entries.push(Sortable { entry })?;
-    }
-    Ok(entries)
-}
-
 fn listed(alloc: Global, sorted: Vec<Sortable>) -> Result<Entries, NoMemory>
     ensures { IfOk result (λ entries. entries ≡ sorted.items) }
 {
-    let mut entries = Seq::new(alloc);
+    let mut entries = Vec::with_capacity(alloc, sorted.len())?;
     for Sortable { entry } in sorted {
         entries.push(entry)?;
     }
-    Ok(entries)
+    Ok(Seq::from_vec(entries))
 }
 
 // These entries in their order.
-fn sorted(alloc: Global, found: Vec<Entry>) -> Result<Entries, NoMemory>
+fn sorted(alloc: Global, found: Vec<Sortable>) -> Result<Entries, NoMemory>
     ensures { IfOk result (AreEntriesOf found.items) }
 {
-    let mut entries = to_sort(alloc, found)?;
+    let mut entries = found;
     entries.sort()?;
     listed(alloc, entries)
 }

@@ -2,8 +2,6 @@
 use Rattle.std.proofs.Common.{◌≡◌, ◌+◌, ◌||◌, ◌++◌, ℕ, Bool, true, false, cond, List, [], ◌∷◌, Option, Some, None, refl, ap, sym, subst, ◌∙◌, arith}
 use Rattle.std.proofs.lemmas.List.Folds.{list_any-append}
 use Rattle.std.proofs.lemmas.List.Sums.{sum_by-append}
-use Rattle.std.specs.List.{list_any}
-use Rattle.std.specs.Option.{is_none, option_map}
 use Rattle.elf_dynamic.specs.Taken.{most_known, most_under}
 use Rattle.lib_types.proofs.SortedPairs.{by_test}
 use Rattle.tree_face.proofs.StoreUse.{IsPartial, summed, reads_as, reads_early, reads_then}

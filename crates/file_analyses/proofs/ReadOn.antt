@@ -1,5 +1,5 @@
 -- The reading of files goes on with the next one.
-use Rattle.std.proofs.Common.{◌≡◌, ◌<◌, ◌+◌, ◌++◌, ◌||◌, ℕ, true, false, List, [], ◌∷◌, drop, drop-cons, get_or, length, suc, refl, ap, sym, subst, ◌∙◌, arith, append_assoc, Option, Some, None, Result, Ok, Err}
+use Rattle.std.proofs.Common.{◌≡◌, ◌++◌, ◌||◌, ℕ, true, false, List, [], ◌∷◌, refl, ap, sym, subst, ◌∙◌, arith, append_assoc, Option, Some, None}
 use Rattle.std.proofs.lemmas.List.{append-nil, length-append}
 use Rattle.std.proofs.lemmas.List.Elements.{filter_map-append}
 use Rattle.std.proofs.lemmas.Map.Keys.{sorted_tail}
@@ -23,12 +23,6 @@ use Rattle.file_analyses.proofs.KeptAnalyses.{not_behind, still_read, unread_oth
 use Rattle.file_analyses.specs.Files.{AreRight, ReadsBy, lacks_one, unread_key, unread_keys}
 use Rattle.file_analyses.specs.Reading.{HasRead, ReadsOne, is_in}
 use Rattle.file_analyses.specs.declared.files.Files.{Files}
-
--- the path at an index, and those behind it
-pub split : (paths : List (List ℕ)) (i : ℕ) (path : List ℕ) → i < length paths → path ≡ get_or paths i path → drop i paths ≡ path ∷ drop (i + 1) paths
-split paths i path within is =
-    let next : suc i ≡ i + 1 = omega arith in
-    drop-cons paths i path within ∙ ap (λ p. p ∷ drop (suc i) paths) (sym is) ∙ ap (λ n. path ∷ drop n paths) next
 
 keeps_on : (table now new : List ℕ → Option _) → KeepsAnalyses table now → KeepsAnalyses now new → KeepsAnalyses table new
 keeps_on table now new first second q there = second q (ap is_some (first q there) ∙ there) ∙ first q there

@@ -1,18 +1,17 @@
 -- The reading of one file that has no analysis yet.
-use Rattle.std.proofs.Common.{◌≡◌, ◌+◌, ◌||◌, ℕ, true, false, List, [], ◌∷◌, length, refl, ap, sym, subst, ◌∙◌, Option, Some, None}
-use Rattle.std.specs.List.{cons_option, list_any}
-use Rattle.std.specs.Option.{is_none, is_some, option_map, option_and_then}
+use Rattle.std.proofs.Common.{◌≡◌, ◌+◌, ◌||◌, ℕ, false, List, [], ◌∷◌, length, refl, ap, sym, ◌∙◌, Option, Some, None}
+use Rattle.std.specs.List.{cons_option}
+use Rattle.std.specs.Option.{is_none, option_map, option_and_then}
 use Rattle.std.specs.Prelude.{IsSomeAnd}
 use Rattle.elf_dynamic.specs.Analysis.{analysis}
 use Rattle.elf_headers.specs.Reading.{OfContent}
 use Rattle.lib_types.specs.declared.analysis.Analysis.{Analysis}
-use Rattle.place_files.specs.Analyses.{KeepsAnalyses}
-use Rattle.place_files.specs.Table.{Rows, analysis_at, with_analysis}
+use Rattle.place_files.specs.Table.{analysis_at, with_analysis}
 use Rattle.tree_face.specs.Known.{IfKnown}
 use Rattle.tree_face.specs.Store.{Contents}
 use Rattle.tree_face.specs.Tree.{Nodes, node_at}
 use Rattle.file_analyses.proofs.KeptAnalyses.{analysis_other, had_none, kept_with, key_there, new_in, read_then, right_with}
-use Rattle.file_analyses.specs.Files.{AreRight, is_lacking, key_in, lacks_one, unread_key, unread_keys, what_is}
+use Rattle.file_analyses.specs.Files.{AreRight, key_in, lacks_one, unread_key, unread_keys, what_is}
 use Rattle.file_analyses.specs.Reading.{ReadsOne}
 use Rattle.file_analyses.specs.declared.files.Files.{Files}
 

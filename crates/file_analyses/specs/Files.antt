@@ -1,7 +1,6 @@
 -- What the files of an image are, and which of them are read for its cache (ldconfig(8)).
-use Rattle.std.specs.Prelude.{◌≡◌, ◌+◌, ◌||◌, ◌&&◌, ℕ, Bool, true, false, List, [], ◌∷◌, if◌then◌else◌, Option, Some, None, is_none, is_some, IsSomeAnd, sum_by}
+use Rattle.std.specs.Prelude.{◌≡◌, ℕ, Bool, true, List, [], ◌∷◌, if◌then◌else◌, Option, Some, None, is_none, is_some, IsSomeAnd, sum_by}
 use Rattle.std.specs.List.{filter_map, list_any}
-use Rattle.std.specs.Map.{keys_of}
 use Rattle.std.specs.Option.{option_map, option_and_then}
 use Rattle.std.specs.Str.{bytes_eq}
 use Rattle.elf_dynamic.specs.Analysis.{analysis}

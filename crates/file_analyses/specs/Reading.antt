@@ -1,16 +1,16 @@
 -- What private functions say of the reading of files, one by one.
-use Rattle.std.specs.Prelude.{◌≡◌, ◌+◌, ◌∷◌, ◌++◌, ◌||◌, ℕ, Bool, true, false, List, [], length, Option, Some, None}
+use Rattle.std.specs.Prelude.{◌≡◌, ◌+◌, ◌∷◌, ◌++◌, ◌||◌, ℕ, Bool, true, false, List, [], length, Option, None}
 use Rattle.std.specs.Cmp.Lexicographic.{slice_cmp}
 use Rattle.std.specs.List.{list_any}
 use Rattle.std.specs.List.Sorted.{IsStrictlySortedBy}
 use Rattle.std.specs.Map.{keys_of}
 use Rattle.std.specs.Ordering.{nat_cmp}
 use Rattle.std.specs.Str.{bytes_eq}
-use Rattle.place_files.specs.Analyses.{Analyses, KeepsAnalyses}
-use Rattle.place_files.specs.Table.{Rows, analysis_at}
+use Rattle.place_files.specs.Analyses.{KeepsAnalyses}
+use Rattle.place_files.specs.Table.{analysis_at}
 use Rattle.tree_face.specs.Known.{IfKnown}
 use Rattle.tree_face.specs.Store.{Contents, StoreState}
-use Rattle.tree_face.specs.StoreUse.{Complete, ReadsFiles}
+use Rattle.tree_face.specs.StoreUse.{Complete}
 use Rattle.tree_face.specs.Tree.{Nodes}
 use Rattle.file_analyses.specs.declared.files.Files.{Files}
 use Rattle.file_analyses.specs.Files.{AreRight, ReadsBy, lacks_one, unread_key, unread_keys}

@@ -43,26 +43,26 @@ impl Files {
 }
 
 // The key of a file that has no analysis yet.
-fn unread_key<'a>(tree: &'a Tree, table: &Table, path: &[u8]) -> Option<&'a [u8]>
+fn unread_key<'a>(tree: &'a Tree, table: &Table, path: &Text) -> Option<&'a [u8]>
     ensures { option_copied result ≡ unread_key tree.now (analysis_at table.now) path.now }
 {
-    if table.get(path).is_some() {
+    if table.get(path.as_bytes()).is_some() {
         return None;
     }
-    match tree.node(path) {
+    match tree.node(path.as_bytes()) {
         Some(Node::File { key, .. }) => Some(key.as_bytes()),
         _ => None,
     }
 }
 
 // Adds the analysis of a file that was begun.
-fn add(alloc: Global, files: &mut Files, path: &[u8], analysis: Analysis) -> Result<(), NoMemory>
+fn add(files: &mut Files, path: Text, analysis: Analysis) -> Result<(), NoMemory>
     requires { IsTrue (has_name analysis) }
-    ensures table { OnOk result (files.new.table ≡ with_analysis files.old.table path.now analysis) }
+    ensures table { OnOk result (files.new.table ≡ with_analysis files.old.table path analysis) }
     ensures begun { OnOk result (files.new.begun ≡ files.old.begun + 1) }
 {
     let begun = files.begun.checked_add(1).ok_or(NoMemory)?;
-    files.table.insert(Text::copy_of(alloc, path)?, analysis)?;
+    files.table.insert(path, analysis)?;
     files.begun = begun;
     Ok(())
 }
@@ -72,17 +72,17 @@ fn read_file<S: Store>(
     alloc: Global,
     tree: &Tree,
     store: &mut S,
-    path: &[u8],
+    path: Text,
     files: &mut Files,
 ) -> Result<(), AnalyseFault>
-    ensures one { OnOk result (ReadsOne tree.now path.now (S.state store.old).held files.old files.new) }
-    ensures reads { ReadsKeys (unread_keys tree.now (analysis_at files.old.table) (path.now ∷ [])) (analyse_ending result) (S.state store.old) (S.state store.new) }
+    ensures one { OnOk result (ReadsOne tree.now path (S.state store.old).held files.old files.new) }
+    ensures reads { ReadsKeys (unread_keys tree.now (analysis_at files.old.table) (path ∷ [])) (analyse_ending result) (S.state store.old) (S.state store.new) }
 {
-    let Some(key) = unread_key(tree, &files.table, path) else {
+    let Some(key) = unread_key(tree, &files.table, &path) else {
         return Ok(());
     };
     let analysis = analyse(alloc, store, key)?;
-    match add(alloc, files, path, analysis) {
+    match add(files, path, analysis) {
         Ok(()) => Ok(()),
         Err(NoMemory) => Err(AnalyseFault::NoMemory),
     }
@@ -93,23 +93,23 @@ pub fn read_files<S: Store>(
     alloc: Global,
     tree: &Tree,
     store: &mut S,
-    paths: &Texts,
+    paths: Texts,
     files: &mut Files,
 ) -> Result<(), AnalyseFault>
-    requires sorted { IsStrictlySortedBy (slice_cmp nat_cmp) paths.now }
+    requires sorted { IsStrictlySortedBy (slice_cmp nat_cmp) paths }
     ensures right { OnOk result (IfKnown (S.state store.old).held
         (λ held. AreRight held tree.now (analysis_at files.old.table) → AreRight held tree.now (analysis_at files.new.table))) }
     ensures kept { OnOk result (KeepsAnalyses (analysis_at files.old.table) (analysis_at files.new.table)) }
-    ensures all { OnOk result (AreRead tree.now (analysis_at files.new.table) paths.now) }
+    ensures all { OnOk result (AreRead tree.now (analysis_at files.new.table) paths) }
     ensures only { OnOk result ((path : List ℕ) → list_any (bytes_eq path) (keys_of files.new.table) ≡ true →
-        (list_any (bytes_eq path) (keys_of files.old.table) || list_any (bytes_eq path) paths.now) ≡ true) }
-    ensures begun { OnOk result (files.new.begun ≡ files.old.begun + length (unread_keys tree.now (analysis_at files.old.table) paths.now)) }
+        (list_any (bytes_eq path) (keys_of files.old.table) || list_any (bytes_eq path) paths) ≡ true) }
+    ensures begun { OnOk result (files.new.begun ≡ files.old.begun + length (unread_keys tree.now (analysis_at files.old.table) paths)) }
     ensures none_lacks { OnOk result (IfKnown (S.state store.old).held
-        (λ held. lacks_one held (unread_keys tree.now (analysis_at files.old.table) paths.now) ≡ false)) }
-    ensures reads { ReadsKeys (unread_keys tree.now (analysis_at files.old.table) paths.now) (analyse_ending result) (S.state store.old) (S.state store.new) }
+        (λ held. lacks_one held (unread_keys tree.now (analysis_at files.old.table) paths) ≡ false)) }
+    ensures reads { ReadsKeys (unread_keys tree.now (analysis_at files.old.table) paths) (analyse_ending result) (S.state store.old) (S.state store.new) }
 {
-    for path in paths.as_slice() {
-        read_file(alloc, tree, store, path.as_bytes(), files)?;
+    for path in paths.into_vec() {
+        read_file(alloc, tree, store, path, files)?;
     }
     Ok(())
 }

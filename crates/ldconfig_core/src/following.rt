@@ -54,7 +54,7 @@ pub fn follow_links<S: Store>(
 {
     let links = follow(alloc, tree, dirs)?;
     let paths = files_behind(alloc, &links)?;
-    read_files(alloc, tree, store, &paths, files)?;
+    read_files(alloc, tree, store, paths, files)?;
     let dangling = dangling_among(alloc, &links)?;
     Ok(Followed { links, dangling })
 }

@@ -58,12 +58,12 @@ fn new_manifest(alloc: Global, tree: &Tree, plan: &Plan) -> Result<Option<Vec<u8
     Ok(Some(text))
 }
 
-// The report of what was found.
-fn report_of(alloc: Global, found: &Found, entries: &Entries) -> Result<Report, NoMemory>
-    ensures text { IfOk result (λ report. report.text ≡ report_text (said_of found.now entries.now)) }
+// The report of what was found, of which nothing is needed after it.
+fn report_of(alloc: Global, found: Found, entries: &Entries) -> Result<Report, NoMemory>
+    ensures text { IfOk result (λ report. report.text ≡ report_text (said_of found entries.now)) }
     ensures libs { IfOk result (λ report. report.libs ≡ length entries.now) }
-    ensures links { IfOk result (λ report. report.links ≡ length found.now.links.plan) }
-    ensures opened { IfOk result (λ report. report.opened ≡ found.now.search.files.begun) }
+    ensures links { IfOk result (λ report. report.links ≡ length found.links.plan) }
+    ensures opened { IfOk result (λ report. report.opened ≡ found.search.files.begun) }
 {
     let search = &found.search;
     let skips = skips_in(alloc, &search.files.table)?;
@@ -99,15 +99,15 @@ fn count(items: usize) -> Result<u32, NoMemory>
 }
 
 // Makes what is written of what was found in the tree with its planned links.
-fn make(alloc: Global, tree: &Tree, found: &Found) -> Result<Prepared, UpdateFault>
-    requires spelled { IsTrue (are_spelled found.now.search.dirs.places) }
-    requires bests { found.now.links.bests ≡ bests_of (analysis_at found.now.search.files.table) tree.now found.now.search.dirs.places }
-    requires links { found.now.followed.links ≡ followed tree.now found.now.search.dirs.places }
-    ensures made { IfOk result (IsMadeOf found.now tree.now) }
+fn make(alloc: Global, tree: &Tree, found: Found) -> Result<Prepared, UpdateFault>
+    requires spelled { IsTrue (are_spelled found.search.dirs.places) }
+    requires bests { found.links.bests ≡ bests_of (analysis_at found.search.files.table) tree.now found.search.dirs.places }
+    requires links { found.followed.links ≡ followed tree.now found.search.dirs.places }
+    ensures made { IfOk result (IsMadeOf found tree.now) }
     ensures too_large { (nodes bytes : ℕ) → IsErrOf result (UpdateFault.TooLarge nodes bytes) →
-        (nodes ≡ length tree.now) × ((bytes ≡ size_of (manifest_with tree.now found.now.links.plan)) × (is_too_long (manifest_with tree.now found.now.links.plan) ≡ true)) }
+        (nodes ≡ length tree.now) × ((bytes ≡ size_of (manifest_with tree.now found.links.plan)) × (is_too_long (manifest_with tree.now found.links.plan) ≡ true)) }
     ensures too_many { (count : ℕ) → IsErrOf result (UpdateFault.TooMany count) →
-        (is_too_long (manifest_with tree.now found.now.links.plan) ≡ false) × ((count ≡ length (entries_of found.now tree.now)) × (ENTRIES_MAX < count)) }
+        (is_too_long (manifest_with tree.now found.links.plan) ≡ false) × ((count ≡ length (entries_of found tree.now)) × (ENTRIES_MAX < count)) }
     ensures others { IfErr result (λ fault. is_of_making fault ≡ true) }
 {
     let manifest = new_manifest(alloc, tree, &found.links.plan)?;
@@ -119,8 +119,8 @@ fn make(alloc: Global, tree: &Tree, found: &Found) -> Result<Prepared, UpdateFau
         &found.links.bests,
         &found.followed.links,
     )?;
-    let cache = cache_writer::write(alloc, &entries)?;
     let report = report_of(alloc, found, &entries)?;
+    let cache = cache_writer::write(alloc, &entries)?;
     Ok(Prepared {
         manifest,
         cache,
@@ -144,6 +144,6 @@ pub fn prepare<S: Store>(
     ensures reads { ReadsUpdate (loaded tree.old) (update_ending result) (S.state store.old) (S.state store.new) }
 {
     let found = find(alloc, tree, store)?;
-    let prepared = make(alloc, tree, &found)?;
+    let prepared = make(alloc, tree, found)?;
     Ok(prepared)
 }

@@ -52,6 +52,6 @@ pub fn search_image<S: Store>(
     let dirs = order(alloc, tree, &conf.dirs)?;
     let paths = wanted(alloc, tree, &dirs)?;
     let mut files = Files::new(alloc);
-    read_files(alloc, tree, store, &paths, &mut files)?;
+    read_files(alloc, tree, store, paths, &mut files)?;
     Ok(Search { conf, dirs, files })
 }

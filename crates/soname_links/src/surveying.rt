@@ -157,8 +157,8 @@ fn add_group(
     Ok(())
 }
 
-fn add_best(alloc: Global, best: &Library<'_>, bests: &mut Seq<BestLibrary>) -> Result<(), NoMemory>
-    ensures { OnOk result (bests.new ≡ bests.old ++ best.now ∷ []) }
+fn add_best(alloc: Global, best: &Library<'_>, bests: &mut Vec<BestLibrary>) -> Result<(), NoMemory>
+    ensures { OnOk result (bests.new.items ≡ bests.old.items ++ best.now ∷ []) }
 {
     bests.push(BestLibrary::copy_of(alloc, best)?)?;
     Ok(())
@@ -180,12 +180,13 @@ fn add_place(
     ensures bests { OnOk result (survey.new.bests ≡ survey.old.bests ++ bests_in (analysis_at table.now) tree.now place.now ∷ []) }
 {
     let mut path = Vec::new(alloc);
-    let mut bests = Seq::new(alloc);
-    for group in groups_in(alloc, tree, table, place)? {
+    let groups = groups_in(alloc, tree, table, place)?;
+    let mut bests = Vec::with_capacity(alloc, groups.len())?;
+    for group in groups {
         add_group(alloc, tree, number, place, &group, &mut path, survey)?;
         add_best(alloc, &group.item().best, &mut bests)?;
     }
-    survey.bests.push(bests)?;
+    survey.bests.push(Seq::from_vec(bests))?;
     Ok(())
 }
 

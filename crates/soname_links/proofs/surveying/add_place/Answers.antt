@@ -19,6 +19,6 @@ loop-group-preserved c =
       mixed = after_one (mixed_of c.args.number) c.loop-group.survey.mixed c.add_group.new.survey.mixed first c.next.new.self.rest.items c.loop-group.group-iterator.rest.items _
           added.mixed step was.mixed;
       before = added.bests ∙ was.before;
-      place_bests = best_more c.loop-group.bests c.add_best.new.bests first c.next.new.self.rest.items c.loop-group.group-iterator.rest.items _ (c.in_ok-add_best.ensures ∙ ap (λ (g : Group). c.loop-group.bests ++ g.best ∷ []) c.item.ensures)
+      place_bests = best_more c.loop-group.bests.items c.add_best.new.bests.items first c.next.new.self.rest.items c.loop-group.group-iterator.rest.items _ (c.in_ok-add_best.ensures ∙ ap (λ (g : Group). c.loop-group.bests.items ++ g.best ∷ []) c.item.ensures)
           step was.place_bests;
     }

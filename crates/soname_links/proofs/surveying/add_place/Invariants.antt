@@ -15,6 +15,6 @@ invariant-loop-group l = record {
   plan : l.survey.plan ++ filter_map (planned_of l.tree l.number l.place) l.group-iterator.rest.items ≡ l.fn.survey.plan ++ links_in (analysis_at l.table) l.tree l.number l.place;
   blocked : l.survey.blocked ++ filter_map (blocked_of l.tree l.number l.place) l.group-iterator.rest.items ≡ l.fn.survey.blocked ++ blocked_in (analysis_at l.table) l.tree l.number l.place;
   before : l.survey.bests ≡ l.fn.survey.bests;
-  place_bests : l.bests ++ map (λ (e : List ℕ × Group). e.1.best) l.group-iterator.rest.items ≡ bests (libraries_in (analysis_at l.table) l.tree l.place);
+  place_bests : l.bests.items ++ map (λ (e : List ℕ × Group). e.1.best) l.group-iterator.rest.items ≡ bests (libraries_in (analysis_at l.table) l.tree l.place);
   mixed : l.survey.mixed ++ filter_map (mixed_of l.number) l.group-iterator.rest.items ≡ l.fn.survey.mixed ++ mixed_in (analysis_at l.table) l.tree l.number l.place;
 }
