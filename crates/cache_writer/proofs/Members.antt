@@ -1,5 +1,6 @@
 -- The hwcaps name of each entry is among the names, at its index.
 use Rattle.std.proofs.Common.{◌≡◌, ℕ, zero, suc, ◌+◌, ◌<◌, ◌||◌, Bool, true, false, not, cond, List, [], ◌∷◌, length, fold, get_or, Option, Some, None, Ordering, refl, sym, arith, bytes_eq, true≢false}
+use Rattle.std.proofs.Math.Bool.{or-true}
 use Rattle.std.proofs.lemmas.Map.Lookups.{exact_bytes}
 use Rattle.std.proofs.lemmas.Slice.Eq.{bytes_eq-Decides}
 use Rattle.std.specs.BTreeSet.{insert_key}
@@ -14,10 +15,6 @@ use Rattle.cache_writer.specs.CacheText.{hwcaps_names, with_name}
 itself : (t : List ℕ) → bytes_eq t t ≡ true
 itself t = (bytes_eq-Decides t t).1 refl
 
-or_true : (a : Bool) → (a || true) ≡ true
-or_true true = refl
-or_true false = refl
-
 -- a name that is put in is there
 put_there : (xs : List (List ℕ)) (k : List ℕ) → list_any (bytes_eq k) (insert_key (slice_cmp nat_cmp) xs k) ≡ true
 put_there [] k = rw itself refl
@@ -27,7 +24,7 @@ put_there (x ∷ xs) k = by (slice_cmp nat_cmp k x) refl (put_there xs k)
         → list_any (bytes_eq k) (match_ordering r (k ∷ x ∷ xs) (x ∷ xs) (x ∷ insert_key (slice_cmp nat_cmp) xs k)) ≡ true
     by Less e rest = rw (itself k) refl
     by Equal e rest = let same : k ≡ x = exact_bytes k x e in rw (← same, itself k) refl
-    by Greater e rest = rw rest (or_true (bytes_eq k x))
+    by Greater e rest = rw rest (or-true (bytes_eq k x))
 
 or_cases : (a b c : Bool) → (a || b) ≡ true → (b ≡ true → c ≡ true) → (a || c) ≡ true
 or_cases true b c h f = refl
@@ -40,7 +37,7 @@ put_keeps (x ∷ xs) k t h = by (slice_cmp nat_cmp k x) (put_keeps xs k t)
   where
     by : (r : Ordering) → (list_any (bytes_eq t) xs ≡ true → list_any (bytes_eq t) (insert_key (slice_cmp nat_cmp) xs k) ≡ true)
         → list_any (bytes_eq t) (match_ordering r (k ∷ x ∷ xs) (x ∷ xs) (x ∷ insert_key (slice_cmp nat_cmp) xs k)) ≡ true
-    by Less rest = rw h (or_true (bytes_eq t k))
+    by Less rest = rw h (or-true (bytes_eq t k))
     by Equal rest = h
     by Greater rest = or_cases (bytes_eq t x) (list_any (bytes_eq t) xs) (list_any (bytes_eq t) (insert_key (slice_cmp nat_cmp) xs k)) h rest
 

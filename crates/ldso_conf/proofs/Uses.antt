@@ -1,5 +1,6 @@
 -- The files of items that are taken one after another.
-use Rattle.std.proofs.Common.{◌≡◌, ◌+◌, ◌∙◌, ℕ, Bool, true, false, ◌||◌, cond, List, [], ◌∷◌, ◌++◌, length, nat_le, Option, Some, None, append_assoc, refl, sym, ap, subst, inl, inr, arith}
+use Rattle.std.proofs.Common.{◌≡◌, ◌+◌, ◌∙◌, ℕ, true, false, cond, List, [], ◌∷◌, ◌++◌, length, nat_le, Option, Some, None, append_assoc, refl, sym, ap, subst, inl, inr, arith}
+use Rattle.std.proofs.lemmas.Bool.{or_left}
 use Rattle.std.proofs.Math.Nat.{add-zero}
 use Rattle.std.proofs.lemmas.List.{append-nil}
 use Rattle.std.proofs.lemmas.List.Concat.{flat_map-append}
@@ -136,10 +137,6 @@ module _ (start now : Progress) (a b c : StoreState) where
         (reads_on (flat_map key_begun d.done) (flat_map key_begun part) ⊥ ⊥ ⊥ (sum_by bytes_taken d.done) (sum_by bytes_taken part) Complete a b c (λ l. l) d.reads reads);
   }
 
-  or_true : (x y : Bool) → x ≡ true → (x || y) ≡ true
-  or_true true y e = refl
-  or_true false y e = absurd (cc e)
-
   -- the next items can't all be taken
   done_stops : (whole part rest : List Item) (e : Ending) → IsDone whole (part ++ rest) start now a b → IsPartial e →
       ReadsFiles (lacks_in part) (Some (keys_in part)) (Some (bytes_in part)) e b c → ReadsFiles (lacks_in whole) (Some (keys_in whole)) (Some (bytes_in whole)) e a c
@@ -164,7 +161,7 @@ module _ (start now : Progress) (a b c : StoreState) where
       lacking = list_any is_missing (d.done ++ (until_missing part ++ left)) ≡ true
 
       lacks : lacks_in part → lacking
-      lacks l = rw (list_any-append is_missing d.done (until_missing part ++ left), d.taken.held, list_any-append is_missing (until_missing part) left) (or_true _ _ l)
+      lacks l = rw (list_any-append is_missing d.done (until_missing part ++ left), d.taken.held, list_any-append is_missing (until_missing part) left) (or_left _ _ l)
 
 -- all items are taken
 done_all : (start now : Progress) (a b : StoreState) (whole : List Item) → IsDone whole [] start now a b →

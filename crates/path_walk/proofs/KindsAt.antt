@@ -1,5 +1,6 @@
 -- What stands at the paths of a tree: only directories above a directory.
-use Rattle.std.proofs.Common.{◌≡◌, ◌+◌, ℕ, Bool, true, false, cond, ◌||◌, not, nat_eq, nat_le, List, [], ◌∷◌, ◌++◌, append_assoc, length, length-append, refl, ap, sym, subst, ◌∙◌, Option, Some, None, unwrap_or, Result, Ok, Err, arith}
+use Rattle.std.proofs.Common.{◌≡◌, ◌+◌, ℕ, true, false, cond, ◌||◌, not, nat_eq, nat_le, List, [], ◌∷◌, ◌++◌, append_assoc, length, length-append, refl, ap, sym, subst, ◌∙◌, Option, Some, None, unwrap_or, Result, Ok, Err, arith}
+use Rattle.std.proofs.Math.Bool.{or-true}
 use Rattle.std.proofs.lemmas.Bool.{and_from, and_parts}
 use Rattle.std.proofs.lemmas.Bool.Decides.{nat_tests}
 use Rattle.std.proofs.lemmas.List.Folds.{list_all-append}
@@ -72,15 +73,11 @@ below_trans p q r proper next h k =
     below_from p r (first.0 ++ slash ∷ second.0) proper
     (second.1 ∙ ap (λ z. z ++ slash ∷ second.0) first.1 ∙ append_assoc p (slash ∷ first.0) (slash ∷ second.0))
 
-or_true : (a : Bool) → (a || true) ≡ true
-or_true true = refl
-or_true false = refl
-
 any_below : (p q : List ℕ) → is_path p ≡ true → is_path q ≡ true → is_below p q ≡ true → (t : Nodes) → has_below t q ≡ true → has_below t p ≡ true
 any_below p q proper next h [] k = absurd (cc)
 any_below p q proper next h (e ∷ t) k = by_test (is_below q e.0)
     (λ b. ap (λ x. x || has_below t p) (below_trans p q e.0 proper next h b))
-    (λ b. ap (λ x. is_below p e.0 || x) (any_below p q proper next h t (sym (ap (λ x. x || has_below t q) b) ∙ k)) ∙ or_true (is_below p e.0))
+    (λ b. ap (λ x. is_below p e.0 || x) (any_below p q proper next h t (sym (ap (λ x. x || has_below t q) b) ∙ k)) ∙ or-true (is_below p e.0))
 
 module _ (t : Nodes) (tree : IsTree t) where
   -- nothing lies below a file or link

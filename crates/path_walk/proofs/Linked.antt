@@ -39,7 +39,7 @@ no_slash (b ∷ name) h =
 pub name_alone : (name : List ℕ) → is_name name ≡ true → slice_split is_slash name ≡ name ∷ []
 name_alone name h = slice_split_none is_slash name (no_slash name (and_parts _ _ (and_parts _ _ h).0).1)
 
-no_dots : (name : List ℕ) → is_name name ≡ true → (bytes_eq name (codes ".") ≡ false) × (bytes_eq name (codes "..") ≡ false)
+pub no_dots : (name : List ℕ) → is_name name ≡ true → (bytes_eq name (codes ".") ≡ false) × (bytes_eq name (codes "..") ≡ false)
 no_dots name h = or_parts _ _ (not_true (are_dots name) (and_parts _ _ (and_parts _ _ (and_parts _ _ h).0).0).1)
 
 name_kept : (name : List ℕ) → is_name name ≡ true → is_kept name ≡ true
@@ -54,7 +54,7 @@ names_kept (name ∷ names) all =
     ap (λ k. cond k (name ∷ filter is_kept names) (filter is_kept names)) (name_kept name (and_parts _ _ all).0)
     ∙ ap (λ z. name ∷ z) (names_kept names (and_parts _ _ all).1)
 
-name_is_component : (name : List ℕ) → is_name name ≡ true → components name ≡ name ∷ []
+pub name_is_component : (name : List ℕ) → is_name name ≡ true → components name ≡ name ∷ []
 name_is_component name h = ap (filter is_kept) (name_alone name h) ∙ names_kept (name ∷ []) (and_from _ _ h refl)
 
 -- ---- the paths of directories
@@ -73,7 +73,7 @@ folder_of_dir t p h = by_test (bytes_eq p root)
 pub join_below : (p name : List ℕ) → bytes_eq p root ≡ false → join p name ≡ p ++ slash ∷ name
 join_below p name e = ap (λ b. (cond b [] p ++ root) ++ name) e ∙ append_assoc p root name
 
-some_join : (s name : List ℕ) → (s ++ root) ++ name ≡ [] → ⊥
+pub some_join : (s name : List ℕ) → (s ++ root) ++ name ≡ [] → ⊥
 some_join [] name e = cc
 some_join (x ∷ s) name e = cc
 

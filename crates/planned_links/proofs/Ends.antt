@@ -1,20 +1,17 @@
 -- A text that ends in the name of a link with a library name leads nowhere.
-use Rattle.std.proofs.Common.{◌≡◌, ℕ, zero, suc, true, false, cond, ◌==◌, List, [], ◌∷◌, ◌++◌, append_assoc, codes, length, filter, refl, ap, sym, ◌∙◌, Result, Ok, Err, arith}
-use Rattle.std.proofs.lemmas.Bool.{and_parts, or_parts}
-use Rattle.std.proofs.lemmas.Bool.Decides.{nat_tests}
+use Rattle.std.proofs.Common.{◌≡◌, ℕ, zero, suc, true, cond, List, [], ◌∷◌, ◌++◌, append_assoc, codes, refl, ap, sym, ◌∙◌, Result, Ok, Err}
 use Rattle.std.proofs.lemmas.Slice.Eq.{bytes_eq-Decides}
 use Rattle.std.specs.Str.{bytes_eq}
-use Rattle.lib_types.proofs.Bools.{not_true}
 use Rattle.lib_types.proofs.SortedPairs.{by_test}
-use Rattle.lib_types.specs.Name.{are_dots, is_name}
+use Rattle.lib_types.specs.Name.{is_name}
 use Rattle.name_order.specs.LibraryName.{is_library_name}
-use Rattle.tree_face.specs.Paths.{components, is_kept, join, root, stem}
+use Rattle.tree_face.specs.Paths.{components, join, root, stem}
 use Rattle.tree_face.specs.Tree.{Nodes, IsTree, kind_at}
 use Rattle.tree_face.specs.declared.tree.Kind.{Kind}
 use Rattle.tree_face.specs.declared.tree.Kind.TheVariants as kinds
 use Rattle.path_walk.proofs.Joining.{names_joined}
 use Rattle.path_walk.proofs.KindsAt.{folder_dir, start_dir}
-use Rattle.path_walk.proofs.Linked.{name_alone}
+use Rattle.path_walk.proofs.Linked.{name_is_component, no_dots}
 use Rattle.path_walk.specs.Names.{parent}
 use Rattle.path_walk.specs.Walk.{Stop, Ends, Follows, at_child, at_file, at_link, resolution, start_of, steps, target_at, walk}
 use Rattle.path_walk.specs.declared.walk.Mode.TheVariants.{Plain}
@@ -24,15 +21,6 @@ use Rattle.hwcap_dirs.specs.Places.{is_dir}
 use Rattle.planned_links.proofs.Walks.{hidden}
 
 -- ---- a name
-
-no_dots : (name : List ℕ) → is_name name ≡ true → (bytes_eq name (codes ".") ≡ false) × (bytes_eq name (codes "..") ≡ false)
-no_dots name h = or_parts _ _ (not_true (are_dots name) (and_parts _ _ (and_parts _ _ (and_parts _ _ h).0).0).1)
-
-kept : (name : List ℕ) → is_name name ≡ true → is_kept name ≡ true
-kept [] h = absurd (cc)
-kept (b ∷ name) h =
-    let some : (length (b ∷ name) == 0) ≡ false = grind (arith, nat_tests) in
-    rw (some, (no_dots (b ∷ name) h).0) refl
 
 of_folder : (text : List ℕ) → components (stem text) ≡ components text
 of_folder text = by_test (bytes_eq text root)
@@ -44,7 +32,7 @@ of_folder text = by_test (bytes_eq text root)
 -- the names of a text with a name more
 joined_names : (text name : List ℕ) → is_name name ≡ true → components (join text name) ≡ components text ++ name ∷ []
 joined_names text name h =
-    let one : components name ≡ name ∷ [] = ap (filter is_kept) (name_alone name h) ∙ ap (λ b. cond b (name ∷ []) []) (kept name h) in
+    let one = name_is_component name h in
     ap components (append_assoc (stem text) root name) ∙ names_joined (stem text) name
     ∙ ap (λ names. names ++ components name) (of_folder text) ∙ ap (λ names. components text ++ names) one
 

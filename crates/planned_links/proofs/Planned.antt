@@ -1,5 +1,6 @@
 -- A tree with links in its directories, with library names, where nothing or a link was, is like the tree.
 use Rattle.std.proofs.Common.{◌≡◌, ◌⊎◌, inl, inr, ℕ, Bool, true, false, ◌||◌, List, [], ◌∷◌, refl, ap, sym, subst, ◌∙◌, Option, Some, None}
+use Rattle.std.proofs.Math.Bool.{or-true}
 use Rattle.std.proofs.lemmas.Bool.{or_parts}
 use Rattle.std.proofs.lemmas.Slice.Eq.{bytes_eq-Decides}
 use Rattle.std.specs.List.{list_any}
@@ -50,14 +51,10 @@ below_same q (planned ∷ plan) t h =
     let parts = or_parts (is_below q planned.path) (is_above plan q) h in
     below_same q plan (with_link t planned) parts.1 ∙ any_put planned.path (node.Link planned.file) (λ z. is_below q z) t ∙ ap (λ b. b || has_below t q) parts.0
 
-or_true : (a : Bool) → (a || true) ≡ true
-or_true true = refl
-or_true false = refl
-
 below_stays : (q : List ℕ) (plan : List Planned) (t : Nodes) → has_below t q ≡ true → has_below (with_links t plan) q ≡ true
 below_stays q [] t h = h
 below_stays q (planned ∷ plan) t h =
-    below_stays q plan (with_link t planned) (any_put planned.path (node.Link planned.file) (λ z. is_below q z) t ∙ ap (λ b. is_below q planned.path || b) h ∙ or_true (is_below q planned.path))
+    below_stays q plan (with_link t planned) (any_put planned.path (node.Link planned.file) (λ z. is_below q z) t ∙ ap (λ b. is_below q planned.path || b) h ∙ or-true (is_below q planned.path))
 
 -- ---- the trees
 

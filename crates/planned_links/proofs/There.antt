@@ -1,5 +1,6 @@
 -- A name is in a directory exactly if something is at its path.
 use Rattle.std.proofs.Common.{◌≡◌, ◌⊎◌, inl, inr, ⊎_elim, get_or, ℕ, Bool, true, false, cond, not, ◌&&◌, ◌||◌, ◌==◌, List, [], ◌∷◌, ◌++◌, append_assoc, length, drop, refl, ap, sym, ◌∙◌, Option, Some, None}
+use Rattle.std.proofs.Math.Bool.{or-true}
 use Rattle.std.proofs.lemmas.Bool.{and_from, and_parts, cases_lt, eqb-true, or_parts}
 use Rattle.std.proofs.lemmas.Bool.Decides.{Decides-eqb}
 use Rattle.std.proofs.lemmas.Cmp.{nat_list_eq_equiv, tied_itself}
@@ -16,7 +17,7 @@ use Rattle.lib_types.proofs.Bools.{not_true}
 use Rattle.lib_types.proofs.SortedPairs.{by_test}
 use Rattle.lib_types.specs.Name.{have_no_slash, is_name, slash}
 use Rattle.path_walk.proofs.KindsAt.{at_none, at_path, at_root, path_above}
-use Rattle.path_walk.proofs.Linked.{name_alone}
+use Rattle.path_walk.proofs.Linked.{name_alone, some_join}
 use Rattle.tree_face.proofs.Above.{found_any}
 use Rattle.tree_face.proofs.Below.{below_from, below_is}
 use Rattle.tree_face.proofs.Order.{path_total}
@@ -47,10 +48,6 @@ first_more (b ∷ name) more h =
 flat : (name : List ℕ) → is_name name ≡ true → have_no_slash name ≡ true
 flat name h = (and_parts _ _ (and_parts _ _ h).0).1
 
-some_join : (s name : List ℕ) → (s ++ root) ++ name ≡ [] → ⊥
-some_join [] name e = cc
-some_join (x ∷ s) name e = cc
-
 -- ---- names, each once
 
 exact : (x y : List ℕ) → bytes_eq x y ≡ true → x ≡ y
@@ -61,10 +58,6 @@ from_once z names h = list_any-from_Contains nat_list_eq_equiv z names (Contains
 
 once : (z : List ℕ) (names : List (List ℕ)) → is_in names z ≡ true → is_in (dedup bytes_eq names) z ≡ true
 once z names h = list_any-from_Contains nat_list_eq_equiv z (dedup bytes_eq names) (Contains-dedup nat_list_eq_equiv exact names z (Contains-from_any exact z names h))
-
-or_true : (a : Bool) → (a || true) ≡ true
-or_true true = refl
-or_true false = refl
 
 module _ (d z : List ℕ) where
   -- the path goes on from the directory by the name
@@ -145,7 +138,7 @@ module _ (d z : List ℕ) where
     any_goes [] proper h = absurd (cc)
     any_goes (e ∷ t) proper h = by_test (is_below (join d z) e.0)
         (λ b. ap (λ x. x || list_any (λ e. goes_by e.0) t) (goes_below e.0 proper b))
-        (λ b. ap (λ x. goes_by e.0 || x) (any_goes t proper (sym (ap (λ x. x || has_below t (join d z)) b) ∙ h)) ∙ or_true (goes_by e.0))
+        (λ b. ap (λ x. goes_by e.0 || x) (any_goes t proper (sym (ap (λ x. x || has_below t (join d z)) b) ∙ h)) ∙ or-true (goes_by e.0))
 
     not_the_root : bytes_eq (join d z) root ≡ true → ⊥
     not_the_root e =
