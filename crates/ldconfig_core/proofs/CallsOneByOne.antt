@@ -1,67 +1,31 @@
 -- Writing calls that are made one after another, and slots that are replaced one after another.
-use Rattle.std.proofs.Common.{◌≡◌, ◌⊎◌, ◌≤◌, ◌+◌, ◌==◌, ◌&&◌, ◌||◌, ℕ, zero, suc, true, false, List, [], ◌∷◌, ◌++◌, length, take, Option, Some, None, refl, sym, ap, subst, ◌∙◌, append_assoc, inl, inr, arith, Result, Ok, Err}
-use Rattle.std.specs.Result.{IfErr, OnErr}
+use Rattle.std.proofs.Common.{◌≡◌, ◌+◌, ◌==◌, ◌&&◌, ℕ, zero, suc, true, false, List, [], ◌∷◌, ◌++◌, length, take, Option, Some, None, refl, sym, ap, subst, ◌∙◌, append_assoc, inl, inr, arith, Result, Ok, Err}
+use Rattle.std.specs.Result.{IfErr}
 use Rattle.std.proofs.lemmas.List.{take-append-le}
 use Rattle.std.proofs.lemmas.Option.{slice_get_within}
-use Rattle.std.proofs.Math.Seq.{take-append-add, take-append_seam}
-use Rattle.std.specs.List.{flat_map, list_any, slice_get}
+use Rattle.std.proofs.Math.Seq.{take-append-add}
+use Rattle.std.specs.List.{list_any, slice_get}
+use Rattle.atomic_replace.proofs.Calls.{get_later, none_made}
+use Rattle.atomic_replace.specs.declared.fault.DiskFault.{DiskFault}
+use Rattle.atomic_replace.specs.Replace.{StopsAt, Write, call_by}
 use Rattle.tree_face.proofs.Follows.{follow}
 use Rattle.tree_face.proofs.Known.{relates_by, relates_on}
 use Rattle.tree_face.specs.Calls.{replacement}
-use Rattle.tree_face.specs.declared.disk.Call.{Call}
 use Rattle.tree_face.specs.declared.disk.DoneCall.{DoneCall}
 use Rattle.tree_face.specs.declared.disk.Slot.{Slot}
 use Rattle.tree_face.specs.declared.disk.Slot.TheVariants.{Manifest, Cache, Aux}
 use Rattle.tree_face.specs.declared.disk.Tag.{Tag}
 use Rattle.tree_face.specs.Disk.{DiskContent, DiskState, KeepsOthersMade, slot_eq}
-use Rattle.tree_face.specs.Follows.{IsFollowedBy, IsFollowedByPart}
+use Rattle.tree_face.specs.Follows.{IsFollowedBy}
 use Rattle.tree_face.specs.Known.{Relates}
-use Rattle.ldconfig_core.specs.declared.fault.DiskFault.{DiskFault}
-use Rattle.ldconfig_core.specs.Replace.{FailsToReplace, KeepsRestMade, MayReplaceSlot, Replaces, ReplacesSlot, StopsAt, WritesAll, WritesPart, call_by, calls_of, update_slots}
-use Rattle.ldconfig_core.specs.Texts.{Write}
+use Rattle.ldconfig_core.specs.Replace.{FailsToReplace, KeepsRestMade, Replaces, WritesAll, WritesPart, calls_of, update_slots}
 
 -- ---- items of a list
-
-get_later : (xs ys : List DoneCall) (n k : ℕ) → k ≡ length xs + n → slice_get (xs ++ ys) k ≡ slice_get ys n
-get_later [] ys n k e = ap (slice_get ys) (omega (arith, e))
-get_later (x ∷ xs) ys n zero e = let z : ⊥ = omega (arith, e) in absurd z
-get_later (x ∷ xs) ys n (suc k) e = get_later xs ys n k (omega (arith, e))
 
 get_first : (xs ys : List DoneCall) (n : ℕ) (x : DoneCall) → slice_get xs n ≡ Some x → slice_get (xs ++ ys) n ≡ Some x
 get_first [] ys n x e = absurd (cc)
 get_first (y ∷ xs) ys zero x e = e
 get_first (y ∷ xs) ys (suc n) x e = get_first xs ys n x e
-
-abbrev no_calls : List DoneCall
-no_calls = []
-
-take_none : (k : ℕ) → take k no_calls ≡ no_calls
-take_none zero = refl
-take_none (suc k) = refl
-
--- ---- the call at which a replacement stops
-
-module _ (front : List DoneCall) (call : DoneCall) where
-  pub grows : (a b c : Option (List DoneCall)) → Relates (IsFollowedBy front) a b → Relates (IsFollowedBy (call ∷ [])) b c → Relates (IsFollowedBy (front ++ call ∷ [])) a c
-  grows a b c first next = relates_on _ _ _ (follow front (call ∷ [])) a b c first next
-
-  stop : (rest a b c : List DoneCall) → IsFollowedBy front a b → IsFollowedByPart (call ∷ []) b c → StopsAt call (front ++ call ∷ rest) a c
-  stop rest a b c first (n, last) = record { number = length front; at = get_later front (call ∷ rest) 0 (length front) (omega arith); made = by n last }
-    where
-      by : (n : ℕ) → c ≡ b ++ take n (call ∷ []) → (c ≡ a ++ take (length front) (front ++ call ∷ rest)) ⊎ (c ≡ a ++ take (length front + 1) (front ++ call ∷ rest))
-      by zero e = inl (e ∙ no_more b ∙ first ∙ ap (λ l. a ++ l) (sym (take-append_seam front (call ∷ rest))))
-        where
-          no_more : (l : List DoneCall) → l ++ [] ≡ l
-          no_more [] = refl
-          no_more (x ∷ l) = ap (λ m. x ∷ m) (no_more l)
-      by (suc k) e = inr (
-          e ∙ ap (λ l. b ++ call ∷ l) (take_none k) ∙ ap (λ l. l ++ call ∷ []) first ∙ append_assoc a front (call ∷ [])
-          ∙ ap (λ l. a ++ l) (sym (take-append-add front (call ∷ rest) 1)))
-
-  -- the calls before it were made, and perhaps this one, which failed
-  pub stops : (rest : List DoneCall) (a b c : Option (List DoneCall)) → Relates (IsFollowedBy front) a b → Relates (IsFollowedByPart (call ∷ [])) b c
-      → Relates (StopsAt call (front ++ call ∷ rest)) a c
-  stops rest a b c first last = relates_on _ _ _ (stop rest) a b c first last
 
 -- ---- calls that are followed by others
 
@@ -139,20 +103,6 @@ module _ (tag : Tag) (xs ys : List Write) (old middle new : DiskState) where
     read_faults = part.read_faults ∙ first.read_faults;
   }
 
--- ---- one slot
-
-alone : (tag : ℕ) (write : Write) (a b : DiskContent) → ReplacesSlot tag write a b → Replaces tag (write ∷ []) a b
-alone tag write a b replaced = (b, (replaced, refl))
-
-pub one_written : (tag : ℕ) (write : Write) (a b : Option DiskContent) → Relates (ReplacesSlot tag write) a b → Relates (Replaces tag (write ∷ [])) a b
-one_written tag write a b replaced = relates_by _ _ (alone tag write) a b replaced
-
-alone_fails : (tag : ℕ) (write : Write) (a b : DiskContent) → MayReplaceSlot tag write a b → FailsToReplace tag write.0 (write ∷ []) a b
-alone_fails tag write a b may = inl (refl, may)
-
-pub one_fails : (tag : ℕ) (write : Write) (a b : Option DiskContent) → Relates (MayReplaceSlot tag write) a b → Relates (FailsToReplace tag write.0 (write ∷ [])) a b
-one_fails tag write a b may = relates_by _ _ (alone_fails tag write) a b may
-
 -- ---- temporary files
 
 pub nothing_written : (tag : Tag) (s : DiskState) → WritesAll tag [] s s
@@ -164,11 +114,7 @@ nothing_written tag s = record { contents = same s.contents; calls = none s.call
 
     none : (c : Option (List DoneCall)) → Relates (IsFollowedBy (calls_of tag [])) c c
     none None = tt
-    none (Some c) = sym (no_more c)
-      where
-        no_more : (l : List DoneCall) → l ++ [] ≡ l
-        no_more [] = refl
-        no_more (x ∷ l) = ap (λ m. x ∷ m) (no_more l)
+    none (Some c) = none_made c
 
 module _ (tag : ℕ) where
   other_slot : (t : ℕ) (s slot : Slot) → list_any (slot_eq slot) update_slots ≡ true → (t == tag) && list_any (slot_eq s) update_slots ≡ false → (t == tag) && slot_eq s slot ≡ false
@@ -191,14 +137,6 @@ pub rest_same : (tag : ℕ) (slots : List Slot) (a : DiskState) → KeepsRestMad
 rest_same tag slots a = λ t s h. refl
 
 -- ---- results
-
-pub on_err : {A E : Type 0} (P : Type 0) (r : Result A E) → P → OnErr r P
-on_err P (Ok x) p = tt
-on_err P (Err e) p = p
-
-pub on_err_by : {A E : Type 0} (P Q : Type 0) (r : Result A E) → (P → Q) → OnErr r P → OnErr r Q
-on_err_by P Q (Ok x) f p = tt
-on_err_by P Q (Err e) f p = f p
 
 pub if_err_by : {A E : Type 0} (P Q : E → Type 0) (r : Result A E) → ((e : E) → P e → Q e) → IfErr r P → IfErr r Q
 if_err_by P Q (Ok x) f p = tt

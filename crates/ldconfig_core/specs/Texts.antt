@@ -1,6 +1,7 @@
 -- The texts that an update makes.
 use Rattle.std.specs.Prelude.{◌≡◌, ℕ, List, [], ◌∷◌, ◌++◌, map, Option, Some, None}
 use Rattle.std.specs.List.{filter_map}
+use Rattle.atomic_replace.specs.Replace.{Write}
 use Rattle.cache_entries.specs.Entries.{AreEntriesOf}
 use Rattle.cache_lookup.specs.Scan.{AreDescending}
 use Rattle.cache_reader.specs.Cache.{defect, read}
@@ -12,7 +13,6 @@ use Rattle.lib_types.specs.declared.entry.Entry.{Entry}
 use Rattle.place_files.specs.Order.{ascending}
 use Rattle.place_files.specs.Search.{dangling}
 use Rattle.soname_links.specs.Marks.{blocked, mixed}
-use Rattle.tree_face.specs.declared.disk.Slot.{Slot}
 use Rattle.tree_face.specs.declared.disk.Slot.TheVariants.{Manifest, Cache}
 use Rattle.tree_face.specs.Store.{Contents}
 use Rattle.tree_face.specs.Tree.{Nodes}
@@ -67,10 +67,6 @@ pub record AreTexts (texts : UpdateTexts) : Type 0 where
   pub descending : AreDescending (read texts.cache)
 
 -- ---- what is written
-
--- the content that a slot gets
-abbrev pub Write : Type 0
-Write = Slot × List ℕ
 
 abbrev pub of_manifest : Option (List ℕ) → List Write
 of_manifest None = []

@@ -1,6 +1,7 @@
 -- One update of a loaded image: what it returns, and what it leaves on the store and on the disk.
 use Rattle.std.specs.Prelude.{◌≡◌, ◌⊎◌, ◌≤◌, length, Option, Result, Ok, Err, IfOk, IsSomeAnd, ⊤}
 use Rattle.std.specs.Option.{option_map}
+use Rattle.atomic_replace.specs.declared.fault.DiskFault.{DiskFault}
 use Rattle.lib_types.specs.Counts.{HasRisen}
 use Rattle.tree_face.specs.declared.disk.Tag.{Tag}
 use Rattle.tree_face.specs.Disk.{DiskState}
@@ -8,7 +9,6 @@ use Rattle.tree_face.specs.Known.{IfKnown}
 use Rattle.tree_face.specs.Store.{Contents, StoreState}
 use Rattle.tree_face.specs.StoreUse.{Ending, Complete, DeviceFailed, GaveUp, ReadsFiles}
 use Rattle.ldconfig_core.specs.Begun.{opened_in, update_bytes, update_keys}
-use Rattle.ldconfig_core.specs.declared.fault.DiskFault.{DiskFault}
 use Rattle.ldconfig_core.specs.declared.fault.UpdateFault.{UpdateFault}
 use Rattle.ldconfig_core.specs.declared.fault.UpdateFault.TheVariants as faults
 use Rattle.ldconfig_core.specs.declared.report.Report.{Report}

@@ -3,6 +3,7 @@ ghost use Rattle.std.specs.Prelude.{◌≡◌};
 ghost use Rattle.ldconfig_core.specs.Faults.{of_apply, of_conf, of_entries, of_manifest, of_reading};
 ghost use Rattle.ldconfig_core.specs.declared.fault.UpdateFault.TheVariants as update_faults;
 
+use atomic_replace::DiskFault;
 use cache_entries::EntryFault;
 use elf_dynamic::AnalyseFault;
 use ldso_conf::ConfFault;
@@ -11,7 +12,7 @@ use mtree_manifest::ManifestFault;
 use soname_links::ApplyFault;
 use std::alloc::{AllocError, AllocFailed};
 use thiserror::Error;
-use tree_face::{Call, Slot};
+use tree_face::Slot;
 
 /// Why an image isn't loaded.
 #[derive(Clone, Copy, Debug, PartialEq, Eq, Error)]
@@ -27,14 +28,6 @@ pub enum LoadFault {
     BadManifest(ManifestFault),
     #[error("out of memory")]
     NoMemory,
-}
-
-/// The writing call that failed.
-#[derive(Clone, Copy, Debug, PartialEq, Eq)]
-pub struct DiskFault {
-    pub call: Call,
-    /// The slot that was to be replaced.
-    pub slot: Slot,
 }
 
 /// Why an image isn't updated.

@@ -11,7 +11,7 @@ mod report;
 mod search;
 mod session;
 
-pub use fault::{DiskFault, LoadFault, UpdateFault};
+pub use fault::{LoadFault, UpdateFault};
 pub use image::update;
 pub use report::Report;
 pub use session::Session;

@@ -1,4 +1,4 @@
-use Rattle.std.proofs.Common.{rules, ◌≡◌, Result, Err}
+use Rattle.std.proofs.Common.{rules, ◌≡◌, Err}
 use Rattle.ldconfig_core.proofs.CallsOneByOne.{if_err_by, part_first, part_second}
 use Rattle.ldconfig_core.proofs.replace.replace_both.Goals as goal
 

@@ -1,0 +1,49 @@
+-- One call of a replacement.
+use Rattle.std.specs.Prelude.{◌≡◌, ℕ, true, List, Result, Ok, Err, OnOk}
+use Rattle.lib_types.specs.declared.fault.Failed.{Failed}
+use Rattle.tree_face.specs.declared.disk.Call.{Call}
+use Rattle.tree_face.specs.declared.disk.Call.TheVariants.{Create, Append, Sync, Publish, Settle}
+use Rattle.tree_face.specs.declared.disk.Slot.{Slot}
+use Rattle.tree_face.specs.declared.disk.Tag.{Tag}
+use Rattle.tree_face.specs.Disk.{Appends, Creates, DiskContent, DiskState, Does, Keeps, KeepsMade, KeepsOthersMade, MayPublish, Publishes, Touches}
+use Rattle.atomic_replace.specs.Replace.{Write, call_by}
+
+-- what a call does to the contents if it returns Ok
+abbrev pub change_of : ℕ → Write → Call → DiskContent → DiskContent → Type 0
+change_of tag write Create = Creates tag write.0
+change_of tag write Append = Appends tag write.0 write.1
+change_of tag write Sync = Keeps
+change_of tag write Publish = Publishes tag write.0
+change_of tag write Settle = Keeps
+
+-- and if it fails
+abbrev pub failure_of : ℕ → Write → Call → DiskContent → DiskContent → Type 0
+failure_of tag write Create = Touches tag write.0
+failure_of tag write Append = Touches tag write.0
+failure_of tag write Sync = Touches tag write.0
+failure_of tag write Publish = MayPublish tag write.0
+failure_of tag write Settle = Keeps
+
+-- which temporary files are created, and not published, after a call
+abbrev pub MadeBy : {A E : Type 0} → ℕ → Slot → Call → DiskState → DiskState → Result A E → Type 0
+MadeBy tag slot Create old new result = OnOk result (new.made tag slot ≡ true) × KeepsOthersMade tag slot old new
+MadeBy tag slot Append old new result = KeepsMade old new
+MadeBy tag slot Sync old new result = KeepsMade old new
+MadeBy tag slot Publish old new result = KeepsOthersMade tag slot old new
+MadeBy tag slot Settle old new result = KeepsMade old new
+
+-- the device's answer to the call
+abbrev pub answer_of : {A E : Type 0} → Result A E → Result (Unit {0}) Failed
+answer_of (Ok x) = Ok tt
+answer_of (Err e) = Err (record {})
+
+-- a call that is made on a disk
+pub record Makes {A E : Type 0} (tag : Tag) (write : Write) (call : Call) (old new : DiskState) (result : Result A E) : Type 0 where
+  pub does : Does (call_by tag write.0 call) (change_of tag.0 write call) (failure_of tag.0 write call) old new (answer_of result)
+  pub made : MadeBy tag.0 write.0 call old new result
+
+-- a replacement: whose it is, what it writes, and the calls that are left
+pub record Replacement : Type 0 where
+  pub tag : Tag
+  pub write : Write
+  pub left : List Call

@@ -1,0 +1,169 @@
+// What replacements leave on disks in memory.
+ghost use Rattle.std.specs.Prelude.{◌≡◌, [], OnOk};
+ghost use Rattle.atomic_replace.specs.Order.{all_calls};
+
+use crate::{DiskFault, Progress, Updater};
+use std::alloc::Global;
+use std::process::Abort;
+use std::test::Fail;
+use tree_face::{Call, Disk, DoneCall, MemDisk, Slot, Tag};
+
+const SLOTS: &[Slot] = &[Slot::Manifest, Slot::Cache, Slot::Aux];
+
+const CALLS: &[Call] = &[
+    Call::Create,
+    Call::Append,
+    Call::Sync,
+    Call::Publish,
+    Call::Settle,
+];
+
+// A disk whose slots hold "old", and whose calls of these numbers fail.
+fn disk_of(alloc: Global, fail: &[u64]) -> Result<MemDisk, Fail> {
+    let manifest = Some(Vec::from_slice(alloc, b"old")?);
+    let cache = Some(Vec::from_slice(alloc, b"old")?);
+    let aux = Some(Vec::from_slice(alloc, b"old")?);
+    let fail = Vec::from_slice(alloc, fail)?;
+    Ok(MemDisk::new(alloc, manifest, cache, aux, fail))
+}
+
+fn has<D: Disk>(alloc: Global, disk: &mut D, slot: Slot, want: &[u8]) -> bool {
+    match disk.read(alloc, slot) {
+        Ok(Some(found)) => found.as_slice() == want,
+        _ => false,
+    }
+}
+
+// Whether these are the calls of a replacement, up to their length.
+fn are_calls(done: &[DoneCall], tag: Tag, slot: Slot) -> bool {
+    done.iter().zip(CALLS).all(|(done, call)| {
+        let settles = *call == Call::Settle;
+        done.call == *call && done.slot == slot && done.tag == if settles { Tag(0) } else { tag }
+    })
+}
+
+// The call that fails by its number, and what the slot holds then.
+const FAULTS: &[(u64, Call, &[u8])] = &[
+    (0, Call::Create, b"old"),
+    (1, Call::Append, b"old"),
+    (2, Call::Sync, b"old"),
+    (3, Call::Publish, b"old"),
+    (4, Call::Settle, b"new"),
+];
+
+fn assert_fault(
+    rt: &impl Abort,
+    alloc: Global,
+    slot: Slot,
+    number: u64,
+    call: Call,
+    want: &[u8],
+) -> Result<(), Fail> {
+    let mut disk = disk_of(alloc, &[number])?;
+    let mut updater = Updater::new(Tag(7), slot, b"new");
+    assert_eq!(rt; updater.commit(&mut disk), Err(DiskFault { call, slot }));
+    assert!(rt; updater.next().is_none());
+    assert!(rt; disk.calls().len() as u64 == number, "{call:?}");
+    assert!(rt; are_calls(disk.calls(), Tag(7), slot), "{call:?}");
+    for other in SLOTS {
+        let want = if *other == slot { want } else { b"old" };
+        assert!(rt; has(alloc, &mut disk, *other, want), "{call:?} {other:?}");
+    }
+    Ok(())
+}
+
+#[test]
+fn a_fault_names_the_call_that_failed(rt: HostRuntime) -> Result<(), Fail> {
+    let alloc = rt.alloc();
+    for slot in SLOTS {
+        for (number, call, want) in FAULTS {
+            assert_fault(&rt, alloc, *slot, *number, *call, want)?;
+        }
+    }
+    Ok(())
+}
+
+#[test]
+fn a_slot_is_replaced(rt: HostRuntime) -> Result<(), Fail> {
+    let alloc = rt.alloc();
+    for slot in SLOTS {
+        let mut disk = disk_of(alloc, &[])?;
+        let mut updater = Updater::new(Tag(7), *slot, b"new");
+        assert_eq!(rt; updater.commit(&mut disk), Ok(()));
+        assert!(rt; disk.calls().len() == 5, "{slot:?}");
+        assert!(rt; are_calls(disk.calls(), Tag(7), *slot), "{slot:?}");
+        for other in SLOTS {
+            let want = if *other == *slot { b"new" } else { b"old" };
+            assert!(rt; has(alloc, &mut disk, *other, want), "{slot:?} {other:?}");
+        }
+    }
+    Ok(())
+}
+
+// Makes the steps of a replacement, and returns which calls they were.
+fn make_steps<D: Disk>(
+    updater: &mut Updater<'_>,
+    disk: &mut D,
+) -> Result<[Option<Call>; 6], DiskFault>
+    requires { updater.old.left ≡ all_calls }
+    ensures { OnOk result (updater.new.left ≡ []) }
+{
+    let mut calls = [updater.next(), None, None, None, None, None];
+    let _ = updater.step(disk)?;
+    calls[1] = updater.next();
+    let _ = updater.step(disk)?;
+    calls[2] = updater.next();
+    let _ = updater.step(disk)?;
+    calls[3] = updater.next();
+    let _ = updater.step(disk)?;
+    calls[4] = updater.next();
+    let _ = updater.step(disk)?;
+    calls[5] = updater.next();
+    Ok(calls)
+}
+
+const STEPS: [Option<Call>; 6] = [
+    Some(Call::Create),
+    Some(Call::Append),
+    Some(Call::Sync),
+    Some(Call::Publish),
+    Some(Call::Settle),
+    None,
+];
+
+#[test]
+fn steps_are_made_one_by_one(rt: HostRuntime) -> Result<(), Fail> {
+    let alloc = rt.alloc();
+    let mut disk = disk_of(alloc, &[])?;
+    let mut updater = Updater::new(Tag(7), Slot::Cache, b"new");
+    assert_eq!(rt; make_steps(&mut updater, &mut disk)?, STEPS);
+    assert_eq!(rt; updater.step(&mut disk), Ok(false));
+    assert!(rt; disk.calls().len() == 5);
+    assert!(rt; are_calls(disk.calls(), Tag(7), Slot::Cache));
+    assert!(rt; has(alloc, &mut disk, Slot::Cache, b"new"));
+    Ok(())
+}
+
+#[test]
+fn calls_come_in_their_order(rt: HostRuntime) -> Result<(), Fail> {
+    let mut progress = Progress::new();
+    for call in CALLS {
+        assert_eq!(rt; progress.next(), Some(*call));
+        progress.advance(true);
+    }
+    assert_eq!(rt; progress.next(), None);
+    progress.advance(true);
+    assert_eq!(rt; progress.next(), None);
+    Ok(())
+}
+
+#[test]
+fn nothing_is_left_after_a_fault(rt: HostRuntime) -> Result<(), Fail> {
+    let mut progress = Progress::new();
+    progress.advance(true);
+    progress.advance(false);
+    assert_eq!(rt; progress.next(), None);
+    progress.advance(true);
+    assert_eq!(rt; progress.next(), None);
+    Ok(())
+}

@@ -1,0 +1,101 @@
+//! The calls of a replacement, made on a disk.
+ghost use Rattle.std.specs.Prelude.{◌≡◌, ◌≤◌, ◌↔◌, true, false, [], drop, Ok, OnOk, IfErr, Some, IfSome, if◌then◌else◌};
+ghost use Rattle.std.specs.Result.{is_ok};
+ghost use Rattle.atomic_replace.specs.Order.{all_calls, needs_file, next_of};
+ghost use Rattle.atomic_replace.specs.Replace.{FailsToWrite, WritesSlot};
+ghost use Rattle.atomic_replace.specs.Step.{Makes};
+ghost use Rattle.tree_face.specs.Disk.{KeepsOthersMade};
+
+use crate::fault::DiskFault;
+use crate::progress::Progress;
+use lib_types::Failed;
+use std::marker::Model;
+use tree_face::{Call, Disk, Slot, Tag};
+
+/// Replaces what a slot holds by these bytes, by way of the tag's temporary file.
+#[derive(Drop)]
+pub struct Updater<'a> {
+    tag: Tag,
+    slot: Slot,
+    bytes: &'a [u8],
+    progress: Progress,
+}
+
+impl<'a> Model for Updater<'a> {
+    ghost use Rattle.atomic_replace.specs.Step.{Replacement};
+
+    ghost Value = { Replacement };
+
+    ghost view = { λ s. record { tag = s.tag; write = (s.slot, s.bytes.now); left = s.progress } };
+}
+
+// Makes one call of a replacement.
+fn make<D: Disk>(disk: &mut D, call: Call, tag: Tag, slot: Slot, bytes: &[u8]) -> Result<(), Failed>
+    requires { needs_file call ≡ true → (D.state disk.old).made tag.0 slot ≡ true }
+    ensures { Makes tag (slot, bytes.now) call (D.state disk.old) (D.state disk.new) result }
+{
+    match call {
+        Call::Create => disk.create(tag, slot),
+        Call::Append => disk.append(tag, slot, bytes),
+        Call::Sync => disk.sync(tag, slot),
+        Call::Publish => disk.publish(tag, slot),
+        Call::Settle => disk.settle(slot),
+    }
+}
+
+impl<'a> Updater<'a> {
+    /// A replacement of which no call was made.
+    pub fn new(tag: Tag, slot: Slot, bytes: &'a [u8]) -> Updater<'a>
+        ensures { result ≡ record { tag = tag; write = (slot, bytes.now); left = all_calls } }
+    {
+        Updater {
+            tag,
+            slot,
+            bytes,
+            progress: Progress::new(),
+        }
+    }
+
+    /// The call to be made next: None after the last, or after one that failed.
+    pub fn next(&self) -> Option<Call>
+        ensures { result ≡ next_of self.now.left }
+    {
+        self.progress.next()
+    }
+
+    /// Makes the next call. False, and no call, if none is left.
+    pub fn step<D: Disk>(&mut self, disk: &mut D) -> Result<bool, DiskFault>
+        requires { IfSome (next_of self.old.left) (λ call. needs_file call ≡ true → (D.state disk.old).made self.old.tag.0 self.old.write.0 ≡ true) }
+        ensures ends { (result ≡ Ok false) ↔ (self.old.left ≡ []) }
+        ensures none { self.old.left ≡ [] → disk.new ≡ disk.old }
+        ensures makes { IfSome (next_of self.old.left) (λ call. Makes self.old.tag self.old.write call (D.state disk.old) (D.state disk.new) result) }
+        ensures fault { IfErr result (λ fault. (next_of self.old.left ≡ Some fault.call) × (fault.slot ≡ self.old.write.0)) }
+        ensures left { self.new ≡ record self.old { left = if is_ok result then drop 1 self.old.left else [] } }
+    {
+        let Some(call) = self.progress.next() else {
+            return Ok(false);
+        };
+        let done = make(disk, call, self.tag, self.slot, self.bytes);
+        self.progress.advance(done.is_ok());
+        match done {
+            Ok(()) => Ok(true),
+            Err(Failed) => Err(DiskFault {
+                call,
+                slot: self.slot,
+            }),
+        }
+    }
+
+    /// Makes all calls, up to the first that fails.
+    pub fn commit<D: Disk>(&mut self, disk: &mut D) -> Result<(), DiskFault>
+        requires { self.old.left ≡ all_calls }
+        ensures done { OnOk result (WritesSlot self.old.tag self.old.write (D.state disk.old) (D.state disk.new)) }
+        ensures failed { IfErr result (λ fault. FailsToWrite self.old.tag self.old.write fault (D.state disk.old) (D.state disk.new)) }
+        ensures made { KeepsOthersMade self.old.tag.0 self.old.write.0 (D.state disk.old) (D.state disk.new) }
+        ensures faults { (D.state disk.old).faults ≤ (D.state disk.new).faults }
+        ensures left { self.new ≡ record self.old { left = [] } }
+    {
+        while self.step(disk)? {}
+        Ok(())
+    }
+}
