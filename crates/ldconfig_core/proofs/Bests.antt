@@ -3,17 +3,17 @@ use Rattle.std.proofs.Common.{◌≡◌, ℕ, true, cond, List, [], ◌∷◌, m
 use Rattle.std.specs.List.{list_any}
 use Rattle.std.specs.Option.{is_none, is_some}
 use Rattle.std.specs.Str.{bytes_eq}
-use Rattle.file_analyses.specs.Files.{AreRead, key_in}
+use Rattle.analysed_files.specs.Files.{AreRead, key_in}
 use Rattle.hwcap_dirs.specs.declared.kinds.Place.{Place}
 use Rattle.lib_types.specs.declared.analysis.Analysis.{Analysis}
-use Rattle.place_files.proofs.Analysed.{bests_stay, wanted_are_files}
-use Rattle.place_files.proofs.Children.{file_there}
-use Rattle.place_files.specs.Analyses.{Analyses, HaveAnalyses, KeepsAnalyses}
-use Rattle.place_files.specs.Best.{bests, bests_of}
-use Rattle.place_files.specs.Children.{is_file_node}
-use Rattle.place_files.specs.Libraries.{libraries_in}
-use Rattle.place_files.specs.Library.{Library}
-use Rattle.place_files.specs.Search.{wanted}
+use Rattle.found_files.proofs.Analysed.{bests_stay, wanted_are_files}
+use Rattle.found_files.proofs.Children.{file_there}
+use Rattle.found_files.specs.Analyses.{Analyses, HaveAnalyses, KeepsAnalyses}
+use Rattle.found_files.specs.Best.{bests, bests_of}
+use Rattle.found_files.specs.Children.{is_file_node}
+use Rattle.found_files.specs.Libraries.{libraries_in}
+use Rattle.found_files.specs.Library.{Library}
+use Rattle.found_files.specs.Search.{wanted}
 use Rattle.soname_links.specs.Settled.{IsSettled}
 use Rattle.tree_face.specs.declared.node.Node.{Node}
 use Rattle.tree_face.specs.declared.node.Node.TheVariants as node

@@ -10,18 +10,18 @@ use Rattle.std.specs.Option.{is_none, is_some, option_and_then, option_map}
 use Rattle.std.specs.Ordering.{nat_cmp}
 use Rattle.std.specs.Str.{bytes_eq}
 use Rattle.elf_dynamic.specs.Analysis.{analysis}
-use Rattle.file_analyses.specs.Files.{AreRead, AreRight, file_keys, key_in, unread_key, unread_keys, what_is}
+use Rattle.analysed_files.specs.Files.{AreRead, AreRight, file_keys, key_in, unread_key, unread_keys, what_is}
 use Rattle.hwcap_dirs.specs.declared.kinds.Place.{Place}
 use Rattle.ldso_conf.specs.Reading as conf
 use Rattle.lib_types.proofs.SortedPairs.{by_test}
 use Rattle.lib_types.specs.declared.analysis.Analysis.{Analysis}
-use Rattle.place_files.proofs.InOrder.{ascending_sorted, in_ascending}
-use Rattle.place_files.proofs.Members.{is_in}
-use Rattle.place_files.specs.Analyses.{AgreeOn, Analyses, KeepsAnalyses}
-use Rattle.place_files.specs.Order.{ascending}
-use Rattle.place_files.specs.Search.{reached, wanted}
-use Rattle.place_files.specs.Table.{Rows, analysis_at}
-use Rattle.planned_links.specs.Search.{IsSearchedAlike}
+use Rattle.found_files.proofs.InOrder.{ascending_sorted, in_ascending}
+use Rattle.found_files.proofs.Members.{is_in}
+use Rattle.found_files.specs.Analyses.{AgreeOn, Analyses, KeepsAnalyses}
+use Rattle.found_files.specs.Order.{ascending}
+use Rattle.found_files.specs.Search.{reached, wanted}
+use Rattle.found_files.specs.Table.{Rows, analysis_at}
+use Rattle.settled_links.specs.Search.{IsSearchedAlike}
 use Rattle.tree_face.specs.declared.node.Node.{Node}
 use Rattle.tree_face.specs.declared.node.Node.TheVariants as node
 use Rattle.tree_face.specs.Store.{Contents}

@@ -4,18 +4,18 @@ use Rattle.std.proofs.lemmas.Bool.{or_left, or_right}
 use Rattle.std.specs.List.{filter_map, list_any}
 use Rattle.std.specs.Map.{keys_of}
 use Rattle.std.specs.Str.{bytes_eq}
-use Rattle.cache_entries.proofs.NoOtherFiles.{found_agrees}
-use Rattle.cache_entries.specs.Entries as entries
-use Rattle.file_analyses.specs.Files.{AreRead, AreRight, file_keys, lacks_one, unread_keys, what_is}
-use Rattle.file_analyses.specs.declared.files.Files.{Files}
+use Rattle.winning_entries.proofs.NoOtherFiles.{found_agrees}
+use Rattle.winning_entries.specs.Entries as entries
+use Rattle.analysed_files.specs.Files.{AreRead, AreRight, file_keys, lacks_one, unread_keys, what_is}
+use Rattle.analysed_files.specs.declared.files.Files.{Files}
 use Rattle.hwcap_dirs.specs.declared.kinds.Place.{Place}
 use Rattle.lib_types.proofs.SortedPairs.{by_test}
-use Rattle.place_files.proofs.Members.{is_in}
-use Rattle.place_files.specs.Analyses.{AgreeOn, KeepsAnalyses}
-use Rattle.place_files.specs.Order.{ascending}
-use Rattle.place_files.specs.Search.{dangling, reached, wanted}
-use Rattle.place_files.specs.Table.{analysis_at}
-use Rattle.planned_links.specs.Search.{IsSearchedAlike}
+use Rattle.found_files.proofs.Members.{is_in}
+use Rattle.found_files.specs.Analyses.{AgreeOn, KeepsAnalyses}
+use Rattle.found_files.specs.Order.{ascending}
+use Rattle.found_files.specs.Search.{dangling, reached, wanted}
+use Rattle.found_files.specs.Table.{analysis_at}
+use Rattle.settled_links.specs.Search.{IsSearchedAlike}
 use Rattle.soname_links.proofs.NoOtherFiles.{blocked_agree, links_agree, mixed_agree}
 use Rattle.soname_links.specs.Apply.{nodes_with}
 use Rattle.soname_links.specs.declared.kinds.Survey.{Survey}

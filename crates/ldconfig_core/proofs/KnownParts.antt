@@ -1,14 +1,14 @@
 -- The parts of an update, if contents are known.
 use Rattle.std.proofs.Common.{◌≡◌, ◌≤◌, ◌<◌, ◌+◌, ◌||◌, ℕ, true, false, List, length, Option, Some, None, sym}
 use Rattle.std.specs.Map.{keys_of}
-use Rattle.file_analyses.specs.Files.{AreRead, AreRight, lacks_one, unread_keys, what_is}
-use Rattle.file_analyses.specs.declared.files.Files.{Files}
+use Rattle.analysed_files.specs.Files.{AreRead, AreRight, lacks_one, unread_keys, what_is}
+use Rattle.analysed_files.specs.declared.files.Files.{Files}
 use Rattle.hwcap_dirs.specs.declared.kinds.Place.{Place}
-use Rattle.place_files.proofs.Members.{is_in}
-use Rattle.place_files.specs.Analyses.{KeepsAnalyses}
-use Rattle.place_files.specs.Search.{dangling, reached, wanted}
-use Rattle.place_files.specs.Table.{analysis_at}
-use Rattle.planned_links.specs.Search.{IsSearchedAlike}
+use Rattle.found_files.proofs.Members.{is_in}
+use Rattle.found_files.specs.Analyses.{KeepsAnalyses}
+use Rattle.found_files.specs.Search.{dangling, reached, wanted}
+use Rattle.found_files.specs.Table.{analysis_at}
+use Rattle.settled_links.specs.Search.{IsSearchedAlike}
 use Rattle.soname_links.proofs.NoOtherFiles.{settled_agrees}
 use Rattle.soname_links.specs.Apply.{nodes_with}
 use Rattle.soname_links.specs.declared.kinds.Survey.{Survey}

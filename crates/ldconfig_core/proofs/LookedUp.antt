@@ -13,17 +13,17 @@ use Rattle.std.specs.Ordering.{int_eq, is_lt, ordering_then}
 use Rattle.std.specs.Str.{bytes_eq}
 use Rattle.std.specs.declared.cmp.Ordering.{Ordering}
 use Rattle.std.specs.declared.cmp.Ordering.TheVariants.{Less, Equal, Greater}
-use Rattle.cache_entries.proofs.Led.{walk_by, walk_same}
-use Rattle.cache_entries.proofs.OneEach.{turned}
-use Rattle.cache_entries.specs.Entries.{AreEntriesOf, entry_order}
-use Rattle.cache_entries.specs.Led.{is_entry_of, path_among}
-use Rattle.cache_entries.specs.Walk.{first_value, in_turn, is_same_abi, is_same_cap}
+use Rattle.winning_entries.proofs.Led.{walk_by, walk_same}
+use Rattle.winning_entries.proofs.OneEach.{turned}
+use Rattle.winning_entries.specs.Entries.{AreEntriesOf, entry_order}
+use Rattle.winning_entries.specs.Led.{is_entry_of, path_among}
+use Rattle.winning_entries.specs.Walk.{first_value, in_turn, is_same_abi, is_same_cap}
 use Rattle.cache_layout.specs.Layout.{is_named, name_index}
 use Rattle.cache_lookup.specs.Scan.{AreDescending, chosen, first_for, is_candidate, is_for, is_plain, path_at, scan, uses}
 use Rattle.cache_reader.specs.Cache.{CachedEntry, cap_of, entry_at, hwcap, indexes, name_offsets, read, text_at}
 use Rattle.cache_writer.specs.CacheText.{hwcap_of, hwcaps_names}
 use Rattle.cache_writer.specs.ReadBack.{as_read}
-use Rattle.file_analyses.specs.Files.{what_is}
+use Rattle.analysed_files.specs.Files.{what_is}
 use Rattle.lib_types.proofs.SortedPairs.{by_test}
 use Rattle.lib_types.specs.Abi.{flags_of}
 use Rattle.lib_types.specs.declared.abi.Abi.{Abi}

@@ -1,10 +1,10 @@
 -- The texts of an update are determined by the image and the contents, and there are some.
 use Rattle.std.proofs.Common.{◌≡◌, ℕ, List, Option, refl, sym, ap, subst, ◌∙◌}
-use Rattle.cache_entries.proofs.InOneOrder.{one_list_is}
-use Rattle.cache_entries.proofs.Single.{one_list}
-use Rattle.cache_entries.specs.Entries.{AreEntriesOf}
+use Rattle.winning_entries.proofs.InOneOrder.{one_list_is}
+use Rattle.winning_entries.proofs.Single.{one_list}
+use Rattle.winning_entries.specs.Entries.{AreEntriesOf}
 use Rattle.cache_writer.specs.CacheText.{cache_text}
-use Rattle.file_analyses.specs.Files.{what_is}
+use Rattle.analysed_files.specs.Files.{what_is}
 use Rattle.lib_types.specs.declared.entry.Entry.{Entry}
 use Rattle.tree_face.specs.Store.{Contents}
 use Rattle.update_report.specs.Report.{report_text}

@@ -1,7 +1,7 @@
 -- What an update is about to write is what the image's update writes.
 use Rattle.std.proofs.Common.{◌≡◌, ◌≤◌, ◌<◌, ℕ, true, false, nat_lt, List, length, Option, Some, None, Err, refl, ap, sym, subst, ◌∙◌, arith}
 use Rattle.std.proofs.lemmas.List.Sorted.{length_permutation}
-use Rattle.cache_entries.specs.Entries.{AreEntriesOf}
+use Rattle.winning_entries.specs.Entries.{AreEntriesOf}
 use Rattle.cache_writer.specs.declared.writer.TheConstants.{ENTRIES_MAX}
 use Rattle.lib_types.specs.declared.entry.Entry.{Entry}
 use Rattle.tree_face.proofs.StoreUse.{reads_all}

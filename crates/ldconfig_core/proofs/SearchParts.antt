@@ -1,13 +1,13 @@
 -- What is found before the links are planned.
 use Rattle.std.proofs.Common.{◌≡◌, ◌+◌, ◌||◌, ℕ, true, false, List, [], length, Option, Some, None, refl, ap, sym, subst, ◌∙◌, arith}
-use Rattle.file_analyses.specs.Files.{AreRight, file_keys, lacks_one, unread_keys}
-use Rattle.file_analyses.specs.declared.files.Files.{Files}
+use Rattle.analysed_files.specs.Files.{AreRight, file_keys, lacks_one, unread_keys}
+use Rattle.analysed_files.specs.declared.files.Files.{Files}
 use Rattle.hwcap_dirs.specs.Places.{absent, places}
 use Rattle.hwcap_dirs.specs.declared.kinds.Place.{Place}
 use Rattle.ldso_conf.specs.Reading.{IsConfOf, conf_lacks}
 use Rattle.ldso_conf.specs.declared.kinds.Conf.{Conf}
-use Rattle.place_files.specs.Search.{wanted}
-use Rattle.place_files.specs.Table.{Rows, analysis_at}
+use Rattle.found_files.specs.Search.{wanted}
+use Rattle.found_files.specs.Table.{Rows, analysis_at}
 use Rattle.tree_face.specs.Known.{IfKnown}
 use Rattle.tree_face.specs.Store.{Contents}
 use Rattle.tree_face.specs.Tree.{Nodes}

@@ -2,18 +2,18 @@
 use Rattle.std.proofs.Common.{◌≡◌, ℕ, Bool, true, false, cond, nat_lt, not, List, [], ◌∷◌, length, refl, ap, sym, subst, ◌∙◌, filter, Option, Some, None, arith}
 use Rattle.std.specs.List.{filter_map, list_any}
 use Rattle.std.specs.Str.{bytes_eq}
-use Rattle.cache_entries.specs.Entries.{AreEntriesOf, found}
+use Rattle.winning_entries.specs.Entries.{AreEntriesOf, found}
 use Rattle.cache_writer.specs.CacheText.{cache_text}
 use Rattle.cache_writer.specs.declared.writer.TheConstants.{ENTRIES_MAX}
-use Rattle.file_analyses.specs.Files.{file_keys, key_in, lacks_one, what_is}
+use Rattle.analysed_files.specs.Files.{file_keys, key_in, lacks_one, what_is}
 use Rattle.hwcap_dirs.specs.declared.kinds.Place.{Place}
 use Rattle.hwcap_dirs.specs.Places.{places}
 use Rattle.ldso_conf.specs.Reading.{conf_lacks, is_missing, reading, reading_of}
 use Rattle.lib_types.specs.declared.entry.Entry.{Entry}
-use Rattle.place_files.specs.Order.{ascending}
-use Rattle.place_files.specs.Search.{reached, wanted}
-use Rattle.planned_links.proofs.Agree.{agree}
-use Rattle.planned_links.specs.Search.{IsSearchedAlike}
+use Rattle.found_files.specs.Order.{ascending}
+use Rattle.found_files.specs.Search.{reached, wanted}
+use Rattle.settled_links.proofs.Agree.{agree}
+use Rattle.settled_links.specs.Search.{IsSearchedAlike}
 use Rattle.soname_links.specs.Apply.{nodes_with}
 use Rattle.soname_links.specs.declared.kinds.Planned.{Planned}
 use Rattle.soname_links.specs.Plan.{links, with_links}

@@ -8,8 +8,8 @@ use Rattle.mtree_manifest.specs.declared.fault.ManifestFault.{ManifestFault}
 use Rattle.mtree_manifest.specs.declared.fault.ManifestFault.TheVariants as manifests
 use Rattle.soname_links.specs.declared.kinds.ApplyFault.{ApplyFault}
 use Rattle.soname_links.specs.declared.kinds.ApplyFault.TheVariants as applying
-use Rattle.cache_entries.specs.declared.fault.EntryFault.{EntryFault}
-use Rattle.cache_entries.specs.declared.fault.EntryFault.TheVariants as entering
+use Rattle.winning_entries.specs.declared.fault.EntryFault.{EntryFault}
+use Rattle.winning_entries.specs.declared.fault.EntryFault.TheVariants as entering
 use Rattle.ldconfig_core.specs.declared.fault.LoadFault.{LoadFault}
 use Rattle.ldconfig_core.specs.declared.fault.LoadFault.TheVariants as loading
 use Rattle.ldconfig_core.specs.declared.fault.UpdateFault.{UpdateFault}

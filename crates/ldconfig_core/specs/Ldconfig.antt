@@ -1,14 +1,14 @@
 -- An update of an image as ldconfig(8) makes it, from the conf file to the cache, for the contents that a store holds.
 use Rattle.std.specs.Prelude.{ℕ, List, Option}
-use Rattle.cache_entries.specs.Entries.{found}
-use Rattle.cache_entries.specs.Walk.{walk}
-use Rattle.file_analyses.specs.Files.{what_is}
+use Rattle.winning_entries.specs.Entries.{found}
+use Rattle.winning_entries.specs.Walk.{walk}
+use Rattle.analysed_files.specs.Files.{what_is}
 use Rattle.hwcap_dirs.specs.declared.kinds.Place.{Place}
 use Rattle.hwcap_dirs.specs.Places.{places}
 use Rattle.ldso_conf.specs.Reading.{Reading, reading}
 use Rattle.lib_types.specs.declared.abi.Abi.{Abi}
 use Rattle.lib_types.specs.declared.entry.Entry.{Entry}
-use Rattle.place_files.specs.Search.{reached, wanted}
+use Rattle.found_files.specs.Search.{reached, wanted}
 use Rattle.soname_links.specs.declared.kinds.Planned.{Planned}
 use Rattle.soname_links.specs.Plan.{links, with_links}
 use Rattle.tree_face.specs.Store.{Contents}

@@ -4,19 +4,19 @@ use Rattle.std.specs.List.{filter_map, list_any}
 use Rattle.std.specs.Map.{keys_of}
 use Rattle.std.specs.Option.{option_map}
 use Rattle.std.specs.Str.{bytes_eq}
-use Rattle.cache_entries.specs.Entries as entries
-use Rattle.cache_entries.specs.Entries.{AreEntriesOf}
+use Rattle.winning_entries.specs.Entries as entries
+use Rattle.winning_entries.specs.Entries.{AreEntriesOf}
 use Rattle.cache_reader.specs.Cache.{defect, read}
 use Rattle.cache_writer.specs.CacheText.{cache_text, hwcaps_names}
 use Rattle.cache_writer.specs.ReadBack.{as_read}
 use Rattle.cache_writer.specs.declared.writer.TheConstants.{ENTRIES_MAX}
-use Rattle.file_analyses.specs.Files.{AreRight, lacks_one, what_is}
+use Rattle.analysed_files.specs.Files.{AreRight, lacks_one, what_is}
 use Rattle.hwcap_dirs.specs.Places.{absent}
 use Rattle.ldso_conf.specs.Reading.{IsConfOf}
 use Rattle.lib_types.specs.declared.entry.Entry.{Entry}
-use Rattle.place_files.specs.Order.{ascending}
-use Rattle.place_files.specs.Search.{dangling}
-use Rattle.place_files.specs.Table.{analysis_at}
+use Rattle.found_files.specs.Order.{ascending}
+use Rattle.found_files.specs.Search.{dangling}
+use Rattle.found_files.specs.Table.{analysis_at}
 use Rattle.soname_links.specs.declared.kinds.Survey.{Survey}
 use Rattle.soname_links.specs.Marks.{blocked, mixed}
 use Rattle.tree_face.specs.Store.{Contents, StoreState}

@@ -2,16 +2,16 @@
 use Rattle.std.specs.Prelude.{◌≡◌, ℕ, List, [], ◌∷◌, ◌++◌, map, Option, Some, None}
 use Rattle.std.specs.List.{filter_map}
 use Rattle.atomic_replace.specs.Replace.{Write}
-use Rattle.cache_entries.specs.Entries.{AreEntriesOf}
+use Rattle.winning_entries.specs.Entries.{AreEntriesOf}
 use Rattle.cache_lookup.specs.Scan.{AreDescending}
 use Rattle.cache_reader.specs.Cache.{defect, read}
 use Rattle.cache_writer.specs.CacheText.{cache_text, hwcaps_names}
 use Rattle.cache_writer.specs.ReadBack.{as_read}
-use Rattle.file_analyses.specs.Files.{what_is}
+use Rattle.analysed_files.specs.Files.{what_is}
 use Rattle.hwcap_dirs.specs.Places.{absent}
 use Rattle.lib_types.specs.declared.entry.Entry.{Entry}
-use Rattle.place_files.specs.Order.{ascending}
-use Rattle.place_files.specs.Search.{dangling}
+use Rattle.found_files.specs.Order.{ascending}
+use Rattle.found_files.specs.Search.{dangling}
 use Rattle.soname_links.specs.Marks.{blocked, mixed}
 use Rattle.tree_face.specs.declared.disk.Slot.TheVariants.{Manifest, Cache}
 use Rattle.tree_face.specs.Store.{Contents}

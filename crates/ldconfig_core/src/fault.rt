@@ -4,7 +4,6 @@ ghost use Rattle.ldconfig_core.specs.Faults.{of_apply, of_conf, of_entries, of_m
 ghost use Rattle.ldconfig_core.specs.declared.fault.UpdateFault.TheVariants as update_faults;
 
 use atomic_replace::DiskFault;
-use cache_entries::EntryFault;
 use elf_dynamic::AnalyseFault;
 use ldso_conf::ConfFault;
 use lib_types::NoMemory;
@@ -13,6 +12,7 @@ use soname_links::ApplyFault;
 use std::alloc::{AllocError, AllocFailed};
 use thiserror::Error;
 use tree_face::Slot;
+use winning_entries::EntryFault;
 
 /// Why an image isn't loaded.
 #[derive(Clone, Copy, Debug, PartialEq, Eq, Error)]

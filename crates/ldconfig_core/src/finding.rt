@@ -1,9 +1,9 @@
 //! All that an update finds.
 ghost use Rattle.std.specs.Prelude.{◌≡◌, ℕ, true, IfErr, IfOk, IsErrOf, IsTrue};
 ghost use Rattle.hwcap_dirs.specs.Places.{are_spelled};
-ghost use Rattle.place_files.specs.Best.{bests_of};
-ghost use Rattle.place_files.specs.Search.{followed};
-ghost use Rattle.place_files.specs.Table.{analysis_at};
+ghost use Rattle.found_files.specs.Best.{bests_of};
+ghost use Rattle.found_files.specs.Search.{followed};
+ghost use Rattle.found_files.specs.Table.{analysis_at};
 ghost use Rattle.tree_face.specs.Known.{IfKnown};
 ghost use Rattle.ldconfig_core.specs.Faults.{is_of_finding};
 ghost use Rattle.ldconfig_core.specs.Outcome as outcomes;
@@ -15,7 +15,7 @@ ghost use Rattle.ldconfig_core.specs.Update.{ReadsUpdate, update_ending};
 use crate::fault::UpdateFault;
 use crate::following::{Followed, follow_links};
 use crate::search::{Search, search_image};
-use planned_links::plan_links;
+use settled_links::plan_links;
 use soname_links::Survey;
 use std::alloc::Global;
 use tree_face::{Store, Tree};

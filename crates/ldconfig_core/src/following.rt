@@ -3,19 +3,19 @@ ghost use Rattle.std.specs.Prelude.{◌≡◌, ◌+◌, ◌||◌, ℕ, List, tru
 ghost use Rattle.std.specs.List.{list_any};
 ghost use Rattle.std.specs.Map.{keys_of};
 ghost use Rattle.std.specs.Str.{bytes_eq};
-ghost use Rattle.file_analyses.specs.Files.{AreRead, AreRight, ReadsKeys, lacks_one, unread_keys};
-ghost use Rattle.place_files.specs.Analyses.{KeepsAnalyses};
-ghost use Rattle.place_files.specs.Search.{dangling, followed, reached};
-ghost use Rattle.place_files.specs.Table.{analysis_at};
+ghost use Rattle.analysed_files.specs.Files.{AreRead, AreRight, ReadsKeys, lacks_one, unread_keys};
+ghost use Rattle.found_files.specs.Analyses.{KeepsAnalyses};
+ghost use Rattle.found_files.specs.Search.{dangling, followed, reached};
+ghost use Rattle.found_files.specs.Table.{analysis_at};
 ghost use Rattle.tree_face.specs.Known.{IfKnown};
 ghost use Rattle.ldconfig_core.specs.Faults.{is_store_fault};
 ghost use Rattle.ldconfig_core.specs.Update.{update_ending};
 
 use crate::fault::UpdateFault;
-use file_analyses::{Files, read_files};
+use analysed_files::{Files, read_files};
+use found_files::{PlaceLinks, dangling_among, files_behind, follow};
 use hwcap_dirs::Dirs;
 use lib_types::Texts;
-use place_files::{PlaceLinks, dangling_among, files_behind, follow};
 use std::alloc::Global;
 use tree_face::{Store, Tree};
 

@@ -1,8 +1,8 @@
 //! What an update is about to write.
 ghost use Rattle.std.specs.Prelude.{◌≡◌, ◌<◌, ℕ, false, true, length, IfErr, IfOk, IsErrOf, IsTrue};
-ghost use Rattle.place_files.specs.Best.{bests_of};
-ghost use Rattle.place_files.specs.Search.{followed};
-ghost use Rattle.place_files.specs.Table.{analysis_at};
+ghost use Rattle.found_files.specs.Best.{bests_of};
+ghost use Rattle.found_files.specs.Search.{followed};
+ghost use Rattle.found_files.specs.Table.{analysis_at};
 ghost use Rattle.tree_face.specs.Known.{IfKnown};
 ghost use Rattle.cache_writer.specs.declared.writer.TheConstants.{ENTRIES_MAX};
 ghost use Rattle.hwcap_dirs.specs.Places.{are_spelled};
@@ -19,13 +19,13 @@ ghost use Rattle.update_report.specs.Report.{report_text};
 use crate::fault::UpdateFault;
 use crate::finding::{Found, find};
 use crate::report::Report;
-use cache_entries::entries_by;
 use lib_types::{Entries, NoMemory};
 use mtree_manifest::TEXT_MAX;
 use soname_links::kinds::Plan;
 use std::alloc::Global;
 use tree_face::{Store, Tree};
 use update_report::{Findings, report, skips_in};
+use winning_entries::entries_by;
 
 /// What an update is about to write, and its report.
 #[derive(Drop)]

@@ -3,21 +3,21 @@ ghost use Rattle.std.specs.Prelude.{◌≡◌, ℕ, List, true, IfErr, IfOk, IsT
 ghost use Rattle.std.specs.List.{list_any};
 ghost use Rattle.std.specs.Map.{keys_of};
 ghost use Rattle.std.specs.Str.{bytes_eq};
-ghost use Rattle.file_analyses.specs.Files.{AreRead};
+ghost use Rattle.analysed_files.specs.Files.{AreRead};
 ghost use Rattle.hwcap_dirs.specs.Places.{are_dirs, are_spelled};
-ghost use Rattle.place_files.specs.Analyses.{HaveAnalyses};
-ghost use Rattle.place_files.specs.Search.{wanted};
-ghost use Rattle.place_files.specs.Table.{analysis_at};
+ghost use Rattle.found_files.specs.Analyses.{HaveAnalyses};
+ghost use Rattle.found_files.specs.Search.{wanted};
+ghost use Rattle.found_files.specs.Table.{analysis_at};
 ghost use Rattle.tree_face.specs.Known.{IfKnown};
 ghost use Rattle.ldconfig_core.specs.Faults.{is_store_fault};
 ghost use Rattle.ldconfig_core.specs.Stages.{IsSearched, ReadsSearch};
 ghost use Rattle.ldconfig_core.specs.Update.{update_ending};
 
 use crate::fault::UpdateFault;
-use file_analyses::{Files, read_files};
+use analysed_files::{Files, read_files};
+use found_files::wanted;
 use hwcap_dirs::{Dirs, order};
 use ldso_conf::{Conf, read_conf};
-use place_files::wanted;
 use std::alloc::Global;
 use tree_face::{Store, Tree};
 

@@ -5,7 +5,7 @@ use Rattle.std.specs.List.{AllByRecursion, onto_first, slice_split}
 use Rattle.lib_types.proofs.SortedPairs.{by_test}
 use Rattle.tree_face.specs.Paths.{components, is_kept, is_slash, join, root, stem}
 use Rattle.path_walk.proofs.Joining.{parts_joined}
-use Rattle.place_files.specs.Libraries.{last_name}
+use Rattle.found_files.specs.Libraries.{last_name}
 
 -- the text has no slash
 abbrev pub IsAlone : List ℕ → Type 0

@@ -12,7 +12,7 @@ use Rattle.hwcap_dirs.specs.declared.kinds.Place.{Place}
 use Rattle.lib_types.proofs.Bools.{not_true}
 use Rattle.lib_types.proofs.SortedPairs.{by_test}
 use Rattle.path_walk.proofs.KindsAt.{at_path}
-use Rattle.place_files.specs.Analyses.{Analyses, HaveNames}
+use Rattle.found_files.specs.Analyses.{Analyses, HaveNames}
 use Rattle.tree_face.proofs.Above.{clash_below, found_passes}
 use Rattle.tree_face.proofs.Below.{not_root}
 use Rattle.tree_face.proofs.Clear.{none_put}

@@ -6,17 +6,17 @@ use Rattle.std.specs.Map.{keys_of}
 use Rattle.std.specs.Option.{option_map}
 use Rattle.hwcap_dirs.specs.declared.kinds.Place.{Place}
 use Rattle.tree_face.specs.Tree.{Nodes}
-use Rattle.place_files.proofs.Ordered.{by_entries, filtered_same}
-use Rattle.place_files.proofs.Gathered.{gathered_keyed, keys_keyed}
-use Rattle.place_files.specs.Sonames.{AreGathered, AreOrdered, found_at}
-use Rattle.place_files.specs.Best.{best, bests, better, has_soname, is_preferred, sonames}
+use Rattle.found_files.proofs.Ordered.{by_entries, filtered_same}
+use Rattle.found_files.proofs.Gathered.{gathered_keyed, keys_keyed}
+use Rattle.found_files.specs.Sonames.{AreGathered, AreOrdered, found_at}
+use Rattle.found_files.specs.Best.{best, bests, better, has_soname, is_preferred, sonames}
 use Rattle.soname_links.specs.Marks.{blocked_for}
-use Rattle.place_files.specs.Order.{ascending}
-use Rattle.place_files.specs.Places.{is_plain}
+use Rattle.found_files.specs.Order.{ascending}
+use Rattle.found_files.specs.Places.{is_plain}
 use Rattle.soname_links.specs.Plan.{link_for}
 use Rattle.soname_links.specs.Survey.{blocked_of, group_at, group_with, groups, keyed, planned_of, with_library}
 use Rattle.soname_links.specs.declared.groups.Group.{Group}
-use Rattle.place_files.specs.Library.{Library}
+use Rattle.found_files.specs.Library.{Library}
 
 abbrev pub Grouped : Type 0
 Grouped = List (List ℕ × Group)

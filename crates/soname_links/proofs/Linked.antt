@@ -19,12 +19,12 @@ use Rattle.tree_face.specs.Tree as tree
 use Rattle.tree_face.specs.Tree.{Nodes, IsPathSorted, children_of, clashes, kind_at, names_below, node_at, of_dir}
 use Rattle.tree_face.specs.declared.node.Node.TheVariants as node
 use Rattle.tree_face.specs.declared.tree.Kind.TheVariants.{Dir}
-use Rattle.place_files.proofs.Members.{AreSorted, left_out, same_left}
-use Rattle.place_files.proofs.Ordered.{filtered_same}
+use Rattle.found_files.proofs.Members.{AreSorted, left_out, same_left}
+use Rattle.found_files.proofs.Ordered.{filtered_same}
 use Rattle.soname_links.proofs.Put.{above_found, is_other, names_same, others_same}
 use Rattle.path_walk.specs.Files.{is_file}
-use Rattle.place_files.specs.Children.{is_file_node}
-use Rattle.place_files.specs.Search.{file_in}
+use Rattle.found_files.specs.Children.{is_file_node}
+use Rattle.found_files.specs.Search.{file_in}
 use Rattle.soname_links.proofs.KindsAt.{dir_kept, file_in_same, file_node, is_open, no_file, none_above, some_file}
 
 not_false : (b : Bool) → not b ≡ false → b ≡ true

@@ -8,12 +8,12 @@ use Rattle.lib_types.proofs.Bools.{not_true}
 use Rattle.lib_types.proofs.SortedPairs.{by_test}
 use Rattle.tree_face.specs.Paths.{join}
 use Rattle.tree_face.specs.Tree.{Nodes, kind_at}
-use Rattle.place_files.specs.Best.{best, sonames}
-use Rattle.place_files.specs.Libraries.{libraries_in}
-use Rattle.place_files.specs.Places.{by_place, is_plain, links_to}
+use Rattle.found_files.specs.Best.{best, sonames}
+use Rattle.found_files.specs.Libraries.{libraries_in}
+use Rattle.found_files.specs.Places.{by_place, is_plain, links_to}
 use Rattle.soname_links.specs.Plan.{is_blocked, is_regarded, link_for, links, links_in}
-use Rattle.place_files.specs.Analyses.{Analyses}
-use Rattle.place_files.specs.Library.{Library}
+use Rattle.found_files.specs.Analyses.{Analyses}
+use Rattle.found_files.specs.Library.{Library}
 use Rattle.soname_links.specs.declared.kinds.Planned.{Planned}
 
 -- the link is planned for this library

@@ -11,7 +11,7 @@ use Rattle.std.specs.Str.{bytes_eq}
 use Rattle.std.specs.declared.cmp.Ordering.TheVariants.{Less, Equal, Greater}
 use Rattle.lib_types.proofs.Bools.{and_false}
 use Rattle.lib_types.proofs.SortedPairs.{by_ordering, by_test, put_step}
-use Rattle.place_files.proofs.Either.{swapped, twice}
+use Rattle.found_files.proofs.Either.{swapped, twice}
 use Rattle.tree_face.proofs.Above.{found_any}
 use Rattle.tree_face.proofs.Below.{exact}
 use Rattle.tree_face.proofs.Order.{path_total}

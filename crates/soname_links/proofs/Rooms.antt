@@ -9,11 +9,11 @@ use Rattle.lib_types.specs.Name.{have_no_slash, is_name, slash}
 use Rattle.name_order.specs.LibraryName.{is_library_name}
 use Rattle.path_walk.proofs.KindsAt.{dir_above}
 use Rattle.path_walk.proofs.Linked.{folder_of_dir, name_alone}
-use Rattle.place_files.proofs.Named.{best_named}
-use Rattle.place_files.specs.Best.{best, is_own}
-use Rattle.place_files.specs.Libraries.{last_name, libraries_in}
-use Rattle.place_files.specs.Analyses.{Analyses, HaveNames}
-use Rattle.place_files.specs.Library.{Library}
+use Rattle.found_files.proofs.Named.{best_named}
+use Rattle.found_files.specs.Best.{best, is_own}
+use Rattle.found_files.specs.Libraries.{last_name, libraries_in}
+use Rattle.found_files.specs.Analyses.{Analyses, HaveNames}
+use Rattle.found_files.specs.Library.{Library}
 use Rattle.tree_face.proofs.Below.{below_from, below_is}
 use Rattle.tree_face.specs.Paths.{is_below, is_path, join, root, stem}
 use Rattle.tree_face.specs.Tree.{Nodes, IsTree, kind_at}

@@ -8,7 +8,7 @@ use Rattle.tree_face.specs.Paths.{is_path}
 use Rattle.tree_face.specs.Tree.{Nodes, clashes, node_at}
 use Rattle.tree_face.specs.declared.node.Node.TheVariants.{Link}
 use Rattle.tree_face.specs.declared.tree.TheConstants.{NODES_MAX}
-use Rattle.place_files.specs.Order.{ascending}
+use Rattle.found_files.specs.Order.{ascending}
 use Rattle.soname_links.specs.Plan.{with_link, with_links}
 use Rattle.soname_links.specs.declared.kinds.ApplyFault.{ApplyFault}
 use Rattle.soname_links.specs.declared.kinds.ApplyFault.TheVariants.{TooLarge, NoMemory}

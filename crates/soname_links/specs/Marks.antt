@@ -5,13 +5,13 @@ use Rattle.hwcap_dirs.specs.declared.kinds.Place.{Place}
 use Rattle.lib_types.specs.Abi.{flags_of}
 use Rattle.tree_face.specs.Paths.{join}
 use Rattle.tree_face.specs.Tree.{Nodes}
-use Rattle.place_files.specs.Best.{best, bests}
-use Rattle.place_files.specs.Libraries.{libraries_in}
-use Rattle.place_files.specs.Order.{ascending}
-use Rattle.place_files.specs.Places.{by_place, is_plain}
+use Rattle.found_files.specs.Best.{best, bests}
+use Rattle.found_files.specs.Libraries.{libraries_in}
+use Rattle.found_files.specs.Order.{ascending}
+use Rattle.found_files.specs.Places.{by_place, is_plain}
 use Rattle.soname_links.specs.Plan.{is_blocked, is_regarded}
-use Rattle.place_files.specs.Analyses.{Analyses}
-use Rattle.place_files.specs.Library.{Library}
+use Rattle.found_files.specs.Analyses.{Analyses}
+use Rattle.found_files.specs.Library.{Library}
 use Rattle.soname_links.specs.declared.kinds.Mark.{Mark}
 
 abbrev pub mark : ℕ → List ℕ → Mark

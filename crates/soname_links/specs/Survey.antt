@@ -7,12 +7,12 @@ use Rattle.hwcap_dirs.specs.declared.kinds.Place.{Place}
 use Rattle.tree_face.specs.Tree.{Nodes}
 use Rattle.tree_face.specs.declared.node.Node.{Node}
 use Rattle.tree_face.specs.declared.node.Node.TheVariants as nodes
-use Rattle.place_files.specs.Best.{has_soname, is_preferred, sonames}
+use Rattle.found_files.specs.Best.{has_soname, is_preferred, sonames}
 use Rattle.soname_links.specs.Marks.{blocked_for, is_odd, mark}
 use Rattle.soname_links.specs.Plan.{is_blocked, link_for}
-use Rattle.place_files.specs.Places.{is_plain, links_to}
+use Rattle.found_files.specs.Places.{is_plain, links_to}
 use Rattle.soname_links.specs.declared.groups.Group.{Group}
-use Rattle.place_files.specs.Library.{Library}
+use Rattle.found_files.specs.Library.{Library}
 use Rattle.soname_links.specs.declared.kinds.Mark.{Mark}
 use Rattle.soname_links.specs.declared.kinds.Planned.{Planned}
 use Rattle.soname_links.specs.declared.surveying.Spot.{Spot}

@@ -1,13 +1,13 @@
 //! The libraries of a place by their sonames.
 ghost use Rattle.std.specs.Prelude.{◌≡◌, Some, IfOk};
-ghost use Rattle.place_files.specs.Libraries.{libraries_in};
+ghost use Rattle.found_files.specs.Libraries.{libraries_in};
 ghost use Rattle.soname_links.specs.Marks.{is_odd};
 ghost use Rattle.soname_links.specs.Survey.{groups, keyed, with_library};
-ghost use Rattle.place_files.specs.Table.{analysis_at};
+ghost use Rattle.found_files.specs.Table.{analysis_at};
 
+use found_files::{BySoname, Gather, Library, Table, gather_by_soname, is_preferred, libraries_in};
 use hwcap_dirs::Place;
 use lib_types::NoMemory;
-use place_files::{BySoname, Gather, Library, Table, gather_by_soname, is_preferred, libraries_in};
 use std::alloc::Global;
 use tree_face::Tree;
 

@@ -1,9 +1,9 @@
 //! What is planned for an image, and what is reported of its sonames.
 ghost use Rattle.std.specs.Prelude.{◌≡◌};
 
-pub use cache_entries::EntryFault;
+use found_files::PlaceBests;
 use lib_types::{NoMemory, Seq, Text};
-use place_files::PlaceBests;
+pub use winning_entries::EntryFault;
 
 /// A link that is planned.
 #[derive(Drop)]

@@ -1,5 +1,5 @@
 //! The links that are planned for an image, and what is reported of its sonames. The crates below are passed on: the files of
-//! the searched places (`place_files`) and the entries of a cache (`cache_entries`).
+//! the searched places (`found_files`) and the entries of a cache (`winning_entries`).
 #![tactic(auto)]
 
 mod applying;
@@ -11,9 +11,9 @@ mod surveying;
 mod winners;
 
 pub use applying::{apply, is_plan};
+pub use found_files::{Table, dangling, reached, wanted};
 pub use kinds::{ApplyFault, EntryFault, Mark, Marks, Planned, Survey};
 pub use marks::{blocked, mixed};
-pub use place_files::{Table, dangling, reached, wanted};
 pub use planning::plan;
 pub use surveying::survey;
 pub use winners::entries;

@@ -1,13 +1,13 @@
 //! The sonames that are reported.
 ghost use Rattle.std.specs.Prelude.{◌≡◌, IfOk};
 ghost use Rattle.soname_links.specs.Marks.{blocked, mixed};
-ghost use Rattle.place_files.specs.Table.{analysis_at};
+ghost use Rattle.found_files.specs.Table.{analysis_at};
 
 use crate::kinds::Marks;
 use crate::surveying::survey;
+use found_files::Table;
 use hwcap_dirs::Dirs;
 use lib_types::NoMemory;
-use place_files::Table;
 use std::alloc::Global;
 use tree_face::Tree;
 

@@ -2,15 +2,15 @@
 ghost use Rattle.std.specs.Prelude.{◌≡◌, IfOk, IsTrue};
 ghost use Rattle.hwcap_dirs.specs.Places.{are_dirs};
 ghost use Rattle.soname_links.specs.Apply.{are_clear, is_plan};
-ghost use Rattle.place_files.specs.Analyses.{HaveNames};
+ghost use Rattle.found_files.specs.Analyses.{HaveNames};
 ghost use Rattle.soname_links.specs.Plan.{links};
-ghost use Rattle.place_files.specs.Table.{analysis_at};
+ghost use Rattle.found_files.specs.Table.{analysis_at};
 
 use crate::kinds::Plan;
 use crate::surveying::survey;
+use found_files::Table;
 use hwcap_dirs::Dirs;
 use lib_types::NoMemory;
-use place_files::Table;
 use std::alloc::Global;
 use tree_face::Tree;
 

@@ -6,17 +6,17 @@ ghost use Rattle.soname_links.specs.Apply.{are_clear, is_plan};
 ghost use Rattle.soname_links.specs.Marks.{blocked, blocked_for, blocked_in, mark, mixed, mixed_in};
 ghost use Rattle.soname_links.specs.Plan.{is_regarded, is_taken, link_for, links, links_in};
 ghost use Rattle.soname_links.specs.Survey.{blocked_of, mixed_of, planned_of, spot_at, spot_by};
-ghost use Rattle.place_files.specs.Best.{bests_in, bests_of};
-ghost use Rattle.place_files.specs.Analyses.{HaveNames};
-ghost use Rattle.place_files.specs.Table.{analysis_at};
+ghost use Rattle.found_files.specs.Best.{bests_in, bests_of};
+ghost use Rattle.found_files.specs.Analyses.{HaveNames};
+ghost use Rattle.found_files.specs.Table.{analysis_at};
 
 use crate::groups::{Group, groups_in};
 use crate::kinds::{Mark, Planned, Survey};
+use found_files::{BestLibrary, BySoname, Library, Table, is_own, is_plain};
 use hwcap_dirs::{Dirs, Place};
 use lib_types::{NoMemory, Seq, Text};
 use name_order::is_library_name;
 use path_walk::join_into;
-use place_files::{BestLibrary, BySoname, Library, Table, is_own, is_plain};
 use std::alloc::Global;
 use tree_face::{Kind, Node, PATH_MAX, Tree};
 
@@ -191,7 +191,7 @@ fn add_place(
 }
 
 // What one place after the other gives.
-#[tactic(auto, unfolding(crate::specs::Plan::links, crate::specs::Marks::blocked, crate::specs::Marks::mixed, place_files::specs::Best::bests_of))]
+#[tactic(auto, unfolding(crate::specs::Plan::links, crate::specs::Marks::blocked, crate::specs::Marks::mixed, found_files::specs::Best::bests_of))]
 fn surveyed(alloc: Global, tree: &Tree, dirs: &Dirs, table: &Table) -> Result<Survey, NoMemory>
     ensures plan { IfOk result (λ survey. survey.plan ≡ links (analysis_at table.now) tree.now dirs.now.places) }
     ensures blocked { IfOk result (λ survey. survey.blocked ≡ blocked (analysis_at table.now) tree.now dirs.now.places) }

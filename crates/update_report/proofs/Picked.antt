@@ -9,11 +9,11 @@ use Rattle.std.specs.Ordering.{nat_cmp}
 use Rattle.std.specs.Str.{bytes_eq}
 use Rattle.lib_types.proofs.SortedPairs.{by_test}
 use Rattle.lib_types.specs.declared.analysis.Analysis.TheVariants.{Lib, Not}
-use Rattle.place_files.proofs.InOrder.{ascending_sorted, in_ascending}
-use Rattle.place_files.proofs.Members.{is_in, kept_in, left_out, same_members}
-use Rattle.place_files.specs.Order.{ascending}
-use Rattle.place_files.specs.Analyses.{Analyses}
-use Rattle.place_files.specs.Table.{Rows, analysis_at, defective}
+use Rattle.found_files.proofs.InOrder.{ascending_sorted, in_ascending}
+use Rattle.found_files.proofs.Members.{is_in, kept_in, left_out, same_members}
+use Rattle.found_files.specs.Order.{ascending}
+use Rattle.found_files.specs.Analyses.{Analyses}
+use Rattle.found_files.specs.Table.{Rows, analysis_at, defective}
 use Rattle.update_report.specs.Skips.{is_skipped, skip_at, skip_by}
 use Rattle.update_report.specs.declared.kinds.Skipped.{Skipped}
 

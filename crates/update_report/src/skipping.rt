@@ -2,13 +2,13 @@
 ghost use Rattle.std.specs.Prelude.{◌≡◌, IfOk};
 ghost use Rattle.std.specs.List.{filter_map};
 ghost use Rattle.std.specs.Map.{keys_of};
-ghost use Rattle.place_files.specs.Order.{ascending};
+ghost use Rattle.found_files.specs.Order.{ascending};
 ghost use Rattle.update_report.specs.Skips.{skip_at};
-ghost use Rattle.place_files.specs.Table.{analysis_at};
+ghost use Rattle.found_files.specs.Table.{analysis_at};
 
 use crate::kinds::{Skipped, Skips};
+use found_files::{Table, ascending};
 use lib_types::{Analysis, NoMemory, Seq, Text, Texts};
-use place_files::{Table, ascending};
 use std::alloc::Global;
 
 // The file at a path, if its analysis is a defect.

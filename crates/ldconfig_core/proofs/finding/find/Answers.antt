@@ -1,5 +1,5 @@
 use Rattle.std.proofs.Common.{rules, ◌≡◌, ℕ, List, Result, Err, ap, sym, subst}
-use Rattle.place_files.specs.Table.{analysis_at}
+use Rattle.found_files.specs.Table.{analysis_at}
 use Rattle.tree_face.specs.StoreUse.{Complete}
 use Rattle.ldconfig_core.proofs.Bests.{bests_kept}
 use Rattle.ldconfig_core.proofs.Endings.{behind_failed, links_failed, search_failed}

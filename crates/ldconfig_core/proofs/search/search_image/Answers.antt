@@ -2,7 +2,7 @@ use Rattle.std.proofs.Common.{rules, ◌≡◌, ℕ, List, Result, Err, refl, sy
 use Rattle.std.proofs.Common.{nat_cmp}
 use Rattle.std.specs.Cmp.Lexicographic.{slice_cmp}
 use Rattle.std.specs.List.Sorted.{IsStrictlySortedBy}
-use Rattle.place_files.specs.Table.{analysis_at}
+use Rattle.found_files.specs.Table.{analysis_at}
 use Rattle.tree_face.proofs.StoreUse.{reads_all}
 use Rattle.tree_face.specs.StoreUse.{Complete, GaveUp}
 use Rattle.ldconfig_core.proofs.Bests.{wanted_read}

@@ -1,7 +1,7 @@
 use Rattle.std.proofs.Common.{ℕ, List, [], ◌∷◌, ◌++◌, ap, ◌∙◌}
 use Rattle.soname_links.specs.Survey.{blocked_of, mixed_of, planned_of}
 use Rattle.soname_links.specs.declared.groups.Group.{Group}
-use Rattle.place_files.proofs.Ordered.{after_one}
+use Rattle.found_files.proofs.Ordered.{after_one}
 use Rattle.soname_links.proofs.Grouped.{best_more}
 use Rattle.soname_links.proofs.surveying.add_place.Goals as goal
 

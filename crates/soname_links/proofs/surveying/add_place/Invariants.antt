@@ -1,12 +1,12 @@
 use Rattle.std.proofs.Common.{◌≡◌, ℕ, List, ◌++◌, map}
 use Rattle.std.specs.List.{filter_map}
 use Rattle.soname_links.specs.Marks.{blocked_in, mixed_in}
-use Rattle.place_files.specs.Best.{bests}
-use Rattle.place_files.specs.Libraries.{libraries_in}
+use Rattle.found_files.specs.Best.{bests}
+use Rattle.found_files.specs.Libraries.{libraries_in}
 use Rattle.soname_links.specs.Plan.{links_in}
 use Rattle.soname_links.specs.Survey.{blocked_of, mixed_of, planned_of}
 use Rattle.soname_links.specs.declared.groups.Group.{Group}
-use Rattle.place_files.specs.Table.{analysis_at}
+use Rattle.found_files.specs.Table.{analysis_at}
 use Rattle.soname_links.proofs.surveying.add_place.Given as goal
 
 -- the sonames that are left give the rest

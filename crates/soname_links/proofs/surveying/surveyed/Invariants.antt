@@ -1,10 +1,10 @@
 use Rattle.std.proofs.Common.{◌≡◌, ◌++◌, drop, map}
 use Rattle.soname_links.specs.Marks.{blocked_in, mixed_in}
-use Rattle.place_files.specs.Best.{bests}
-use Rattle.place_files.specs.Libraries.{libraries_in}
-use Rattle.place_files.specs.Places.{by_place}
+use Rattle.found_files.specs.Best.{bests}
+use Rattle.found_files.specs.Libraries.{libraries_in}
+use Rattle.found_files.specs.Places.{by_place}
 use Rattle.soname_links.specs.Plan.{links_in}
-use Rattle.place_files.specs.Table.{analysis_at}
+use Rattle.found_files.specs.Table.{analysis_at}
 use Rattle.soname_links.proofs.surveying.surveyed.Given as goal
 
 -- the places that are left give the rest

@@ -1,0 +1,78 @@
+-- Which files of the searched places are looked at (ldconfig(8): files and links with library names).
+use Rattle.std.specs.Prelude.{ℕ, Bool, true, false, List, ◌&&◌, if◌then◌else◌, flat_map, map, Option, Some, None, option_map}
+use Rattle.std.specs.List.{filter_map}
+use Rattle.std.specs.Option.{is_none}
+use Rattle.hwcap_dirs.specs.declared.kinds.Place.{Place}
+use Rattle.name_order.specs.LibraryName.{is_library_name}
+use Rattle.tree_face.specs.Paths.{join}
+use Rattle.path_walk.specs.Files.{file_at, is_file}
+use Rattle.tree_face.specs.Tree.{Nodes, kind_at, children_of}
+use Rattle.tree_face.specs.declared.tree.Kind.{Kind}
+use Rattle.tree_face.specs.declared.tree.Kind.TheVariants as kinds
+use Rattle.found_files.specs.Order.{ascending}
+use Rattle.found_files.specs.declared.links.FollowedLink.{FollowedLink}
+use Rattle.found_files.specs.declared.links.FolderLinks.{FolderLinks}
+
+abbrev pub is_link : Kind → Bool
+is_link kinds.Link = true
+is_link kinds.Absent = false
+is_link kinds.Dir = false
+is_link kinds.File = false
+
+-- the path of a name in a folder, if a file with a library name is there
+abbrev pub file_in : Nodes → List ℕ → List ℕ → Option (List ℕ)
+file_in t folder name = if is_library_name name && is_file (kind_at t (join folder name)) then Some (join folder name) else None
+
+-- the path of a name in a folder, if a link with a library name is there
+abbrev pub link_in : Nodes → List ℕ → List ℕ → Option (List ℕ)
+link_in t folder name = if is_library_name name && is_link (kind_at t (join folder name)) then Some (join folder name) else None
+
+-- ---- the files with library names
+
+abbrev pub files_in : Nodes → Place → List (List ℕ)
+files_in t place = filter_map (file_in t place.real) (children_of t place.real)
+
+-- The files with library names in these places, by their paths.
+unfoldable pub wanted : Nodes → List Place → List (List ℕ)
+wanted t places = ascending (flat_map (files_in t) places)
+
+-- ---- the links with library names
+
+-- a link with a library name in a folder, and the file to which it leads, if it leads to one
+abbrev pub followed_by : Nodes → List ℕ → List ℕ → Option FollowedLink
+followed_by t folder name = option_map (λ path. record { name = name; file = file_at t path }) (link_in t folder name)
+
+abbrev pub followed_in : Nodes → List ℕ → List FollowedLink
+followed_in t folder = filter_map (followed_by t folder) (children_of t folder)
+
+-- those of each place
+abbrev pub folder_links : Nodes → Place → FolderLinks
+folder_links t place = record { folder = place.real; links = followed_in t place.real }
+
+unfoldable pub followed : Nodes → List Place → List FolderLinks
+followed t places = map (folder_links t) places
+
+-- ---- the files to which they lead
+
+abbrev pub files_of : FolderLinks → List (List ℕ)
+files_of folder = filter_map (λ link. link.file) folder.links
+
+abbrev pub files_behind : List FolderLinks → List (List ℕ)
+files_behind followed = ascending (flat_map files_of followed)
+
+-- The files to which the links with library names in these places lead, by their paths.
+unfoldable pub reached : Nodes → List Place → List (List ℕ)
+reached t places = files_behind (followed t places)
+
+-- ---- the links that lead nowhere
+
+-- the path of a link that leads to no file
+abbrev pub unless_file : List ℕ → FollowedLink → Option (List ℕ)
+unless_file folder link = if is_none link.file then Some (join folder link.name) else None
+
+abbrev pub dangling_in : Nodes → List ℕ → List (List ℕ)
+dangling_in t folder = filter_map (unless_file folder) (followed_in t folder)
+
+-- The links with library names in these places that lead to no file, by the bytes of the place's path and then of the name.
+unfoldable pub dangling : Nodes → List Place → List (List ℕ)
+dangling t places = flat_map (dangling_in t) (ascending (map (λ place. place.real) places))

@@ -1,0 +1,196 @@
+//! The links with library names in the searched places, each followed once.
+ghost use Rattle.std.specs.Option.{option_copied, option_map};
+ghost use Rattle.std.specs.Prelude.{◌≡◌, ◌++◌, IfOk, List, OnOk};
+ghost use Rattle.hwcap_dirs.specs.declared.kinds.Place.{Place};
+ghost use Rattle.path_walk.specs.Files.{file_at};
+ghost use Rattle.tree_face.specs.Tree.{Nodes};
+ghost use Rattle.found_files.specs.Children.{IsChild};
+ghost use Rattle.found_files.specs.Folders.{by_folder, dangling_of};
+ghost use Rattle.found_files.specs.Search.{dangling, files_of, followed, followed_by, followed_in, link_in, reached};
+
+use crate::order::ascending;
+use hwcap_dirs::Dirs;
+use lib_types::{NoMemory, Seq, Text, Texts};
+use name_order::is_library_name;
+use path_walk::{join, linked_file};
+use std::alloc::Global;
+use std::collections::BTreeMap;
+use tree_face::{Node, Tree};
+
+/// A link with a library name.
+#[derive(Drop)]
+pub struct FollowedLink {
+    pub name: Text,
+    /// The path, without links, of the file to which it leads; None if it leads to no file.
+    pub file: Option<Text>,
+}
+
+/// The links with library names in a folder, by the bytes of their names.
+#[derive(Drop)]
+pub struct FolderLinks {
+    /// The folder's path, without links.
+    pub folder: Text,
+    pub links: Seq<FollowedLink>,
+}
+
+/// The links with library names of each place, in the order of the places.
+pub type PlaceLinks = Seq<FolderLinks>;
+
+// Where the link that a child with this node is leads, if it has a library name: to a file, or to none.
+#[tactic(auto, using(crate::proofs::Children::link_same))]
+fn led_by(
+    alloc: Global,
+    tree: &Tree,
+    folder: &[u8],
+    name: &[u8],
+    node: Option<&Node>,
+) -> Result<Option<Option<Text>>, NoMemory>
+    requires { IsChild tree.now folder.now (name.now, option_copied node) }
+    ensures { IfOk result (λ led. led ≡ option_map (file_at tree.now) (link_in tree.now folder.now name.now)) }
+{
+    match node {
+        Some(Node::Link { target }) if is_library_name(name) => {
+            let file = linked_file(alloc, tree, folder, target.as_bytes())?;
+            Ok(Some(file))
+        }
+        _ => Ok(None),
+    }
+}
+
+// The child with this node, followed, if it is a link with a library name.
+fn followed_by(
+    alloc: Global,
+    tree: &Tree,
+    folder: &[u8],
+    name: &[u8],
+    node: Option<&Node>,
+) -> Result<Option<FollowedLink>, NoMemory>
+    requires { IsChild tree.now folder.now (name.now, option_copied node) }
+    ensures { IfOk result (λ link. link ≡ followed_by tree.now folder.now name.now) }
+{
+    match led_by(alloc, tree, folder, name, node)? {
+        Some(file) => Ok(Some(FollowedLink {
+            name: Text::copy_of(alloc, name)?,
+            file,
+        })),
+        None => Ok(None),
+    }
+}
+
+// The links with library names in a folder.
+#[tactic(auto, using(crate::proofs::Children::names_listed, crate::proofs::Children::all_children))]
+fn followed_in(alloc: Global, tree: &Tree, folder: &[u8]) -> Result<Seq<FollowedLink>, NoMemory>
+    ensures { IfOk result (λ links. links ≡ followed_in tree.now folder.now) }
+{
+    let mut links = Seq::new(alloc);
+    for (name, node) in tree.listing(folder) {
+        if let Some(link) = followed_by(alloc, tree, folder, name, node)? {
+            links.push(link)?;
+        }
+    }
+    Ok(links)
+}
+
+/// The links with library names in the places, each with the file to which it leads.
+#[tactic(auto, unfolding(crate::specs::Search::followed))]
+pub fn follow(alloc: Global, tree: &Tree, dirs: &Dirs) -> Result<PlaceLinks, NoMemory>
+    ensures { IfOk result (λ links. links ≡ followed tree.now dirs.now.places) }
+{
+    let mut followed = Seq::new(alloc);
+    for place in dirs.places.as_slice() {
+        followed.push(FolderLinks {
+            folder: Text::copy_of(alloc, place.real.as_bytes())?,
+            links: followed_in(alloc, tree, place.real.as_bytes())?,
+        })?;
+    }
+    Ok(followed)
+}
+
+// ---- where they lead
+
+// Adds the files to which these links lead.
+fn add_files(alloc: Global, folder: &FolderLinks, paths: &mut Vec<Text>) -> Result<(), NoMemory>
+    ensures { OnOk result (paths.new.items ≡ paths.old.items ++ files_of folder.now) }
+{
+    for link in folder.links.as_slice() {
+        if let Some(file) = &link.file {
+            paths.push(Text::copy_of(alloc, file.as_bytes())?)?;
+        }
+    }
+    Ok(())
+}
+
+/// The files to which the links of the places lead: their paths without links, by their bytes, each once.
+#[tactic(auto, unfolding(crate::specs::Search::reached))]
+pub fn files_behind(alloc: Global, links: &PlaceLinks) -> Result<Texts, NoMemory>
+    ensures { (t : Nodes) (places : List Place) → links.now ≡ followed t places → IfOk result (λ paths. paths ≡ reached t places) }
+{
+    let mut paths = Vec::new(alloc);
+    for folder in links.as_slice() {
+        add_files(alloc, folder, &mut paths)?;
+    }
+    ascending(paths)
+}
+
+/// The files to which links with library names in the places lead: their paths without links, by their bytes, each once.
+pub fn reached(alloc: Global, tree: &Tree, dirs: &Dirs) -> Result<Texts, NoMemory>
+    ensures { IfOk result (λ paths. paths ≡ reached tree.now dirs.now.places) }
+{
+    let links = follow(alloc, tree, dirs)?;
+    files_behind(alloc, &links)
+}
+
+// The paths of the links of a folder that lead to no file.
+fn dangling_of(alloc: Global, folder: &FolderLinks) -> Result<Texts, NoMemory>
+    ensures { IfOk result (λ paths. paths ≡ dangling_of folder.now) }
+{
+    let mut paths = Seq::new(alloc);
+    for link in folder.links.as_slice() {
+        if link.file.is_none() {
+            paths.push(join(alloc, folder.folder.as_bytes(), link.name.as_bytes())?)?;
+        }
+    }
+    Ok(paths)
+}
+
+// They by their folders: places may share one.
+fn by_folder(alloc: Global, links: &PlaceLinks) -> Result<BTreeMap<Text, Texts>, NoMemory>
+    ensures { IfOk result (λ found. found.entries ≡ by_folder links.now) }
+{
+    let mut found = BTreeMap::new(alloc);
+    for folder in links.as_slice() {
+        let path = Text::copy_of(alloc, folder.folder.as_bytes())?;
+        found.insert(path, dangling_of(alloc, folder)?)?;
+    }
+    Ok(found)
+}
+
+// Adds these texts.
+fn append(all: &mut Texts, texts: Texts) -> Result<(), NoMemory>
+    ensures { OnOk result (all.new ≡ all.old ++ texts) }
+{
+    for text in texts.into_vec() {
+        all.push(text)?;
+    }
+    Ok(())
+}
+
+/// Those of the links with library names in the places that lead to no file: their paths without links, by the bytes of the place's
+/// path and then of the name, each once.
+pub fn dangling_among(alloc: Global, links: &PlaceLinks) -> Result<Texts, NoMemory>
+    ensures { (t : Nodes) (places : List Place) → links.now ≡ followed t places → IfOk result (λ paths. paths ≡ dangling t places) }
+{
+    let mut paths = Seq::new(alloc);
+    for found in by_folder(alloc, links)?.into_values() {
+        append(&mut paths, found)?;
+    }
+    Ok(paths)
+}
+
+/// The links with library names in the places that lead to no file, as of links that were followed.
+pub fn dangling(alloc: Global, tree: &Tree, dirs: &Dirs) -> Result<Texts, NoMemory>
+    ensures { IfOk result (λ paths. paths ≡ dangling tree.now dirs.now.places) }
+{
+    let links = follow(alloc, tree, dirs)?;
+    dangling_among(alloc, &links)
+}

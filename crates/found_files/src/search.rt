@@ -1,0 +1,60 @@
+//! The files of the searched places that are looked at.
+ghost use Rattle.std.specs.Option.{option_copied};
+ghost use Rattle.std.specs.Prelude.{◌≡◌, ◌++◌, IfOk, OnOk};
+ghost use Rattle.found_files.specs.Order.{ascending};
+ghost use Rattle.found_files.specs.Children.{file_of};
+ghost use Rattle.found_files.specs.Search.{files_in, wanted};
+
+use crate::order::ascending;
+use hwcap_dirs::{Dirs, Place};
+use lib_types::{NoMemory, Text, Texts};
+use name_order::is_library_name;
+use path_walk::join;
+use std::alloc::Global;
+use tree_face::{Node, Tree};
+
+/// The path of a child with this node, if it is a file with a library name.
+pub(crate) fn file_of(
+    alloc: Global,
+    folder: &[u8],
+    name: &[u8],
+    node: Option<&Node>,
+) -> Result<Option<Text>, NoMemory>
+    ensures { IfOk result (λ path. path ≡ file_of folder.now (name.now, option_copied node.entry)) }
+{
+    match node {
+        Some(Node::File { .. }) if is_library_name(name) => Ok(Some(join(alloc, folder, name)?)),
+        _ => Ok(None),
+    }
+}
+
+// Adds the files with library names in a place.
+#[tactic(auto, using(crate::proofs::Children::files_listed))]
+fn add_files(
+    alloc: Global,
+    tree: &Tree,
+    place: &Place,
+    paths: &mut Vec<Text>,
+) -> Result<(), NoMemory>
+    ensures { OnOk result (paths.new.items ≡ paths.old.items ++ files_in tree.now place.now) }
+{
+    let folder = place.real.as_bytes();
+    for (name, node) in tree.listing(folder) {
+        if let Some(path) = file_of(alloc, folder, name, node)? {
+            paths.push(path)?;
+        }
+    }
+    Ok(())
+}
+
+/// The files with library names in the places: their paths without links, by their bytes, each once.
+#[tactic(auto, unfolding(crate::specs::Search::wanted))]
+pub fn wanted(alloc: Global, tree: &Tree, dirs: &Dirs) -> Result<Texts, NoMemory>
+    ensures { IfOk result (λ paths. paths ≡ wanted tree.now dirs.now.places) }
+{
+    let mut paths = Vec::new(alloc);
+    for place in dirs.places.as_slice() {
+        add_files(alloc, tree, place, &mut paths)?;
+    }
+    ascending(paths)
+}

@@ -1,9 +1,0 @@
-use Rattle.std.proofs.Common.{◌≡◌, ◌++◌, drop}
-use Rattle.std.specs.List.{filter_map}
-use Rattle.place_files.specs.Folders.{dangling_of}
-use Rattle.place_files.specs.Search.{unless_file}
-use Rattle.place_files.proofs.links.dangling_of.Given as goal
-
--- the links that are left give the rest
-abbrev pub invariant-loop-link : goal.invariant-loop-link
-invariant-loop-link l = l.paths ++ filter_map (unless_file l.folder.folder) (drop l.link-index l.folder.links) ≡ dangling_of l.folder

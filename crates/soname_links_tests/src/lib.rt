@@ -1,0 +1,14 @@
+//! Tests of the calls for planned links, files, marks and entries, each once, over images in memory. What they give of other images
+//! are rows of `ldconfig_cli_image_tests`.
+#![tactic(auto)]
+
+#[cfg(test)]
+mod fault;
+#[cfg(test)]
+mod image;
+#[cfg(test)]
+mod searches;
+#[cfg(test)]
+mod shown;
+#[cfg(test)]
+mod want;

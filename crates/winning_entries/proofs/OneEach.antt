@@ -1,0 +1,57 @@
+-- Sorted names of which each gives at most one library, which has this soname, give at most one library of a soname.
+use Rattle.std.proofs.Common.{◌≡◌, ℕ, true, false, ◌||◌, List, [], ◌∷◌, refl, ap, sym, subst, ◌∙◌, Option, Some, None}
+use Rattle.std.proofs.lemmas.Map.Keys.{sorted_head, sorted_tail}
+use Rattle.std.proofs.lemmas.Slice.Eq.{bytes_eq-Decides}
+use Rattle.std.specs.Cmp.Lexicographic.{slice_cmp}
+use Rattle.std.specs.List.{cons_option, filter, filter_map}
+use Rattle.std.specs.Ordering.{nat_cmp}
+use Rattle.std.specs.Str.{bytes_eq}
+use Rattle.lib_types.proofs.SortedPairs.{by_test}
+use Rattle.found_files.proofs.Members.{AreSorted, is_in, none_below}
+use Rattle.found_files.specs.Best.{has_soname}
+use Rattle.found_files.specs.Library.{Library}
+
+pub turned : (x z : List ℕ) → bytes_eq z x ≡ bytes_eq x z
+turned x z = by_test (bytes_eq x z)
+    (λ e. let same : x ≡ z = (bytes_eq-Decides x z).0 e in (bytes_eq-Decides z x).1 (sym same) ∙ sym e)
+    (λ e. by_test (bytes_eq z x)
+    (λ f. let same : z ≡ x = (bytes_eq-Decides z x).0 f in let there : bytes_eq x z ≡ true = (bytes_eq-Decides x z).1 (sym same) in absurd (cc))
+    (λ f. f ∙ sym e))
+
+module _ (f : List ℕ → Option Library) (own : (name : List ℕ) (library : Library) → f name ≡ Some library → library.soname ≡ name) (soname : List ℕ) where
+  abbrev left : List (List ℕ) → List Library
+  left names = filter (has_soname soname) (filter_map f names)
+
+  pub none_left : (names : List (List ℕ)) → is_in names soname ≡ false → left names ≡ []
+  none_left [] h = refl
+  none_left (name ∷ names) h = by_test (bytes_eq soname name)
+      (λ e. let z : true ≡ false = sym (ap (λ b. b || is_in names soname) e) ∙ h in absurd (cc))
+      (λ e.
+      let others = none_left names (sym (ap (λ b. b || is_in names soname) e) ∙ h) in
+      elim (f name) as (λ o. f name ≡ o → filter (has_soname soname) (cons_option o (filter_map f names)) ≡ []) [
+        | None ↦ λ g. others
+        | Some library ↦ λ g.
+            let other : bytes_eq library.soname soname ≡ false = ap (λ q. bytes_eq q soname) (own name library g) ∙ sym (turned name soname) ∙ e in
+            rw other others
+      ] refl)
+
+  pub one_left : (names : List (List ℕ)) → AreSorted names → is_in names soname ≡ true → left names ≡ cons_option (f soname) []
+  one_left [] s h = absurd (cc)
+  one_left (name ∷ names) s h = by_test (bytes_eq soname name)
+      (λ e.
+      let same : soname ≡ name = (bytes_eq-Decides soname name).0 e in
+      let others = none_left names (subst (λ (q : List ℕ). is_in names q ≡ false) (sym same) (none_below name names (sorted_head (slice_cmp nat_cmp) name names s))) in
+      elim (f name) as (λ o. f name ≡ o → filter (has_soname soname) (cons_option o (filter_map f names)) ≡ cons_option (f soname) []) [
+        | None ↦ λ g. others ∙ sym (ap (λ o. cons_option o []) (ap f same ∙ g))
+        | Some library ↦ λ g.
+            let here : bytes_eq library.soname soname ≡ true = ap (λ q. bytes_eq q soname) (own name library g) ∙ sym (turned name soname) ∙ e in
+            rw here (ap (λ ls. library ∷ ls) others ∙ sym (ap (λ o. cons_option o []) (ap f same ∙ g)))
+      ] refl)
+      (λ e.
+      let others = one_left names (sorted_tail (slice_cmp nat_cmp) name names s) (sym (ap (λ b. b || is_in names soname) e) ∙ h) in
+      elim (f name) as (λ o. f name ≡ o → filter (has_soname soname) (cons_option o (filter_map f names)) ≡ cons_option (f soname) []) [
+        | None ↦ λ g. others
+        | Some library ↦ λ g.
+            let other : bytes_eq library.soname soname ≡ false = ap (λ q. bytes_eq q soname) (own name library g) ∙ sym (turned name soname) ∙ e in
+            rw other others
+      ] refl)

@@ -1,0 +1,329 @@
+//! The entries of a cache.
+ghost use Rattle.std.specs.Prelude.{◌≡◌, ◌≤◌, ◌+◌, ◌++◌, All, IfErr, IfOk, IsTrue, OnOk, length, map};
+ghost use Rattle.std.proofs.Common.{refl};
+ghost use Rattle.std.specs.Cmp.{eq_by_cmp_equiv, partial_equiv_from_equiv, partial_order_from_total};
+ghost use Rattle.std.specs.Ordering.{as_partial_cmp, eq_by_cmp};
+ghost use Rattle.cache_writer.specs.declared.writer.TheConstants.{ENTRIES_MAX};
+ghost use Rattle.hwcap_dirs.specs.Places.{are_spelled};
+ghost use Rattle.tree_face.specs.Paths.{join};
+ghost use Rattle.found_files.specs.Best.{bests_in, bests_of};
+ghost use Rattle.found_files.specs.Places.{links_to};
+ghost use Rattle.found_files.specs.Search.{folder_links, followed};
+ghost use Rattle.winning_entries.specs.Entries.{cap_of, entries_in, entry_of, entry_order, entry_order-total, found, is_by_soname, is_fit, AreEntriesOf, IsEntryFault, IsOnlyListOf};
+ghost use Rattle.winning_entries.specs.Led.{LeadAsSearched};
+ghost use Rattle.found_files.specs.Table.{analysis_at};
+ghost use Rattle.winning_entries.specs.Parts.{IsCountFault};
+
+use crate::fault::EntryFault;
+use crate::winner::winners_in;
+use cache_writer::ENTRIES_MAX;
+use found_files::{
+    BestLibrary, FolderLinks, Library, PlaceBests, PlaceLinks, Table, is_own, is_plain, links_to,
+};
+use hwcap_dirs::{Dirs, Place};
+use lib_types::{Entries, Entry, NoMemory, Seq, Text};
+use name_order::compare;
+use path_walk::{join, join_into};
+use std::alloc::Global;
+use std::cmp::Ordering;
+use std::marker::Model;
+use tree_face::Tree;
+
+// ---- the order of entries
+
+// The name of the subdirectory that an entry's library is in, or nothing.
+fn cap_of(entry: &Entry) -> &[u8]
+    ensures { result.now ≡ cap_of entry.now }
+{
+    match &entry.cap {
+        Some(cap) => cap.as_bytes(),
+        None => b"",
+    }
+}
+
+/// An entry with its order, which contracts see as the entry.
+#[derive(Drop)]
+struct Sortable {
+    entry: Entry,
+}
+
+impl Model for Sortable {
+    ghost use Rattle.lib_types.specs.declared.entry.Entry.{Entry};
+
+    ghost Value = { Entry };
+
+    ghost view = { λ r. r.entry };
+}
+
+impl PartialEq for Sortable {
+    ghost eq = { eq_by_cmp entry_order };
+
+    ghost laws = { partial_equiv_from_equiv (eq_by_cmp_equiv entry_order-total) };
+
+    fn eq(&self, other: &Self) -> bool {
+        self.cmp(other).is_eq()
+    }
+}
+
+impl Eq for Sortable {
+    ghost laws = { eq_by_cmp_equiv entry_order-total };
+}
+
+impl PartialOrd for Sortable {
+    ghost partial_cmp = { as_partial_cmp entry_order };
+
+    ghost laws = { partial_order_from_total entry_order-total };
+
+    fn partial_cmp(&self, other: &Self) -> Option<Ordering> {
+        Some(self.cmp(other))
+    }
+}
+
+impl Ord for Sortable {
+    ghost cmp = { entry_order };
+
+    ghost total = { entry_order-total };
+
+    ghost matches_partial_cmp = { λ a b. refl };
+
+    ghost matches_eq = { λ a b. refl };
+
+    fn cmp(&self, other: &Self) -> Ordering {
+        let (a, b) = (&self.entry, &other.entry);
+        compare(b.soname.as_bytes(), a.soname.as_bytes()).then_with(|| {
+            b.abi.flags().cmp(&a.abi.flags()).then(
+                a.cap
+                    .is_none()
+                    .cmp(&b.cap.is_none())
+                    .then(cap_of(a).cmp(cap_of(b)).then(a.place.cmp(&b.place))),
+            )
+        })
+    }
+}
+
+// ---- the entries of the places
+
+// Whether there is a link of the first name with the second as its text. The path is room for the link's.
+fn has_link(
+    tree: &Tree,
+    folder: &[u8],
+    name: &[u8],
+    text: &[u8],
+    path: &mut Vec<u8>,
+) -> Result<bool, NoMemory>
+    ensures { IfOk result (λ leads. leads ≡ links_to tree.now (join folder.now name.now) text.now) }
+{
+    join_into(path, folder, name)?;
+    Ok(links_to(tree, path, text))
+}
+
+// Whether the soname leads to the winner.
+fn is_by_soname(
+    tree: &Tree,
+    place: &Place,
+    winner: &Library<'_>,
+    path: &mut Vec<u8>,
+) -> Result<bool, NoMemory>
+    ensures { IfOk result (λ leads. leads ≡ is_by_soname tree.now place.now winner.now) }
+{
+    if !is_plain(place) {
+        return Ok(false);
+    }
+    if is_own(winner) {
+        return Ok(true);
+    }
+    let folder = place.real.as_bytes();
+    has_link(tree, folder, winner.soname, winner.name, path)
+}
+
+fn copy_of_cap(alloc: Global, cap: &Option<Text>) -> Result<Option<Text>, NoMemory>
+    ensures { IfOk result (λ copy. copy ≡ cap.now) }
+{
+    match cap {
+        Some(cap) => Ok(Some(Text::copy_of(alloc, cap.as_bytes())?)),
+        None => Ok(None),
+    }
+}
+
+// The entry of a winner. The path is room for that of a link.
+fn entry_of(
+    alloc: Global,
+    tree: &Tree,
+    number: u32,
+    place: &Place,
+    winner: &Library<'_>,
+    path: &mut Vec<u8>,
+) -> Result<Entry, NoMemory>
+    ensures { IfOk result (λ entry. entry ≡ entry_of tree.now number place.now winner.now) }
+{
+    let name = if is_by_soname(tree, place, winner, path)? {
+        winner.soname
+    } else {
+        winner.name
+    };
+    Ok(Entry {
+        soname: Text::copy_of(alloc, winner.soname)?,
+        abi: winner.abi,
+        cap: copy_of_cap(alloc, &place.cap)?,
+        path: join(alloc, place.spelled.as_bytes(), name)?,
+        place: number,
+    })
+}
+
+/// What is found: the entries, and how many they are. Past the limit they are counted and not kept.
+#[derive(Drop)]
+struct Counted {
+    entries: Vec<Sortable>,
+    count: usize,
+}
+
+// Adds the entries of a place's winners.
+fn add_entries(
+    alloc: Global,
+    tree: &Tree,
+    number: u32,
+    place: &Place,
+    winners: &[Library<'_>],
+    entries: &mut Vec<Sortable>,
+) -> Result<(), NoMemory>
+    ensures { OnOk result (entries.new.items ≡ entries.old.items ++ map (entry_of tree.now number place.now) winners.now) }
+{
+    let mut path = Vec::new(alloc);
+    entries.reserve(winners.len())?;
+    for winner in winners {
+        let entry = entry_of(alloc, tree, number, place, winner, &mut path)?;
+        entries.push(Sortable { entry })?;
+    }
+    Ok(())
+}
+
+// Adds the entries of a place.
+fn add_place(
+    alloc: Global,
+    tree: &Tree,
+    table: &Table,
+    number: u32,
+    place: &Place,
+    files: &[BestLibrary],
+    links: &FolderLinks,
+    found: &mut Counted,
+) -> Result<(), NoMemory>
+    requires files { files.now ≡ bests_in (analysis_at table.now) tree.now place.now }
+    requires links { links.now ≡ folder_links tree.now place.now }
+    ensures count { OnOk result (found.new.count ≡ found.old.count + length (entries_in (analysis_at table.now) tree.now number place.now)) }
+    ensures kept { OnOk result (found.new.count ≤ ENTRIES_MAX
+        → found.new.entries.items ≡ found.old.entries.items ++ entries_in (analysis_at table.now) tree.now number place.now) }
+{
+    let winners = winners_in(alloc, table, files, links)?;
+    found.count = found.count.checked_add(winners.len()).ok_or(NoMemory)?;
+    if found.count <= ENTRIES_MAX {
+        add_entries(
+            alloc,
+            tree,
+            number,
+            place,
+            winners.as_slice(),
+            &mut found.entries,
+        )?;
+    }
+    Ok(())
+}
+
+// All entries, place by place.
+#[tactic(auto, unfolding(crate::specs::Entries::found, found_files::specs::Best::bests_of, found_files::specs::Search::followed))]
+fn found(
+    alloc: Global,
+    tree: &Tree,
+    dirs: &Dirs,
+    table: &Table,
+    bests: &PlaceBests,
+    links: &PlaceLinks,
+) -> Result<Counted, NoMemory>
+    requires bests { bests.now ≡ bests_of (analysis_at table.now) tree.now dirs.now.places }
+    requires links { links.now ≡ followed tree.now dirs.now.places }
+    ensures count { IfOk result (λ kept. kept.count ≡ length (found (analysis_at table.now) tree.now dirs.now.places)) }
+    ensures kept { IfOk result (λ kept. kept.count ≤ ENTRIES_MAX → kept.entries.items ≡ found (analysis_at table.now) tree.now dirs.now.places) }
+{
+    let mut found = Counted {
+        entries: Vec::new(alloc),
+        count: 0,
+    };
+    let mut number: u32 = 0;
+    let there = bests.as_slice().iter().zip(links.as_slice());
+    for (place, (bests, links)) in dirs.places.as_slice().iter().zip(there) {
+        add_place(
+            alloc,
+            tree,
+            table,
+            number,
+            place,
+            bests.as_slice(),
+            links,
+            &mut found,
+        )?;
+        number = number.checked_add(1).ok_or(NoMemory)?;
+    }
+    Ok(found)
+}
+
+// ---- their list
+
+fn listed(alloc: Global, sorted: Vec<Sortable>) -> Result<Entries, NoMemory>
+    ensures { IfOk result (λ entries. entries ≡ sorted.items) }
+{
+    let mut entries = Vec::with_capacity(alloc, sorted.len())?;
+    for Sortable { entry } in sorted {
+        entries.push(entry)?;
+    }
+    Ok(Seq::from_vec(entries))
+}
+
+// These entries in their order.
+fn sorted(alloc: Global, found: Vec<Sortable>) -> Result<Entries, NoMemory>
+    ensures { IfOk result (AreEntriesOf found.items) }
+{
+    let mut entries = found;
+    entries.sort()?;
+    listed(alloc, entries)
+}
+
+// The entries that were found in their order, unless they are too many.
+fn in_order(alloc: Global, found: Counted) -> Result<Entries, EntryFault>
+    ensures entries { IfOk result (AreEntriesOf found.entries.items) }
+    ensures few { IfOk result (λ _. found.count ≤ ENTRIES_MAX) }
+    ensures fault { IfErr result (IsCountFault found.count) }
+{
+    if found.count > ENTRIES_MAX {
+        return Err(EntryFault::TooMany {
+            count: found.count as u64,
+        });
+    }
+    let entries = sorted(alloc, found.entries)?;
+    Ok(entries)
+}
+
+/// The entries of a cache, one for each place and soname with a winner, given the best libraries and the links of the places. The
+/// tree is one that has all planned links.
+pub fn entries_by(
+    alloc: Global,
+    tree: &Tree,
+    dirs: &Dirs,
+    table: &Table,
+    bests: &PlaceBests,
+    links: &PlaceLinks,
+) -> Result<Entries, EntryFault>
+    requires bests { bests.now ≡ bests_of (analysis_at table.now) tree.now dirs.now.places }
+    requires links { links.now ≡ followed tree.now dirs.now.places }
+    ensures entries { IfOk result (AreEntriesOf (found (analysis_at table.now) tree.now dirs.now.places)) }
+    ensures single { IfOk result (IsOnlyListOf (found (analysis_at table.now) tree.now dirs.now.places)) }
+    ensures fit { IfOk result (λ entries. IsTrue (are_spelled dirs.now.places) → All (λ entry. IsTrue (is_fit entry)) entries) }
+    ensures led { IfOk result (LeadAsSearched (analysis_at table.now) tree.now dirs.now.places) }
+    ensures few { IfOk result (λ _. length (found (analysis_at table.now) tree.now dirs.now.places) ≤ ENTRIES_MAX) }
+    ensures fault { IfErr result (IsEntryFault (found (analysis_at table.now) tree.now dirs.now.places)) }
+{
+    tree.know();
+    table.know();
+    let found = found(alloc, tree, dirs, table, bests, links)?;
+    let entries = in_order(alloc, found)?;
+    Ok(entries)
+}
