@@ -1,11 +1,13 @@
 -- One call of a replacement.
-use Rattle.std.specs.Prelude.{◌≡◌, ℕ, true, List, Result, Ok, Err, OnOk}
+use Rattle.std.specs.Prelude.{◌≡◌, ℕ, true, List, Some, IfSome, Result, Ok, Err, OnOk}
 use Rattle.lib_types.specs.declared.fault.Failed.{Failed}
 use Rattle.tree_face.specs.declared.disk.Call.{Call}
 use Rattle.tree_face.specs.declared.disk.Call.TheVariants.{Create, Append, Sync, Publish, Settle}
 use Rattle.tree_face.specs.declared.disk.Slot.{Slot}
 use Rattle.tree_face.specs.declared.disk.Tag.{Tag}
 use Rattle.tree_face.specs.Disk.{Appends, Creates, DiskContent, DiskState, Does, Keeps, KeepsMade, KeepsOthersMade, MayPublish, Publishes, Touches}
+use Rattle.atomic_replace.specs.declared.fault.DiskFault.{DiskFault}
+use Rattle.atomic_replace.specs.Order.{needs_file, next_of}
 use Rattle.atomic_replace.specs.Replace.{Write, call_by}
 
 -- what a call does to the contents if it returns Ok
@@ -47,3 +49,15 @@ pub record Replacement : Type 0 where
   pub tag : Tag
   pub write : Write
   pub left : List Call
+
+-- where the next call needs one, the temporary file was created and not published since
+abbrev pub HasFile : Replacement → DiskState → Type 0
+HasFile r s = IfSome (next_of r.left) (λ call. needs_file call ≡ true → s.made r.tag.0 r.write.0 ≡ true)
+
+-- the next call, if there is one, is made
+abbrev pub MakesNext : {A E : Type 0} → Replacement → DiskState → DiskState → Result A E → Type 0
+MakesNext r old new result = IfSome (next_of r.left) (λ call. Makes r.tag r.write call old new result)
+
+-- a fault names the next call, and the slot
+abbrev pub NamesNext : Replacement → DiskFault → Type 0
+NamesNext r fault = (next_of r.left ≡ Some fault.call) × (fault.slot ≡ r.write.0)

@@ -1,9 +1,9 @@
 //! The calls of a replacement, made on a disk.
-ghost use Rattle.std.specs.Prelude.{◌≡◌, ◌≤◌, ◌↔◌, true, false, [], drop, Ok, OnOk, IfErr, Some, IfSome, if◌then◌else◌};
+ghost use Rattle.std.specs.Prelude.{◌≡◌, ◌≤◌, ◌↔◌, true, false, [], drop, Ok, OnOk, IfErr, if◌then◌else◌};
 ghost use Rattle.std.specs.Result.{is_ok};
 ghost use Rattle.atomic_replace.specs.Order.{all_calls, needs_file, next_of};
 ghost use Rattle.atomic_replace.specs.Replace.{FailsToWrite, WritesSlot};
-ghost use Rattle.atomic_replace.specs.Step.{Makes};
+ghost use Rattle.atomic_replace.specs.Step.{HasFile, Makes, MakesNext, NamesNext};
 ghost use Rattle.tree_face.specs.Disk.{KeepsOthersMade};
 
 use crate::fault::DiskFault;
@@ -65,11 +65,11 @@ impl<'a> Updater<'a> {
 
     /// Makes the next call. False, and no call, if none is left.
     pub fn step<D: Disk>(&mut self, disk: &mut D) -> Result<bool, DiskFault>
-        requires { IfSome (next_of self.old.left) (λ call. needs_file call ≡ true → (D.state disk.old).made self.old.tag.0 self.old.write.0 ≡ true) }
+        requires { HasFile self.old (D.state disk.old) }
         ensures ends { (result ≡ Ok false) ↔ (self.old.left ≡ []) }
         ensures none { self.old.left ≡ [] → disk.new ≡ disk.old }
-        ensures makes { IfSome (next_of self.old.left) (λ call. Makes self.old.tag self.old.write call (D.state disk.old) (D.state disk.new) result) }
-        ensures fault { IfErr result (λ fault. (next_of self.old.left ≡ Some fault.call) × (fault.slot ≡ self.old.write.0)) }
+        ensures makes { MakesNext self.old (D.state disk.old) (D.state disk.new) result }
+        ensures fault { IfErr result (NamesNext self.old) }
         ensures left { self.new ≡ record self.old { left = if is_ok result then drop 1 self.old.left else [] } }
     {
         let Some(call) = self.progress.next() else {
