@@ -1,15 +1,13 @@
-//! Writing to the standard streams, which never ends the program by a signal.
+//! Writing to the standard streams, which doesn't end the program by the signal of a file that is too long.
 ghost use Rattle.std.specs.Prelude.{◌≤◌, IfOk, length};
 
 use crate::file_limit::{file_limit, has_room, too_long};
 use crate::kinds::is_for_now;
 use std::fs;
 use std::io::{self, Error, ErrorKind, Write};
-use std::os::fd::{AsFd, BorrowedFd};
-use std::process::ChildStdin;
 
-/// The standard output and the error output. A call fails if nobody reads a stream any more (BrokenPipe), and if a file would
-/// become longer than this program may make one (FileTooLarge): neither raises a signal.
+/// The standard output and the error output. A call fails if a file would become longer than this program may make one
+/// (FileTooLarge), which raises no signal. One that nobody reads any more is BrokenPipe where SIGPIPE is ignored.
 pub trait Streams {
     /// Writes some of the bytes to the standard output, and returns how many.
     fn write_output(&self, bytes: &[u8]) -> io::Result<usize>
@@ -23,21 +21,13 @@ pub trait Streams {
 impl Streams for HostRuntime {
     fn write_output(&self, bytes: &[u8]) -> io::Result<usize> {
         require_room(self, "/proc/self/fd/1", bytes)?;
-        write_to(self.stdout().as_fd(), bytes)
+        self.stdout().write(bytes)
     }
 
     fn write_error(&self, bytes: &[u8]) -> io::Result<usize> {
         require_room(self, "/proc/self/fd/2", bytes)?;
-        write_to(self.stderr().as_fd(), bytes)
+        self.stderr().write(bytes)
     }
-}
-
-// The library holds SIGPIPE back in the writing to a child's input alone, which any stream can be taken for.
-fn write_to(stream: BorrowedFd<'_>, bytes: &[u8]) -> io::Result<usize>
-    ensures { IfOk result (λ n. n ≤ length bytes.now) }
-{
-    let mut stream = ChildStdin::from(stream.try_clone_to_owned()?);
-    stream.write(bytes)
 }
 
 // A stream that is a file has no room past the limit of files.
