@@ -1,22 +1,11 @@
--- Numbers behind a number of bytes, and numbers that are read where they were laid out.
-use Rattle.std.proofs.Common.{◌≡◌, ℕ, zero, suc, ◌+◌, ◌<◌, ◌^◌, List, [], ◌∷◌, ◌++◌, length, drop, take, fold, sum, slice_index, refl, sym, ap, ◌∙◌, append_assoc, arith, get_or-drop}
+-- Numbers that are read where they were laid out.
+use Rattle.std.proofs.Common.{◌≡◌, ℕ, zero, suc, ◌+◌, ◌<◌, ◌^◌, List, [], ◌∷◌, ◌++◌, length, drop, take, fold, sum, slice_index, sym, ap, ◌∙◌, append_assoc, arith}
 use Rattle.std.proofs.lemmas.List.{drop_at}
 use Rattle.byteorder.specs.Endian.{little_bytes}
 use Rattle.byteorder.specs.Numbers.{little_number-reads_back, length-bytes_low_first}
 use Rattle.cache_layout.specs.Layout.{laid_out, number}
+use Rattle.lib_types.proofs.Fields.{drop_from}
 use Rattle.lib_types.specs.Bytes.{field}
-
-drop_from : (i n at : ℕ) (xs : List ℕ) → field (drop at xs) i n ≡ field xs (at + i) n
-drop_from i zero at xs = refl
-drop_from i (suc n) at xs =
-    let e : at + suc i ≡ suc (at + i) = omega arith in
-    rw (get_or-drop at xs i 0, drop_from (suc i) n at xs, e) refl
-
--- the number behind `at` bytes
-pub field_drop : (n at : ℕ) (xs : List ℕ) → field (drop at xs) 0 n ≡ field xs at n
-field_drop n at xs = drop_from 0 n at xs ∙ ap (λ k. field xs k n) (omega arith)
-
--- ---- numbers that are read where they were laid out
 
 -- each number fits its field
 abbrev pub Fit : List ℕ → List ℕ → Type 0

@@ -37,7 +37,7 @@ pub const GENERATOR_TAG: u32 = 0;
 pub const NAMES_TAG: u32 = 1;
 
 /// The number of 4 bytes at an offset.
-#[tactic(auto, using(crate::proofs::Fields::field_drop))]
+#[tactic(auto, using(lib_types::proofs::Fields::field_drop))]
 pub fn u32_at(bytes: &[u8], at: usize) -> u32
     requires { at + 4 ≤ length bytes.now }
     ensures { result ≡ field bytes.now at 4 }
@@ -46,7 +46,7 @@ pub fn u32_at(bytes: &[u8], at: usize) -> u32
 }
 
 /// The number of 8 bytes at an offset.
-#[tactic(auto, using(crate::proofs::Fields::field_drop))]
+#[tactic(auto, using(lib_types::proofs::Fields::field_drop))]
 pub fn u64_at(bytes: &[u8], at: usize) -> u64
     requires { at + 8 ≤ length bytes.now }
     ensures { result ≡ field bytes.now at 8 }

@@ -8,7 +8,8 @@ use Rattle.byteorder.specs.Numbers.{little_number-reads_back}
 use Rattle.lib_types.specs.Bytes.{field}
 use Rattle.lib_types.specs.declared.entry.Entry.{Entry}
 use Rattle.cache_layout.specs.Layout.{laid_out, number, directory_fields, section_fields, extension_magic, generator_tag, names_tag}
-use Rattle.cache_layout.proofs.Fields.{Fit, reads_back, field_drop}
+use Rattle.cache_layout.proofs.Fields.{Fit, reads_back}
+use Rattle.lib_types.proofs.Fields.{field_drop}
 use Rattle.string_pool.specs.Strings.{Strings, place_of}
 use Rattle.cache_reader.specs.Cache as read
 use Rattle.cache_reader.specs.declared.extension.Section.{Section}

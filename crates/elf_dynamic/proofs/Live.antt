@@ -4,7 +4,7 @@ use Rattle.std.proofs.lemmas.List.{drop-take, drop-drop}
 use Rattle.std.specs.List.{range_with_len, take_while, prefix_len}
 use Rattle.elf_headers.specs.declared.kinds.Segment.{Segment}
 use Rattle.elf_headers.specs.Layout.{word_size}
-use Rattle.elf_headers.proofs.Fields.{field_window}
+use Rattle.lib_types.proofs.Fields.{field_window}
 use Rattle.elf_dynamic.specs.declared.kinds.DynamicEntry.{DynamicEntry}
 use Rattle.elf_dynamic.specs.Section.{entry_at, dynamic_entries}
 use Rattle.tree_face.specs.Known.{IfKnown}

@@ -1,4 +1,3 @@
-pub mod Fields
 pub mod Heads
 pub mod Windows
 pub mod Endings

@@ -7,7 +7,7 @@ use Rattle.tree_face.specs.Known.{IfKnown}
 use Rattle.tree_face.specs.Store.{Contents, StoreState, HasBegun, Begins, Reads}
 use Rattle.elf_headers.specs.declared.kinds.Head.{Head}
 use Rattle.elf_headers.specs.Layout.{is_wide, at_class, word_size, phoff, program_header_length, segment_at, segment}
-use Rattle.elf_headers.proofs.Fields.{field_window}
+use Rattle.lib_types.proofs.Fields.{field_window}
 use Rattle.elf_headers.specs.Header.{head, head_of}
 use Rattle.elf_headers.specs.Reading.{known_content, OfContent, IsHeadOf}
 use Rattle.elf_headers.proofs.Heads.{front, gives}

@@ -68,7 +68,7 @@ macro_rules! field {
 
 impl<const W: usize> Class<W> {
     /// The number at an offset that has the size of an address.
-    #[tactic(auto, using(crate::proofs::Fields::field_drop))]
+    #[tactic(auto, using(lib_types::proofs::Fields::field_drop))]
     pub fn word(bytes: &[u8], at: usize) -> u64
         requires class { (W ≡ 4) ⊎ (W ≡ 8) }
         requires within { at + W ≤ length bytes.now }

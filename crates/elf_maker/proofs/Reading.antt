@@ -7,7 +7,7 @@ use Rattle.byteorder.specs.Endian.{little_bytes}
 use Rattle.byteorder.specs.Numbers.{little_number-reads_back, length-bytes_low_first}
 use Rattle.lib_types.specs.Bytes.{field}
 use Rattle.elf_headers.specs.Layout.{at_class, segment_at}
-use Rattle.elf_headers.proofs.Fields.{field_drop}
+use Rattle.lib_types.proofs.Fields.{field_drop}
 use Rattle.elf_dynamic.specs.declared.kinds.DynamicEntry.{DynamicEntry}
 use Rattle.elf_dynamic.specs.Section.{entry_at}
 use Rattle.elf_maker.specs.Fields.{Field, bytes_of}

@@ -1,4 +1,5 @@
 pub mod Bools
+pub mod Fields
 pub mod FirstByte
 pub mod Parting
 pub mod Plain
