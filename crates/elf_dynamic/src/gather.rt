@@ -6,7 +6,8 @@ ghost use Rattle.elf_dynamic.specs.declared.kinds.DynamicEntry.{DynamicEntry};
 ghost use Rattle.elf_dynamic.specs.Faults.{IfBad, IsBadString, object_ending};
 ghost use Rattle.elf_dynamic.specs.Kept.{keeps, kept, kept_of};
 ghost use Rattle.elf_dynamic.specs.Section.{dynamic_entries};
-ghost use Rattle.elf_dynamic.specs.Texts.{bytes_of, counts, with_text, no_texts, add_one, gathered, counted};
+ghost use Rattle.elf_dynamic.specs.Taken.{most_gathered};
+ghost use Rattle.elf_dynamic.specs.Texts.{bytes_of, counts, with_text, no_texts, add_one, gathered};
 ghost use Rattle.elf_dynamic.specs.Values.{texts_in};
 ghost use Rattle.elf_dynamic.specs.Windows.{IsWindowOf};
 
@@ -154,7 +155,7 @@ pub fn gather<S: Store>(
     ensures begun_head { IsHeadOf (S.state store.new) head.now }
     ensures reads { OnlyReads (object_ending result) (S.state store.old) (S.state store.new) }
     ensures taken { OfKnown (S.state store.old) (λ bytes. TakesAtMost
-        (2 * dynamic.filesz + 65536 * counted (bytes_of table bytes) (no_texts nodeflib) (dynamic_entries (word_size head.now.wide) bytes dynamic)) (S.state store.old) (S.state store.new)) }
+        (most_gathered (bytes_of table bytes) nodeflib (word_size head.now.wide) bytes dynamic) (S.state store.old) (S.state store.new)) }
 {
     let mut found = no_texts(alloc, nodeflib);
     let mut entries = Entries::new(head.wide, dynamic);
