@@ -1,6 +1,7 @@
 pub mod Above
 pub mod Below
 pub mod Clear
+pub mod Disks
 pub mod Follows
 pub mod Index
 pub mod Kept
@@ -10,6 +11,7 @@ pub mod Listed
 pub mod Names
 pub mod Order
 pub mod Pairs
+pub mod Past
 pub mod Rising
 pub mod Runs
 pub mod StoreUse

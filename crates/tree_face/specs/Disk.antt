@@ -1,6 +1,7 @@
 -- A disk of three slots. A slot is replaced by way of a temporary file: only its publishing makes it the slot's content (rename(2)).
 use Rattle.std.specs.Prelude.{◌≡◌, ◌⊎◌, ◌≤◌, ◌++◌, ◌==◌, ◌&&◌, ℕ, Bool, true, false, List, [], ◌∷◌, Option, Some, None, is_some, IsErrOf, Result, IfOk, OnOk, OnErr, Vec}
-use Rattle.std.specs.Option.{option_map}
+use Rattle.std.specs.Option.{option_map, option_eq}
+use Rattle.std.specs.Str.{bytes_eq}
 use Rattle.std.specs.declared.alloc.Global.{Global}
 use Rattle.lib_types.specs.declared.fault.Failed.{Failed}
 use Rattle.lib_types.specs.Counts.{HasRisen}
@@ -14,6 +15,9 @@ use Rattle.tree_face.specs.Known.{IfKnown, Relates}
 
 abbrev pub Content : Type 0
 Content = Option (List ℕ)
+
+abbrev pub content_eq : Content → Content → Bool
+content_eq = option_eq bytes_eq
 
 -- what a reading of each slot gives
 pub record Slots : Type 0 where
@@ -44,12 +48,20 @@ Temporaries = ℕ → Slot → Content
 pub record DiskContent : Type 0 where
   pub now : Slots
   pub temporary : Temporaries
+  -- whether a temporary file was flushed since its last append
+  pub synced : ℕ → Slot → Bool
 
 pub record DiskState : Type 0 where
   -- the contents, if known
   pub contents : Option DiskContent
   -- whether the temporary file of a tag and slot was created and not published since
   pub made : ℕ → Slot → Bool
+  -- the clock
+  pub time : ℕ
+  -- whether a crash now may leave this content in a slot
+  pub may : Slot → Content → Bool
+  -- whether a crash at some moment from this one on might have left it
+  pub since : ℕ → Slot → Content → Bool
   -- the writing calls in their order, if known; one that failed may be missing
   pub calls : Option (List DoneCall)
   -- the slots that were read in their order, if known; a reading that failed may be missing
@@ -65,39 +77,59 @@ IsMadeIfThere s = IfKnown s.contents (λ c. (t : ℕ) (slot : Slot) → s.made t
 -- ---- changes of the contents
 
 -- no temporary file but this one is touched
-abbrev pub KeepsOthers : ℕ → Slot → Temporaries → Temporaries → Type 0
-KeepsOthers tag slot a b = (t : ℕ) (s : Slot) → (t == tag) && slot_eq s slot ≡ false → b t s ≡ a t s
+pub record KeepsOthers (tag : ℕ) (slot : Slot) (a b : DiskContent) : Type 0 where
+  pub bytes : (t : ℕ) (s : Slot) → (t == tag) && slot_eq s slot ≡ false → b.temporary t s ≡ a.temporary t s
+  pub flushed : (t : ℕ) (s : Slot) → (t == tag) && slot_eq s slot ≡ false → b.synced t s ≡ a.synced t s
 
 -- the slots stay, and only this temporary file may change
 pub record Touches (tag : ℕ) (slot : Slot) (a b : DiskContent) : Type 0 where
   pub slots : b.now ≡ a.now
-  pub others : KeepsOthers tag slot a.temporary b.temporary
+  pub others : KeepsOthers tag slot a b
+
+-- the temporary file isn't flushed, or it was so before and has the same bytes
+abbrev pub FlushesNothing : ℕ → Slot → DiskContent → DiskContent → Type 0
+FlushesNothing tag slot a b = b.synced tag slot ≡ true → (a.synced tag slot ≡ true) × (b.temporary tag slot ≡ a.temporary tag slot)
+
+-- a call on a temporary file that failed: the file may have any bytes
+pub record Spoils (tag : ℕ) (slot : Slot) (a b : DiskContent) : Type 0 where
+  pub touches : Touches tag slot a b
+  pub unflushed : FlushesNothing tag slot a b
 
 -- the temporary file is empty
 pub record Creates (tag : ℕ) (slot : Slot) (a b : DiskContent) : Type 0 where
   pub touches : Touches tag slot a b
   pub empty : b.temporary tag slot ≡ Some []
+  pub unflushed : b.synced tag slot ≡ false
 
 -- the temporary file has these bytes more
 pub record Appends (tag : ℕ) (slot : Slot) (bytes : List ℕ) (a b : DiskContent) : Type 0 where
   pub touches : Touches tag slot a b
   pub more : b.temporary tag slot ≡ option_map (λ c. c ++ bytes) (a.temporary tag slot)
+  pub unflushed : b.synced tag slot ≡ false
 
 -- the slots and all temporary files stay
 pub record Keeps (a b : DiskContent) : Type 0 where
   pub slots : b.now ≡ a.now
   pub temporary : (t : ℕ) (s : Slot) → b.temporary t s ≡ a.temporary t s
+  pub flushed : (t : ℕ) (s : Slot) → b.synced t s ≡ a.synced t s
+
+-- the temporary file is flushed, with the bytes that it has
+pub record Syncs (tag : ℕ) (slot : Slot) (a b : DiskContent) : Type 0 where
+  pub touches : Touches tag slot a b
+  pub same : b.temporary tag slot ≡ a.temporary tag slot
+  pub flushed : b.synced tag slot ≡ true
 
 -- the temporary file becomes the slot's content, and ends
 pub record Publishes (tag : ℕ) (slot : Slot) (a b : DiskContent) : Type 0 where
   pub slots : b.now ≡ with_slot a.now slot (a.temporary tag slot)
   pub ended : b.temporary tag slot ≡ None
-  pub others : KeepsOthers tag slot a.temporary b.temporary
+  pub others : KeepsOthers tag slot a b
 
 -- a publishing that failed: the slot has the old content or the new one
 pub record MayPublish (tag : ℕ) (slot : Slot) (a b : DiskContent) : Type 0 where
   pub slots : (b.now ≡ a.now) ⊎ (b.now ≡ with_slot a.now slot (a.temporary tag slot))
-  pub others : KeepsOthers tag slot a.temporary b.temporary
+  pub others : KeepsOthers tag slot a b
+  pub unflushed : FlushesNothing tag slot a b
 
 -- ---- the calls
 
@@ -121,11 +153,14 @@ KeepsMade old new = (t : ℕ) (s : Slot) → new.made t s ≡ old.made t s
 abbrev pub KeepsOthersMade : ℕ → Slot → DiskState → DiskState → Type 0
 KeepsOthersMade tag slot old new = (t : ℕ) (s : Slot) → (t == tag) && slot_eq s slot ≡ false → new.made t s ≡ old.made t s
 
--- nothing is written: the contents, the calls and the temporary files that were made stay
+-- nothing is written: the contents, the calls, the temporary files that were made, and what a crash leaves stay
 pub record KeepsAll (old new : DiskState) : Type 0 where
   pub contents : new.contents ≡ old.contents
   pub made : KeepsMade old new
   pub calls : new.calls ≡ old.calls
+  pub time : new.time ≡ old.time
+  pub may : new.may ≡ old.may
+  pub since : new.since ≡ old.since
 
 -- a reading of a slot
 pub record ReadsSlot (old new : DiskState) (slot : Slot) (result : Result (Option (Vec ℕ Global)) DiskRead) : Type 0 where

@@ -1,4 +1,5 @@
 pub mod Calls
+pub mod Crash
 pub mod Disk
 pub mod DiskUse
 pub mod Failures
@@ -8,13 +9,15 @@ pub mod Known
 pub mod MemStore
 pub mod Memory
 pub mod Node
+pub mod Past
+pub mod PastLaws
 pub mod Paths
 pub mod Runs
-pub mod SlotFile
 pub mod Store
 pub mod StoreUse
 pub mod Stream
 pub mod SureDisk
 pub mod SureStore
 pub mod SureStream
+pub mod Temporaries
 pub mod Tree

@@ -5,20 +5,26 @@ use Rattle.tree_face.specs.declared.disk.Slot.{Slot}
 use Rattle.tree_face.specs.declared.disk.Slot.TheVariants.{Manifest, Cache, Aux}
 use Rattle.tree_face.specs.declared.memory.disks.MemDisk.{MemDisk}
 use Rattle.tree_face.specs.declared.memory.disks.SureDisk.{SureDisk}
-use Rattle.tree_face.specs.declared.memory.slot_file.SlotFile.{SlotFile}
-use Rattle.tree_face.specs.Disk.{DiskState, DiskContent}
+use Rattle.tree_face.specs.declared.memory.temporaries.Temporaries.{Temporaries}
+use Rattle.tree_face.specs.Disk.{Content, DiskState, DiskContent}
 use Rattle.tree_face.specs.Failures.{Plan, plan_of}
-use Rattle.tree_face.specs.SlotFile.{content_in, temporary_in}
+use Rattle.tree_face.specs.Past.{clock_of, holding_in, may_leave, might_leave}
+use Rattle.tree_face.specs.Temporaries.{synced_in, temporary_in}
 
-abbrev pub file_of : SureDisk → Slot → SlotFile
-file_of d Manifest = d.manifest
-file_of d Cache = d.cache
-file_of d Aux = d.aux
+abbrev pub files_of : SureDisk → Slot → Temporaries
+files_of d Manifest = d.manifest
+files_of d Cache = d.cache
+files_of d Aux = d.aux
+
+-- what a slot holds
+abbrev pub now_in : SureDisk → Slot → Content
+now_in d slot = (holding_in d.past slot).now
 
 abbrev pub disk_content : SureDisk → DiskContent
 disk_content d = record {
-  now = record { manifest = content_in d.manifest; cache = content_in d.cache; aux = content_in d.aux };
-  temporary = λ tag slot. temporary_in (file_of d slot) tag;
+  now = record { manifest = now_in d Manifest; cache = now_in d Cache; aux = now_in d Aux };
+  temporary = λ tag slot. temporary_in (files_of d slot) tag;
+  synced = λ tag slot. synced_in (files_of d slot) tag;
 }
 
 -- the writing calls that were made
@@ -32,7 +38,10 @@ reads_of d = d.reads.items
 abbrev pub disk_state : SureDisk → DiskState
 disk_state d = record {
   contents = Some (disk_content d);
-  made = λ tag slot. is_some (temporary_in (file_of d slot) tag);
+  made = λ tag slot. is_some (temporary_in (files_of d slot) tag);
+  time = clock_of d.past;
+  may = may_leave d.past;
+  since = might_leave d.past;
   calls = Some (calls_of d);
   reads = Some (reads_of d);
   faults = d.faults;

@@ -1,7 +1,8 @@
 //! The three files that the product keeps, and how they are replaced.
 ghost use Rattle.std.specs.Prelude.{◌≡◌, true, OnOk};
 ghost use Rattle.tree_face.specs.Calls.{made_call, settling};
-ghost use Rattle.tree_face.specs.Disk.{DiskState, Creates, Appends, Keeps, Touches, Publishes, MayPublish, Does, IsMadeIfThere, KeepsMade, KeepsOthersMade, ReadsSlot};
+ghost use Rattle.tree_face.specs.Crash.{AddsPublished, HasMoments, KeepsSlots, Settles};
+ghost use Rattle.tree_face.specs.Disk.{DiskState, Creates, Appends, Keeps, Spoils, Syncs, Publishes, MayPublish, Does, IsMadeIfThere, KeepsMade, KeepsOthersMade, ReadsSlot};
 
 use lib_types::Failed;
 use std::alloc::Global;
@@ -57,34 +58,42 @@ pub trait Disk {
 
     /// Makes the temporary file of this tag and slot empty.
     fn create(&mut self, tag: Tag, slot: Slot) -> Result<(), Failed>
-        ensures does { Does (made_call tag slot Call.Create) (Creates tag.0 slot) (Touches tag.0 slot) (state self.old) (state self.new) result }
+        ensures does { Does (made_call tag slot Call.Create) (Creates tag.0 slot) (Spoils tag.0 slot) (state self.old) (state self.new) result }
         ensures made { OnOk result ((state self.new).made tag.0 slot ≡ true) }
-        ensures others { KeepsOthersMade tag.0 slot (state self.old) (state self.new) };
+        ensures others { KeepsOthersMade tag.0 slot (state self.old) (state self.new) }
+        ensures crash { KeepsSlots (state self.old) (state self.new) };
 
     /// Adds bytes to the temporary file. After an error it has any bytes.
     fn append(&mut self, tag: Tag, slot: Slot, bytes: &[u8]) -> Result<(), Failed>
         requires { (state self.old).made tag.0 slot ≡ true }
-        ensures does { Does (made_call tag slot Call.Append) (Appends tag.0 slot bytes.now) (Touches tag.0 slot) (state self.old) (state self.new) result }
-        ensures made { KeepsMade (state self.old) (state self.new) };
+        ensures does { Does (made_call tag slot Call.Append) (Appends tag.0 slot bytes.now) (Spoils tag.0 slot) (state self.old) (state self.new) result }
+        ensures made { KeepsMade (state self.old) (state self.new) }
+        ensures crash { KeepsSlots (state self.old) (state self.new) };
 
     /// Flushes the temporary file's bytes to stable storage.
     fn sync(&mut self, tag: Tag, slot: Slot) -> Result<(), Failed>
         requires { (state self.old).made tag.0 slot ≡ true }
-        ensures does { Does (made_call tag slot Call.Sync) Keeps (Touches tag.0 slot) (state self.old) (state self.new) result }
-        ensures made { KeepsMade (state self.old) (state self.new) };
+        ensures does { Does (made_call tag slot Call.Sync) (Syncs tag.0 slot) (Spoils tag.0 slot) (state self.old) (state self.new) result }
+        ensures made { KeepsMade (state self.old) (state self.new) }
+        ensures crash { KeepsSlots (state self.old) (state self.new) };
 
     /// Makes the temporary file the slot's content, and ends it. After an error the slot has the old content or the
-    /// new one.
+    /// new one. Until the slot is settled, a crash may leave either; if the file wasn't flushed, any bytes.
     fn publish(&mut self, tag: Tag, slot: Slot) -> Result<(), Failed>
         requires { (state self.old).made tag.0 slot ≡ true }
         ensures does { Does (made_call tag slot Call.Publish) (Publishes tag.0 slot) (MayPublish tag.0 slot) (state self.old) (state self.new) result }
-        ensures others { KeepsOthersMade tag.0 slot (state self.old) (state self.new) };
+        ensures others { KeepsOthersMade tag.0 slot (state self.old) (state self.new) }
+        ensures crash { AddsPublished tag.0 slot (state self.old) (state self.new) result };
 
-    /// Flushes the slot's content and its name to stable storage.
+    /// Flushes the slot's content and its name to stable storage. From then on a crash leaves that content.
     fn settle(&mut self, slot: Slot) -> Result<(), Failed>
         ensures does { Does (settling slot) Keeps Keeps (state self.old) (state self.new) result }
-        ensures made { KeepsMade (state self.old) (state self.new) };
+        ensures made { KeepsMade (state self.old) (state self.new) }
+        ensures crash { Settles slot (state self.old) (state self.new) result };
 
     // No publishing can empty a slot by a temporary file that isn't there.
     ghost made_if_there: { (disk : Self) → IsMadeIfThere (state disk) };
+
+    // What a crash now may leave belongs to what it might have left since any earlier moment.
+    ghost moments: { (disk : Self) → HasMoments (state disk) };
 }

@@ -2,7 +2,7 @@
 ghost use Rattle.std.specs.Prelude.{◌≡◌, ◌≤◌, IfOk, OnErr, OnOk};
 ghost use Rattle.std.specs.Result.{is_err};
 ghost use Rattle.lib_types.specs.Counts.{HasRisen};
-ghost use Rattle.tree_real.specs.Unknown.{unknown_disk};
+ghost use Rattle.tree_real.specs.Unknown.{unknown_disk, unknown_moments};
 
 use crate::counts::one_more;
 use crate::kinds::is_out_of_memory;
@@ -87,6 +87,8 @@ where
     ghost state = { λ d. unknown_disk d.faults d.read_faults };
 
     ghost made_if_there = { λ _. tt };
+
+    ghost moments = { λ d. unknown_moments d.faults d.read_faults };
 
     fn read(&mut self, alloc: Global, slot: Slot) -> Result<Option<Vec<u8>>, DiskRead> {
         match self.files.read(alloc, slot) {

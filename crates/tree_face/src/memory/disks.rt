@@ -1,15 +1,17 @@
 //! Disks in memory.
-ghost use Rattle.std.specs.Prelude.{◌≡◌, ◌∷◌, [], IfOk, None, true, false, OnOk, MatchResult, if◌then◌else◌};
-ghost use Rattle.std.specs.Option.{option_map};
+ghost use Rattle.std.specs.Prelude.{◌≡◌, ◌∷◌, ◌==◌, ◌&&◌, ℕ, [], IfOk, None, true, false, OnOk, MatchResult, if◌then◌else◌};
+ghost use Rattle.std.specs.Option.{option_map, option_copied};
 ghost use Rattle.std.specs.Result.{is_err};
 ghost use Rattle.lib_types.specs.Counts.{raised};
 ghost use Rattle.tree_face.specs.Calls.{made_call, settling};
-ghost use Rattle.tree_face.specs.Disk.{Creates, Appends, Keeps, Touches, Publishes, MayPublish, Does, KeepsMade, KeepsOthersMade, ReadsSlot, slot_of};
+ghost use Rattle.tree_face.specs.Crash.{AddsPublished, KeepsSlots, Settles};
+ghost use Rattle.tree_face.specs.Disk.{Creates, Appends, Keeps, Spoils, Syncs, Publishes, MayPublish, Does, KeepsMade, KeepsOthersMade, ReadsSlot, slot_of};
 ghost use Rattle.tree_face.specs.Follows.{IsFollowedBy};
 ghost use Rattle.tree_face.specs.Failures.{FollowsPlan, stopping_after};
 
 use super::failures::Failures;
-use super::slot_file::SlotFile;
+use super::past::{Change, Past};
+use super::temporaries::{Temporaries, Temporary};
 use crate::{Call, Disk, DiskRead, DoneCall, Slot, Tag};
 use lib_types::{Failed, NoMemory};
 use std::alloc::Global;
@@ -18,9 +20,10 @@ use std::alloc::Global;
 #[derive(Drop)]
 pub struct SureDisk {
     alloc: Global,
-    manifest: SlotFile,
-    cache: SlotFile,
-    aux: SlotFile,
+    past: Past,
+    manifest: Temporaries,
+    cache: Temporaries,
+    aux: Temporaries,
     calls: Vec<DoneCall>,
     reads: Vec<Slot>,
     faults: u64,
@@ -35,7 +38,10 @@ pub struct MemDisk {
 }
 
 impl SureDisk {
-    ghost use Rattle.tree_face.specs.SureDisk.{calls_of, reads_of, disk_state, disk_content};
+    ghost use Rattle.tree_face.specs.Disk.{slot_eq};
+    ghost use Rattle.tree_face.specs.Past.{IsChangedBy, KeepsPast};
+    ghost use Rattle.tree_face.specs.SureDisk.{calls_of, reads_of, disk_state, disk_content, files_of};
+    ghost use Rattle.tree_face.specs.Temporaries.{file_in};
 
     /// A disk whose slots hold these contents.
     pub fn new(
@@ -53,9 +59,10 @@ impl SureDisk {
     {
         SureDisk {
             alloc,
-            manifest: SlotFile::new(alloc, manifest),
-            cache: SlotFile::new(alloc, cache),
-            aux: SlotFile::new(alloc, aux),
+            past: Past::new(alloc, manifest, cache, aux),
+            manifest: Temporaries::new(alloc),
+            cache: Temporaries::new(alloc),
+            aux: Temporaries::new(alloc),
             calls: Vec::new(alloc),
             reads: Vec::new(alloc),
             faults: 0,
@@ -80,11 +87,7 @@ impl SureDisk {
     fn copy_of(&self, alloc: Global, slot: Slot) -> Result<Option<Vec<u8>>, NoMemory>
         ensures { IfOk result (λ found. option_map (λ v. v.items) found ≡ slot_of (disk_content self.now).now slot) }
     {
-        match slot {
-            Slot::Manifest => self.manifest.read(alloc),
-            Slot::Cache => self.cache.read(alloc),
-            Slot::Aux => self.aux.read(alloc),
-        }
+        copy_of(alloc, self.past.held(slot).now)
     }
 
     // Adds a writing call to the list.
@@ -99,6 +102,50 @@ impl SureDisk {
             Err(_) => Err(NoMemory),
         };
         answer(&mut self.faults, added)
+    }
+
+    // Makes room for one change more.
+    fn make_room(&mut self) -> Result<(), Failed>
+        ensures rest { self.new ≡ record self.old { past = self.new.past; faults = self.new.faults } }
+        ensures past { KeepsPast self.old.past self.new.past }
+        ensures faults { self.new.faults ≡ (if is_err result then raised self.old.faults 1 else self.old.faults) }
+    {
+        let reserved = self.past.reserve();
+        answer(&mut self.faults, reserved)
+    }
+
+    // Adds a change of a slot.
+    fn add_change(&mut self, change: Change) -> Result<(), Failed>
+        ensures rest { self.new ≡ record self.old { past = self.new.past; faults = self.new.faults } }
+        ensures past { MatchResult result (λ _. IsChangedBy change self.old.past self.new.past) (λ _. KeepsPast self.old.past self.new.past) }
+        ensures faults { self.new.faults ≡ (if is_err result then raised self.old.faults 1 else self.old.faults) }
+    {
+        let added = self.past.add(change);
+        answer(&mut self.faults, added)
+    }
+
+    // Takes a temporary file away.
+    fn take(&mut self, tag: Tag, slot: Slot) -> Option<Temporary>
+        ensures rest { self.new ≡ record self.old { manifest = self.new.manifest; cache = self.new.cache; aux = self.new.aux } }
+        ensures file { result ≡ file_in (files_of self.old slot) tag.0 }
+        ensures ended { file_in (files_of self.new slot) tag.0 ≡ None }
+        ensures others { (t : ℕ) (s : Slot) → (t == tag.0) && slot_eq s slot ≡ false → file_in (files_of self.new s) t ≡ file_in (files_of self.old s) t }
+    {
+        match slot {
+            Slot::Manifest => self.manifest.take(tag.0),
+            Slot::Cache => self.cache.take(tag.0),
+            Slot::Aux => self.aux.take(tag.0),
+        }
+    }
+}
+
+// A copy of a content.
+fn copy_of(alloc: Global, content: Option<&[u8]>) -> Result<Option<Vec<u8>>, NoMemory>
+    ensures { IfOk result (λ found. option_map (λ v. v.items) found ≡ option_copied content.entry) }
+{
+    match content {
+        Some(bytes) => Ok(Some(Vec::from_slice(alloc, bytes)?)),
+        None => Ok(None),
     }
 }
 
@@ -119,6 +166,7 @@ fn answer(faults: &mut u64, done: Result<(), NoMemory>) -> Result<(), Failed>
 impl Disk for SureDisk {
     ghost use Rattle.std.specs.Prelude.{refl};
     ghost use Rattle.tree_face.specs.SureDisk.{disk_state};
+    ghost use Rattle.tree_face.specs.PastLaws.{has_moments};
 
     ghost state = { disk_state };
 
@@ -133,6 +181,7 @@ impl Disk for SureDisk {
         }
     }
 
+    #[tactic(auto, using(crate::proofs::Disks::sure_keeps))]
     fn create(&mut self, tag: Tag, slot: Slot) -> Result<(), Failed> {
         self.add_call(tag, slot, Call::Create)?;
         let done = match slot {
@@ -143,35 +192,45 @@ impl Disk for SureDisk {
         answer(&mut self.faults, done)
     }
 
+    #[tactic(auto, using(crate::proofs::Disks::sure_keeps))]
     fn append(&mut self, tag: Tag, slot: Slot, bytes: &[u8]) -> Result<(), Failed> {
         self.add_call(tag, slot, Call::Append)?;
         let done = match slot {
-            Slot::Manifest => self.manifest.append(self.alloc, tag.0, bytes),
-            Slot::Cache => self.cache.append(self.alloc, tag.0, bytes),
-            Slot::Aux => self.aux.append(self.alloc, tag.0, bytes),
+            Slot::Manifest => self.manifest.append(tag.0, bytes),
+            Slot::Cache => self.cache.append(tag.0, bytes),
+            Slot::Aux => self.aux.append(tag.0, bytes),
         };
         answer(&mut self.faults, done)
     }
 
+    #[tactic(auto, using(crate::proofs::Disks::sure_keeps))]
     fn sync(&mut self, tag: Tag, slot: Slot) -> Result<(), Failed> {
-        self.add_call(tag, slot, Call::Sync)
-    }
-
-    fn publish(&mut self, tag: Tag, slot: Slot) -> Result<(), Failed> {
-        self.add_call(tag, slot, Call::Publish)?;
+        self.add_call(tag, slot, Call::Sync)?;
         match slot {
-            Slot::Manifest => self.manifest.publish(tag.0),
-            Slot::Cache => self.cache.publish(tag.0),
-            Slot::Aux => self.aux.publish(tag.0),
+            Slot::Manifest => self.manifest.sync(tag.0),
+            Slot::Cache => self.cache.sync(tag.0),
+            Slot::Aux => self.aux.sync(tag.0),
         }
         Ok(())
     }
 
+    #[tactic(auto, using(crate::proofs::Disks::sure_keeps))]
+    fn publish(&mut self, tag: Tag, slot: Slot) -> Result<(), Failed> {
+        self.add_call(tag, slot, Call::Publish)?;
+        self.make_room()?;
+        let file = self.take(tag, slot);
+        self.add_change(Change::Published(slot, file))
+    }
+
+    #[tactic(auto, using(crate::proofs::Disks::sure_keeps))]
     fn settle(&mut self, slot: Slot) -> Result<(), Failed> {
-        self.add_call(Tag(0), slot, Call::Settle)
+        self.add_call(Tag(0), slot, Call::Settle)?;
+        self.add_change(Change::Settled(slot))
     }
 
     ghost made_if_there = { λ disk tag slot. refl };
+
+    ghost moments = { λ disk. has_moments disk };
 }
 
 impl MemDisk {
@@ -264,6 +323,7 @@ impl MemDisk {
 
 impl Disk for MemDisk {
     ghost use Rattle.std.specs.Prelude.{refl};
+    ghost use Rattle.tree_face.specs.PastLaws.{failing_has_moments};
     ghost use Rattle.tree_face.specs.SureDisk.{disk_plan, failing_disk_state};
 
     ghost state = { failing_disk_state };
@@ -286,11 +346,13 @@ impl Disk for MemDisk {
         }
     }
 
+    #[tactic(auto, using(crate::proofs::Disks::failing_keeps, crate::proofs::Disks::failing_same))]
     fn create(&mut self, tag: Tag, slot: Slot) -> Result<(), Failed>
-        ensures does { Does (made_call tag slot Call.Create) (Creates tag.0 slot) (Touches tag.0 slot)
+        ensures does { Does (made_call tag slot Call.Create) (Creates tag.0 slot) (Spoils tag.0 slot)
             (failing_disk_state self.old) (failing_disk_state self.new) result }
         ensures made { OnOk result ((failing_disk_state self.new).made tag.0 slot ≡ true) }
         ensures others { KeepsOthersMade tag.0 slot (failing_disk_state self.old) (failing_disk_state self.new) }
+        ensures crash { KeepsSlots (failing_disk_state self.old) (failing_disk_state self.new) }
         ensures plan { FollowsPlan true (disk_plan self.old) (disk_plan self.new) (is_err result) }
     {
         self.pass()?;
@@ -298,11 +360,13 @@ impl Disk for MemDisk {
         self.answer(done)
     }
 
+    #[tactic(auto, using(crate::proofs::Disks::failing_keeps, crate::proofs::Disks::failing_same))]
     fn append(&mut self, tag: Tag, slot: Slot, bytes: &[u8]) -> Result<(), Failed>
         requires { (failing_disk_state self.old).made tag.0 slot ≡ true }
-        ensures does { Does (made_call tag slot Call.Append) (Appends tag.0 slot bytes.now) (Touches tag.0 slot)
+        ensures does { Does (made_call tag slot Call.Append) (Appends tag.0 slot bytes.now) (Spoils tag.0 slot)
             (failing_disk_state self.old) (failing_disk_state self.new) result }
         ensures made { KeepsMade (failing_disk_state self.old) (failing_disk_state self.new) }
+        ensures crash { KeepsSlots (failing_disk_state self.old) (failing_disk_state self.new) }
         ensures plan { FollowsPlan true (disk_plan self.old) (disk_plan self.new) (is_err result) }
     {
         self.pass()?;
@@ -310,10 +374,13 @@ impl Disk for MemDisk {
         self.answer(done)
     }
 
+    #[tactic(auto, using(crate::proofs::Disks::failing_keeps, crate::proofs::Disks::failing_same))]
     fn sync(&mut self, tag: Tag, slot: Slot) -> Result<(), Failed>
         requires { (failing_disk_state self.old).made tag.0 slot ≡ true }
-        ensures does { Does (made_call tag slot Call.Sync) Keeps (Touches tag.0 slot) (failing_disk_state self.old) (failing_disk_state self.new) result }
+        ensures does { Does (made_call tag slot Call.Sync) (Syncs tag.0 slot) (Spoils tag.0 slot)
+            (failing_disk_state self.old) (failing_disk_state self.new) result }
         ensures made { KeepsMade (failing_disk_state self.old) (failing_disk_state self.new) }
+        ensures crash { KeepsSlots (failing_disk_state self.old) (failing_disk_state self.new) }
         ensures plan { FollowsPlan true (disk_plan self.old) (disk_plan self.new) (is_err result) }
     {
         self.pass()?;
@@ -321,11 +388,13 @@ impl Disk for MemDisk {
         self.answer(done)
     }
 
+    #[tactic(auto, using(crate::proofs::Disks::failing_adds, crate::proofs::Disks::failing_adds_nothing))]
     fn publish(&mut self, tag: Tag, slot: Slot) -> Result<(), Failed>
         requires { (failing_disk_state self.old).made tag.0 slot ≡ true }
         ensures does { Does (made_call tag slot Call.Publish) (Publishes tag.0 slot) (MayPublish tag.0 slot)
             (failing_disk_state self.old) (failing_disk_state self.new) result }
         ensures others { KeepsOthersMade tag.0 slot (failing_disk_state self.old) (failing_disk_state self.new) }
+        ensures crash { AddsPublished tag.0 slot (failing_disk_state self.old) (failing_disk_state self.new) result }
         ensures plan { FollowsPlan true (disk_plan self.old) (disk_plan self.new) (is_err result) }
     {
         self.pass()?;
@@ -333,9 +402,11 @@ impl Disk for MemDisk {
         self.answer(done)
     }
 
+    #[tactic(auto, using(crate::proofs::Disks::failing_settles, crate::proofs::Disks::failing_settles_nothing))]
     fn settle(&mut self, slot: Slot) -> Result<(), Failed>
         ensures does { Does (settling slot) Keeps Keeps (failing_disk_state self.old) (failing_disk_state self.new) result }
         ensures made { KeepsMade (failing_disk_state self.old) (failing_disk_state self.new) }
+        ensures crash { Settles slot (failing_disk_state self.old) (failing_disk_state self.new) result }
         ensures plan { FollowsPlan true (disk_plan self.old) (disk_plan self.new) (is_err result) }
     {
         self.pass()?;
@@ -344,4 +415,6 @@ impl Disk for MemDisk {
     }
 
     ghost made_if_there = { λ disk tag slot. refl };
+
+    ghost moments = { λ disk. failing_has_moments disk };
 }

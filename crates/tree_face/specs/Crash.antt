@@ -1,0 +1,90 @@
+-- What a crash leaves in the slots of a disk: until a slot is flushed, what it might have left before, or what was published since; from then
+-- on what the slot holds (fsync(2), rename(2)).
+use Rattle.std.specs.Prelude.{◌≡◌, ◌⊎◌, ◌≤◌, ◌&&◌, ◌||◌, ℕ, Bool, true, false, not, Option, None, is_some, Result, OnOk, OnErr}
+use Rattle.lib_types.specs.declared.fault.Failed.{Failed}
+use Rattle.tree_face.specs.declared.disk.Slot.{Slot}
+use Rattle.tree_face.specs.Disk.{Content, DiskContent, DiskState, content_eq, slot_eq, slot_of}
+use Rattle.tree_face.specs.Known.{IfKnown}
+
+-- ---- one moment
+
+-- the laws of a disk's clock
+pub record HasMoments (s : DiskState) : Type 0 where
+  -- a crash may leave what the slot holds
+  pub held : IfKnown s.contents (λ c. (slot : Slot) → s.may slot (slot_of c.now slot) ≡ true)
+  -- of a disk of unknown contents it may leave anything
+  pub unknown : s.contents ≡ None → (slot : Slot) (b : Content) → s.may slot b ≡ true
+  -- from now on there is one moment
+  pub now : (slot : Slot) (b : Content) → s.since s.time slot b ≡ s.may slot b
+  -- the moments from a later one on are among those from an earlier one on
+  pub earlier : (t u : ℕ) (slot : Slot) (b : Content) → t ≤ u → u ≤ s.time → s.since u slot b ≡ true → s.since t slot b ≡ true
+
+-- what a crash may leave of a published file: its content, and any bytes if it wasn't flushed
+abbrev pub left_by : Content → Bool → Content → Bool
+left_by content synced b = content_eq content b || (not synced && is_some b)
+
+-- what publishing this temporary file may leave
+abbrev pub published : DiskContent → ℕ → Slot → Content → Bool
+published c tag slot = left_by (c.temporary tag slot) (c.synced tag slot)
+
+-- ---- a call
+
+-- what might have been left from an earlier moment on is what might have been until the call, and what might have been from the call on
+pub record GoesOn (old new : DiskState) : Type 0 where
+  pub later : old.time ≤ new.time
+  pub moments : (t : ℕ) (slot : Slot) (b : Content) → t ≤ old.time → new.since t slot b ≡ (old.since t slot b || new.since old.time slot b)
+
+-- a crash in the call or after it leaves in this slot what it might have left before
+pub record LeavesSame (slot : Slot) (old new : DiskState) : Type 0 where
+  pub now : (b : Content) → new.may slot b ≡ old.may slot b
+  pub during : (t : ℕ) (b : Content) → t ≤ old.time → new.since t slot b ≡ old.since t slot b
+
+-- .. that, and what passes the test
+pub record LeavesMore (test : Content → Bool) (slot : Slot) (old new : DiskState) : Type 0 where
+  pub now : (b : Content) → new.may slot b ≡ (old.may slot b || test b)
+  pub during : (t : ℕ) (b : Content) → t ≤ old.time → new.since t slot b ≡ (old.since t slot b || test b)
+
+-- .. at most that
+pub record LeavesAtMost (test : Content → Bool) (slot : Slot) (old new : DiskState) : Type 0 where
+  pub now : (b : Content) → new.may slot b ≡ true → (old.may slot b || test b) ≡ true
+  pub during : (t : ℕ) (b : Content) → t ≤ old.time → new.since t slot b ≡ true → (old.since t slot b || test b) ≡ true
+
+-- other slots are untouched
+abbrev pub LeavesOthers : Slot → DiskState → DiskState → Type 0
+LeavesOthers slot old new = (s : Slot) → slot_eq s slot ≡ false → LeavesSame s old new
+
+-- a call that writes no slot
+pub record KeepsSlots (old new : DiskState) : Type 0 where
+  pub goes_on : GoesOn old new
+  pub slots : (slot : Slot) → LeavesSame slot old new
+
+-- a publishing
+pub record AddsPublished (tag : ℕ) (slot : Slot) (old new : DiskState) (result : Result (Unit {0}) Failed) : Type 0 where
+  pub goes_on : GoesOn old new
+  pub others : LeavesOthers slot old new
+  pub done : OnOk result (IfKnown old.contents (λ c. LeavesMore (published c tag slot) slot old new))
+  pub failed : OnErr result (IfKnown old.contents (λ c. LeavesAtMost (published c tag slot) slot old new))
+
+-- a flushing: from then on a crash leaves what the slot holds
+pub record Settles (slot : Slot) (old new : DiskState) (result : Result (Unit {0}) Failed) : Type 0 where
+  pub goes_on : GoesOn old new
+  pub others : LeavesOthers slot old new
+  pub during : (t : ℕ) (b : Content) → t ≤ old.time → new.since t slot b ≡ old.since t slot b
+  pub done : OnOk result (IfKnown old.contents (λ c. (b : Content) → new.may slot b ≡ content_eq (slot_of c.now slot) b))
+  pub failed : OnErr result (LeavesSame slot old new)
+
+-- ---- several calls
+
+-- in each slot a crash leaves what it might have left before, or what P allows: at each moment from t on, and now
+pub record Leaves (P : Slot → Content → Type 0) (old new : DiskState) : Type 0 where
+  pub later : old.time ≤ new.time
+  pub during : (t : ℕ) (slot : Slot) (b : Content) → t ≤ old.time → new.since t slot b ≡ true → (old.since t slot b ≡ true) ⊎ P slot b
+  pub now : (slot : Slot) (b : Content) → new.may slot b ≡ true → (old.may slot b ≡ true) ⊎ P slot b
+
+-- an image that a crash may leave: no temporary file, and in each slot one content that was allowed, flushed
+pub record IsImage (s image : DiskState) : Type 0 where
+  pub made : (t : ℕ) (slot : Slot) → image.made t slot ≡ false
+  pub temporary : IfKnown image.contents (λ c. (t : ℕ) (slot : Slot) → c.temporary t slot ≡ None)
+  pub allowed : IfKnown image.contents (λ c. (slot : Slot) → s.may slot (slot_of c.now slot) ≡ true)
+  pub settled : IfKnown image.contents (λ c. (slot : Slot) (b : Content) → image.may slot b ≡ content_eq (slot_of c.now slot) b)
+  pub faults : (image.faults ≡ 0) × (image.read_faults ≡ 0)
