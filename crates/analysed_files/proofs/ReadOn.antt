@@ -18,7 +18,7 @@ use Rattle.tree_face.specs.Known.{IfKnown}
 use Rattle.tree_face.specs.Store.{Contents, StoreState}
 use Rattle.tree_face.specs.StoreUse.{Ending, Complete}
 use Rattle.tree_face.specs.Tree.{Nodes}
-use Rattle.analysed_files.proofs.BegunKeys.{keys_early, keys_then, none_lacks}
+use Rattle.elf_dynamic.proofs.BegunKeys.{keys_early, keys_then, none_lacks}
 use Rattle.analysed_files.proofs.KeptAnalyses.{not_behind, still_read, unread_others}
 use Rattle.analysed_files.specs.Files.{AreRight, ReadsBy, lacks_one, unread_key, unread_keys}
 use Rattle.analysed_files.specs.Reading.{HasRead, ReadsOne, is_in}

@@ -11,3 +11,4 @@ pub mod Files
 pub mod Objects
 pub mod Taken
 pub mod Memory
+pub mod BegunKeys

@@ -8,7 +8,7 @@ use Rattle.tree_face.proofs.StoreUse.{IsPartial, summed, reads_as, reads_early, 
 use Rattle.tree_face.specs.Known.{IfKnown}
 use Rattle.tree_face.specs.Store.{Contents, StoreState, Lacks}
 use Rattle.tree_face.specs.StoreUse.{Ending, Complete, ReadsFiles}
-use Rattle.analysed_files.specs.Files.{LacksOne, ReadsBy, is_lacking, lacks_one, most_known_of, most_of, until_known, until_lacking}
+use Rattle.elf_dynamic.specs.Begun.{LacksOne, ReadsBy, is_lacking, lacks_one, most_known_of, most_of, until_known, until_lacking}
 
 -- ---- up to and with the first key that isn't held
 
