@@ -1,0 +1,124 @@
+//! Texts with their tokens replaced.
+ghost use Rattle.std.specs.Prelude.{◌≡◌, ◌∷◌, ◌++◌, ◌<◌, length, position, IfOk, IfSome, OnOk};
+ghost use Rattle.std.specs.List.{slice_split};
+ghost use Rattle.std.specs.Option.{option_copied};
+ghost use Rattle.origin_expand.specs.Left.{parts_of};
+ghost use Rattle.origin_expand.specs.Tokens.{begins_with_origin, expanded, has_origin, is_dollar, replaced, value_of};
+
+use crate::token::{Token, token_in};
+use lib_types::{NoMemory, Text};
+use std::alloc::Global;
+
+// What the tokens stand for.
+#[derive(Clone, Copy)]
+struct Values<'a> {
+    origin: &'a [u8],
+    lib: &'a [u8],
+    platform: &'a [u8],
+}
+
+impl<'a> Values<'a> {
+    fn of(self, token: Token) -> &'a [u8]
+        ensures { result.now ≡ value_of self.entry.origin.now self.entry.lib.now self.entry.platform.now token }
+    {
+        match token {
+            Token::Origin => self.origin,
+            Token::Lib => self.lib,
+            Token::Platform => self.platform,
+        }
+    }
+}
+
+fn first_dollar(bytes: &[u8]) -> Option<usize>
+    ensures index { result ≡ position is_dollar bytes.now }
+    ensures within { IfSome result (λ n. n < length bytes.now) }
+{
+    bytes.iter().position(|&b| b == b'$')
+}
+
+// The first part, and what is behind the dollar that ends it.
+#[tactic(auto, using(lib_types::proofs::Parting::cut_at, lib_types::proofs::Parting::cut_nowhere))]
+fn cut(bytes: &[u8]) -> (&[u8], Option<&[u8]>)
+    ensures parts { slice_split is_dollar bytes.now ≡ result.0.now ∷ parts_of (option_copied result.1) }
+    ensures shorter { IfSome result.1 (λ rest. length rest.now < length bytes.now) }
+{
+    match first_dollar(bytes) {
+        Some(n) => (&bytes[..n], Some(&bytes[n + 1..])),
+        None => (bytes, None),
+    }
+}
+
+fn begins_with_origin(part: &[u8]) -> bool
+    ensures { result ≡ begins_with_origin part.now }
+{
+    match token_in(part) {
+        Some((token, _)) => token.is_origin(),
+        None => false,
+    }
+}
+
+// Whether `$ORIGIN` stands in a text.
+#[tactic(auto, unfolding(crate::specs::Tokens::has_origin))]
+fn has_origin(text: &[u8]) -> bool
+    ensures { result ≡ has_origin text.now }
+{
+    let mut left = cut(text).1;
+    while let Some(bytes) = left {
+        let (part, rest) = cut(bytes);
+        if begins_with_origin(part) {
+            return true;
+        }
+        left = rest;
+    }
+    false
+}
+
+// Adds the part behind a dollar.
+fn add_replaced(out: &mut Vec<u8>, values: Values<'_>, part: &[u8]) -> Result<(), NoMemory>
+    ensures { OnOk result (out.new.items ≡ out.old.items ++ replaced (value_of values.entry.origin.now values.entry.lib.now values.entry.platform.now) part.now) }
+{
+    match token_in(part) {
+        Some((token, rest)) => {
+            out.extend_from_slice(values.of(token))?;
+            out.extend_from_slice(rest)?;
+        }
+        None => {
+            out.push(b'$')?;
+            out.extend_from_slice(part)?;
+        }
+    }
+    Ok(())
+}
+
+/// The text with its tokens replaced; none if it has `$ORIGIN` in secure execution.
+///
+/// A token's value is put in as it is: with the origin `/`, `$ORIGIN/lib` gives `//lib`.
+#[tactic(auto, unfolding(crate::specs::Tokens::expanded))]
+pub fn expand(
+    alloc: Global,
+    text: &[u8],
+    origin: &[u8],
+    lib: &[u8],
+    platform: &[u8],
+    secure: bool,
+) -> Result<Option<Text>, NoMemory>
+    ensures { IfOk result (λ text_of. text_of ≡ expanded (value_of origin.now lib.now platform.now) secure text.now) }
+{
+    if secure && has_origin(text) {
+        return Ok(None);
+    }
+    let values = Values {
+        origin,
+        lib,
+        platform,
+    };
+    let mut out = Vec::new(alloc);
+    let (front, mut left) = cut(text);
+    out.extend_from_slice(front)?;
+    while let Some(bytes) = left {
+        let (part, rest) = cut(bytes);
+        add_replaced(&mut out, values, part)?;
+        left = rest;
+    }
+    Ok(Some(Text::from_vec(out)))
+}
