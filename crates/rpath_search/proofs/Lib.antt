@@ -1,0 +1,2 @@
+pub mod Libraries
+mod Tried

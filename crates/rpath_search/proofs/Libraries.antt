@@ -1,0 +1,93 @@
+-- A file's object says whether it is a library, as its analysis does.
+use Rattle.std.proofs.Common.{◌≡◌, ◌||◌, ℕ, Bool, true, false, cond, List, [], ◌∷◌, Option, Some, None, is_none, is_some, option_map, Result, Ok, Err, refl, ap, sym, subst, ◌∙◌}
+use Rattle.std.specs.List.{cons_option}
+use Rattle.std.specs.Option.{option_and_then, option_map_or}
+use Rattle.std.specs.Prelude.{IsSomeAnd}
+use Rattle.lib_types.specs.declared.abi.Abi.{Abi}
+use Rattle.lib_types.specs.declared.analysis.Defect.{Defect}
+use Rattle.tree_face.proofs.StoreUse.{reads_none}
+use Rattle.tree_face.specs.Known.{IfKnown}
+use Rattle.tree_face.specs.Store.{Contents, StoreState}
+use Rattle.tree_face.specs.StoreUse.{Ending, Complete}
+use Rattle.tree_face.specs.Tree.{Nodes, node_at}
+use Rattle.path_walk.specs.Files.{file_at}
+use Rattle.elf_headers.specs.Reading.{OfContent, ReadsFile}
+use Rattle.elf_dynamic.proofs.Objects.{analysis_bad, analysis_ok}
+use Rattle.elf_dynamic.specs.Analysis.{analysis}
+use Rattle.elf_dynamic.specs.Object.{object}
+use Rattle.elf_dynamic.specs.Taken.{most_known}
+use Rattle.elf_dynamic.specs.declared.kinds.Object.{Object}
+use Rattle.elf_dynamic.proofs.BegunKeys.{one_key}
+use Rattle.elf_dynamic.specs.Begun.{ReadsBy, file_keys, key_in, lacks_one}
+use Rattle.rpath_search.specs.Search.{files_of, is_good, is_library, is_library_at, is_library_of, library_at, library_by}
+
+module _ (abi : Abi) (bytes : List ℕ) where
+  library_is : (o : Object) → object bytes ≡ Ok o → library_by abi bytes ≡ cond (is_library abi o) (Some o) None
+  library_is o e = rw (analysis_ok bytes o e, e) refl
+
+  no_library : (d : Defect) → object bytes ≡ Err d → library_by abi bytes ≡ None
+  no_library d e = rw (analysis_bad bytes d e) refl
+
+  either : (r : Result Object Defect) → object bytes ≡ r → is_some (library_by abi bytes) ≡ is_library_of abi (analysis bytes)
+  either (Ok o) e = ap is_some (library_is o e) ∙ elim (is_library abi o) as (λ b. is_some {X = Object} (cond b (Some o) None) ≡ b) [ true ↦ refl | false ↦ refl ] ∙ ap (is_library_of abi) (sym (analysis_ok bytes o e))
+  either (Err d) e = ap is_some (no_library d e) ∙ ap (is_library_of abi) (sym (analysis_bad bytes d e))
+
+  pub is_either : is_some (library_by abi bytes) ≡ is_library_of abi (analysis bytes)
+  is_either = either (object bytes) refl
+
+-- a path is good if the file to which it leads has the object of a library
+pub good_by_object : (held : Contents) (t : Nodes) (abi : Abi) (path real : List ℕ) → file_at t path ≡ Some real → is_good held t abi path ≡ is_some (library_at held t abi real)
+good_by_object held t abi path real leads =
+    ap (λ file. option_map_or (is_library_at held t abi) file false) leads
+    ∙ elim (option_and_then held (key_in (node_at t real))) as (λ content. option_map_or (λ bytes. is_library_of abi (analysis bytes)) content false ≡ is_some (option_and_then (library_by abi) content))
+      [ None ↦ refl | Some bytes ↦ sym (is_either abi bytes) ]
+
+-- ---- the file at a path without links
+
+module _ (t : Nodes) (abi : Abi) (real key : List ℕ) (there : key_in (node_at t real) ≡ Some key) where
+  its_key : file_keys t (real ∷ []) ≡ key ∷ []
+  its_key = ap (λ k. cons_option k []) there
+
+  by_content : (held : Contents) → library_at held t abi real ≡ option_and_then (library_by abi) (held key)
+  by_content held = ap (λ k. option_and_then (library_by abi) (option_and_then held k)) there
+
+  pub object_there : (known : Option Contents) (o : Object) (b : Bool) → is_library abi o ≡ b → OfContent known key (λ bytes. object bytes ≡ Ok o)
+      → IfKnown known (λ held. cond b (Some o) None ≡ library_at held t abi real)
+  object_there None o b is content = tt
+  object_there (Some held) o b is content = sym (by_content held
+      ∙ elim (held key) as (λ c. IsSomeAnd c (λ bytes. object bytes ≡ Ok o) → option_and_then (library_by abi) c ≡ cond b (Some o) None)
+      [ None ↦ λ h. absurd h | Some bytes ↦ λ h. library_is abi bytes o h ∙ ap (λ b. cond b (Some o) None) is ] content)
+
+  pub defect_there : (known : Option Contents) (d : Defect) → OfContent known key (λ bytes. object bytes ≡ Err d) → IfKnown known (λ held. None ≡ library_at held t abi real)
+  defect_there None d content = tt
+  defect_there (Some held) d content = sym (by_content held
+      ∙ elim (held key) as (λ c. IsSomeAnd c (λ bytes. object bytes ≡ Err d) → option_and_then (library_by abi) c ≡ None)
+      [ None ↦ λ h. absurd h | Some bytes ↦ λ h. no_library abi bytes d h ] content)
+
+  pub is_held : (known : Option Contents) (P : List ℕ → Type 0) → OfContent known key P → IfKnown known (λ held. lacks_one held (file_keys t (real ∷ [])) ≡ false)
+  is_held None P content = tt
+  is_held (Some held) P content = ap (lacks_one held) its_key
+      ∙ elim (held key) as (λ o. IsSomeAnd o P → (is_none o || false) ≡ false) [ None ↦ λ h. absurd h | Some bytes ↦ λ h. refl ] content
+
+  pub reads_key : (e : Ending) (a b : StoreState) → ReadsFile key (most_known a.held key) e a b → ReadsBy a.held (file_keys t (real ∷ [])) e a b
+  reads_key e a b reads = subst (λ keys. ReadsBy a.held keys e a b) (sym its_key) (one_key a.held key e a b reads)
+
+-- no file is there
+module _ (t : Nodes) (abi : Abi) (real : List ℕ) (none : key_in (node_at t real) ≡ None) where
+  no_key : file_keys t (real ∷ []) ≡ []
+  no_key = ap (λ k. cons_option k []) none
+
+  pub none_there : (known : Option Contents) → IfKnown known (λ held. None ≡ library_at held t abi real)
+  none_there None = tt
+  none_there (Some held) = sym (ap (λ k. option_and_then (library_by abi) (option_and_then held k)) none)
+
+  pub none_held : (known : Option Contents) → IfKnown known (λ held. lacks_one held (file_keys t (real ∷ [])) ≡ false)
+  none_held None = tt
+  none_held (Some held) = ap (lacks_one held) no_key
+
+  pub none_read : (known : Option Contents) (s : StoreState) → ReadsBy known (file_keys t (real ∷ [])) Complete s s
+  none_read known s = subst (λ keys. ReadsBy known keys Complete s s) (sym no_key) (by known)
+    where
+      by : (k : Option Contents) → ReadsBy k [] Complete s s
+      by None = reads_none _ _ s
+      by (Some held) = reads_none _ _ s

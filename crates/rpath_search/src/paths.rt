@@ -1,0 +1,59 @@
+//! The texts of paths.
+ghost use Rattle.std.specs.Prelude.{◌≡◌, ◌++◌, IfOk};
+ghost use Rattle.tree_face.specs.Paths.{root};
+ghost use Rattle.rpath_search.specs.Places.{folder_of, from_root, hwcaps_path};
+
+use conf_patterns::patterns::is_absolute;
+use conf_patterns::trim::before_last;
+use lib_types::{NoMemory, Text};
+use std::alloc::Global;
+
+/// The folder of a path, by its text alone.
+pub fn folder_of(path: &[u8]) -> &[u8]
+    ensures { result.now ≡ folder_of path.now }
+{
+    let folder = before_last(b"/", path);
+    if folder.is_empty() { b"/" } else { folder }
+}
+
+/// The text, below the root if it doesn't begin there.
+pub fn from_root(alloc: Global, text: &[u8]) -> Result<Text, NoMemory>
+    ensures { IfOk result (λ path. path ≡ from_root text.now) }
+{
+    if is_absolute(text) {
+        return Text::copy_of(alloc, text);
+    }
+    let mut path = Vec::with_capacity(alloc, 1 + text.len())?;
+    path.push(b'/')?;
+    path.extend_from_slice(text)?;
+    Ok(Text::from_vec(path))
+}
+
+/// The path of a name in a directory, whose text has no slash at its end.
+pub(crate) fn plain_path(alloc: Global, dir: &[u8], name: &[u8]) -> Result<Text, NoMemory>
+    ensures { IfOk result (λ path. path ≡ dir.now ++ root ++ name.now) }
+{
+    let mut path = Vec::with_capacity(alloc, dir.len() + 1 + name.len())?;
+    path.extend_from_slice(dir)?;
+    path.push(b'/')?;
+    path.extend_from_slice(name)?;
+    Ok(Text::from_vec(path))
+}
+
+/// The same in its subdirectory for a hwcaps name.
+pub(crate) fn hwcaps_path(
+    alloc: Global,
+    dir: &[u8],
+    name: &[u8],
+    cap: &[u8],
+) -> Result<Text, NoMemory>
+    ensures { IfOk result (λ path. path ≡ hwcaps_path dir.now name.now cap.now) }
+{
+    let mut path = Vec::new(alloc);
+    path.extend_from_slice(dir)?;
+    path.extend_from_slice(b"/glibc-hwcaps/")?;
+    path.extend_from_slice(cap)?;
+    path.push(b'/')?;
+    path.extend_from_slice(name)?;
+    Ok(Text::from_vec(path))
+}
