@@ -1,5 +1,5 @@
 -- The longest run at the front of some bytes, by the first byte that isn't of it.
-use Rattle.std.proofs.Common.{◌≡◌, ◌≤◌, ◌+◌, ℕ, Bool, true, false, not, cond, ltb, List, [], ◌∷◌, length, take, Some, None, refl, ap, sym, ◌∙◌}
+use Rattle.std.proofs.Common.{◌≡◌, ◌+◌, ℕ, Bool, true, false, not, cond, ltb, List, [], ◌∷◌, length, take, Some, None, refl, ap, sym, ◌∙◌}
 use Rattle.std.proofs.lemmas.Bool.{ltb-false}
 use Rattle.std.proofs.lemmas.List.{take_all}
 use Rattle.std.specs.List.{position, position_or_len, prefix_len, take_while}

@@ -1,5 +1,5 @@
 -- A file's object says whether it is a library, as its analysis does.
-use Rattle.std.proofs.Common.{◌≡◌, ◌||◌, ℕ, Bool, true, false, cond, List, [], ◌∷◌, Option, Some, None, is_none, is_some, option_map, Result, Ok, Err, refl, ap, sym, subst, ◌∙◌}
+use Rattle.std.proofs.Common.{◌≡◌, ◌||◌, ℕ, Bool, true, false, cond, List, [], ◌∷◌, Option, Some, None, is_none, is_some, Result, Ok, Err, refl, ap, sym, subst, ◌∙◌}
 use Rattle.std.specs.List.{cons_option}
 use Rattle.std.specs.Option.{option_and_then, option_map_or}
 use Rattle.std.specs.Prelude.{IsSomeAnd}
@@ -29,7 +29,7 @@ module _ (abi : Abi) (bytes : List ℕ) where
   no_library d e = rw (analysis_bad bytes d e) refl
 
   either : (r : Result Object Defect) → object bytes ≡ r → is_some (library_by abi bytes) ≡ is_library_of abi (analysis bytes)
-  either (Ok o) e = ap is_some (library_is o e) ∙ elim (is_library abi o) as (λ b. is_some {X = Object} (cond b (Some o) None) ≡ b) [ true ↦ refl | false ↦ refl ] ∙ ap (is_library_of abi) (sym (analysis_ok bytes o e))
+  either (Ok o) e = ap is_some (library_is o e) ∙ elim (is_library abi o) as (λ b. is_some (cond b (Some o) None) ≡ b) [ true ↦ refl | false ↦ refl ] ∙ ap (is_library_of abi) (sym (analysis_ok bytes o e))
   either (Err d) e = ap is_some (no_library d e) ∙ ap (is_library_of abi) (sym (analysis_bad bytes d e))
 
   pub is_either : is_some (library_by abi bytes) ≡ is_library_of abi (analysis bytes)
@@ -40,7 +40,7 @@ pub good_by_object : (held : Contents) (t : Nodes) (abi : Abi) (path real : List
 good_by_object held t abi path real leads =
     ap (λ file. option_map_or (is_library_at held t abi) file false) leads
     ∙ elim (option_and_then held (key_in (node_at t real))) as (λ content. option_map_or (λ bytes. is_library_of abi (analysis bytes)) content false ≡ is_some (option_and_then (library_by abi) content))
-      [ None ↦ refl | Some bytes ↦ sym (is_either abi bytes) ]
+    [ None ↦ refl | Some bytes ↦ sym (is_either abi bytes) ]
 
 -- ---- the file at a path without links
 
@@ -91,3 +91,17 @@ module _ (t : Nodes) (abi : Abi) (real : List ℕ) (none : key_in (node_at t rea
       by : (k : Option Contents) → ReadsBy k [] Complete s s
       by None = reads_none _ _ s
       by (Some held) = reads_none _ _ s
+
+-- ---- the file to which a path leads
+
+module _ (t : Nodes) (abi : Abi) (path : List ℕ) where
+  module _ (real : List ℕ) (leads : file_at t path ≡ Some real) where
+    its_file : files_of t (path ∷ []) ≡ real ∷ []
+    its_file = ap (λ file. cons_option file []) leads
+
+    pub reads_file : (known : Option Contents) (e : Ending) (a b : StoreState) → ReadsBy known (file_keys t (real ∷ [])) e a b → ReadsBy known (file_keys t (files_of t (path ∷ []))) e a b
+    reads_file known e a b reads = subst (λ files. ReadsBy known (file_keys t files) e a b) (sym its_file) reads
+
+    pub file_good : (known : Option Contents) (found : Option Object) → IfKnown known (λ held. found ≡ library_at held t abi real) → IfKnown known (λ held. is_some found ≡ is_good held t abi path)
+    file_good None found is = tt
+    file_good (Some held) found is = ap is_some is ∙ sym (good_by_object held t abi path real leads)

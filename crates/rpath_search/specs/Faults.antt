@@ -1,8 +1,6 @@
 -- How a search ends.
 use Rattle.std.specs.Prelude.{Result, Ok, Err}
 use Rattle.tree_face.specs.StoreUse.{Ending, Complete, DeviceFailed, GaveUp}
-use Rattle.elf_dynamic.specs.declared.fault.ObjectFault.{ObjectFault}
-use Rattle.elf_dynamic.specs.declared.fault.ObjectFault.TheVariants as objects
 use Rattle.rpath_search.specs.declared.fault.SearchFault.{SearchFault}
 use Rattle.rpath_search.specs.declared.fault.SearchFault.TheVariants.{StoreFault, NoMemory}
 
