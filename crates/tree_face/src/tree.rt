@@ -5,6 +5,7 @@ ghost use Rattle.std.specs.Option.{option_copied, is_some};
 use crate::node::Node;
 use lib_types::NoMemory;
 use std::alloc::Global;
+use std::cell::Cell;
 use std::marker::Model;
 
 mod entries;
@@ -16,6 +17,7 @@ mod runs;
 pub use listing::{Children, Listing};
 use rest::Rest;
 use run::Run;
+use runs::Place;
 
 /// The most nodes of a tree: as many files as large images have, with room for more. It bounds what a manifest can make
 /// an update take.
@@ -60,6 +62,8 @@ pub struct Tree {
     runs: Vec<Run>,
     // the number of nodes
     count: usize,
+    // where the last node was found, from which the next one is looked for first
+    near: Cell<Place>,
 }
 
 impl Model for Tree {
@@ -90,6 +94,7 @@ impl Tree {
             alloc,
             runs: Vec::new(alloc),
             count: 0,
+            near: Cell::new(Place { run: 0, at: 0 }),
         }
     }
 
@@ -106,7 +111,9 @@ impl Tree {
         ensures at_paths { IsSome (node_at self.now path.now) → IsTrue (is_path path.now) }
         ensures sorted { IsPathSorted self.now }
     {
-        entries::node(&self.runs, path)
+        let place = entries::place_of(&self.runs, self.near.get(), path)?;
+        self.near.set(place);
+        Some(entries::node(&self.runs, place, path))
     }
 
     /// What is at the path. The root is a directory; a text that is neither the root nor a path is absent.

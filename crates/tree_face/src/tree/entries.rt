@@ -1,5 +1,5 @@
 //! What a tree has at a path, and how that changes.
-ghost use Rattle.std.specs.Prelude.{◌≡◌, ◌≢◌, ◌<◌, ◌≤◌, ◌^◌, IfOk, IfErr, OnOk, OnErr, ◌↔◌, ◌+◌, IsTrue, false, true, MatchResult, MatchOption, length, slice_index_or};
+ghost use Rattle.std.specs.Prelude.{◌≡◌, ◌≢◌, ◌<◌, ◌≤◌, ◌^◌, IfOk, IfErr, OnOk, OnErr, ◌↔◌, ◌+◌, IsTrue, None, Some, false, true, MatchResult, MatchOption, length, slice_index_or};
 ghost use Rattle.std.specs.Str.{bytes_eq};
 ghost use Rattle.std.specs.Option.{option_copied, is_some};
 ghost use Rattle.tree_face.specs.Paths.{root, is_path};
@@ -10,7 +10,7 @@ ghost use Rattle.tree_face.specs.Tree.{IsPathSorted, IsTree, node_at, has_below,
 
 use super::rest::Rest;
 use super::run::{PathEntry, Run};
-use super::runs::{Place, entry_at, entry_before, entry_from, find, search};
+use super::runs::{Place, entry_at, entry_before, entry_from, find, find_near, search};
 use super::{Kind, NODES_MAX, TreeFault, runs as places};
 use crate::node::{Node, is_dir};
 use crate::path::{is_below, is_path};
@@ -25,16 +25,28 @@ fn node_of(runs: &Vec<Run>, place: Place) -> &Node
     entry_at(runs, place).node()
 }
 
-/// The node of the path.
-pub(super) fn node<'a>(runs: &'a Vec<Run>, path: &[u8]) -> Option<&'a Node>
+/// The place of the path's entry, if it has one, looked for first from a place on.
+pub(super) fn place_of(runs: &Vec<Run>, near: Place, path: &[u8]) -> Option<Place>
     requires runs { IsTrue (are_runs runs.now.items) }
     requires sorted { IsPathSorted (joined runs.now.items) }
-    ensures { option_copied result ≡ node_at (joined runs.now.items) path.now }
+    ensures { MatchOption result (node_at (joined runs.now.items) path.now ≡ None) (IsPlaceOf runs.now.items path.now) }
 {
+    if let Some(place) = find_near(runs, near, path) {
+        return Some(place);
+    }
     match search(runs, path) {
-        Ok(place) => Some(node_of(runs, place)),
+        Ok(place) => Some(place),
         Err(_) => None,
     }
+}
+
+/// The node of the path, whose entry is at this place.
+pub(super) fn node<'a>(runs: &'a Vec<Run>, place: Place, path: &[u8]) -> &'a Node
+    requires sorted { IsPathSorted (joined runs.now.items) }
+    requires place { IsPlaceOf runs.now.items path.now place }
+    ensures { node_at (joined runs.now.items) path.now ≡ Some result.now }
+{
+    node_of(runs, place)
 }
 
 // Removes the entry of the path.

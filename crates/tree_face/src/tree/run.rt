@@ -1,5 +1,5 @@
 //! A run of a tree's entries.
-ghost use Rattle.std.specs.Prelude.{◌≡◌, ◌==◌, ◌<◌, ◌≤◌, [], OnOk, OnErr, IfOk, IfErr, length, take, drop, slice_index_or, slice_set};
+ghost use Rattle.std.specs.Prelude.{◌≡◌, ◌==◌, ◌<◌, ◌≤◌, [], OnOk, OnErr, IfOk, IfErr, IfSome, length, take, drop, slice_index_or, slice_set};
 ghost use Rattle.std.specs.List.{insert, remove};
 ghost use Rattle.tree_face.specs.Paths.{path_cmp};
 ghost use Rattle.tree_face.specs.Index.{IsIndexOf, IsGapFor};
@@ -120,6 +120,13 @@ impl Run {
         search(&self.entries, path)
     }
 
+    /// The index of the path's entry, if it is one of the next few from this index on.
+    pub(super) fn find_near(&self, from: usize, path: &[u8]) -> Option<usize>
+        ensures { IfSome result (IsIndexOf self.now path.now) }
+    {
+        find_near(&self.entries, from, path)
+    }
+
     /// Overwrites the node of the entry at this index.
     pub(super) fn set_node(&mut self, index: usize, node: Node)
         requires { index < length self.old }
@@ -168,6 +175,24 @@ fn search(entries: &Vec<PathEntry>, path: &[u8]) -> Result<usize, usize>
             ensures { result ≡ path_cmp entry.now.0 path.entry.now }
         { compare(entry.path(), path) },
     )
+}
+
+// How many entries are looked at in their order before all are searched.
+const NEAR: usize = 4;
+
+// The index of the path's entry, if it is one of the next few from this index on.
+fn find_near(entries: &Vec<PathEntry>, from: usize, path: &[u8]) -> Option<usize>
+    ensures { IfSome result (IsIndexOf entries.now.items path.now) }
+{
+    let end = entries.len().min(from.saturating_add(NEAR));
+    for i in from..end {
+        match compare(entries[i].path(), path) {
+            Ordering::Less => {}
+            Ordering::Equal => return Some(i),
+            Ordering::Greater => return None,
+        }
+    }
+    None
 }
 
 // Overwrites the node of the entry at this index.

@@ -1,5 +1,5 @@
 //! The runs of a tree, and places in them.
-ghost use Rattle.std.specs.Prelude.{◌≡◌, ℕ, ◌<◌, ◌≤◌, [], IfOk, IfErr, OnOk, OnErr, IsTrue, true, MatchOption, if◌then◌else◌, ◌==◌, ◌∷◌, ◌++◌, ◌+◌, false, length, take, drop, slice_index_or, slice_set};
+ghost use Rattle.std.specs.Prelude.{◌≡◌, ℕ, ◌<◌, ◌≤◌, [], IfOk, IfErr, IfSome, OnOk, OnErr, IsTrue, true, MatchOption, if◌then◌else◌, ◌==◌, ◌∷◌, ◌++◌, ◌+◌, false, length, take, drop, slice_index_or, slice_set};
 ghost use Rattle.std.specs.List.{insert, remove};
 ghost use Rattle.std.specs.Vec.{vec_len, vec_capacity};
 ghost use Rattle.tree_face.specs.Index.{IsGapFor};
@@ -152,6 +152,18 @@ pub(super) fn search(runs: &Vec<Run>, path: &[u8]) -> Result<Place, Place>
         Ok(at) => Ok(Place { run, at }),
         Err(at) => Err(Place { run, at }),
     }
+}
+
+/// The place of the path's entry, if it is one of the next few from this place on, in its run. Any place will do: paths that are
+/// looked up one after another mostly stand close together.
+pub(super) fn find_near(runs: &Vec<Run>, near: Place, path: &[u8]) -> Option<Place>
+    ensures { IfSome result (IsPlaceOf runs.now.items path.now) }
+{
+    if near.run >= runs.len() {
+        return None;
+    }
+    let at = run_of(runs, near.run).find_near(near.at, path)?;
+    Some(Place { run: near.run, at })
 }
 
 /// The place at which a path is put: that of its entry, or that of its gap. The lines of a sorted manifest each come after
