@@ -1,5 +1,5 @@
 -- What the replacement of a slot's content leaves, by way of a tag's temporary file.
-use Rattle.std.specs.Prelude.{◌≡◌, ◌⊎◌, ◌+◌, ◌++◌, ℕ, List, take, Some, None}
+use Rattle.std.specs.Prelude.{◌≡◌, ◌⊎◌, ◌+◌, ◌++◌, ℕ, Bool, true, false, List, take, Some, None}
 use Rattle.std.specs.List.{slice_get}
 use Rattle.lib_types.specs.Counts.{HasRisen}
 use Rattle.tree_face.specs.Calls.{made_call, replacement, settling}
@@ -8,9 +8,10 @@ use Rattle.tree_face.specs.declared.disk.Call.TheVariants.{Create, Append, Sync,
 use Rattle.tree_face.specs.declared.disk.DoneCall.{DoneCall}
 use Rattle.tree_face.specs.declared.disk.Slot.{Slot}
 use Rattle.tree_face.specs.declared.disk.Tag.{Tag}
-use Rattle.tree_face.specs.Disk.{DiskContent, DiskState, KeepsOthers, with_slot}
+use Rattle.tree_face.specs.Crash.{GoesOn, KeepsSlots, Leaves, LeavesOthers}
+use Rattle.tree_face.specs.Disk.{Content, DiskContent, DiskState, KeepsOthers, Touches, content_eq, with_slot}
 use Rattle.tree_face.specs.Follows.{IsFollowedBy}
-use Rattle.tree_face.specs.Known.{Relates}
+use Rattle.tree_face.specs.Known.{IfKnown, Relates}
 use Rattle.atomic_replace.specs.declared.fault.DiskFault.{DiskFault}
 
 -- the content that a slot gets
@@ -23,14 +24,27 @@ Write = Slot × List ℕ
 pub record ReplacesSlot (tag : ℕ) (write : Write) (a b : DiskContent) : Type 0 where
   pub slots : b.now ≡ with_slot a.now write.0 (Some write.1)
   pub ended : b.temporary tag write.0 ≡ None
-  pub others : KeepsOthers tag write.0 a.temporary b.temporary
+  pub others : KeepsOthers tag write.0 a b
 
 -- a replacement that failed: the slot has these bytes or is as it was; of all else only the temporary file may have changed
 pub record MayReplaceSlot (tag : ℕ) (write : Write) (a b : DiskContent) : Type 0 where
   pub slots : (b.now ≡ a.now) ⊎ (b.now ≡ with_slot a.now write.0 (Some write.1))
-  pub others : KeepsOthers tag write.0 a.temporary b.temporary
+  pub others : KeepsOthers tag write.0 a b
+
+-- ---- what a crash leaves
+
+-- these bytes in this slot
+abbrev pub IsWritten : Write → Slot → Content → Type 0
+IsWritten write slot b = (slot ≡ write.0) × (b ≡ Some write.1)
 
 -- ---- the writing calls
+
+abbrev pub comes_before_publish : Call → Bool
+comes_before_publish Create = true
+comes_before_publish Append = true
+comes_before_publish Sync = true
+comes_before_publish Publish = false
+comes_before_publish Settle = false
 
 -- how a disk records a call of a replacement
 abbrev pub call_by : Tag → Slot → Call → DoneCall
@@ -55,6 +69,11 @@ pub record WritesSlot (tag : Tag) (write : Write) (old new : DiskState) : Type 0
   pub reads : new.reads ≡ old.reads
   pub faults : new.faults ≡ old.faults
   pub read_faults : new.read_faults ≡ old.read_faults
+  -- at each moment a crash leaves in the slot what it might have left before, or these bytes; and in the end these bytes alone
+  pub leaves : Leaves (IsWritten write) old new
+  pub settled : IfKnown new.contents (λ _. (b : Content) → new.may write.0 b ≡ content_eq (Some write.1) b)
+  pub goes_on : GoesOn old new
+  pub others : LeavesOthers write.0 old new
 
 -- one of the calls failed, which the fault names and for which the count rises
 pub record FailsToWrite (tag : Tag) (write : Write) (fault : DiskFault) (old new : DiskState) : Type 0 where
@@ -64,3 +83,9 @@ pub record FailsToWrite (tag : Tag) (write : Write) (fault : DiskFault) (old new
   pub reads : new.reads ≡ old.reads
   pub faults : HasRisen old.faults new.faults
   pub read_faults : new.read_faults ≡ old.read_faults
+  pub leaves : Leaves (IsWritten write) old new
+  pub goes_on : GoesOn old new
+  pub others : LeavesOthers write.0 old new
+  -- before the publishing the slot has the old content, for a reading and for a crash
+  pub unpublished : comes_before_publish fault.call ≡ true → Relates (Touches tag.0 write.0) old.contents new.contents
+  pub untouched : comes_before_publish fault.call ≡ true → KeepsSlots old new

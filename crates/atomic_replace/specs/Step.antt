@@ -5,7 +5,8 @@ use Rattle.tree_face.specs.declared.disk.Call.{Call}
 use Rattle.tree_face.specs.declared.disk.Call.TheVariants.{Create, Append, Sync, Publish, Settle}
 use Rattle.tree_face.specs.declared.disk.Slot.{Slot}
 use Rattle.tree_face.specs.declared.disk.Tag.{Tag}
-use Rattle.tree_face.specs.Disk.{Appends, Creates, DiskContent, DiskState, Does, Keeps, KeepsMade, KeepsOthersMade, MayPublish, Publishes, Touches}
+use Rattle.tree_face.specs.Crash.{AddsPublished, KeepsSlots, Settles}
+use Rattle.tree_face.specs.Disk.{Appends, Creates, DiskContent, DiskState, Does, Keeps, KeepsMade, KeepsOthersMade, MayPublish, Publishes, Spoils, Syncs}
 use Rattle.atomic_replace.specs.declared.fault.DiskFault.{DiskFault}
 use Rattle.atomic_replace.specs.Order.{needs_file, next_of}
 use Rattle.atomic_replace.specs.Replace.{Write, call_by}
@@ -14,15 +15,15 @@ use Rattle.atomic_replace.specs.Replace.{Write, call_by}
 abbrev pub change_of : ℕ → Write → Call → DiskContent → DiskContent → Type 0
 change_of tag write Create = Creates tag write.0
 change_of tag write Append = Appends tag write.0 write.1
-change_of tag write Sync = Keeps
+change_of tag write Sync = Syncs tag write.0
 change_of tag write Publish = Publishes tag write.0
 change_of tag write Settle = Keeps
 
 -- and if it fails
 abbrev pub failure_of : ℕ → Write → Call → DiskContent → DiskContent → Type 0
-failure_of tag write Create = Touches tag write.0
-failure_of tag write Append = Touches tag write.0
-failure_of tag write Sync = Touches tag write.0
+failure_of tag write Create = Spoils tag write.0
+failure_of tag write Append = Spoils tag write.0
+failure_of tag write Sync = Spoils tag write.0
 failure_of tag write Publish = MayPublish tag write.0
 failure_of tag write Settle = Keeps
 
@@ -39,10 +40,19 @@ abbrev pub answer_of : {A E : Type 0} → Result A E → Result (Unit {0}) Faile
 answer_of (Ok x) = Ok tt
 answer_of (Err e) = Err (record {})
 
+-- what a crash leaves in the slots in a call and after it
+abbrev pub LeftBy : ℕ → Slot → Call → DiskState → DiskState → Result (Unit {0}) Failed → Type 0
+LeftBy tag slot Create old new result = KeepsSlots old new
+LeftBy tag slot Append old new result = KeepsSlots old new
+LeftBy tag slot Sync old new result = KeepsSlots old new
+LeftBy tag slot Publish old new result = AddsPublished tag slot old new result
+LeftBy tag slot Settle old new result = Settles slot old new result
+
 -- a call that is made on a disk
 pub record Makes {A E : Type 0} (tag : Tag) (write : Write) (call : Call) (old new : DiskState) (result : Result A E) : Type 0 where
   pub does : Does (call_by tag write.0 call) (change_of tag.0 write call) (failure_of tag.0 write call) old new (answer_of result)
   pub made : MadeBy tag.0 write.0 call old new result
+  pub crash : LeftBy tag.0 write.0 call old new (answer_of result)
 
 -- a replacement: whose it is, what it writes, and the calls that are left
 pub record Replacement : Type 0 where

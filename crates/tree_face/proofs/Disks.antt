@@ -1,6 +1,5 @@
 -- What the writing calls of disks in memory do to the slots, and to what a crash leaves.
 use Rattle.std.proofs.Common.{◌≡◌, ◌≤◌, ◌+◌, ◌||◌, ◌++◌, ℕ, Bool, true, false, List, [], ◌∷◌, length, length-append, if◌then◌else◌, refl, sym, ap, subst, ◌∙◌, arith, Option, Some, None, Result, Ok, Err, is_err, MatchResult, OnOk, OnErr, inl, ◌==◌, ◌&&◌}
-use Rattle.std.proofs.lemmas.Slice.Eq.{bytes_eq-Decides}
 use Rattle.std.proofs.lemmas.Bool.{false≢true, true≢false}
 use Rattle.lib_types.specs.declared.fault.Failed.{Failed}
 use Rattle.tree_face.specs.declared.disk.Slot.{Slot}
@@ -19,12 +18,8 @@ use Rattle.tree_face.specs.Past.{IsChangedBy, KeepsPast, Moment, clock_of, may_l
 use Rattle.tree_face.specs.PastLaws.{has_moments, is_sound}
 use Rattle.tree_face.specs.SureDisk.{disk_content, disk_state, failing_disk_state, files_of, now_in}
 use Rattle.tree_face.specs.Temporaries.{bytes_of, file_in, is_synced}
+use Rattle.tree_face.proofs.Crash.{content_is, same_slot}
 use Rattle.tree_face.proofs.Past.{absorbed, kept_may, kept_moment, kept_since, kept_time, moment_more, or_in, since_after, still}
-
-same_slot : (slot : Slot) → slot_eq slot slot ≡ true
-same_slot Manifest = refl
-same_slot Cache = refl
-same_slot Aux = refl
 
 or_before : (x y : Bool) → x ≡ true → (x || y) ≡ true
 or_before true y e = refl
@@ -143,13 +138,6 @@ module _ (a b : SureDisk) (slot : Slot) where
 
     settled_now : (x : Content) → may_leave b.past slot x ≡ content_eq (now_in a slot) x
     settled_now x = may_now a b (Settled slot) changed slot x ∙ pick_first (slot_eq slot slot) _ _ (same_slot slot)
-
--- what passes for a slot's content is it
-pub content_is : (c x : Content) → content_eq c x ≡ true → c ≡ x
-content_is None None e = refl
-content_is None (Some y) e = absurd (false≢true e)
-content_is (Some x) None e = absurd (false≢true e)
-content_is (Some x) (Some y) e = ap (λ (l : List ℕ). Some l) ((bytes_eq-Decides x y).0 e)
 
 module _ (a b : SureDisk) (slot : Slot) where
   -- the result of a publishing whose change may be refused

@@ -1,6 +1,7 @@
 pub mod Above
 pub mod Below
 pub mod Clear
+pub mod Crash
 pub mod Disks
 pub mod Follows
 pub mod Index
