@@ -1,0 +1,51 @@
+//! What the tokens of a text are replaced by.
+use lib_types::{NoMemory, Text};
+use origin_expand::expand;
+use std::alloc::Global;
+use table_rows::{Row, Said, Trial, divide, value};
+
+/// A row has what the tokens stand for, and `secure` in secure execution. Each line `text` is followed by what it gives, `-` if it is
+/// dropped.
+pub(crate) struct Tokens;
+
+fn expanded(alloc: Global, row: Row<'_>, text: &[u8]) -> Result<Option<Text>, NoMemory> {
+    let origin = value(row, b"origin").unwrap_or(b"");
+    let lib = value(row, b"lib").unwrap_or(b"");
+    let platform = value(row, b"platform").unwrap_or(b"");
+    let secure = value(row, b"secure").is_some();
+    expand(alloc, text, origin, lib, platform, secure)
+}
+
+fn gives(
+    alloc: Global,
+    row: Row<'_>,
+    text: &[u8],
+    want: &[u8],
+    said: &mut Said,
+) -> Result<bool, NoMemory> {
+    match expanded(alloc, row, text)? {
+        Some(got) => said.is_same(text, want, got.as_bytes()),
+        None => said.is_same(text, want, b"-"),
+    }
+}
+
+impl Trial for Tokens {
+    fn words() -> &'static [&'static [u8]] {
+        &[b"origin", b"lib", b"platform", b"secure", b"text", b"gives"]
+    }
+
+    fn is_right(alloc: Global, row: Row<'_>, said: &mut Said) -> Result<bool, NoMemory> {
+        let mut is_right = true;
+        let mut text: &[u8] = b"";
+        for line in row {
+            let (word, rest) = divide(b' ', *line);
+            if word == b"text".as_slice() {
+                text = rest;
+            }
+            if word == b"gives".as_slice() {
+                is_right = gives(alloc, row, text, rest, said)? && is_right;
+            }
+        }
+        Ok(is_right)
+    }
+}
