@@ -4,5 +4,6 @@ pub mod FirstByte
 pub mod Parting
 pub mod Plain
 pub mod Prefixes
+pub mod SameBytes
 pub mod SortedPairs
 pub mod Utf8

@@ -6,6 +6,7 @@ ghost use Rattle.std.specs.Ordering.{as_partial_cmp, nat_cmp};
 ghost use Rattle.std.specs.Prelude.{nat_eq, ◌≡◌, ◌∷◌, [], ℕ, List, IfOk};
 
 use crate::NoMemory;
+use crate::same::are_same;
 use std::alloc::Global;
 use std::cmp::Ordering;
 use std::hash::{Hash, Hasher};
@@ -61,7 +62,7 @@ impl PartialEq for Text {
     ghost laws = { partial_equiv_from_equiv nat_list_eq_equiv };
 
     fn eq(&self, other: &Self) -> bool {
-        self.bytes == other.bytes
+        are_same(self.as_bytes(), other.as_bytes())
     }
 }
 

@@ -5,6 +5,7 @@ ghost use Rattle.std.specs.Cmp.Lexicographic.{nat_list_eq_equiv, pointwise, same
 ghost use Rattle.std.specs.Prelude.{nat_eq, ◌∷◌, []};
 
 use crate::Text;
+use crate::same::are_same;
 use indexmap::Equivalent;
 use std::hash::{Hash, Hasher};
 
@@ -20,7 +21,7 @@ impl<'a> PartialEq for TextRef<'a> {
     ghost laws = { on_per (λ t. t.bytes.now) (partial_equiv_from_equiv nat_list_eq_equiv) };
 
     fn eq(&self, other: &Self) -> bool {
-        self.bytes == other.bytes
+        are_same(self.bytes, other.bytes)
     }
 }
 
@@ -47,6 +48,6 @@ impl<'a> Equivalent<Text> for TextRef<'a> {
     ghost respects_eq = { λ t x y same. ap (λ bytes. pointwise nat_eq bytes y) (same_text t.bytes.now x (sym same)) };
 
     fn equivalent(&self, text: &Text) -> bool {
-        self.bytes == text.as_bytes()
+        are_same(self.bytes, text.as_bytes())
     }
 }
