@@ -354,24 +354,24 @@ module _ (tag : Tag) (write : Write) (old : DiskState) (laws : HasMoments old) w
     fails_at : (call : Call) (e : DiskFault) → Stands tag write (Some call) old middle → MakesNext tag write (Some call) middle new (Err e)
         → FailsToWrite tag write (record { call = call; slot = write.0 }) old new
     fails_at call e s m =
-      let time = goes_on_on old middle new s.goes_on (time_by tag.0 write old middle new s.goes_on.later call (Err (record {})) m.crash) in
-      let others = others_on old middle new s.goes_on.later write.0 s.others (others_by tag.0 write old middle new s.goes_on.later call (Err (record {})) m.crash) in
-      record {
-      slot = refl;
-      contents = relates_on _ _ _ (λ a b c first next. failures tag.0 write a b c call first next) _ _ _ s.contents m.does.failed;
-      calls = relates_on _ _ _ (stops tag write.0 call) _ _ _ s.calls m.does.may_add;
-      reads = m.does.reads ∙ s.reads;
-      faults = rw (← s.faults) m.does.cause;
-      read_faults = m.does.read_faults ∙ s.read_faults;
-      leaves = leaves_written write.0 (Some write.1) (IsWritten write) (refl, refl) old new laws time.later others (most_left tag.0 write old middle new s.goes_on.later call s.contents s.left m.crash);
-      goes_on = time;
-      others = others;
-      unpublished = λ is. relates_on _ _ _ (λ a b c first next. touched tag.0 write a b c call is first next) _ _ _ s.contents m.does.failed;
-      untouched = λ is. record {
-        goes_on = time;
-        slots = λ slot. slots_by write.0 old new (untouched_by tag.0 write old middle new s.goes_on.later call is s.left m.crash) others (slot_eq slot write.0) slot refl;
-      };
-    }
+        let time = goes_on_on old middle new s.goes_on (time_by tag.0 write old middle new s.goes_on.later call (Err (record {})) m.crash) in
+        let others = others_on old middle new s.goes_on.later write.0 s.others (others_by tag.0 write old middle new s.goes_on.later call (Err (record {})) m.crash) in
+        record {
+          slot = refl;
+          contents = relates_on _ _ _ (λ a b c first next. failures tag.0 write a b c call first next) _ _ _ s.contents m.does.failed;
+          calls = relates_on _ _ _ (stops tag write.0 call) _ _ _ s.calls m.does.may_add;
+          reads = m.does.reads ∙ s.reads;
+          faults = rw (← s.faults) m.does.cause;
+          read_faults = m.does.read_faults ∙ s.read_faults;
+          leaves = leaves_written write.0 (Some write.1) (IsWritten write) (refl, refl) old new laws time.later others (most_left tag.0 write old middle new s.goes_on.later call s.contents s.left m.crash);
+          goes_on = time;
+          others = others;
+          unpublished = λ is. relates_on _ _ _ (λ a b c first next. touched tag.0 write a b c call is first next) _ _ _ s.contents m.does.failed;
+          untouched = λ is. record {
+            goes_on = time;
+            slots = λ slot. slots_by write.0 old new (untouched_by tag.0 write old middle new s.goes_on.later call is s.left m.crash) others (slot_eq slot write.0) slot refl;
+          };
+        }
 
 -- ---- a step of an updater
 
