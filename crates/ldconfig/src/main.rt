@@ -8,19 +8,19 @@ ghost use Rattle.std.specs.Prelude.{◌≡◌};
 ghost use Rattle.ldconfig.specs.Start.{code_of};
 
 use advice::{OUT_OF_MEMORY, advice, written_before};
+use device_rules::RunId;
+use image_folder::HeldFile;
 use ldconfig_cli::{Status, run};
 use lib_types::NoMemory;
 use notes::{note_manifest, note_size, note_update};
+use standard_streams::{Streams, write_error_line, write_text};
 use std::alloc::AllocError;
 use std::io::{Error, ErrorKind};
 use std::process::ExitCode;
 use std::random::RandomSource;
 use std::rt::Runtime;
 use std::{env, io, process};
-use tree_real::{
-    FolderDisk, FolderStore, HeldFile, RunId, StdinSource, StdoutSink, Streams, write_error_line,
-    write_text,
-};
+use tree_real::{FolderDisk, FolderStore, StdinSource, StdoutSink};
 
 /// Why no command was run.
 #[derive(Clone, Copy, Debug, PartialEq, Eq)]

@@ -1,14 +1,15 @@
 //! Lines on the error output about an update that was done, and about what was too large.
 use crate::advice::{SHOWN, cause_of, fewer};
+use device_rules::machine_name;
+use image_folder::HeldFile;
 use ldconfig_cli::Status;
 use mtree_manifest::ManifestFault;
+use slot_files::Written;
+use standard_streams::{Streams, printable, write_text};
 use std::alloc::AllocError;
 use std::io;
 use std::rt::Runtime;
-use tree_real::{
-    FolderDisk, FolderStore, HeldFile, Machines, Streams, Written, machine_name, printable,
-    write_text,
-};
+use tree_real::{FolderDisk, FolderStore, Machines};
 
 /// Says what is remarkable about an update that was done. A cache is written only by an update.
 pub fn note_update<R: Runtime + Streams>(

@@ -1,6 +1,1 @@
-pub mod Folder
-pub mod Head
-pub mod Machines
-pub mod Paths
-pub mod Temporary
 pub mod Unknown

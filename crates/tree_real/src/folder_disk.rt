@@ -5,12 +5,11 @@ ghost use Rattle.lib_types.specs.Counts.{HasRisen};
 ghost use Rattle.tree_real.specs.Unknown.{unknown_disk, unknown_moments};
 
 use crate::counts::one_more;
-use crate::kinds::is_out_of_memory;
-use crate::open_file::HeldFile;
-use crate::slot_files::{SlotFiles, Written};
-use crate::streams::Streams;
-use crate::temporary::RunId;
+use device_rules::{RunId, is_out_of_memory};
+use image_folder::HeldFile;
 use lib_types::{Failed, NoMemory};
+use slot_files::{SlotFiles, Written};
+use standard_streams::Streams;
 use std::alloc::Global;
 use std::io;
 use std::rt::Runtime;

@@ -3,12 +3,12 @@ ghost use Rattle.std.specs.Prelude.{◌≡◌, ◌-◌, min, IfOk};
 ghost use Rattle.tree_real.specs.Unknown.{no_counts, unknown_store};
 
 use crate::counts::{StoreCounts, one_more};
-use crate::image_folder::{ImageFolder, shorter};
-use crate::machines::{FirstFile, Machines, foreign_machine};
-use crate::open_file::HeldFile;
-use crate::streams::Streams;
+use crate::machines::{FirstFile, Machines};
+use device_rules::foreign_machine;
+use image_folder::{HeldFile, ImageFolder, shorter};
 use lib_types::{Failed, NoMemory};
 use name_order::is_library_name;
+use standard_streams::Streams;
 use std::io::{self, Error, ErrorKind};
 use std::os::unix::fs::FileExt;
 use std::rt::Runtime;

@@ -1,7 +1,4 @@
-//! Libraries for machines that no cache is built for.
-ghost use Rattle.std.specs.Prelude.{◌≡◌};
-ghost use Rattle.tree_real.specs.Machines.{foreign_machine, is_built, machine_in};
-
+//! The files for machines that no cache is built for.
 use std::rt::Runtime;
 
 /// How many files with a library's name are for other machines, and the first of them.
@@ -18,53 +15,4 @@ pub struct FirstFile<R: Runtime> {
     pub path: String<R::A>,
     /// The machine's number, as ELF has it.
     pub number: u16,
-}
-
-/// The number of the machine of an ELF file with these first bytes, if no cache is built for it.
-pub fn foreign_machine(head: &[u8]) -> Option<u16>
-    ensures { result ≡ foreign_machine head.now }
-{
-    let number = machine_in(head)?;
-    if is_built(number) { None } else { Some(number) }
-}
-
-// The machines of i386, of x86-64 and x32, and of AArch64.
-fn is_built(number: u16) -> bool
-    ensures { result ≡ is_built number }
-{
-    number == 3 || number == 62 || number == 183
-}
-
-// Its bytes stand in the order that the file says it has.
-fn machine_in(head: &[u8]) -> Option<u16>
-    ensures { result ≡ machine_in head.now }
-{
-    if head.len() < 20 || !head.starts_with(b"\x7fELF") {
-        return None;
-    }
-    if head[5] == 2 {
-        Some(u16::from_be_bytes([head[18], head[19]]))
-    } else {
-        Some(u16::from_le_bytes([head[18], head[19]]))
-    }
-}
-
-/// A machine's name, as it is known.
-pub fn machine_name(number: u16) -> Option<&'static str> {
-    match number {
-        2 | 43 => Some("SPARC"),
-        4 => Some("m68k"),
-        8 => Some("MIPS"),
-        15 => Some("PA-RISC"),
-        20 => Some("PowerPC"),
-        21 => Some("PowerPC64"),
-        22 => Some("S/390"),
-        40 => Some("ARM"),
-        42 => Some("SuperH"),
-        50 => Some("IA-64"),
-        243 => Some("RISC-V"),
-        258 => Some("LoongArch"),
-        0x9026 => Some("Alpha"),
-        _ => None,
-    }
 }

@@ -1,22 +1,13 @@
 //! Standard input and output.
-ghost use Rattle.std.specs.Prelude.{◌≡◌, ◌≤◌, ◌⊎◌, [], IfOk, length};
+ghost use Rattle.std.specs.Prelude.{◌≡◌};
 ghost use Rattle.tree_real.specs.Unknown.{unknown_source, unknown_sink};
 
 use crate::counts::one_more;
-use crate::error_line::write_error_line;
-use crate::kinds::is_for_now;
-use crate::streams::Streams;
 use lib_types::Failed;
-use std::io::{self, Error, ErrorKind, Read};
+use standard_streams::{Streams, read_some, write_error_line, write_some};
+use std::io::{Error, ErrorKind};
 use std::rt::Runtime;
-use std::thread;
-use std::time::Duration;
 use tree_face::{Sink, Source};
-
-// A stream that doesn't wait is asked again so often, with these pauses: about an hour.
-const MOST_TURNS: u64 = 360_000;
-
-const PAUSE_MILLIS: u64 = 10;
 
 /// What comes on standard input.
 #[derive(Drop)]
@@ -54,36 +45,6 @@ impl<R: Runtime> StdoutSink<R> {
     {
         StdoutSink { rt, faults: 0 }
     }
-}
-
-fn pause<R: Runtime>(rt: &R) {
-    thread::sleep(rt, Duration::from_millis(PAUSE_MILLIS))
-}
-
-// Reads once; again if a signal came or nothing is there yet.
-fn read_some<R: Runtime>(rt: &R, reader: &mut R::Reader, buf: &mut [u8]) -> io::Result<usize>
-    ensures { IfOk result (λ n. n ≤ length buf.new) }
-{
-    for _ in 0..MOST_TURNS {
-        match reader.read(buf) {
-            Err(error) if is_for_now(error.kind()) => pause(rt),
-            done => return done,
-        }
-    }
-    Err(Error::from(ErrorKind::TimedOut))
-}
-
-// Writes once; again if a signal came or the reader is behind.
-fn write_some<R: Runtime + Streams>(rt: &R, bytes: &[u8]) -> io::Result<usize>
-    ensures { IfOk result (λ n. n ≤ length bytes.now) }
-{
-    for _ in 0..MOST_TURNS {
-        match rt.write_output(bytes) {
-            Err(error) if is_for_now(error.kind()) => pause(rt),
-            done => return done,
-        }
-    }
-    Err(Error::from(ErrorKind::TimedOut))
 }
 
 impl<R: Runtime + Streams> Source for StdinSource<R> {

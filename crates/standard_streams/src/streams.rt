@@ -1,8 +1,8 @@
 //! Writing to the standard streams, which doesn't end the program by the signal of a file that is too long.
 ghost use Rattle.std.specs.Prelude.{◌≤◌, IfOk, length};
 
-use crate::file_limit::{file_limit, has_room, too_long};
-use crate::kinds::is_for_now;
+use crate::limits::file_limit;
+use device_rules::{has_room, is_for_now, too_long};
 use std::fs;
 use std::io::{self, Error, ErrorKind, Write};
 

@@ -1,6 +1,6 @@
 //! What is decided about paths without a call.
 ghost use Rattle.std.specs.Prelude.{◌≡◌, ◌↔◌, ◌++◌, ◌⊎◌, ◌≢◌, ◌∷◌, [], codes, IfSome, IsTrue};
-ghost use Rattle.tree_real.specs.Paths.{ends_part, is_at_or_above};
+ghost use Rattle.device_rules.specs.Paths.{ends_part, is_at_or_above};
 
 /// Whether the first folder is the second one, or on the way to it from the root. The root's name is empty.
 pub fn is_at_or_above(folder: &[u8], other: &[u8]) -> bool

@@ -3,8 +3,8 @@
 use Rattle.std.specs.Prelude.{◌≡◌, ⊤, ℕ, ◌^◌, ◌+◌, ◌-◌, ◌*◌, Bool, true, List, [], Option, Some, None, codes, min, bit_and, nat_le, nat_lt, ◌==◌, if◌then◌else◌}
 use Rattle.tree_face.specs.declared.disk.Slot.{Slot}
 use Rattle.tree_face.specs.declared.disk.Slot.TheVariants.{Manifest, Cache, Aux}
-use Rattle.tree_real.specs.declared.standing.Stamp.{Stamp}
-use Rattle.tree_real.specs.declared.standing.Owner.{Owner}
+use Rattle.device_rules.specs.declared.standing.Stamp.{Stamp}
+use Rattle.device_rules.specs.declared.standing.Owner.{Owner}
 
 -- the slot's file, below the root
 abbrev pub file_of : Slot → List ℕ

@@ -1,20 +1,16 @@
 //! The files of an image's slots, and how they are replaced.
 ghost use Rattle.std.specs.Prelude.{◌≡◌, IfOk, IsSomeAnd};
-ghost use Rattle.tree_real.specs.Folder.{file_of, folder_of, name_of};
 
-use crate::file_limit::{file_limit, has_room, too_long};
-use crate::head::{HEAD_SIZE, entries_in};
-use crate::image_folder::{ImageFolder, Missing, changed, open_file, read_whole, shorter};
-use crate::kinds::is_missing;
-use crate::open_file::HeldFile;
 use crate::same_bytes::have_same_bytes;
-use crate::standing::{
-    Owner, Stamp, Standing, is_as_read, length_to_read, mode_of, mode_until_whole, owner_of,
-    owner_to_give, stamp_of, standing_of,
+use crate::temporary::{Temporary, make_own, remove_left};
+use device_rules::{
+    HEAD_SIZE, Owner, RunId, Stamp, Standing, entries_in, file_of, folder_of, has_room, is_as_read,
+    is_missing, length_to_read, mode_of, mode_until_whole, name_of, owner_of, owner_to_give,
+    stamp_of, standing_of, too_long,
 };
-use crate::streams::Streams;
-use crate::temporary::{RunId, Temporary, make_own, remove_left};
+use image_folder::{HeldFile, ImageFolder, Missing, changed, open_file, read_whole, shorter};
 use lib_types::NoMemory;
+use standard_streams::{Streams, file_limit};
 use std::alloc::Global;
 use std::fs::{OpenFile, Permissions};
 use std::io::{self, Error, ErrorKind, Read, Write};
@@ -35,6 +31,16 @@ pub struct Written {
     pub manifest_length: Option<u64>,
 }
 
+impl Written {
+    fn note(&mut self, slot: Slot) {
+        match slot {
+            Slot::Manifest => self.manifest = true,
+            Slot::Cache => self.cache = true,
+            Slot::Aux => {}
+        }
+    }
+}
+
 /// The files `image.mtree`, `etc/ld.so.cache` and `var/cache/ldconfig/aux-cache` of an image.
 ///
 /// A temporary file stands beside its slot's file. One is open at a time: it is made by `create`, and ends with its
@@ -49,39 +55,6 @@ pub struct SlotFiles<R: Runtime> {
     // Whether what runs have left was removed.
     is_clean: bool,
     written: Written,
-}
-
-// A slot's file, below the root.
-fn file_of(slot: Slot) -> &'static str
-    ensures { result.now ≡ file_of slot }
-{
-    match slot {
-        Slot::Manifest => "image.mtree",
-        Slot::Cache => "etc/ld.so.cache",
-        Slot::Aux => "var/cache/ldconfig/aux-cache",
-    }
-}
-
-// The folder in which it stands.
-fn folder_of(slot: Slot) -> &'static str
-    ensures { result.now ≡ folder_of slot }
-{
-    match slot {
-        Slot::Manifest => "",
-        Slot::Cache => "etc",
-        Slot::Aux => "var/cache/ldconfig",
-    }
-}
-
-// Its name there.
-fn name_of(slot: Slot) -> &'static str
-    ensures { result.now ≡ name_of slot }
-{
-    match slot {
-        Slot::Manifest => "image.mtree",
-        Slot::Cache => "ld.so.cache",
-        Slot::Aux => "aux-cache",
-    }
 }
 
 impl<R: Runtime> SlotFiles<R> {
@@ -111,10 +84,18 @@ where
     /// The bytes of a slot's file, none if there is no such file. Of a manifest that is too long they are so many that this
     /// shows, and of what is no cache the first bytes alone.
     pub fn read(&mut self, alloc: Global, slot: Slot) -> io::Result<Option<Vec<u8>>> {
+        match self.open_slot(slot)? {
+            Some((file, stamp)) => Ok(Some(read_slot(alloc, slot, file, stamp.size)?)),
+            None => Ok(None),
+        }
+    }
+
+    // Opens a slot's file, if there is one.
+    fn open_slot(&mut self, slot: Slot) -> io::Result<Option<(R::File, Stamp)>> {
         match self.image.open(file_of(slot)) {
-            Ok((mut file, stamp)) => {
+            Ok((file, stamp)) => {
                 self.note_read(slot, Some(stamp));
-                Ok(Some(read_slot(alloc, slot, &mut file, stamp.size)?))
+                Ok(Some((file, stamp)))
             }
             Err(error) if is_missing(error.kind()) => {
                 self.note_read(slot, None);
@@ -185,8 +166,7 @@ where
     fn opened(&mut self, tag: Tag, slot: Slot) -> io::Result<&mut Temporary<R>>
         ensures { IfOk result (λ _. IsSomeAnd self.old.temporary (λ t. (t.tag ≡ tag) × (t.slot ≡ slot))) }
     {
-        self.image.enter(folder_of(slot), Missing::IsFault)?;
-        self.image.go_to(name_of(slot))?;
+        go_to_slot(&mut self.image, slot)?;
         match &mut self.temporary {
             Some(temporary) if temporary.tag == tag && temporary.slot == slot => Ok(temporary),
             _ => Err(Error::new(ErrorKind::NotFound, "no temporary file is open")),
@@ -197,8 +177,7 @@ where
     pub fn append(&mut self, tag: Tag, slot: Slot, bytes: &[u8]) -> io::Result<()> {
         let limit = file_limit(&self.image.rt);
         let temporary = self.opened(tag, slot)?;
-        require_room(&temporary.file, limit, bytes.len())?;
-        temporary.file.write_all(bytes)?;
+        write_within(&mut temporary.file, limit, bytes)?;
         if slot == Slot::Cache {
             self.written.entries = entries_in(bytes);
         }
@@ -208,13 +187,7 @@ where
     /// Flushes the temporary file to stable storage.
     pub fn sync(&mut self, tag: Tag, slot: Slot) -> io::Result<()> {
         let temporary = self.opened(tag, slot)?;
-        let mode = temporary.mode;
-        if mode_until_whole(mode) != mode {
-            temporary
-                .file
-                .set_permissions(Permissions::from_mode(mode))?;
-        }
-        temporary.file.sync_all()
+        flush(&temporary.file, temporary.mode)
     }
 
     /// Makes the temporary file the slot's.
@@ -225,11 +198,7 @@ where
         } else {
             self.discard();
         }
-        match slot {
-            Slot::Manifest => self.written.manifest = true,
-            Slot::Cache => self.written.cache = true,
-            Slot::Aux => {}
-        }
+        self.written.note(slot);
         Ok(())
     }
 
@@ -266,8 +235,7 @@ where
             rename_beside(&self.image, temporary.name.as_str(), name_of(slot))?;
             if slot == Slot::Manifest {
                 // The renaming changes its stamp.
-                let found = temporary.file.metadata();
-                self.manifest = found.ok().map(|found| Some(stamp_of(&found)));
+                self.manifest = stamp_in(&temporary.file);
             }
         }
         self.temporary = None;
@@ -283,15 +251,7 @@ where
     // Removes the temporary file that is open.
     fn discard(&mut self) {
         if let Some(temporary) = &self.temporary {
-            if self
-                .image
-                .enter(folder_of(temporary.slot), Missing::IsFault)
-                .is_ok()
-            {
-                if let Ok(path) = self.image.path_beside(temporary.name.as_str()) {
-                    let _ = self.image.rt.remove_file(path.as_str());
-                }
-            }
+            let _ = remove_beside(&mut self.image, temporary.slot, temporary.name.as_str());
         }
         self.temporary = None;
     }
@@ -317,11 +277,61 @@ fn require_room<F: OpenFile>(file: &F, limit: Option<u64>, more: usize) -> io::R
     }
 }
 
+// Writes bytes to a file, of which none may have more than the limit.
+fn write_within<F: OpenFile + Write>(
+    file: &mut F,
+    limit: Option<u64>,
+    bytes: &[u8],
+) -> io::Result<()> {
+    require_room(file, limit, bytes.len())?;
+    file.write_all(bytes)
+}
+
+// Flushes a file, which is whole and so gets its mode.
+fn flush<F: OpenFile>(file: &F, mode: u32) -> io::Result<()> {
+    if mode_until_whole(mode) != mode {
+        file.set_permissions(Permissions::from_mode(mode))?;
+    }
+    file.sync_all()
+}
+
+// From here on faults are about the slot's file.
+fn go_to_slot<R: Runtime>(image: &mut ImageFolder<R>, slot: Slot) -> io::Result<()>
+where
+    R::File: HeldFile,
+{
+    image.enter(folder_of(slot), Missing::IsFault)?;
+    image.go_to(name_of(slot))?;
+    Ok(())
+}
+
+// Removes the file of this name beside the slot's.
+fn remove_beside<R: Runtime>(image: &mut ImageFolder<R>, slot: Slot, name: &str) -> io::Result<()>
+where
+    R::File: HeldFile,
+{
+    image.enter(folder_of(slot), Missing::IsFault)?;
+    let path = image.path_beside(name)?;
+    image.rt.remove_file(path.as_str())
+}
+
 // Renames a file in the folder that was entered.
 fn rename_beside<R: Runtime>(image: &ImageFolder<R>, from: &str, to: &str) -> io::Result<()> {
     let from = image.path_beside(from)?;
+    rename_to(image, from.as_str(), to)
+}
+
+fn rename_to<R: Runtime>(image: &ImageFolder<R>, from: &str, to: &str) -> io::Result<()> {
     let to = image.path_beside(to)?;
-    image.rt.rename(from.as_str(), to.as_str())
+    image.rt.rename(from, to.as_str())
+}
+
+// Which manifest an open file is, if that can be said.
+fn stamp_in<F: OpenFile>(file: &F) -> Option<Option<Stamp>> {
+    match file.metadata() {
+        Ok(found) => Some(Some(stamp_of(&found))),
+        Err(_) => None,
+    }
 }
 
 // Gives a new file the owner of the one that stood in its place, if that can be done, and the mode that it has while it is written.
@@ -349,18 +359,18 @@ where
 }
 
 // The bytes that are read of a slot's file of this length.
-fn read_slot<F: HeldFile + Read>(
+fn read_slot<F: HeldFile + Read + Drop>(
     alloc: Global,
     slot: Slot,
-    file: &mut F,
+    mut file: F,
     size: u64,
 ) -> io::Result<Vec<u8>> {
-    let is_cache = slot == Slot::Cache && begins_cache(file, size)?;
+    let is_cache = slot == Slot::Cache && begins_cache(&file, size)?;
     let Some(length) = length_to_read(slot, is_cache, size) else {
         return Err(Error::new(ErrorKind::FileTooLarge, too_large(slot)));
     };
     let mut bytes = vec![in alloc; 0u8; length as usize]?;
-    read_whole(file, &mut bytes)?;
+    read_whole(&mut file, &mut bytes)?;
     Ok(bytes)
 }
 

@@ -1,6 +1,6 @@
 //! How many entries a cache has, by the first bytes of its file.
 ghost use Rattle.std.specs.Prelude.{◌≡◌};
-ghost use Rattle.tree_real.specs.Head.{entries_in};
+ghost use Rattle.device_rules.specs.Head.{entries_in};
 
 /// So many first bytes of a cache have the number of its entries.
 pub const HEAD_SIZE: usize = 24;

@@ -1,9 +1,6 @@
 //! How long this program may make a file (`RLIMIT_FSIZE`). The system ends one that writes past that, so it is asked before.
-ghost use Rattle.std.specs.Prelude.{◌≡◌};
-ghost use Rattle.tree_real.specs.Folder.{has_room};
-
 use std::fs;
-use std::io::{self, Error, ErrorKind, Read};
+use std::io::{self, Read};
 use std::rt::Runtime;
 use std::str::from_utf8;
 
@@ -27,19 +24,4 @@ fn limit_in(list: &str) -> Option<u64> {
     let (_, line) = list.split_once("Max file size ")?;
     let (limit, _) = line.trim_start().split_once(' ')?;
     limit.parse().ok()
-}
-
-/// Whether a file of this length has room for so many bytes more.
-pub fn has_room(limit: Option<u64>, length: u64, more: usize) -> bool
-    ensures { result ≡ has_room limit length more }
-{
-    match limit {
-        Some(limit) => more as u64 <= limit.saturating_sub(length),
-        None => true,
-    }
-}
-
-/// The error of a file that would have more bytes, in the system's words.
-pub fn too_long() -> Error {
-    Error::new(ErrorKind::FileTooLarge, "File too large")
 }

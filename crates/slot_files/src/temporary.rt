@@ -1,30 +1,13 @@
 //! Temporary files that are one run's own.
-ghost use Rattle.std.specs.Prelude.{◌≡◌, ◌++◌, ◌∷◌, IfOk, IfSome, string_bytes};
-ghost use Rattle.std.specs.Char.{is_ascii_digit};
-ghost use Rattle.std.specs.Fmt.{decimal};
-ghost use Rattle.std.specs.List.{list_all};
-ghost use Rattle.tree_real.specs.Temporary.{IsMadeBy, is_number, temporary_name};
-
-use crate::image_folder::{ImageFolder, open_file};
-use crate::kinds::{is_missing, is_no_text, is_there};
-use crate::open_file::HeldFile;
-use crate::paths::behind;
-use crate::standing::{Identity, identity_of};
-use std::alloc::AllocError;
+use device_rules::{
+    Identity, RunId, identity_of, is_missing, is_no_text, is_there, maker_of, temporary_path,
+};
+use image_folder::{HeldFile, ImageFolder, open_file};
 use std::fs::{self, OpenFile, OpenOptions, read_dir};
 use std::io::{self, Error, ErrorKind};
 use std::os::unix::fs::OpenOptionsExt;
 use std::rt::Runtime;
 use tree_face::{Slot, Tag};
-
-/// What no other running program has.
-#[derive(Clone, Copy)]
-pub struct RunId {
-    /// The process's number, which tells a person where a file is from.
-    pub process: u32,
-    /// A random number, since programs that don't see each other's processes can have one process number.
-    pub random: u64,
-}
 
 /// An open temporary file, with a lock on it as long as it is open.
 #[derive(Drop)]
@@ -36,21 +19,6 @@ pub struct Temporary<R: Runtime> {
     pub file: R::File,
     /// The mode that it has in the slot's place.
     pub mode: u32,
-}
-
-/// The name of a run's temporary file for the slot's file of this name.
-pub fn temporary_path<R: Runtime>(
-    rt: &R,
-    path: &str,
-    tag: Tag,
-    run: RunId,
-) -> Result<String<R::A>, AllocError>
-    ensures { IfOk result (λ text. string_bytes text ≡ temporary_name path.now (decimal tag.0) (decimal run.process) (decimal run.random)) }
-{
-    let tag = tag.0;
-    let process = run.process;
-    let random = run.random;
-    format!(in rt.alloc(); "{path}.tmp{tag}.{process}.{random}")
 }
 
 // So many names are tried, should one be taken.
@@ -163,39 +131,4 @@ where
         rt.remove_file(path)?;
     }
     Ok(())
-}
-
-// The process that made a file of this name, if it is a temporary file of the slot's file.
-fn maker_of<'a>(name: &'a str, file: &str) -> Option<&'a str>
-    ensures { IfSome result (λ process. IsMadeBy file.now process.now name.now) }
-{
-    let tail = behind(name, file)?;
-    let numbers = behind(tail, ".tmp")?;
-    let (tag, rest) = at_dot(numbers)?;
-    let (process, random) = at_dot(rest)?;
-    if is_number(tag) && is_number(process) && is_number(random) {
-        Some(process)
-    } else {
-        None
-    }
-}
-
-// The parts before and behind the first dot.
-fn at_dot(text: &str) -> Option<(&str, &str)>
-    ensures { IfSome result (λ parts. text.now ≡ parts.0.now ++ 46 ∷ parts.1.now) }
-{
-    text.split_once('.')
-}
-
-// Whether the text is a decimal number.
-fn is_number(text: &str) -> bool
-    ensures { result ≡ is_number text.now }
-{
-    !text.is_empty() && are_digits(text.as_bytes())
-}
-
-fn are_digits(bytes: &[u8]) -> bool
-    ensures { result ≡ list_all is_ascii_digit bytes.now }
-{
-    bytes.iter().all(|b| b.is_ascii_digit())
 }

@@ -1,6 +1,6 @@
 //! The file that stands in a slot's place, and what its successor takes over from it.
 ghost use Rattle.std.specs.Prelude.{◌≡◌, ◌↔◌, Some, IsTrue, bit_and};
-ghost use Rattle.tree_real.specs.Folder.{IsAsRead, largest, length_to_read, mode_of, owner_to_give};
+ghost use Rattle.device_rules.specs.Folder.{IsAsRead, largest, length_to_read, mode_of, owner_to_give};
 
 use std::fs::Metadata;
 use std::os::unix::fs::MetadataExt;

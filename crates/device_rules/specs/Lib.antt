@@ -1,0 +1,5 @@
+pub mod Folder
+pub mod Head
+pub mod Machines
+pub mod Paths
+pub mod Temporary

@@ -1,0 +1,70 @@
+//! The names of temporary files.
+ghost use Rattle.std.specs.Prelude.{◌≡◌, ◌++◌, ◌∷◌, IfOk, IfSome, string_bytes};
+ghost use Rattle.std.specs.Char.{is_ascii_digit};
+ghost use Rattle.std.specs.Fmt.{decimal};
+ghost use Rattle.std.specs.List.{list_all};
+ghost use Rattle.device_rules.specs.Temporary.{IsMadeBy, is_number, temporary_name};
+
+use crate::paths::behind;
+use std::alloc::AllocError;
+use std::rt::Runtime;
+use tree_face::Tag;
+
+/// What no other running program has.
+#[derive(Clone, Copy)]
+pub struct RunId {
+    /// The process's number, which tells a person where a file is from.
+    pub process: u32,
+    /// A random number, since programs that don't see each other's processes can have one process number.
+    pub random: u64,
+}
+
+/// The name of a run's temporary file for the slot's file of this name.
+pub fn temporary_path<R: Runtime>(
+    rt: &R,
+    path: &str,
+    tag: Tag,
+    run: RunId,
+) -> Result<String<R::A>, AllocError>
+    ensures { IfOk result (λ text. string_bytes text ≡ temporary_name path.now (decimal tag.0) (decimal run.process) (decimal run.random)) }
+{
+    let tag = tag.0;
+    let process = run.process;
+    let random = run.random;
+    format!(in rt.alloc(); "{path}.tmp{tag}.{process}.{random}")
+}
+
+/// The process that made a file of this name, if it is a temporary file of the slot's file.
+pub fn maker_of<'a>(name: &'a str, file: &str) -> Option<&'a str>
+    ensures { IfSome result (λ process. IsMadeBy file.now process.now name.now) }
+{
+    let tail = behind(name, file)?;
+    let numbers = behind(tail, ".tmp")?;
+    let (tag, rest) = at_dot(numbers)?;
+    let (process, random) = at_dot(rest)?;
+    if is_number(tag) && is_number(process) && is_number(random) {
+        Some(process)
+    } else {
+        None
+    }
+}
+
+// The parts before and behind the first dot.
+fn at_dot(text: &str) -> Option<(&str, &str)>
+    ensures { IfSome result (λ parts. text.now ≡ parts.0.now ++ 46 ∷ parts.1.now) }
+{
+    text.split_once('.')
+}
+
+// Whether the text is a decimal number.
+fn is_number(text: &str) -> bool
+    ensures { result ≡ is_number text.now }
+{
+    !text.is_empty() && are_digits(text.as_bytes())
+}
+
+fn are_digits(bytes: &[u8]) -> bool
+    ensures { result ≡ list_all is_ascii_digit bytes.now }
+{
+    bytes.iter().all(|b| b.is_ascii_digit())
+}

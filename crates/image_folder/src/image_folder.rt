@@ -1,0 +1,300 @@
+//! The files of an image that is unpacked in a folder.
+use crate::files::open_file;
+use crate::folders::{Missing, open_first, open_or_make, path_of};
+use crate::held_file::HeldFile;
+use device_rules::{Stamp, behind, divided, is_at_or_above, is_missing, leads_on, leads_up};
+use lib_types::NoMemory;
+use standard_streams::{Streams, write_error_line};
+use std::alloc::{AllocError, Allocator};
+use std::fs::{self, Metadata, OpenFile};
+use std::io::{self, Error, ErrorKind};
+use std::rt::Runtime;
+
+/// So many folders of one path are open at once. Of a deeper path those at its end are.
+const MOST_OPEN: usize = 64;
+
+/// A folder whose files are reached without following a symbolic link in it.
+///
+/// Each folder on the way to a file is opened, and what is in it is reached by the open folder: one that is exchanged for
+/// another, or for a link, while it is open doesn't matter.
+#[derive(Drop)]
+pub struct ImageFolder<R: Runtime> {
+    pub rt: R,
+    // The image's folder.
+    root: String<R::A>,
+    // Whether the system shows what is open, below /proc/self/fd.
+    by_number: bool,
+    // The folders from the root to the one of the last file.
+    levels: Vec<Level<R>, R::A>,
+    // The path that the last call was about, for the system. It is empty if that was about the folder `said` itself.
+    path: String<R::A>,
+    // At which offset of the path its last name begins.
+    name_at: usize,
+    // Which of the levels the last call was about.
+    said: usize,
+}
+
+/// A folder on the way to a file.
+#[derive(Drop)]
+struct Level<R: Runtime> {
+    // Its name below the root, which is empty for the root.
+    name: String<R::A>,
+    // What stands before the name of a file in it, for the system.
+    prefix: String<R::A>,
+    // A folder may be one that can be entered and not read: then it isn't open.
+    open: Option<R::File>,
+}
+
+impl<R: Runtime> ImageFolder<R> {
+    /// The image in the folder `root`.
+    pub fn new(rt: R, root: &str) -> Result<ImageFolder<R>, NoMemory> {
+        let root = String::from_str(rt.alloc(), root)?;
+        let levels = Vec::new(rt.alloc());
+        let path = String::new(rt.alloc());
+        Ok(ImageFolder {
+            rt,
+            root,
+            by_number: false,
+            levels,
+            path,
+            name_at: 0,
+            said: 0,
+        })
+    }
+
+    /// What the last call was about, as it is named below the image.
+    pub fn name(&self) -> Result<String<R::A>, AllocError> {
+        let folder = match self.levels.get(self.said) {
+            Some(level) => level.name.as_str(),
+            None => "",
+        };
+        let last = self.last();
+        match (folder.is_empty(), last.is_empty()) {
+            (true, true) => String::from_str(self.rt.alloc(), "."),
+            (true, false) => String::from_str(self.rt.alloc(), last),
+            (false, true) => String::from_str(self.rt.alloc(), folder),
+            (false, false) => format!(in self.rt.alloc(); "{folder}/{last}"),
+        }
+    }
+
+    // The last name of the path.
+    fn last(&self) -> &str {
+        self.path.as_str().get(self.name_at..).unwrap_or("")
+    }
+
+    /// From here on faults are about the file of this name in the folder that was entered.
+    pub fn go_to(&mut self, name: &str) -> Result<(), AllocError> {
+        self.said = self.levels.len().saturating_sub(1);
+        let prefix = prefix_in(&self.levels);
+        self.name_at = prefix.len();
+        put_joined(&mut self.path, prefix, name)
+    }
+
+    // From here on faults are about the image's own folder.
+    fn go_to_root(&mut self) -> Result<(), AllocError> {
+        self.said = 0;
+        self.name_at = 0;
+        put_joined(&mut self.path, "", self.root.as_str())
+    }
+
+    /// The path that the last call was about, for the system.
+    pub fn path(&self) -> &str {
+        self.path.as_str()
+    }
+
+    /// A path of another name in the folder that was entered, for the system.
+    pub fn path_beside(&self, name: &str) -> Result<String<R::A>, AllocError> {
+        let prefix = prefix_in(&self.levels);
+        format!(in self.rt.alloc(); "{prefix}{name}")
+    }
+}
+
+// What stands before the name of a file in the last of these folders, for the system.
+fn prefix_in<R: Runtime>(levels: &[Level<R>]) -> &str {
+    match levels.last() {
+        Some(level) => level.prefix.as_str(),
+        None => "",
+    }
+}
+
+// The name of the last of these folders below the root.
+fn name_in<R: Runtime>(levels: &[Level<R>]) -> &str {
+    match levels.last() {
+        Some(level) => level.name.as_str(),
+        None => "",
+    }
+}
+
+fn put_joined<A: Allocator>(
+    path: &mut String<A>,
+    front: &str,
+    back: &str,
+) -> Result<(), AllocError> {
+    path.clear();
+    path.push_str(front)?;
+    path.push_str(back)
+}
+
+impl<R: Runtime + Streams> ImageFolder<R> {
+    /// Writes the line that the last call failed on the error output, with what was done and the path that it failed at.
+    pub fn write_error_line(&self, call: &str, error: Error) {
+        match self.name() {
+            Ok(name) => write_error_line(&self.rt, name.as_str(), call, error),
+            Err(_) => write_error_line(&self.rt, self.last(), call, error),
+        }
+    }
+}
+
+impl<R: Runtime> ImageFolder<R>
+where
+    R::File: HeldFile,
+{
+    /// Opens a regular file, and says what it is. A symbolic link on the way, or anything else than a regular file at the end,
+    /// is an error before it is opened: a link may lead out of the image, and opening a pipe would wait.
+    pub fn open(&mut self, path: &str) -> io::Result<(R::File, Stamp)> {
+        let (folder, name) = divided(path);
+        self.enter(folder, Missing::IsFault)?;
+        self.go_to(name)?;
+        if !leads_on(name.as_bytes()) || leads_up(name.as_bytes()) {
+            return Err(Error::new(ErrorKind::InvalidInput, "the path has no file's name"));
+        }
+        open_file(&self.rt, self.path.as_str())
+    }
+
+    /// What stands under a name in the folder that was entered, if anything does.
+    pub fn look(&mut self, name: &str) -> io::Result<Option<Metadata>> {
+        self.go_to(name)?;
+        look_at(&self.rt, self.path.as_str())
+    }
+
+    /// Goes to a folder, part by part from the one that is open already and on the way to it.
+    pub fn enter(&mut self, folder: &str, missing: Missing) -> io::Result<()> {
+        if self.is_in(folder) {
+            return Ok(());
+        }
+        self.open_root()?;
+        let kept = on_the_way(&self.levels, folder);
+        self.levels.truncate(kept);
+        match behind(folder, name_in(&self.levels)) {
+            Some(rest) => self.go_on(rest, missing),
+            None => Err(Error::new(ErrorKind::InvalidInput, "another folder is open")),
+        }
+    }
+
+    // Goes on from the folder that was entered.
+    fn go_on(&mut self, rest: &str, missing: Missing) -> io::Result<()> {
+        for part in rest.split('/') {
+            if leads_on(part.as_bytes()) {
+                self.step(part, missing)?;
+            }
+        }
+        Ok(())
+    }
+
+    // Whether this folder was entered last.
+    fn is_in(&self, folder: &str) -> bool {
+        !self.levels.is_empty() && name_in(&self.levels) == folder
+    }
+
+    // The image's own folder. A link to it is followed: it isn't in the image.
+    fn open_root(&mut self) -> io::Result<()> {
+        if !self.levels.is_empty() {
+            return Ok(());
+        }
+        self.go_to_root()?;
+        let (open, by_number) = open_first(&self.rt, self.path.as_str())?;
+        self.by_number = by_number;
+        self.push("", open)
+    }
+
+    // One part further, which has to be a folder.
+    fn step(&mut self, part: &str, missing: Missing) -> io::Result<()> {
+        self.go_to(part)?;
+        if leads_up(part.as_bytes()) {
+            return Err(Error::new(ErrorKind::InvalidInput, "the path has \"..\""));
+        }
+        let open = open_or_make(&self.rt, self.path.as_str(), missing)?;
+        self.push(part, open)
+    }
+
+    // Puts the folder at the path behind those that are open.
+    fn push(&mut self, part: &str, open: Option<R::File>) -> io::Result<()> {
+        let level = self.level(part, open)?;
+        if self.levels.len() >= MOST_OPEN {
+            let _ = self.levels.pop();
+        }
+        self.levels.push(level)?;
+        Ok(())
+    }
+
+    // The folder at the path, which is open or can't be.
+    fn level(&self, part: &str, open: Option<R::File>) -> Result<Level<R>, AllocError> {
+        let prefix = self.prefix_of(&open)?;
+        let name = self.name_of(part)?;
+        Ok(Level { name, prefix, open })
+    }
+
+    // The name below the root of what has this name in the folder that was entered.
+    fn name_of(&self, part: &str) -> Result<String<R::A>, AllocError> {
+        let above = name_in(&self.levels);
+        if above.is_empty() {
+            return String::from_str(self.rt.alloc(), part);
+        }
+        format!(in self.rt.alloc(); "{above}/{part}")
+    }
+
+    // What stands before the names in the folder at the path, which is open or can't be, for the system.
+    fn prefix_of(&self, open: &Option<R::File>) -> Result<String<R::A>, AllocError> {
+        match open {
+            Some(file) if self.by_number => path_of(&self.rt, file),
+            _ => {
+                let path = self.path.as_str();
+                format!(in self.rt.alloc(); "{path}/")
+            }
+        }
+    }
+
+    /// Flushes the folder that was entered, and those on the way to it, to stable storage.
+    pub fn sync_folders(&mut self) -> io::Result<()> {
+        self.path.clear();
+        self.name_at = 0;
+        sync_all_of(&self.rt, &self.levels, &mut self.said)
+    }
+}
+
+// How many of these folders, each in the one before it, are on the way to this one.
+fn on_the_way<R: Runtime>(levels: &[Level<R>], folder: &str) -> usize {
+    let mut count = 0usize;
+    for level in levels.iter() {
+        if !is_at_or_above(level.name.as_bytes(), folder.as_bytes()) {
+            return count;
+        }
+        count = count.saturating_add(1);
+    }
+    count
+}
+
+fn look_at<R: Runtime>(rt: &R, path: &str) -> io::Result<Option<Metadata>> {
+    match fs::symlink_metadata(rt, path) {
+        Ok(found) => Ok(Some(found)),
+        Err(error) if is_missing(error.kind()) => Ok(None),
+        Err(error) => Err(error),
+    }
+}
+
+// Flushes these folders one after the other, and says at which it is.
+fn sync_all_of<R: Runtime>(rt: &R, levels: &[Level<R>], at: &mut usize) -> io::Result<()> {
+    for i in 0..levels.len() {
+        *at = i;
+        sync_folder(rt, &levels[i])?;
+    }
+    Ok(())
+}
+
+// A folder that isn't open can't be opened now either: the error says why.
+fn sync_folder<R: Runtime>(rt: &R, level: &Level<R>) -> io::Result<()> {
+    match &level.open {
+        Some(file) => file.sync_all(),
+        None => fs::open(rt, level.prefix.as_str())?.sync_all(),
+    }
+}
