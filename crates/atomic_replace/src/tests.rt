@@ -100,6 +100,76 @@ fn a_slot_is_replaced(rt: HostRuntime) -> Result<(), Fail> {
     Ok(())
 }
 
+// After so many calls, what the slot of an image holds, by whether a publishing that isn't settled counts as done.
+const LEFT: &[(u64, &[u8], &[u8])] = &[
+    (0, b"old", b"old"),
+    (1, b"old", b"old"),
+    (2, b"old", b"old"),
+    (3, b"old", b"old"),
+    (4, b"old", b"new"),
+    (5, b"new", b"new"),
+];
+
+// The bit of a slot in the choice of an image.
+fn bit_of(slot: Slot) -> u8 {
+    match slot {
+        Slot::Manifest => 1,
+        Slot::Cache => 2,
+        Slot::Aux => 4,
+    }
+}
+
+// The slot of this image holds these bytes, and the others what they held.
+fn assert_image(
+    rt: &impl Abort,
+    alloc: Global,
+    mut image: MemDisk,
+    slot: Slot,
+    want: &[u8],
+) -> Result<(), Fail> {
+    for other in SLOTS {
+        let want = if *other == slot { want } else { b"old" };
+        assert!(rt; has(alloc, &mut image, *other, want), "{other:?}");
+    }
+    Ok(())
+}
+
+fn assert_stop(
+    rt: &impl Abort,
+    alloc: Global,
+    slot: Slot,
+    left: (u64, &[u8], &[u8]),
+) -> Result<(), Fail> {
+    let (calls, undone, done) = left;
+    let mut disk = disk_of(alloc, &[])?;
+    disk.stop_after(calls);
+    let mut updater = Updater::new(Tag(7), slot, b"new");
+    assert!(rt;
+        updater.commit(&mut disk).is_ok() == (calls == 5),
+        "{calls}"
+    );
+    for choice in 0u8..8 {
+        let want = if choice & bit_of(slot) == 0 {
+            undone
+        } else {
+            done
+        };
+        assert_image(rt, alloc, disk.image(alloc, choice)?, slot, want)?;
+    }
+    Ok(())
+}
+
+#[test]
+fn a_stop_leaves_the_old_content_or_the_new(rt: HostRuntime) -> Result<(), Fail> {
+    let alloc = rt.alloc();
+    for slot in SLOTS {
+        for left in LEFT {
+            assert_stop(&rt, alloc, *slot, *left)?;
+        }
+    }
+    Ok(())
+}
+
 // Makes the steps of a replacement, and returns which calls they were.
 fn make_steps<D: Disk>(
     updater: &mut Updater<'_>,

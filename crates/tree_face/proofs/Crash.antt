@@ -48,10 +48,10 @@ module _ (a b c : DiskState) where
   goes_on_on first next = record {
     later = omega (arith, first.later, next.later);
     moments = λ t slot x le.
-      next.moments t slot x (omega (arith, le, first.later))
-      ∙ ap (λ y. y || c.since b.time slot x) (first.moments t slot x le)
-      ∙ or_assoc (a.since t slot x) (b.since a.time slot x) (c.since b.time slot x)
-      ∙ ap (λ y. a.since t slot x || y) (sym (next.moments a.time slot x first.later));
+        next.moments t slot x (omega (arith, le, first.later))
+        ∙ ap (λ y. y || c.since b.time slot x) (first.moments t slot x le)
+        ∙ or_assoc (a.since t slot x) (b.since a.time slot x) (c.since b.time slot x)
+        ∙ ap (λ y. a.since t slot x || y) (sym (next.moments a.time slot x first.later));
   }
 
   module _ (later : a.time ≤ b.time) where
@@ -123,8 +123,8 @@ module _ (slot : Slot) (bytes : Content) (P : Slot → Content → Type 0) (hold
   during_by None is most true t s b here le since = inl (anything is t s b le)
   during_by (Some c) is most true t s b here le since =
       let either = or_true (old.since t s b) (content_eq bytes b)
-        (subst (λ (s : Slot). (old.since t s b || content_eq bytes b) ≡ true) (sym (slot_is s slot here))
-        (most.during t b le (subst (λ (s : Slot). new.since t s b ≡ true) (slot_is s slot here) since))) in
+      (subst (λ (s : Slot). (old.since t s b || content_eq bytes b) ≡ true) (sym (slot_is s slot here))
+      (most.during t b le (subst (λ (s : Slot). new.since t s b ≡ true) (slot_is s slot here) since))) in
       elim either [
         | inl e ↦ inl e
         | inr e ↦ inr (it_is s b here e)
@@ -136,8 +136,8 @@ module _ (slot : Slot) (bytes : Content) (P : Slot → Content → Type 0) (hold
   now_by None is most true s b here may = inl (laws.unknown is s b)
   now_by (Some c) is most true s b here may =
       let either = or_true (old.may s b) (content_eq bytes b)
-        (subst (λ (s : Slot). (old.may s b || content_eq bytes b) ≡ true) (sym (slot_is s slot here))
-        (most.now b (subst (λ (s : Slot). new.may s b ≡ true) (slot_is s slot here) may))) in
+      (subst (λ (s : Slot). (old.may s b || content_eq bytes b) ≡ true) (sym (slot_is s slot here))
+      (most.now b (subst (λ (s : Slot). new.may s b ≡ true) (slot_is s slot here) may))) in
       elim either [
         | inl e ↦ inl e
         | inr e ↦ inr (it_is s b here e)

@@ -1,5 +1,5 @@
 -- What the writing calls of disks in memory do to the slots, and to what a crash leaves.
-use Rattle.std.proofs.Common.{◌≡◌, ◌≤◌, ◌+◌, ◌||◌, ◌++◌, ℕ, Bool, true, false, List, [], ◌∷◌, length, length-append, if◌then◌else◌, refl, sym, ap, subst, ◌∙◌, arith, Option, Some, None, Result, Ok, Err, is_err, MatchResult, OnOk, OnErr, inl, ◌==◌, ◌&&◌}
+use Rattle.std.proofs.Common.{◌≡◌, ◌≤◌, ◌+◌, ◌||◌, ◌++◌, ℕ, Bool, true, false, List, [], ◌∷◌, length, length-append, if◌then◌else◌, refl, sym, ap, subst, ◌∙◌, arith, Option, Some, None, Result, Ok, Err, is_err, is_some, MatchResult, OnOk, OnErr, inl, ◌==◌, ◌&&◌}
 use Rattle.std.proofs.lemmas.Bool.{false≢true, true≢false}
 use Rattle.lib_types.specs.declared.fault.Failed.{Failed}
 use Rattle.tree_face.specs.declared.disk.Slot.{Slot}
@@ -11,12 +11,12 @@ use Rattle.tree_face.specs.declared.memory.past.Change.TheVariants.{Published, S
 use Rattle.tree_face.specs.declared.memory.past.Past.{Past}
 use Rattle.tree_face.specs.declared.memory.temporaries.Temporaries.{Temporaries}
 use Rattle.tree_face.specs.declared.memory.temporaries.Temporary.{Temporary}
-use Rattle.tree_face.specs.Crash.{AddsPublished, GoesOn, HasMoments, KeepsSlots, LeavesAtMost, LeavesMore, LeavesOthers, LeavesSame, Settles, left_by, published}
+use Rattle.tree_face.specs.Crash.{AddsPublished, GoesOn, IsAtRest, IsImage, HasMoments, KeepsSlots, LeavesAtMost, LeavesMore, LeavesOthers, LeavesSame, Settles, left_by, published}
 use Rattle.tree_face.specs.Disk.{Content, DiskContent, DiskState, Keeps, KeepsOthers, Slots, content_eq, MayPublish, Publishes, slot_eq, slot_of, with_slot}
 use Rattle.tree_face.specs.Known.{IfKnown}
-use Rattle.tree_face.specs.Past.{IsChangedBy, KeepsPast, Moment, clock_of, may_leave, might_leave, moment_after, moment_in}
+use Rattle.tree_face.specs.Past.{IsChangedBy, KeepsPast, Moment, changes_of, clock_of, first_moment, last_moment, left_in, may_leave, might_leave, moment_after, moment_in}
 use Rattle.tree_face.specs.PastLaws.{has_moments, is_sound}
-use Rattle.tree_face.specs.SureDisk.{disk_content, disk_state, failing_disk_state, files_of, now_in}
+use Rattle.tree_face.specs.SureDisk.{counts_as_done, disk_content, disk_state, failing_disk_content, failing_disk_state, files_of, left_by_choice, now_in}
 use Rattle.tree_face.specs.Temporaries.{bytes_of, file_in, is_synced}
 use Rattle.tree_face.proofs.Crash.{content_is, same_slot}
 use Rattle.tree_face.proofs.Past.{absorbed, kept_may, kept_moment, kept_since, kept_time, moment_more, or_in, since_after, still}
@@ -338,3 +338,45 @@ module _ (a b : MemDisk) where
 
     pub failing_settles_nothing : b.disk ≡ a.disk → is_err result ≡ true → Settles slot (failing_disk_state a) (failing_disk_state b) result
     failing_settles_nothing e failed = settles_nothing (failing_disk_state a) (failing_disk_state b) slot result (failing_still e) failed
+
+-- ---- disks at rest
+
+module _ (d : SureDisk) (none : changes_of d.past ≡ []) (files : (s : Slot) (t : ℕ) → file_in (files_of d s) t ≡ None) where
+  first : (s : Slot) (b : Content) → may_leave d.past s b ≡ content_eq (now_in d s) b
+  first s b = subst (λ (m : Moment). m.may b ≡ content_eq m.holds.now b) (sym (ap (last_moment s (first_moment d.past s)) none)) refl
+
+  pub at_rest_by : IsAtRest (disk_state d)
+  at_rest_by = record { made = λ t s. ap (λ f. is_some (bytes_of f)) (files s t); temporary = λ t s. ap bytes_of (files s t); flushed = flushed }
+    where
+      flushed : (s : Slot) (b : Content) → may_leave d.past s b ≡ content_eq (slot_of (disk_content d).now s) b
+      flushed Manifest = first Manifest
+      flushed Cache = first Cache
+      flushed Aux = first Aux
+
+pub at_rest : (d : SureDisk) → changes_of d.past ≡ [] → ((t : ℕ) → file_in d.manifest t ≡ None) → ((t : ℕ) → file_in d.cache t ≡ None) → ((t : ℕ) → file_in d.aux t ≡ None) → IsAtRest (disk_state d)
+at_rest d none m c x = at_rest_by d none files
+  where
+    files : (s : Slot) (t : ℕ) → file_in (files_of d s) t ≡ None
+    files Manifest = m
+    files Cache = c
+    files Aux = x
+
+pub failing_at_rest : (d : MemDisk) → IsAtRest (disk_state d.disk) → IsAtRest (failing_disk_state d)
+failing_at_rest d rest = record { made = rest.made; temporary = rest.temporary; flushed = rest.flushed }
+
+-- ---- images
+
+module _ (a b : MemDisk) (choice : ℕ) where
+  -- the slots of an image, one by one
+  pub left_by_bits : (failing_disk_content b).now.manifest ≡ left_by_choice a choice Manifest → (failing_disk_content b).now.cache ≡ left_by_choice a choice Cache
+      → (failing_disk_content b).now.aux ≡ left_by_choice a choice Aux → (slot : Slot) → slot_of (failing_disk_content b).now slot ≡ left_by_choice a choice slot
+  left_by_bits m c x Manifest = m
+  left_by_bits m c x Cache = c
+  left_by_bits m c x Aux = x
+
+  pub image_by : IsAtRest (failing_disk_state b) → ((slot : Slot) → slot_of (failing_disk_content b).now slot ≡ left_by_choice a choice slot) → IsImage (failing_disk_state a) (failing_disk_state b)
+  image_by rest slots = record { rest = rest; allowed = λ slot. ap (may_leave a.disk.past slot) (slots slot) ∙ allowed slot (counts_as_done choice slot) }
+    where
+      allowed : (slot : Slot) (done : Bool) → may_leave a.disk.past slot (left_in a.disk.past slot done) ≡ true
+      allowed slot true = (is_sound a.disk.past slot).now
+      allowed slot false = (is_sound a.disk.past slot).settled

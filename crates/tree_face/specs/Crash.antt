@@ -81,10 +81,13 @@ pub record Leaves (P : Slot → Content → Type 0) (old new : DiskState) : Type
   pub during : (t : ℕ) (slot : Slot) (b : Content) → t ≤ old.time → new.since t slot b ≡ true → (old.since t slot b ≡ true) ⊎ P slot b
   pub now : (slot : Slot) (b : Content) → new.may slot b ≡ true → (old.may slot b ≡ true) ⊎ P slot b
 
--- an image that a crash may leave: no temporary file, and in each slot one content that was allowed, flushed
+-- no temporary file, and each slot is flushed
+pub record IsAtRest (s : DiskState) : Type 0 where
+  pub made : (t : ℕ) (slot : Slot) → s.made t slot ≡ false
+  pub temporary : IfKnown s.contents (λ c. (t : ℕ) (slot : Slot) → c.temporary t slot ≡ None)
+  pub flushed : IfKnown s.contents (λ c. (slot : Slot) (b : Content) → s.may slot b ≡ content_eq (slot_of c.now slot) b)
+
+-- a disk that a crash may leave: in each slot one content that it might leave
 pub record IsImage (s image : DiskState) : Type 0 where
-  pub made : (t : ℕ) (slot : Slot) → image.made t slot ≡ false
-  pub temporary : IfKnown image.contents (λ c. (t : ℕ) (slot : Slot) → c.temporary t slot ≡ None)
+  pub rest : IsAtRest image
   pub allowed : IfKnown image.contents (λ c. (slot : Slot) → s.may slot (slot_of c.now slot) ≡ true)
-  pub settled : IfKnown image.contents (λ c. (slot : Slot) (b : Content) → image.may slot b ≡ content_eq (slot_of c.now slot) b)
-  pub faults : (image.faults ≡ 0) × (image.read_faults ≡ 0)

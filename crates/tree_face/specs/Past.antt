@@ -82,6 +82,10 @@ may_leave p slot = (moment_in p slot).may
 abbrev pub might_leave : Past → ℕ → Slot → Content → Bool
 might_leave p t slot b = list_any (λ m. m.may b) (drop t (moments slot (first_moment p slot) (changes_of p)))
 
+-- what a crash leaves in a slot if what was published since it was settled counts as done, or not
+abbrev pub left_in : Past → Slot → Bool → Content
+left_in p slot done = if done then (holding_in p slot).now else (holding_in p slot).settled
+
 -- ---- calls
 
 -- no change

@@ -1,5 +1,5 @@
 -- The states of disks in memory.
-use Rattle.std.specs.Prelude.{List, Some, is_some}
+use Rattle.std.specs.Prelude.{◌==◌, ℕ, Bool, not, List, Some, is_some, bit_and}
 use Rattle.tree_face.specs.declared.disk.DoneCall.{DoneCall}
 use Rattle.tree_face.specs.declared.disk.Slot.{Slot}
 use Rattle.tree_face.specs.declared.disk.Slot.TheVariants.{Manifest, Cache, Aux}
@@ -8,7 +8,7 @@ use Rattle.tree_face.specs.declared.memory.disks.SureDisk.{SureDisk}
 use Rattle.tree_face.specs.declared.memory.temporaries.Temporaries.{Temporaries}
 use Rattle.tree_face.specs.Disk.{Content, DiskState, DiskContent}
 use Rattle.tree_face.specs.Failures.{Plan, plan_of}
-use Rattle.tree_face.specs.Past.{clock_of, holding_in, may_leave, might_leave}
+use Rattle.tree_face.specs.Past.{clock_of, holding_in, left_in, may_leave, might_leave}
 use Rattle.tree_face.specs.Temporaries.{synced_in, temporary_in}
 
 abbrev pub files_of : SureDisk → Slot → Temporaries
@@ -62,3 +62,13 @@ failing_disk_state d = record (disk_state d.disk) { faults = d.failures.faults; 
 
 abbrev pub disk_plan : MemDisk → Plan
 disk_plan d = plan_of d.failures
+
+-- whether a publishing that isn't settled counts as done, by a bit for each slot
+abbrev pub counts_as_done : ℕ → Slot → Bool
+counts_as_done choice Manifest = not (bit_and choice 1 == 0)
+counts_as_done choice Cache = not (bit_and choice 2 == 0)
+counts_as_done choice Aux = not (bit_and choice 4 == 0)
+
+-- what a crash leaves in a slot by that choice
+abbrev pub left_by_choice : MemDisk → ℕ → Slot → Content
+left_by_choice d choice slot = left_in d.disk.past slot (counts_as_done choice slot)

@@ -188,6 +188,64 @@ fn a_disk_stops(rt: HostRuntime) -> Result<(), Fail> {
     Ok(())
 }
 
+// Publishes these bytes in the Cache slot, without a settling.
+fn publish<D: Disk>(disk: &mut D, bytes: &[u8]) -> Result<(), Failed> {
+    disk.create(Tag(1), Slot::Cache)?;
+    disk.append(Tag(1), Slot::Cache, bytes)?;
+    disk.sync(Tag(1), Slot::Cache)?;
+    disk.publish(Tag(1), Slot::Cache)
+}
+
+// Each image has these bytes in its Cache slot, by whether what isn't settled counts as done, and nothing else.
+fn assert_images(
+    rt: &impl Abort,
+    alloc: Global,
+    disk: &MemDisk,
+    undone: &[u8],
+    done: &[u8],
+) -> Result<(), Fail> {
+    for choice in 0u8..8 {
+        let mut image = disk.image(alloc, choice)?;
+        let want = if choice & 2 == 0 { undone } else { done };
+        assert!(rt; image.calls().is_empty(), "choice {choice}");
+        assert!(rt;
+            has(alloc, &mut image, Slot::Cache, Some(want)),
+            "choice {choice}"
+        );
+        assert!(rt; has(alloc, &mut image, Slot::Manifest, None));
+        assert!(rt; has(alloc, &mut image, Slot::Aux, None));
+    }
+    Ok(())
+}
+
+#[test]
+fn an_image_has_what_a_crash_leaves(rt: HostRuntime) -> Result<(), Fail> {
+    let alloc = rt.alloc();
+    let mut disk = disk_of(alloc, Some(b"old"), &[])?;
+    assert_images(&rt, alloc, &disk, b"old", b"old")?;
+    publish(&mut disk, b"new")?;
+    assert_images(&rt, alloc, &disk, b"old", b"new")?;
+    publish(&mut disk, b"newer")?;
+    assert_images(&rt, alloc, &disk, b"old", b"newer")?;
+    disk.settle(Slot::Aux)?;
+    assert_images(&rt, alloc, &disk, b"old", b"newer")?;
+    disk.settle(Slot::Cache)?;
+    assert_images(&rt, alloc, &disk, b"newer", b"newer")?;
+    Ok(())
+}
+
+// An image is a disk like any other.
+#[test]
+fn an_image_is_written(rt: HostRuntime) -> Result<(), Fail> {
+    let alloc = rt.alloc();
+    let mut disk = disk_of(alloc, Some(b"old"), &[1])?;
+    assert!(rt; reading_fault(alloc, &mut disk).is_none());
+    assert!(rt; replacing_fails(&mut disk, Tag(3), b"new"));
+    let mut image = disk.image(alloc, 7)?;
+    replace(&mut image, Tag(3), Slot::Cache, b"new")?;
+    assert_images(&rt, alloc, &image, b"new", b"new")
+}
+
 // What a source of `abcde` gives, three bytes at a time, and how many they are.
 const PARTS: &[(usize, [u8; 3])] = &[(3, *b"abc"), (2, *b"de-"), (0, *b"---"), (0, *b"---")];
 

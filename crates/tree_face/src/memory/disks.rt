@@ -4,7 +4,7 @@ ghost use Rattle.std.specs.Option.{option_map, option_copied};
 ghost use Rattle.std.specs.Result.{is_err};
 ghost use Rattle.lib_types.specs.Counts.{raised};
 ghost use Rattle.tree_face.specs.Calls.{made_call, settling};
-ghost use Rattle.tree_face.specs.Crash.{AddsPublished, KeepsSlots, Settles};
+ghost use Rattle.tree_face.specs.Crash.{AddsPublished, IsAtRest, IsImage, KeepsSlots, Settles};
 ghost use Rattle.tree_face.specs.Disk.{Creates, Appends, Keeps, Spoils, Syncs, Publishes, MayPublish, Does, KeepsMade, KeepsOthersMade, ReadsSlot, slot_of};
 ghost use Rattle.tree_face.specs.Follows.{IsFollowedBy};
 ghost use Rattle.tree_face.specs.Failures.{FollowsPlan, stopping_after};
@@ -39,11 +39,12 @@ pub struct MemDisk {
 
 impl SureDisk {
     ghost use Rattle.tree_face.specs.Disk.{slot_eq};
-    ghost use Rattle.tree_face.specs.Past.{IsChangedBy, KeepsPast};
+    ghost use Rattle.tree_face.specs.Past.{IsChangedBy, KeepsPast, left_in};
     ghost use Rattle.tree_face.specs.SureDisk.{calls_of, reads_of, disk_state, disk_content, files_of};
     ghost use Rattle.tree_face.specs.Temporaries.{file_in};
 
     /// A disk whose slots hold these contents.
+    #[tactic(auto, using(crate::proofs::Disks::at_rest))]
     pub fn new(
         alloc: Global,
         manifest: Option<Vec<u8>>,
@@ -56,6 +57,7 @@ impl SureDisk {
         ensures calls { calls_of result ≡ [] }
         ensures reads { reads_of result ≡ [] }
         ensures faults { (disk_state result).faults ≡ 0 }
+        ensures rest { IsAtRest (disk_state result) }
     {
         SureDisk {
             alloc,
@@ -88,6 +90,14 @@ impl SureDisk {
         ensures { IfOk result (λ found. option_map (λ v. v.items) found ≡ slot_of (disk_content self.now).now slot) }
     {
         copy_of(alloc, self.past.held(slot).now)
+    }
+
+    // What a crash leaves in a slot if what isn't settled counts as done, or not.
+    fn left_in(&self, alloc: Global, slot: Slot, done: bool) -> Result<Option<Vec<u8>>, NoMemory>
+        ensures { IfOk result (λ left. option_map (λ v. v.items) left ≡ left_in self.now.past slot done) }
+    {
+        let held = self.past.held(slot);
+        copy_of(alloc, if done { held.now } else { held.settled })
     }
 
     // Adds a writing call to the list.
@@ -234,9 +244,10 @@ impl Disk for SureDisk {
 }
 
 impl MemDisk {
-    ghost use Rattle.tree_face.specs.SureDisk.{failing_calls_of, failing_reads_of, failing_disk_content, failing_disk_state, disk_plan};
+    ghost use Rattle.tree_face.specs.SureDisk.{failing_calls_of, failing_reads_of, failing_disk_content, failing_disk_state, left_by_choice, disk_plan};
 
     /// A disk whose slots hold these contents. The calls with the numbers of `fail` fail, counted from 0 over all calls.
+    #[tactic(auto, using(crate::proofs::Disks::failing_at_rest))]
     pub fn new(
         alloc: Global,
         manifest: Option<Vec<u8>>,
@@ -251,6 +262,7 @@ impl MemDisk {
         ensures reads { failing_reads_of result ≡ [] }
         ensures plan { disk_plan result ≡ record { fail = fail.items; next = 0; left = None } }
         ensures faults { ((failing_disk_state result).faults ≡ 0) × ((failing_disk_state result).read_faults ≡ 0) }
+        ensures rest { IsAtRest (failing_disk_state result) }
     {
         MemDisk {
             disk: SureDisk::new(alloc, manifest, cache, aux),
@@ -279,6 +291,22 @@ impl MemDisk {
         ensures { result.now ≡ failing_reads_of self.now }
     {
         self.disk.reads()
+    }
+
+    /// A disk as a crash now may leave it, with a plan and counts of its own. The bits 0, 1 and 2 of `choice` say whether what
+    /// was published in Manifest, Cache and Aux, and isn't settled, counts as done.
+    #[tactic(auto, using(crate::proofs::Disks::image_by, crate::proofs::Disks::left_by_bits))]
+    pub fn image(&self, alloc: Global, choice: u8) -> Result<MemDisk, NoMemory>
+        ensures image { IfOk result (λ image. IsImage (failing_disk_state self.now) (failing_disk_state image)) }
+        ensures slots { IfOk result (λ image. (slot : Slot) → slot_of (failing_disk_content image).now slot ≡ left_by_choice self.now choice slot) }
+        ensures calls { IfOk result (λ image. (failing_calls_of image ≡ []) × (failing_reads_of image ≡ [])) }
+        ensures plan { IfOk result (λ image. disk_plan image ≡ record { fail = []; next = 0; left = None }) }
+        ensures faults { IfOk result (λ image. ((failing_disk_state image).faults ≡ 0) × ((failing_disk_state image).read_faults ≡ 0)) }
+    {
+        let manifest = self.disk.left_in(alloc, Slot::Manifest, choice & 1 != 0)?;
+        let cache = self.disk.left_in(alloc, Slot::Cache, choice & 2 != 0)?;
+        let aux = self.disk.left_in(alloc, Slot::Aux, choice & 4 != 0)?;
+        Ok(MemDisk::new(alloc, manifest, cache, aux, Vec::new(alloc)))
     }
 
     // Lets a writing call pass if it isn't due to fail.
