@@ -9,3 +9,4 @@ pub mod Members
 pub mod Named
 pub mod NoOtherFiles
 pub mod Ordered
+mod Rows

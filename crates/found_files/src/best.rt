@@ -1,9 +1,9 @@
 //! Which of two libraries of one soname is better.
-ghost use Rattle.std.specs.Prelude.{◌≡◌, IfOk};
+ghost use Rattle.std.specs.Prelude.{◌≡◌, IfOk, unwrap_or};
 ghost use Rattle.found_files.specs.Best.{is_own, is_preferred};
 
-use crate::libraries::Library;
-use lib_types::{Abi, NoMemory, Seq, Text};
+use crate::libraries::{Library, soname_or};
+use lib_types::{Abi, NoMemory, Seq, Text, are_same};
 use name_order::compare;
 use std::alloc::Global;
 use std::cmp::Ordering;
@@ -13,7 +13,8 @@ use std::marker::Model;
 #[derive(Drop)]
 pub struct BestLibrary {
     name: Text,
-    soname: Text,
+    // none if it is the name
+    soname: Option<Text>,
     abi: Abi,
 }
 
@@ -21,11 +22,12 @@ pub struct BestLibrary {
 pub type PlaceBests = Seq<Seq<BestLibrary>>;
 
 impl Model for BestLibrary {
+    ghost use Rattle.std.specs.Prelude.{unwrap_or};
     ghost use Rattle.found_files.specs.Library.{Library};
 
     ghost Value = { Library };
 
-    ghost view = { λ l. record { name = l.name; soname = l.soname; abi = l.abi } };
+    ghost view = { λ l. record { name = l.name; soname = unwrap_or l.soname l.name; abi = l.abi } };
 }
 
 impl BestLibrary {
@@ -35,7 +37,7 @@ impl BestLibrary {
     {
         Ok(BestLibrary {
             name: Text::copy_of(alloc, library.name)?,
-            soname: Text::copy_of(alloc, library.soname)?,
+            soname: soname_beside(alloc, library)?,
             abi: library.abi,
         })
     }
@@ -46,17 +48,27 @@ impl BestLibrary {
     {
         Library {
             name: self.name.as_bytes(),
-            soname: self.soname.as_bytes(),
+            soname: soname_or(&self.soname, self.name.as_bytes()),
             abi: self.abi,
         }
     }
+}
+
+// A copy of the soname, if it isn't the name.
+fn soname_beside(alloc: Global, library: &Library<'_>) -> Result<Option<Text>, NoMemory>
+    ensures { IfOk result (λ copy. unwrap_or copy library.now.name ≡ library.now.soname) }
+{
+    if is_own(library) {
+        return Ok(None);
+    }
+    Ok(Some(Text::copy_of(alloc, library.soname)?))
 }
 
 /// Whether the library's name is its soname.
 pub fn is_own(library: &Library<'_>) -> bool
     ensures { result ≡ is_own library.now }
 {
-    library.name == library.soname
+    are_same(library.name, library.soname)
 }
 
 /// Whether the first of two libraries of one soname is better.
