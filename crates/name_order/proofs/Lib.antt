@@ -1,4 +1,5 @@
 pub mod Numbers
 pub mod Runs
+pub mod Fronts
 pub mod Total
 pub mod Suffix

@@ -14,7 +14,7 @@ use Rattle.name_order.specs.Order.{value, with_digit}
 use Rattle.name_order.specs.Digits.{AreDigits, significant}
 
 -- the greater number stays the greater if no fewer digits follow it
-stays_above : (m n : ℕ) (xs ys : List ℕ) → AreDigits xs → m < n → length xs ≤ length ys → fold with_digit m xs < fold with_digit n ys
+pub stays_above : (m n : ℕ) (xs ys : List ℕ) → AreDigits xs → m < n → length xs ≤ length ys → fold with_digit m xs < fold with_digit n ys
 stays_above m n [] [] digits above short = above
 stays_above m n [] (y ∷ ys) digits above short = stays_above m (with_digit n y) [] ys digits (omega arith) (omega arith)
 stays_above m n (x ∷ xs) [] digits above short = absurd (omega arith)

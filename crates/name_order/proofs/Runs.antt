@@ -20,7 +20,7 @@ abbrev pub behind : List ℕ → List ℕ
 behind xs = drop (prefix_len is_ascii_digit xs) xs
 
 -- the number so far goes on to the end of the digits
-goes_on : (n : ℕ) (xs : List ℕ) → tokens_after (Some n) xs ≡ Number (fold with_digit n (run xs)) ∷ tokens_after None (behind xs)
+pub goes_on : (n : ℕ) (xs : List ℕ) → tokens_after (Some n) xs ≡ Number (fold with_digit n (run xs)) ∷ tokens_after None (behind xs)
 goes_on n [] = refl
 goes_on n (x ∷ xs) = by (is_ascii_digit x) refl (goes_on (with_digit n x) xs)
   where

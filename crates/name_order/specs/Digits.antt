@@ -1,5 +1,6 @@
 -- What private functions say of runs of digits.
-use Rattle.std.specs.Prelude.{ℕ, List, drop, ◌==◌}
+use Rattle.std.specs.Prelude.{◌≡◌, ◌<◌, ◌≤◌, slice_index_or, ℕ, zero, suc, List, [], ◌∷◌, drop, ◌==◌}
+use Rattle.std.specs.Bool.{⊤}
 use Rattle.std.specs.List.{AllByRecursion, prefix_len}
 use Rattle.std.specs.Char.{IsAsciiDigit}
 use Rattle.std.specs.Str.{byte}
@@ -10,3 +11,14 @@ AreDigits bytes = AllByRecursion IsAsciiDigit bytes
 -- the digits without the zeros at the front
 abbrev pub significant : List ℕ → List ℕ
 significant digits = drop (prefix_len (λ digit. digit == byte "0") digits) digits
+
+-- both lists begin with so many equal digits
+abbrev pub AreEqualDigits : ℕ → List ℕ → List ℕ → Type 0
+AreEqualDigits zero a b = ⊤
+AreEqualDigits (suc n) [] b = ⊥
+AreEqualDigits (suc n) (x ∷ a) [] = ⊥
+AreEqualDigits (suc n) (x ∷ a) (y ∷ b) = (x ≡ y) × IsAsciiDigit x × AreEqualDigits n a b
+
+-- a number is at the front, and its first digit isn't zero
+abbrev pub BeginsByNumber : List ℕ → Type 0
+BeginsByNumber name = (byte "0" < slice_index_or name 0 0) × (slice_index_or name 0 0 ≤ byte "9")

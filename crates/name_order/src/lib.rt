@@ -1,15 +1,17 @@
 //! The order in which the loader sorts library names, and which names are library names.
 #![tactic(auto)]
 
-ghost use Rattle.std.specs.Prelude.{◌≡◌, ◌≤◌, ◌↔◌, ◌<◌, IfSome, codes, drop, length, nat_eq};
-ghost use Rattle.std.specs.List.{ends_with};
+ghost use Rattle.std.specs.Prelude.{◌≡◌, ◌+◌, ◌≤◌, ◌↔◌, ◌<◌, IfSome, IsTrue, codes, drop, length, nat_eq};
+ghost use Rattle.std.specs.Char.{is_ascii_digit};
+ghost use Rattle.std.specs.List.{ends_with, prefix_len};
 ghost use Rattle.std.specs.Cmp.{IsTotalOrder};
 ghost use Rattle.name_order.specs.Order.{name_order, token_order};
+ghost use Rattle.name_order.specs.Digits.{AreEqualDigits, BeginsByNumber};
 ghost use Rattle.name_order.specs.LibraryName.{contains, has_library_prefix, has_temporary_suffix, is_library_name};
 
 mod part;
 
-use part::{compare_parts, next_part};
+use part::{compare_parts, digits_len, next_part};
 use std::cmp::Ordering;
 
 // How many bytes both names begin with that are equal and no digits, up to the first that isn't: names that are compared are long and
@@ -40,6 +42,65 @@ fn compare_first(a: &[u8], b: &[u8]) -> Option<Ordering>
         return None;
     }
     Some(x.cmp(&y))
+}
+
+// How many equal digits both names begin with.
+#[tactic(auto, using(crate::proofs::Fronts::digit_equal))]
+fn equal_digits(a: &[u8], b: &[u8]) -> usize
+    ensures within { (result ≤ length a.now) × (result ≤ length b.now) }
+    ensures equal { AreEqualDigits result a.now b.now }
+{
+    let shorter = a.len().min(b.len());
+    let mut i = 0;
+    while i < shorter && a[i] == b[i] && a[i].is_ascii_digit() {
+        i += 1;
+    }
+    i
+}
+
+// How many digits a name goes on with behind so many bytes.
+#[tactic(auto, using(std::proofs::lemmas::List::take_rest))]
+fn digits_behind(name: &[u8], count: usize) -> usize
+    requires { count ≤ length name.now }
+    ensures value { result ≡ prefix_len is_ascii_digit (drop count name.now) }
+    ensures bound { count + result ≤ length name.now }
+{
+    digits_len(&name[count..])
+}
+
+// Whether the name begins with a number that has no zero at its front.
+fn begins_by_number(name: &[u8]) -> bool
+    ensures { IsTrue result → BeginsByNumber name.now }
+{
+    !name.is_empty() && name[0] > b'0' && name[0] <= b'9'
+}
+
+// The order of names that begin with such numbers, if these differ: more digits behind the equal ones are the greater number, and of
+// as many the first that differs decides.
+fn compare_numbers_first(a: &[u8], b: &[u8]) -> Option<Ordering>
+    requires first { BeginsByNumber a.now }
+    requires second { BeginsByNumber b.now }
+    ensures { IfSome result (λ order. order ≡ token_order a.now b.now) }
+{
+    let count = equal_digits(a, b);
+    let (m, n) = (digits_behind(a, count), digits_behind(b, count));
+    if m != n {
+        return Some(m.cmp(&n));
+    }
+    if m == 0 || a[count] == b[count] {
+        return None;
+    }
+    Some(a[count].cmp(&b[count]))
+}
+
+// The order of names whose first parts differ and show it soon.
+fn compare_fronts(a: &[u8], b: &[u8]) -> Option<Ordering>
+    ensures { IfSome result (λ order. order ≡ token_order a.now b.now) }
+{
+    if begins_by_number(a) && begins_by_number(b) {
+        return compare_numbers_first(a, b);
+    }
+    compare_first(a, b)
 }
 
 // The order of names, part by part.
@@ -73,7 +134,7 @@ pub fn compare_tokens(a: &[u8], b: &[u8]) -> Ordering
 {
     let front = equal_front(a, b);
     let (left, right) = (&a[front..], &b[front..]);
-    match compare_first(left, right) {
+    match compare_fronts(left, right) {
         Some(order) => order,
         None => compare_by_parts(left, right),
     }

@@ -33,7 +33,8 @@ pub(crate) fn next_part(name: &[u8]) -> Option<(Part<'_>, &[u8])>
     }
 }
 
-fn digits_len(name: &[u8]) -> usize
+/// How many digits a name begins with.
+pub(crate) fn digits_len(name: &[u8]) -> usize
     ensures value { result ≡ prefix_len is_ascii_digit name.now }
     ensures bound { result ≤ length name.now }
 {
