@@ -4,6 +4,7 @@ pub mod Clear
 pub mod Crash
 pub mod Disks
 pub mod Follows
+mod Fronts
 pub mod Index
 pub mod Kept
 pub mod KindAt

@@ -1,12 +1,12 @@
 //! Paths of a tree and their order.
-ghost use Rattle.std.specs.Prelude.{◌≡◌, ◌≢◌, ℕ, ◌+◌, ◌==◌, ◌^◌, ◌<◌, ◌≤◌, IfSome, IsTrue, length, drop};
+ghost use Rattle.std.specs.Prelude.{◌≡◌, ◌≢◌, ℕ, ◌+◌, ◌==◌, ◌^◌, ◌<◌, ◌≤◌, IfSome, IsTrue, length, drop, nat_eq};
 ghost use Rattle.byteorder.specs.Endian.{little_from};
 ghost use Rattle.tree_face.specs.Paths.{is_path, is_kept, is_slash, are_names, path_cmp, path_rank, stem, folder, is_below, name_behind};
-ghost use Rattle.std.specs.List.{before_first, position};
+ghost use Rattle.std.specs.List.{before_first, position, starts_with};
 ghost use Rattle.std.specs.Ordering.{nat_cmp};
 
 use byteorder::{ByteOrder, LittleEndian};
-use lib_types::is_name;
+use lib_types::{are_same, is_name};
 use std::cmp::Ordering;
 
 /// The most bytes of a path.
@@ -134,6 +134,17 @@ fn stem(path: &[u8]) -> &[u8]
     ensures { result.now ≡ stem path.now }
 {
     if path == b"/".as_slice() { b"" } else { path }
+}
+
+/// Whether the path begins with these bytes.
+#[tactic(auto, using(crate::proofs::Fronts::too_short))]
+pub(crate) fn begins_with(path: &[u8], front: &[u8]) -> bool
+    ensures { result ≡ starts_with nat_eq path.now front.now }
+{
+    if path.len() < front.len() {
+        return false;
+    }
+    are_same(front, &path[..front.len()])
 }
 
 /// Whether the other path lies below this one.

@@ -9,7 +9,7 @@ ghost use Rattle.tree_face.specs.Runs.{IsPathOfChild, child_at, children_behind,
 use super::rest::Rest;
 use super::run::PathEntry;
 use crate::node::Node;
-use crate::path::{folder_in, is_below, name_from};
+use crate::path::{begins_with, folder_in, is_below, name_from};
 use std::marker::Model;
 
 /// What stands directly below a directory and is still to come: each name with its node, if it has one.
@@ -142,7 +142,7 @@ fn is_name_end(path: &[u8], n: usize) -> bool
 fn is_child(child: &[u8], path: &[u8]) -> bool
     ensures { (folder name : List ℕ) → IsPathOfChild folder name child.now → result ≡ (starts_with nat_eq path.now folder && bytes_eq (name_behind (length folder) path.now) name) }
 {
-    is_name_end(path, child.len()) && path.starts_with(child)
+    is_name_end(path, child.len()) && begins_with(path, child)
 }
 
 // The path of the child to whose entries this path belongs.
@@ -179,7 +179,7 @@ fn first_child<'a>(
         (λ r. dedup is_same_child (children_behind folder.now rest.now) ≡ (r.0.0.now, option_copied r.0.1) ∷ dedup is_same_child (children_behind folder.now r.1)) }
 {
     let (first, others) = rest.split_first()?;
-    if !first.path().starts_with(folder) {
+    if !begins_with(first.path(), folder) {
         return None;
     }
     let child = child_at(first, folder.len());

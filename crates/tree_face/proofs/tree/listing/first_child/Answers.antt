@@ -10,7 +10,7 @@ pub returns : goal.returns
 returns c =
     let folder = c.args.folder.now in
     let e : List ℕ × Node = (c.in_ok-first.first.now.0, c.in_ok-first.first.now.1) in
-    let starts : starts_with nat_eq e.0 folder ≡ true = ap (λ p. starts_with nat_eq p folder) (sym c.path.ensures) ∙ sym c.starts_with.ensures.value ∙ c.if-not-starts_with.false in
+    let starts : starts_with nat_eq e.0 folder ≡ true = ap (λ p. starts_with nat_eq p folder) (sym c.path.ensures) ∙ sym c.begins_with.ensures ∙ c.if-not-begins_with.false in
     let child = c.child_at-child.result in
     let node = option_copied child.1 in
     ap (λ t. dedup is_same_child (children_behind folder t)) c.in_ok-first.ensures

@@ -9,7 +9,7 @@ returns-then-is_name_end c = λ folder name whole.
     let child = c.args.child.now in
     let path = c.args.path.now in
     let end : is_name_end (drop (length child) path) ≡ true = sym c.is_name_end.ensures ∙ c.if-is_name_end.true in
-    c.starts_with.ensures.value ∙ sym (ap (λ b. b && starts_with nat_eq path child) end) ∙ same_child folder name child path whole
+    c.begins_with.ensures ∙ sym (ap (λ b. b && starts_with nat_eq path child) end) ∙ same_child folder name child path whole
 
 pub returns-else-is_name_end : goal.returns-else-is_name_end
 returns-else-is_name_end c = λ folder name whole.
