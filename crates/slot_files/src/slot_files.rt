@@ -119,9 +119,14 @@ where
         self.clean();
         self.image.enter(folder_of(slot), Missing::IsMade)?;
         let stood = self.what_stands(slot)?;
-        let mode = mode_of(slot, stood.map(|file| file.mode));
+        self.begin(tag, slot, stood)
+    }
+
+    // Makes an empty temporary file in the folder that was entered.
+    fn begin(&mut self, tag: Tag, slot: Slot, stood: Option<Standing>) -> io::Result<()> {
+        let mode = mode_after(slot, stood);
         let (name, file) = make_own(&self.image, name_of(slot), tag, self.run)?;
-        let done = hand_over(&file, stood.map(|file| file.owner), mode);
+        let done = hand_over(&file, stood, mode);
         self.temporary = Some(Temporary {
             tag,
             slot,
@@ -334,10 +339,29 @@ fn stamp_in<F: OpenFile>(file: &F) -> Option<Option<Stamp>> {
     }
 }
 
+// The mode of a slot's new file.
+fn mode_after(slot: Slot, stood: Option<Standing>) -> u32 {
+    match stood {
+        Some(stood) => mode_of(slot, Some(stood.mode)),
+        None => mode_of(slot, None),
+    }
+}
+
+fn owner_in(stood: Option<Standing>) -> Option<Owner> {
+    match stood {
+        Some(stood) => Some(stood.owner),
+        None => None,
+    }
+}
+
 // Gives a new file the owner of the one that stood in its place, if that can be done, and the mode that it has while it is written.
-fn hand_over<F: OpenFile + HeldFile>(file: &F, stood: Option<Owner>, mode: u32) -> io::Result<()> {
+fn hand_over<F: OpenFile + HeldFile>(
+    file: &F,
+    stood: Option<Standing>,
+    mode: u32,
+) -> io::Result<()> {
     let made = file.metadata()?;
-    if let Some(owner) = owner_to_give(owner_of(&made), stood) {
+    if let Some(owner) = owner_to_give(owner_of(&made), owner_in(stood)) {
         let _ = file.give_to(owner.user, owner.group);
     }
     file.set_permissions(Permissions::from_mode(mode_until_whole(mode)))

@@ -3,7 +3,7 @@ use device_rules::{
     Identity, RunId, identity_of, is_missing, is_no_text, is_there, maker_of, temporary_path,
 };
 use image_folder::{HeldFile, ImageFolder, open_file};
-use std::fs::{self, OpenFile, OpenOptions, read_dir};
+use std::fs::{self, DirEntry, OpenFile, OpenOptions, read_dir};
 use std::io::{self, Error, ErrorKind};
 use std::os::unix::fs::OpenOptionsExt;
 use std::rt::Runtime;
@@ -44,12 +44,20 @@ where
             random: run.random.wrapping_add(turn),
         };
         let name = temporary_path(&image.rt, slot_name, tag, run)?;
-        let path = image.path_beside(name.as_str())?;
-        if let Some(file) = make_locked(&image.rt, path.as_str())? {
+        if let Some(file) = make_beside(image, name.as_str())? {
             return Ok((name, file));
         }
     }
     Err(Error::new(ErrorKind::AlreadyExists, "its temporary files are taken"))
+}
+
+// Makes an empty file of this name with a lock, in the folder that was entered.
+fn make_beside<R: Runtime>(image: &ImageFolder<R>, name: &str) -> io::Result<Option<R::File>>
+where
+    R::File: HeldFile,
+{
+    let path = image.path_beside(name)?;
+    make_locked(&image.rt, path.as_str())
 }
 
 // Makes an empty file with a lock. There is none if something has the path's name, or if a run has taken the file, before it
@@ -109,15 +117,22 @@ where
 {
     for entry in read_dir(rt, folder)? {
         match entry {
-            Ok(entry) if maker_of(entry.file_name(), slot_name).is_some() => {
-                let _ = remove_if_left(rt, entry.path().as_str());
-            }
-            Ok(_) => {}
+            Ok(entry) => remove_entry(rt, &entry, slot_name),
             Err(error) if is_no_text(error.kind()) => {}
             Err(error) => return Err(error),
         }
     }
     Ok(())
+}
+
+// Removes what an entry of the folder names, if it is such a file.
+fn remove_entry<R: Runtime>(rt: &R, entry: &DirEntry<R, R::A>, slot_name: &str)
+where
+    R::File: HeldFile,
+{
+    if maker_of(entry.file_name(), slot_name).is_some() {
+        let _ = remove_if_left(rt, entry.path().as_str());
+    }
 }
 
 // Removes a temporary file if no program has its lock. As long as this one has it, no other run removes the file, so that the
