@@ -2,7 +2,7 @@
 use elf_dynamic::kinds::Object;
 use lib_types::{Abi, Seq, Text, Texts};
 
-/// What the loader is told beside the files.
+/// What the loader is given beside the files.
 #[derive(Drop)]
 pub struct Env {
     /// The program's.

@@ -11,7 +11,7 @@ use lib_types::{NoMemory, Text, Texts, has_byte};
 use origin_expand::expand;
 use std::alloc::Global;
 
-// A needed name, and what the loader is told.
+// A needed name, and what the loader is given.
 #[derive(Clone, Copy)]
 struct Wanted<'a> {
     name: &'a [u8],

@@ -5,7 +5,7 @@ use std::alloc::Global;
 use table_rows::{Row, Said, Trial, divide, text, value};
 
 /// A row has the needed name, the objects of the chain, the requesting one first, each by the folder in which it was found with the lines
-/// `rpath`, `runpath` and `nodeflib` below it, what the loader is told, the path in the cache, and the paths. Without `abi` it is x86-64.
+/// `rpath`, `runpath` and `nodeflib` below it, what the loader is given, the path in the cache, and the paths. Without `abi` it is x86-64.
 pub(crate) struct Places;
 
 fn is_head(line: &[u8]) -> bool {
