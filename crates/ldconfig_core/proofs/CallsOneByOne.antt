@@ -1,5 +1,5 @@
 -- Writing calls that are made one after another, and slots that are replaced one after another.
-use Rattle.std.proofs.Common.{◌≡◌, ◌+◌, ◌==◌, ◌&&◌, ℕ, zero, suc, true, false, List, [], ◌∷◌, ◌++◌, length, take, Option, Some, None, refl, sym, ap, subst, ◌∙◌, append_assoc, inl, inr, arith, Result, Ok, Err}
+use Rattle.std.proofs.Common.{◌≡◌, ◌+◌, ◌==◌, ◌&&◌, ℕ, zero, suc, true, false, List, [], ◌∷◌, ◌++◌, length, take, Option, Some, None, refl, sym, ap, subst, ◌∙◌, append_assoc, inl, inr, arith, Result, Ok, Err, OnOk}
 use Rattle.std.specs.Result.{IfErr}
 use Rattle.std.proofs.lemmas.List.{take-append-le}
 use Rattle.std.proofs.lemmas.Option.{slice_get_within}
@@ -7,18 +7,20 @@ use Rattle.std.proofs.Math.Seq.{take-append-add}
 use Rattle.std.specs.List.{list_any, slice_get}
 use Rattle.atomic_replace.proofs.Calls.{get_later, none_made}
 use Rattle.atomic_replace.specs.declared.fault.DiskFault.{DiskFault}
-use Rattle.atomic_replace.specs.Replace.{StopsAt, Write, call_by}
+use Rattle.atomic_replace.specs.Replace.{FailsToWrite, MayReplaceSlot, ReplacesSlot, StopsAt, Write, WritesSlot, call_by}
 use Rattle.tree_face.proofs.Follows.{follow}
 use Rattle.tree_face.proofs.Known.{relates_by, relates_on}
 use Rattle.tree_face.specs.Calls.{replacement}
+use Rattle.tree_face.specs.Crash.{HasMoments}
 use Rattle.tree_face.specs.declared.disk.DoneCall.{DoneCall}
 use Rattle.tree_face.specs.declared.disk.Slot.{Slot}
 use Rattle.tree_face.specs.declared.disk.Slot.TheVariants.{Manifest, Cache, Aux}
 use Rattle.tree_face.specs.declared.disk.Tag.{Tag}
 use Rattle.tree_face.specs.Disk.{DiskContent, DiskState, KeepsOthersMade, slot_eq}
 use Rattle.tree_face.specs.Follows.{IsFollowedBy}
-use Rattle.tree_face.specs.Known.{Relates}
-use Rattle.ldconfig_core.specs.Replace.{FailsToReplace, KeepsRestMade, Replaces, WritesAll, WritesPart, calls_of, update_slots}
+use Rattle.tree_face.specs.Known.{IfKnown, Relates}
+use Rattle.ldconfig_core.proofs.CrashesOneByOne.{all_settled, leaves_by, leaves_on, nothing_left, one_leaves, one_order, one_settled, one_stops, order_first, order_on, order_second, written_first}
+use Rattle.ldconfig_core.specs.Replace.{LeavesOnlyWritten, FailsToReplace, KeepsRestMade, Replaces, SettlesInOrder, WritesAll, WritesPart, calls_of, update_slots}
 
 -- ---- items of a list
 
@@ -80,6 +82,9 @@ module _ (tag : Tag) (xs ys : List Write) (old middle new : DiskState) where
   writes_on first next = record {
     contents = relates_on _ _ _ (both tag.0 xs ys) _ _ _ first.contents next.contents;
     calls = rw (calls_append tag xs ys) (relates_on _ _ _ (follow (calls_of tag xs) (calls_of tag ys)) _ _ _ first.calls next.calls);
+    leaves = leaves_on xs ys old middle new first.leaves next.leaves;
+    order = order_on _ xs ys old middle new next.leaves old.contents middle.contents first.contents first.order next.order;
+    settled = all_settled _ xs ys old middle new next.leaves middle.contents new.contents next.contents first.settled next.settled;
     reads = next.reads ∙ first.reads;
     faults = next.faults ∙ first.faults;
     read_faults = next.read_faults ∙ first.read_faults;
@@ -89,6 +94,8 @@ module _ (tag : Tag) (xs ys : List Write) (old middle new : DiskState) where
   part_first fault part = record {
     contents = relates_by _ _ (fails_first tag.0 fault.slot xs ys) _ _ part.contents;
     calls = rw (calls_append tag xs ys) (relates_by _ _ (stop_first (calls_of tag xs) (calls_of tag ys) (call_by tag fault.slot fault.call)) _ _ part.calls);
+    leaves = leaves_by _ _ old middle (λ slot b is. written_first xs ys slot b is) part.leaves;
+    order = order_first fault.slot xs ys old middle old.contents part.order;
     reads = part.reads;
     faults = part.faults;
     read_faults = part.read_faults;
@@ -98,15 +105,47 @@ module _ (tag : Tag) (xs ys : List Write) (old middle new : DiskState) where
   part_second fault first part = record {
     contents = relates_on _ _ _ (fails_second tag.0 fault.slot xs ys) _ _ _ first.contents part.contents;
     calls = rw (calls_append tag xs ys) (relates_on _ _ _ (stop_second (calls_of tag xs) (calls_of tag ys) (call_by tag fault.slot fault.call)) _ _ _ first.calls part.calls);
+    leaves = leaves_on xs ys old middle new first.leaves part.leaves;
+    order = order_second _ xs ys old middle new part.leaves fault.slot old.contents middle.contents first.contents first.order part.order;
     reads = part.reads ∙ first.reads;
     faults = rw (← first.faults) part.faults;
     read_faults = part.read_faults ∙ first.read_faults;
   }
 
+-- ---- one slot
+
+module _ (tag : Tag) (write : Write) (old new : DiskState) where
+  pub one_write : HasMoments new → WritesSlot tag write old new → WritesAll tag (write ∷ []) old new
+  one_write laws w =
+      let leaves = one_leaves write old new w.leaves in
+      record {
+        contents = relates_by (ReplacesSlot tag.0 write) (Replaces tag.0 (write ∷ [])) (λ a b one. (b, (one, refl))) _ _ w.contents;
+        calls = w.calls;
+        leaves = leaves;
+        order = one_order write old new old.contents new.contents (relates_by (ReplacesSlot tag.0 write) (λ a b. Unit {0}) (λ a b one. tt) _ _ w.contents) laws leaves w.settled;
+        settled = one_settled write old new new.contents w.settled;
+        reads = w.reads;
+        faults = w.faults;
+        read_faults = w.read_faults;
+      }
+
+  pub one_part : (fault : DiskFault) → FailsToWrite tag write fault old new → WritesPart tag (write ∷ []) fault old new
+  one_part fault w =
+      let leaves = one_leaves write old new w.leaves in
+      record {
+        contents = relates_by (MayReplaceSlot tag.0 write) (FailsToReplace tag.0 fault.slot (write ∷ [])) (λ a b one. inl (sym w.slot, one)) _ _ w.contents;
+        calls = w.calls;
+        leaves = leaves;
+        order = one_stops write old new fault.slot w.slot old.contents leaves;
+        reads = w.reads;
+        faults = w.faults;
+        read_faults = w.read_faults;
+      }
+
 -- ---- temporary files
 
 pub nothing_written : (tag : Tag) (s : DiskState) → WritesAll tag [] s s
-nothing_written tag s = record { contents = same s.contents; calls = none s.calls; reads = refl; faults = refl; read_faults = refl }
+nothing_written tag s = record { contents = same s.contents; calls = none s.calls; leaves = nothing_left s; order = stays s.contents; settled = no_slot s.contents; reads = refl; faults = refl; read_faults = refl }
   where
     same : (c : Option DiskContent) → Relates (Replaces tag.0 []) c c
     same None = tt
@@ -115,6 +154,14 @@ nothing_written tag s = record { contents = same s.contents; calls = none s.call
     none : (c : Option (List DoneCall)) → Relates (IsFollowedBy (calls_of tag [])) c c
     none None = tt
     none (Some c) = none_made c
+
+    stays : (c : Option DiskContent) → IfKnown c (λ _. SettlesInOrder [] s s)
+    stays None = tt
+    stays (Some c) = refl
+
+    no_slot : (c : Option DiskContent) → IfKnown c (λ _. LeavesOnlyWritten [] s)
+    no_slot None = tt
+    no_slot (Some c) = λ slot b there. absurd (cc)
 
 module _ (tag : ℕ) where
   other_slot : (t : ℕ) (s slot : Slot) → list_any (slot_eq slot) update_slots ≡ true → (t == tag) && list_any (slot_eq s) update_slots ≡ false → (t == tag) && slot_eq s slot ≡ false
@@ -137,6 +184,10 @@ pub rest_same : (tag : ℕ) (slots : List Slot) (a : DiskState) → KeepsRestMad
 rest_same tag slots a = λ t s h. refl
 
 -- ---- results
+
+pub on_ok_by : {A E : Type 0} (P Q : Type 0) (r : Result A E) → (P → Q) → OnOk r P → OnOk r Q
+on_ok_by P Q (Ok x) f p = f p
+on_ok_by P Q (Err e) f p = tt
 
 pub if_err_by : {A E : Type 0} (P Q : E → Type 0) (r : Result A E) → ((e : E) → P e → Q e) → IfErr r P → IfErr r Q
 if_err_by P Q (Ok x) f p = tt

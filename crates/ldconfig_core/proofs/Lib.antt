@@ -1,5 +1,6 @@
 mod Bests
 mod CallsOneByOne
+mod CrashesOneByOne
 mod Endings
 mod FilesAgree
 mod FoundParts
@@ -9,5 +10,6 @@ pub mod LookedUp
 pub mod OneText
 mod OutcomeRows
 mod PreparedTexts
+pub mod Repaired
 mod SearchParts
 mod SettledImage

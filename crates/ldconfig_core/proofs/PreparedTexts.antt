@@ -22,10 +22,10 @@ use Rattle.ldconfig_core.specs.Faults.{is_of_finding, is_of_making}
 use Rattle.ldconfig_core.specs.Ldconfig.{conf_in, entries_in, planned_in}
 use Rattle.ldconfig_core.specs.Lookup.{FindsAsSearched}
 use Rattle.ldconfig_core.specs.Outcome.{TooLarge, TooMany, Writes, is_too_long, manifest_with, new_manifest, size_of, update_outcome}
-use Rattle.ldconfig_core.specs.Settled.{AreSettled, IfReads}
+use Rattle.ldconfig_core.specs.Settled.{AreSettled, IfReads, planned_image}
 use Rattle.ldconfig_core.specs.Stages.{IsFound, IsMadeOf, entries_of, loaded, said_of, texts_of}
 use Rattle.ldconfig_core.specs.Texts.{AreTexts, AreTextsOf, said_with}
-use Rattle.ldconfig_core.specs.Update.{IsAnswer, IsUpdated, update_ending}
+use Rattle.ldconfig_core.specs.Update.{AreUpdateTexts, IsAnswer, IsUpdated, update_ending}
 
 module _ (held : Contents) (t : Nodes) (found : Found) (tree : Nodes) (is : IsFound held t found tree) where
   manifest_is : manifest_with tree found.links.plan ≡ new_manifest held (loaded t)
@@ -96,7 +96,7 @@ module _ (held : Contents) (t : Nodes) (found : Found) (tree : Nodes) (is : IsFo
       };
     }
 
-pub some_texts : (found : Found) (tree : Nodes) (prepared : Prepared) → IsMadeOf found tree prepared → AreTexts (texts_of prepared)
+some_texts : (found : Found) (tree : Nodes) (prepared : Prepared) → IsMadeOf found tree prepared → AreTexts (texts_of prepared)
 some_texts found tree prepared made = record {
   said = said_of found made.entries;
   report_is = made.text;
@@ -109,13 +109,33 @@ some_texts found tree prepared made = record {
 -- ---- if contents are known
 
 module _ (t : Nodes) (found : Found) (tree : Nodes) where
-  pub texts_are : (known : Option Contents) → IfKnown known (λ held. IsFound held t found tree) → (prepared : Prepared) → IsMadeOf found tree prepared → IfKnown known (λ held. AreTextsOf held (loaded t) (texts_of prepared))
+  texts_are : (known : Option Contents) → IfKnown known (λ held. IsFound held t found tree) → (prepared : Prepared) → IsMadeOf found tree prepared → IfKnown known (λ held. AreTextsOf held (loaded t) (texts_of prepared))
   texts_are None is prepared made = tt
   texts_are (Some held) is prepared made = are_texts held t found tree is prepared made
 
-  pub finds_all : (known : Option Contents) → IfKnown known (λ held. IsFound held t found tree) → (prepared : Prepared) → IsMadeOf found tree prepared → IfKnown known (λ held. FindsAsSearched held t (texts_of prepared).cache)
+  finds_all : (known : Option Contents) → IfKnown known (λ held. IsFound held t found tree) → (prepared : Prepared) → IsMadeOf found tree prepared → IfKnown known (λ held. FindsAsSearched held t (texts_of prepared).cache)
   finds_all None is prepared made = tt
   finds_all (Some held) is prepared made = searched held t made.entries prepared.cache.items (ordered held t found tree is prepared made) made.read_back
+
+  settled_is : (known : Option Contents) → IfKnown known (λ held. IsFound held t found tree) → IfKnown known (λ held. AreSettled held (loaded t) (loaded tree))
+      → IfKnown known (λ held. AreSettled held (loaded t) (planned_image held (loaded t)))
+  settled_is None is settled = tt
+  settled_is (Some held) is settled = subst (λ (n : Nodes). AreSettled held (loaded t) (loaded n)) is.tree_is settled
+
+  reads_is : (known : Option Contents) → IfKnown known (λ held. IsFound held t found tree) → (prepared : Prepared) → IsMadeOf found tree prepared
+      → IfKnown known (λ held. IfReads (texts_of prepared).manifest (planned_image held (loaded t)))
+  reads_is None is prepared made = tt
+  reads_is (Some held) is prepared made = subst (λ (n : Nodes). IfReads (texts_of prepared).manifest (loaded n)) is.tree_is made.reads
+
+  pub update_texts : (known : Option Contents) → IfKnown known (λ held. IsFound held t found tree) → (prepared : Prepared) → IsMadeOf found tree prepared
+      → IfKnown known (λ held. AreSettled held (loaded t) (loaded tree)) → AreUpdateTexts (loaded t) known (texts_of prepared)
+  update_texts known is prepared made settled = record {
+    are = some_texts found tree prepared made;
+    are_of = texts_are known is prepared made;
+    finds = finds_all known is prepared made;
+    settles = settled_is known is settled;
+    reads = reads_is known is prepared made;
+  }
 
   pub updated_is : (known : Option Contents) → IfKnown known (λ held. IsFound held t found tree) → (prepared : Prepared) → IsMadeOf found tree prepared
       → IfKnown known (λ held. AreSettled held (loaded t) (loaded tree)) → IfKnown known (λ held. IsUpdated held (loaded t) (loaded tree, prepared.report))

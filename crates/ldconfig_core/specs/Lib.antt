@@ -4,6 +4,7 @@ pub mod Ldconfig
 pub mod Lookup
 pub mod Manifest
 pub mod Outcome
+pub mod Repair
 pub mod Replace
 pub mod Session
 pub mod Settled

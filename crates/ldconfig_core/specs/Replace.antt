@@ -1,19 +1,20 @@
 -- What the replacement of slots, one after the other, by way of a tag's temporary files leaves.
-use Rattle.std.specs.Prelude.{◌≡◌, ◌⊎◌, ◌==◌, ◌&&◌, ℕ, false, List, [], ◌∷◌, flat_map, Option, Vec}
+use Rattle.std.specs.Prelude.{◌≡◌, ◌⊎◌, ◌==◌, ◌&&◌, ℕ, Bool, true, false, List, [], ◌∷◌, flat_map, Option, Vec}
 use Rattle.std.specs.List.{list_any}
 use Rattle.std.specs.Option.{option_map}
 use Rattle.std.specs.declared.alloc.Global.{Global}
 use Rattle.atomic_replace.specs.declared.fault.DiskFault.{DiskFault}
-use Rattle.atomic_replace.specs.Replace.{MayReplaceSlot, ReplacesSlot, StopsAt, Write, call_by}
+use Rattle.atomic_replace.specs.Replace.{IsWritten, MayReplaceSlot, ReplacesSlot, StopsAt, Write, call_by}
 use Rattle.lib_types.specs.Counts.{HasRisen}
 use Rattle.tree_face.specs.Calls.{replacement}
+use Rattle.tree_face.specs.Crash.{Leaves}
 use Rattle.tree_face.specs.declared.disk.DoneCall.{DoneCall}
 use Rattle.tree_face.specs.declared.disk.Slot.{Slot}
 use Rattle.tree_face.specs.declared.disk.Slot.TheVariants.{Manifest, Cache}
 use Rattle.tree_face.specs.declared.disk.Tag.{Tag}
-use Rattle.tree_face.specs.Disk.{DiskContent, DiskState, slot_eq}
+use Rattle.tree_face.specs.Disk.{Content, DiskContent, DiskState, slot_eq}
 use Rattle.tree_face.specs.Follows.{IsFollowedBy}
-use Rattle.tree_face.specs.Known.{IsSame, Relates}
+use Rattle.tree_face.specs.Known.{IfKnown, IsSame, Relates}
 
 -- ---- slots one after the other
 
@@ -38,6 +39,37 @@ FailsToReplace tag slot (write ∷ writes) a c =
 abbrev pub calls_of : Tag → List Write → List DoneCall
 calls_of tag writes = flat_map (λ write. replacement tag write.0) writes
 
+-- ---- crashes
+
+-- one of these writes this content into this slot
+abbrev pub IsOfWrites : List Write → Slot → Content → Type 0
+IsOfWrites [] slot b = ⊥
+IsOfWrites (write ∷ writes) slot b = IsWritten write slot b ⊎ IsOfWrites writes slot b
+
+abbrev pub is_written : List Write → Slot → Bool
+is_written writes slot = list_any (λ write. slot_eq slot write.0) writes
+
+-- there is a moment before which no other slot was touched, and from which on a crash leaves in this one only what is written there
+pub record SettlesBefore (write : Write) (later : List Write) (old settled new : DiskState) : Type 0 where
+  pub until : Leaves (IsOfWrites (write ∷ [])) old settled
+  pub on : (b : Content) → new.since settled.time write.0 b ≡ true → IsOfWrites (write ∷ later) write.0 b
+
+-- each slot is settled before a later one is touched
+abbrev pub SettlesInOrder : List Write → DiskState → DiskState → Type 0
+SettlesInOrder [] old new = new ≡ old
+SettlesInOrder (write ∷ writes) old new = (settled : DiskState) × (SettlesBefore write writes old settled new × SettlesInOrder writes settled new)
+
+-- those before this slot are settled in order, and then only this slot is touched
+abbrev pub StopsInOrder : Slot → List Write → DiskState → DiskState → Type 0
+StopsInOrder slot [] old new = ⊥
+StopsInOrder slot (write ∷ writes) old new =
+    ((write.0 ≡ slot) × Leaves (IsOfWrites (write ∷ [])) old new)
+    ⊎ ((settled : DiskState) × (SettlesBefore write writes old settled new × StopsInOrder slot writes settled new))
+
+-- in each slot that is written, a crash leaves only what is written there
+abbrev pub LeavesOnlyWritten : List Write → DiskState → Type 0
+LeavesOnlyWritten writes s = (slot : Slot) (b : Content) → is_written writes slot ≡ true → s.may slot b ≡ true → IsOfWrites writes slot b
+
 -- ---- on the whole disk
 
 -- the same temporary files but those of this tag and of these slots are made as before
@@ -52,6 +84,9 @@ update_slots = Manifest ∷ Cache ∷ []
 pub record WritesAll (tag : Tag) (writes : List Write) (old new : DiskState) : Type 0 where
   pub contents : Relates (Replaces tag.0 writes) old.contents new.contents
   pub calls : Relates (IsFollowedBy (calls_of tag writes)) old.calls new.calls
+  pub leaves : Leaves (IsOfWrites writes) old new
+  pub order : IfKnown old.contents (λ _. SettlesInOrder writes old new)
+  pub settled : IfKnown new.contents (λ _. LeavesOnlyWritten writes new)
   pub reads : new.reads ≡ old.reads
   pub faults : new.faults ≡ old.faults
   pub read_faults : new.read_faults ≡ old.read_faults
@@ -60,6 +95,8 @@ pub record WritesAll (tag : Tag) (writes : List Write) (old new : DiskState) : T
 pub record WritesPart (tag : Tag) (writes : List Write) (fault : DiskFault) (old new : DiskState) : Type 0 where
   pub contents : Relates (FailsToReplace tag.0 fault.slot writes) old.contents new.contents
   pub calls : Relates (StopsAt (call_by tag fault.slot fault.call) (calls_of tag writes)) old.calls new.calls
+  pub leaves : Leaves (IsOfWrites writes) old new
+  pub order : IfKnown old.contents (λ _. StopsInOrder fault.slot writes old new)
   pub reads : new.reads ≡ old.reads
   pub faults : HasRisen old.faults new.faults
   pub read_faults : new.read_faults ≡ old.read_faults

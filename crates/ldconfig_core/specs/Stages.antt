@@ -1,9 +1,8 @@
 -- What private functions say of the parts of an update, one after the other.
-use Rattle.std.specs.Prelude.{◌≡◌, ◌≤◌, ◌||◌, ℕ, true, false, List, length, map, Option, None, IsSomeAnd}
-use Rattle.std.specs.List.{filter_map, list_any}
+use Rattle.std.specs.Prelude.{◌≡◌, ◌≤◌, ◌<◌, ℕ, true, false, List, length, map, None, IsSomeAnd}
+use Rattle.std.specs.List.{filter_map}
 use Rattle.std.specs.Map.{keys_of}
 use Rattle.std.specs.Option.{option_map}
-use Rattle.std.specs.Str.{bytes_eq}
 use Rattle.winning_entries.specs.Entries as entries
 use Rattle.winning_entries.specs.Entries.{AreEntriesOf}
 use Rattle.cache_reader.specs.Cache.{defect, read}
@@ -17,7 +16,7 @@ use Rattle.lib_types.specs.declared.entry.Entry.{Entry}
 use Rattle.found_files.specs.Order.{ascending}
 use Rattle.found_files.specs.Search.{dangling}
 use Rattle.found_files.specs.Table.{analysis_at}
-use Rattle.soname_links.specs.declared.kinds.Survey.{Survey}
+use Rattle.soname_links.specs.declared.kinds.Planned.{Planned}
 use Rattle.soname_links.specs.Marks.{blocked, mixed}
 use Rattle.tree_face.specs.Store.{Contents, StoreState}
 use Rattle.tree_face.specs.StoreUse.{Ending, ReadsFiles}
@@ -29,7 +28,7 @@ use Rattle.ldconfig_core.specs.declared.finding.Found.{Found}
 use Rattle.ldconfig_core.specs.declared.prepare.Prepared.{Prepared}
 use Rattle.ldconfig_core.specs.declared.search.Search.{Search}
 use Rattle.ldconfig_core.specs.Ldconfig.{conf_in, entries_in, links_in, places_in, planned_in}
-use Rattle.ldconfig_core.specs.Outcome.{is_too_long, manifest_with}
+use Rattle.ldconfig_core.specs.Outcome.{is_too_long, manifest_with, size_of}
 use Rattle.ldconfig_core.specs.Replace.{manifest_bytes}
 use Rattle.ldconfig_core.specs.Session.{Loaded}
 use Rattle.ldconfig_core.specs.Settled.{IfReads}
@@ -94,6 +93,16 @@ said_of found entries = record {
   entries = entries;
   opened = found.search.files.begun;
 }
+
+-- the manifest is too long, and these are the sizes of the image
+abbrev pub IsTooLarge : Nodes → List Planned → ℕ → ℕ → Type 0
+IsTooLarge tree plan nodes bytes =
+    (nodes ≡ length tree) × ((bytes ≡ size_of (manifest_with tree plan)) × (is_too_long (manifest_with tree plan) ≡ true))
+
+-- the manifest isn't too long, but there are so many entries
+abbrev pub HasTooMany : Found → Nodes → ℕ → Type 0
+HasTooMany found tree count =
+    (is_too_long (manifest_with tree found.links.plan) ≡ false) × ((count ≡ length (entries_of found tree)) × (ENTRIES_MAX < count))
 
 -- the texts and the numbers of what is found
 pub record IsMadeOf (found : Found) (tree : Nodes) (prepared : Prepared) : Type 0 where

@@ -12,12 +12,12 @@ use Rattle.ldconfig_core.specs.Begun.{opened_in, update_bytes, update_keys}
 use Rattle.ldconfig_core.specs.declared.fault.UpdateFault.{UpdateFault}
 use Rattle.ldconfig_core.specs.declared.fault.UpdateFault.TheVariants as faults
 use Rattle.ldconfig_core.specs.declared.report.Report.{Report}
-use Rattle.ldconfig_core.specs.Ldconfig.{entries_in, links_in, planned_in}
+use Rattle.ldconfig_core.specs.Ldconfig.{entries_in, links_in}
 use Rattle.ldconfig_core.specs.Lookup.{FindsAsSearched}
 use Rattle.ldconfig_core.specs.Outcome.{Outcome, Lacking, TooLarge, TooMany, Writes, new_manifest, update_outcome}
 use Rattle.ldconfig_core.specs.Replace.{KeepsRestMade, WritesAll, WritesPart, update_slots}
 use Rattle.ldconfig_core.specs.Session.{Loaded}
-use Rattle.ldconfig_core.specs.Settled.{AreSettled, IfReads}
+use Rattle.ldconfig_core.specs.Settled.{AreSettled, IfReads, planned_image}
 use Rattle.ldconfig_core.specs.Texts.{AreTexts, AreTextsOf, UpdateTexts, writes_of}
 
 -- ---- the results, one row for each
@@ -50,27 +50,31 @@ ReadsUpdate s ending old new =
 
 -- ---- the disk
 
--- the texts of the update are written, and this is its report
-pub record Leaves (tag : Tag) (s : Loaded) (known : Option Contents) (report : Report) (old new : DiskState) : Type 0 where
-  pub texts : UpdateTexts
+-- the texts of an update of this image, which is settled with them: if contents are known, of the one that there is
+pub record AreUpdateTexts (s : Loaded) (known : Option Contents) (texts : UpdateTexts) : Type 0 where
   pub are : AreTexts texts
   pub are_of : IfKnown known (λ held. AreTextsOf held s texts)
   pub finds : IfKnown known (λ held. FindsAsSearched held s.tree texts.cache)
+  pub settles : IfKnown known (λ held. AreSettled held s (planned_image held s))
+  pub reads : IfKnown known (λ held. IfReads texts.manifest (planned_image held s))
+
+-- the texts of the update are written, and this is its report
+pub record LeavesTexts (tag : Tag) (s : Loaded) (known : Option Contents) (report : Report) (old new : DiskState) : Type 0 where
+  pub texts : UpdateTexts
+  pub are : AreUpdateTexts s known texts
   pub report_is : report.text ≡ texts.report
   pub written : WritesAll tag (writes_of texts.manifest texts.cache) old new
 
 -- a writing call of these texts failed
-pub record MayLeave (tag : Tag) (s : Loaded) (known : Option Contents) (fault : DiskFault) (old new : DiskState) : Type 0 where
+pub record MayLeaveTexts (tag : Tag) (s : Loaded) (known : Option Contents) (fault : DiskFault) (old new : DiskState) : Type 0 where
   pub texts : UpdateTexts
-  pub are : AreTexts texts
-  pub are_of : IfKnown known (λ held. AreTextsOf held s texts)
-  pub finds : IfKnown known (λ held. FindsAsSearched held s.tree texts.cache)
+  pub are : AreUpdateTexts s known texts
   pub written : WritesPart tag (writes_of texts.manifest texts.cache) fault old new
 
 -- Nothing is written unless all texts were made.
 abbrev pub DiskAfter : Tag → Loaded → Option Contents → Result (Loaded × Report) UpdateFault → DiskState → DiskState → Type 0
-DiskAfter tag s known (Ok updated) old new = Leaves tag s known updated.1 old new
-DiskAfter tag s known (Err (faults.DiskFault fault)) old new = MayLeave tag s known fault old new
+DiskAfter tag s known (Ok updated) old new = LeavesTexts tag s known updated.1 old new
+DiskAfter tag s known (Err (faults.DiskFault fault)) old new = MayLeaveTexts tag s known fault old new
 DiskAfter tag s known (Err faults.StoreFault) old new = new ≡ old
 DiskAfter tag s known (Err (faults.TooLarge nodes bytes)) old new = new ≡ old
 DiskAfter tag s known (Err (faults.TooMany count)) old new = new ≡ old
@@ -86,7 +90,7 @@ pub record IsReportFor (held : Contents) (s : Loaded) (report : Report) : Type 0
 
 -- It is the image with the planned links, which is settled, and as which a manifest that is written reads.
 pub record IsUpdated (held : Contents) (s : Loaded) (updated : Loaded × Report) : Type 0 where
-  pub planned : updated.0 ≡ record { tree = planned_in held s.tree }
+  pub planned : updated.0 ≡ planned_image held s
   pub settled : AreSettled held s updated.0
   pub reads : IfReads (new_manifest held s) updated.0
   pub report : IsReportFor held s updated.1

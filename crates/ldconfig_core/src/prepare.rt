@@ -1,19 +1,16 @@
 //! What an update is about to write.
-ghost use Rattle.std.specs.Prelude.{◌≡◌, ◌<◌, ℕ, false, true, length, IfErr, IfOk, IsErrOf, IsTrue};
+ghost use Rattle.std.specs.Prelude.{◌≡◌, ℕ, false, true, length, IfErr, IfOk, IsErrOf, IsTrue};
 ghost use Rattle.found_files.specs.Best.{bests_of};
 ghost use Rattle.found_files.specs.Search.{followed};
 ghost use Rattle.found_files.specs.Table.{analysis_at};
 ghost use Rattle.tree_face.specs.Known.{IfKnown};
-ghost use Rattle.cache_writer.specs.declared.writer.TheConstants.{ENTRIES_MAX};
 ghost use Rattle.hwcap_dirs.specs.Places.{are_spelled};
 ghost use Rattle.ldconfig_core.specs.Faults.{is_of_making, is_of_preparing, is_size_fault};
-ghost use Rattle.ldconfig_core.specs.Lookup.{FindsAsSearched};
-ghost use Rattle.ldconfig_core.specs.Outcome.{is_too_long, manifest_with, size_of, update_outcome};
+ghost use Rattle.ldconfig_core.specs.Outcome.{is_too_long, manifest_with, update_outcome};
 ghost use Rattle.ldconfig_core.specs.Replace.{manifest_bytes};
 ghost use Rattle.ldconfig_core.specs.Settled.{IfReads};
-ghost use Rattle.ldconfig_core.specs.Stages.{entries_of, loaded, said_of, texts_of, IsMadeOf};
-ghost use Rattle.ldconfig_core.specs.Texts.{AreTexts, AreTextsOf};
-ghost use Rattle.ldconfig_core.specs.Update.{IsAnswer, IsUpdated, ReadsUpdate, update_ending};
+ghost use Rattle.ldconfig_core.specs.Stages.{loaded, said_of, texts_of, HasTooMany, IsMadeOf, IsTooLarge};
+ghost use Rattle.ldconfig_core.specs.Update.{AreUpdateTexts, IsAnswer, IsUpdated, ReadsUpdate, update_ending};
 ghost use Rattle.update_report.specs.Report.{report_text};
 
 use crate::fault::UpdateFault;
@@ -41,8 +38,7 @@ fn new_manifest(alloc: Global, tree: &Tree, plan: &Plan) -> Result<Option<Vec<u8
     ensures text { IfOk result (λ text. manifest_bytes text ≡ manifest_with tree.now plan.now) }
     ensures short { IfOk result (λ _. is_too_long (manifest_with tree.now plan.now) ≡ false) }
     ensures reads { IfOk result (λ text. IfReads (manifest_bytes text) (loaded tree.now)) }
-    ensures too_large { (nodes bytes : ℕ) → IsErrOf result (UpdateFault.TooLarge nodes bytes) →
-        (nodes ≡ length tree.now) × ((bytes ≡ size_of (manifest_with tree.now plan.now)) × (is_too_long (manifest_with tree.now plan.now) ≡ true)) }
+    ensures too_large { (nodes bytes : ℕ) → IsErrOf result (UpdateFault.TooLarge nodes bytes) → IsTooLarge tree.now plan.now nodes bytes }
     ensures others { IfErr result (λ fault. is_size_fault fault ≡ true) }
 {
     if plan.is_empty() {
@@ -104,10 +100,8 @@ fn make(alloc: Global, tree: &Tree, found: Found) -> Result<Prepared, UpdateFaul
     requires bests { found.links.bests ≡ bests_of (analysis_at found.search.files.table) tree.now found.search.dirs.places }
     requires links { found.followed.links ≡ followed tree.now found.search.dirs.places }
     ensures made { IfOk result (IsMadeOf found tree.now) }
-    ensures too_large { (nodes bytes : ℕ) → IsErrOf result (UpdateFault.TooLarge nodes bytes) →
-        (nodes ≡ length tree.now) × ((bytes ≡ size_of (manifest_with tree.now found.links.plan)) × (is_too_long (manifest_with tree.now found.links.plan) ≡ true)) }
-    ensures too_many { (count : ℕ) → IsErrOf result (UpdateFault.TooMany count) →
-        (is_too_long (manifest_with tree.now found.links.plan) ≡ false) × ((count ≡ length (entries_of found tree.now)) × (ENTRIES_MAX < count)) }
+    ensures too_large { (nodes bytes : ℕ) → IsErrOf result (UpdateFault.TooLarge nodes bytes) → IsTooLarge tree.now found.links.plan nodes bytes }
+    ensures too_many { (count : ℕ) → IsErrOf result (UpdateFault.TooMany count) → HasTooMany found tree.now count }
     ensures others { IfErr result (λ fault. is_of_making fault ≡ true) }
 {
     let manifest = new_manifest(alloc, tree, &found.links.plan)?;
@@ -136,10 +130,9 @@ pub fn prepare<S: Store>(
 ) -> Result<Prepared, UpdateFault>
     ensures updated { IfOk result (λ prepared. IfKnown (S.state store.old).held
         (λ held. IsUpdated held (loaded tree.old) (loaded tree.new, prepared.report))) }
-    ensures texts { IfOk result (λ prepared. AreTexts (texts_of prepared)) }
-    ensures texts_of { IfOk result (λ prepared. IfKnown (S.state store.old).held (λ held. AreTextsOf held (loaded tree.old) (texts_of prepared))) }
-    ensures finds { IfOk result (λ prepared. IfKnown (S.state store.old).held (λ held. FindsAsSearched held tree.old (texts_of prepared).cache)) }
-    ensures answers { IfKnown (S.state store.old).held (λ held. IsAnswer (update_outcome held (loaded tree.old)) result (S.state store.old) (S.state store.new)) }
+    ensures texts { IfOk result (λ prepared. AreUpdateTexts (loaded tree.old) (S.state store.old).held (texts_of prepared)) }
+    ensures answers { IfKnown (S.state store.old).held
+        (λ held. IsAnswer (update_outcome held (loaded tree.old)) result (S.state store.old) (S.state store.new)) }
     ensures others { IfErr result (λ fault. is_of_preparing fault ≡ true) }
     ensures reads { ReadsUpdate (loaded tree.old) (update_ending result) (S.state store.old) (S.state store.new) }
 {

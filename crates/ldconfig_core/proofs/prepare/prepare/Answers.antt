@@ -1,5 +1,5 @@
 use Rattle.std.proofs.Common.{rules, ◌≡◌, Err, ap}
-use Rattle.ldconfig_core.proofs.PreparedTexts.{finding_answers, finding_ends, finds_all, making_answers, making_ends, some_texts, texts_are, updated_is, writes_is}
+use Rattle.ldconfig_core.proofs.PreparedTexts.{finding_answers, finding_ends, making_answers, making_ends, update_texts, updated_is, writes_is}
 use Rattle.ldconfig_core.specs.declared.finding.Found.{Found}
 use Rattle.ldconfig_core.specs.declared.prepare.Prepared.{Prepared}
 use Rattle.ldconfig_core.proofs.prepare.prepare.Goals as goal
@@ -31,13 +31,8 @@ returns-clause-updated g c =
     updated_is c.args.tree.now c.in_ok-found.found c.find.new.tree _ c.in_ok-found.ensures.found c.in_ok-prepared.prepared c.in_ok-prepared.ensures.made c.in_ok-found.ensures.settled
 
 pub returns-clause-texts : goal.returns-clause-texts
-returns-clause-texts g c = some_texts c.in_ok-found.found c.find.new.tree c.in_ok-prepared.prepared c.in_ok-prepared.ensures.made
-
-pub returns-clause-texts_of : goal.returns-clause-texts_of
-returns-clause-texts_of g c = texts_are c.args.tree.now c.in_ok-found.found c.find.new.tree _ c.in_ok-found.ensures.found c.in_ok-prepared.prepared c.in_ok-prepared.ensures.made
-
-pub returns-clause-finds : goal.returns-clause-finds
-returns-clause-finds g c = finds_all c.args.tree.now c.in_ok-found.found c.find.new.tree _ c.in_ok-found.ensures.found c.in_ok-prepared.prepared c.in_ok-prepared.ensures.made
+returns-clause-texts g c =
+    update_texts c.args.tree.now c.in_ok-found.found c.find.new.tree _ c.in_ok-found.ensures.found c.in_ok-prepared.prepared c.in_ok-prepared.ensures.made c.in_ok-found.ensures.settled
 
 pub returns-clause-answers : goal.returns-clause-answers
 returns-clause-answers g c = writes_is c.args.tree.now c.in_ok-found.found c.find.new.tree _ c.in_ok-found.ensures.found c.in_ok-prepared.prepared c.in_ok-prepared.ensures.made
