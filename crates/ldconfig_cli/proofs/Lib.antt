@@ -1,4 +1,7 @@
+mod CrashedRun
 mod NotUsage
 mod OnlyArgument
+mod RepairedRun
+mod RunByCommand
 mod Saying
 mod SettledSlots

@@ -40,7 +40,7 @@ record IsLeft (held : Contents) (content : DiskContent) : Type 0 where
   finds : FindsAsSearched held before.tree texts.cache
 
 -- what is loaded is what the slot says
-loaded_is : (a : DiskContent) (s : Loaded) → IsLoaded (Some a) s → manifest_of a.now.manifest ≡ HasTree s.tree
+pub loaded_is : (a : DiskContent) (s : Loaded) → IsLoaded (Some a) s → manifest_of a.now.manifest ≡ HasTree s.tree
 loaded_is a s is = ap manifest_of is.in_slot ∙ is.reads
 
 module _ (held : Contents) (s : Loaded) (updated : Loaded × Report) (is : IsUpdated held s updated) (texts : UpdateTexts) (are : AreTextsOf held s texts) (tag : ℕ) where
@@ -87,13 +87,13 @@ all_left (Some held) s updated texts tag (Some a) (Some b) load is are writes al
 
 -- ---- a status that is made
 
-not_loaded : (fault : LoadFault) → is_made (of_load fault) ≡ false
+pub not_loaded : (fault : LoadFault) → is_made (of_load fault) ≡ false
 not_loaded (loading.DiskFailed slot) = refl
 not_loaded loading.NoManifest = refl
 not_loaded (loading.BadManifest fault) = refl
 not_loaded loading.NoMemory = refl
 
-not_updated : (fault : UpdateFault) → is_made (of_update fault) ≡ false
+pub not_updated : (fault : UpdateFault) → is_made (of_update fault) ≡ false
 not_updated updating.StoreFault = refl
 not_updated (updating.TooLarge nodes bytes) = refl
 not_updated (updating.TooMany count) = refl
@@ -110,8 +110,8 @@ module _ (tag : Tag) (status : Status) (store after_store : StoreState) (disk af
       by (Err fault) updates reports = let z : true ≡ false = sym made ∙ ap is_made reports.0 ∙ not_updated fault in absurd (cc)
       by (Ok updated) updates reports =
           let written = updates.written in
-          all_left store.held s updated written.texts tag.0 between.contents after_disk.contents (rw same load) updates.updated written.are_of updates.answers
-          written.are written.finds written.written.contents
+          all_left store.held s updated written.texts tag.0 between.contents after_disk.contents (rw same load) updates.updated written.are.are_of updates.answers
+          written.are.are written.are.finds written.written.contents
 
   is_left : LoadsAndUpdates tag status store after_store disk after_disk output after_output → is_made status ≡ true → IfBothKnown store.held after_disk.contents IsLeft
   is_left u made = by u.loaded u.loads u.after made

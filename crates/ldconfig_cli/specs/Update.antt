@@ -1,4 +1,4 @@
--- The command `update`: the loading of the image, one update of it with its report, and the fault line.
+-- The command `update` up to its fault line: the loading of the image, and one update of it with its report.
 use Rattle.std.specs.Prelude.{◌≡◌, ℕ, Bool, true, false, List, Option, Some, None, Result, Ok, Err}
 use Rattle.cache_lookup.specs.Scan.{AreDescending}
 use Rattle.cache_reader.specs.Cache.{defect, read}
@@ -20,8 +20,8 @@ use Rattle.ldconfig_core.specs.Texts.{AreTextsOf, UpdateTexts}
 use Rattle.ldconfig_core.specs.Update.{Updates}
 use Rattle.ldconfig_cli.specs.declared.status.Status.{Status}
 use Rattle.ldconfig_cli.specs.declared.status.Status.TheVariants.{Done, OutputFault}
-use Rattle.ldconfig_cli.specs.Devices.{Devices, IfBothKnown}
-use Rattle.ldconfig_cli.specs.Status.{EndsWith, of_load, of_update}
+use Rattle.ldconfig_cli.specs.Devices.{IfBothKnown}
+use Rattle.ldconfig_cli.specs.Status.{of_load, of_update}
 
 -- ---- the report
 
@@ -97,14 +97,3 @@ SettlesSlots status held disk = is_made status ≡ true → IfBothKnown held dis
 -- and by the cache that it leaves the loader finds what the search finds, if all contents are known
 abbrev pub FindsInSlots : Status → Option Contents → Option DiskContent → Type 0
 FindsInSlots status held disk = is_made status ≡ true → IfBothKnown held disk (λ contents content. IsSearchedByCache contents content)
-
--- ---- the whole
-
-pub record UpdateRun (tag : Tag) (old new : Devices) (status : Status) : Type 0 where
-  -- the output when the report is written
-  pub reported : SinkState
-  pub updates : LoadsAndUpdates tag status old.store new.store old.disk new.disk old.output reported
-  pub line : EndsWith status reported new.output
-  pub settles : SettlesSlots status old.store.held new.disk.contents
-  pub finds : FindsInSlots status old.store.held new.disk.contents
-  pub input : new.input ≡ old.input

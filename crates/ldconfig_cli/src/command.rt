@@ -1,18 +1,16 @@
 //! The top call.
-ghost use Rattle.std.specs.Prelude.{◌≡◌, ◌↔◌, Some, None};
+ghost use Rattle.std.specs.Prelude.{◌≡◌};
 ghost use Rattle.tree_face.specs.Store.{Contents, StoreState};
 ghost use Rattle.ldconfig_core.specs.Session.{Loaded};
 ghost use Rattle.ldconfig_core.specs.Texts.{AreTextsOf, UpdateTexts};
-ghost use Rattle.ldconfig_cli.specs.Command.{command_of};
 ghost use Rattle.ldconfig_cli.specs.Devices.{devices};
-ghost use Rattle.ldconfig_cli.specs.Asked.{Asked};
 ghost use Rattle.ldconfig_cli.specs.Lookup.{LookupRun};
 ghost use Rattle.ldconfig_cli.specs.Print.{PrintRun};
+ghost use Rattle.ldconfig_cli.specs.Runs.{Runs};
 ghost use Rattle.ldconfig_cli.specs.Status.{EndsWith};
-ghost use Rattle.ldconfig_cli.specs.Update.{LoadsAndUpdates, UpdateRun};
-ghost use Rattle.ldconfig_cli.specs.Usage.{UsageRun};
+ghost use Rattle.ldconfig_cli.specs.Update.{LoadsAndUpdates};
+ghost use Rattle.ldconfig_cli.specs.UpdateCommand.{UpdateRun};
 ghost use Rattle.tree_face.specs.Stream.{SourceState};
-ghost use Rattle.tree_face.specs.declared.disk.Tag.{Tag};
 
 use crate::arguments::{Command, command_of};
 use crate::asked::Lookup;
@@ -118,26 +116,11 @@ pub fn run<S: Store, D: Disk, I: Source, O: Sink>(
     input: &mut I,
     out: &mut O,
 ) -> Status
-    ensures usage { (result ≡ Status.Usage) ↔ (command_of words.now ≡ None) }
-    ensures no_command { command_of words.now ≡ None → UsageRun
-        (devices (S.state store.old) (D.state disk.old) (I.state input.old) (O.state out.old))
-        (devices (S.state store.new) (D.state disk.new) (I.state input.new) (O.state out.new))
-        result }
-    ensures update { (tag : Tag) → command_of words.now ≡ Some (Command.Update tag) → UpdateRun tag
-        (devices (S.state store.old) (D.state disk.old) (I.state input.old) (O.state out.old))
-        (devices (S.state store.new) (D.state disk.new) (I.state input.new) (O.state out.new))
-        result }
-    ensures print { command_of words.now ≡ Some Command.Print → PrintRun
-        (devices (S.state store.old) (D.state disk.old) (I.state input.old) (O.state out.old))
-        (devices (S.state store.new) (D.state disk.new) (I.state input.new) (O.state out.new))
-        result }
-    ensures lookup { (asked : Asked) → command_of words.now ≡ Some (Command.Lookup asked) → LookupRun asked
-        (devices (S.state store.old) (D.state disk.old) (I.state input.old) (O.state out.old))
-        (devices (S.state store.new) (D.state disk.new) (I.state input.new) (O.state out.new))
-        result }
+    ensures runs { Runs S.state D.state I.state O.state words.now result
+        (store.old, (disk.old, (input.old, out.old))) (store.new, (disk.new, (input.new, out.new))) }
 
     // The texts of an update are determined by the image and the contents, and every image has some.
-    ensures one_update { (held : Contents) (s : Loaded) (texts others : UpdateTexts) → AreTextsOf held s texts → AreTextsOf held s others → texts ≡ others }
+    ensures one_update { (held : Contents) (s : Loaded) (a b : UpdateTexts) → AreTextsOf held s a → AreTextsOf held s b → a ≡ b }
     ensures some_update { (held : Contents) (s : Loaded) → (texts : UpdateTexts) × AreTextsOf held s texts }
 {
     match command_of(words) {

@@ -16,7 +16,8 @@ use Rattle.ldconfig_cli.specs.Command.{are_only, command_of}
 use Rattle.ldconfig_cli.specs.Devices.{Devices}
 use Rattle.ldconfig_cli.specs.Lookup.{LookupRun}
 use Rattle.ldconfig_cli.specs.Print.{PrintRun}
-use Rattle.ldconfig_cli.specs.Update.{AfterLoad, LoadsAndUpdates, UpdateRun}
+use Rattle.ldconfig_cli.specs.Update.{AfterLoad, LoadsAndUpdates}
+use Rattle.ldconfig_cli.specs.UpdateCommand.{UpdateRun}
 use Rattle.ldconfig_cli.specs.Usage.{UsageRun}
 
 -- the tag of an update
