@@ -1,0 +1,4 @@
+pub mod Answered
+pub mod Standing
+pub mod Tried
+pub mod TriedPaths

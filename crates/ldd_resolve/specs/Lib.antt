@@ -1,0 +1,6 @@
+pub mod Faults
+pub mod Links
+pub mod Listing
+pub mod Loading
+pub mod Resolving
+pub mod Searching

@@ -1,0 +1,100 @@
+-- How the code keeps a listing: sets of names and places, and a queue of the objects whose requests aren't answered.
+use Rattle.std.specs.Prelude.{◌≡◌, ℕ, ◌||◌, ◌++◌, true, List, [], ◌∷◌, if◌then◌else◌, drop, map, Option, Some, None, IfSome, is_some}
+use Rattle.std.specs.List.{IsDistinct, list_any}
+use Rattle.std.specs.Str.{bytes_eq}
+use Rattle.lib_types.specs.declared.abi.Abi.{Abi}
+use Rattle.tree_face.specs.Known.{IfKnown}
+use Rattle.tree_face.specs.Store.{Contents, StoreState}
+use Rattle.tree_face.specs.StoreUse.{Ending, ReadsFiles}
+use Rattle.tree_face.specs.Tree.{Nodes, node_at}
+use Rattle.elf_dynamic.specs.declared.kinds.Dynamic.{Dynamic}
+use Rattle.rpath_search.specs.declared.kinds.Found.{Found}
+use Rattle.ldd_resolve.specs.declared.loading.Loading.{Loading}
+use Rattle.ldd_resolve.specs.declared.search.Answer.{Answer}
+use Rattle.ldd_resolve.specs.declared.search.Answer.TheVariants as answer
+use Rattle.ldd_resolve.specs.Links.{AreLinked}
+use Rattle.ldd_resolve.specs.Listing.{Record, Request, Scope, is_among, is_called, is_missing, item, left, loaded, named, needed_in, owner_of, places_of, record_after, requests, soname_in, with_missing}
+use Rattle.ldd_resolve.specs.Searching.{AreKnown, BeginsHeld}
+
+-- ---- the state of the code and the record
+
+-- The state stands for this record, when the needed names of so many objects were taken from the queue, and these requests of them are
+-- left.
+pub record Stands (r : Record) (s : Loading) (taken : ℕ) (rest : List Request) : Type 0 where
+  pub linked : AreLinked s.links (map (λ o. o.chain) r.objects)
+  pub places : s.places.loaded ≡ places_of r.objects
+  pub names : (x : List ℕ) → is_among s.names x ≡ list_any (is_called x) r.objects
+  pub missing : (x : List ℕ) → is_among s.missing x ≡ list_any (is_missing x) r.items
+  pub items : s.items ≡ r.items
+  pub pending : s.pending.items ≡ map (λ o. o.needed) (drop taken r.objects)
+  pub left : left r ≡ rest ++ requests (drop taken r.objects)
+
+-- each file is loaded once and is one of the tree, and each but the program is a library
+pub record IsSound (known : Option Contents) (t : Nodes) (abi : Abi) (s : Loading) : Type 0 where
+  pub libraries : IfKnown known (λ held. AreKnown held t abi s.places)
+  pub outsider : IfSome s.places.outsider (λ real. is_among s.places.loaded real ≡ true)
+  pub distinct : IsDistinct bytes_eq s.places.loaded
+  pub nodes : (real : List ℕ) → is_among s.places.loaded real ≡ true → is_some (node_at t real) ≡ true
+
+-- ---- one request
+
+-- an object is added
+pub record AddsObject (old new : Loading) (path real : List ℕ) (d : Option Dynamic) (loader : Option ℕ) : Type 0 where
+  pub links : new.links ≡ old.links ++ record { owner = owner_of path d; loader = loader } ∷ []
+  pub places : new.places ≡ record old.places { loaded = old.places.loaded ++ real ∷ [] }
+  pub names : (x : List ℕ) → is_among new.names x ≡ (is_among old.names x || is_among (soname_in d) x)
+  pub pending : new.pending.items ≡ old.pending.items ++ needed_in d ∷ []
+  pub missing : new.missing ≡ old.missing
+  pub items : new.items ≡ old.items
+
+-- a library that was found is added, as an item of this name
+pub record AddsFound (old new : Loading) (name : List ℕ) (f : Found) (loader : ℕ) : Type 0 where
+  pub links : new.links ≡ old.links ++ record { owner = owner_of f.path f.object.dynamic; loader = Some loader } ∷ []
+  pub places : new.places ≡ record old.places { loaded = old.places.loaded ++ f.real ∷ [] }
+  pub names : (x : List ℕ) → is_among new.names x ≡ (is_among old.names x || is_among (soname_in f.object.dynamic ++ name ∷ []) x)
+  pub pending : new.pending.items ≡ old.pending.items ++ needed_in f.object.dynamic ∷ []
+  pub missing : new.missing ≡ old.missing
+  pub items : new.items ≡ old.items ++ item name (Some f.path) ∷ []
+
+-- a name that isn't found is added
+pub record AddsMissing (old new : Loading) (name : List ℕ) : Type 0 where
+  pub missing : (x : List ℕ) → is_among new.missing x ≡ (is_among old.missing x || bytes_eq x name)
+  pub items : new.items ≡ (if is_among old.missing name then old.items else old.items ++ item name None ∷ [])
+  pub links : new.links ≡ old.links
+  pub places : new.places ≡ old.places
+  pub names : new.names ≡ old.names
+  pub pending : new.pending.items ≡ old.pending.items
+
+-- the record when a request has this answer
+pub record IsFoundIn (r : Record) (q : Request) (r2 : Record) : Type 0 where
+  pub real : List ℕ
+  pub there : is_among (places_of r.objects) real ≡ true
+  pub objects : r2.objects ≡ map (named real q.name) r.objects
+  pub items : r2.items ≡ r.items
+
+abbrev pub HasOutcome : Record → Request → Option Answer → Record → Type 0
+HasOutcome r q None r2 = (r2.objects ≡ r.objects) × (r2.items ≡ with_missing q.name r.items)
+HasOutcome r q (Some answer.Loaded) r2 = IsFoundIn r q r2
+HasOutcome r q (Some (answer.New f)) r2 =
+    (r2.objects ≡ r.objects ++ loaded f.path f.real f.object.dynamic (q.name ∷ []) q.chain ∷ [])
+    × (r2.items ≡ r.items ++ item q.name (Some f.path) ∷ [])
+
+-- ---- how far a listing has come
+
+-- from this record, by so many requests, with these keys begun; the fact holds of the record then
+pub record GoesBy (w : Scope) (start : Record) (ending : Ending) (P : Record → Type 0) (old new : StoreState) : Type 0 where
+  pub requests : ℕ
+  pub keys : List (List ℕ)
+  pub begun : (record_after w start requests).keys ≡ start.keys ++ keys
+  pub begins : BeginsHeld w.held keys ending old new
+  pub holds : P (record_after w start requests)
+
+-- the same as far as contents are known; else the fact holds of some record
+pub record Goes (start : Record) (ending : Ending) (P : Record → Type 0) (old new : StoreState) : Type 0 where
+  pub reads : ReadsFiles ⊥ None None ending old new
+  pub some : Record
+  pub holds : P some
+
+abbrev pub Advances : Option Contents → (Contents → Scope) → Record → Ending → (Record → Type 0) → StoreState → StoreState → Type 0
+Advances None scope start ending P old new = Goes start ending P old new
+Advances (Some held) scope start ending P old new = GoesBy (scope held) start ending P old new

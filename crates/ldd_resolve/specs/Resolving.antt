@@ -1,0 +1,111 @@
+-- What is listed of a program, and which keys are begun for it (ldd(1), ld.so(8)).
+use Rattle.std.specs.Prelude.{◌≡◌, ◌⊎◌, ℕ, List, [], ◌∷◌, Option, Some, None, option_map, option_and_then, Result, Ok, Err}
+use Rattle.lib_types.specs.declared.abi.Abi.{Abi}
+use Rattle.lib_types.specs.declared.analysis.Defect.{Defect}
+use Rattle.tree_face.specs.StoreUse.{Ending, Complete, DeviceFailed, GaveUp, ReadsFiles}
+use Rattle.tree_face.specs.Store.{Contents, StoreState}
+use Rattle.tree_face.specs.Tree.{Nodes, node_at}
+use Rattle.path_walk.specs.Files.{file_at}
+use Rattle.cache_reader.specs.Cache.{CachedEntry}
+use Rattle.cache_lookup.specs.Scan.{scan}
+use Rattle.elf_dynamic.specs.Begun.{ReadsBy, file_keys, key_in}
+use Rattle.elf_dynamic.specs.Object.{object}
+use Rattle.elf_dynamic.specs.declared.kinds.Object.{Object}
+use Rattle.rpath_search.specs.Places.{from_root}
+use Rattle.rpath_search.specs.declared.kinds.Env.{Env}
+use Rattle.ldd_resolve.specs.declared.kinds.Item.{Item}
+use Rattle.ldd_resolve.specs.declared.kinds.ResolveFault.{ResolveFault}
+use Rattle.ldd_resolve.specs.declared.kinds.ResolveFault.TheVariants.{NoProgram, BadProgram, StoreFault, NoMemory}
+use Rattle.ldd_resolve.specs.Listing.{Record, Scope, left, loaded, record_after}
+
+-- ---- the program
+
+-- the file of the program, whose path is below the root if it is relative
+abbrev pub program_at : Nodes → List ℕ → Option (List ℕ)
+program_at t word = file_at t (from_root word)
+
+-- what the file at a place says of itself, or its first defect, if it is held
+abbrev pub object_at : Contents → Nodes → List ℕ → Option (Result Object Defect)
+object_at held t real = option_map object (option_and_then held (key_in (node_at t real)))
+
+-- ---- the listing
+
+-- the path that the cache has for a name; none without a cache
+abbrev pub cached_in : Option (List CachedEntry) → Env → List ℕ → Option (List ℕ)
+cached_in cache env name = option_and_then (λ entries. scan entries name env.abi env.caps) cache
+
+abbrev pub with_abi : Env → Abi → Env
+with_abi env abi = record env { abi = abi }
+
+abbrev pub scope_of : Nodes → Option (List CachedEntry) → Env → Contents → Scope
+scope_of t cache env held = record { held = held; nodes = t; cached = cached_in cache env; env = env }
+
+-- the program alone, with its key begun
+abbrev pub first_record : Nodes → List ℕ → List ℕ → Object → Record
+first_record t word real o =
+    record { objects = loaded (from_root word) real o.dynamic [] [] ∷ []; answered = 0; items = []; keys = file_keys t (real ∷ []) }
+
+-- the record of a program, when so many requests were answered; the ABI is the program's
+abbrev pub record_of : Nodes → Option (List CachedEntry) → List ℕ → Env → Contents → List ℕ → Object → ℕ → Record
+record_of t cache word env held real o n = record_after (scope_of t cache (with_abi env o.abi) held) (first_record t word real o) n
+
+-- The items are the listing: those of a record that has no request left.
+pub record IsListing (t : Nodes) (cache : Option (List CachedEntry)) (word : List ℕ) (env : Env) (held : Contents) (items : List Item) : Type 0 where
+  pub real : List ℕ
+  pub file : program_at t word ≡ Some real
+  pub object : Object
+  pub says : object_at held t real ≡ Some (Ok object)
+  pub requests : ℕ
+  pub all : left (record_of t cache word env held real object requests) ≡ []
+  pub listed : items ≡ (record_of t cache word env held real object requests).items
+
+-- ---- the keys that are begun
+
+abbrev pub IfComplete : Ending → Type 0 → Type 0
+IfComplete Complete P = P
+IfComplete DeviceFailed P = Unit {0}
+IfComplete GaveUp P = Unit {0}
+
+-- those of a record; a complete call has no request left
+pub record BeginsRecord (at : ℕ → Record) (held : Contents) (ending : Ending) (old new : StoreState) : Type 0 where
+  pub requests : ℕ
+  pub reads : ReadsBy (Some held) (at requests).keys ending old new
+  pub all : IfComplete ending (left (at requests) ≡ [])
+
+-- none without a file; the program's alone, if that isn't held or has a defect
+abbrev pub BeginsBy : Option (Result Object Defect) → (Object → ℕ → Record) → List (List ℕ) → Contents → Ending → StoreState → StoreState → Type 0
+BeginsBy (Some (Ok o)) at key held ending old new = BeginsRecord (at o) held ending old new
+BeginsBy (Some (Err d)) at key held ending old new = ReadsBy (Some held) key ending old new
+BeginsBy None at key held ending old new = ReadsBy (Some held) key ending old new
+
+abbrev pub BeginsFor : Nodes → Option (List CachedEntry) → List ℕ → Env → Contents → Option (List ℕ) → Ending → StoreState → StoreState → Type 0
+BeginsFor t cache word env held None ending old new = ReadsBy (Some held) [] ending old new
+BeginsFor t cache word env held (Some real) ending old new =
+    BeginsBy (object_at held t real) (record_of t cache word env held real) (file_keys t (real ∷ [])) held ending old new
+
+-- The keys that are begun, in their order, and why the count of faults rises; which keys they are is known if contents are.
+abbrev pub ReadsListing : Option Contents → Nodes → Option (List CachedEntry) → List ℕ → Env → Ending → StoreState → StoreState → Type 0
+ReadsListing None t cache word env ending old new = ReadsFiles ⊥ None None ending old new
+ReadsListing (Some held) t cache word env ending old new = BeginsFor t cache word env held (program_at t word) ending old new
+
+-- ---- how a call ends
+
+abbrev pub resolve_ending : {A : Type 0} → Result A ResolveFault → Ending
+resolve_ending (Ok listing) = Complete
+resolve_ending (Err NoProgram) = Complete
+resolve_ending (Err (BadProgram d)) = Complete
+resolve_ending (Err StoreFault) = DeviceFailed
+resolve_ending (Err NoMemory) = GaveUp
+
+-- a fact of the defect that is returned
+abbrev pub IfBadProgram : {A : Type 0} → Result A ResolveFault → (Defect → Type 0) → Type 0
+IfBadProgram (Ok listing) P = Unit {0}
+IfBadProgram (Err NoProgram) P = Unit {0}
+IfBadProgram (Err (BadProgram d)) P = P d
+IfBadProgram (Err StoreFault) P = Unit {0}
+IfBadProgram (Err NoMemory) P = Unit {0}
+
+-- there is no file exactly if this is returned, but for want of memory
+pub record IsNoProgram {A : Type 0} (file : Option (List ℕ)) (result : Result A ResolveFault) : Type 0 where
+  pub only : result ≡ Err NoProgram → file ≡ None
+  pub always : file ≡ None → (result ≡ Err NoProgram) ⊎ (result ≡ Err NoMemory)

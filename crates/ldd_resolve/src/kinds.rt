@@ -1,0 +1,49 @@
+//! What a listing is, and why there is none.
+ghost use Rattle.std.specs.Prelude.{◌≡◌};
+ghost use Rattle.ldd_resolve.specs.Faults.{of_search};
+ghost use Rattle.ldd_resolve.specs.declared.kinds.ResolveFault.TheVariants as faults;
+
+use lib_types::{Defect, NoMemory, Seq, Text};
+use rpath_search::SearchFault;
+
+/// A needed name with the path at which the loader finds it.
+#[derive(Drop)]
+pub struct Item {
+    pub name: Text,
+    /// None if it isn't found.
+    pub path: Option<Text>,
+}
+
+/// The items of a listing in their order.
+pub type Listing = Seq<Item>;
+
+/// Why a program has no listing.
+#[derive(Clone, Copy, Debug, PartialEq, Eq)]
+pub enum ResolveFault {
+    /// Its path leads to no file.
+    NoProgram,
+    /// The first defect of its file.
+    BadProgram(Defect),
+    /// The store failed, or doesn't hold a file that has to be read.
+    StoreFault,
+    NoMemory,
+}
+
+impl From<NoMemory> for ResolveFault {
+    ghost from_gives = { λ _ e. e ≡ faults.NoMemory };
+
+    fn from(_: NoMemory) -> Self {
+        ResolveFault::NoMemory
+    }
+}
+
+impl From<SearchFault> for ResolveFault {
+    ghost from_gives = { λ fault e. e ≡ of_search fault };
+
+    fn from(fault: SearchFault) -> Self {
+        match fault {
+            SearchFault::StoreFault => ResolveFault::StoreFault,
+            SearchFault::NoMemory => ResolveFault::NoMemory,
+        }
+    }
+}
