@@ -1,4 +1,5 @@
 pub mod Answered
+pub mod Records
 pub mod Standing
 pub mod Tried
 pub mod TriedPaths
