@@ -1,4 +1,5 @@
 pub mod Answered
+pub mod Outcomes
 pub mod Records
 pub mod Standing
 pub mod Tried
