@@ -105,7 +105,7 @@ IfBadProgram (Err (BadProgram d)) P = P d
 IfBadProgram (Err StoreFault) P = Unit {0}
 IfBadProgram (Err NoMemory) P = Unit {0}
 
--- there is no file exactly if this is returned, but for want of memory
+-- there is no file exactly if this is returned, unless memory is out
 pub record IsNoProgram {A : Type 0} (file : Option (List ℕ)) (result : Result A ResolveFault) : Type 0 where
   pub only : result ≡ Err NoProgram → file ≡ None
   pub always : file ≡ None → (result ≡ Err NoProgram) ⊎ (result ≡ Err NoMemory)
