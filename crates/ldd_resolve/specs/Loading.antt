@@ -1,5 +1,5 @@
 -- How the code keeps a listing: sets of names and places, and a queue of the objects whose requests aren't answered.
-use Rattle.std.specs.Prelude.{◌≡◌, ℕ, ◌||◌, ◌++◌, true, List, [], ◌∷◌, if◌then◌else◌, drop, map, Option, Some, None, IfSome, is_some}
+use Rattle.std.specs.Prelude.{◌≡◌, ℕ, suc, ◌||◌, ◌++◌, true, List, [], ◌∷◌, if◌then◌else◌, drop, map, Option, Some, None, IfSome, is_some}
 use Rattle.std.specs.List.{IsDistinct, list_any}
 use Rattle.std.specs.Str.{bytes_eq}
 use Rattle.lib_types.specs.declared.abi.Abi.{Abi}
@@ -12,7 +12,7 @@ use Rattle.rpath_search.specs.declared.kinds.Found.{Found}
 use Rattle.ldd_resolve.specs.declared.loading.Loading.{Loading}
 use Rattle.ldd_resolve.specs.declared.search.Answer.{Answer}
 use Rattle.ldd_resolve.specs.declared.search.Answer.TheVariants as answer
-use Rattle.ldd_resolve.specs.Links.{AreLinked}
+use Rattle.ldd_resolve.specs.Links.{AreLinked, behind}
 use Rattle.ldd_resolve.specs.Listing.{Record, Request, Scope, is_among, is_called, is_missing, item, left, loaded, named, needed_in, owner_of, places_of, record_after, requests, soname_in, with_missing}
 use Rattle.ldd_resolve.specs.Searching.{AreKnown, BeginsHeld}
 
@@ -78,6 +78,13 @@ HasOutcome r q (Some answer.Loaded) r2 = IsFoundIn r q r2
 HasOutcome r q (Some (answer.New f)) r2 =
     (r2.objects ≡ r.objects ++ loaded f.path f.real f.object.dynamic (q.name ∷ []) q.chain ∷ [])
     × (r2.items ≡ r.items ++ item q.name (Some f.path) ∷ [])
+
+-- The state that stands for a record goes on to stand for the next one, which has this answer of a request more, by the object with this
+-- number for this name.
+abbrev pub TakesAnswer : Loading → Loading → List ℕ → Option Answer → ℕ → Type 0
+TakesAnswer old new name answer loader =
+    (r r2 : Record) (q : Request) (rest : List Request) → Stands r old (suc loader) (q ∷ rest) → HasOutcome r q answer r2
+    → r2.answered ≡ suc r.answered → q.name ≡ name → q.chain ≡ behind (map (λ o. o.chain) r.objects) (Some loader) → Stands r2 new (suc loader) rest
 
 -- ---- how far a listing has come
 

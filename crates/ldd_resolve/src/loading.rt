@@ -1,8 +1,7 @@
 //! A listing that is made, request by request.
-ghost use Rattle.std.specs.Prelude.{◌≡◌, ◌<◌, ◌||◌, ◌++◌, ◌∷◌, [], ℕ, Some, None, List, false, suc, length, map, option_to_list, IfOk, IfSome, OnOk};
-ghost use Rattle.ldd_resolve.specs.Links.{behind};
-ghost use Rattle.ldd_resolve.specs.Listing.{Record, Request, is_among, needed_in, owner_of, soname_in};
-ghost use Rattle.ldd_resolve.specs.Loading.{AddsFound, AddsMissing, AddsObject, HasOutcome, Stands};
+ghost use Rattle.std.specs.Prelude.{◌≡◌, ◌<◌, ◌||◌, [], ℕ, Some, None, List, false, length, option_to_list, IfOk, IfSome, OnOk};
+ghost use Rattle.ldd_resolve.specs.Listing.{is_among, needed_in, owner_of, soname_in};
+ghost use Rattle.ldd_resolve.specs.Loading.{AddsFound, AddsMissing, AddsObject, TakesAnswer};
 ghost use Rattle.ldd_resolve.specs.Searching.{IsUnloaded};
 
 use crate::kinds::{Item, Listing};
@@ -169,8 +168,7 @@ impl Loading {
     ) -> Result<(), NoMemory>
         requires loader { loader < length self.old.links }
         requires new { IsUnloaded self.old.places.loaded answer }
-        ensures stands { OnOk result ((r r2 : Record) (q : Request) (rest : List Request) → Stands r self.old (suc loader) (q ∷ rest) → HasOutcome r q answer r2 →
-            r2.answered ≡ suc r.answered → q.name ≡ name → q.chain ≡ behind (map (λ o. o.chain) r.objects) (Some loader) → Stands r2 self.new (suc loader) rest) }
+        ensures stands { OnOk result (TakesAnswer self.old self.new name answer loader) }
     {
         match answer {
             Some(Answer::Loaded) => self.names.insert(name),

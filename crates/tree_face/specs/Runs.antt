@@ -1,6 +1,6 @@
 -- A tree's list in sorted runs of bounded length.
 use Rattle.std.specs.Prelude.{◌≡◌, ℕ, ◌+◌, ◌-◌, ◌<◌, ◌≤◌, ◌==◌, Bool, true, List, [], ◌∷◌, ◌++◌, ◌&&◌, not, nat_le, nat_eq, if◌then◌else◌, map, length, take, drop, slice_index_or, slice_set, Option, Some, None}
-use Rattle.std.specs.List.{flat_map, filter, insert, list_all, HoldsAt, take_while, starts_with}
+use Rattle.std.specs.List.{dedup, flat_map, filter, insert, list_all, HoldsAt, take_while, starts_with}
 use Rattle.std.specs.Ordering.{is_gt}
 use Rattle.std.specs.Str.{bytes_eq}
 use Rattle.tree_face.specs.Paths.{path_cmp, folder, is_below, is_slash, name_behind}
@@ -122,6 +122,10 @@ in_folder folder t = take_while (λ e. starts_with nat_eq e.0 folder) t
 -- The children of these entries. The path of a child comes before those below it, so the first entry of each name has the child's node.
 abbrev pub children_behind : List ℕ → Nodes → List (List ℕ × Option Node)
 children_behind folder t = map (child_at (length folder)) (in_folder folder t)
+
+-- each of them once
+abbrev pub children_in : List ℕ → Nodes → List (List ℕ × Option Node)
+children_in folder t = dedup is_same_child (children_behind folder t)
 
 -- the path is a directory, and the first of these entries are what lies below it
 pub record AreFromDir (t : Nodes) (path : List ℕ) (entries : Nodes) : Type 0 where

@@ -1,10 +1,10 @@
 //! What stands directly below a directory of a tree.
 ghost use Rattle.std.specs.Prelude.{◌≡◌, ◌∷◌, [], ◌&&◌, ℕ, List, true, MatchOption, drop, length, nat_eq};
-ghost use Rattle.std.specs.List.{dedup, dedup_from, starts_with};
+ghost use Rattle.std.specs.List.{dedup_from, starts_with};
 ghost use Rattle.std.specs.Option.{option_copied};
 ghost use Rattle.std.specs.Str.{bytes_eq};
 ghost use Rattle.tree_face.specs.Paths.{name_behind};
-ghost use Rattle.tree_face.specs.Runs.{IsPathOfChild, child_at, children_behind, is_name_end, is_same_child};
+ghost use Rattle.tree_face.specs.Runs.{IsPathOfChild, child_at, children_behind, children_in, is_name_end, is_same_child};
 
 use super::rest::Rest;
 use super::run::PathEntry;
@@ -22,13 +22,12 @@ pub struct Listing<'a> {
 
 impl<'a> Model for Listing<'a> {
     ghost use Rattle.std.specs.Prelude.{ℕ, List, Option};
-    ghost use Rattle.std.specs.List.{dedup};
-    ghost use Rattle.tree_face.specs.Runs.{children_behind, is_same_child};
+    ghost use Rattle.tree_face.specs.Runs.{children_in};
     ghost use Rattle.tree_face.specs.declared.node.Node.{Node};
 
     ghost Value = { List (List ℕ × Option Node) };
 
-    ghost view = { λ s. dedup is_same_child (children_behind s.folder.now s.rest) };
+    ghost view = { λ s. children_in s.folder.now s.rest };
 }
 
 impl<'a> Listing<'a> {
@@ -48,7 +47,7 @@ impl<'a> Listing<'a> {
     /// What stands directly below the path, given entries whose first are all that lie below it.
     pub(super) fn of(rest: Rest<'a>, path: &[u8]) -> Listing<'a>
         requires { length path.now < 2 ^ 32 }
-        ensures { result ≡ dedup is_same_child (children_behind (folder path.now) rest.entry) }
+        ensures { result ≡ children_in (folder path.now) rest.entry }
     {
         match rest.split_first() {
             Some((first, _)) if is_below(path, first.path()) => {
@@ -158,7 +157,7 @@ fn path_of_child<'a>(path: &'a [u8], folder: &[u8], name: &[u8]) -> &'a [u8]
 // What follows the entries of one child, given its path.
 fn skip_child<'a>(entries: Rest<'a>, child: &[u8]) -> Rest<'a>
     ensures { (folder name : List ℕ) (node : _) → IsPathOfChild folder name child.now → dedup_from is_same_child (name, node) (children_behind folder entries.entry)
-        ≡ (name, node) ∷ dedup is_same_child (children_behind folder result) }
+        ≡ (name, node) ∷ children_in folder result }
 {
     let mut rest = entries;
     while let Some((entry, more)) = rest.split_first() {
@@ -175,8 +174,8 @@ fn first_child<'a>(
     rest: &Rest<'a>,
     folder: &[u8],
 ) -> Option<((&'a [u8], Option<&'a Node>), Rest<'a>)>
-    ensures { MatchOption result (dedup is_same_child (children_behind folder.now rest.now) ≡ [])
-        (λ r. dedup is_same_child (children_behind folder.now rest.now) ≡ (r.0.0.now, option_copied r.0.1) ∷ dedup is_same_child (children_behind folder.now r.1)) }
+    ensures { MatchOption result (children_in folder.now rest.now ≡ [])
+        (λ r. children_in folder.now rest.now ≡ (r.0.0.now, option_copied r.0.1) ∷ children_in folder.now r.1) }
 {
     let (first, others) = rest.split_first()?;
     if !begins_with(first.path(), folder) {
