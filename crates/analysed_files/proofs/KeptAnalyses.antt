@@ -16,7 +16,8 @@ use Rattle.tree_face.specs.Store.{Contents}
 use Rattle.tree_face.specs.Tree.{Nodes, node_at}
 use Rattle.found_files.specs.Analyses.{Analyses, KeepsAnalyses}
 use Rattle.found_files.specs.Table.{Rows, analysis_at, with_analysis}
-use Rattle.analysed_files.specs.Files.{AreRight, key_in, unread_key, unread_keys, what_is}
+use Rattle.analysed_files.specs.Files.{AreRight, unread_key, unread_keys, what_is}
+use Rattle.elf_dynamic.specs.Begun.{key_in}
 use Rattle.analysed_files.specs.Reading.{is_in}
 
 -- ---- one analysis more

@@ -20,7 +20,8 @@ use Rattle.tree_face.specs.StoreUse.{Ending, Complete}
 use Rattle.tree_face.specs.Tree.{Nodes}
 use Rattle.elf_dynamic.proofs.BegunKeys.{keys_early, keys_then, none_lacks}
 use Rattle.analysed_files.proofs.KeptAnalyses.{not_behind, still_read, unread_others}
-use Rattle.analysed_files.specs.Files.{AreRight, ReadsBy, lacks_one, unread_key, unread_keys}
+use Rattle.analysed_files.specs.Files.{AreRight, unread_key, unread_keys}
+use Rattle.elf_dynamic.specs.Begun.{ReadsBy, lacks_one}
 use Rattle.analysed_files.specs.Reading.{HasRead, ReadsOne, is_in}
 use Rattle.analysed_files.specs.declared.files.Files.{Files}
 

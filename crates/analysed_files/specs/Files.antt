@@ -4,7 +4,7 @@ use Rattle.std.specs.List.{filter_map, list_any}
 use Rattle.std.specs.Option.{option_map, option_and_then}
 use Rattle.std.specs.Str.{bytes_eq}
 use Rattle.elf_dynamic.specs.Analysis.{analysis}
-pub use Rattle.elf_dynamic.specs.Begun.{LacksOne, ReadsBy, ReadsKeys, file_keys, is_lacking, key_in, lacks_one, most_known_of, most_of, until_known, until_lacking}
+use Rattle.elf_dynamic.specs.Begun.{key_in}
 use Rattle.found_files.specs.Analyses.{Analyses}
 use Rattle.tree_face.specs.Store.{Contents}
 use Rattle.tree_face.specs.Tree.{Nodes, node_at}

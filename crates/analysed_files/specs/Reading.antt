@@ -13,7 +13,8 @@ use Rattle.tree_face.specs.Store.{Contents, StoreState}
 use Rattle.tree_face.specs.StoreUse.{Complete}
 use Rattle.tree_face.specs.Tree.{Nodes}
 use Rattle.analysed_files.specs.declared.files.Files.{Files}
-use Rattle.analysed_files.specs.Files.{AreRight, ReadsBy, lacks_one, unread_key, unread_keys}
+use Rattle.analysed_files.specs.Files.{AreRight, unread_key, unread_keys}
+use Rattle.elf_dynamic.specs.Begun.{ReadsBy, lacks_one}
 
 abbrev pub is_in : List (List ℕ) → List ℕ → Bool
 is_in paths path = list_any (bytes_eq path) paths

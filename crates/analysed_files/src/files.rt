@@ -11,7 +11,8 @@ ghost use Rattle.elf_dynamic.specs.Faults.{analyse_ending};
 ghost use Rattle.found_files.specs.Analyses.{KeepsAnalyses, has_name};
 ghost use Rattle.found_files.specs.Table.{analysis_at, with_analysis};
 ghost use Rattle.tree_face.specs.Known.{IfKnown};
-ghost use Rattle.analysed_files.specs.Files.{AreRead, AreRight, ReadsKeys, lacks_one, unread_key, unread_keys};
+ghost use Rattle.analysed_files.specs.Files.{AreRead, AreRight, unread_key, unread_keys};
+ghost use Rattle.elf_dynamic.specs.Begun.{ReadsKeys, lacks_one};
 ghost use Rattle.analysed_files.specs.Reading.{ReadsOne};
 
 use elf_dynamic::{AnalyseFault, analyse};

@@ -3,7 +3,7 @@ use Rattle.std.proofs.Common.{◌≡◌, ℕ, true, false, List, Option, Result,
 use Rattle.elf_dynamic.specs.declared.fault.AnalyseFault.{AnalyseFault}
 use Rattle.elf_dynamic.specs.declared.fault.AnalyseFault.TheVariants as reading
 use Rattle.elf_dynamic.specs.Faults.{analyse_ending}
-use Rattle.analysed_files.specs.Files.{ReadsBy}
+use Rattle.elf_dynamic.specs.Begun.{ReadsBy}
 use Rattle.ldso_conf.specs.declared.fault.ConfFault.{ConfFault}
 use Rattle.ldso_conf.specs.declared.fault.ConfFault.TheVariants as conf
 use Rattle.ldso_conf.specs.Endings.{ending_of}

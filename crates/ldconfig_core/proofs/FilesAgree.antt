@@ -10,7 +10,8 @@ use Rattle.std.specs.Option.{is_none, is_some, option_and_then, option_map}
 use Rattle.std.specs.Ordering.{nat_cmp}
 use Rattle.std.specs.Str.{bytes_eq}
 use Rattle.elf_dynamic.specs.Analysis.{analysis}
-use Rattle.analysed_files.specs.Files.{AreRead, AreRight, file_keys, key_in, unread_key, unread_keys, what_is}
+use Rattle.analysed_files.specs.Files.{AreRead, AreRight, unread_key, unread_keys, what_is}
+use Rattle.elf_dynamic.specs.Begun.{file_keys, key_in}
 use Rattle.hwcap_dirs.specs.declared.kinds.Place.{Place}
 use Rattle.ldso_conf.specs.Reading as conf
 use Rattle.lib_types.proofs.SortedPairs.{by_test}

@@ -6,7 +6,8 @@ use Rattle.std.specs.Map.{keys_of}
 use Rattle.std.specs.Str.{bytes_eq}
 use Rattle.winning_entries.proofs.NoOtherFiles.{found_agrees}
 use Rattle.winning_entries.specs.Entries as entries
-use Rattle.analysed_files.specs.Files.{AreRead, AreRight, file_keys, lacks_one, unread_keys, what_is}
+use Rattle.analysed_files.specs.Files.{AreRead, AreRight, unread_keys, what_is}
+use Rattle.elf_dynamic.specs.Begun.{file_keys, lacks_one}
 use Rattle.analysed_files.specs.declared.files.Files.{Files}
 use Rattle.hwcap_dirs.specs.declared.kinds.Place.{Place}
 use Rattle.lib_types.proofs.SortedPairs.{by_test}

@@ -4,7 +4,7 @@ use Rattle.std.proofs.lemmas.Bool.{or_left, or_right}
 use Rattle.std.proofs.lemmas.List.{append-nil}
 use Rattle.std.specs.Option.{option_map}
 use Rattle.std.specs.Prelude.{IsSomeAnd}
-use Rattle.analysed_files.specs.Files.{LacksOne, ReadsBy, lacks_one, most_of, most_known_of, until_known, until_lacking}
+use Rattle.elf_dynamic.specs.Begun.{LacksOne, ReadsBy, lacks_one, most_known_of, most_of, until_known, until_lacking}
 use Rattle.ldso_conf.specs.Reading.{conf_bytes, conf_keys, conf_lacks}
 use Rattle.tree_face.proofs.StoreUse.{IsPartial, joined, summed, reads_all, reads_early, reads_then}
 use Rattle.tree_face.specs.Known.{IfKnown}

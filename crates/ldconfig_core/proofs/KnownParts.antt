@@ -1,7 +1,8 @@
 -- The parts of an update, if contents are known.
 use Rattle.std.proofs.Common.{◌≡◌, ◌≤◌, ◌<◌, ◌+◌, ◌||◌, ℕ, true, false, List, length, Option, Some, None, sym}
 use Rattle.std.specs.Map.{keys_of}
-use Rattle.analysed_files.specs.Files.{AreRead, AreRight, lacks_one, unread_keys, what_is}
+use Rattle.analysed_files.specs.Files.{AreRead, AreRight, unread_keys, what_is}
+use Rattle.elf_dynamic.specs.Begun.{lacks_one}
 use Rattle.analysed_files.specs.declared.files.Files.{Files}
 use Rattle.hwcap_dirs.specs.declared.kinds.Place.{Place}
 use Rattle.found_files.proofs.Members.{is_in}

@@ -2,7 +2,7 @@
 use Rattle.std.proofs.Common.{◌≡◌, ◌≤◌, ◌<◌, ◌||◌, ℕ, Bool, true, false, cond, nat_lt, length, refl, ap, sym, ◌∙◌, arith}
 use Rattle.std.proofs.lemmas.Bool.Decides.{nat_tests}
 use Rattle.cache_writer.specs.declared.writer.TheConstants.{ENTRIES_MAX}
-use Rattle.analysed_files.specs.Files.{lacks_one}
+use Rattle.elf_dynamic.specs.Begun.{lacks_one}
 use Rattle.ldso_conf.specs.Reading.{conf_lacks}
 use Rattle.soname_links.specs.Apply.{nodes_with}
 use Rattle.tree_face.specs.Store.{Contents}

@@ -1,6 +1,7 @@
 -- What is found before the links are planned.
 use Rattle.std.proofs.Common.{◌≡◌, ◌+◌, ◌||◌, ℕ, true, false, List, [], length, Option, Some, None, refl, ap, sym, subst, ◌∙◌, arith}
-use Rattle.analysed_files.specs.Files.{AreRight, file_keys, lacks_one, unread_keys}
+use Rattle.analysed_files.specs.Files.{AreRight, unread_keys}
+use Rattle.elf_dynamic.specs.Begun.{file_keys, lacks_one}
 use Rattle.analysed_files.specs.declared.files.Files.{Files}
 use Rattle.hwcap_dirs.specs.Places.{absent, places}
 use Rattle.hwcap_dirs.specs.declared.kinds.Place.{Place}

@@ -5,7 +5,8 @@ use Rattle.std.specs.Str.{bytes_eq}
 use Rattle.winning_entries.specs.Entries.{AreEntriesOf, found}
 use Rattle.cache_writer.specs.CacheText.{cache_text}
 use Rattle.cache_writer.specs.declared.writer.TheConstants.{ENTRIES_MAX}
-use Rattle.analysed_files.specs.Files.{file_keys, key_in, lacks_one, what_is}
+use Rattle.analysed_files.specs.Files.{what_is}
+use Rattle.elf_dynamic.specs.Begun.{file_keys, key_in, lacks_one}
 use Rattle.hwcap_dirs.specs.declared.kinds.Place.{Place}
 use Rattle.hwcap_dirs.specs.Places.{places}
 use Rattle.ldso_conf.specs.Reading.{conf_lacks, is_missing, reading, reading_of}

@@ -2,7 +2,7 @@
 use Rattle.std.specs.Prelude.{◌≡◌, ◌+◌, ◌++◌, ◌||◌, ℕ, Bool, List, [], if◌then◌else◌, filter, length, nat_lt, not, IsSomeAnd}
 use Rattle.std.specs.List.{list_any}
 use Rattle.std.specs.Str.{bytes_eq}
-use Rattle.analysed_files.specs.Files.{file_keys, lacks_one, most_of, until_lacking}
+use Rattle.elf_dynamic.specs.Begun.{file_keys, lacks_one, most_of, until_lacking}
 use Rattle.ldso_conf.specs.Reading.{conf_bytes, conf_keys, conf_lacks}
 use Rattle.soname_links.specs.Apply.{nodes_with}
 use Rattle.tree_face.specs.declared.tree.TheConstants.{NODES_MAX}

@@ -1,7 +1,7 @@
 -- What an update of a loaded image comes to, for given contents.
 use Rattle.std.specs.Prelude.{ℕ, Bool, false, List, [], ◌∷◌, nat_lt, if◌then◌else◌, length, Option, Some, None}
 use Rattle.cache_writer.specs.declared.writer.TheConstants.{ENTRIES_MAX}
-use Rattle.analysed_files.specs.Files.{lacks_one}
+use Rattle.elf_dynamic.specs.Begun.{lacks_one}
 use Rattle.ldso_conf.specs.Reading.{conf_lacks}
 use Rattle.mtree_manifest.specs.Canon.{canon}
 use Rattle.mtree_manifest.specs.declared.fault.TheConstants.{TEXT_MAX}

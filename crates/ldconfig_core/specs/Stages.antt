@@ -9,7 +9,8 @@ use Rattle.cache_reader.specs.Cache.{defect, read}
 use Rattle.cache_writer.specs.CacheText.{cache_text, hwcaps_names}
 use Rattle.cache_writer.specs.ReadBack.{as_read}
 use Rattle.cache_writer.specs.declared.writer.TheConstants.{ENTRIES_MAX}
-use Rattle.analysed_files.specs.Files.{AreRight, lacks_one, what_is}
+use Rattle.analysed_files.specs.Files.{AreRight, what_is}
+use Rattle.elf_dynamic.specs.Begun.{lacks_one}
 use Rattle.hwcap_dirs.specs.Places.{absent}
 use Rattle.ldso_conf.specs.Reading.{IsConfOf}
 use Rattle.lib_types.specs.declared.entry.Entry.{Entry}

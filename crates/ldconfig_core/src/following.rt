@@ -3,7 +3,8 @@ ghost use Rattle.std.specs.Prelude.{◌≡◌, ◌+◌, ◌||◌, ℕ, List, tru
 ghost use Rattle.std.specs.List.{list_any};
 ghost use Rattle.std.specs.Map.{keys_of};
 ghost use Rattle.std.specs.Str.{bytes_eq};
-ghost use Rattle.analysed_files.specs.Files.{AreRead, AreRight, ReadsKeys, lacks_one, unread_keys};
+ghost use Rattle.analysed_files.specs.Files.{AreRead, AreRight, unread_keys};
+ghost use Rattle.elf_dynamic.specs.Begun.{ReadsKeys, lacks_one};
 ghost use Rattle.found_files.specs.Analyses.{KeepsAnalyses};
 ghost use Rattle.found_files.specs.Search.{dangling, followed, reached};
 ghost use Rattle.found_files.specs.Table.{analysis_at};
