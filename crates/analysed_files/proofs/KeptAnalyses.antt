@@ -13,7 +13,7 @@ use Rattle.std.specs.Str.{bytes_eq}
 use Rattle.lib_types.proofs.SortedPairs.{by_test}
 use Rattle.lib_types.specs.declared.analysis.Analysis.{Analysis}
 use Rattle.tree_face.specs.Store.{Contents}
-use Rattle.tree_face.specs.Tree.{Nodes, node_at}
+use Rattle.image_tree.specs.Tree.{Nodes, node_at}
 use Rattle.found_files.specs.Analyses.{Analyses, KeepsAnalyses}
 use Rattle.found_files.specs.Table.{Rows, analysis_at, with_analysis}
 use Rattle.analysed_files.specs.Files.{AreRight, unread_key, unread_keys, what_is}

@@ -17,7 +17,7 @@ use Rattle.tree_face.proofs.StoreUse.{IsPartial, reads_none}
 use Rattle.tree_face.specs.Known.{IfKnown}
 use Rattle.tree_face.specs.Store.{Contents, StoreState}
 use Rattle.tree_face.specs.StoreUse.{Ending, Complete}
-use Rattle.tree_face.specs.Tree.{Nodes}
+use Rattle.image_tree.specs.Tree.{Nodes}
 use Rattle.elf_dynamic.proofs.BegunKeys.{keys_early, keys_then, none_lacks}
 use Rattle.analysed_files.proofs.KeptAnalyses.{not_behind, still_read, unread_others}
 use Rattle.analysed_files.specs.Files.{AreRight, unread_key, unread_keys}

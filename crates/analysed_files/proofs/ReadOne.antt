@@ -9,7 +9,7 @@ use Rattle.lib_types.specs.declared.analysis.Analysis.{Analysis}
 use Rattle.found_files.specs.Table.{analysis_at, with_analysis}
 use Rattle.tree_face.specs.Known.{IfKnown}
 use Rattle.tree_face.specs.Store.{Contents}
-use Rattle.tree_face.specs.Tree.{Nodes, node_at}
+use Rattle.image_tree.specs.Tree.{Nodes, node_at}
 use Rattle.analysed_files.proofs.KeptAnalyses.{analysis_other, had_none, kept_with, key_there, new_in, read_then, right_with}
 use Rattle.analysed_files.specs.Files.{AreRight, unread_key, unread_keys, what_is}
 use Rattle.elf_dynamic.specs.Begun.{key_in, lacks_one}

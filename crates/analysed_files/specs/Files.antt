@@ -7,7 +7,7 @@ use Rattle.elf_dynamic.specs.Analysis.{analysis}
 use Rattle.elf_dynamic.specs.Begun.{key_in}
 use Rattle.found_files.specs.Analyses.{Analyses}
 use Rattle.tree_face.specs.Store.{Contents}
-use Rattle.tree_face.specs.Tree.{Nodes, node_at}
+use Rattle.image_tree.specs.Tree.{Nodes, node_at}
 
 -- ---- what a file is
 

@@ -11,7 +11,7 @@ use Rattle.found_files.specs.Table.{analysis_at}
 use Rattle.tree_face.specs.Known.{IfKnown}
 use Rattle.tree_face.specs.Store.{Contents, StoreState}
 use Rattle.tree_face.specs.StoreUse.{Complete}
-use Rattle.tree_face.specs.Tree.{Nodes}
+use Rattle.image_tree.specs.Tree.{Nodes}
 use Rattle.analysed_files.specs.declared.files.Files.{Files}
 use Rattle.analysed_files.specs.Files.{AreRight, unread_key, unread_keys}
 use Rattle.elf_dynamic.specs.Begun.{ReadsBy, lacks_one}

@@ -31,15 +31,14 @@ pub struct Files {
 }
 
 impl Files {
-    /// No files. It takes no memory.
-    pub fn new(alloc: Global) -> Files
+    /// No files, with room for so many if there is memory for it.
+    pub fn new(alloc: Global, room: usize) -> Files
         ensures table { result.table ≡ [] }
         ensures begun { result.begun ≡ 0 }
     {
-        Files {
-            table: Table::new(alloc),
-            begun: 0,
-        }
+        let mut table = Table::new(alloc);
+        table.make_room(room);
+        Files { table, begun: 0 }
     }
 }
 

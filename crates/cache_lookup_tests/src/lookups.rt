@@ -1,15 +1,14 @@
 //! Which path a cache gives for a name, an ABI and hwcaps names, in how many steps.
-use crate::bytes::cache_of;
 use cache_lookup::{Counted, Sorted, lookup, sorted};
 use cache_reader::CacheView;
+use cache_rows::cache_of;
 use lib_types::{Abi, NoMemory, Text, Texts};
 use std::alloc::Global;
 use table_rows::{Row, Said, Trial, count, divide, number, value};
 
-/// A row has the entries of a cache in their order, each behind `entry`: its flags, its hwcaps name (`-` for none, `#NUMBER` for a hwcap
-/// that is this number), its name and its path. `series COUNT` stands for so many entries of falling names. A line `find` has an ABI,
-/// hwcaps names between colons (`-` for none), a name, and the path (`-` for none); each takes at most as many steps as `steps` says.
-/// `rises` has the index of the first entry whose name is above the name before it.
+/// A row has the entries of a cache in their order. A line `find` has an ABI, hwcaps names between colons (`-` for none), a name, and the
+/// path (`-` for none); each takes at most as many steps as `steps` says. `rises` has the index of the first entry whose name is above the
+/// name before it.
 pub(crate) struct Lookups;
 
 fn caps_of(alloc: Global, list: &[u8]) -> Result<Texts, NoMemory> {

@@ -1,7 +1,6 @@
 //! Tests of look-ups in caches. Each table is a file of data/.
 #![tactic(auto)]
 
-mod bytes;
 mod lookups;
 
 use crate::lookups::Lookups;

@@ -14,7 +14,7 @@ use Rattle.cache_layout.specs.Layout.{is_named, name_index}
 use Rattle.string_pool.specs.Strings.{place_of}
 use Rattle.cache_reader.specs.Cache as read
 use Rattle.cache_writer.specs.CacheText.{cache_text, hwcap_of, hwcaps_names, strings, pool}
-use Rattle.tree_face.specs.Node.{has_no_nul}
+use Rattle.image_tree.specs.Node.{has_no_nul}
 use Rattle.cache_writer.specs.ReadBack.{as_read}
 use Rattle.cache_writer.proofs.Bounds.{both_hold, few_names}
 use Rattle.cache_writer.proofs.Standing.{text_back}

@@ -7,7 +7,7 @@ use Rattle.std.specs.List.{list_any, before_first, position_or_len}
 use Rattle.string_pool.specs.Strings.{table_of, offset_of, with_nul}
 use Rattle.string_pool.proofs.Pooled.{stands, place_of_le}
 use Rattle.cache_reader.specs.Cache.{is_nul, text_at, is_ended}
-use Rattle.tree_face.specs.Node.{has_no_nul}
+use Rattle.image_tree.specs.Node.{has_no_nul}
 
 pub behind : (front ys : List ℕ) (n k : ℕ) → length front ≡ n → drop (n + k) (front ++ ys) ≡ drop k ys
 behind front ys n k h = rw (← h) (drop-append-add front ys k)

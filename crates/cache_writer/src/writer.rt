@@ -8,7 +8,7 @@ ghost use Rattle.string_pool.specs.Strings.{table_of, distinct};
 ghost use Rattle.cache_writer.specs.declared.writer.TheConstants.{ENTRIES_MAX, STRING_MAX};
 ghost use Rattle.cache_writer.specs.CacheText.{cache_text, header, hwcap_of, entry_bytes, hwcaps_names, own_strings, directory, section, section_count, name_bytes};
 ghost use Rattle.cache_writer.specs.Parts.{AreAmong, HasOwn, joined};
-ghost use Rattle.tree_face.specs.Node.{has_no_nul};
+ghost use Rattle.image_tree.specs.Node.{has_no_nul};
 ghost use Rattle.cache_writer.specs.ReadBack.{as_read};
 ghost use Rattle.cache_reader.specs.Cache.{defect, read};
 

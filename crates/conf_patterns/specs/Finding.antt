@@ -1,7 +1,7 @@
 -- How the code finds the results of a pattern: text by text.
 use Rattle.std.specs.Prelude.{ℕ, List, ◌∷◌, ◌++◌, map, Option, Some, None}
 use Rattle.lib_types.specs.Name.{slash}
-use Rattle.tree_face.specs.Tree.{Nodes}
+use Rattle.image_tree.specs.Tree.{Nodes}
 use Rattle.conf_patterns.specs.Patterns.{Found, chosen_in, found_at, place_at, with_found}
 
 -- a text, gone on with by each name that a component matches

@@ -9,10 +9,10 @@ use Rattle.name_order.specs.LibraryName.{is_library_name}
 use Rattle.path_walk.specs.Walk.{resolution}
 use Rattle.path_walk.specs.declared.walk.Mode.TheVariants.{Plain}
 use Rattle.path_walk.specs.declared.walk.WalkFault.{WalkFault}
-use Rattle.tree_face.specs.Paths.{join, root}
-use Rattle.tree_face.specs.Tree.{Nodes, kind_at, children_of}
-use Rattle.tree_face.specs.declared.tree.Kind.{Kind}
-use Rattle.tree_face.specs.declared.tree.Kind.TheVariants as kinds
+use Rattle.image_tree.specs.Paths.{join, root}
+use Rattle.image_tree.specs.Tree.{Nodes, kind_at, children_of}
+use Rattle.image_tree.specs.declared.tree.Kind.{Kind}
+use Rattle.image_tree.specs.declared.tree.Kind.TheVariants as kinds
 use Rattle.conf_patterns.specs.Bytes.{is_in, slashes}
 use Rattle.conf_patterns.specs.Glob.{glob_match}
 

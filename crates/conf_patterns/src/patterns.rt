@@ -1,7 +1,7 @@
 //! The files that a pattern names.
 ghost use Rattle.std.specs.Prelude.{◌≡◌, ◌∷◌, ◌++◌, [], Some, flat_map, map, IfOk, OnOk};
 ghost use Rattle.lib_types.specs.Name.{slash};
-ghost use Rattle.tree_face.specs.Paths.{join};
+ghost use Rattle.image_tree.specs.Paths.{join};
 ghost use Rattle.conf_patterns.specs.Finding.{matches_of, with_text};
 ghost use Rattle.conf_patterns.specs.Patterns.{base_of, chosen_in, components_of, go_on, is_absolute, is_chosen, is_library_link, is_link, is_wild, place_at, results, texts_by};
 

@@ -10,8 +10,8 @@ use Rattle.hwcap_dirs.specs.declared.kinds.Place.{Place}
 use Rattle.lib_types.proofs.SortedPairs.{by_test}
 use Rattle.name_order.specs.LibraryName.{is_library_name}
 use Rattle.path_walk.specs.Files.{is_file}
-use Rattle.tree_face.specs.Paths.{join}
-use Rattle.tree_face.specs.Tree.{Nodes, children_of, kind_at}
+use Rattle.image_tree.specs.Paths.{join}
+use Rattle.image_tree.specs.Tree.{Nodes, children_of, kind_at}
 use Rattle.found_files.proofs.InOrder.{in_ascending}
 use Rattle.found_files.proofs.Members.{is_in}
 use Rattle.found_files.proofs.NoOtherFiles.{bests_agree, kept_agree}

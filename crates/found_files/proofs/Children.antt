@@ -9,13 +9,13 @@ use Rattle.lib_types.specs.Name.{is_name}
 use Rattle.name_order.specs.LibraryName.{is_library_name}
 use Rattle.path_walk.proofs.KindsAt.{absent_else, kind_of_node}
 use Rattle.path_walk.specs.Files.{is_file}
-use Rattle.tree_face.proofs.Above.{found_entry}
-use Rattle.tree_face.specs.Paths.{join}
-use Rattle.tree_face.specs.Tree.{Nodes, IsTree, children_of, kind_at, kind_of, listing_of, names_below, node_at, of_dir}
-use Rattle.tree_face.specs.declared.node.Node.{Node}
-use Rattle.tree_face.specs.declared.node.Node.TheVariants as node
-use Rattle.tree_face.specs.declared.tree.Kind.{Kind}
-use Rattle.tree_face.specs.declared.tree.Kind.TheVariants as kinds
+use Rattle.image_tree.proofs.Above.{found_entry}
+use Rattle.image_tree.specs.Paths.{join}
+use Rattle.image_tree.specs.Tree.{Nodes, IsTree, children_of, kind_at, kind_of, listing_of, names_below, node_at, of_dir}
+use Rattle.image_tree.specs.declared.node.Node.{Node}
+use Rattle.image_tree.specs.declared.node.Node.TheVariants as node
+use Rattle.image_tree.specs.declared.tree.Kind.{Kind}
+use Rattle.image_tree.specs.declared.tree.Kind.TheVariants as kinds
 use Rattle.found_files.specs.Children.{IsChild, file_of, is_file_node, is_link_node, library_of}
 use Rattle.found_files.specs.Libraries.{library_at, library_in}
 use Rattle.found_files.specs.Search.{file_in, is_link, link_in}

@@ -10,3 +10,4 @@ pub mod Named
 pub mod NoOtherFiles
 pub mod Ordered
 mod Rows
+pub mod Unread

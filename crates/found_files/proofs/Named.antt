@@ -14,7 +14,7 @@ use Rattle.lib_types.proofs.SortedPairs.{by_test}
 use Rattle.lib_types.specs.Name.{is_name}
 use Rattle.lib_types.specs.declared.analysis.Analysis.{Analysis}
 use Rattle.lib_types.specs.declared.analysis.Analysis.TheVariants.{Lib, Not}
-use Rattle.tree_face.specs.Tree.{Nodes, children_of, is_entry}
+use Rattle.image_tree.specs.Tree.{Nodes, children_of, is_entry}
 use Rattle.hwcap_dirs.proofs.Children.{children_named}
 use Rattle.found_files.specs.Best.{best, better, has_soname, is_preferred}
 use Rattle.found_files.specs.Libraries.{libraries_in, library_at, library_by, library_in}

@@ -6,7 +6,7 @@ use Rattle.std.specs.List.{cons_option, filter_map}
 use Rattle.std.specs.Option.{option_and_then}
 use Rattle.std.specs.Str.{bytes_eq}
 use Rattle.hwcap_dirs.specs.declared.kinds.Place.{Place}
-use Rattle.tree_face.specs.Tree.{Nodes, children_of}
+use Rattle.image_tree.specs.Tree.{Nodes, children_of}
 use Rattle.found_files.proofs.InOrder.{in_ascending}
 use Rattle.found_files.proofs.Members.{is_in, itself}
 use Rattle.found_files.specs.Analyses.{Analyses, AgreeOn, HaveAnalyses, KeepsAnalyses}

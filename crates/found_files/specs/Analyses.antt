@@ -1,7 +1,7 @@
 -- What each file is, as a function of its path: the definitions of libraries, links and entries speak of it and of no table.
-use Rattle.std.specs.Prelude.{◌≡◌, ℕ, Bool, true, List, Option, Some, None}
+use Rattle.std.specs.Prelude.{◌≡◌, ℕ, Bool, true, List, filter, Option, Some, None}
 use Rattle.std.specs.List.{list_any}
-use Rattle.std.specs.Option.{is_some}
+use Rattle.std.specs.Option.{is_none, is_some}
 use Rattle.std.specs.Str.{bytes_eq}
 use Rattle.lib_types.specs.Name.{is_name}
 use Rattle.lib_types.specs.declared.analysis.Analysis.{Analysis}
@@ -35,3 +35,7 @@ KeepsAnalyses what new = (path : List ℕ) → is_some (what path) ≡ true → 
 -- both say the same of these paths
 abbrev pub AgreeOn : List (List ℕ) → Analyses → Analyses → Type 0
 AgreeOn paths what new = (path : List ℕ) → list_any (bytes_eq path) paths ≡ true → new path ≡ what path
+
+-- those of these paths that have no analysis
+abbrev pub unread : Analyses → List (List ℕ) → List (List ℕ)
+unread what paths = filter (λ path. is_none (what path)) paths

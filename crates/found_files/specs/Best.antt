@@ -10,7 +10,7 @@ use Rattle.found_files.specs.Pick.{best_with, better_by}
 use Rattle.found_files.specs.Libraries.{libraries_in}
 use Rattle.found_files.specs.Library.{Library}
 use Rattle.found_files.specs.Analyses.{Analyses}
-use Rattle.tree_face.specs.Tree.{Nodes}
+use Rattle.image_tree.specs.Tree.{Nodes}
 
 -- its name is its soname
 abbrev pub is_own : Library → Bool

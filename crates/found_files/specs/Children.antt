@@ -3,11 +3,11 @@ use Rattle.std.specs.Prelude.{◌≡◌, ℕ, Bool, true, false, List, ◌&&◌,
 use Rattle.std.specs.Option.{option_and_then}
 use Rattle.lib_types.specs.Name.{is_name}
 use Rattle.name_order.specs.LibraryName.{is_library_name}
-use Rattle.tree_face.specs.Paths.{join}
-use Rattle.tree_face.specs.Tree.{Nodes, IsTree, kind_at, node_at}
-use Rattle.tree_face.specs.declared.node.Node.{Node}
-use Rattle.tree_face.specs.declared.node.Node.TheVariants as node
-use Rattle.tree_face.specs.declared.tree.Kind.TheVariants.{Dir}
+use Rattle.image_tree.specs.Paths.{join}
+use Rattle.image_tree.specs.Tree.{Nodes, IsTree, kind_at, node_at}
+use Rattle.image_tree.specs.declared.node.Node.{Node}
+use Rattle.image_tree.specs.declared.node.Node.TheVariants as node
+use Rattle.image_tree.specs.declared.tree.Kind.TheVariants.{Dir}
 use Rattle.found_files.specs.Libraries.{library_at}
 use Rattle.found_files.specs.Analyses.{Analyses}
 use Rattle.found_files.specs.Library.{Library}

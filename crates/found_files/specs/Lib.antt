@@ -10,3 +10,4 @@ pub mod Places
 pub mod Search
 pub mod Sonames
 pub mod Table
+pub mod Unread

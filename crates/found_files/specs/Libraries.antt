@@ -5,8 +5,8 @@ use Rattle.std.specs.Option.{option_and_then}
 use Rattle.hwcap_dirs.specs.declared.kinds.Place.{Place}
 use Rattle.lib_types.specs.declared.analysis.Analysis.{Analysis}
 use Rattle.lib_types.specs.declared.analysis.Analysis.TheVariants.{Lib, Not}
-use Rattle.tree_face.specs.Paths.{is_slash}
-use Rattle.tree_face.specs.Tree.{Nodes, children_of}
+use Rattle.image_tree.specs.Paths.{is_slash}
+use Rattle.image_tree.specs.Tree.{Nodes, children_of}
 use Rattle.found_files.specs.Search.{file_in}
 use Rattle.found_files.specs.Analyses.{Analyses}
 use Rattle.found_files.specs.Library.{Library}

@@ -3,9 +3,9 @@ use Rattle.std.specs.Prelude.{ℕ, ◌+◌, Bool, false, List, [], ◌∷◌, �
 use Rattle.std.specs.Option.{is_none}
 use Rattle.std.specs.Str.{bytes_eq}
 use Rattle.hwcap_dirs.specs.declared.kinds.Place.{Place}
-use Rattle.tree_face.specs.Tree.{Nodes, node_at}
-use Rattle.tree_face.specs.declared.node.Node.{Node}
-use Rattle.tree_face.specs.declared.node.Node.TheVariants.{Dir, File, Link}
+use Rattle.image_tree.specs.Tree.{Nodes, node_at}
+use Rattle.image_tree.specs.declared.node.Node.{Node}
+use Rattle.image_tree.specs.declared.node.Node.TheVariants.{Dir, File, Link}
 
 -- what each place has, with its number, in their order
 abbrev pub by_place : {A : Type 0} → (ℕ → Place → List A) → ℕ → List Place → List A

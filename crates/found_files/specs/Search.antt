@@ -4,11 +4,11 @@ use Rattle.std.specs.List.{filter_map}
 use Rattle.std.specs.Option.{is_none}
 use Rattle.hwcap_dirs.specs.declared.kinds.Place.{Place}
 use Rattle.name_order.specs.LibraryName.{is_library_name}
-use Rattle.tree_face.specs.Paths.{join}
+use Rattle.image_tree.specs.Paths.{join}
 use Rattle.path_walk.specs.Files.{file_at, is_file}
-use Rattle.tree_face.specs.Tree.{Nodes, kind_at, children_of}
-use Rattle.tree_face.specs.declared.tree.Kind.{Kind}
-use Rattle.tree_face.specs.declared.tree.Kind.TheVariants as kinds
+use Rattle.image_tree.specs.Tree.{Nodes, kind_at, children_of}
+use Rattle.image_tree.specs.declared.tree.Kind.{Kind}
+use Rattle.image_tree.specs.declared.tree.Kind.TheVariants as kinds
 use Rattle.found_files.specs.Order.{ascending}
 use Rattle.found_files.specs.declared.links.FollowedLink.{FollowedLink}
 use Rattle.found_files.specs.declared.links.FolderLinks.{FolderLinks}

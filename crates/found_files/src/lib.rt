@@ -11,9 +11,9 @@ mod sonames;
 mod table;
 
 pub use best::{BestLibrary, PlaceBests, is_own, is_preferred};
-pub use libraries::{Library, libraries_in, library_at};
+pub use libraries::{Library, libraries_in};
 pub use links::{
-    FolderLinks, FollowedLink, PlaceLinks, dangling, dangling_among, files_behind, follow, reached,
+    FolderLinks, FollowedLink, PlaceLinks, dangling, dangling_among, follow, reached, unread_behind,
 };
 pub use order::ascending;
 pub use places::{is_plain, links_to};

@@ -63,8 +63,8 @@ fn library_by<'a>(name: &'a [u8], own: &'a [u8], analysis: &'a Analysis) -> Opti
     }
 }
 
-/// What a name is the name of, given the path of the file to which it leads and the file's own name.
-pub fn library_at<'a>(
+// What a name is the name of, given the path of the file to which it leads and the file's own name.
+fn library_at<'a>(
     table: &'a Table,
     path: &[u8],
     name: &'a [u8],

@@ -1,14 +1,19 @@
 //! The links with library names in the searched places, each followed once.
 ghost use Rattle.std.specs.Option.{option_copied, option_map};
-ghost use Rattle.std.specs.Prelude.{◌≡◌, ◌++◌, IfOk, List, OnOk};
+ghost use Rattle.std.specs.Prelude.{◌≡◌, ◌++◌, IfOk, List, OnOk, flat_map};
 ghost use Rattle.hwcap_dirs.specs.declared.kinds.Place.{Place};
 ghost use Rattle.path_walk.specs.Files.{file_at};
-ghost use Rattle.tree_face.specs.Tree.{Nodes};
+ghost use Rattle.image_tree.specs.Tree.{Nodes};
 ghost use Rattle.found_files.specs.Children.{IsChild};
 ghost use Rattle.found_files.specs.Folders.{by_folder, dangling_of};
-ghost use Rattle.found_files.specs.Search.{dangling, files_of, followed, followed_by, followed_in, link_in, reached};
+ghost use Rattle.found_files.specs.Order.{ascending};
+ghost use Rattle.found_files.specs.Analyses.{unread};
+ghost use Rattle.found_files.specs.Search.{dangling, followed, followed_by, followed_in, link_in, reached};
+ghost use Rattle.found_files.specs.Table.{analysis_at};
+ghost use Rattle.found_files.specs.Unread.{unread_file, unread_of};
 
 use crate::order::ascending;
+use crate::table::Table;
 use hwcap_dirs::Dirs;
 use lib_types::{NoMemory, Seq, Text, Texts};
 use name_order::is_library_name;
@@ -82,13 +87,14 @@ fn followed_by(
 fn followed_in(alloc: Global, tree: &Tree, folder: &[u8]) -> Result<Seq<FollowedLink>, NoMemory>
     ensures { IfOk result (λ links. links ≡ followed_in tree.now folder.now) }
 {
-    let mut links = Seq::new(alloc);
+    let mut links = Vec::new(alloc);
     for (name, node) in tree.listing(folder) {
         if let Some(link) = followed_by(alloc, tree, folder, name, node)? {
             links.push(link)?;
         }
     }
-    Ok(links)
+    links.shrink_to_fit();
+    Ok(Seq::from_vec(links))
 }
 
 /// The links with library names in the places, each with the file to which it leads.
@@ -108,36 +114,62 @@ pub fn follow(alloc: Global, tree: &Tree, dirs: &Dirs) -> Result<PlaceLinks, NoM
 
 // ---- where they lead
 
-// Adds the files to which these links lead.
-fn add_files(alloc: Global, folder: &FolderLinks, paths: &mut Vec<Text>) -> Result<(), NoMemory>
-    ensures { OnOk result (paths.new.items ≡ paths.old.items ++ files_of folder.now) }
+// The file to which a link leads, if it has no analysis.
+fn unread_file<'a>(table: &Table, link: &'a FollowedLink) -> Option<&'a [u8]>
+    ensures { option_copied result ≡ unread_file (analysis_at table.now) link.now }
+{
+    let file = link.file.as_ref()?;
+    if table.get(file.as_bytes()).is_some() {
+        return None;
+    }
+    Some(file.as_bytes())
+}
+
+// Adds those of the files to which these links lead that have no analysis.
+fn add_unread(
+    alloc: Global,
+    folder: &FolderLinks,
+    table: &Table,
+    paths: &mut Vec<Text>,
+) -> Result<(), NoMemory>
+    ensures { OnOk result (paths.new.items ≡ paths.old.items ++ unread_of (analysis_at table.now) folder.now) }
 {
     for link in folder.links.as_slice() {
-        if let Some(file) = &link.file {
-            paths.push(Text::copy_of(alloc, file.as_bytes())?)?;
+        if let Some(file) = unread_file(table, link) {
+            paths.push(Text::copy_of(alloc, file)?)?;
         }
     }
     Ok(())
 }
 
-/// The files to which the links of the places lead: their paths without links, by their bytes, each once.
-#[tactic(auto, unfolding(crate::specs::Search::reached))]
-pub fn files_behind(alloc: Global, links: &PlaceLinks) -> Result<Texts, NoMemory>
-    ensures { (t : Nodes) (places : List Place) → links.now ≡ followed t places → IfOk result (λ paths. paths ≡ reached t places) }
+// They of all folders, by their bytes, each once.
+fn unread_in(alloc: Global, links: &PlaceLinks, table: &Table) -> Result<Texts, NoMemory>
+    ensures { IfOk result (λ paths. paths ≡ ascending (flat_map (unread_of (analysis_at table.now)) links.now)) }
 {
     let mut paths = Vec::new(alloc);
     for folder in links.as_slice() {
-        add_files(alloc, folder, &mut paths)?;
+        add_unread(alloc, folder, table, &mut paths)?;
     }
     ascending(paths)
 }
 
+/// Those of the files to which the links of the places lead that have no analysis: their paths without links, by their bytes, each
+/// once. Most links lead to files that were read before, so few paths are copied and sorted.
+#[tactic(auto, using(crate::proofs::Unread::unread_links))]
+pub fn unread_behind(alloc: Global, links: &PlaceLinks, table: &Table) -> Result<Texts, NoMemory>
+    ensures { (t : Nodes) (places : List Place) → links.now ≡ followed t places → IfOk result (λ paths. paths ≡ unread (analysis_at table.now) (reached t places)) }
+{
+    let paths = unread_in(alloc, links, table)?;
+    Ok(paths)
+}
+
 /// The files to which links with library names in the places lead: their paths without links, by their bytes, each once.
+#[tactic(auto, using(crate::proofs::Unread::none_read))]
 pub fn reached(alloc: Global, tree: &Tree, dirs: &Dirs) -> Result<Texts, NoMemory>
     ensures { IfOk result (λ paths. paths ≡ reached tree.now dirs.now.places) }
 {
     let links = follow(alloc, tree, dirs)?;
-    files_behind(alloc, &links)
+    unread_behind(alloc, &links, &Table::new(alloc))
 }
 
 // The paths of the links of a folder that lead to no file.

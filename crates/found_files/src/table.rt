@@ -101,6 +101,13 @@ impl Table {
         }
     }
 
+    /// Takes room for so many more at once, if there is memory for it; else each takes its own as it is put.
+    pub fn make_room(&mut self, count: usize)
+        ensures { self.new ≡ self.old }
+    {
+        let _ = self.analyses.reserve(count);
+    }
+
     /// Puts the analysis of a path, instead of the one that is there.
     pub fn insert(&mut self, path: Text, analysis: Analysis) -> Result<(), NoMemory>
         requires { IsTrue (has_name analysis) }

@@ -9,13 +9,13 @@ use Rattle.lib_types.proofs.Parting.{cut_at, cut_nowhere}
 use Rattle.lib_types.proofs.SortedPairs.{by_test}
 use Rattle.lib_types.specs.Name.{is_name, slash}
 use Rattle.path_walk.proofs.Joining.{parts_joined}
-use Rattle.tree_face.proofs.Names.{before_none, before_some}
+use Rattle.image_tree.proofs.Names.{before_none, before_some}
 use Rattle.tree_face.proofs.Pairs.{position_within}
-use Rattle.tree_face.proofs.Rising.{below_rest}
-use Rattle.tree_face.specs.Paths.{are_names, folder, is_below, is_path, is_slash, name_behind, root, stem}
-use Rattle.tree_face.specs.Tree.{Nodes, children_of, is_entry, kind_at, names_below, of_dir}
-use Rattle.tree_face.specs.declared.tree.Kind.{Kind}
-use Rattle.tree_face.specs.declared.tree.Kind.TheVariants.{Absent, Dir, File, Link}
+use Rattle.image_tree.proofs.Rising.{below_rest}
+use Rattle.image_tree.specs.Paths.{are_names, folder, is_below, is_path, is_slash, name_behind, root, stem}
+use Rattle.image_tree.specs.Tree.{Nodes, children_of, is_entry, kind_at, names_below, of_dir}
+use Rattle.image_tree.specs.declared.tree.Kind.{Kind}
+use Rattle.image_tree.specs.declared.tree.Kind.TheVariants.{Absent, Dir, File, Link}
 
 -- ---- the name with which a path goes on
 

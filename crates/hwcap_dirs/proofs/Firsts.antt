@@ -7,7 +7,7 @@ use Rattle.std.specs.List.{filter, filter_map, flat_map, list_any}
 use Rattle.std.specs.Str.{bytes_eq}
 use Rattle.indexmap.specs.IndexSet.{insert_key}
 use Rattle.lib_types.proofs.SortedPairs.{by_test}
-use Rattle.tree_face.specs.Tree.{Nodes}
+use Rattle.image_tree.specs.Tree.{Nodes}
 use Rattle.hwcap_dirs.specs.Gathering.{was_met, new_places, places_left, all_places}
 use Rattle.hwcap_dirs.specs.Places.{Led, led_at, firsts, leads_elsewhere, places_of, dir_at}
 use Rattle.hwcap_dirs.specs.declared.kinds.Place.{Place}

@@ -5,11 +5,11 @@ use Rattle.std.proofs.lemmas.List.Folds.{list_all-append}
 use Rattle.std.specs.List.{cons_option, filter, filter_map, flat_map, list_all}
 use Rattle.std.specs.Option.{option_map}
 use Rattle.lib_types.proofs.SortedPairs.{by_test}
-use Rattle.tree_face.specs.Paths.{join}
+use Rattle.image_tree.specs.Paths.{join}
 use Rattle.path_walk.specs.Walk.{resolution}
 use Rattle.path_walk.specs.declared.walk.Mode.TheVariants.{Plain}
 use Rattle.path_walk.specs.declared.walk.WalkFault.{WalkFault}
-use Rattle.tree_face.specs.Tree.{Nodes, kind_at, children_of}
+use Rattle.image_tree.specs.Tree.{Nodes, kind_at, children_of}
 use Rattle.hwcap_dirs.specs.Places.{Led, are_dirs, dir_at, dir_by, firsts, hwcap_place, hwcaps, is_dir, is_hidden, kept, leads_elsewhere, led_at, place_of_name, places, places_below, places_of, system_dirs}
 use Rattle.hwcap_dirs.specs.declared.kinds.Place.{Place}
 

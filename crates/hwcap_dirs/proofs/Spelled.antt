@@ -14,10 +14,10 @@ use Rattle.path_walk.proofs.NoNul.{led_clean}
 use Rattle.path_walk.specs.Walk.{resolution}
 use Rattle.path_walk.specs.declared.walk.Mode.TheVariants.{Plain}
 use Rattle.path_walk.specs.declared.walk.WalkFault.{WalkFault}
-use Rattle.tree_face.specs.Node.{has_no_nul}
-use Rattle.tree_face.specs.Paths.{folder, join, root}
-use Rattle.tree_face.specs.Tree.{Nodes, children_of, is_entry}
-use Rattle.tree_face.specs.declared.path.TheConstants.{PATH_MAX}
+use Rattle.image_tree.specs.Node.{has_no_nul}
+use Rattle.image_tree.specs.Paths.{folder, join, root}
+use Rattle.image_tree.specs.Tree.{Nodes, children_of, is_entry}
+use Rattle.image_tree.specs.declared.path.TheConstants.{PATH_MAX}
 use Rattle.hwcap_dirs.proofs.Children.{children_named}
 use Rattle.hwcap_dirs.proofs.Reals.{all_given, all_left}
 use Rattle.hwcap_dirs.specs.Places.{Led, are_spelled, dir_at, dir_by, firsts, hwcap_place, hwcaps, is_hidden, is_spelled, kept, leads_elsewhere, led_at, place_of_name, places, places_below, places_of, system_dirs}

@@ -2,7 +2,7 @@
 use Rattle.std.specs.Prelude.{ℕ, Bool, List, [], ◌++◌, not, if◌then◌else◌, filter, flat_map}
 use Rattle.std.specs.List.{filter_map, list_any}
 use Rattle.std.specs.Str.{bytes_eq}
-use Rattle.tree_face.specs.Tree.{Nodes}
+use Rattle.image_tree.specs.Tree.{Nodes}
 use Rattle.hwcap_dirs.specs.Places.{Led, led_at, firsts, places_of}
 use Rattle.hwcap_dirs.specs.declared.kinds.Place.{Place}
 

@@ -4,7 +4,7 @@ ghost use Rattle.std.specs.Option.{is_some};
 ghost use Rattle.std.specs.Str.{bytes_eq};
 ghost use Rattle.indexmap.specs.IndexSet.{insert_key};
 ghost use Rattle.hwcap_dirs.specs.Gathering.{new_places, all_places};
-ghost use Rattle.tree_face.specs.declared.path.TheConstants.{PATH_MAX};
+ghost use Rattle.image_tree.specs.declared.path.TheConstants.{PATH_MAX};
 ghost use Rattle.hwcap_dirs.specs.Places.{absent, are_dirs, are_spelled, dir_at, hwcap_places, is_dir, is_hidden, place_of_name, places, places_of, system_dirs};
 
 use crate::kinds::{Dirs, Place, Places};

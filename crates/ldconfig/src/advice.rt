@@ -9,9 +9,9 @@ use std::str::from_utf8;
 /// The version, the kit, and a line for each command.
 pub const USAGE: &str =
     "ldconfig for images, release version 1 (made with the Rattle kit, logic dac8208d650f15bf)
-usage: ldconfig update: plans the links of the libraries in image.mtree, in the folder of an image, and makes etc/ld.so.cache
+usage: ldconfig update [--tag N]: plans the links of the libraries in image.mtree, in the folder of an image, and makes etc/ld.so.cache; the same without arguments
 usage: ldconfig print, or -p: prints etc/ld.so.cache
-usage: ldconfig lookup NAME [--abi ABI] [--caps LIST]: the path that the loader takes from etc/ld.so.cache; LIST: hwcaps names between colons
+usage: ldconfig lookup NAME [--abi ABI] [--caps LIST]: the path that the loader takes from etc/ld.so.cache; LIST: hwcaps names between colons, as in ldconfig lookup libz.so.1 --caps x86-64-v3:x86-64-v2
 All run in the folder of an image. What they write and every exit status: README.md and docs/FORMATS.md
 ";
 

@@ -15,7 +15,7 @@ use Rattle.ldconfig_core.specs.declared.fault.LoadFault.TheVariants as loading
 use Rattle.ldconfig_core.specs.declared.fault.UpdateFault.{UpdateFault}
 use Rattle.ldconfig_core.specs.declared.fault.UpdateFault.TheVariants as updating
 use Rattle.ldconfig_core.specs.declared.report.Report.{Report}
-use Rattle.ldconfig_core.specs.Replace.{IsOfWrites, LeavesOnlyWritten, Replaces}
+use Rattle.replaced_slots.specs.Replaced.{IsOfWrites, LeavesOnlyWritten, Replaces}
 use Rattle.ldconfig_core.specs.Session.{IsLoaded, Loaded, Loads}
 use Rattle.ldconfig_core.specs.Texts.{writes_of}
 use Rattle.ldconfig_core.specs.Update.{DiskAfter, Updates}

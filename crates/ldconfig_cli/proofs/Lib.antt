@@ -1,6 +1,5 @@
 mod CrashedRun
 mod NotUsage
-mod OnlyArgument
 mod RepairedRun
 mod RunByCommand
 mod Saying

@@ -13,7 +13,7 @@ use Rattle.ldconfig_core.specs.declared.report.Report.{Report}
 use Rattle.ldconfig_core.specs.Session.{Loaded}
 use Rattle.ldconfig_cli.specs.declared.status.Status.{Status}
 use Rattle.ldconfig_cli.specs.declared.status.Status.TheVariants.{Usage}
-use Rattle.ldconfig_cli.specs.Asked.{Asked}
+use Rattle.command_words.specs.declared.kinds.Lookup.{Lookup}
 use Rattle.ldconfig_cli.specs.Lookup.{AnsweredBy}
 use Rattle.ldconfig_cli.specs.Print.{PrintedBy}
 use Rattle.ldconfig_cli.specs.Status.{of_load, of_update}
@@ -50,5 +50,5 @@ no_usage_updates tag status store after_store disk after_disk output after_outpu
 pub no_usage_prints : (status : Status) (disk : Option DiskContent) (old new : SinkState) → PrintedBy status disk old new → status ≡ Usage → ⊥
 no_usage_prints status disk old new printed e = subst (λ (s : Status). PrintedBy s disk old new) e printed
 
-pub no_usage_answers : (asked : Asked) (status : Status) (disk : Option DiskContent) (old new : SinkState) → AnsweredBy asked status disk old new → status ≡ Usage → ⊥
+pub no_usage_answers : (asked : Lookup) (status : Status) (disk : Option DiskContent) (old new : SinkState) → AnsweredBy asked status disk old new → status ≡ Usage → ⊥
 no_usage_answers asked status disk old new answered e = subst (λ (s : Status). AnsweredBy asked s disk old new) e answered

@@ -14,7 +14,7 @@ use Rattle.ldconfig_core.specs.declared.report.Report.{Report}
 use Rattle.ldconfig_core.specs.Ldconfig.{planned_in}
 use Rattle.ldconfig_core.specs.Manifest.{HasTree, manifest_of}
 use Rattle.ldconfig_core.specs.Repair.{LeavesOnly, MightBeLeft, slots_after}
-use Rattle.ldconfig_core.specs.Replace.{IsOfWrites, Replaces}
+use Rattle.replaced_slots.specs.Replaced.{IsOfWrites, Replaces}
 use Rattle.ldconfig_core.specs.Session.{IsLoaded, Loaded, Loads}
 use Rattle.ldconfig_core.specs.Settled.{IfReads, planned_image}
 use Rattle.ldconfig_core.specs.Texts.{AreTextsOf, UpdateTexts, writes_of}

@@ -2,9 +2,9 @@
 use Rattle.std.proofs.Common.{◌≡◌, Option, Some, None, refl, sym, ap, subst, ◌∙◌}
 use Rattle.tree_face.specs.declared.disk.Tag.{Tag}
 use Rattle.ldconfig_cli.proofs.NotUsage.{no_usage_answers, no_usage_prints, no_usage_updates}
-use Rattle.ldconfig_cli.specs.Asked.{Asked}
-use Rattle.ldconfig_cli.specs.declared.arguments.Command.{Command}
-use Rattle.ldconfig_cli.specs.declared.arguments.Command.TheVariants as commands
+use Rattle.command_words.specs.declared.kinds.Command.{Command}
+use Rattle.command_words.specs.declared.kinds.Command.TheVariants as commands
+use Rattle.command_words.specs.declared.kinds.Lookup.{Lookup}
 use Rattle.ldconfig_cli.specs.declared.status.Status.{Status}
 use Rattle.ldconfig_cli.specs.declared.status.Status.TheVariants.{Usage}
 use Rattle.ldconfig_cli.specs.Devices.{Devices}
@@ -18,7 +18,7 @@ abbrev tag_in : Tag → Option Command → Tag
 tag_in other (Some (commands.Update tag)) = tag
 tag_in other _ = other
 
-abbrev asked_by : Asked → Option Command → Asked
+abbrev asked_by : Lookup → Option Command → Lookup
 asked_by other (Some (commands.Lookup asked)) = asked
 asked_by other _ = other
 
@@ -41,13 +41,13 @@ module _ (command : Option Command) (status : Status) (old new : Devices) where
     lookup = λ asked is. absurd (cc (some, is));
   }
 
-  pub by_lookup : (asked : Asked) → LookupRun asked old new status → command ≡ Some (commands.Lookup asked) → RunsCommand command status old new
+  pub by_lookup : (asked : Lookup) → LookupRun asked old new status → command ≡ Some (commands.Lookup asked) → RunsCommand command status old new
   by_lookup asked run some = record {
     usage = (λ usage. absurd (no_usage_answers asked status _ _ _ run.answered_by usage), λ none. absurd (cc (some, none)));
     no_command = λ none. absurd (cc (some, none));
     update = λ other is. absurd (cc (some, is));
     print = λ is. absurd (cc (some, is));
-    lookup = λ other is. subst (λ (a : Asked). LookupRun a old new status) (ap (asked_by asked) (sym some ∙ is)) run;
+    lookup = λ other is. subst (λ (a : Lookup). LookupRun a old new status) (ap (asked_by asked) (sym some ∙ is)) run;
   }
 
   pub by_none : command ≡ None → UsageRun old new status → RunsCommand command status old new

@@ -16,7 +16,7 @@ use Rattle.ldconfig_core.specs.declared.report.Report.{Report}
 use Rattle.ldconfig_core.specs.Lookup.{FindsAsSearched}
 use Rattle.ldconfig_core.specs.Manifest.{HasTree, manifest_of}
 use Rattle.ldconfig_core.specs.Outcome.{Writes, new_manifest, update_outcome}
-use Rattle.ldconfig_core.specs.Replace.{Replaces}
+use Rattle.replaced_slots.specs.Replaced.{Replaces}
 use Rattle.ldconfig_core.specs.Session.{IsLoaded, Loaded, Loads}
 use Rattle.ldconfig_core.specs.Settled.{AreSettled, IfReads}
 use Rattle.ldconfig_core.specs.Texts.{AreTexts, AreTextsOf, UpdateTexts, writes_of}

@@ -10,7 +10,7 @@ use Rattle.tree_face.specs.Stream.{SinkState}
 use Rattle.ldconfig_core.specs.Ldconfig.{planned_in}
 use Rattle.ldconfig_core.specs.Manifest.{HasTree, manifest_of}
 use Rattle.ldconfig_core.specs.Repair.{LeavesOnly, MightBeLeft, slots_after}
-use Rattle.ldconfig_core.specs.Replace.{IsOfWrites, LeavesOnlyWritten}
+use Rattle.replaced_slots.specs.Replaced.{IsOfWrites, LeavesOnlyWritten}
 use Rattle.ldconfig_core.specs.Session.{IsLoaded, Loaded}
 use Rattle.ldconfig_core.specs.Texts.{AreTextsOf, UpdateTexts, writes_of}
 use Rattle.ldconfig_core.specs.Update.{AreUpdateTexts}

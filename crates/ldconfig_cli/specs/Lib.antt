@@ -1,6 +1,4 @@
-pub mod Asked
 pub mod CacheFault
-pub mod Command
 pub mod Crash
 pub mod Devices
 pub mod FaultLine

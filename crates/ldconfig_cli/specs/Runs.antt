@@ -1,16 +1,18 @@
 -- What the commands do, by the arguments.
-use Rattle.std.specs.Prelude.{◌≡◌, ◌↔◌, Option, Some, None, String, Vec}
+use Rattle.std.specs.Prelude.{◌≡◌, ◌↔◌, ◌≢◌, ◌⊎◌, ℕ, List, map, Option, Some, None, String, Vec}
 use Rattle.std.specs.declared.alloc.Global.{Global}
+use Rattle.std.specs.String.{string_bytes}
+use Rattle.command_words.specs.Language.{verb_in}
+use Rattle.command_words.specs.Words.{command_in}
+use Rattle.command_words.specs.declared.kinds.Command.{Command}
+use Rattle.command_words.specs.declared.kinds.Command.TheVariants as commands
+use Rattle.command_words.specs.declared.kinds.Lookup.{Lookup}
 use Rattle.tree_face.specs.declared.disk.Tag.{Tag}
 use Rattle.tree_face.specs.Disk.{DiskState}
 use Rattle.tree_face.specs.Store.{StoreState}
 use Rattle.tree_face.specs.Stream.{SinkState, SourceState}
-use Rattle.ldconfig_cli.specs.Asked.{Asked}
-use Rattle.ldconfig_cli.specs.Command.{command_of}
-use Rattle.ldconfig_cli.specs.declared.arguments.Command.{Command}
-use Rattle.ldconfig_cli.specs.declared.arguments.Command.TheVariants as commands
 use Rattle.ldconfig_cli.specs.declared.status.Status.{Status}
-use Rattle.ldconfig_cli.specs.declared.status.Status.TheVariants.{Usage}
+use Rattle.ldconfig_cli.specs.declared.status.Status.TheVariants.{NoMemory, Usage}
 use Rattle.ldconfig_cli.specs.Devices.{Devices, devices}
 use Rattle.ldconfig_cli.specs.Lookup.{LookupRun}
 use Rattle.ldconfig_cli.specs.Print.{PrintRun}
@@ -23,11 +25,21 @@ pub record RunsCommand (command : Option Command) (status : Status) (old new : D
   pub no_command : command ≡ None → UsageRun old new status
   pub update : (tag : Tag) → command ≡ Some (commands.Update tag) → UpdateRun tag old new status
   pub print : command ≡ Some commands.Print → PrintRun old new status
-  pub lookup : (asked : Asked) → command ≡ Some (commands.Lookup asked) → LookupRun asked old new status
+  pub lookup : (asked : Lookup) → command ≡ Some (commands.Lookup asked) → LookupRun asked old new status
 
--- the command of these arguments, from the ones of four devices to the others
+-- memory has run out while the arguments behind the first were read, and nothing was done
+pub record GivesUp (words : List (List ℕ)) (status : Status) (old new : Devices) : Type 0 where
+  pub named : verb_in words ≢ None
+  pub status_is : status ≡ NoMemory
+  pub devices : new ≡ old
+
+abbrev pub texts_of : Vec (String Global) Global → List (List ℕ)
+texts_of arguments = map string_bytes arguments.items
+
+-- the command of these arguments, unless memory runs out before, from the states of four devices to the others
 abbrev pub Runs : {S D I O : Type 0} → (S → StoreState) → (D → DiskState) → (I → SourceState) → (O → SinkState) → Vec (String Global) Global → Status
     → S × (D × (I × O)) → S × (D × (I × O)) → Type 0
 Runs store disk input output arguments status old new =
-    RunsCommand (command_of arguments) status (devices (store old.0) (disk old.1.0) (input old.1.1.0) (output old.1.1.1))
-    (devices (store new.0) (disk new.1.0) (input new.1.1.0) (output new.1.1.1))
+    let before = devices (store old.0) (disk old.1.0) (input old.1.1.0) (output old.1.1.1) in
+    let after = devices (store new.0) (disk new.1.0) (input new.1.1.0) (output new.1.1.1) in
+    GivesUp (texts_of arguments) status before after ⊎ RunsCommand (command_in (texts_of arguments)) status before after

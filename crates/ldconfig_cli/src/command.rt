@@ -12,12 +12,11 @@ ghost use Rattle.ldconfig_cli.specs.Update.{LoadsAndUpdates};
 ghost use Rattle.ldconfig_cli.specs.UpdateCommand.{UpdateRun};
 ghost use Rattle.tree_face.specs.Stream.{SourceState};
 
-use crate::arguments::{Command, command_of};
-use crate::asked::Lookup;
 use crate::fault_line::put_line;
 use crate::lookup::look_up;
 use crate::print::print;
 use crate::status::Status;
+use command_words::{Command, Lookup, WordsFault, command_of};
 use ldconfig_core::Session;
 use std::alloc::Global;
 use tree_face::{Disk, Sink, Source, Store, Tag, put_all};
@@ -77,12 +76,7 @@ fn run_print<D: Disk, O: Sink>(alloc: Global, disk: &mut D, out: &mut O) -> Stat
 }
 
 // The command `lookup`. The states of the store and the input are any, since nothing is read from them.
-fn run_lookup<D: Disk, O: Sink>(
-    alloc: Global,
-    disk: &mut D,
-    out: &mut O,
-    lookup: &Lookup<'_>,
-) -> Status
+fn run_lookup<D: Disk, O: Sink>(alloc: Global, disk: &mut D, out: &mut O, lookup: &Lookup) -> Status
     ensures { (store : StoreState) (input : SourceState) → LookupRun lookup.now
         (devices store (D.state disk.old) input (O.state out.old))
         (devices store (D.state disk.new) input (O.state out.new))
@@ -123,13 +117,14 @@ pub fn run<S: Store, D: Disk, I: Source, O: Sink>(
     ensures one_update { (held : Contents) (s : Loaded) (a b : UpdateTexts) → AreTextsOf held s a → AreTextsOf held s b → a ≡ b }
     ensures some_update { (held : Contents) (s : Loaded) → (texts : UpdateTexts) × AreTextsOf held s texts }
 {
-    match command_of(words) {
-        Some(Command::Update { tag }) => run_update(alloc, store, disk, out, tag),
-        Some(Command::Print) => run_print(alloc, disk, out),
-        Some(Command::Lookup(lookup)) => run_lookup(alloc, disk, out, &lookup),
-        None => {
+    match command_of(alloc, words) {
+        Ok(Command::Update { tag }) => run_update(alloc, store, disk, out, tag),
+        Ok(Command::Print) => run_print(alloc, disk, out),
+        Ok(Command::Lookup(lookup)) => run_lookup(alloc, disk, out, &lookup),
+        Err(WordsFault::Usage) => {
             put_fault_line(out, Status::Usage);
             Status::Usage
         }
+        Err(WordsFault::NoMemory) => Status::NoMemory,
     }
 }

@@ -6,16 +6,15 @@ ghost use Rattle.tree_face.specs.DiskUse.{ReadsOnly};
 ghost use Rattle.tree_face.specs.Stream.{TakesAll};
 ghost use Rattle.tree_face.specs.declared.disk.Slot.TheVariants as slots;
 ghost use Rattle.update_report.specs.Lines.{line};
-ghost use Rattle.ldconfig_cli.specs.Asked.{Asked};
 ghost use Rattle.ldconfig_cli.specs.Lookup.{AnsweredBy, AnswersBytes, IsAnswer, IsRefused, answer_text};
 ghost use Rattle.ldconfig_cli.specs.Print.{slot_ending};
 
-use crate::asked::Lookup;
 use crate::print::read_cache;
 use crate::status::Status;
 use cache_lookup::{Counted, Sorted, sorted};
 use cache_reader::{CacheDefect, CacheView};
-use lib_types::{Failed, Texts};
+use command_words::Lookup;
+use lib_types::Failed;
 use std::alloc::Global;
 use tree_face::{Disk, Sink, put_all};
 
@@ -36,12 +35,17 @@ fn sorted_cache(bytes: &[u8]) -> Result<Sorted<'_>, CacheDefect>
 }
 
 // The path that the loader takes from a cache.
-fn path_in<'a>(cache: &Sorted<'a>, lookup: &Lookup<'_>, caps: &Texts) -> Option<&'a [u8]>
+fn path_in<'a>(cache: &Sorted<'a>, lookup: &Lookup) -> Option<&'a [u8]>
     requires sorted { AreDescending cache.now }
-    ensures { option_map (λ t. t.now) result ≡ scan cache.now lookup.now.name lookup.now.abi caps.now }
+    ensures { option_map (λ t. t.now) result ≡ scan cache.now lookup.now.name lookup.now.abi lookup.now.caps }
 {
     let mut entries = Counted::new(cache);
-    let index = cache_lookup::lookup(&mut entries, lookup.name(), lookup.abi(), caps)?;
+    let index = cache_lookup::lookup(
+        &mut entries,
+        lookup.name.as_bytes(),
+        lookup.abi,
+        &lookup.caps,
+    )?;
     cache.path(index)
 }
 
@@ -62,15 +66,14 @@ fn put_answer<O: Sink>(out: &mut O, path: Option<&[u8]>) -> Result<(), Failed>
 }
 
 // Writes the answer of these bytes, if they are a cache in order.
-fn answer<O: Sink>(bytes: &[u8], lookup: &Lookup<'_>, caps: &Texts, out: &mut O) -> Status
-    requires { caps.now ≡ lookup.now.caps }
+fn answer<O: Sink>(bytes: &[u8], lookup: &Lookup, out: &mut O) -> Status
     ensures { AnswersBytes lookup.now bytes.now result (O.state out.old) (O.state out.new) }
 {
     let cache = match sorted_cache(bytes) {
         Ok(cache) => cache,
         Err(defect) => return Status::BadCache(defect),
     };
-    let path = path_in(&cache, lookup, caps);
+    let path = path_in(&cache, lookup);
     if put_answer(out, path).is_err() {
         return Status::OutputFault;
     }
@@ -85,17 +88,13 @@ pub fn look_up<D: Disk, O: Sink>(
     alloc: Global,
     disk: &mut D,
     out: &mut O,
-    lookup: &Lookup<'_>,
+    lookup: &Lookup,
 ) -> Status
     ensures answered_by { AnsweredBy lookup.now result (D.state disk.old).contents (O.state out.old) (O.state out.new) }
     ensures reads { ReadsOnly (slots.Cache ∷ []) (slot_ending result) (D.state disk.old) (D.state disk.new) }
 {
-    let bytes = match read_cache(alloc, disk) {
-        Ok(bytes) => bytes,
-        Err(status) => return status,
-    };
-    match lookup.caps(alloc) {
-        Ok(caps) => answer(&bytes, lookup, &caps, out),
-        Err(_) => Status::NoMemory,
+    match read_cache(alloc, disk) {
+        Ok(bytes) => answer(&bytes, lookup, out),
+        Err(status) => status,
     }
 }

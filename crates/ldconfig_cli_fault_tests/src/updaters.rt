@@ -1,8 +1,9 @@
 //! Several updaters at one disk: each has temporary files of its own.
+ghost use Rattle.std.specs.Prelude.{◌≡◌, ◌∷◌, [], codes, IfOk};
+ghost use Rattle.ldconfig_cli.specs.Runs.{texts_of};
+
 use ldconfig_cli::{Status, run};
-use ldconfig_cli_fixture::{
-    LIBZ_MANIFEST, ONE_CACHE, has, image, libz_held, make_devices, strings,
-};
+use ldconfig_cli_fixture::{LIBZ_MANIFEST, ONE_CACHE, has, image, libz_held, make_devices};
 use std::alloc::Global;
 use std::test::Fail;
 use tree_face::{Disk, Slot, Tag};
@@ -14,9 +15,19 @@ fn is(found: &Option<Vec<u8>>, want: &[u8]) -> bool {
     }
 }
 
+fn update_alone(alloc: Global) -> Result<Vec<String>, Fail>
+    ensures { IfOk result (λ words. texts_of words ≡ codes "update" ∷ []) }
+{
+    let mut words = Vec::new(alloc);
+    words.push(String::from_str(alloc, "update")?)?;
+    Ok(words)
+}
+
 // Whether an update between two calls of another is done, and both caches are written. The arguments are a parameter, so that the proof,
 // that the other's temporary file is there still, can name them.
-fn are_both_written(alloc: Global, words: &Vec<String>) -> Result<bool, Fail> {
+fn are_both_written(alloc: Global, words: &Vec<String>) -> Result<bool, Fail>
+    requires { texts_of words.now ≡ codes "update" ∷ [] }
+{
     let devices = make_devices(alloc, image(LIBZ_MANIFEST), libz_held(alloc)?)?;
     let mut store = devices.store;
     let mut disk = devices.disk;
@@ -35,7 +46,7 @@ fn are_both_written(alloc: Global, words: &Vec<String>) -> Result<bool, Fail> {
 #[test]
 fn an_update_between_two_calls_of_another(rt: HostRuntime) -> Result<(), Fail> {
     let alloc = rt.alloc();
-    let words = strings(alloc, &["update"])?;
+    let words = update_alone(alloc)?;
     assert!(rt; are_both_written(alloc, &words)?);
     Ok(())
 }

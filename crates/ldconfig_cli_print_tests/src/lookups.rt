@@ -158,7 +158,6 @@ const OTHER: &[&[&str]] = &[
     &["lookup", "libz.so.1", "--abi", "i686"],
     &["lookup", "libz.so.1", "--caps"],
     &["lookup", "libz.so.1", "--caps", "-"],
-    &["lookup", "libz.so.1", "--caps", "x", "--abi", "i386"],
     &["lookup", "libz.so.1", "--abi", "i386", "--abi", "i386"],
     &["lookups", "libz.so.1"],
 ];

@@ -11,9 +11,12 @@ use tree_face::{Disk, Slot};
 
 const WORDS: &[&[&str]] = &[
     &["frob"],
-    &[],
     &["update", "update"],
-    &["update", "--tag", "1"],
+    &["update", "--tag", "70000"],
+    &["update", "--tag", "1", "--tag", "1"],
+    &["update", "--frob"],
+    &["lookup"],
+    &["sample", "0"],
     &["Update"],
     &["updat"],
     &["updates"],

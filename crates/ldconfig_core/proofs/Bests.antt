@@ -16,9 +16,9 @@ use Rattle.found_files.specs.Libraries.{libraries_in}
 use Rattle.found_files.specs.Library.{Library}
 use Rattle.found_files.specs.Search.{wanted}
 use Rattle.soname_links.specs.Settled.{IsSettled}
-use Rattle.tree_face.specs.declared.node.Node.{Node}
-use Rattle.tree_face.specs.declared.node.Node.TheVariants as node
-use Rattle.tree_face.specs.Tree.{Nodes, IsTree, node_at}
+use Rattle.image_tree.specs.declared.node.Node.{Node}
+use Rattle.image_tree.specs.declared.node.Node.TheVariants as node
+use Rattle.image_tree.specs.Tree.{Nodes, IsTree, node_at}
 
 -- a file that isn't left unread has an analysis
 has_analysis : (o : Option Node) (a : Option Analysis) → is_file_node o ≡ true → cond (is_none a) (key_in o) None ≡ None → is_some a ≡ true

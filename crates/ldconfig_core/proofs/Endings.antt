@@ -14,7 +14,7 @@ use Rattle.tree_face.proofs.StoreUse.{reads_all}
 use Rattle.tree_face.specs.Known.{IfKnown}
 use Rattle.tree_face.specs.Store.{Contents, StoreState}
 use Rattle.tree_face.specs.StoreUse.{Complete, DeviceFailed, GaveUp}
-use Rattle.tree_face.specs.Tree.{Nodes}
+use Rattle.image_tree.specs.Tree.{Nodes}
 use Rattle.ldconfig_core.proofs.KeysBegun.{ConfBy, SearchBy, UpdateBy, conf_part, search_all, search_part, update_all, update_small}
 use Rattle.ldconfig_core.specs.Begun.{behind_keys, has_too_many_nodes, lacks_wanted, wanted_keys}
 use Rattle.ldconfig_core.specs.declared.fault.UpdateFault.{UpdateFault}

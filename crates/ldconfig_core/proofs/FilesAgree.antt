@@ -23,10 +23,10 @@ use Rattle.found_files.specs.Order.{ascending}
 use Rattle.found_files.specs.Search.{reached, wanted}
 use Rattle.found_files.specs.Table.{Rows, analysis_at}
 use Rattle.settled_links.specs.Search.{IsSearchedAlike}
-use Rattle.tree_face.specs.declared.node.Node.{Node}
-use Rattle.tree_face.specs.declared.node.Node.TheVariants as node
+use Rattle.image_tree.specs.declared.node.Node.{Node}
+use Rattle.image_tree.specs.declared.node.Node.TheVariants as node
 use Rattle.tree_face.specs.Store.{Contents}
-use Rattle.tree_face.specs.Tree.{Nodes, node_at}
+use Rattle.image_tree.specs.Tree.{Nodes, node_at}
 use Rattle.update_report.proofs.Picked.{in_table, same_picked}
 use Rattle.update_report.proofs.SkipsOfFiles.{skips_agree}
 use Rattle.update_report.specs.Skips.{is_skipped, skip_at}

@@ -23,10 +23,10 @@ use Rattle.soname_links.specs.declared.kinds.Survey.{Survey}
 use Rattle.soname_links.specs.Marks.{blocked, mixed}
 use Rattle.soname_links.specs.Plan.{links, with_links}
 use Rattle.soname_links.specs.Settled.{IsSettled}
-use Rattle.tree_face.specs.declared.tree.TheConstants.{NODES_MAX}
+use Rattle.image_tree.specs.declared.tree.TheConstants.{NODES_MAX}
 use Rattle.tree_face.specs.Known.{IfKnown}
 use Rattle.tree_face.specs.Store.{Contents}
-use Rattle.tree_face.specs.Tree.{Nodes}
+use Rattle.image_tree.specs.Tree.{Nodes}
 use Rattle.ldconfig_core.proofs.FilesAgree.{agree_read, behind_keys_are, right_new, skips_are, still_agree, what_same}
 use Rattle.ldconfig_core.proofs.OutcomeRows.{over, too_many_nodes, within}
 use Rattle.ldconfig_core.specs.Begun.{behind_in, behind_keys, has_too_many_nodes, opened_in, wanted_keys}

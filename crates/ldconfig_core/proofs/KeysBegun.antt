@@ -10,7 +10,7 @@ use Rattle.tree_face.proofs.StoreUse.{IsPartial, joined, summed, reads_all, read
 use Rattle.tree_face.specs.Known.{IfKnown}
 use Rattle.tree_face.specs.Store.{Contents, StoreState}
 use Rattle.tree_face.specs.StoreUse.{Ending, Complete, GaveUp, ReadsFiles}
-use Rattle.tree_face.specs.Tree.{Nodes}
+use Rattle.image_tree.specs.Tree.{Nodes}
 use Rattle.ldconfig_core.specs.Begun.{behind_keys, ends_early, has_too_many_nodes, lacks_wanted, search_bytes, search_keys, update_bytes, update_keys, wanted_keys}
 use Rattle.ldconfig_core.specs.Outcome.{Lacking, update_outcome}
 use Rattle.ldconfig_core.specs.Stages.{loaded}

@@ -16,10 +16,10 @@ use Rattle.soname_links.specs.declared.kinds.Survey.{Survey}
 use Rattle.soname_links.specs.Marks.{blocked, mixed}
 use Rattle.soname_links.specs.Plan.{links, with_links}
 use Rattle.soname_links.specs.Settled.{IsSettled}
-use Rattle.tree_face.specs.declared.tree.TheConstants.{NODES_MAX}
+use Rattle.image_tree.specs.declared.tree.TheConstants.{NODES_MAX}
 use Rattle.tree_face.specs.Known.{IfKnown}
 use Rattle.tree_face.specs.Store.{Contents}
-use Rattle.tree_face.specs.Tree.{Nodes, IsTree}
+use Rattle.image_tree.specs.Tree.{Nodes, IsTree}
 use Rattle.ldconfig_core.proofs.FoundParts as parts
 use Rattle.ldconfig_core.proofs.SettledImage.{are_settled_by}
 use Rattle.ldconfig_core.specs.Begun.{behind_keys, has_too_many_nodes, lacks_wanted}

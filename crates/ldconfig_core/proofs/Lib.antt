@@ -1,6 +1,4 @@
 mod Bests
-mod CallsOneByOne
-mod CrashesOneByOne
 mod Endings
 mod FilesAgree
 mod FoundParts

@@ -8,7 +8,7 @@ use Rattle.tree_face.proofs.StoreUse.{reads_all}
 use Rattle.tree_face.specs.Known.{IfKnown}
 use Rattle.tree_face.specs.Store.{Contents, StoreState}
 use Rattle.tree_face.specs.StoreUse.{Complete}
-use Rattle.tree_face.specs.Tree.{Nodes}
+use Rattle.image_tree.specs.Tree.{Nodes}
 use Rattle.update_report.specs.Report.{report_text}
 use Rattle.ldconfig_core.proofs.KeysBegun.{UpdateBy}
 use Rattle.ldconfig_core.proofs.LookedUp.{names_descend, searched}

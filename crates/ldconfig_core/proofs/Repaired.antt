@@ -5,12 +5,12 @@ use Rattle.tree_face.specs.declared.disk.Slot.{Slot}
 use Rattle.tree_face.specs.declared.disk.Slot.TheVariants.{Manifest, Cache, Aux}
 use Rattle.tree_face.specs.Disk.{Content, DiskContent, Slots, slot_of}
 use Rattle.tree_face.specs.Store.{Contents}
-use Rattle.tree_face.specs.Tree.{Nodes}
+use Rattle.image_tree.specs.Tree.{Nodes}
 use Rattle.ldconfig_core.proofs.OneText.{one_update}
 use Rattle.ldconfig_core.specs.Manifest as manifests
 use Rattle.ldconfig_core.specs.Manifest.{Empty, Faulty, HasTree, manifest_of}
 use Rattle.ldconfig_core.specs.Repair.{slots_after}
-use Rattle.ldconfig_core.specs.Replace.{IsOfWrites, Replaces}
+use Rattle.replaced_slots.specs.Replaced.{IsOfWrites, Replaces}
 use Rattle.ldconfig_core.specs.Session.{Loaded}
 use Rattle.ldconfig_core.specs.Settled.{AreSettled, IfReads}
 use Rattle.ldconfig_core.specs.Texts.{AreTextsOf, UpdateTexts, writes_of}

@@ -11,7 +11,7 @@ use Rattle.found_files.specs.Search.{wanted}
 use Rattle.found_files.specs.Table.{Rows, analysis_at}
 use Rattle.tree_face.specs.Known.{IfKnown}
 use Rattle.tree_face.specs.Store.{Contents}
-use Rattle.tree_face.specs.Tree.{Nodes}
+use Rattle.image_tree.specs.Tree.{Nodes}
 use Rattle.ldconfig_core.specs.Begun.{lacks_wanted, wanted_keys}
 use Rattle.ldconfig_core.specs.Ldconfig.{conf_in, places_in, wanted_in}
 use Rattle.ldconfig_core.specs.Stages.{IsSearched}

@@ -19,9 +19,9 @@ use Rattle.soname_links.specs.Apply.{nodes_with}
 use Rattle.soname_links.specs.declared.kinds.Planned.{Planned}
 use Rattle.soname_links.specs.Plan.{links, with_links}
 use Rattle.soname_links.specs.Settled.{IsSettled}
-use Rattle.tree_face.specs.declared.tree.TheConstants.{NODES_MAX}
+use Rattle.image_tree.specs.declared.tree.TheConstants.{NODES_MAX}
 use Rattle.tree_face.specs.Store.{Contents}
-use Rattle.tree_face.specs.Tree.{Nodes, IsTree, node_at}
+use Rattle.image_tree.specs.Tree.{Nodes, IsTree, node_at}
 use Rattle.ldconfig_core.proofs.FilesAgree.{key_same, what_same}
 use Rattle.ldconfig_core.proofs.OneText.{one_entries}
 use Rattle.ldconfig_core.proofs.OutcomeRows.{within}

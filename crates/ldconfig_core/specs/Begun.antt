@@ -5,9 +5,9 @@ use Rattle.std.specs.Str.{bytes_eq}
 use Rattle.elf_dynamic.specs.Begun.{file_keys, lacks_one, most_of, until_lacking}
 use Rattle.ldso_conf.specs.Reading.{conf_bytes, conf_keys, conf_lacks}
 use Rattle.soname_links.specs.Apply.{nodes_with}
-use Rattle.tree_face.specs.declared.tree.TheConstants.{NODES_MAX}
+use Rattle.image_tree.specs.declared.tree.TheConstants.{NODES_MAX}
 use Rattle.tree_face.specs.Store.{Contents}
-use Rattle.tree_face.specs.Tree.{Nodes}
+use Rattle.image_tree.specs.Tree.{Nodes}
 use Rattle.ldconfig_core.specs.Ldconfig.{links_in, planned_in, reached_in, wanted_in}
 
 -- the keys of the files with library names

@@ -12,7 +12,7 @@ use Rattle.found_files.specs.Search.{reached, wanted}
 use Rattle.soname_links.specs.declared.kinds.Planned.{Planned}
 use Rattle.soname_links.specs.Plan.{links, with_links}
 use Rattle.tree_face.specs.Store.{Contents}
-use Rattle.tree_face.specs.Tree.{Nodes}
+use Rattle.image_tree.specs.Tree.{Nodes}
 
 -- The conf file and the files that it includes name directories.
 unfoldable pub conf_in : Contents → Nodes → Reading

@@ -5,7 +5,6 @@ pub mod Lookup
 pub mod Manifest
 pub mod Outcome
 pub mod Repair
-pub mod Replace
 pub mod Session
 pub mod Settled
 pub mod Stages

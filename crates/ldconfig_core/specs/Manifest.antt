@@ -1,6 +1,6 @@
 -- What the Manifest slot says.
 use Rattle.std.specs.Prelude.{ℕ, List, Option, Some, None, Result, Ok, Err}
-use Rattle.tree_face.specs.Tree.{Nodes}
+use Rattle.image_tree.specs.Tree.{Nodes}
 use Rattle.mtree_manifest.specs.Manifest.{outcome}
 use Rattle.mtree_manifest.specs.declared.fault.ManifestFault.{ManifestFault}
 

@@ -8,7 +8,7 @@ use Rattle.mtree_manifest.specs.declared.fault.TheConstants.{TEXT_MAX}
 use Rattle.soname_links.specs.Apply.{nodes_with}
 use Rattle.soname_links.specs.declared.kinds.Planned.{Planned}
 use Rattle.tree_face.specs.Store.{Contents}
-use Rattle.tree_face.specs.Tree.{Nodes}
+use Rattle.image_tree.specs.Tree.{Nodes}
 use Rattle.ldconfig_core.specs.Begun.{behind_keys, has_too_many_nodes, wanted_keys}
 use Rattle.ldconfig_core.specs.Ldconfig.{entries_in, links_in, planned_in}
 use Rattle.ldconfig_core.specs.Session.{Loaded}

@@ -6,7 +6,7 @@ use Rattle.tree_face.specs.Disk.{DiskContent, DiskState}
 use Rattle.tree_face.specs.DiskUse.{ReadsOnly}
 use Rattle.tree_face.specs.Known.{IfKnown}
 use Rattle.tree_face.specs.StoreUse.{Ending, Complete, DeviceFailed, GaveUp}
-use Rattle.tree_face.specs.Tree.{Nodes}
+use Rattle.image_tree.specs.Tree.{Nodes}
 use Rattle.ldconfig_core.specs.declared.fault.LoadFault.{LoadFault}
 use Rattle.ldconfig_core.specs.declared.fault.LoadFault.TheVariants as faults
 use Rattle.ldconfig_core.specs.Manifest.{Manifest, Empty, Faulty, HasTree, manifest_of}

@@ -21,7 +21,7 @@ use Rattle.soname_links.specs.declared.kinds.Planned.{Planned}
 use Rattle.soname_links.specs.Marks.{blocked, mixed}
 use Rattle.tree_face.specs.Store.{Contents, StoreState}
 use Rattle.tree_face.specs.StoreUse.{Ending, ReadsFiles}
-use Rattle.tree_face.specs.Tree.{Nodes}
+use Rattle.image_tree.specs.Tree.{Nodes}
 use Rattle.update_report.specs.Report.{Said, report_text}
 use Rattle.update_report.specs.Skips.{skip_at}
 use Rattle.ldconfig_core.specs.Begun.{behind_keys, has_too_many_nodes, lacks_wanted, opened_in, search_bytes, search_keys, wanted_keys}
@@ -30,10 +30,9 @@ use Rattle.ldconfig_core.specs.declared.prepare.Prepared.{Prepared}
 use Rattle.ldconfig_core.specs.declared.search.Search.{Search}
 use Rattle.ldconfig_core.specs.Ldconfig.{conf_in, entries_in, links_in, places_in, planned_in}
 use Rattle.ldconfig_core.specs.Outcome.{is_too_long, manifest_with, size_of}
-use Rattle.ldconfig_core.specs.Replace.{manifest_bytes}
 use Rattle.ldconfig_core.specs.Session.{Loaded}
 use Rattle.ldconfig_core.specs.Settled.{IfReads}
-use Rattle.ldconfig_core.specs.Texts.{UpdateTexts, library_files}
+use Rattle.ldconfig_core.specs.Texts.{UpdateTexts, library_files, manifest_bytes}
 
 abbrev pub loaded : Nodes → Loaded
 loaded t = record { tree = t }

@@ -1,5 +1,6 @@
 -- The texts that an update makes.
-use Rattle.std.specs.Prelude.{◌≡◌, ℕ, List, [], ◌∷◌, ◌++◌, map, Option, Some, None}
+use Rattle.std.specs.Prelude.{◌≡◌, ℕ, List, [], ◌∷◌, ◌++◌, map, Option, Some, None, option_map, Vec}
+use Rattle.std.specs.declared.alloc.Global.{Global}
 use Rattle.std.specs.List.{filter_map}
 use Rattle.atomic_replace.specs.Replace.{Write}
 use Rattle.winning_entries.specs.Entries.{AreEntriesOf}
@@ -13,9 +14,10 @@ use Rattle.lib_types.specs.declared.entry.Entry.{Entry}
 use Rattle.found_files.specs.Order.{ascending}
 use Rattle.found_files.specs.Search.{dangling}
 use Rattle.soname_links.specs.Marks.{blocked, mixed}
+use Rattle.tree_face.specs.declared.disk.Slot.{Slot}
 use Rattle.tree_face.specs.declared.disk.Slot.TheVariants.{Manifest, Cache}
 use Rattle.tree_face.specs.Store.{Contents}
-use Rattle.tree_face.specs.Tree.{Nodes}
+use Rattle.image_tree.specs.Tree.{Nodes}
 use Rattle.update_report.specs.Report.{Said, report_text}
 use Rattle.update_report.specs.Skips.{skip_at}
 use Rattle.ldconfig_core.specs.Begun.{opened_in}
@@ -75,3 +77,10 @@ of_manifest (Some text) = (Manifest, text) ∷ []
 -- the manifest, if it is written, and then the cache
 abbrev pub writes_of : Option (List ℕ) → List ℕ → List Write
 writes_of manifest cache = of_manifest manifest ++ (Cache, cache) ∷ []
+
+-- the slots that an update may write
+abbrev pub update_slots : List Slot
+update_slots = Manifest ∷ Cache ∷ []
+
+abbrev pub manifest_bytes : Option (Vec ℕ Global) → Option (List ℕ)
+manifest_bytes manifest = option_map (λ text. text.items) manifest

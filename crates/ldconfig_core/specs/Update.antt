@@ -15,10 +15,10 @@ use Rattle.ldconfig_core.specs.declared.report.Report.{Report}
 use Rattle.ldconfig_core.specs.Ldconfig.{entries_in, links_in}
 use Rattle.ldconfig_core.specs.Lookup.{FindsAsSearched}
 use Rattle.ldconfig_core.specs.Outcome.{Outcome, Lacking, TooLarge, TooMany, Writes, new_manifest, update_outcome}
-use Rattle.ldconfig_core.specs.Replace.{KeepsRestMade, WritesAll, WritesPart, update_slots}
+use Rattle.replaced_slots.specs.Replaced.{KeepsRestMade, WritesAll, WritesPart}
 use Rattle.ldconfig_core.specs.Session.{Loaded}
 use Rattle.ldconfig_core.specs.Settled.{AreSettled, IfReads, planned_image}
-use Rattle.ldconfig_core.specs.Texts.{AreTexts, AreTextsOf, UpdateTexts, writes_of}
+use Rattle.ldconfig_core.specs.Texts.{AreTexts, AreTextsOf, UpdateTexts, update_slots, writes_of}
 
 -- ---- the results, one row for each
 

@@ -14,7 +14,7 @@ ghost use Rattle.ldconfig_core.specs.Update.{update_ending};
 
 use crate::fault::UpdateFault;
 use analysed_files::{Files, read_files};
-use found_files::{PlaceLinks, dangling_among, files_behind, follow};
+use found_files::{PlaceLinks, dangling_among, follow, unread_behind};
 use hwcap_dirs::Dirs;
 use lib_types::Texts;
 use std::alloc::Global;
@@ -54,7 +54,7 @@ pub fn follow_links<S: Store>(
     ensures others { IfErr result (λ fault. is_store_fault fault ≡ true) }
 {
     let links = follow(alloc, tree, dirs)?;
-    let paths = files_behind(alloc, &links)?;
+    let paths = unread_behind(alloc, &links, &files.table)?;
     read_files(alloc, tree, store, paths, files)?;
     let dangling = dangling_among(alloc, &links)?;
     Ok(Followed { links, dangling })

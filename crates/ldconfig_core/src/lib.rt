@@ -6,7 +6,6 @@ mod finding;
 mod following;
 mod image;
 mod prepare;
-mod replace;
 mod report;
 mod search;
 mod session;

@@ -7,9 +7,9 @@ ghost use Rattle.tree_face.specs.Known.{IfKnown};
 ghost use Rattle.hwcap_dirs.specs.Places.{are_spelled};
 ghost use Rattle.ldconfig_core.specs.Faults.{is_of_making, is_of_preparing, is_size_fault};
 ghost use Rattle.ldconfig_core.specs.Outcome.{is_too_long, manifest_with, update_outcome};
-ghost use Rattle.ldconfig_core.specs.Replace.{manifest_bytes};
 ghost use Rattle.ldconfig_core.specs.Settled.{IfReads};
 ghost use Rattle.ldconfig_core.specs.Stages.{loaded, said_of, texts_of, HasTooMany, IsMadeOf, IsTooLarge};
+ghost use Rattle.ldconfig_core.specs.Texts.{manifest_bytes};
 ghost use Rattle.ldconfig_core.specs.Update.{AreUpdateTexts, IsAnswer, IsUpdated, ReadsUpdate, update_ending};
 ghost use Rattle.update_report.specs.Report.{report_text};
 

@@ -51,7 +51,7 @@ pub fn search_image<S: Store>(
     let conf = read_conf(alloc, tree, store)?;
     let dirs = order(alloc, tree, &conf.dirs)?;
     let paths = wanted(alloc, tree, &dirs)?;
-    let mut files = Files::new(alloc);
+    let mut files = Files::new(alloc, paths.len());
     read_files(alloc, tree, store, paths, &mut files)?;
     Ok(Search { conf, dirs, files })
 }

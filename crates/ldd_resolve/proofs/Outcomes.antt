@@ -1,13 +1,11 @@
 -- What a search gives is the next record's.
 use Rattle.std.proofs.Common.{◌≡◌, ◌+◌, ◌<◌, ℕ, suc, List, [], ◌∷◌, ◌++◌, length, map, drop, Option, Some, None, refl, arith}
-use Rattle.std.specs.Option.{option_and_then, option_map}
-use Rattle.tree_face.specs.Tree.{Nodes}
 use Rattle.path_walk.specs.Files.{file_at}
-use Rattle.rpath_search.specs.Search.{first_good, library_at}
+use Rattle.rpath_search.specs.Search.{first_good}
 use Rattle.ldd_resolve.specs.declared.search.Answer.{Answer}
 use Rattle.ldd_resolve.specs.declared.search.Answer.TheVariants as answer
 use Rattle.ldd_resolve.specs.Links.{behind}
-use Rattle.ldd_resolve.specs.Listing.{Loaded, Record, Request, Scope, found_by, is_among, loaded, places_of, requests, with_found, with_search}
+use Rattle.ldd_resolve.specs.Listing.{Loaded, Record, Request, Scope, found_by, loaded, places_of, requests, with_search}
 use Rattle.ldd_resolve.specs.declared.loading.Loading.{Loading}
 use Rattle.ldd_resolve.proofs.Standing.{drop_one, same_by, same_chain}
 use Rattle.std.proofs.lemmas.List.{get_or_append_left, length-map, map-append}

@@ -6,7 +6,7 @@ use Rattle.lib_types.specs.declared.abi.Abi.{Abi}
 use Rattle.lib_types.specs.declared.analysis.Defect.{Defect}
 use Rattle.tree_face.specs.Known.{IfKnown}
 use Rattle.tree_face.specs.Store.{Contents}
-use Rattle.tree_face.specs.Tree.{Nodes, node_at}
+use Rattle.image_tree.specs.Tree.{Nodes, node_at}
 use Rattle.path_walk.specs.Files.{file_at}
 use Rattle.elf_dynamic.specs.Analysis.{analysis}
 use Rattle.elf_dynamic.specs.Begun.{file_keys, key_in}

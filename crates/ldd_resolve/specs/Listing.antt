@@ -5,7 +5,7 @@ use Rattle.std.specs.List.{list_any}
 use Rattle.std.specs.Str.{bytes_eq}
 use Rattle.lib_types.specs.declared.abi.Abi.{Abi}
 use Rattle.tree_face.specs.Store.{Contents}
-use Rattle.tree_face.specs.Tree.{Nodes}
+use Rattle.image_tree.specs.Tree.{Nodes}
 use Rattle.path_walk.specs.Files.{file_at}
 use Rattle.elf_dynamic.specs.Begun.{file_keys}
 use Rattle.elf_dynamic.specs.declared.kinds.Dynamic.{Dynamic}

@@ -1,13 +1,14 @@
 -- How the code keeps a listing: sets of names and places, and a queue of the objects whose requests aren't answered.
-use Rattle.std.specs.Prelude.{◌≡◌, ℕ, suc, ◌||◌, ◌++◌, true, List, [], ◌∷◌, if◌then◌else◌, drop, map, Option, Some, None, IfSome, is_some}
+use Rattle.std.specs.Prelude.{◌≡◌, ◌+◌, ℕ, suc, ◌||◌, ◌++◌, true, List, [], ◌∷◌, if◌then◌else◌, drop, length, map, Option, Some, None, IfSome, is_some}
 use Rattle.std.specs.List.{IsDistinct, list_any}
 use Rattle.std.specs.Str.{bytes_eq}
 use Rattle.lib_types.specs.declared.abi.Abi.{Abi}
 use Rattle.tree_face.specs.Known.{IfKnown}
 use Rattle.tree_face.specs.Store.{Contents, StoreState}
 use Rattle.tree_face.specs.StoreUse.{Ending, ReadsFiles}
-use Rattle.tree_face.specs.Tree.{Nodes, node_at}
+use Rattle.image_tree.specs.Tree.{Nodes, node_at}
 use Rattle.elf_dynamic.specs.declared.kinds.Dynamic.{Dynamic}
+use Rattle.rpath_search.specs.Search.{is_library_at}
 use Rattle.rpath_search.specs.declared.kinds.Found.{Found}
 use Rattle.ldd_resolve.specs.declared.loading.Loading.{Loading}
 use Rattle.ldd_resolve.specs.declared.search.Answer.{Answer}
@@ -35,6 +36,19 @@ pub record IsSound (known : Option Contents) (t : Nodes) (abi : Abi) (s : Loadin
   pub outsider : IfSome s.places.outsider (λ real. is_among s.places.loaded real ≡ true)
   pub distinct : IsDistinct bytes_eq s.places.loaded
   pub nodes : (real : List ℕ) → is_among s.places.loaded real ≡ true → is_some (node_at t real) ≡ true
+
+-- what is taken into the state is a library and a node of the tree
+abbrev pub IsSoundAnswer : Option Contents → Nodes → Abi → Option Answer → Type 0
+IsSoundAnswer known t abi None = Unit {0}
+IsSoundAnswer known t abi (Some answer.Loaded) = Unit {0}
+IsSoundAnswer known t abi (Some (answer.New f)) = (is_some (node_at t f.real) ≡ true) × IfKnown known (λ held. is_library_at held t abi f.real ≡ true)
+
+-- objects are added, each of which stands in the queue
+pub record Grows (old new : Loading) : Type 0 where
+  pub more : ℕ
+  pub links : length new.links ≡ length old.links + more
+  pub places : length new.places.loaded ≡ length old.places.loaded + more
+  pub pending : length new.pending.items ≡ length old.pending.items + more
 
 -- ---- one request
 

@@ -4,7 +4,7 @@ use Rattle.lib_types.specs.declared.abi.Abi.{Abi}
 use Rattle.lib_types.specs.declared.analysis.Defect.{Defect}
 use Rattle.tree_face.specs.StoreUse.{Ending, Complete, DeviceFailed, GaveUp, ReadsFiles}
 use Rattle.tree_face.specs.Store.{Contents, StoreState}
-use Rattle.tree_face.specs.Tree.{Nodes, node_at}
+use Rattle.image_tree.specs.Tree.{Nodes, node_at}
 use Rattle.path_walk.specs.Files.{file_at}
 use Rattle.cache_reader.specs.Cache.{CachedEntry}
 use Rattle.cache_lookup.specs.Scan.{scan}
@@ -27,6 +27,12 @@ program_at t word = file_at t (from_root word)
 -- what the file at a place says of itself, or its first defect, if it is held
 abbrev pub object_at : Contents → Nodes → List ℕ → Option (Result Object Defect)
 object_at held t real = option_map object (option_and_then held (key_in (node_at t real)))
+
+-- the program's file is held, and this is its first defect
+pub record IsBadProgram (held : Contents) (t : Nodes) (word : List ℕ) (d : Defect) : Type 0 where
+  pub real : List ℕ
+  pub file : program_at t word ≡ Some real
+  pub says : object_at held t real ≡ Some (Err d)
 
 -- ---- the listing
 

@@ -1,11 +1,11 @@
 -- How the code searches a name: a path that leads to a file which is loaded already needs no reading.
-use Rattle.std.specs.Prelude.{◌≡◌, ℕ, ◌++◌, Bool, true, false, not, List, [], ◌∷◌, filter, Option, Some, None}
+use Rattle.std.specs.Prelude.{◌≡◌, ℕ, ◌++◌, Bool, true, false, not, List, [], ◌∷◌, filter, Option, Some, None, is_some}
 use Rattle.std.specs.Option.{option_map_or}
 use Rattle.std.specs.Str.{bytes_eq}
 use Rattle.lib_types.specs.declared.abi.Abi.{Abi}
 use Rattle.tree_face.specs.Store.{Contents, StoreState}
 use Rattle.tree_face.specs.StoreUse.{Ending, Complete, DeviceFailed, GaveUp, ReadsFiles}
-use Rattle.tree_face.specs.Tree.{Nodes}
+use Rattle.image_tree.specs.Tree.{Nodes, node_at}
 use Rattle.path_walk.specs.Files.{file_at}
 use Rattle.elf_dynamic.specs.Begun.{ReadsBy, file_keys, lacks_one}
 use Rattle.rpath_search.specs.Search.{files_of, first_good, is_good, is_library_at, library_at}
@@ -35,6 +35,7 @@ keys_for t places path = file_keys t (filter (λ real. not (is_among places real
 pub record IsNewAt (t : Nodes) (places : List (List ℕ)) (f : Found) : Type 0 where
   pub leads : file_at t f.path ≡ Some f.real
   pub unloaded : is_among places f.real ≡ false
+  pub node : is_some (node_at t f.real) ≡ true
 
 -- what is found is a file that is loaded, or a new one
 pub record IsThere (places : List (List ℕ)) : Type 0 where

@@ -1,8 +1,9 @@
 //! What a listing is, and why there is none.
 ghost use Rattle.std.specs.Prelude.{◌≡◌};
-ghost use Rattle.ldd_resolve.specs.Faults.{of_search};
+ghost use Rattle.ldd_resolve.specs.Faults.{of_object, of_search};
 ghost use Rattle.ldd_resolve.specs.declared.kinds.ResolveFault.TheVariants as faults;
 
+use elf_dynamic::ObjectFault;
 use lib_types::{Defect, NoMemory, Seq, Text};
 use rpath_search::SearchFault;
 
@@ -44,6 +45,18 @@ impl From<SearchFault> for ResolveFault {
         match fault {
             SearchFault::StoreFault => ResolveFault::StoreFault,
             SearchFault::NoMemory => ResolveFault::NoMemory,
+        }
+    }
+}
+
+impl From<ObjectFault> for ResolveFault {
+    ghost from_gives = { λ fault e. e ≡ of_object fault };
+
+    fn from(fault: ObjectFault) -> Self {
+        match fault {
+            ObjectFault::Bad(defect) => ResolveFault::BadProgram(defect),
+            ObjectFault::StoreFault => ResolveFault::StoreFault,
+            ObjectFault::NoMemory => ResolveFault::NoMemory,
         }
     }
 }

@@ -4,6 +4,11 @@
 mod kinds;
 mod links;
 mod loading;
+mod printing;
+mod requests;
+mod resolving;
 mod search;
 
 pub use kinds::{Item, Listing, ResolveFault};
+pub use printing::listing_text;
+pub use resolving::resolve;

@@ -1,7 +1,10 @@
 //! A listing that is made, request by request.
-ghost use Rattle.std.specs.Prelude.{◌≡◌, ◌<◌, ◌||◌, [], ℕ, Some, None, List, false, length, option_to_list, IfOk, IfSome, OnOk};
+ghost use Rattle.std.specs.Prelude.{◌≡◌, ◌<◌, ◌||◌, [], ℕ, Option, Some, None, List, false, length, option_to_list, IfOk, IfSome, OnOk};
+ghost use Rattle.lib_types.specs.declared.abi.Abi.{Abi};
+ghost use Rattle.tree_face.specs.Store.{Contents};
+ghost use Rattle.image_tree.specs.Tree.{Nodes};
 ghost use Rattle.ldd_resolve.specs.Listing.{is_among, needed_in, owner_of, soname_in};
-ghost use Rattle.ldd_resolve.specs.Loading.{AddsFound, AddsMissing, AddsObject, TakesAnswer};
+ghost use Rattle.ldd_resolve.specs.Loading.{AddsFound, AddsMissing, AddsObject, Grows, IsSound, IsSoundAnswer, TakesAnswer};
 ghost use Rattle.ldd_resolve.specs.Searching.{IsUnloaded};
 
 use crate::kinds::{Item, Listing};
@@ -169,6 +172,9 @@ impl Loading {
         requires loader { loader < length self.old.links }
         requires new { IsUnloaded self.old.places.loaded answer }
         ensures stands { OnOk result (TakesAnswer self.old self.new name answer loader) }
+        ensures sound { (known : Option Contents) (t : Nodes) (abi : Abi) → IsSound known t abi self.old → IsSoundAnswer known t abi answer
+            → OnOk result (IsSound known t abi self.new) }
+        ensures grows { OnOk result (Grows self.old self.new) }
     {
         match answer {
             Some(Answer::Loaded) => self.names.insert(name),

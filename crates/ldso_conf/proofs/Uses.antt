@@ -23,7 +23,7 @@ use Rattle.ldso_conf.specs.declared.fault.ConfFault.TheVariants.{StoreFault, NoM
 use Rattle.ldso_conf.specs.declared.kinds.ConfReport.{ConfReport}
 use Rattle.ldso_conf.specs.declared.reading.TheConstants.{CONF_MAX}
 use Rattle.ldso_conf.specs.declared.steps.Step.{Step}
-use Rattle.tree_face.specs.declared.path.TheConstants.{PATH_MAX}
+use Rattle.image_tree.specs.declared.path.TheConstants.{PATH_MAX}
 use Rattle.ldso_conf.proofs.Visiting.{take_dir, take_report}
 use Rattle.ldso_conf.proofs.Items.{behind, taken_more, until_behind, until_parts, until_whole}
 

@@ -6,8 +6,8 @@ use Rattle.std.specs.List.{flat_map}
 use Rattle.lib_types.proofs.SortedPairs.{by_test}
 use Rattle.tree_face.specs.Known.{IfKnown}
 use Rattle.tree_face.specs.Store.{Contents}
-use Rattle.tree_face.specs.Tree.{Nodes, node_at}
-use Rattle.tree_face.specs.declared.path.TheConstants.{PATH_MAX}
+use Rattle.image_tree.specs.Tree.{Nodes, node_at}
+use Rattle.image_tree.specs.declared.path.TheConstants.{PATH_MAX}
 use Rattle.conf_patterns.specs.Patterns.{Found}
 use Rattle.ldso_conf.specs.Reading.{Item, Reports, asked, begun, included, included_by, key_in, named, place_in, reported, steps_in, was_read, with_steps}
 use Rattle.ldso_conf.specs.Steps.{steps_of}

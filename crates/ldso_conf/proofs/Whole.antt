@@ -6,7 +6,7 @@ use Rattle.std.specs.Prelude.{IsSomeAnd, option_map}
 use Rattle.tree_face.specs.Known.{IfKnown}
 use Rattle.tree_face.specs.Store.{Contents, StoreState}
 use Rattle.tree_face.specs.StoreUse.{Ending, Complete, GaveUp, ReadsFiles}
-use Rattle.tree_face.specs.Tree.{Nodes}
+use Rattle.image_tree.specs.Tree.{Nodes}
 use Rattle.conf_patterns.specs.Patterns.{found_at, place_at}
 use Rattle.ldso_conf.specs.Reading.{Item, all_from, conf_bytes, conf_items, conf_keys, conf_lacks, conf_path, dir_in, included, key_begun, reading, report_in, IsConfOf, ReadsConf}
 use Rattle.ldso_conf.specs.Visits.{Progress, HasTaken, IsConfFrom, ReadsItems, nothing_read}

@@ -1,8 +1,8 @@
 -- What each line of a conf file asks for (ldconfig(8)), as a list of steps.
 use Rattle.std.specs.Prelude.{ℕ, List, [], ◌∷◌, ◌==◌, if◌then◌else◌, map, flat_map, length, Option, Some, None}
 use Rattle.std.specs.List.{list_any}
-use Rattle.tree_face.specs.Paths.{root}
-use Rattle.tree_face.specs.Tree.{Nodes}
+use Rattle.image_tree.specs.Paths.{root}
+use Rattle.image_tree.specs.Tree.{Nodes}
 use Rattle.conf_patterns.specs.Bytes.{is_in, slashes, without_end}
 use Rattle.ldso_conf.specs.Lines.{lines_of, text_of, words_of, arguments_of, include, hwcap, equals, before_equals}
 use Rattle.conf_patterns.specs.Patterns.{Found, is_absolute, results}

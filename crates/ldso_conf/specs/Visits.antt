@@ -4,8 +4,8 @@ use Rattle.std.specs.List.{list_any}
 use Rattle.std.specs.declared.alloc.Global.{Global}
 use Rattle.tree_face.specs.Store.{Contents, Lacks, StoreState}
 use Rattle.tree_face.specs.StoreUse.{Ending, Complete, ReadsFiles}
-use Rattle.tree_face.specs.Tree.{Nodes, node_at}
-use Rattle.tree_face.specs.declared.path.TheConstants.{PATH_MAX}
+use Rattle.image_tree.specs.Tree.{Nodes, node_at}
+use Rattle.image_tree.specs.declared.path.TheConstants.{PATH_MAX}
 use Rattle.conf_patterns.specs.Patterns.{Found}
 use Rattle.ldso_conf.specs.Reading.{Item, bytes_taken, dir_in, included, is_missing, key_begun, key_in, place_in, report_in, reported, steps_in, until_missing, was_read}
 use Rattle.ldso_conf.specs.declared.kinds.Conf.{Conf}

@@ -21,7 +21,7 @@ pub(crate) struct Reader {
 
 impl Model for Reader {
     ghost use Rattle.std.specs.Prelude.{◌≤◌, All, length};
-    ghost use Rattle.tree_face.specs.declared.path.TheConstants.{PATH_MAX};
+    ghost use Rattle.image_tree.specs.declared.path.TheConstants.{PATH_MAX};
     ghost use Rattle.ldso_conf.specs.Visits.{Progress};
 
     ghost Value = { Progress };

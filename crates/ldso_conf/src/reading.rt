@@ -3,7 +3,7 @@ ghost use Rattle.std.specs.Prelude.{◌≡◌, ◌≤◌, ◌-◌, ◌+◌, fals
 ghost use Rattle.std.specs.Option.{option_copied};
 ghost use Rattle.lib_types.specs.Counts.{raised};
 ghost use Rattle.tree_face.specs.Known.{IfKnown};
-ghost use Rattle.tree_face.specs.Tree.{node_at};
+ghost use Rattle.image_tree.specs.Tree.{node_at};
 ghost use Rattle.ldso_conf.specs.Endings.{ending_of};
 ghost use Rattle.ldso_conf.specs.Reading.{begun, included, key_in, reported, was_read, IsConfOf, ReadsConf};
 ghost use Rattle.ldso_conf.specs.Visits.{with_report, HasLoaded, HasTaken, IsToBegin, ReadsFile, ReadsItems};

@@ -8,11 +8,11 @@ use Rattle.std.proofs.lemmas.List.{append-nil}
 use Rattle.std.proofs.lemmas.List.Folds.{list_all-append}
 use Rattle.std.proofs.lemmas.List.Splits.{slice_split-cons_yes, slice_split-cons_no, length-slice_split}
 use Rattle.lib_types.specs.Name.{is_name}
-use Rattle.tree_face.specs.Node.{has_no_nul}
+use Rattle.image_tree.specs.Node.{has_no_nul}
 use Rattle.mtree_manifest.specs.Decoding.{first_byte, escape_by, octal_at}
 use Rattle.mtree_manifest.specs.Escape.{decoded, escaped, escaped_byte, octal_digits, is_plain, backslash, letter, octal, in_front}
 use Rattle.mtree_manifest.specs.Lines.{goes_on}
-use Rattle.tree_face.specs.Paths.{is_slash, is_kept}
+use Rattle.image_tree.specs.Paths.{is_slash, is_kept}
 use Rattle.mtree_manifest.specs.Paths.{decoded_each}
 use Rattle.mtree_manifest.specs.Range.{AreBytes}
 use Rattle.mtree_manifest.proofs.Decode.{decoded_step, decoded_plain, then_rest, decoded_nil, plain_decoded}

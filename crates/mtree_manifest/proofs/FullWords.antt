@@ -6,7 +6,7 @@ use Rattle.std.specs.Str.{bytes_eq}
 use Rattle.std.proofs.lemmas.Bool.{and_parts, and_from, or_right, eqb-true, ne_eqb, cond-true}
 use Rattle.std.proofs.lemmas.List.Splits.{join_with_byte-slice_split, length-slice_split}
 use Rattle.lib_types.specs.Name.{is_name}
-use Rattle.tree_face.specs.Paths.{is_slash, is_kept, is_path, are_names}
+use Rattle.image_tree.specs.Paths.{is_slash, is_kept, is_path, are_names}
 use Rattle.mtree_manifest.specs.Escape.{backslash}
 use Rattle.mtree_manifest.specs.Keys.{fault_unless}
 use Rattle.mtree_manifest.specs.Naming.{LeadsTo}

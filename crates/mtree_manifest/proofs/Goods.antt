@@ -1,14 +1,13 @@
 -- Lines without a fault have a node that may stand at their path.
 use Rattle.std.proofs.Common.{◌≡◌, ℕ, Bool, true, false, cond, leb, not, ◌&&◌, ◌||◌, eqb, List, [], ◌∷◌, length, codes, Option, Some, None, Result, Ok, Err, unwrap_or, refl, ap, sym, subst, ◌∙◌, arith}
-use Rattle.std.specs.Option.{is_none, MatchOption, IsSome, IsNone}
-use Rattle.std.specs.Result.{result_ok, result_err}
+use Rattle.std.specs.Option.{is_none}
 use Rattle.std.specs.List.{fold, position}
 use Rattle.std.specs.Str.{bytes_eq}
 use Rattle.std.proofs.lemmas.Bool.{and_parts, and_from, le-leb, not-true}
-use Rattle.tree_face.specs.declared.node.Node.{Node}
-use Rattle.tree_face.specs.declared.node.Node.TheVariants as node
-use Rattle.tree_face.specs.Node.{is_node, is_key, is_target, has_no_nul}
-use Rattle.tree_face.specs.Paths.{is_path}
+use Rattle.image_tree.specs.declared.node.Node.{Node}
+use Rattle.image_tree.specs.declared.node.Node.TheVariants as node
+use Rattle.image_tree.specs.Node.{is_node, is_key, is_target, has_no_nul}
+use Rattle.image_tree.specs.Paths.{is_path}
 use Rattle.mtree_manifest.specs.Escape.{decoded, in_front}
 use Rattle.mtree_manifest.specs.Good.{IsGood, IsGoodAt, IsGoodBehind, IsGoodOpen, are_good, is_good_link, is_good_contents}
 use Rattle.mtree_manifest.specs.Progress.{Open, started, given_by_head, with_word_behind, with_word, line_ended, reading_behind, reading_of}
@@ -16,12 +15,12 @@ use Rattle.mtree_manifest.specs.Keys.{Values, Given, no_values, given_by, divide
 use Rattle.mtree_manifest.specs.Decoding.{first_byte}
 use Rattle.mtree_manifest.proofs.Names.{path_key}
 use Rattle.mtree_manifest.proofs.Decode.{decoded_step, then_rest}
-use Rattle.mtree_manifest.specs.Manifest.{State, ◌>>=◌, Faulty, Defaults, Puts, head_of, with_put, with_node, with_reading, entry_fault, entry, node_of, node_by, text_of, key_of, id_of, target_fault, unless_faulty, put_by, stack_behind, is_dir, outcome}
+use Rattle.mtree_manifest.specs.Manifest.{State, ◌>>=◌, Faulty, Defaults, Puts, head_of, with_put, with_node, with_reading, entry_fault, entry, node_of, node_by, text_of, key_of, id_of, target_fault, unless_faulty, put_by, stack_behind, is_dir}
 use Rattle.mtree_manifest.specs.Paths.{Stack, closed, place, place_fault_of, path_of, names_of, below, base_of, is_place, is_directive}
 use Rattle.mtree_manifest.specs.declared.fault.LineKind.{LineKind}
 use Rattle.mtree_manifest.specs.declared.fault.LineKind.TheVariants.{BadLine}
 use Rattle.mtree_manifest.specs.declared.fault.ManifestFault.{ManifestFault}
-use Rattle.tree_face.specs.Tree.{Nodes}
+use Rattle.image_tree.specs.Tree.{Nodes}
 use Rattle.mtree_manifest.specs.declared.keys.Keyword.{Keyword}
 use Rattle.mtree_manifest.specs.declared.keys.Keyword.TheVariants as keyword
 use Rattle.mtree_manifest.specs.declared.line.Head.{Head}
@@ -30,7 +29,7 @@ use Rattle.mtree_manifest.specs.declared.keys.LineType.{LineType}
 use Rattle.mtree_manifest.specs.declared.keys.LineType.TheVariants as types
 
 -- no fault of a line is none of its parts
-neither : (a b : Option LineKind) → first_fault a b ≡ None → (a ≡ None) × (b ≡ None)
+pub neither : (a b : Option LineKind) → first_fault a b ≡ None → (a ≡ None) × (b ≡ None)
 neither None b e = (refl, e)
 neither (Some x) None e = absurd (cc)
 neither (Some x) (Some y) e = absurd (chosen (leb (rank x) (rank y)) e)

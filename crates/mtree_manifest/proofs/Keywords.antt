@@ -11,10 +11,10 @@ use Rattle.std.proofs.lemmas.Fmt.{digits_decimal, digits_value-decimal, length-d
 use Rattle.std.proofs.lemmas.List.{append-nil}
 use Rattle.std.proofs.lemmas.List.Concat.{flat_map-append}
 use Rattle.std.proofs.lemmas.List.Folds.{list_all-append}
-use Rattle.tree_face.specs.declared.node.Id.{Id}
-use Rattle.tree_face.specs.declared.node.Node.{Node}
-use Rattle.tree_face.specs.declared.node.Node.TheVariants as node
-use Rattle.tree_face.specs.Node.{is_node, is_key, is_target, has_no_nul}
+use Rattle.image_tree.specs.declared.node.Id.{Id}
+use Rattle.image_tree.specs.declared.node.Node.{Node}
+use Rattle.image_tree.specs.declared.node.Node.TheVariants as node
+use Rattle.image_tree.specs.Node.{is_node, is_key, is_target, has_no_nul}
 use Rattle.mtree_manifest.specs.Canon.{id_words, key_words, node_words, node_line}
 use Rattle.mtree_manifest.specs.Escape.{escaped}
 use Rattle.mtree_manifest.specs.Keys.{Values, Given, no_values, given, given_word, given_by, divided, is_equals, keyword_of, value_fault, with_value, number_of, text_fault, fault_unless, is_link_text}

@@ -1,3 +1,4 @@
+pub mod Beside
 pub mod Counting
 pub mod Decode
 pub mod Escaping
@@ -12,3 +13,4 @@ pub mod RoundTrip
 pub mod Tokens
 pub mod Opening
 pub mod Spelling
+mod Singles

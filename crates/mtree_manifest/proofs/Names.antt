@@ -9,8 +9,8 @@ use Rattle.std.proofs.lemmas.List.Splits.{join_with_byte-slice_split, length-sli
 use Rattle.std.proofs.lemmas.Str.{IsUtf8-append, IsUtf8-from_ascii, IsUtf8-from_is_utf8, is_utf8-from_IsUtf8}
 use Rattle.std.proofs.lemmas.Str.Ascii.{IsAscii-cons}
 use Rattle.lib_types.specs.Name.{is_name, are_dots, have_no_slash}
-use Rattle.tree_face.specs.Node.{is_key, is_target, has_no_nul}
-use Rattle.tree_face.specs.Paths.{is_path, are_names, root}
+use Rattle.image_tree.specs.Node.{is_key, is_target, has_no_nul}
+use Rattle.image_tree.specs.Paths.{is_path, are_names, root}
 
 -- what a name is, as facts
 pub record IsName (name : List ℕ) : Type 0 where

@@ -5,7 +5,7 @@ use Rattle.std.proofs.lemmas.Bool.{eq-eqb, ne_eqb}
 use Rattle.std.proofs.lemmas.List.{append-nil}
 use Rattle.std.proofs.Math.Seq.{drop-append_seam}
 use Rattle.lib_types.specs.Name.{is_name}
-use Rattle.tree_face.specs.Paths.{is_path}
+use Rattle.image_tree.specs.Paths.{is_path}
 use Rattle.mtree_manifest.specs.Paths.{Stack, current, is_full, below, is_place, place_fault_of, path_of, place, names_of}
 use Rattle.mtree_manifest.specs.Naming.{Names, is_place_behind, place_fault_behind}
 

@@ -12,7 +12,7 @@ use Rattle.mtree_manifest.specs.declared.line.Head.TheVariants as head
 
 -- ---- one line
 
-behind_first : (n : ℕ) (h : Head) (first : List ℕ) (g : Given) (rest : List (List ℕ)) → fold with_word (record { number = n; first = Some (h, first); given = g }) rest ≡ record { number = n; first = Some (h, first); given = fold (given_by_head h) g rest }
+pub behind_first : (n : ℕ) (h : Head) (first : List ℕ) (g : Given) (rest : List (List ℕ)) → fold with_word (record { number = n; first = Some (h, first); given = g }) rest ≡ record { number = n; first = Some (h, first); given = fold (given_by_head h) g rest }
 behind_first n h first g [] = refl
 behind_first n h first g (word ∷ rest) = behind_first n h first (given_by_head h g word) rest
 

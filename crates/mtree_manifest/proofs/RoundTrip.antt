@@ -12,12 +12,12 @@ use Rattle.std.proofs.lemmas.List.{append-nil}
 use Rattle.std.proofs.lemmas.List.Folds.{list_all-append}
 use Rattle.std.proofs.lemmas.Map.Keys.{sorted_head, sorted_tail}
 use Rattle.lib_types.proofs.SortedPairs.{put_step, flipped}
-use Rattle.tree_face.specs.declared.node.Node.{Node}
-use Rattle.tree_face.specs.declared.tree.TheConstants.{NODES_MAX}
-use Rattle.tree_face.specs.Node.{is_node}
-use Rattle.tree_face.specs.Paths.{is_slash, is_kept, is_path, path_cmp}
-use Rattle.tree_face.specs.Tree.{Nodes, IsTree, is_entry, clashes, clash_with, has_no_room}
-use Rattle.tree_face.proofs.Order.{path_total}
+use Rattle.image_tree.specs.declared.node.Node.{Node}
+use Rattle.image_tree.specs.declared.tree.TheConstants.{NODES_MAX}
+use Rattle.image_tree.specs.Node.{is_node}
+use Rattle.image_tree.specs.Paths.{is_slash, is_kept, is_path, path_cmp}
+use Rattle.image_tree.specs.Tree.{Nodes, IsTree, is_entry, clashes, clash_with, has_no_room}
+use Rattle.image_tree.proofs.Order.{path_total}
 use Rattle.bstr.proofs.lemmas.LineLemmas.{lines-nil}
 use Rattle.bstr.specs.Text.{without_terminator}
 use Rattle.mtree_manifest.specs.Canon.{canon, node_line}

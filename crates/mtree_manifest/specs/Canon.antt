@@ -1,10 +1,10 @@
 -- The canonical text of a tree: one line for each node (mtree(5)).
 use Rattle.std.specs.Prelude.{ℕ, List, [], ◌∷◌, ◌++◌, codes, drop, flat_map, if◌then◌else◌, Option, Some, None, decimal}
 use Rattle.std.specs.Str.{bytes_eq}
-use Rattle.tree_face.specs.declared.node.Id.{Id}
-use Rattle.tree_face.specs.declared.node.Node.{Node}
-use Rattle.tree_face.specs.declared.node.Node.TheVariants.{Dir, File, Link}
-use Rattle.tree_face.specs.Tree.{Nodes}
+use Rattle.image_tree.specs.declared.node.Id.{Id}
+use Rattle.image_tree.specs.declared.node.Node.{Node}
+use Rattle.image_tree.specs.declared.node.Node.TheVariants.{Dir, File, Link}
+use Rattle.image_tree.specs.Tree.{Nodes}
 use Rattle.mtree_manifest.specs.Escape.{escaped}
 
 abbrev pub id_words : Option Id → List ℕ

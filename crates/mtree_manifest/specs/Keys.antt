@@ -4,7 +4,7 @@ use Rattle.std.specs.List.{list_any, list_all}
 use Rattle.std.specs.Char.{is_ascii_digit}
 use Rattle.std.specs.Str.{byte, bytes_eq}
 use Rattle.std.specs.Str.Parse.{digits_value}
-use Rattle.tree_face.specs.Node.{has_no_nul, is_key}
+use Rattle.image_tree.specs.Node.{has_no_nul, is_key}
 use Rattle.mtree_manifest.specs.Escape.{decoded}
 use Rattle.mtree_manifest.specs.declared.fault.LineKind.{LineKind}
 use Rattle.mtree_manifest.specs.declared.fault.LineKind.TheVariants.{BadEscape, BadLine, BadNumber, BadType, NoTarget}

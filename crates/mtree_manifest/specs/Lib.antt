@@ -9,9 +9,11 @@ pub mod Lining
 pub mod Manifest
 pub mod Naming
 pub mod Parts
+pub mod Plain
 pub mod Paths
 pub mod Progress
 pub mod Range
 pub mod Reader
+pub mod Single
 pub mod Stacks
 pub mod Views

@@ -1,12 +1,12 @@
 -- The tree of a manifest (mtree(5)), or its first bad line.
-use Rattle.std.specs.Prelude.{ℕ, Bool, true, false, List, [], ◌∷◌, ◌++◌, ◌==◌, ◌&&◌, not, nat_le, nat_eq, if◌then◌else◌, codes, length, drop, unwrap_or, Option, Some, None, option_map, MatchOption, IsSome, IsNone, Result, Ok, Err}
+use Rattle.std.specs.Prelude.{ℕ, Bool, true, false, List, [], ◌∷◌, ◌++◌, ◌==◌, ◌&&◌, not, nat_le, nat_eq, if◌then◌else◌, codes, length, drop, unwrap_or, Option, Some, None, option_map, Result, Ok, Err}
 use Rattle.std.specs.List.{starts_with}
 use Rattle.std.specs.Result.{result_ok, result_err}
 use Rattle.std.specs.Str.{bytes_eq}
-use Rattle.tree_face.specs.declared.node.Id.{Id}
-use Rattle.tree_face.specs.declared.node.Node.{Node}
-use Rattle.tree_face.specs.declared.node.Node.TheVariants as node
-use Rattle.tree_face.specs.Tree.{Nodes, put, clashes, has_no_room}
+use Rattle.image_tree.specs.declared.node.Id.{Id}
+use Rattle.image_tree.specs.declared.node.Node.{Node}
+use Rattle.image_tree.specs.declared.node.Node.TheVariants as node
+use Rattle.image_tree.specs.Tree.{Nodes, put, clashes, has_no_room}
 use Rattle.mtree_manifest.specs.Escape.{decoded}
 use Rattle.mtree_manifest.specs.Keys.{Values, Given, no_values, given, unset, first_fault, fault_unless}
 use Rattle.mtree_manifest.specs.Lines.{Line, lines_in}

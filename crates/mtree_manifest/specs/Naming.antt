@@ -2,7 +2,7 @@
 use Rattle.std.specs.Prelude.{◌≡◌, ℕ, Bool, List, ◌==◌, ◌&&◌, ◌||◌, not, length, Option, Some, None, option_map}
 use Rattle.std.specs.List.{list_all}
 use Rattle.lib_types.specs.Name.{is_name}
-use Rattle.tree_face.specs.Paths.{is_path}
+use Rattle.image_tree.specs.Paths.{is_path}
 use Rattle.mtree_manifest.specs.Keys.{fault_unless}
 use Rattle.mtree_manifest.specs.declared.fault.LineKind.{LineKind}
 use Rattle.mtree_manifest.specs.declared.fault.LineKind.TheVariants.{BadLine}

@@ -2,7 +2,7 @@
 use Rattle.std.specs.Prelude.{ℕ, Bool, List, [], Option, Some, None}
 use Rattle.std.specs.List.{slice_split}
 use Rattle.mtree_manifest.specs.Lines.{is_blank}
-use Rattle.tree_face.specs.Paths.{is_slash}
+use Rattle.image_tree.specs.Paths.{is_slash}
 use Rattle.mtree_manifest.specs.declared.parts.Separator.{Separator}
 use Rattle.mtree_manifest.specs.declared.parts.Separator.TheVariants.{Blank, Slash}
 

@@ -2,7 +2,7 @@
 use Rattle.std.specs.Prelude.{ℕ, ◌-◌, Bool, List, [], ◌∷◌, ◌++◌, ◌==◌, ◌&&◌, ◌||◌, not, nat_eq, if◌then◌else◌, length, take, drop, flat_map, slice_index_or, Option, Some, None, option_map, option_and_then}
 use Rattle.std.specs.List.{list_any, list_all, starts_with}
 use Rattle.lib_types.specs.Name.{slash, is_name}
-use Rattle.tree_face.specs.Paths.{root, is_slash, components, is_path}
+use Rattle.image_tree.specs.Paths.{root, is_slash, components, is_path}
 use Rattle.mtree_manifest.specs.Escape.{decoded}
 use Rattle.mtree_manifest.specs.Keys.{fault_unless}
 use Rattle.mtree_manifest.specs.declared.fault.LineKind.{LineKind}

@@ -1,10 +1,10 @@
 -- Bytes are below 256, and the numbers of an identity below 2^64.
 use Rattle.std.specs.Prelude.{ℕ, ◌<◌, ◌^◌, List, Option, Some, None}
 use Rattle.std.specs.List.{AllByRecursion}
-use Rattle.tree_face.specs.declared.node.Id.{Id}
-use Rattle.tree_face.specs.declared.node.Node.{Node}
-use Rattle.tree_face.specs.declared.node.Node.TheVariants.{Dir, File, Link}
-use Rattle.tree_face.specs.Tree.{Nodes}
+use Rattle.image_tree.specs.declared.node.Id.{Id}
+use Rattle.image_tree.specs.declared.node.Node.{Node}
+use Rattle.image_tree.specs.declared.node.Node.TheVariants.{Dir, File, Link}
+use Rattle.image_tree.specs.Tree.{Nodes}
 
 abbrev pub AreBytes : List ℕ → Type 0
 AreBytes bytes = AllByRecursion (λ b. b < 256) bytes

@@ -1,7 +1,7 @@
 -- What the code's values stand for.
 use Rattle.std.specs.Prelude.{ℕ, Bool, true, false, List, Option}
 use Rattle.std.specs.Option.{option_copied}
-use Rattle.tree_face.specs.Node.{is_key}
+use Rattle.image_tree.specs.Node.{is_key}
 use Rattle.mtree_manifest.specs.Escape.{decoded}
 use Rattle.mtree_manifest.specs.Keys.{Values, Given, is_link_text, text_fault, fault_unless}
 use Rattle.mtree_manifest.specs.declared.fault.LineKind.{LineKind}

@@ -1,19 +1,20 @@
 //! What a line with a path makes.
 ghost use Rattle.std.specs.Prelude.{◌≡◌, None, drop, IfOk, IfSome, IsErrOf, OnOk, IsTrue};
 ghost use Rattle.std.specs.Option.{option_copied};
-ghost use Rattle.tree_face.specs.Node.{is_node};
-ghost use Rattle.tree_face.specs.Paths.{is_path};
-ghost use Rattle.tree_face.specs.Tree.{IsFullFor};
+ghost use Rattle.image_tree.specs.Node.{is_node};
+ghost use Rattle.image_tree.specs.Paths.{is_path};
+ghost use Rattle.image_tree.specs.Tree.{IsFullFor};
 ghost use Rattle.mtree_manifest.specs.Ends.{Ends};
 ghost use Rattle.mtree_manifest.specs.Manifest.{text_of, key_of, id_of, node_of, is_dir, is_link, target_fault, with_node};
 ghost use Rattle.mtree_manifest.specs.Paths.{names_of, place_fault_of, path_of, base_by};
-ghost use Rattle.mtree_manifest.specs.Naming.{LeadsTo, is_place_behind, place_fault_behind};
+ghost use Rattle.mtree_manifest.specs.Naming.{is_place_behind, place_fault_behind};
 ghost use Rattle.mtree_manifest.specs.Views.{values_in};
 
-use crate::escape::{decode, has_backslash};
+use crate::escape::decode;
 use crate::fault::{LineKind, ManifestFault};
 use crate::keys::{Keys, LineType, fault_unless};
 use crate::paths::{append_names, behind_first, is_directive, is_full};
+use crate::plain::KnownPath;
 use lib_types::{NoMemory, Text};
 use std::alloc::Global;
 use tree_face::{Id, Node, Tree, TreeFault, is_path};
@@ -73,32 +74,20 @@ fn place_fault(word: &[u8], is_place: bool) -> Option<LineKind>
     fault_unless(!is_directive(word) && is_place, LineKind::BadLine)
 }
 
-// The path of a first word that is a dot and a path without escapes, as most first words are.
-#[tactic(auto, using(crate::proofs::FullWords::dotted_path))]
-fn dotted_path(word: &[u8]) -> Option<&[u8]>
-    ensures { IfSome result (λ path. LeadsTo word.now path.now) }
-{
-    let path = behind_first(word);
-    if word.starts_with(b".") && is_path(path) && !has_backslash(path) {
-        Some(path)
-    } else {
-        None
-    }
-}
-
 /// Fills the buffer with where a first word leads, in or below the current directory. Says what is wrong with the word.
 #[tactic(auto, using(crate::proofs::Places::fault_behind))]
-pub(crate) fn find_place(
+pub(crate) fn find_place<'a>(
     path: &mut Vec<u8>,
+    known: &mut KnownPath<'a>,
     current: &[u8],
     is_dir: bool,
-    word: &[u8],
+    word: &'a [u8],
 ) -> Result<Option<LineKind>, NoMemory>
-    ensures fault { IfOk result (λ fault. fault ≡ place_fault_of is_dir (base_by word.now current.now) word.now (names_of word.now)) }
-    ensures place { IfOk result (λ fault. fault ≡ None → path.new.items ≡ path_of (names_of word.now) (base_by word.now current.now)) }
+    ensures fault { IfOk result (λ fault. fault ≡ place_fault_of is_dir (base_by word.entry.now current.now) word.entry.now (names_of word.entry.now)) }
+    ensures place { IfOk result (λ fault. fault ≡ None → path.new.items ≡ path_of (names_of word.entry.now) (base_by word.entry.now current.now)) }
 {
-    if let Some(dotted) = dotted_path(word) {
-        fill(path, dotted)?;
+    if let Some(plain) = known.next_path(word) {
+        fill(path, plain)?;
         return Ok(None);
     }
     begin_at(path, current, word)?;

@@ -35,6 +35,13 @@ pub enum ManifestFault {
     NoMemory,
 }
 
+/// Why a line by itself was not read.
+#[derive(Clone, Copy, Debug, PartialEq, Eq)]
+pub enum EntryLineFault {
+    Bad(LineKind),
+    NoMemory,
+}
+
 impl From<NoMemory> for ManifestFault {
     ghost use Rattle.mtree_manifest.specs.declared.fault.ManifestFault.TheVariants as faults;
 
@@ -62,5 +69,15 @@ impl<T: Drop> From<AllocFailed<T>> for ManifestFault {
 
     fn from(_: AllocFailed<T>) -> Self {
         ManifestFault::NoMemory
+    }
+}
+
+impl From<NoMemory> for EntryLineFault {
+    ghost use Rattle.mtree_manifest.specs.declared.fault.EntryLineFault.TheVariants as faults;
+
+    ghost from_gives = { λ _ e. e ≡ faults.NoMemory };
+
+    fn from(_: NoMemory) -> Self {
+        EntryLineFault::NoMemory
     }
 }

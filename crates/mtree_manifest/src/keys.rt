@@ -3,14 +3,14 @@ ghost use Rattle.std.specs.Prelude.{◌≡◌, ◌<◌, ◌≤◌, ◌^◌, if�
 ghost use Rattle.std.specs.List.{list_any, list_all};
 ghost use Rattle.std.specs.Char.{is_ascii_digit};
 ghost use Rattle.std.specs.Str.Parse.{digits_value};
-ghost use Rattle.tree_face.specs.Node.{is_key, has_no_nul};
+ghost use Rattle.image_tree.specs.Node.{is_key, has_no_nul};
 ghost use Rattle.mtree_manifest.specs.Keys.{rank, first_fault, fault_unless, keyword_of, is_known, type_of, is_type, no_node_types, number_of, is_link_text, without, given_by, given_word, unset_word, is_equals, no_values};
 ghost use Rattle.mtree_manifest.specs.declared.fault.LineKind.TheVariants.{BadNumber};
 ghost use Rattle.mtree_manifest.specs.Views.{values_in, given_in, fault_of_text, written_fault};
 
 use crate::escape::{decode, has_backslash};
 use crate::fault::LineKind;
-use lib_types::{NoMemory, find_byte, is_utf8};
+use lib_types::{NoMemory, is_utf8};
 use std::alloc::Global;
 
 /// The keywords that have a meaning here, and all others.
@@ -177,30 +177,35 @@ fn long_number(value: &[u8]) -> Option<u64>
     }
 }
 
-// The number that fewer digits write, which is below 2^64.
-fn short_number(value: &[u8]) -> u64
+// The number that fewer digits write, which is below 2^64, in one pass.
+#[tactic(auto, using(crate::proofs::Numbers::no_digits))]
+fn short_number(value: &[u8]) -> Option<u64>
     requires few { length value.now ≤ 19 }
-    requires digits { IsTrue (list_all is_ascii_digit value.now) }
-    ensures { result ≡ digits_value 10 value.now }
+    ensures { result ≡ (if list_all is_ascii_digit value.now then Some (digits_value 10 value.now) else None) }
 {
     let mut number = 0;
     for &digit in value {
+        if !digit.is_ascii_digit() {
+            return None;
+        }
         number = 10 * number + u64::from(digit - b'0');
     }
-    number
+    Some(number)
 }
 
 #[tactic(auto, using(crate::proofs::Numbers::short_fits))]
 fn number_of(value: &[u8]) -> Option<u64>
     ensures { result ≡ number_of value.now }
 {
-    if value.is_empty() || value.len() > 20 || !are_digits(value) {
+    if value.is_empty() || value.len() > 20 {
         return None;
     }
     if value.len() < 20 {
-        Some(short_number(value))
-    } else {
+        short_number(value)
+    } else if are_digits(value) {
         long_number(value)
+    } else {
+        None
     }
 }
 
@@ -332,7 +337,7 @@ fn first_equals(word: &[u8]) -> Option<usize>
     ensures place { result ≡ position is_equals word.now }
     ensures within { IfSome result (λ n. n < length word.now) }
 {
-    find_byte(b'=', word)
+    word.iter().position(|&b| b == b'=')
 }
 
 /// Adds what one word more gives.

@@ -9,9 +9,12 @@ mod keys;
 mod line;
 mod parts;
 mod paths;
+mod plain;
 mod reader;
+mod single;
 mod writer;
 
-pub use fault::{LineKind, ManifestFault, TEXT_MAX};
+pub use fault::{EntryLineFault, LineKind, ManifestFault, TEXT_MAX};
 pub use reader::read;
+pub use single::read_entry;
 pub use writer::write;

@@ -102,8 +102,12 @@ fn add_word<'a>(alloc: Global, line: &mut Line<'a>, word: &'a [u8]) -> Result<()
     }
 }
 
-// Adds the words between blanks.
-fn add_words<'a>(alloc: Global, line: &mut Line<'a>, bytes: &'a [u8]) -> Result<(), NoMemory>
+/// Adds the words between blanks.
+pub(crate) fn add_words<'a>(
+    alloc: Global,
+    line: &mut Line<'a>,
+    bytes: &'a [u8],
+) -> Result<(), NoMemory>
     ensures { OnOk result (line_in line.new ≡ fold with_word (line_in line.old) (words_of bytes.entry.now)) }
 {
     for word in split(Separator::Blank, bytes) {

@@ -14,6 +14,7 @@ pub(crate) enum Separator {
     Slash,
 }
 
+#[inline(always)]
 fn first_separator(separator: Separator, bytes: &[u8]) -> Option<usize>
     ensures index { result ≡ position (separates separator) bytes.now }
     ensures within { IfSome result (λ n. n < length bytes.now) }
@@ -25,6 +26,7 @@ fn first_separator(separator: Separator, bytes: &[u8]) -> Option<usize>
 }
 
 // The first part, and the bytes behind the separator that ends it.
+#[inline(always)]
 #[tactic(auto, using(lib_types::proofs::Parting::cut_at, lib_types::proofs::Parting::cut_nowhere))]
 fn cut(separator: Separator, bytes: &[u8]) -> (&[u8], Option<&[u8]>)
     ensures { parts_of separator (Some bytes.now) ≡ result.0.now ∷ parts_of separator (option_copied result.1) }
@@ -61,6 +63,8 @@ impl<'a> Iterator for Parts<'a> {
 
     ghost remaining = { item_count (λ s. s) };
 
+    // Dividing lines into words is much of what reading a manifest takes, so this is a part of the loop that calls it.
+    #[inline(always)]
     fn next(&mut self) -> Option<&'a [u8]> {
         let rest = self.rest?;
         let (part, behind) = cut(self.separator, rest);

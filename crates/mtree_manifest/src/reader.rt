@@ -19,6 +19,7 @@ use crate::fault::{LineKind, ManifestFault, TEXT_MAX};
 use crate::keys::{Given, Keys, first_fault, no_keys};
 use crate::line::{Head, Line, add_physical, goes_on, start_line};
 use crate::paths::is_full;
+use crate::plain::KnownPath;
 use bstr::ByteSlice;
 use lib_types::NoMemory;
 use std::alloc::Global;
@@ -33,6 +34,8 @@ pub(crate) struct Reader<'a> {
     defaults: Keys<'a>,
     /// The path of the line at hand.
     path: Vec<u8>,
+    /// That of the last line that has it as it is. The next one mostly stands in a folder on the way to it.
+    known: KnownPath<'a>,
 }
 
 // Opens the directory of a relative line, whose path begins with that of the current one.
@@ -58,18 +61,24 @@ impl<'a> Reader<'a> {
             dirs: Dirs::new(alloc),
             defaults: no_keys(),
             path: Vec::new(alloc),
+            known: KnownPath::none(),
         }
     }
 
     // Finds the path of a line, and says what is wrong with the line.
-    fn find_entry(&mut self, given: &Given<'a>, first: &[u8]) -> Result<Option<LineKind>, NoMemory>
-        ensures fault { IfOk result (λ fault. fault ≡ entry_fault self.old.dirs first.now (given_in given.now)) }
-        ensures path { IfOk result (λ fault. fault ≡ None → self.new.path.items ≡ place self.old.dirs first.now) }
+    fn find_entry(
+        &mut self,
+        given: &Given<'a>,
+        first: &'a [u8],
+    ) -> Result<Option<LineKind>, NoMemory>
+        ensures fault { IfOk result (λ fault. fault ≡ entry_fault self.old.dirs first.entry.now (given_in given.now)) }
+        ensures path { IfOk result (λ fault. fault ≡ None → self.new.path.items ≡ place self.old.dirs first.entry.now) }
         ensures state { state_in self.new ≡ state_in self.old }
     {
         let keys = &given.keys;
         let place = find_place(
             &mut self.path,
+            &mut self.known,
             self.dirs.current(),
             is_dir(keys.kind),
             first,
@@ -95,9 +104,9 @@ impl<'a> Reader<'a> {
 
     // A line with a path.
     #[tactic(auto, using(crate::proofs::Goods::faultless, crate::proofs::Goods::faulty))]
-    fn read_entry(&mut self, line: &Line<'a>, first: &[u8]) -> Result<(), ManifestFault>
+    fn read_entry(&mut self, line: &Line<'a>, first: &'a [u8]) -> Result<(), ManifestFault>
         requires good { IsGood (given_in line.now.given) }
-        ensures { Ends result (with_reading line.now.number (state_in self.old) (entry self.old.dirs first.now (given_in line.now.given))) (state_in self.new) }
+        ensures { Ends result (with_reading line.now.number (state_in self.old) (entry self.old.dirs first.entry.now (given_in line.now.given))) (state_in self.new) }
     {
         match self.find_entry(&line.given, first)? {
             Some(kind) => Err(ManifestFault::Bad {

@@ -7,7 +7,7 @@ ghost use Rattle.mtree_manifest.specs.Escape.{is_plain, octal_digits, escaped_by
 ghost use Rattle.mtree_manifest.specs.Manifest.{tree_of};
 ghost use Rattle.mtree_manifest.specs.declared.fault.TheConstants.{TEXT_MAX};
 ghost use Rattle.mtree_manifest.specs.declared.writer.TheConstants.{ID_SIZE};
-ghost use Rattle.tree_face.specs.Tree.{IsTree};
+ghost use Rattle.image_tree.specs.Tree.{IsTree};
 ghost use Rattle.mtree_manifest.specs.Range.{AreBytes, IsIdInRange, IsSomeIdInRange, IsNodeInRange, IsInRange, AreInRange};
 
 use crate::paths::behind_first;

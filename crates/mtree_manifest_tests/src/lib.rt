@@ -7,4 +7,6 @@ mod limits;
 #[cfg(test)]
 mod lines;
 #[cfg(test)]
+mod single;
+#[cfg(test)]
 mod table;

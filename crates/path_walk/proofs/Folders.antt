@@ -2,7 +2,7 @@
 use Rattle.std.proofs.Common.{◌≡◌, ◌≤◌, ◌+◌, ℕ, false, List, [], ◌∷◌, ◌++◌, length, take, get_or, Some, unwrap_or, refl, ap, sym, ◌∙◌, arith}
 use Rattle.std.proofs.lemmas.List.{take_more}
 use Rattle.lib_types.specs.Name.{slash}
-use Rattle.tree_face.specs.Paths.{is_slash}
+use Rattle.image_tree.specs.Paths.{is_slash}
 use Rattle.path_walk.specs.Names.{before_last, more_before}
 
 pub last_slash : (xs : List ℕ) → before_last (xs ++ slash ∷ []) ≡ Some xs

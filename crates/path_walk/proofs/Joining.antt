@@ -6,7 +6,7 @@ use Rattle.std.proofs.lemmas.List.Splits.{slice_split-cons_yes, slice_split-cons
 use Rattle.std.specs.List.{slice_split, onto_first}
 use Rattle.lib_types.specs.Name.{slash}
 use Rattle.lib_types.proofs.SortedPairs.{by_test}
-use Rattle.tree_face.specs.Paths.{is_slash, is_kept, components}
+use Rattle.image_tree.specs.Paths.{is_slash, is_kept, components}
 
 onto_front : (x : ℕ) (a b : List (List ℕ)) → 0 < length a → onto_first x (a ++ b) ≡ onto_first x a ++ b
 onto_front x [] b h = absurd (omega arith)

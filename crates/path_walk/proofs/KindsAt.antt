@@ -11,16 +11,16 @@ use Rattle.std.specs.Str.{bytes_eq}
 use Rattle.lib_types.proofs.Bools.{not_true}
 use Rattle.lib_types.proofs.SortedPairs.{by_test}
 use Rattle.lib_types.specs.Name.{is_name, slash}
-use Rattle.tree_face.proofs.Above.{clash_above, clash_below, found_any, found_passes}
-use Rattle.tree_face.proofs.Below.{below_from, below_is, not_root}
-use Rattle.tree_face.specs.Index.{has_file_above}
-use Rattle.tree_face.specs.Node.{is_dir}
-use Rattle.tree_face.specs.Paths.{is_below, is_path, is_slash, root}
-use Rattle.tree_face.specs.Tree.{Nodes, IsTree, clashes, has_below, kind_at, kind_of, kind_there, node_at}
-use Rattle.tree_face.specs.declared.node.Node.{Node}
-use Rattle.tree_face.specs.declared.node.Node.TheVariants as node
-use Rattle.tree_face.specs.declared.path.TheConstants.{PATH_MAX}
-use Rattle.tree_face.specs.declared.tree.Kind.TheVariants.{Absent, Dir}
+use Rattle.image_tree.proofs.Above.{clash_above, clash_below, found_any, found_passes}
+use Rattle.image_tree.proofs.Below.{below_from, below_is, not_root}
+use Rattle.image_tree.specs.Index.{has_file_above}
+use Rattle.image_tree.specs.Node.{is_dir}
+use Rattle.image_tree.specs.Paths.{is_below, is_path, is_slash, root}
+use Rattle.image_tree.specs.Tree.{Nodes, IsTree, clashes, has_below, kind_at, kind_of, kind_there, node_at}
+use Rattle.image_tree.specs.declared.node.Node.{Node}
+use Rattle.image_tree.specs.declared.node.Node.TheVariants as node
+use Rattle.image_tree.specs.declared.path.TheConstants.{PATH_MAX}
+use Rattle.image_tree.specs.declared.tree.Kind.TheVariants.{Absent, Dir}
 use Rattle.path_walk.proofs.Joining.{parts_joined}
 use Rattle.path_walk.specs.Names.{before_last, more_before, parent, unless_empty}
 use Rattle.path_walk.specs.Stops.{EndsAt, HaltsAt, KeepsDir, LinkIsLeft}

@@ -10,12 +10,12 @@ use Rattle.std.specs.Str.{bytes_eq}
 use Rattle.lib_types.proofs.SortedPairs.{by_test}
 use Rattle.lib_types.specs.Name.{have_no_slash, is_name, slash}
 use Rattle.name_order.specs.LibraryName.{is_library_name}
-use Rattle.tree_face.specs.Node.{has_no_nul}
-use Rattle.tree_face.specs.Paths.{are_names, components, folder, is_kept, is_path, is_slash, join, root}
-use Rattle.tree_face.specs.Tree.{Nodes, kind_at}
-use Rattle.tree_face.specs.declared.path.TheConstants.{PATH_MAX}
-use Rattle.tree_face.specs.declared.tree.Kind.{Kind}
-use Rattle.tree_face.specs.declared.tree.Kind.TheVariants as kinds
+use Rattle.image_tree.specs.Node.{has_no_nul}
+use Rattle.image_tree.specs.Paths.{are_names, components, folder, is_kept, is_path, is_slash, join, root}
+use Rattle.image_tree.specs.Tree.{Nodes, kind_at}
+use Rattle.image_tree.specs.declared.path.TheConstants.{PATH_MAX}
+use Rattle.image_tree.specs.declared.tree.Kind.{Kind}
+use Rattle.image_tree.specs.declared.tree.Kind.TheVariants as kinds
 use Rattle.path_walk.specs.Names.{parent}
 use Rattle.path_walk.specs.Walk.{Stop, Ends, Follows, at_child, at_file, at_link, is_plain, resolution, start_of, steps, target_at, walk}
 use Rattle.path_walk.specs.declared.walk.Mode.{Mode}

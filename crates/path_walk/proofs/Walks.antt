@@ -1,6 +1,6 @@
 -- One step of a walk from link to link.
 use Rattle.std.proofs.Common.{◌≡◌, ℕ, zero, suc, ◌+◌, List, Result, Err, refl, arith, ap, ◌∙◌}
-use Rattle.tree_face.specs.Tree.{Nodes}
+use Rattle.image_tree.specs.Tree.{Nodes}
 use Rattle.path_walk.specs.Walk.{Stop, Ends, Follows, steps, walk}
 use Rattle.path_walk.specs.declared.walk.Mode.{Mode}
 use Rattle.path_walk.specs.declared.walk.WalkFault.{WalkFault}

@@ -2,11 +2,11 @@
 use Rattle.std.specs.Prelude.{◌≡◌, ℕ, Bool, true, false, List, if◌then◌else◌, Option, Some, None, Result, Ok, Err, IfOk, IsTrue}
 use Rattle.lib_types.specs.Name.{is_name}
 use Rattle.lib_types.specs.declared.fault.NoMemory.{NoMemory}
-use Rattle.tree_face.specs.Paths.{components, join}
-use Rattle.tree_face.specs.declared.node.Node.TheVariants.{Link}
-use Rattle.tree_face.specs.Tree.{Nodes, kind_at, node_at}
-use Rattle.tree_face.specs.declared.tree.Kind.{Kind}
-use Rattle.tree_face.specs.declared.tree.Kind.TheVariants as kinds
+use Rattle.image_tree.specs.Paths.{components, join}
+use Rattle.image_tree.specs.declared.node.Node.TheVariants.{Link}
+use Rattle.image_tree.specs.Tree.{Nodes, kind_at, node_at}
+use Rattle.image_tree.specs.declared.tree.Kind.{Kind}
+use Rattle.image_tree.specs.declared.tree.Kind.TheVariants as kinds
 use Rattle.path_walk.specs.Walk.{resolution, steps, walk}
 use Rattle.path_walk.specs.declared.walk.Mode.TheVariants.{Full}
 use Rattle.path_walk.specs.declared.walk.WalkFault.{WalkFault}

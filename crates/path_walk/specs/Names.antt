@@ -1,6 +1,6 @@
 -- The texts of places.
 use Rattle.std.specs.Prelude.{ℕ, List, [], ◌∷◌, if◌then◌else◌, unwrap_or, Option, Some, None}
-use Rattle.tree_face.specs.Paths.{root, is_slash}
+use Rattle.image_tree.specs.Paths.{root, is_slash}
 
 -- the text before the last slash
 abbrev pub more_before : ℕ → Option (List ℕ) → Option (List ℕ)

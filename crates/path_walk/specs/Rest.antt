@@ -1,7 +1,7 @@
 -- What private functions say of a text that is partly read.
 use Rattle.std.specs.Prelude.{◌≡◌, ℕ, List, [], filter, take, unwrap_or, Option, Some, None}
 use Rattle.std.specs.List.{slice_split}
-use Rattle.tree_face.specs.Paths.{is_slash, is_kept}
+use Rattle.image_tree.specs.Paths.{is_slash, is_kept}
 use Rattle.path_walk.specs.Names.{before_last}
 
 -- the parts that are left

@@ -2,9 +2,9 @@
 use Rattle.std.specs.Prelude.{◌≡◌, ◌⊎◌, ◌++◌, ◌&&◌, ◌+◌, ◌∷◌, ℕ, true, false, List, length, Option, Some, None, Result, Ok, Err, MatchResult}
 use Rattle.std.specs.Option.{option_copied}
 use Rattle.name_order.specs.LibraryName.{is_library_name}
-use Rattle.tree_face.specs.declared.tree.Kind.TheVariants as kinds
-use Rattle.tree_face.specs.Tree.{Nodes, kind_at}
-use Rattle.tree_face.specs.Paths.{components, join}
+use Rattle.image_tree.specs.declared.tree.Kind.TheVariants as kinds
+use Rattle.image_tree.specs.Tree.{Nodes, kind_at}
+use Rattle.image_tree.specs.Paths.{components, join}
 use Rattle.path_walk.specs.Rest.{names_in}
 use Rattle.path_walk.specs.Walk.{Stop, Ends, Follows, at_file, steps, is_plain, start_of, target_at}
 use Rattle.path_walk.specs.declared.walk.Mode.{Mode}

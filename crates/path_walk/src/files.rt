@@ -1,7 +1,7 @@
 //! The files to which paths and links lead.
 ghost use Rattle.std.specs.Prelude.{◌≡◌, IfOk};
-ghost use Rattle.tree_face.specs.Tree.{IsTree, kind_at};
-ghost use Rattle.tree_face.specs.declared.tree.Kind.TheVariants as kinds;
+ghost use Rattle.image_tree.specs.Tree.{IsTree, kind_at};
+ghost use Rattle.image_tree.specs.declared.tree.Kind.TheVariants as kinds;
 ghost use Rattle.path_walk.specs.Files.{file_at, file_from, GivesFile};
 ghost use Rattle.path_walk.specs.Stops.{IsBeside};
 ghost use Rattle.path_walk.specs.Walk.{start_of};

@@ -3,7 +3,7 @@ ghost use Rattle.std.specs.Prelude.{◌≡◌, ◌<◌, ◌∷◌, ◌++◌, [],
 ghost use Rattle.std.specs.List.{slice_split};
 ghost use Rattle.std.specs.Option.{option_copied};
 ghost use Rattle.lib_types.specs.Name.{slash};
-ghost use Rattle.tree_face.specs.Paths.{is_slash, components, join};
+ghost use Rattle.image_tree.specs.Paths.{is_slash, components, join};
 ghost use Rattle.path_walk.specs.Names.{parent};
 ghost use Rattle.path_walk.specs.Rest.{parts_of, names_in, ends_at};
 ghost use Rattle.path_walk.specs.Stops.{size_of};

@@ -1,9 +1,9 @@
 //! The walk from name to name.
 ghost use Rattle.std.specs.Prelude.{◌≡◌, ◌∷◌, None, IfOk, IfErr, Ok, MatchResult, MatchOption, OnOk};
 ghost use Rattle.std.specs.Option.{option_copied};
-ghost use Rattle.tree_face.specs.Paths.{components};
-ghost use Rattle.tree_face.specs.Tree.{IsTree, kind_at, node_at};
-ghost use Rattle.tree_face.specs.declared.tree.Kind.TheVariants as kinds;
+ghost use Rattle.image_tree.specs.Paths.{components};
+ghost use Rattle.image_tree.specs.Tree.{IsTree, kind_at, node_at};
+ghost use Rattle.image_tree.specs.declared.tree.Kind.TheVariants as kinds;
 ghost use Rattle.path_walk.specs.Walk.{steps, walk, start_of, is_plain, LeadsNowhere, resolution};
 ghost use Rattle.path_walk.specs.Stops.{StopsAt, IsAt, IsAbsentAt, IsChild, IsChildAt, IsNoChild, KeepsDir, EndsAt, EndsAtFile, GoesOn, HaltsAt, Fails, LinkIsLeft};
 ghost use Rattle.path_walk.specs.declared.walk.Halt.TheVariants as halts;

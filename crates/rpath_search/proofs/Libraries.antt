@@ -9,7 +9,7 @@ use Rattle.tree_face.proofs.StoreUse.{reads_none}
 use Rattle.tree_face.specs.Known.{IfKnown}
 use Rattle.tree_face.specs.Store.{Contents, StoreState}
 use Rattle.tree_face.specs.StoreUse.{Ending, Complete}
-use Rattle.tree_face.specs.Tree.{Nodes, node_at}
+use Rattle.image_tree.specs.Tree.{Nodes, node_at}
 use Rattle.path_walk.specs.Files.{file_at}
 use Rattle.elf_headers.specs.Reading.{OfContent, ReadsFile}
 use Rattle.elf_dynamic.proofs.Objects.{analysis_bad, analysis_ok}

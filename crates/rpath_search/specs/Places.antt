@@ -6,7 +6,7 @@ use Rattle.conf_patterns.specs.Bytes.{is_in, slashes, without_end}
 use Rattle.hwcap_dirs.specs.Places.{system_dirs}
 use Rattle.lib_types.specs.Abi.{lib_of}
 use Rattle.origin_expand.specs.Tokens.{expanded, value_of}
-use Rattle.tree_face.specs.Paths.{is_below, is_slash, root}
+use Rattle.image_tree.specs.Paths.{is_below, is_slash, root}
 use Rattle.rpath_search.specs.declared.kinds.Env.{Env}
 use Rattle.rpath_search.specs.declared.kinds.Owner.{Owner}
 

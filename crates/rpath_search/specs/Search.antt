@@ -11,7 +11,7 @@ use Rattle.path_walk.specs.Files.{file_at}
 use Rattle.tree_face.specs.Known.{IfKnown}
 use Rattle.tree_face.specs.Store.{Contents, StoreState}
 use Rattle.tree_face.specs.StoreUse.{Ending}
-use Rattle.tree_face.specs.Tree.{Nodes, node_at}
+use Rattle.image_tree.specs.Tree.{Nodes, node_at}
 use Rattle.elf_dynamic.specs.Analysis.{analysis, library_of}
 use Rattle.elf_dynamic.specs.Object.{object}
 use Rattle.elf_dynamic.specs.declared.kinds.Object.{Object}

@@ -5,7 +5,7 @@ use Rattle.lib_types.specs.declared.abi.Abi.{Abi}
 use Rattle.tree_face.specs.Known.{IfKnown}
 use Rattle.tree_face.specs.Store.{Contents, StoreState}
 use Rattle.tree_face.specs.StoreUse.{Complete}
-use Rattle.tree_face.specs.Tree.{Nodes}
+use Rattle.image_tree.specs.Tree.{Nodes}
 use Rattle.elf_dynamic.specs.Begun.{ReadsBy, file_keys, lacks_one}
 use Rattle.rpath_search.specs.Search.{files_of, is_good}
 

@@ -11,4 +11,4 @@ pub use fault::SearchFault;
 pub use kinds::{Chain, Env, Found, Owner};
 pub use listing::places;
 pub use paths::{folder_of, from_root};
-pub use search::{find, library_at};
+pub use search::{find, is_library, key_at, library_at};

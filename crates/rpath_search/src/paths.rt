@@ -1,6 +1,6 @@
 //! The texts of paths.
 ghost use Rattle.std.specs.Prelude.{◌≡◌, ◌++◌, IfOk};
-ghost use Rattle.tree_face.specs.Paths.{root};
+ghost use Rattle.image_tree.specs.Paths.{root};
 ghost use Rattle.rpath_search.specs.Places.{folder_of, from_root, hwcaps_path};
 
 use conf_patterns::patterns::is_absolute;

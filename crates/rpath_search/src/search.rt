@@ -4,7 +4,7 @@ ghost use Rattle.std.specs.Option.{option_copied};
 ghost use Rattle.elf_dynamic.specs.Begun.{ReadsBy, file_keys, key_in, lacks_one};
 ghost use Rattle.elf_dynamic.specs.Faults.{HasName};
 ghost use Rattle.tree_face.specs.Known.{IfKnown};
-ghost use Rattle.tree_face.specs.Tree.{node_at};
+ghost use Rattle.image_tree.specs.Tree.{node_at};
 ghost use Rattle.rpath_search.specs.Faults.{search_ending};
 ghost use Rattle.rpath_search.specs.Search.{IsFound, Searches, files_of, first_good, is_good, is_library, library_at};
 
@@ -19,8 +19,8 @@ use tree_face::{Node, Store, Tree};
 
 const ET_EXEC: u16 = 2;
 
-// The key of the file at a path without links.
-fn key_at<'a>(tree: &'a Tree, real: &[u8]) -> Option<&'a [u8]>
+/// The key of the file at a path without links.
+pub fn key_at<'a>(tree: &'a Tree, real: &[u8]) -> Option<&'a [u8]>
     ensures { option_copied result ≡ key_in (node_at tree.now real.now) }
 {
     match tree.node(real) {
@@ -29,8 +29,8 @@ fn key_at<'a>(tree: &'a Tree, real: &[u8]) -> Option<&'a [u8]>
     }
 }
 
-// Whether an object is a library of this ABI.
-fn is_library(abi: Abi, object: &Object) -> bool
+/// Whether an object is a library of this ABI.
+pub fn is_library(abi: Abi, object: &Object) -> bool
     ensures { result ≡ is_library abi object.now }
 {
     match &object.dynamic {

@@ -3,11 +3,11 @@ use Rattle.std.proofs.Common.{◌≡◌, ◌⊎◌, inl, inr, ℕ, true, false, 
 use Rattle.name_order.specs.LibraryName.{is_library_name}
 use Rattle.hwcap_dirs.specs.Places.{is_dir}
 use Rattle.ldso_conf.specs.Reading.{key_in}
-use Rattle.tree_face.specs.Tree.{Nodes, kind_at, node_at}
-use Rattle.tree_face.specs.declared.node.Node.{Node}
-use Rattle.tree_face.specs.declared.node.Node.TheVariants as node
-use Rattle.tree_face.specs.declared.tree.Kind.{Kind}
-use Rattle.tree_face.specs.declared.tree.Kind.TheVariants as kinds
+use Rattle.image_tree.specs.Tree.{Nodes, kind_at, node_at}
+use Rattle.image_tree.specs.declared.node.Node.{Node}
+use Rattle.image_tree.specs.declared.node.Node.TheVariants as node
+use Rattle.image_tree.specs.declared.tree.Kind.{Kind}
+use Rattle.image_tree.specs.declared.tree.Kind.TheVariants as kinds
 use Rattle.soname_links.proofs.KindsAt.{is_open}
 use Rattle.soname_links.specs.Plan.{is_taken}
 use Rattle.found_files.specs.Libraries.{last_name}

@@ -14,11 +14,11 @@ use Rattle.lib_types.proofs.SortedPairs.{by_test}
 use Rattle.lib_types.specs.Name.{is_name}
 use Rattle.name_order.specs.LibraryName.{is_library_name}
 use Rattle.path_walk.proofs.Linked.{name_alone}
-use Rattle.tree_face.proofs.Rising.{children_sorted}
-use Rattle.tree_face.specs.Paths.{join}
-use Rattle.tree_face.specs.Tree.{Nodes, IsTree, children_of, kind_at, names_below, of_dir}
-use Rattle.tree_face.specs.declared.tree.Kind.{Kind}
-use Rattle.tree_face.specs.declared.tree.Kind.TheVariants as kinds
+use Rattle.image_tree.proofs.Rising.{children_sorted}
+use Rattle.image_tree.specs.Paths.{join}
+use Rattle.image_tree.specs.Tree.{Nodes, IsTree, children_of, kind_at, names_below, of_dir}
+use Rattle.image_tree.specs.declared.tree.Kind.{Kind}
+use Rattle.image_tree.specs.declared.tree.Kind.TheVariants as kinds
 use Rattle.settled_links.proofs.Alike.{IsAlike, IsSame, IsSpot, same_dir, turned}
 use Rattle.soname_links.specs.Plan.{is_taken}
 use Rattle.soname_links.proofs.Alone.{last_joined}

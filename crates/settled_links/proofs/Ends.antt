@@ -5,10 +5,10 @@ use Rattle.std.specs.Str.{bytes_eq}
 use Rattle.lib_types.proofs.SortedPairs.{by_test}
 use Rattle.lib_types.specs.Name.{is_name}
 use Rattle.name_order.specs.LibraryName.{is_library_name}
-use Rattle.tree_face.specs.Paths.{components, join, root, stem}
-use Rattle.tree_face.specs.Tree.{Nodes, IsTree, kind_at}
-use Rattle.tree_face.specs.declared.tree.Kind.{Kind}
-use Rattle.tree_face.specs.declared.tree.Kind.TheVariants as kinds
+use Rattle.image_tree.specs.Paths.{components, join, root, stem}
+use Rattle.image_tree.specs.Tree.{Nodes, IsTree, kind_at}
+use Rattle.image_tree.specs.declared.tree.Kind.{Kind}
+use Rattle.image_tree.specs.declared.tree.Kind.TheVariants as kinds
 use Rattle.path_walk.proofs.Joining.{names_joined}
 use Rattle.path_walk.proofs.KindsAt.{folder_dir, start_dir}
 use Rattle.path_walk.proofs.Linked.{name_is_component, no_dots}

@@ -4,7 +4,7 @@ use Rattle.std.specs.List.{filter_map, flat_map}
 use Rattle.std.specs.Option.{option_map}
 use Rattle.lib_types.proofs.SortedPairs.{by_test}
 use Rattle.lib_types.specs.Name.{slash}
-use Rattle.tree_face.specs.Tree.{Nodes, IsTree, children_of}
+use Rattle.image_tree.specs.Tree.{Nodes, IsTree, children_of}
 use Rattle.conf_patterns.specs.Glob.{glob_match}
 use Rattle.conf_patterns.specs.Patterns.{base_of, chosen_in, components_of, found_at, go_on, in_byte_order, is_wild, place_at, place_by, results, texts_by}
 use Rattle.settled_links.proofs.Agree.{agree}

@@ -11,10 +11,10 @@ use Rattle.name_order.specs.LibraryName.{is_library_name}
 use Rattle.path_walk.specs.Walk.{resolution}
 use Rattle.path_walk.specs.declared.walk.Mode.TheVariants.{Plain}
 use Rattle.path_walk.specs.declared.walk.WalkFault.{WalkFault}
-use Rattle.tree_face.specs.Paths.{join}
-use Rattle.tree_face.specs.Tree.{Nodes, IsTree, children_of, kind_at}
-use Rattle.tree_face.specs.declared.tree.Kind.{Kind}
-use Rattle.tree_face.specs.declared.tree.Kind.TheVariants as kinds
+use Rattle.image_tree.specs.Paths.{join}
+use Rattle.image_tree.specs.Tree.{Nodes, IsTree, children_of, kind_at}
+use Rattle.image_tree.specs.declared.tree.Kind.{Kind}
+use Rattle.image_tree.specs.declared.tree.Kind.TheVariants as kinds
 use Rattle.conf_patterns.specs.Patterns.{is_link}
 use Rattle.settled_links.proofs.Agree.{agree}
 use Rattle.settled_links.proofs.Alike.{IsAlike, same_dir}

@@ -7,11 +7,11 @@ use Rattle.std.specs.List.{list_any}
 use Rattle.std.specs.Str.{bytes_eq}
 use Rattle.lib_types.proofs.SortedPairs.{by_test}
 use Rattle.path_walk.proofs.KindsAt.{at_none, at_path, at_root, kind_of_node}
-use Rattle.tree_face.specs.Paths.{is_below, is_path, root}
-use Rattle.tree_face.specs.Tree.{Nodes, has_below, kind_at, kind_there, node_at}
-use Rattle.tree_face.specs.declared.node.Node.{Node}
-use Rattle.tree_face.specs.declared.node.Node.TheVariants as node
-use Rattle.tree_face.specs.declared.tree.Kind.TheVariants as kinds
+use Rattle.image_tree.specs.Paths.{is_below, is_path, root}
+use Rattle.image_tree.specs.Tree.{Nodes, has_below, kind_at, kind_there, node_at}
+use Rattle.image_tree.specs.declared.node.Node.{Node}
+use Rattle.image_tree.specs.declared.node.Node.TheVariants as node
+use Rattle.image_tree.specs.declared.tree.Kind.TheVariants as kinds
 use Rattle.settled_links.proofs.Alike.{IsAlike, IsSame, IsSpot}
 use Rattle.soname_links.proofs.KindsAt.{is_open, open_free}
 use Rattle.soname_links.proofs.Rooms.{HaveRoom, IsRoom}

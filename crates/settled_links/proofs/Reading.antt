@@ -8,7 +8,7 @@ use Rattle.ldso_conf.specs.Reading as conf
 use Rattle.ldso_conf.specs.Steps.{included, line_steps, steps_by, steps_of}
 use Rattle.ldso_conf.specs.declared.reading.TheConstants.{DEPTH_MAX}
 use Rattle.tree_face.specs.Store.{Contents}
-use Rattle.tree_face.specs.Tree.{Nodes, IsTree}
+use Rattle.image_tree.specs.Tree.{Nodes, IsTree}
 use Rattle.settled_links.proofs.Agree.{agree}
 use Rattle.settled_links.proofs.Alike.{IsAlike, same_key}
 use Rattle.settled_links.proofs.Patterns.{same_found, same_results}

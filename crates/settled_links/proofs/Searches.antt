@@ -6,7 +6,7 @@ use Rattle.soname_links.proofs.Rooms.{have_room}
 use Rattle.soname_links.specs.Plan.{links, with_links}
 use Rattle.found_files.specs.Analyses.{Analyses, HaveNames}
 use Rattle.soname_links.specs.declared.kinds.Planned.{Planned}
-use Rattle.tree_face.specs.Tree.{Nodes, IsTree}
+use Rattle.image_tree.specs.Tree.{Nodes, IsTree}
 use Rattle.settled_links.proofs.Alike.{IsAlike, same_key}
 use Rattle.settled_links.proofs.Places.{same_places}
 use Rattle.settled_links.proofs.Planned.{planned_alike}

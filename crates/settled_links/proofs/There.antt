@@ -18,15 +18,15 @@ use Rattle.lib_types.proofs.SortedPairs.{by_test}
 use Rattle.lib_types.specs.Name.{have_no_slash, is_name, slash}
 use Rattle.path_walk.proofs.KindsAt.{at_none, at_path, at_root, path_above}
 use Rattle.path_walk.proofs.Linked.{name_alone, some_join}
-use Rattle.tree_face.proofs.Above.{found_any}
-use Rattle.tree_face.proofs.Below.{below_from, below_is}
-use Rattle.tree_face.proofs.Order.{path_total}
-use Rattle.tree_face.proofs.Rising.{below_rest, first_name, name_ended, name_goes_on}
-use Rattle.tree_face.specs.Paths.{folder, is_below, is_path, is_slash, join, name_behind, path_cmp, root, stem}
-use Rattle.tree_face.specs.Tree.{Nodes, children_of, has_below, is_entry, kind_at, kind_there, names_below, node_at, of_dir}
-use Rattle.tree_face.specs.declared.node.Node.{Node}
-use Rattle.tree_face.specs.declared.node.Node.TheVariants as node
-use Rattle.tree_face.specs.declared.tree.Kind.TheVariants as kinds
+use Rattle.image_tree.proofs.Above.{found_any}
+use Rattle.image_tree.proofs.Below.{below_from, below_is}
+use Rattle.image_tree.proofs.Order.{path_total}
+use Rattle.image_tree.proofs.Rising.{below_rest, first_name, name_ended, name_goes_on}
+use Rattle.image_tree.specs.Paths.{folder, is_below, is_path, is_slash, join, name_behind, path_cmp, root, stem}
+use Rattle.image_tree.specs.Tree.{Nodes, children_of, has_below, is_entry, kind_at, kind_there, names_below, node_at, of_dir}
+use Rattle.image_tree.specs.declared.node.Node.{Node}
+use Rattle.image_tree.specs.declared.node.Node.TheVariants as node
+use Rattle.image_tree.specs.declared.tree.Kind.TheVariants as kinds
 use Rattle.soname_links.proofs.Alone.{last_joined}
 use Rattle.found_files.proofs.Members.{is_in}
 use Rattle.found_files.specs.Libraries.{last_name}

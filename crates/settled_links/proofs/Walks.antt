@@ -3,10 +3,10 @@ use Rattle.std.proofs.Common.{◌≡◌, ◌⊎◌, inl, inr, ℕ, zero, suc, tr
 use Rattle.std.specs.Str.{bytes_eq}
 use Rattle.lib_types.proofs.SortedPairs.{by_test}
 use Rattle.name_order.specs.LibraryName.{is_library_name}
-use Rattle.tree_face.specs.Paths.{components, join, root}
-use Rattle.tree_face.specs.Tree.{Nodes, kind_at}
-use Rattle.tree_face.specs.declared.tree.Kind.{Kind}
-use Rattle.tree_face.specs.declared.tree.Kind.TheVariants as kinds
+use Rattle.image_tree.specs.Paths.{components, join, root}
+use Rattle.image_tree.specs.Tree.{Nodes, kind_at}
+use Rattle.image_tree.specs.declared.tree.Kind.{Kind}
+use Rattle.image_tree.specs.declared.tree.Kind.TheVariants as kinds
 use Rattle.path_walk.specs.Names.{parent}
 use Rattle.path_walk.specs.Walk.{Stop, Ends, Follows, at_child, at_file, at_link, is_plain, resolution, start_of, steps, target_at, target_in, walk}
 use Rattle.path_walk.specs.declared.walk.Mode.{Mode}

@@ -3,7 +3,7 @@ use Rattle.std.specs.Prelude.{◌≡◌, ℕ, List}
 use Rattle.hwcap_dirs.specs.Places.{places}
 use Rattle.ldso_conf.specs.Reading.{conf_items, key_in}
 use Rattle.tree_face.specs.Store.{Contents}
-use Rattle.tree_face.specs.Tree.{Nodes, node_at}
+use Rattle.image_tree.specs.Tree.{Nodes, node_at}
 
 -- whatever the contents and the directories, the conf files are read the same and the places are the same; each path has the same file
 pub record IsSearchedAlike (t new : Nodes) : Type 0 where

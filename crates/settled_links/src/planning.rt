@@ -6,8 +6,8 @@ ghost use Rattle.soname_links.specs.Apply.{nodes_with};
 ghost use Rattle.soname_links.specs.Marks.{blocked, mixed};
 ghost use Rattle.soname_links.specs.Plan.{links, with_links};
 ghost use Rattle.soname_links.specs.Settled.{IsSettled};
-ghost use Rattle.tree_face.specs.Tree.{IsTree};
-ghost use Rattle.tree_face.specs.declared.tree.TheConstants.{NODES_MAX};
+ghost use Rattle.image_tree.specs.Tree.{IsTree};
+ghost use Rattle.image_tree.specs.declared.tree.TheConstants.{NODES_MAX};
 ghost use Rattle.settled_links.specs.Search.{IsSearchedAlike};
 ghost use Rattle.found_files.specs.Table.{analysis_at};
 

@@ -3,7 +3,7 @@ use Rattle.std.proofs.Common.{◌≡◌, ℕ, false, List, [], ◌∷◌, ◌++�
 use Rattle.std.proofs.lemmas.List.Splits.{slice_split-cons_no, slice_split-cons_yes}
 use Rattle.std.specs.List.{AllByRecursion, onto_first, slice_split}
 use Rattle.lib_types.proofs.SortedPairs.{by_test}
-use Rattle.tree_face.specs.Paths.{components, is_kept, is_slash, join, root, stem}
+use Rattle.image_tree.specs.Paths.{components, is_kept, is_slash, join, root, stem}
 use Rattle.path_walk.proofs.Joining.{parts_joined}
 use Rattle.found_files.specs.Libraries.{last_name}
 

@@ -13,18 +13,18 @@ use Rattle.lib_types.proofs.Bools.{not_true}
 use Rattle.lib_types.proofs.SortedPairs.{by_test}
 use Rattle.path_walk.proofs.KindsAt.{at_path}
 use Rattle.found_files.specs.Analyses.{Analyses, HaveNames}
-use Rattle.tree_face.proofs.Above.{clash_below, found_passes}
-use Rattle.tree_face.proofs.Below.{not_root}
-use Rattle.tree_face.proofs.Clear.{none_put}
-use Rattle.tree_face.proofs.KindAt.{kind_found}
-use Rattle.tree_face.proofs.Order.{path_total}
-use Rattle.tree_face.specs.Index.{IsIndexOf, has_file_above, is_file_above}
-use Rattle.tree_face.specs.Node.{is_dir}
-use Rattle.tree_face.specs.Paths.{is_below, is_path, path_cmp}
-use Rattle.tree_face.specs.Tree.{Nodes, IsTree, clash_with, clashes, has_below, is_entry, kind_of, kind_there, node_at}
-use Rattle.tree_face.specs.declared.node.Node.{Node}
-use Rattle.tree_face.specs.declared.node.Node.TheVariants as node
-use Rattle.tree_face.specs.declared.tree.Kind.TheVariants as kinds
+use Rattle.image_tree.proofs.Above.{clash_below, found_passes}
+use Rattle.image_tree.proofs.Below.{not_root}
+use Rattle.image_tree.proofs.Clear.{none_put}
+use Rattle.image_tree.proofs.KindAt.{kind_found}
+use Rattle.image_tree.proofs.Order.{path_total}
+use Rattle.image_tree.specs.Index.{IsIndexOf, has_file_above, is_file_above}
+use Rattle.image_tree.specs.Node.{is_dir}
+use Rattle.image_tree.specs.Paths.{is_below, is_path, path_cmp}
+use Rattle.image_tree.specs.Tree.{Nodes, IsTree, clash_with, clashes, has_below, is_entry, kind_of, kind_there, node_at}
+use Rattle.image_tree.specs.declared.node.Node.{Node}
+use Rattle.image_tree.specs.declared.node.Node.TheVariants as node
+use Rattle.image_tree.specs.declared.tree.Kind.TheVariants as kinds
 use Rattle.soname_links.proofs.Rooms.{HaveRoom, IsRoom, have_room}
 use Rattle.soname_links.specs.Apply.{are_clear}
 use Rattle.soname_links.specs.Plan.{is_taken, links, with_link}

@@ -9,12 +9,12 @@ use Rattle.std.specs.Ordering.{is_eq}
 use Rattle.std.specs.Str.{bytes_eq}
 use Rattle.std.specs.declared.cmp.Ordering.TheVariants.{Less, Greater}
 use Rattle.lib_types.proofs.SortedPairs.{by_ordering, by_test, put_step, sorted_put}
-use Rattle.tree_face.proofs.Order.{path_total}
-use Rattle.tree_face.specs.Paths.{path_cmp}
-use Rattle.tree_face.specs.Tree as tree
-use Rattle.tree_face.specs.Tree.{Nodes, IsPathSorted, node_at}
-use Rattle.tree_face.specs.declared.node.Node.{Node}
-use Rattle.tree_face.specs.declared.node.Node.TheVariants.{Link}
+use Rattle.image_tree.proofs.Order.{path_total}
+use Rattle.image_tree.specs.Paths.{path_cmp}
+use Rattle.image_tree.specs.Tree as tree
+use Rattle.image_tree.specs.Tree.{Nodes, IsPathSorted, node_at}
+use Rattle.image_tree.specs.declared.node.Node.{Node}
+use Rattle.image_tree.specs.declared.node.Node.TheVariants.{Link}
 use Rattle.found_files.proofs.Ordered.{filtered_same, keys_put, keys_stay}
 use Rattle.soname_links.proofs.Put.{put_here, put_other}
 use Rattle.soname_links.specs.Apply.{new_path, nodes_with}

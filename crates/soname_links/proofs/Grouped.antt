@@ -5,7 +5,7 @@ use Rattle.std.specs.List.{cons_option, filter, filter_map, fold}
 use Rattle.std.specs.Map.{keys_of}
 use Rattle.std.specs.Option.{option_map}
 use Rattle.hwcap_dirs.specs.declared.kinds.Place.{Place}
-use Rattle.tree_face.specs.Tree.{Nodes}
+use Rattle.image_tree.specs.Tree.{Nodes}
 use Rattle.found_files.proofs.Ordered.{by_entries, filtered_same}
 use Rattle.found_files.proofs.Gathered.{gathered_keyed, keys_keyed}
 use Rattle.found_files.specs.Sonames.{AreGathered, AreOrdered, found_at}

@@ -8,8 +8,8 @@ use Rattle.lib_types.proofs.Bools.{and_false}
 use Rattle.lib_types.specs.Name.{have_no_slash, is_name, slash}
 use Rattle.path_walk.proofs.Joining.{parts_joined}
 use Rattle.path_walk.proofs.Linked.{IsFolder, join_below, name_alone}
-use Rattle.tree_face.specs.Paths.{are_names, is_path, is_slash, join, root, stem}
-use Rattle.tree_face.specs.declared.path.TheConstants.{PATH_MAX}
+use Rattle.image_tree.specs.Paths.{are_names, is_path, is_slash, join, root, stem}
+use Rattle.image_tree.specs.declared.path.TheConstants.{PATH_MAX}
 
 -- ---- the path of a name
 

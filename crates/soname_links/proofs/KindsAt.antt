@@ -5,16 +5,16 @@ use Rattle.std.specs.Str.{bytes_eq}
 use Rattle.lib_types.proofs.SortedPairs.{by_test}
 use Rattle.name_order.specs.LibraryName.{is_library_name}
 use Rattle.path_walk.proofs.KindsAt.{at_none, at_path, at_root}
-use Rattle.tree_face.proofs.Above.{clash_above, clash_below}
-use Rattle.tree_face.specs.Index.{has_file_above}
-use Rattle.tree_face.specs.Node.{is_dir}
-use Rattle.tree_face.specs.Paths.{is_below, is_path, join, root}
-use Rattle.tree_face.specs.Tree as tree
-use Rattle.tree_face.specs.Tree.{Nodes, clashes, has_below, kind_at, kind_there, node_at}
-use Rattle.tree_face.specs.declared.node.Node.{Node}
-use Rattle.tree_face.specs.declared.node.Node.TheVariants as node
-use Rattle.tree_face.specs.declared.tree.Kind.{Kind}
-use Rattle.tree_face.specs.declared.tree.Kind.TheVariants.{Absent, Dir, File, Link}
+use Rattle.image_tree.proofs.Above.{clash_above, clash_below}
+use Rattle.image_tree.specs.Index.{has_file_above}
+use Rattle.image_tree.specs.Node.{is_dir}
+use Rattle.image_tree.specs.Paths.{is_below, is_path, join, root}
+use Rattle.image_tree.specs.Tree as tree
+use Rattle.image_tree.specs.Tree.{Nodes, clashes, has_below, kind_at, kind_there, node_at}
+use Rattle.image_tree.specs.declared.node.Node.{Node}
+use Rattle.image_tree.specs.declared.node.Node.TheVariants as node
+use Rattle.image_tree.specs.declared.tree.Kind.{Kind}
+use Rattle.image_tree.specs.declared.tree.Kind.TheVariants.{Absent, Dir, File, Link}
 use Rattle.soname_links.proofs.Put.{any_put, put_here, put_other}
 use Rattle.soname_links.specs.Plan.{is_taken}
 use Rattle.path_walk.specs.Files.{is_file}

@@ -10,15 +10,15 @@ use Rattle.lib_types.proofs.Bools.{and_false}
 use Rattle.lib_types.proofs.SortedPairs.{by_test, sorted_put}
 use Rattle.lib_types.specs.Name.{slash}
 use Rattle.name_order.specs.LibraryName.{is_library_name}
-use Rattle.tree_face.proofs.Below.{below_from}
-use Rattle.tree_face.proofs.Order.{path_total}
-use Rattle.tree_face.proofs.Rising.{below_rest, children_sorted}
-use Rattle.tree_face.specs.Index.{has_file_above}
-use Rattle.tree_face.specs.Paths.{folder, is_below, is_slash, join, name_behind}
-use Rattle.tree_face.specs.Tree as tree
-use Rattle.tree_face.specs.Tree.{Nodes, IsPathSorted, children_of, clashes, kind_at, names_below, node_at, of_dir}
-use Rattle.tree_face.specs.declared.node.Node.TheVariants as node
-use Rattle.tree_face.specs.declared.tree.Kind.TheVariants.{Dir}
+use Rattle.image_tree.proofs.Below.{below_from}
+use Rattle.image_tree.proofs.Order.{path_total}
+use Rattle.image_tree.proofs.Rising.{below_rest, children_sorted}
+use Rattle.image_tree.specs.Index.{has_file_above}
+use Rattle.image_tree.specs.Paths.{folder, is_below, is_slash, join, name_behind}
+use Rattle.image_tree.specs.Tree as tree
+use Rattle.image_tree.specs.Tree.{Nodes, IsPathSorted, children_of, clashes, kind_at, names_below, node_at, of_dir}
+use Rattle.image_tree.specs.declared.node.Node.TheVariants as node
+use Rattle.image_tree.specs.declared.tree.Kind.TheVariants.{Dir}
 use Rattle.found_files.proofs.Members.{AreSorted, left_out, same_left}
 use Rattle.found_files.proofs.Ordered.{filtered_same}
 use Rattle.soname_links.proofs.Put.{above_found, is_other, names_same, others_same}

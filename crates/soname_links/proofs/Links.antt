@@ -6,8 +6,8 @@ use Rattle.hwcap_dirs.specs.Places.{are_dirs, is_dir}
 use Rattle.hwcap_dirs.specs.declared.kinds.Place.{Place}
 use Rattle.lib_types.proofs.Bools.{not_true}
 use Rattle.lib_types.proofs.SortedPairs.{by_test}
-use Rattle.tree_face.specs.Paths.{join}
-use Rattle.tree_face.specs.Tree.{Nodes, kind_at}
+use Rattle.image_tree.specs.Paths.{join}
+use Rattle.image_tree.specs.Tree.{Nodes, kind_at}
 use Rattle.found_files.specs.Best.{best, sonames}
 use Rattle.found_files.specs.Libraries.{libraries_in}
 use Rattle.found_files.specs.Places.{by_place, is_plain, links_to}

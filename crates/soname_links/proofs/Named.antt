@@ -6,11 +6,11 @@ use Rattle.std.specs.List.{list_all}
 use Rattle.hwcap_dirs.specs.Places.{are_dirs, is_dir}
 use Rattle.hwcap_dirs.specs.declared.kinds.Place.{Place}
 use Rattle.lib_types.specs.Name.{is_name}
-use Rattle.tree_face.specs.Paths.{is_path, join}
-use Rattle.tree_face.specs.Tree.{Nodes, is_entry, kind_at}
-use Rattle.tree_face.specs.declared.path.TheConstants.{PATH_MAX}
-use Rattle.tree_face.specs.declared.tree.Kind.{Kind}
-use Rattle.tree_face.specs.declared.tree.Kind.TheVariants as kinds
+use Rattle.image_tree.specs.Paths.{is_path, join}
+use Rattle.image_tree.specs.Tree.{Nodes, is_entry, kind_at}
+use Rattle.image_tree.specs.declared.path.TheConstants.{PATH_MAX}
+use Rattle.image_tree.specs.declared.tree.Kind.{Kind}
+use Rattle.image_tree.specs.declared.tree.Kind.TheVariants as kinds
 use Rattle.path_walk.proofs.Linked.{folder_of_dir}
 use Rattle.found_files.proofs.Named.{best_named}
 use Rattle.soname_links.proofs.Joined.{path_of_name}

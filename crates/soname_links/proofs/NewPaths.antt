@@ -9,7 +9,7 @@ use Rattle.lib_types.proofs.SortedPairs.{by_test}
 use Rattle.found_files.proofs.Counted.{count_few, count_next, unless_there}
 use Rattle.found_files.proofs.Members.{is_in}
 use Rattle.found_files.specs.Order.{ascending}
-use Rattle.tree_face.specs.Tree.{Nodes, node_at}
+use Rattle.image_tree.specs.Tree.{Nodes, node_at}
 use Rattle.soname_links.specs.Apply.{is_at_path, is_last_new, new_path, new_paths}
 use Rattle.soname_links.specs.declared.kinds.Planned.{Planned}
 

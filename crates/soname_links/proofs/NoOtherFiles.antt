@@ -2,7 +2,7 @@
 use Rattle.std.proofs.Common.{◌≡◌, ℕ, cond, List, [], map, sym, subst, ◌∙◌}
 use Rattle.std.specs.List.{filter_map}
 use Rattle.hwcap_dirs.specs.declared.kinds.Place.{Place}
-use Rattle.tree_face.specs.Tree.{Nodes}
+use Rattle.image_tree.specs.Tree.{Nodes}
 use Rattle.found_files.proofs.NoOtherFiles.{by_place_same, libraries_agree}
 use Rattle.found_files.specs.Analyses.{Analyses, AgreeOn}
 use Rattle.found_files.specs.Best.{bests}

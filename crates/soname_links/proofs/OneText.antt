@@ -8,8 +8,8 @@ use Rattle.hwcap_dirs.specs.Places.{are_dirs, is_dir}
 use Rattle.hwcap_dirs.specs.declared.kinds.Place.{Place}
 use Rattle.lib_types.proofs.SortedPairs.{by_test}
 use Rattle.lib_types.specs.Name.{is_name}
-use Rattle.tree_face.specs.Paths.{join}
-use Rattle.tree_face.specs.Tree.{Nodes, IsTree, children_of, kind_at}
+use Rattle.image_tree.specs.Paths.{join}
+use Rattle.image_tree.specs.Tree.{Nodes, IsTree, children_of, kind_at}
 use Rattle.path_walk.proofs.Linked.{folder_of_dir}
 use Rattle.soname_links.proofs.Joined.{join_same}
 use Rattle.soname_links.proofs.Links.{IsLinkFor, all_links}

@@ -12,15 +12,15 @@ use Rattle.std.specs.declared.cmp.Ordering.TheVariants.{Less, Equal, Greater}
 use Rattle.lib_types.proofs.Bools.{and_false}
 use Rattle.lib_types.proofs.SortedPairs.{by_ordering, by_test, put_step}
 use Rattle.found_files.proofs.Either.{swapped, twice}
-use Rattle.tree_face.proofs.Above.{found_any}
-use Rattle.tree_face.proofs.Below.{exact}
-use Rattle.tree_face.proofs.Order.{path_total}
-use Rattle.tree_face.specs.Index.{has_file_above, is_file_above}
-use Rattle.tree_face.specs.Node.{is_dir}
-use Rattle.tree_face.specs.Paths.{folder, is_below, name_behind, path_cmp}
-use Rattle.tree_face.specs.Tree as tree
-use Rattle.tree_face.specs.Tree.{Nodes, names_below, node_at}
-use Rattle.tree_face.specs.declared.node.Node.{Node}
+use Rattle.image_tree.proofs.Above.{found_any}
+use Rattle.image_tree.proofs.Below.{exact}
+use Rattle.image_tree.proofs.Order.{path_total}
+use Rattle.image_tree.specs.Index.{has_file_above, is_file_above}
+use Rattle.image_tree.specs.Node.{is_dir}
+use Rattle.image_tree.specs.Paths.{folder, is_below, name_behind, path_cmp}
+use Rattle.image_tree.specs.Tree as tree
+use Rattle.image_tree.specs.Tree.{Nodes, names_below, node_at}
+use Rattle.image_tree.specs.declared.node.Node.{Node}
 
 at_itself : (p : List ℕ) → is_at (path_cmp p) p ≡ true
 at_itself p = ap is_eq (tied_itself path_total p)

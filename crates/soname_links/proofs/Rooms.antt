@@ -14,11 +14,11 @@ use Rattle.found_files.specs.Best.{best, is_own}
 use Rattle.found_files.specs.Libraries.{last_name, libraries_in}
 use Rattle.found_files.specs.Analyses.{Analyses, HaveNames}
 use Rattle.found_files.specs.Library.{Library}
-use Rattle.tree_face.proofs.Below.{below_from, below_is}
-use Rattle.tree_face.specs.Paths.{is_below, is_path, join, root, stem}
-use Rattle.tree_face.specs.Tree.{Nodes, IsTree, kind_at}
-use Rattle.tree_face.specs.declared.path.TheConstants.{PATH_MAX}
-use Rattle.tree_face.specs.declared.tree.Kind.TheVariants as kinds
+use Rattle.image_tree.proofs.Below.{below_from, below_is}
+use Rattle.image_tree.specs.Paths.{is_below, is_path, join, root, stem}
+use Rattle.image_tree.specs.Tree.{Nodes, IsTree, kind_at}
+use Rattle.image_tree.specs.declared.path.TheConstants.{PATH_MAX}
+use Rattle.image_tree.specs.declared.tree.Kind.TheVariants as kinds
 use Rattle.soname_links.proofs.Alone.{last_joined}
 use Rattle.soname_links.proofs.Links.{IsLinkFor, each_link}
 use Rattle.soname_links.proofs.Named.{is_dir_kind, link_named}

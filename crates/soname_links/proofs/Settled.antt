@@ -8,9 +8,9 @@ use Rattle.hwcap_dirs.specs.Places.{are_dirs, is_dir}
 use Rattle.hwcap_dirs.specs.declared.kinds.Place.{Place}
 use Rattle.lib_types.proofs.Bools.{and_false, not_true}
 use Rattle.lib_types.proofs.SortedPairs.{by_test}
-use Rattle.tree_face.specs.Paths.{is_path, join}
-use Rattle.tree_face.specs.Tree.{Nodes, IsTree, kind_at, node_at}
-use Rattle.tree_face.specs.declared.path.TheConstants.{PATH_MAX}
+use Rattle.image_tree.specs.Paths.{is_path, join}
+use Rattle.image_tree.specs.Tree.{Nodes, IsTree, kind_at, node_at}
+use Rattle.image_tree.specs.declared.path.TheConstants.{PATH_MAX}
 use Rattle.soname_links.proofs.KindsAt.{open_free}
 use Rattle.soname_links.proofs.Links.{all_links, link_is}
 use Rattle.soname_links.proofs.Named.{is_dir_kind}

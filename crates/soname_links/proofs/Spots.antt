@@ -1,10 +1,10 @@
 -- What is at the path of a wanted link, by its node and, where there is none, by its kind.
 use Rattle.std.proofs.Common.{◌≡◌, ℕ, Bool, true, false, cond, ◌||◌, nat_lt, List, length, refl, ap, ◌∙◌, Option, Some, None}
-use Rattle.tree_face.specs.Paths.{is_path}
-use Rattle.tree_face.specs.Tree.{Nodes, kind_at, kind_of, node_at}
-use Rattle.tree_face.specs.declared.node.Node.{Node}
-use Rattle.tree_face.specs.declared.node.Node.TheVariants as nodes
-use Rattle.tree_face.specs.declared.path.TheConstants.{PATH_MAX}
+use Rattle.image_tree.specs.Paths.{is_path}
+use Rattle.image_tree.specs.Tree.{Nodes, kind_at, kind_of, node_at}
+use Rattle.image_tree.specs.declared.node.Node.{Node}
+use Rattle.image_tree.specs.declared.node.Node.TheVariants as nodes
+use Rattle.image_tree.specs.declared.path.TheConstants.{PATH_MAX}
 use Rattle.path_walk.proofs.KindsAt.{kind_of_node}
 use Rattle.found_files.specs.Places.{is_link_to}
 use Rattle.soname_links.specs.Plan.{is_taken}

@@ -6,10 +6,10 @@ use Rattle.std.specs.List.{filter_map, list_all}
 use Rattle.std.specs.Str.{bytes_eq}
 use Rattle.lib_types.proofs.Bools.{not_true}
 use Rattle.lib_types.proofs.SortedPairs.{by_test, sorted_put}
-use Rattle.tree_face.proofs.Order.{path_total}
-use Rattle.tree_face.specs.Tree.{Nodes, IsPathSorted, children_of, clashes, kind_at, node_at}
-use Rattle.tree_face.specs.declared.node.Node.TheVariants.{Link}
-use Rattle.tree_face.specs.declared.tree.Kind.TheVariants as kinds
+use Rattle.image_tree.proofs.Order.{path_total}
+use Rattle.image_tree.specs.Tree.{Nodes, IsPathSorted, children_of, clashes, kind_at, node_at}
+use Rattle.image_tree.specs.declared.node.Node.TheVariants.{Link}
+use Rattle.image_tree.specs.declared.tree.Kind.TheVariants as kinds
 use Rattle.soname_links.proofs.KindsAt.{dir_kept, is_open, open_kept, taken_kept}
 use Rattle.soname_links.proofs.Linked.{files_give}
 use Rattle.soname_links.proofs.Put.{put_here, put_other}

@@ -6,8 +6,8 @@ use Rattle.std.specs.Bool.{IsTrue}
 use Rattle.std.specs.List.{All}
 use Rattle.lib_types.specs.Name.{is_name}
 use Rattle.path_walk.proofs.NoNul.{name_clean}
-use Rattle.tree_face.specs.Node.{is_target}
-use Rattle.tree_face.specs.Paths.{is_path}
+use Rattle.image_tree.specs.Node.{is_target}
+use Rattle.image_tree.specs.Paths.{is_path}
 use Rattle.soname_links.specs.Apply.{is_link, is_plan}
 use Rattle.soname_links.specs.declared.kinds.Planned.{Planned}
 

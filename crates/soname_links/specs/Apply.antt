@@ -4,10 +4,10 @@ use Rattle.std.specs.List.{filter_map, list_all, list_any}
 use Rattle.std.specs.Option.{is_none, is_some}
 use Rattle.std.specs.Str.{bytes_eq}
 use Rattle.lib_types.specs.Name.{is_name}
-use Rattle.tree_face.specs.Paths.{is_path}
-use Rattle.tree_face.specs.Tree.{Nodes, clashes, node_at}
-use Rattle.tree_face.specs.declared.node.Node.TheVariants.{Link}
-use Rattle.tree_face.specs.declared.tree.TheConstants.{NODES_MAX}
+use Rattle.image_tree.specs.Paths.{is_path}
+use Rattle.image_tree.specs.Tree.{Nodes, clashes, node_at}
+use Rattle.image_tree.specs.declared.node.Node.TheVariants.{Link}
+use Rattle.image_tree.specs.declared.tree.TheConstants.{NODES_MAX}
 use Rattle.found_files.specs.Order.{ascending}
 use Rattle.soname_links.specs.Plan.{with_link, with_links}
 use Rattle.soname_links.specs.declared.kinds.ApplyFault.{ApplyFault}

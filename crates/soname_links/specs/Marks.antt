@@ -3,8 +3,8 @@ use Rattle.std.specs.Prelude.{ℕ, Bool, false, List, [], ◌&&◌, not, nat_eq,
 use Rattle.std.specs.List.{filter_map}
 use Rattle.hwcap_dirs.specs.declared.kinds.Place.{Place}
 use Rattle.lib_types.specs.Abi.{flags_of}
-use Rattle.tree_face.specs.Paths.{join}
-use Rattle.tree_face.specs.Tree.{Nodes}
+use Rattle.image_tree.specs.Paths.{join}
+use Rattle.image_tree.specs.Tree.{Nodes}
 use Rattle.found_files.specs.Best.{best, bests}
 use Rattle.found_files.specs.Libraries.{libraries_in}
 use Rattle.found_files.specs.Order.{ascending}

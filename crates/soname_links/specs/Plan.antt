@@ -3,12 +3,12 @@ use Rattle.std.specs.Prelude.{ℕ, Bool, true, false, List, [], ◌&&◌, ◌||�
 use Rattle.std.specs.List.{filter_map}
 use Rattle.hwcap_dirs.specs.declared.kinds.Place.{Place}
 use Rattle.name_order.specs.LibraryName.{is_library_name}
-use Rattle.tree_face.specs.Paths.{join}
-use Rattle.tree_face.specs.Tree.{Nodes, kind_at, put}
-use Rattle.tree_face.specs.declared.node.Node.TheVariants.{Link}
-use Rattle.tree_face.specs.declared.path.TheConstants.{PATH_MAX}
-use Rattle.tree_face.specs.declared.tree.Kind.{Kind}
-use Rattle.tree_face.specs.declared.tree.Kind.TheVariants as kinds
+use Rattle.image_tree.specs.Paths.{join}
+use Rattle.image_tree.specs.Tree.{Nodes, kind_at, put}
+use Rattle.image_tree.specs.declared.node.Node.TheVariants.{Link}
+use Rattle.image_tree.specs.declared.path.TheConstants.{PATH_MAX}
+use Rattle.image_tree.specs.declared.tree.Kind.{Kind}
+use Rattle.image_tree.specs.declared.tree.Kind.TheVariants as kinds
 use Rattle.found_files.specs.Best.{is_own, bests}
 use Rattle.found_files.specs.Libraries.{libraries_in}
 use Rattle.found_files.specs.Places.{by_place, is_plain, links_to}

@@ -2,7 +2,7 @@
 use Rattle.std.specs.Prelude.{◌≡◌, IsTrue, List, [], map}
 use Rattle.hwcap_dirs.specs.Places.{are_dirs}
 use Rattle.hwcap_dirs.specs.declared.kinds.Place.{Place}
-use Rattle.tree_face.specs.Tree.{Nodes}
+use Rattle.image_tree.specs.Tree.{Nodes}
 use Rattle.found_files.specs.Libraries.{libraries_in}
 use Rattle.soname_links.specs.Plan.{links}
 use Rattle.found_files.specs.Search.{wanted}

@@ -4,9 +4,9 @@ use Rattle.std.specs.List.{filter_map}
 use Rattle.std.specs.Option.{option_map}
 use Rattle.std.specs.Str.{bytes_eq}
 use Rattle.hwcap_dirs.specs.declared.kinds.Place.{Place}
-use Rattle.tree_face.specs.Tree.{Nodes}
-use Rattle.tree_face.specs.declared.node.Node.{Node}
-use Rattle.tree_face.specs.declared.node.Node.TheVariants as nodes
+use Rattle.image_tree.specs.Tree.{Nodes}
+use Rattle.image_tree.specs.declared.node.Node.{Node}
+use Rattle.image_tree.specs.declared.node.Node.TheVariants as nodes
 use Rattle.found_files.specs.Best.{has_soname, is_preferred, sonames}
 use Rattle.soname_links.specs.Marks.{blocked_for, is_odd, mark}
 use Rattle.soname_links.specs.Plan.{is_blocked, link_for}

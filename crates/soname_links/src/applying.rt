@@ -3,10 +3,10 @@ ghost use Rattle.std.specs.Prelude.{◌≡◌, ◌≤◌, false, All, IfErr, IfO
 ghost use Rattle.std.specs.List.{filter_map, list_any};
 ghost use Rattle.std.specs.Option.{option_copied};
 ghost use Rattle.lib_types.specs.Name.{is_name};
-ghost use Rattle.tree_face.specs.Paths.{is_path};
-ghost use Rattle.tree_face.specs.Tree.{clashes};
-ghost use Rattle.tree_face.specs.declared.node.Node.TheVariants.{Link};
-ghost use Rattle.tree_face.specs.declared.tree.TheConstants.{NODES_MAX};
+ghost use Rattle.image_tree.specs.Paths.{is_path};
+ghost use Rattle.image_tree.specs.Tree.{clashes};
+ghost use Rattle.image_tree.specs.declared.node.Node.TheVariants.{Link};
+ghost use Rattle.image_tree.specs.declared.tree.TheConstants.{NODES_MAX};
 ghost use Rattle.soname_links.specs.Apply.{are_clear, is_at_path, is_last_new, is_link, is_plan, new_path, new_paths, nodes_with, too_many, HasSome, IsApplyFault};
 ghost use Rattle.soname_links.specs.Plan.{with_link, with_links};
 ghost use Rattle.soname_links.specs.Settled.{Settles};

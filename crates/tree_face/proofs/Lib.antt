@@ -1,20 +1,8 @@
-pub mod Above
-pub mod Below
-pub mod Clear
 pub mod Crash
 pub mod Disks
 pub mod Follows
-mod Fronts
-pub mod Index
-pub mod Kept
-pub mod KindAt
 pub mod Known
-pub mod Listed
-pub mod Names
-pub mod Order
 pub mod Pairs
 pub mod Past
-pub mod Rising
-pub mod Runs
 pub mod StoreUse
 pub mod Streams

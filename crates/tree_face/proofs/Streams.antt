@@ -4,7 +4,7 @@ use Rattle.std.proofs.Math.ListN.{drop_of_length-le}
 use Rattle.std.proofs.Math.Seq.{take-add, take-append_seam}
 use Rattle.std.proofs.lemmas.List.{drop-drop, length-take-le, take-append-drop}
 use Rattle.tree_face.specs.Follows.{IsFollowedBy}
-use Rattle.tree_face.specs.Stream.{Gives}
+use Rattle.tree_face.specs.Stream.{AreRead, Gives}
 use Rattle.tree_face.specs.Known.{Relates}
 
 -- the first bytes, and then the next ones
@@ -35,3 +35,13 @@ gives_part bytes at n before after count within copied =
         λ empty. let gone : length rest ≡ 0 = ap length empty in omega (arith, size, gone),
       );
     }
+
+-- what a call gives follows what was read before
+pub read_on : (xs : List ℕ) (room n : ℕ) (bytes : List ℕ) (a b c : Option (List ℕ)) →
+    Relates (AreRead xs) a b → Relates (Gives room n bytes) b c → Relates (AreRead (xs ++ take n bytes)) a c
+read_on xs room n bytes None None None first next = tt
+read_on xs room n bytes None None (Some c) first next = absurd next
+read_on xs room n bytes None (Some b) c first next = absurd first
+read_on xs room n bytes (Some a) None c first next = absurd first
+read_on xs room n bytes (Some a) (Some b) None first next = absurd next
+read_on xs room n bytes (Some a) (Some b) (Some c) first next = first ∙ ap (λ l. xs ++ l) next.taken ∙ sym (append_assoc xs (take n bytes) c)

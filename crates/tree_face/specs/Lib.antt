@@ -4,15 +4,11 @@ pub mod Disk
 pub mod DiskUse
 pub mod Failures
 pub mod Follows
-pub mod Index
 pub mod Known
 pub mod MemStore
 pub mod Memory
-pub mod Node
 pub mod Past
 pub mod PastLaws
-pub mod Paths
-pub mod Runs
 pub mod Store
 pub mod StoreUse
 pub mod Stream
@@ -20,4 +16,3 @@ pub mod SureDisk
 pub mod SureStore
 pub mod SureStream
 pub mod Temporaries
-pub mod Tree

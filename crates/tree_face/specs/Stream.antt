@@ -1,7 +1,10 @@
 -- Where input comes from and where output goes.
-use Rattle.std.specs.Prelude.{◌≡◌, ◌↔◌, ◌<◌, ◌≤◌, ◌++◌, ℕ, List, [], length, take, Option, Result, IfOk, OnOk, OnErr}
+use Rattle.std.specs.Prelude.{◌≡◌, ◌↔◌, ◌<◌, ◌≤◌, ◌+◌, ◌++◌, ℕ, List, [], length, take, Option, Result, Ok, Err, IfOk, IsErrOf, OnOk, OnErr, Vec}
+use Rattle.std.specs.declared.alloc.Global.{Global}
 use Rattle.lib_types.specs.declared.fault.Failed.{Failed}
 use Rattle.lib_types.specs.Counts.{HasRisen}
+use Rattle.tree_face.specs.declared.stream.ReadFault.{ReadFault}
+use Rattle.tree_face.specs.declared.stream.ReadFault.TheVariants.{TooLong, InputFault, NoMemory}
 use Rattle.tree_face.specs.Known.{Relates, IsSame}
 use Rattle.tree_face.specs.Follows.{IsFollowedBy, IsFollowedByPart}
 
@@ -46,3 +49,35 @@ pub record TakesAll (old new : SinkState) (bytes : List ℕ) (result : Result (U
   pub faults : old.faults ≤ new.faults
   pub no_fault : OnOk result (new.faults ≡ old.faults)
   pub cause : OnErr result (HasRisen old.faults new.faults)
+
+-- these bytes were read of what was left
+abbrev pub AreRead : List ℕ → List ℕ → List ℕ → Type 0
+AreRead bytes a b = a ≡ bytes ++ b
+
+-- all that was left was read: these bytes
+pub record GivesAll (bytes a b : List ℕ) : Type 0 where
+  pub all : a ≡ bytes
+  pub end : b ≡ []
+
+-- Some bytes were read of what was left. The fact holds of their number.
+pub record GivesSome (P : ℕ → Type 0) (a b : List ℕ) : Type 0 where
+  pub bytes : List ℕ
+  pub count : P (length bytes)
+  pub read : AreRead bytes a b
+
+-- what was read of an input that may have so many bytes; one more than these tells that it is too long
+abbrev pub ReadsTo : ℕ → Result (Vec ℕ Global) ReadFault → Option (List ℕ) → Option (List ℕ) → Type 0
+ReadsTo limit (Ok bytes) = Relates (GivesAll bytes.items)
+ReadsTo limit (Err (TooLong taken)) = Relates (GivesSome (λ n. n ≡ taken))
+ReadsTo limit (Err InputFault) = Relates (GivesSome (λ n. n ≤ limit))
+ReadsTo limit (Err NoMemory) = Relates (GivesSome (λ n. n ≤ limit + 1))
+
+-- the call that reads an input to its end
+pub record ReadsAll (limit : ℕ) (old new : SourceState) (result : Result (Vec ℕ Global) ReadFault) : Type 0 where
+  pub reads : ReadsTo limit result old.left new.left
+  pub within : IfOk result (λ bytes. length bytes.items ≤ limit)
+  pub too_long : (taken : ℕ) → IsErrOf result (TooLong taken) → taken ≡ limit + 1
+  pub faults : old.faults ≤ new.faults
+  -- the source failed exactly if the result says so
+  pub cause : IsErrOf result InputFault → HasRisen old.faults new.faults
+  pub no_fault : (IsErrOf result InputFault → ⊥) → new.faults ≡ old.faults

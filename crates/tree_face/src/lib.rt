@@ -1,20 +1,18 @@
-//! The tree of an image, and the devices that the product works on.
+//! The devices that the product works on, as traits and in memory. The tree of an image stands here too, under the names of its crate.
 #![tactic(auto)]
 
 mod disk;
 mod memory;
-mod node;
-mod path;
 mod store;
 mod stream;
-mod tree;
 
 pub use disk::{Call, Disk, DiskRead, DoneCall, Slot, Tag};
+pub use image_tree::{
+    Children, Id, Kind, Listing, NODES_MAX, Node, Nodes, PATH_MAX, TEXT_MAX, Tree, TreeFault,
+    is_kept, is_node, is_path,
+};
 pub use memory::{
     MemDisk, MemSink, MemSource, MemStore, SureDisk, SureSink, SureSource, SureStore,
 };
-pub use node::{Id, Node, TEXT_MAX, is_node};
-pub use path::{PATH_MAX, is_kept, is_path};
 pub use store::Store;
-pub use stream::{Sink, Source, put_all};
-pub use tree::{Children, Kind, Listing, NODES_MAX, Nodes, Tree, TreeFault};
+pub use stream::{ReadFault, Sink, Source, put_all, read_all};

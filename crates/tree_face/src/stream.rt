@@ -1,7 +1,10 @@
 //! Where input comes from, and where output goes.
-ghost use Rattle.tree_face.specs.Stream.{SourceState, SinkState, ReadsInput, Takes, TakesAll};
+ghost use Rattle.std.specs.Prelude.{◌≡◌};
+ghost use Rattle.tree_face.specs.Stream.{SourceState, SinkState, ReadsAll, ReadsInput, Takes, TakesAll};
+ghost use Rattle.tree_face.specs.declared.stream.ReadFault.TheVariants as read_faults;
 
 use lib_types::Failed;
+use std::alloc::{AllocError, AllocFailed, Global};
 
 /// Bytes that are read from the front.
 pub trait Source {
@@ -31,4 +34,65 @@ pub fn put_all<O: Sink>(sink: &mut O, bytes: &[u8]) -> Result<(), Failed>
         at += sink.write(&bytes[at..])?;
     }
     Ok(())
+}
+
+/// Why an input wasn't read to its end.
+#[derive(Clone, Copy, Debug, PartialEq, Eq)]
+pub enum ReadFault {
+    /// It has more bytes than it may have, and so many were read.
+    TooLong { taken: u64 },
+    /// The source failed.
+    InputFault,
+    NoMemory,
+}
+
+impl From<Failed> for ReadFault {
+    ghost from_gives = { λ _ fault. fault ≡ read_faults.InputFault };
+
+    fn from(_: Failed) -> Self {
+        ReadFault::InputFault
+    }
+}
+
+impl From<AllocError> for ReadFault {
+    ghost from_gives = { λ _ fault. fault ≡ read_faults.NoMemory };
+
+    fn from(_: AllocError) -> Self {
+        ReadFault::NoMemory
+    }
+}
+
+impl<T: Drop> From<AllocFailed<T>> for ReadFault {
+    ghost from_gives = { λ _ fault. fault ≡ read_faults.NoMemory };
+
+    fn from(_: AllocFailed<T>) -> Self {
+        ReadFault::NoMemory
+    }
+}
+
+const PIECE: usize = 4096;
+
+/// Reads an input to its end, if it has at most `limit` bytes, and one byte more if it has.
+#[tactic(auto, using(crate::proofs::Streams::read_on))]
+pub fn read_all<I: Source>(
+    alloc: Global,
+    source: &mut I,
+    limit: usize,
+) -> Result<Vec<u8>, ReadFault>
+    ensures { ReadsAll limit (I.state source.old) (I.state source.new) result }
+{
+    let mut bytes = Vec::new(alloc);
+    let mut piece = [0; PIECE];
+    while bytes.len() <= limit {
+        // One byte past the limit tells that there are more.
+        let room = (limit - bytes.len()).min(PIECE - 1) + 1;
+        let count = source.read(&mut piece[..room])?;
+        if count == 0 {
+            return Ok(bytes);
+        }
+        bytes.extend_from_slice(&piece[..count])?;
+    }
+    Err(ReadFault::TooLong {
+        taken: bytes.len() as u64,
+    })
 }

@@ -4,8 +4,8 @@ use std::alloc::Global;
 use std::process::Abort;
 use std::test::Fail;
 use tree_face::{
-    Call, Disk, DiskRead, DoneCall, MemDisk, MemSink, MemSource, MemStore, Sink, Slot, Source,
-    Store, SureDisk, SureSink, SureSource, SureStore, Tag, put_all,
+    Call, Disk, DiskRead, DoneCall, MemDisk, MemSink, MemSource, MemStore, ReadFault, Sink, Slot,
+    Source, Store, SureDisk, SureSink, SureSource, SureStore, Tag, put_all, read_all,
 };
 
 // Pairs of which two have the same key.
@@ -278,6 +278,57 @@ fn sources_give_their_bytes(rt: HostRuntime) -> Result<(), Fail> {
     assert!(rt; read_one(&mut source) == Ok(1));
     assert!(rt; read_one(&mut source) == Err(Failed));
     assert_source(&rt, &mut source);
+    Ok(())
+}
+
+// So many bytes, each of which tells where it stands.
+fn counted(alloc: Global, size: usize) -> Result<Vec<u8>, Fail> {
+    let mut bytes = Vec::new(alloc);
+    for i in 0..size {
+        bytes.push((i % 251) as u8)?;
+    }
+    Ok(bytes)
+}
+
+// Sizes around that of the pieces in which an input is read.
+const SIZES: &[usize] = &[0, 1, 4095, 4096, 4097, 9000];
+
+#[test]
+fn an_input_is_read_to_its_end(rt: HostRuntime) -> Result<(), Fail> {
+    let alloc = rt.alloc();
+    for size in SIZES {
+        let bytes = counted(alloc, *size)?;
+        let mut source = source_of(alloc, bytes.as_slice(), &[])?;
+        let found = read_all(alloc, &mut source, *size);
+        assert!(rt; found.is_ok_and(|found| found == bytes), "of {size}");
+        assert_eq!(rt; read_one(&mut source).unwrap_or(9), 0);
+    }
+    Ok(())
+}
+
+#[test]
+fn an_input_that_is_too_long_is_refused(rt: HostRuntime) -> Result<(), Fail> {
+    let alloc = rt.alloc();
+    for size in SIZES {
+        let bytes = counted(alloc, *size + 2)?;
+        let mut source = source_of(alloc, bytes.as_slice(), &[])?;
+        let taken = *size as u64 + 1;
+        let fault = read_all(alloc, &mut source, *size).err();
+        assert!(rt; fault == Some(ReadFault::TooLong { taken }), "past {size}");
+        assert_eq!(rt; read_one(&mut source).unwrap_or(9), 1);
+    }
+    Ok(())
+}
+
+#[test]
+fn an_input_fails_at_each_reading(rt: HostRuntime) -> Result<(), Fail> {
+    let alloc = rt.alloc();
+    for call in [0, 1, 2, 3] {
+        let bytes = counted(alloc, 9000)?;
+        let mut source = source_of(alloc, bytes.as_slice(), &[call])?;
+        let fault = read_all(alloc, &mut source, 1 << 20).err();
+        assert!(rt; fault == Some(ReadFault::InputFault), "call {call}");
+    }
     Ok(())
 }
 

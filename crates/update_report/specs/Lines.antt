@@ -8,7 +8,7 @@ use Rattle.ldso_conf.specs.declared.kinds.ConfKind.{ConfKind}
 use Rattle.ldso_conf.specs.declared.kinds.ConfKind.TheVariants.{NotFile, Repeated, TooDeep, TooLarge, Relative, Equals, Hwcap, LongPath}
 use Rattle.ldso_conf.specs.declared.kinds.ConfReport.{ConfReport}
 use Rattle.name_order.specs.Order.{token_order}
-use Rattle.tree_face.specs.Paths.{join}
+use Rattle.image_tree.specs.Paths.{join}
 use Rattle.soname_links.specs.declared.kinds.Mark.{Mark}
 use Rattle.soname_links.specs.declared.kinds.Planned.{Planned}
 use Rattle.update_report.specs.Defects.{defect_text}

@@ -1,6 +1,6 @@
 //! One line of a report.
 ghost use Rattle.std.specs.Prelude.{◌≡◌, ◌++◌, OnOk, option_map};
-ghost use Rattle.tree_face.specs.Paths.{join};
+ghost use Rattle.image_tree.specs.Paths.{join};
 ghost use Rattle.update_report.specs.Defects.{number_text};
 ghost use Rattle.update_report.specs.Lines.{absent_line, blocked_line, conf_line, conf_name, dangling_line, last_line, link_line, mixed_line, skip_line, spelled_at, twin_line};
 ghost use Rattle.update_report.specs.Twins.{twin_after};

@@ -22,11 +22,11 @@ use Rattle.path_walk.proofs.NoNul.{joined_clean, name_clean}
 use Rattle.path_walk.specs.Walk.{resolution}
 use Rattle.path_walk.specs.declared.walk.Mode.TheVariants.{Full}
 use Rattle.path_walk.specs.declared.walk.WalkFault.{WalkFault}
-use Rattle.tree_face.specs.Node.{has_no_nul}
-use Rattle.tree_face.specs.Paths.{are_names, is_path, is_slash, join, root}
+use Rattle.image_tree.specs.Node.{has_no_nul}
+use Rattle.image_tree.specs.Paths.{are_names, is_path, is_slash, join, root}
 use Rattle.cache_writer.specs.declared.writer.TheConstants.{ENTRIES_MAX, STRING_MAX}
-use Rattle.tree_face.specs.declared.path.TheConstants.{PATH_MAX}
-use Rattle.tree_face.specs.Tree.{Nodes, IsTree, children_of, kind_at}
+use Rattle.image_tree.specs.declared.path.TheConstants.{PATH_MAX}
+use Rattle.image_tree.specs.Tree.{Nodes, IsTree, children_of, kind_at}
 use Rattle.hwcap_dirs.proofs.Children.{children_named}
 use Rattle.found_files.proofs.Named.{at_named, best_meets, has_names, libraries_named}
 use Rattle.found_files.specs.Best.{best, sonames}

@@ -29,7 +29,7 @@ use Rattle.found_files.specs.Best.{best, has_soname, sonames}
 use Rattle.found_files.specs.Libraries.{libraries_in}
 use Rattle.found_files.specs.Library.{Library}
 use Rattle.found_files.specs.Places.{by_place}
-use Rattle.tree_face.specs.Tree.{Nodes}
+use Rattle.image_tree.specs.Tree.{Nodes}
 use Rattle.winning_entries.proofs.Bests.{in_more, names_of, none_best}
 use Rattle.winning_entries.proofs.InOneOrder.{one_list_is, sorted_cons}
 use Rattle.winning_entries.proofs.OneEach.{none_left, one_left}

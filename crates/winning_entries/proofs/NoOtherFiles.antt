@@ -5,7 +5,7 @@ use Rattle.std.specs.List.{cons_option, filter_map}
 use Rattle.std.specs.Option.{option_and_then}
 use Rattle.std.specs.Str.{bytes_eq}
 use Rattle.hwcap_dirs.specs.declared.kinds.Place.{Place}
-use Rattle.tree_face.specs.Tree.{Nodes}
+use Rattle.image_tree.specs.Tree.{Nodes}
 use Rattle.found_files.proofs.Members.{is_in, itself}
 use Rattle.found_files.proofs.NoOtherFiles.{agree_first, agree_in_order, agree_later, by_place_same, libraries_agree}
 use Rattle.found_files.specs.Analyses.{Analyses, AgreeOn}

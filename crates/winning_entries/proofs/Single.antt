@@ -12,8 +12,8 @@ use Rattle.hwcap_dirs.specs.declared.kinds.Place.{Place}
 use Rattle.lib_types.specs.declared.entry.Entry.{Entry}
 use Rattle.name_order.proofs.Total.{name_order-exact}
 use Rattle.name_order.specs.Order.{name_order}
-use Rattle.tree_face.proofs.Below.{nat_cmp_equal}
-use Rattle.tree_face.specs.Tree.{Nodes}
+use Rattle.image_tree.proofs.Below.{nat_cmp_equal}
+use Rattle.image_tree.specs.Tree.{Nodes}
 use Rattle.found_files.proofs.Named.{best_has}
 use Rattle.winning_entries.proofs.Sorts.{one_sorted}
 use Rattle.found_files.specs.Best.{best}

@@ -14,9 +14,9 @@ use Rattle.lib_types.specs.Abi.{flags_of}
 use Rattle.lib_types.specs.declared.entry.Entry.{Entry}
 use Rattle.name_order.proofs.Total.{name_order-total}
 use Rattle.name_order.specs.Order.{name_order}
-use Rattle.tree_face.specs.Paths.{join}
-use Rattle.tree_face.specs.Node.{has_no_nul}
-use Rattle.tree_face.specs.Tree.{Nodes}
+use Rattle.image_tree.specs.Paths.{join}
+use Rattle.image_tree.specs.Node.{has_no_nul}
+use Rattle.image_tree.specs.Tree.{Nodes}
 use Rattle.found_files.specs.Best.{is_own}
 use Rattle.found_files.specs.Places.{by_place, is_plain, links_to}
 use Rattle.found_files.specs.Analyses.{Analyses}

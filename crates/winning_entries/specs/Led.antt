@@ -5,7 +5,7 @@ use Rattle.hwcap_dirs.specs.declared.kinds.Place.{Place}
 use Rattle.lib_types.specs.declared.abi.Abi.{Abi}
 use Rattle.lib_types.specs.declared.entry.Entry.{Entry}
 use Rattle.found_files.specs.Analyses.{Analyses}
-use Rattle.tree_face.specs.Tree.{Nodes}
+use Rattle.image_tree.specs.Tree.{Nodes}
 use Rattle.winning_entries.specs.Walk.{is_same_abi, is_same_cap, path_with}
 
 -- an entry of this soname, this ABI and this hwcaps name

@@ -1,7 +1,7 @@
 -- What private functions say of a text that is partly read, and of a count of entries.
 use Rattle.std.specs.Prelude.{◌≡◌, ◌<◌, ◌≤◌, ℕ, ◌+◌, List, [], length, Option, Some, None}
 use Rattle.std.specs.List.{slice_split}
-use Rattle.tree_face.specs.Paths.{is_slash}
+use Rattle.image_tree.specs.Paths.{is_slash}
 use Rattle.cache_writer.specs.declared.writer.TheConstants.{ENTRIES_MAX}
 use Rattle.winning_entries.specs.declared.fault.EntryFault.{EntryFault}
 use Rattle.winning_entries.specs.declared.fault.EntryFault.TheVariants.{TooMany, NoMemory}

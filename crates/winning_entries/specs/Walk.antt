@@ -10,8 +10,8 @@ use Rattle.lib_types.specs.declared.abi.Abi.{Abi}
 use Rattle.found_files.specs.Analyses.{Analyses}
 use Rattle.found_files.specs.Libraries.{libraries_in}
 use Rattle.found_files.specs.Library.{Library}
-use Rattle.tree_face.specs.Paths.{join}
-use Rattle.tree_face.specs.Tree.{Nodes}
+use Rattle.image_tree.specs.Paths.{join}
+use Rattle.image_tree.specs.Tree.{Nodes}
 use Rattle.winning_entries.specs.Entries.{entry_name}
 use Rattle.winning_entries.specs.Winner.{links_to_libraries, winner}
 

@@ -2,7 +2,7 @@
 use Rattle.std.specs.Prelude.{ℕ, Bool, List, ◌++◌, ◌&&◌, ◌||◌, nat_eq, nat_lt, if◌then◌else◌, length, codes, Option, Some, None}
 use Rattle.std.specs.List.{ends_with, filter_map, starts_with}
 use Rattle.hwcap_dirs.specs.declared.kinds.Place.{Place}
-use Rattle.tree_face.specs.Tree.{Nodes}
+use Rattle.image_tree.specs.Tree.{Nodes}
 use Rattle.found_files.specs.Best.{best, is_own, sonames}
 use Rattle.found_files.specs.Libraries.{last_name, libraries_in, library_at}
 use Rattle.found_files.specs.Search.{followed_in}

@@ -1,15 +1,12 @@
 //! The entries of a cache.
 ghost use Rattle.std.specs.Prelude.{◌≡◌, ◌≤◌, ◌+◌, ◌++◌, All, IfErr, IfOk, IsTrue, OnOk, length, map};
-ghost use Rattle.std.proofs.Common.{refl};
-ghost use Rattle.std.specs.Cmp.{eq_by_cmp_equiv, partial_equiv_from_equiv, partial_order_from_total};
-ghost use Rattle.std.specs.Ordering.{as_partial_cmp, eq_by_cmp};
 ghost use Rattle.cache_writer.specs.declared.writer.TheConstants.{ENTRIES_MAX};
 ghost use Rattle.hwcap_dirs.specs.Places.{are_spelled};
-ghost use Rattle.tree_face.specs.Paths.{join};
+ghost use Rattle.image_tree.specs.Paths.{join};
 ghost use Rattle.found_files.specs.Best.{bests_in, bests_of};
 ghost use Rattle.found_files.specs.Places.{links_to};
 ghost use Rattle.found_files.specs.Search.{folder_links, followed};
-ghost use Rattle.winning_entries.specs.Entries.{cap_of, entries_in, entry_of, entry_order, entry_order-total, found, is_by_soname, is_fit, AreEntriesOf, IsEntryFault, IsOnlyListOf};
+ghost use Rattle.winning_entries.specs.Entries.{cap_of, entries_in, entry_of, entry_order, found, is_by_soname, is_fit, AreEntriesOf, IsEntryFault, IsOnlyListOf};
 ghost use Rattle.winning_entries.specs.Led.{LeadAsSearched};
 ghost use Rattle.found_files.specs.Table.{analysis_at};
 ghost use Rattle.winning_entries.specs.Parts.{IsCountFault};
@@ -26,7 +23,6 @@ use name_order::compare;
 use path_walk::{join, join_into};
 use std::alloc::Global;
 use std::cmp::Ordering;
-use std::marker::Model;
 use tree_face::Tree;
 
 // ---- the order of entries
@@ -41,64 +37,18 @@ fn cap_of(entry: &Entry) -> &[u8]
     }
 }
 
-/// An entry with its order, which contracts see as the entry.
-#[derive(Drop)]
-struct Sortable {
-    entry: Entry,
-}
-
-impl Model for Sortable {
-    ghost use Rattle.lib_types.specs.declared.entry.Entry.{Entry};
-
-    ghost Value = { Entry };
-
-    ghost view = { λ r. r.entry };
-}
-
-impl PartialEq for Sortable {
-    ghost eq = { eq_by_cmp entry_order };
-
-    ghost laws = { partial_equiv_from_equiv (eq_by_cmp_equiv entry_order-total) };
-
-    fn eq(&self, other: &Self) -> bool {
-        self.cmp(other).is_eq()
-    }
-}
-
-impl Eq for Sortable {
-    ghost laws = { eq_by_cmp_equiv entry_order-total };
-}
-
-impl PartialOrd for Sortable {
-    ghost partial_cmp = { as_partial_cmp entry_order };
-
-    ghost laws = { partial_order_from_total entry_order-total };
-
-    fn partial_cmp(&self, other: &Self) -> Option<Ordering> {
-        Some(self.cmp(other))
-    }
-}
-
-impl Ord for Sortable {
-    ghost cmp = { entry_order };
-
-    ghost total = { entry_order-total };
-
-    ghost matches_partial_cmp = { λ a b. refl };
-
-    ghost matches_eq = { λ a b. refl };
-
-    fn cmp(&self, other: &Self) -> Ordering {
-        let (a, b) = (&self.entry, &other.entry);
-        compare(b.soname.as_bytes(), a.soname.as_bytes()).then_with(|| {
-            b.abi.flags().cmp(&a.abi.flags()).then(
-                a.cap
-                    .is_none()
-                    .cmp(&b.cap.is_none())
-                    .then(cap_of(a).cmp(cap_of(b)).then(a.place.cmp(&b.place))),
-            )
-        })
-    }
+// The order of entries.
+fn compare_entries(a: &Entry, b: &Entry) -> Ordering
+    ensures { result ≡ entry_order a.now b.now }
+{
+    compare(b.soname.as_bytes(), a.soname.as_bytes()).then_with(|| {
+        b.abi.flags().cmp(&a.abi.flags()).then(
+            a.cap
+                .is_none()
+                .cmp(&b.cap.is_none())
+                .then(cap_of(a).cmp(cap_of(b)).then(a.place.cmp(&b.place))),
+        )
+    })
 }
 
 // ---- the entries of the places
@@ -173,7 +123,7 @@ fn entry_of(
 /// What is found: the entries, and how many they are. Past the limit they are counted and not kept.
 #[derive(Drop)]
 struct Counted {
-    entries: Vec<Sortable>,
+    entries: Vec<Entry>,
     count: usize,
 }
 
@@ -184,15 +134,14 @@ fn add_entries(
     number: u32,
     place: &Place,
     winners: &[Library<'_>],
-    entries: &mut Vec<Sortable>,
+    entries: &mut Vec<Entry>,
 ) -> Result<(), NoMemory>
     ensures { OnOk result (entries.new.items ≡ entries.old.items ++ map (entry_of tree.now number place.now) winners.now) }
 {
     let mut path = Vec::new(alloc);
     entries.reserve(winners.len())?;
     for winner in winners {
-        let entry = entry_of(alloc, tree, number, place, winner, &mut path)?;
-        entries.push(Sortable { entry })?;
+        entries.push(entry_of(alloc, tree, number, place, winner, &mut path)?)?;
     }
     Ok(())
 }
@@ -268,27 +217,19 @@ fn found(
 
 // ---- their list
 
-fn listed(alloc: Global, sorted: Vec<Sortable>) -> Result<Entries, NoMemory>
-    ensures { IfOk result (λ entries. entries ≡ sorted.items) }
+// Puts entries in their order, where they stand: no two are equal in it, so no order before has to stay.
+fn sort_entries(entries: &mut Vec<Entry>)
+    ensures { AreEntriesOf entries.old.items entries.new.items }
 {
-    let mut entries = Vec::with_capacity(alloc, sorted.len())?;
-    for Sortable { entry } in sorted {
-        entries.push(entry)?;
-    }
-    Ok(Seq::from_vec(entries))
-}
-
-// These entries in their order.
-fn sorted(alloc: Global, found: Vec<Sortable>) -> Result<Entries, NoMemory>
-    ensures { IfOk result (AreEntriesOf found.items) }
-{
-    let mut entries = found;
-    entries.sort()?;
-    listed(alloc, entries)
+    entries.sort_unstable_by(
+        |a: &Entry, b: &Entry| -> Ordering
+            ensures { result ≡ entry_order a.now b.now }
+        { compare_entries(a, b) },
+    );
 }
 
 // The entries that were found in their order, unless they are too many.
-fn in_order(alloc: Global, found: Counted) -> Result<Entries, EntryFault>
+fn in_order(found: Counted) -> Result<Entries, EntryFault>
     ensures entries { IfOk result (AreEntriesOf found.entries.items) }
     ensures few { IfOk result (λ _. found.count ≤ ENTRIES_MAX) }
     ensures fault { IfErr result (IsCountFault found.count) }
@@ -298,8 +239,9 @@ fn in_order(alloc: Global, found: Counted) -> Result<Entries, EntryFault>
             count: found.count as u64,
         });
     }
-    let entries = sorted(alloc, found.entries)?;
-    Ok(entries)
+    let mut entries = found.entries;
+    sort_entries(&mut entries);
+    Ok(Seq::from_vec(entries))
 }
 
 /// The entries of a cache, one for each place and soname with a winner, given the best libraries and the links of the places. The
@@ -324,6 +266,6 @@ pub fn entries_by(
     tree.know();
     table.know();
     let found = found(alloc, tree, dirs, table, bests, links)?;
-    let entries = in_order(alloc, found)?;
+    let entries = in_order(found)?;
     Ok(entries)
 }

@@ -1,12 +1,12 @@
 //! The winners of a place.
-ghost use Rattle.std.specs.Prelude.{◌≡◌, ◌<◌, ◌∷◌, ◌++◌, length, map, position, IfOk, IfSome, OnOk};
+ghost use Rattle.std.specs.Prelude.{◌≡◌, ◌<◌, ◌∷◌, ◌++◌, length, map, position, unwrap_or, IfOk, IfSome, OnOk};
 ghost use Rattle.std.specs.List.{filter_map, slice_split};
 ghost use Rattle.std.specs.Option.{option_copied};
 ghost use Rattle.hwcap_dirs.specs.declared.kinds.Place.{Place};
-ghost use Rattle.tree_face.specs.Paths.{is_slash};
-ghost use Rattle.tree_face.specs.Tree.{Nodes};
+ghost use Rattle.image_tree.specs.Paths.{is_slash};
+ghost use Rattle.image_tree.specs.Tree.{Nodes};
 ghost use Rattle.found_files.specs.Best.{bests_in};
-ghost use Rattle.found_files.specs.Libraries.{last_name};
+ghost use Rattle.found_files.specs.Libraries.{last_name, library_at};
 ghost use Rattle.found_files.specs.Pick.{better_by};
 ghost use Rattle.found_files.specs.Search.{folder_links};
 ghost use Rattle.winning_entries.specs.Parts.{parts_of};
@@ -16,9 +16,9 @@ ghost use Rattle.found_files.specs.Table.{analysis_at};
 
 use found_files::{
     BestLibrary, BySoname, FolderLinks, FollowedLink, Gather, Library, Table, gather_by_soname,
-    is_own, is_preferred, library_at,
+    is_own, is_preferred,
 };
-use lib_types::NoMemory;
+use lib_types::{Analysis, NoMemory, Text};
 use std::alloc::Global;
 
 // ---- links to libraries
@@ -57,15 +57,36 @@ fn last_name(path: &[u8]) -> &[u8]
     last
 }
 
+// The soname of a file's analysis, or the file's own name if it has none, which is searched for only then.
+fn soname_behind<'a>(soname: &'a Option<Text>, file: &'a [u8]) -> &'a [u8]
+    ensures { result.now ≡ unwrap_or soname.now (last_name file.now) }
+{
+    match soname {
+        Some(soname) => soname.as_bytes(),
+        None => last_name(file),
+    }
+}
+
+// What a name is the name of, given the path of the file to which it leads.
+fn library_behind<'a>(table: &'a Table, name: &'a [u8], file: &'a [u8]) -> Option<Library<'a>>
+    ensures { result ≡ library_at (analysis_at table.now) file.now name.now (last_name file.now) }
+{
+    match table.get(file) {
+        Some(Analysis::Lib { abi, soname }) => Some(Library {
+            name,
+            soname: soname_behind(soname, file),
+            abi: *abi,
+        }),
+        Some(Analysis::Not(_)) | None => None,
+    }
+}
+
 // The library to which a link leads.
 fn linked<'a>(table: &'a Table, link: &'a FollowedLink) -> Option<Library<'a>>
     ensures { result ≡ linked (analysis_at table.now) link.now }
 {
     match &link.file {
-        Some(file) => {
-            let file = file.as_bytes();
-            library_at(table, file, link.name.as_bytes(), last_name(file))
-        }
+        Some(file) => library_behind(table, link.name.as_bytes(), file.as_bytes()),
         None => None,
     }
 }

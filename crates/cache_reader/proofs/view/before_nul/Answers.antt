@@ -1,4 +1,4 @@
-use Rattle.tree_face.proofs.Names.{before_some, before_none}
+use Rattle.image_tree.proofs.Names.{before_some, before_none}
 use Rattle.cache_reader.specs.Cache.{is_nul}
 use Rattle.cache_reader.proofs.view.before_nul.Goals as goal
 

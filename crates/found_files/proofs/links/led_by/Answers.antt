@@ -3,8 +3,8 @@ use Rattle.std.proofs.lemmas.Bool.{and_from}
 use Rattle.std.specs.Option.{option_copied, option_map}
 use Rattle.name_order.specs.LibraryName.{is_library_name}
 use Rattle.path_walk.specs.Files.{file_at}
-use Rattle.tree_face.specs.Paths.{join}
-use Rattle.tree_face.specs.declared.node.Node.TheVariants as node
+use Rattle.image_tree.specs.Paths.{join}
+use Rattle.image_tree.specs.declared.node.Node.TheVariants as node
 use Rattle.found_files.proofs.Children.{link_same}
 use Rattle.found_files.specs.Children.{is_link_node}
 use Rattle.found_files.proofs.links.led_by.Goals as goal

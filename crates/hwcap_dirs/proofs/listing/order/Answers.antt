@@ -1,7 +1,7 @@
 use Rattle.std.proofs.Common.{◌≡◌, ◌≤◌, ◌∙◌, ◌++◌, ℕ, All, List, [], ap, arith, drop, length, true}
 use Rattle.std.proofs.lemmas.List.{drop_all}
-use Rattle.tree_face.specs.Tree.{IsTree, Nodes}
-use Rattle.tree_face.specs.declared.path.TheConstants.{PATH_MAX}
+use Rattle.image_tree.specs.Tree.{IsTree, Nodes}
+use Rattle.image_tree.specs.declared.path.TheConstants.{PATH_MAX}
 use Rattle.hwcap_dirs.proofs.Firsts.{from_none}
 use Rattle.hwcap_dirs.proofs.Reals.{places_are_dirs}
 use Rattle.hwcap_dirs.proofs.Spelled.{places_are_spelled}

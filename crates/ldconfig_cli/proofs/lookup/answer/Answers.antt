@@ -13,7 +13,7 @@ returns-in-Some g c =
     let new = g.O.Sink.state c.put_answer.new.out in (
       c.in-Some.field-0.now,
       (
-        record { accepted = c.in-Ok.ensures.accepted; sorted = c.in-Ok.ensures.sorted; taken = c.in-Some.ensures ∙ λ i. scan (c.in-Ok.ensures.entries i) c.args.lookup.now.name c.args.lookup.now.abi (c.requires i) },
+        record { accepted = c.in-Ok.ensures.accepted; sorted = c.in-Ok.ensures.sorted; taken = c.in-Some.ensures ∙ λ i. scan (c.in-Ok.ensures.entries i) c.args.lookup.now.name c.args.lookup.now.abi c.args.lookup.now.caps },
         (
           subst (λ o. Relates (IsFollowedBy (answer_text o)) old.written new.written) path (succeeded c.put_answer.result c.if-is_err.ensures.value c.put_answer.ensures.done),
           succeeded c.put_answer.result c.if-is_err.ensures.value c.put_answer.ensures.no_fault,

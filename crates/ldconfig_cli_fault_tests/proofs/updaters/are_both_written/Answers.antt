@@ -6,4 +6,4 @@ use Rattle.ldconfig_cli_fault_tests.proofs.updaters.are_both_written.Goals as go
 pub publish-requires : goal.publish-requires
 publish-requires c =
     let run = c.run-status.ensures in
-    c.read.ensures.reads.keeps.made 1 Cache ∙ keeps_other c.args.words.now _ _ _ Cache run.runs.update run.runs.print run.runs.lookup run.runs.no_command ∙ c.append.ensures.made 1 Cache ∙ c.in_ok-create.ensures.made
+    c.read.ensures.reads.keeps.made 1 Cache ∙ keeps_other c.args.words.now c.requires _ _ _ Cache run.runs ∙ c.append.ensures.made 1 Cache ∙ c.in_ok-create.ensures.made

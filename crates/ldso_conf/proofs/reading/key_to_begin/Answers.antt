@@ -1,5 +1,5 @@
 use Rattle.std.proofs.Common.{◌≡◌, Some, true, rules}
-use Rattle.tree_face.specs.Tree.{node_at}
+use Rattle.image_tree.specs.Tree.{node_at}
 use Rattle.ldso_conf.specs.Reading.{key_in, reported, was_read}
 use Rattle.ldso_conf.specs.Visits.{with_report}
 use Rattle.ldso_conf.specs.declared.kinds.ConfKind.TheVariants.{Repeated}

@@ -1,4 +1,4 @@
-use Rattle.std.proofs.Common.{◌≡◌, length, ap, codes, sym, rules, arith}
+use Rattle.std.proofs.Common.{◌≡◌, ap, codes, sym, rules, arith}
 use Rattle.std.proofs.lemmas.Slice.Eq.{text_from_reads}
 use Rattle.mtree_manifest.specs.Keys.{keyword_of}
 use Rattle.mtree_manifest.proofs.keys.keyword_of.Goals as goal

@@ -1,6 +1,6 @@
 use Rattle.std.proofs.Common.{◌≡◌, true}
 use Rattle.std.specs.List.{filter}
-use Rattle.tree_face.specs.Paths.{is_kept}
+use Rattle.image_tree.specs.Paths.{is_kept}
 use Rattle.mtree_manifest.specs.Paths.{decoded_each, names_of}
 use Rattle.mtree_manifest.specs.Naming.{named}
 use Rattle.mtree_manifest.proofs.paths.append_names.Given as goal

@@ -1,5 +1,5 @@
 use Rattle.std.proofs.Common.{◌≡◌}
-use Rattle.tree_face.specs.Paths.{components}
+use Rattle.image_tree.specs.Paths.{components}
 use Rattle.path_walk.specs.Walk.{start_of, steps, walk}
 use Rattle.path_walk.specs.declared.walk.Mode.TheVariants.{Full}
 use Rattle.path_walk.proofs.files.file_beside.Given as goal

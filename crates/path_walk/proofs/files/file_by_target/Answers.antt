@@ -1,7 +1,7 @@
 use Rattle.std.proofs.Common.{◌≡◌, ap, subst, ◌∙◌}
 use Rattle.std.specs.Result.{IfOk}
-use Rattle.tree_face.specs.Paths.{components}
-use Rattle.tree_face.specs.Tree.{kind_at}
+use Rattle.image_tree.specs.Paths.{components}
+use Rattle.image_tree.specs.Tree.{kind_at}
 use Rattle.path_walk.proofs.KindsAt.{start_dir}
 use Rattle.path_walk.specs.Files.{file_by}
 use Rattle.path_walk.specs.Walk.{start_of, steps, walk}

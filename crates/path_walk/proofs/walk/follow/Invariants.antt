@@ -1,5 +1,5 @@
 use Rattle.std.proofs.Common.{◌≡◌, ◌-◌}
-use Rattle.tree_face.specs.Paths.{components}
+use Rattle.image_tree.specs.Paths.{components}
 use Rattle.path_walk.specs.Stops.{KeepsDir}
 use Rattle.path_walk.specs.Walk.{steps, walk}
 use Rattle.path_walk.proofs.walk.follow.Given as goal

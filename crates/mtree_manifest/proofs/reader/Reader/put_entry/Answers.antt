@@ -1,5 +1,5 @@
 use Rattle.std.proofs.Common.{◌≡◌, ◌∙◌, ap, sym, subst, true, Some}
-use Rattle.tree_face.specs.Paths.{is_path}
+use Rattle.image_tree.specs.Paths.{is_path}
 use Rattle.mtree_manifest.specs.Manifest.{node_of}
 use Rattle.mtree_manifest.specs.Paths.{place}
 use Rattle.mtree_manifest.specs.Views.{values_in, given_in}

@@ -1,0 +1,304 @@
+-- What is read of a written file.
+use Rattle.std.proofs.Common.{◌≡◌, ℕ, zero, suc, ◌+◌, ◌*◌, ◌^◌, ◌<◌, ◌≤◌, ◌==◌, ◌&&◌, Bool, true, false, not, cond, nat_eq, nat_lt, List, [], ◌∷◌, ◌++◌, length, map, flat_map, drop, get_or, slice_index, Option, Some, None, IfSome, unwrap_or, refl, sym, ap, subst, ◌∙◌, append_assoc, arith, true≢false, length-append}
+use Rattle.std.proofs.Math.Bool.{or-true}
+use Rattle.std.proofs.Math.Seq.{drop-append-add}
+use Rattle.std.proofs.lemmas.Bool.{and_parts}
+use Rattle.std.proofs.lemmas.Bool.Decides.{nat_tests}
+use Rattle.std.proofs.lemmas.List.{get_or-map, length-map}
+use Rattle.std.proofs.lemmas.Map.Keys.{Less-from_sorted}
+use Rattle.std.specs.Int.{cast_signed, w32}
+use Rattle.std.specs.List.{range_with_len, starts_with}
+use Rattle.std.specs.Ordering.{is_lt}
+use Rattle.std.specs.Str.{is_utf8}
+use Rattle.std.specs.declared.cmp.Ordering.TheVariants.{Less}
+use Rattle.lib_types.specs.Abi.{flags_of, abi_of_flags}
+use Rattle.lib_types.specs.Name.{is_name, have_no_slash, slash}
+use Rattle.lib_types.specs.declared.abi.Abi.{Abi}
+use Rattle.lib_types.specs.declared.abi.Abi.TheVariants.{I386, X86_64, X32, Aarch64}
+use Rattle.cache_layout.specs.Layout.{laid_out, number}
+use Rattle.cache_layout.proofs.Fields.{Fit, reads_back}
+use Rattle.string_pool.specs.Strings.{Strings, place_of, table_of, distinct}
+use Rattle.string_pool.proofs.Pooled.{place_of_le}
+use Rattle.image_tree.specs.Node.{has_no_nul}
+use Rattle.aux_cache.proofs.Adding.{own_there, strings_small}
+use Rattle.aux_cache.proofs.Damage.{before_next, none_damaged, AreRecords}
+use Rattle.aux_cache.proofs.Standing.{behind, part_there, length_parts, string_read, last_nul}
+use Rattle.aux_cache.specs.AuxFile as read
+use Rattle.aux_cache.specs.AuxLayout.{magic, header_fields, record_fields, record_place}
+use Rattle.aux_cache.specs.AuxText.{aux_text, header, record_bytes, soname_of, strings, strings_bytes}
+use Rattle.aux_cache.specs.Ids.{id_cmp}
+use Rattle.aux_cache.specs.Range.{AreNumbers, AreInRange}
+use Rattle.aux_cache.specs.Stamps.{HaveNames, IsSortedById}
+use Rattle.aux_cache.specs.declared.stamps.Stamp.{Stamp}
+
+-- what writing knows of the stamps
+pub record IsWritten (xs : List Stamp) : Type 0 where
+  pub few : length xs ≤ 1048576
+  pub names : HaveNames xs
+  pub sorted : IsSortedById xs
+  pub range : AreInRange xs
+
+-- ---- the parts of the file
+
+abbrev pub front : List Stamp → List ℕ
+front xs = header (length xs) (length (strings_bytes xs))
+
+abbrev pub records : List Stamp → List ℕ
+records xs = flat_map (record_bytes (strings xs)) xs
+
+pub text_is : (xs : List Stamp) → aux_text xs ≡ front xs ++ (records xs ++ strings_bytes xs)
+unfolding aux_text
+text_is xs = append_assoc (front xs) (records xs) (strings_bytes xs)
+
+length_front : (xs : List Stamp) → length (front xs) ≡ 32
+unfolding header
+length_front xs = refl
+
+size_of_record : (s : Strings) (x : Stamp) → length (record_bytes s x) ≡ 48
+unfolding record_bytes
+size_of_record s x = refl
+
+length_records : (xs : List Stamp) → length (records xs) ≡ 48 * length xs
+length_records xs = length_parts (record_bytes (strings xs)) 48 (size_of_record (strings xs)) xs
+
+length_text : (xs : List Stamp) → length (aux_text xs) ≡ 32 + 48 * length xs + length (strings_bytes xs)
+length_text xs =
+    let all = ap length (text_is xs) ∙ length-append (front xs) (records xs ++ strings_bytes xs) in
+    let rest = length-append (records xs) (strings_bytes xs) in
+    omega (arith, all, rest, length_front xs, length_records xs)
+
+-- the parts joined
+pub joined : (xs : List Stamp) (n : ℕ) (r s : List ℕ) → n ≡ length xs → r ≡ records xs → s ≡ strings_bytes xs → header n (length s) ++ r ++ s ≡ aux_text xs
+unfolding aux_text
+joined xs n r s count parts texts = rw (count, parts, texts) refl
+
+-- the parts that are put for a slice are those of the stamps
+pub parts_are : (xs ys : List Stamp) (start table r s : List ℕ) (p : Strings) → ys ≡ xs → start ≡ [] → table ≡ start ++ records ys → r ≡ table → p ≡ strings ys → s ≡ table_of p.texts
+    → (r ≡ records xs) × (s ≡ strings_bytes xs)
+parts_are xs ys start table r s p same none put is texts all =
+    (is ∙ put ∙ ap (λ bytes. bytes ++ records ys) none ∙ ap records same, all ∙ ap (λ q. table_of q.texts) texts ∙ ap strings_bytes same)
+
+pub written : (xs ys : List Stamp) → length xs ≤ 1048576 → HaveNames xs → IsSortedById xs → ys ≡ xs → AreInRange ys → IsWritten xs
+written xs ys few names sorted same range = record { few = few; names = names; sorted = sorted; range = rw same at range }
+
+pub records_fit : (xs : List Stamp) → IsWritten xs → length (records xs) < 2 ^ 32
+records_fit xs w = omega (arith, length_records xs, w.few)
+
+pub strings_fit : (xs : List Stamp) → IsWritten xs → length (strings_bytes xs) < 2 ^ 32
+strings_fit xs w = let small = strings_small xs w.names in omega (arith, small, w.few)
+
+header_there : (xs : List Stamp) (rest : List ℕ) → drop 24 (front xs ++ rest) ≡ laid_out header_fields (length xs ∷ length (strings_bytes xs) ∷ []) ++ rest
+unfolding header
+header_there xs rest = refl
+
+header_back : (xs : List Stamp) → IsWritten xs → (i : ℕ) → i < 2 → read.header_number i (aux_text xs) ≡ slice_index (length xs ∷ length (strings_bytes xs) ∷ []) i
+header_back xs w i h =
+    let small = strings_small xs w.names in
+    let rest = records xs ++ strings_bytes xs in
+    ap (λ bytes. number header_fields i (drop 24 bytes)) (text_is xs) ∙ ap (number header_fields i) (header_there xs rest)
+    ∙ reads_back header_fields (length xs ∷ length (strings_bytes xs) ∷ []) rest i (omega (arith, w.few), (omega (arith, w.few, small), tt)) h
+
+count_back : (xs : List Stamp) → IsWritten xs → read.count (aux_text xs) ≡ length xs
+count_back xs w = header_back xs w 0 (omega arith)
+
+length_back : (xs : List Stamp) → IsWritten xs → read.strings_length (aux_text xs) ≡ length (strings_bytes xs)
+length_back xs w = header_back xs w 1 (omega arith)
+
+strings_back : (xs : List Stamp) → IsWritten xs → read.strings_in (aux_text xs) ≡ strings_bytes xs
+strings_back xs w =
+    let n : 48 * length xs ≡ length (records xs) + 0 = omega (arith, length_records xs) in
+    ap (λ n. drop (record_place n) (aux_text xs)) (count_back xs w) ∙ ap (drop (32 + 48 * length xs)) (text_is xs)
+    ∙ behind (front xs) (records xs ++ strings_bytes xs) 32 (48 * length xs) (length_front xs)
+    ∙ ap (λ n. drop n (records xs ++ strings_bytes xs)) n ∙ drop-append-add (records xs) (strings_bytes xs) 0
+
+-- ---- the fields of a record
+
+abbrev pub fields_of : List Stamp → Stamp → List ℕ
+fields_of xs x = x.id.inode ∷ x.id.ctime ∷ x.id.size ∷ x.id.dev ∷ flags_of x.abi ∷ place_of (strings xs) (soname_of x) ∷ 0 ∷ 0 ∷ []
+
+fields_there : (xs : List Stamp) (x : Stamp) → record_bytes (strings xs) x ≡ laid_out record_fields (fields_of xs x)
+unfolding record_bytes
+fields_there xs x = refl
+
+flags_small : (a : Abi) → flags_of a < 2 ^ 32
+flags_small I386 = omega arith
+flags_small X86_64 = omega arith
+flags_small X32 = omega arith
+flags_small Aarch64 = omega arith
+
+place_small : (xs : List Stamp) → IsWritten xs → (t : List ℕ) → place_of (strings xs) t < 2 ^ 32
+place_small xs w t = let within = place_of_le (strings xs).texts t in let small = strings_small xs w.names in omega (arith, within, small, w.few)
+
+fields_fit : (xs : List Stamp) → IsWritten xs → (x : Stamp) → AreNumbers x.id.inode x.id.ctime x.id.size x.id.dev → Fit record_fields (fields_of xs x)
+fields_fit xs w x r =
+    let f = flags_small x.abi in
+    let p = place_small xs w (soname_of x) in
+    (omega (arith, r.inode_fits), (omega (arith, r.ctime_fits), (omega (arith, r.size_fits), (omega (arith, r.dev_fits), (omega (arith, f), (omega (arith, p), (omega arith, (omega arith, tt))))))))
+
+field_back : (xs : List Stamp) → IsWritten xs → (i : ℕ) (d : Stamp) → i < length xs → (j : ℕ) → j < 8
+    → number record_fields j (read.from_record (aux_text xs) i) ≡ slice_index (fields_of xs (get_or xs i d)) j
+field_back xs w i d h j inside =
+    let put = record_bytes (strings xs) in
+    let x = get_or xs i d in
+    let others = flat_map put (drop (suc i) xs) ++ strings_bytes xs in
+    let there : drop (32 + 48 * i) (front xs ++ (records xs ++ strings_bytes xs)) ≡ put x ++ others =
+    behind (front xs) (records xs ++ strings_bytes xs) 32 (48 * i) (length_front xs) ∙ part_there put 48 (size_of_record (strings xs)) xs (strings_bytes xs) i d h in
+    ap (λ bytes. number record_fields j (drop (32 + 48 * i) bytes)) (text_is xs) ∙ ap (number record_fields j) (there ∙ ap (λ bs. bs ++ others) (fields_there xs x))
+    ∙ reads_back record_fields (fields_of xs x) others j (fields_fit xs w x (w.range i d h)) inside
+
+id_back : (xs : List Stamp) → IsWritten xs → (i : ℕ) (d : Stamp) → i < length xs → read.id_in (read.from_record (aux_text xs) i) ≡ (get_or xs i d).id
+id_back xs w i d h =
+    let inode = field_back xs w i d h 0 (omega arith) in
+    let ctime = field_back xs w i d h 1 (omega arith) in
+    let size = field_back xs w i d h 2 (omega arith) in
+    let dev = field_back xs w i d h 3 (omega arith) in
+    rw (inode, ctime, size, dev) refl
+
+signed_flags : (a : Abi) → abi_of_flags (cast_signed w32 (flags_of a)) ≡ Some a
+signed_flags I386 = refl
+signed_flags X86_64 = refl
+signed_flags X32 = refl
+signed_flags Aarch64 = refl
+
+abi_back : (xs : List Stamp) → IsWritten xs → (i : ℕ) (d : Stamp) → i < length xs → abi_of_flags (read.flags_in (read.from_record (aux_text xs) i)) ≡ Some (get_or xs i d).abi
+abi_back xs w i d h = ap (λ n. abi_of_flags (cast_signed w32 n)) (field_back xs w i d h 4 (omega arith)) ∙ signed_flags (get_or xs i d).abi
+
+offset_back : (xs : List Stamp) → IsWritten xs → (i : ℕ) (d : Stamp) → i < length xs → read.offset_in (read.from_record (aux_text xs) i) ≡ place_of (strings xs) (soname_of (get_or xs i d))
+offset_back xs w i d h = field_back xs w i d h 5 (omega arith)
+
+-- ---- the soname
+
+without_slash : (t : List ℕ) → have_no_slash t ≡ true → has_no_nul t ≡ true
+without_slash [] h = refl
+without_slash (b ∷ t) h =
+    let parts = and_parts (not (b == slash) && not (b == 0)) (have_no_slash t) h in
+    let here = (and_parts (not (b == slash)) (not (b == 0)) parts.0).1 in
+    rw (here, without_slash t parts.1) refl
+
+name_plain : (t : List ℕ) → is_name t ≡ true → has_no_nul t ≡ true
+name_plain t h = without_slash t (and_parts _ (have_no_slash t) (and_parts _ (is_utf8 t) h).0).1
+
+plain : (soname : Option (List ℕ)) → IfSome soname (λ soname. is_name soname ≡ true) → has_no_nul (unwrap_or soname []) ≡ true
+plain None h = refl
+plain (Some soname) h = name_plain soname h
+
+string_back : (xs : List Stamp) → IsWritten xs → (i : ℕ) (d : Stamp) → i < length xs
+    → read.string_at (read.strings_in (aux_text xs)) (place_of (strings xs) (soname_of (get_or xs i d))) ≡ soname_of (get_or xs i d)
+string_back xs w i d h =
+    let x = get_or xs i d in
+    let texts = (strings xs).texts in
+    let at : place_of (strings xs) (soname_of x) ≡ Rattle.string_pool.specs.Strings.offset_of texts (soname_of x) = omega arith in
+    ap (λ bytes. read.string_at bytes (place_of (strings xs) (soname_of x))) (strings_back xs w) ∙ ap (read.string_at (strings_bytes xs)) at
+    ∙ string_read texts (soname_of x) (plain x.soname (w.names i d h)) (own_there xs i d h)
+
+-- the place of no soname is 0, and that of a name isn't
+soname_read : (strings : List ℕ) (rest : List ℕ) (soname : Option (List ℕ)) (place : ℕ) → strings ≡ 0 ∷ rest → IfSome soname (λ soname. is_name soname ≡ true) → (soname ≡ None → place ≡ 0)
+    → read.string_at strings place ≡ unwrap_or soname [] → (cond (place == 0) None (Some (read.string_at strings place)) ≡ soname) × (read.is_soname strings place ≡ true)
+soname_read strings rest None place begins named none is = let zero_is = none refl in (rw zero_is refl, rw zero_is refl)
+soname_read strings rest (Some t) place begins named none is = by (place == 0) refl
+  where
+    there : (read.is_soname strings place ≡ true)
+    there = rw (is, named) (or-true (place == 0))
+
+    by : (b : Bool) → (place == 0) ≡ b → (cond b None (Some (read.string_at strings place)) ≡ Some t) × (read.is_soname strings place ≡ true)
+    by false e = (ap Some is, there)
+    by true e =
+        let at : place ≡ 0 = grind (arith, nat_tests, e) in
+        let empty : t ≡ [] = sym is ∙ ap (read.string_at strings) at ∙ ap (λ bytes. read.string_at bytes 0) begins in
+        absurd (true≢false (sym named ∙ ap is_name empty))
+
+begins_empty : (xs : List Stamp) → (rest : List ℕ) × (strings_bytes xs ≡ 0 ∷ rest)
+begins_empty xs = (_, refl)
+
+none_at_start : (xs : List Stamp) (x : Stamp) → x.soname ≡ None → place_of (strings xs) (soname_of x) ≡ 0
+none_at_start xs x h = ap (λ o. place_of (strings xs) (unwrap_or o [])) h
+
+soname_back : (xs : List Stamp) → IsWritten xs → (i : ℕ) (d : Stamp) → i < length xs
+    → (cond (read.offset_in (read.from_record (aux_text xs) i) == 0) None (Some (read.string_at (read.strings_in (aux_text xs)) (read.offset_in (read.from_record (aux_text xs) i)))) ≡ (get_or xs i d).soname)
+    × (read.is_soname (read.strings_in (aux_text xs)) (read.offset_in (read.from_record (aux_text xs) i)) ≡ true)
+soname_back xs w i d h =
+    let x = get_or xs i d in
+    let begins = begins_empty xs in
+    rw (offset_back xs w i d h)
+    (soname_read (read.strings_in (aux_text xs)) begins.0 x.soname (place_of (strings xs) (soname_of x)) (strings_back xs w ∙ begins.1) (w.names i d h) (none_at_start xs x) (string_back xs w i d h))
+
+-- ---- the stamps
+
+stamp_back : (xs : List Stamp) → IsWritten xs → (i : ℕ) (d : Stamp) → i < length xs → read.stamp_at (aux_text xs) i ≡ get_or xs i d
+unfolding read.stamp_in
+stamp_back xs w i d h =
+    let id = id_back xs w i d h in
+    let abi = ap (λ o. unwrap_or o I386) (abi_back xs w i d h) in
+    let soname = (soname_back xs w i d h).0 in
+    λ k. record { id = id k; abi = abi k; soname = soname k }
+
+by_items : {X : Type 0} (f : ℕ → X) (xs : List X) (a : ℕ) → ((i : ℕ) (d : X) → i < length xs → f (a + i) ≡ get_or xs i d) → map f (range_with_len a (length xs)) ≡ xs
+by_items f [] a h = refl
+by_items f (x ∷ xs) a h =
+    let here : a + 0 ≡ a = omega arith in
+    let first : f a ≡ x = ap f (sym here) ∙ h 0 x (omega arith) in
+    rw (first, by_items f xs (a + 1) (λ i d less. let next : a + 1 + i ≡ a + suc i = omega arith in ap f next ∙ h (suc i) d (omega arith))) refl
+
+pub all_back : (xs : List Stamp) → IsWritten xs → read.stamps_in (aux_text xs) ≡ xs
+all_back xs w =
+    ap (λ n. map (read.stamp_at (aux_text xs)) (range_with_len 0 n)) (count_back xs w)
+    ∙ by_items (read.stamp_at (aux_text xs)) xs 0 (λ i d h. let e : 0 + i ≡ i = omega arith in ap (read.stamp_at (aux_text xs)) e ∙ stamp_back xs w i d h)
+
+-- ---- no damage
+
+is_same : (n m : ℕ) → n ≡ m → (n == m) ≡ true
+is_same n m h = grind (arith, nat_tests)
+
+not_below : (n m : ℕ) → m ≤ n → nat_lt n m ≡ false
+not_below n m h = grind (arith, nat_tests)
+
+begins_by_magic : (xs : List Stamp) (rest : List ℕ) → starts_with nat_eq (front xs ++ rest) magic ≡ true
+unfolding header
+begins_by_magic xs rest = refl
+
+good_strings : (xs : List Stamp) → read.are_strings (strings_bytes xs) ≡ true
+good_strings xs = rw (last_nul [] _) refl
+
+good_file : (xs : List Stamp) → IsWritten xs → read.first_place (read.file_sentences (aux_text xs)) ≡ None
+good_file xs w =
+    let size = length_text xs in
+    let long = not_below (length (aux_text xs)) 32 (omega (arith, size)) in
+    let first : starts_with nat_eq (aux_text xs) magic ≡ true = ap (λ bytes. starts_with nat_eq bytes magic) (text_is xs) ∙ begins_by_magic xs (records xs ++ strings_bytes xs) in
+    let sizes = is_same (length (aux_text xs)) (record_place (read.count (aux_text xs)) + read.strings_length (aux_text xs)) (omega (arith, size, count_back xs w, length_back xs w)) in
+    let good : read.are_strings (read.strings_in (aux_text xs)) ≡ true = ap read.are_strings (strings_back xs w) ∙ good_strings xs in
+    rw (long, first, sizes, good) refl
+
+follows_back : (xs : List Stamp) → IsWritten xs → (i : ℕ) (d : Stamp) → i < length xs → read.follows (read.id_before (aux_text xs) i) (read.id_in (read.from_record (aux_text xs) i)) ≡ true
+follows_back xs w zero d h = refl
+follows_back xs w (suc i) d h =
+    let last = id_back xs w i d (omega arith) in
+    let this = id_back xs w (suc i) d h in
+    let text = aux_text xs in
+    let this_id = read.id_in (read.from_record text (suc i)) in
+    let next : i + 1 ≡ suc i = omega arith in
+    let before : read.id_before text (suc i) ≡ Some (read.id_in (read.from_record text i)) = subst (λ k. read.id_before text k ≡ Some (read.id_in (read.from_record text i))) next (before_next text i) in
+    let first = get_or-map (λ (s : Stamp). s.id) xs i d d.id (omega arith) in
+    let second = get_or-map (λ (s : Stamp). s.id) xs (suc i) d d.id h in
+    let many : suc i < length (map (λ s. s.id) xs) = rw (length-map xs (λ (s : Stamp). s.id)) h in
+    let less = Less-from_sorted id_cmp (map (λ s. s.id) xs) i (suc i) d.id w.sorted (omega arith) many in
+    let rises : id_cmp (get_or xs i d).id (get_or xs (suc i) d).id ≡ Less = rw (first, second) at less in
+    ap (λ o. read.follows o this_id) before ∙ ap (λ a. is_lt (id_cmp a this_id)) last ∙ ap (λ b. is_lt (id_cmp (get_or xs i d).id b)) this ∙ ap is_lt rises
+
+good_records : (xs : List Stamp) → IsWritten xs → AreRecords (aux_text xs) (length xs)
+good_records xs w i h = good (get_or xs i (item xs h))
+  where
+    item : (ys : List Stamp) → i < length ys → Stamp
+    item [] h = absurd (omega arith)
+    item (y ∷ ys) h = y
+
+    good : Stamp → read.is_record (read.strings_in (aux_text xs)) (read.id_before (aux_text xs) i) (read.from_record (aux_text xs) i) ≡ true
+    good d =
+        let first = follows_back xs w i d h in
+        let abi = abi_back xs w i d h in
+        let six = field_back xs w i d h 6 (omega arith) in
+        let seven = field_back xs w i d h 7 (omega arith) in
+        let soname = (soname_back xs w i d h).1 in
+        rw (first, abi, six, seven, soname) refl
+
+pub undamaged : (xs : List Stamp) → IsWritten xs → read.damage (aux_text xs) ≡ None
+undamaged xs w = none_damaged (aux_text xs) (good_file xs w) (subst (λ n. AreRecords (aux_text xs) n) (sym (count_back xs w)) (good_records xs w))

@@ -1,0 +1,5 @@
+mod Adding
+mod Back
+mod Damage
+mod Sorted
+mod Standing

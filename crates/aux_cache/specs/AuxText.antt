@@ -1,0 +1,35 @@
+-- The file of an auxiliary cache: the header, a record for each stamp, and the strings.
+use Rattle.std.specs.Prelude.{ℕ, List, [], ◌∷◌, ◌++◌, length, map, flat_map, unwrap_or}
+use Rattle.lib_types.specs.Abi.{flags_of}
+use Rattle.cache_layout.specs.Layout.{laid_out}
+use Rattle.string_pool.specs.Strings.{Strings, distinct, table_of, place_of}
+use Rattle.aux_cache.specs.AuxLayout.{magic, header_fields, record_fields}
+use Rattle.aux_cache.specs.declared.stamps.Stamp.{Stamp}
+
+-- the soname of a stamp, or the empty string if it has none
+abbrev pub soname_of : Stamp → List ℕ
+soname_of stamp = unwrap_or stamp.soname []
+
+-- the strings: the empty one, and each soname once, in the order of first use; offsets count from the first of them
+abbrev pub strings : List Stamp → Strings
+strings stamps = record { base = 0; texts = distinct ([] ∷ map soname_of stamps) }
+
+abbrev pub strings_bytes : List Stamp → List ℕ
+strings_bytes stamps = table_of (distinct ([] ∷ map soname_of stamps))
+
+-- the header before so many records and strings of this length
+unfoldable pub header : ℕ → ℕ → List ℕ
+header records strings = magic ++ laid_out header_fields (records ∷ strings ∷ [])
+
+-- the record of a stamp
+unfoldable pub record_bytes : Strings → Stamp → List ℕ
+record_bytes strings stamp =
+    laid_out record_fields
+    (stamp.id.inode ∷ stamp.id.ctime ∷ stamp.id.size ∷ stamp.id.dev ∷ flags_of stamp.abi ∷ place_of strings (soname_of stamp) ∷ 0 ∷ 0 ∷ [])
+
+-- the file of these stamps
+unfoldable pub aux_text : List Stamp → List ℕ
+aux_text stamps =
+    header (length stamps) (length (strings_bytes stamps))
+    ++ flat_map (record_bytes (strings stamps)) stamps
+    ++ strings_bytes stamps

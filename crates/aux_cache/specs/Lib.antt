@@ -1,0 +1,7 @@
+pub mod AuxFile
+pub mod AuxLayout
+pub mod AuxText
+pub mod Ids
+pub mod Index
+pub mod Range
+pub mod Stamps

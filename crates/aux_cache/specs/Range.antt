@@ -1,0 +1,13 @@
+-- The numbers of identities, of which each has 64 bits.
+use Rattle.std.specs.Prelude.{ℕ, ◌<◌, ◌^◌, List}
+use Rattle.std.specs.List.{All}
+use Rattle.aux_cache.specs.declared.stamps.Stamp.{Stamp}
+
+pub record AreNumbers (inode ctime size dev : ℕ) : Type 0 where
+  pub inode_fits : inode < 2 ^ 64
+  pub ctime_fits : ctime < 2 ^ 64
+  pub size_fits : size < 2 ^ 64
+  pub dev_fits : dev < 2 ^ 64
+
+abbrev pub AreInRange : List Stamp → Type 0
+AreInRange stamps = All (λ s. AreNumbers s.id.inode s.id.ctime s.id.size s.id.dev) stamps

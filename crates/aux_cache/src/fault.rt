@@ -1,0 +1,44 @@
+//! Why a file gives no stamps.
+ghost use Rattle.std.specs.Prelude.{◌≡◌};
+
+use lib_types::NoMemory;
+use std::alloc::{AllocError, AllocFailed};
+
+/// Why no stamps were read.
+#[derive(Clone, Copy, Debug, PartialEq, Eq)]
+pub enum AuxFault {
+    /// The file is no auxiliary cache. The offset is that of the first part that is wrong: 0 of the header, 24 of its numbers, else
+    /// that of the strings or of a record.
+    Damaged { at: u64 },
+    NoMemory,
+}
+
+impl From<NoMemory> for AuxFault {
+    ghost use Rattle.aux_cache.specs.declared.fault.AuxFault.TheVariants as faults;
+
+    ghost from_gives = { λ _ e. e ≡ faults.NoMemory };
+
+    fn from(_: NoMemory) -> Self {
+        AuxFault::NoMemory
+    }
+}
+
+impl From<AllocError> for AuxFault {
+    ghost use Rattle.aux_cache.specs.declared.fault.AuxFault.TheVariants as faults;
+
+    ghost from_gives = { λ _ e. e ≡ faults.NoMemory };
+
+    fn from(_: AllocError) -> Self {
+        AuxFault::NoMemory
+    }
+}
+
+impl<T: Drop> From<AllocFailed<T>> for AuxFault {
+    ghost use Rattle.aux_cache.specs.declared.fault.AuxFault.TheVariants as faults;
+
+    ghost from_gives = { λ _ e. e ≡ faults.NoMemory };
+
+    fn from(_: AllocFailed<T>) -> Self {
+        AuxFault::NoMemory
+    }
+}

@@ -1,0 +1,14 @@
+//! The auxiliary cache: what earlier updates read of the libraries, by the identities of their files.
+#![tactic(auto)]
+
+mod fault;
+mod layout;
+mod order;
+mod reader;
+mod stamps;
+mod writer;
+
+pub use fault::AuxFault;
+pub use reader::read;
+pub use stamps::{STAMPS_MAX, Stamp, Stamps};
+pub use writer::write;

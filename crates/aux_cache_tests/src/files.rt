@@ -1,0 +1,164 @@
+//! What is read of files, and written.
+use crate::bytes::{bytes_of, hex, with_bytes};
+use crate::lines::{Back, Outcome, have_same, read_back, stamps_of};
+use aux_cache::{AuxFault, Stamps, read};
+use lib_types::NoMemory;
+use std::alloc::Global;
+use table_rows::{Row, Said, Trial, divide, number, value};
+use tree_face::Id;
+
+/// A row has the bytes of a file behind `hex`, and behind each `stamp` a stamp that is read of it: device, inode, ctime, size, ABI and
+/// soname (`-` for none). `absent` has an identity without a stamp. The stamps are written as the file, unless another writer made it
+/// (`other`). `damaged PLACE` says that the file is damaged, `bad AT HEX PLACE` that the file is with these bytes at this offset, and
+/// `more HEX PLACE` with these bytes behind it; `good AT HEX` that it is read with them. Each file without some of its last bytes is damaged.
+pub(crate) struct Files;
+
+// The place of the damage.
+fn damage(alloc: Global, file: &[u8]) -> Result<Option<u64>, NoMemory> {
+    match read(alloc, file) {
+        Ok(_) => Ok(None),
+        Err(AuxFault::Damaged { at }) => Ok(Some(at)),
+        Err(AuxFault::NoMemory) => Err(NoMemory),
+    }
+}
+
+fn is_damaged(
+    alloc: Global,
+    file: &[u8],
+    place: u64,
+    name: &[u8],
+    said: &mut Said,
+) -> Result<bool, NoMemory> {
+    match damage(alloc, file)? {
+        Some(at) => said.is_number(alloc, name, place, at),
+        None => {
+            said.say(b"not damaged: ", name)?;
+            Ok(false)
+        }
+    }
+}
+
+// `AT HEX PLACE`, or `AT HEX` if the file is good.
+fn is_changed(
+    alloc: Global,
+    file: &[u8],
+    line: &[u8],
+    is_good: bool,
+    said: &mut Said,
+) -> Result<bool, NoMemory> {
+    let (at, rest) = divide(b' ', line);
+    let (digits, place) = divide(b' ', rest);
+    let changed = with_bytes(alloc, file, number(at), &hex(alloc, digits)?)?;
+    if is_good {
+        return Ok(damage(alloc, &changed)?.is_none());
+    }
+    is_damaged(alloc, &changed, number(place), line, said)
+}
+
+// `HEX PLACE`
+fn is_longer(alloc: Global, file: &[u8], line: &[u8], said: &mut Said) -> Result<bool, NoMemory> {
+    let (digits, place) = divide(b' ', line);
+    let mut longer = Vec::from_slice(alloc, file)?;
+    longer.extend_from_slice(&hex(alloc, digits)?)?;
+    is_damaged(alloc, &longer, number(place), line, said)
+}
+
+// Whether each line of a changed file is as it says.
+fn are_changed(
+    alloc: Global,
+    file: &[u8],
+    row: Row<'_>,
+    said: &mut Said,
+) -> Result<bool, NoMemory> {
+    let mut right = true;
+    for line in row {
+        let (word, rest) = divide(b' ', *line);
+        if word == b"bad".as_slice() {
+            right = is_changed(alloc, file, rest, false, said)? && right;
+        }
+        if word == b"good".as_slice() {
+            right = is_changed(alloc, file, rest, true, said)? && right;
+        }
+        if word == b"more".as_slice() {
+            right = is_longer(alloc, file, rest, said)? && right;
+        }
+    }
+    Ok(right)
+}
+
+// Whether the file is damaged without its last bytes, however many these are: at 0 without a whole header, else at its numbers.
+fn are_cut(alloc: Global, file: &[u8], said: &mut Said) -> Result<bool, NoMemory> {
+    let mut right = true;
+    for len in 0..file.len() {
+        let place = if len < 32 { 0 } else { 24 };
+        right = is_damaged(alloc, &file[..len], place, b"cut", said)? && right;
+    }
+    Ok(right)
+}
+
+// Whether no line `absent` has an identity with a stamp.
+fn are_absent(stamps: &Stamps, row: Row<'_>) -> bool {
+    let mut right = true;
+    for line in row {
+        let (word, rest) = divide(b' ', *line);
+        if word == b"absent".as_slice() {
+            right = right && stamps.find(&id(rest)).is_none();
+        }
+    }
+    right
+}
+
+fn id(line: &[u8]) -> Id {
+    let (dev, rest) = divide(b' ', line);
+    let (inode, rest) = divide(b' ', rest);
+    let (ctime, size) = divide(b' ', rest);
+    Id {
+        dev: number(dev),
+        inode: number(inode),
+        ctime: number(ctime),
+        size: number(size),
+    }
+}
+
+// Whether the file has the stamps of the row, and is what is written of them.
+fn is_read(
+    alloc: Global,
+    file: &[u8],
+    got: &Back,
+    row: Row<'_>,
+    said: &mut Said,
+) -> Result<bool, NoMemory> {
+    let stamps = stamps_of(alloc, row)?;
+    if !have_same(alloc, &stamps, &got.stamps, said)? || !are_absent(&got.stamps, row) {
+        said.say(b"other stamps", b"")?;
+        return Ok(false);
+    }
+    let is_other = value(row, b"other").is_some();
+    Ok((got.written.as_slice() == file) != is_other)
+}
+
+impl Trial for Files {
+    fn words() -> &'static [&'static [u8]] {
+        &[
+            b"hex", b"stamp", b"absent", b"other", b"damaged", b"bad", b"good", b"more",
+        ]
+    }
+
+    fn is_right(alloc: Global, row: Row<'_>, said: &mut Said) -> Result<bool, NoMemory> {
+        let file = bytes_of(alloc, row)?;
+        if let Some(place) = value(row, b"damaged") {
+            return is_damaged(alloc, &file, number(place), b"file", said);
+        }
+        match read_back(alloc, &file)? {
+            Outcome::Read(got) => Ok(
+                is_read(alloc, &file, &got, row, said)?
+                    && are_changed(alloc, &file, row, said)?
+                    && are_cut(alloc, &file, said)?,
+            ),
+            Outcome::Damaged(at) => {
+                said.is_number(alloc, b"damaged", 0, at)?;
+                Ok(false)
+            }
+        }
+    }
+}

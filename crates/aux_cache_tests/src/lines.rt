@@ -1,0 +1,124 @@
+//! Stamps as a row has them.
+use aux_cache::{AuxFault, STAMPS_MAX, Stamp, Stamps, read, write};
+use lib_types::{Abi, NoMemory, Text};
+use std::alloc::Global;
+use table_rows::{Row, Said, divide, number};
+use tree_face::Id;
+
+// `DEV INODE CTIME SIZE`, and what stands behind.
+fn id_of(line: &[u8]) -> (Id, &[u8]) {
+    let (dev, rest) = divide(b' ', line);
+    let (inode, rest) = divide(b' ', rest);
+    let (ctime, rest) = divide(b' ', rest);
+    let (size, rest) = divide(b' ', rest);
+    let id = Id {
+        dev: number(dev),
+        inode: number(inode),
+        ctime: number(ctime),
+        size: number(size),
+    };
+    (id, rest)
+}
+
+// `DEV INODE CTIME SIZE ABI SONAME`, where `-` stands for no soname.
+fn stamp_of(alloc: Global, line: &[u8]) -> Result<Stamp, NoMemory> {
+    let (id, rest) = id_of(line);
+    let (word, name) = divide(b' ', rest);
+    let soname = if name == b"-".as_slice() {
+        None
+    } else {
+        Some(Text::copy_of(alloc, name)?)
+    };
+    let abi = Abi::of_word(word).unwrap_or(Abi::X86_64);
+    Ok(Stamp { id, abi, soname })
+}
+
+/// The stamps of the lines `stamp`, put the last one first, each in the place of another one with its identity.
+pub(crate) fn stamps_of(alloc: Global, row: Row<'_>) -> Result<Stamps, NoMemory> {
+    let mut stamps = Stamps::new(alloc);
+    for line in row.iter().rev() {
+        let (word, rest) = divide(b' ', *line);
+        if word == b"stamp".as_slice() {
+            stamps.insert(Stamp {
+                id: id_of(rest).0,
+                abi: Abi::X32,
+                soname: None,
+            })?;
+            stamps.insert(stamp_of(alloc, rest)?)?;
+        }
+    }
+    Ok(stamps)
+}
+
+fn same_sonames(a: &Option<Text>, b: &Option<Text>) -> bool {
+    match a {
+        Some(first) => match b {
+            Some(second) => first.as_bytes() == second.as_bytes(),
+            None => false,
+        },
+        None => b.is_none(),
+    }
+}
+
+fn is_same(a: &Stamp, b: &Stamp) -> bool {
+    a.id == b.id && a.abi == b.abi && same_sonames(&a.soname, &b.soname)
+}
+
+// Whether both at this index, or found by the identity, are the same.
+fn same_at(stamps: &Stamps, others: &Stamps, index: usize) -> bool {
+    let Some(stamp) = stamps.get(index) else {
+        return false;
+    };
+    let same = match others.get(index) {
+        Some(other) => is_same(stamp, other),
+        None => false,
+    };
+    let found = match others.find(&stamp.id) {
+        Some(other) => is_same(stamp, other),
+        None => false,
+    };
+    same && found
+}
+
+/// Whether both have the same stamps in one order, each found by its identity.
+pub(crate) fn have_same(
+    alloc: Global,
+    want: &Stamps,
+    got: &Stamps,
+    said: &mut Said,
+) -> Result<bool, NoMemory> {
+    let mut same = said.is_number(alloc, b"stamps", want.len() as u64, got.len() as u64)?;
+    for index in 0..want.len() {
+        same = same && same_at(want, got, index);
+    }
+    Ok(same)
+}
+
+/// What is read of a file, and the file that is written of it.
+#[derive(Drop)]
+pub(crate) struct Back {
+    pub(crate) stamps: Stamps,
+    pub(crate) written: Vec<u8>,
+}
+
+/// What is read of a file and written again, or the place of its damage.
+#[derive(Drop)]
+pub(crate) enum Outcome {
+    Read(Back),
+    Damaged(u64),
+}
+
+/// What comes of a file.
+pub(crate) fn read_back(alloc: Global, file: &[u8]) -> Result<Outcome, NoMemory> {
+    match read(alloc, file) {
+        Ok(stamps) => {
+            if stamps.len() > STAMPS_MAX {
+                return Err(NoMemory);
+            }
+            let written = write(alloc, &stamps)?;
+            Ok(Outcome::Read(Back { stamps, written }))
+        }
+        Err(AuxFault::Damaged { at }) => Ok(Outcome::Damaged(at)),
+        Err(AuxFault::NoMemory) => Err(NoMemory),
+    }
+}

@@ -1,0 +1,4 @@
+pub mod Alone
+mod Apps
+mod Found
+mod Parsed

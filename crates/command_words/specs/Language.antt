@@ -1,0 +1,42 @@
+-- Which arguments each command takes. They are read by `clap`, whose definitions say what is refused and what is found.
+use Rattle.std.specs.Prelude.{◌||◌, ℕ, true, List, [], ◌∷◌, codes, Option, Some, None, if◌then◌else◌}
+use Rattle.std.specs.Str.{bytes_eq}
+use Rattle.clap.specs.Words.{App, Rule, new_app, new_rule, with_rule}
+use Rattle.command_words.specs.declared.verb.Verb.{Verb}
+use Rattle.command_words.specs.declared.verb.Verb.TheVariants.{Update, Print, Lookup}
+
+-- ---- the first argument
+
+abbrev pub verb_of : List ℕ → Option Verb
+verb_of word =
+    if bytes_eq word (codes "update") then Some Update
+    else if bytes_eq word (codes "print") || bytes_eq word (codes "-p") then Some Print
+    else if bytes_eq word (codes "lookup") then Some Lookup
+    else None
+
+-- without arguments it is `update`
+abbrev pub verb_in : List (List ℕ) → Option Verb
+verb_in [] = Some Update
+verb_in (word ∷ rest) = verb_of word
+
+-- ---- the others
+
+-- one that is needed, without a name
+abbrev pub word_rule : List ℕ → Rule
+word_rule id = record (new_rule id) { required = true }
+
+-- `--ID VALUE` or `--ID=VALUE`, once at most
+abbrev pub option_rule : List ℕ → Rule
+option_rule id = record (new_rule id) { long = Some id }
+
+-- nothing is taken, `--help` and `--version` neither
+abbrev pub without_requests : App
+without_requests =
+    let empty = new_app (codes "ldconfig") in
+    record empty { top = record empty.top { disable_help_flag = true; disable_version_flag = true } }
+
+-- the options of a command, and the arguments that it needs
+unfoldable pub app : Verb → App
+app Update = with_rule without_requests (option_rule (codes "tag"))
+app Print = without_requests
+app Lookup = with_rule (with_rule (with_rule without_requests (word_rule (codes "NAME"))) (option_rule (codes "abi"))) (option_rule (codes "caps"))

@@ -1,0 +1,39 @@
+-- What texts mean as values of arguments.
+use Rattle.std.specs.Prelude.{◌==◌, ◌&&◌, ◌^◌, ◌+◌, ℕ, Bool, not, List, [], ◌∷◌, length, filter, codes, Option, Some, None, if◌then◌else◌, nat_le, nat_lt}
+use Rattle.std.specs.Char.{is_ascii_digit}
+use Rattle.std.specs.List.{list_all, slice_split}
+use Rattle.std.specs.Str.{byte, bytes_eq}
+use Rattle.std.specs.Str.Parse.{digits_value}
+
+-- `-` alone is no value
+abbrev pub is_value : List ℕ → Bool
+is_value text = not (bytes_eq text (codes "-"))
+
+-- the number of 1 to 5 decimal digits, below 2^16
+abbrev pub number_in : List ℕ → Option ℕ
+number_in text =
+    if nat_le 1 (length text) && nat_le (length text) 5 && list_all is_ascii_digit text && nat_lt (digits_value 10 text) (2 ^ 16)
+    then Some (digits_value 10 text) else None
+
+abbrev pub is_colon : ℕ → Bool
+is_colon code = code == byte ":"
+
+abbrev pub is_cap : List ℕ → Bool
+is_cap text = not (length text == 0)
+
+-- the hwcaps names between colons, of which empty ones don't count
+abbrev pub caps_in : List ℕ → List (List ℕ)
+caps_in text = filter is_cap (slice_split is_colon text)
+
+-- ---- what private functions say of a list that is partly read
+
+abbrev pub parts_of : Option (List ℕ) → List (List ℕ)
+parts_of None = []
+parts_of (Some text) = slice_split is_colon text
+
+abbrev pub caps_of : Option (List ℕ) → List (List ℕ)
+caps_of text = filter is_cap (parts_of text)
+
+abbrev pub size_of : Option (List ℕ) → ℕ
+size_of None = 0
+size_of (Some text) = 1 + length text

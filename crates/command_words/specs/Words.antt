@@ -1,0 +1,67 @@
+-- The command of arguments.
+use Rattle.std.specs.Prelude.{◌≡◌, ◌==◌, ⊤, ℕ, Bool, false, not, List, [], codes, length, Option, Some, None, Result, Ok, Err, option_map, option_and_then, unwrap_or, if◌then◌else◌}
+use Rattle.std.specs.Option.{option_map_or}
+use Rattle.clap.specs.Words.{Row, fault_of, first_of, matches_of, takes}
+use Rattle.lib_types.specs.Abi.{abi_of_word}
+use Rattle.lib_types.specs.declared.abi.Abi.{Abi}
+use Rattle.command_words.specs.Language.{app, verb_in}
+use Rattle.command_words.specs.Values.{caps_in, is_value, number_in}
+use Rattle.command_words.specs.declared.fault.WordsFault.{WordsFault}
+use Rattle.command_words.specs.declared.fault.WordsFault.TheVariants as faults
+use Rattle.command_words.specs.declared.kinds.Command.{Command}
+use Rattle.command_words.specs.declared.kinds.Command.TheVariants as commands
+use Rattle.command_words.specs.declared.kinds.Lookup.{Lookup}
+use Rattle.command_words.specs.declared.verb.Verb.{Verb}
+use Rattle.command_words.specs.declared.verb.Verb.TheVariants as verbs
+
+-- ---- values, by what `clap` found
+
+-- the value of an argument, or what stands for it if it isn't given; none if that is no value
+abbrev pub value_by : List ℕ → List ℕ → List Row → Option (List ℕ)
+value_by id other found =
+    let text = unwrap_or (first_of id found) other in
+    if is_value text then Some text else None
+
+abbrev pub tag_by : List Row → Option ℕ
+tag_by found = option_and_then number_in (value_by (codes "tag") (codes "0") found)
+
+abbrev pub abi_by : List Row → Option Abi
+abi_by found = option_and_then abi_of_word (value_by (codes "abi") (codes "x86-64") found)
+
+abbrev pub caps_by : List Row → Option (List (List ℕ))
+caps_by found = option_map caps_in (value_by (codes "caps") [] found)
+
+abbrev pub lookup_by : List Row → Option Lookup
+lookup_by found = option_and_then (λ name. option_and_then (λ abi. option_map (λ caps. record { name = name; abi = abi; caps = caps })
+    (caps_by found)) (abi_by found)) (value_by (codes "NAME") [] found)
+
+-- the command with these values, if they are values
+abbrev pub command_by : Verb → List Row → Option Command
+command_by verbs.Update found = option_map (λ tag. commands.Update (record { 0 = tag })) (tag_by found)
+command_by verbs.Print found = Some commands.Print
+command_by verbs.Lookup found = option_map commands.Lookup (lookup_by found)
+
+-- ---- arguments
+
+-- the command with the values that `clap` finds
+abbrev pub values_in : List (List ℕ) → Option Command
+values_in words = option_and_then (λ verb. command_by verb (matches_of (app verb) words)) (verb_in words)
+
+-- `clap` has something against the arguments behind the first
+abbrev pub are_refused : List (List ℕ) → Bool
+are_refused words = option_map_or (λ verb. not (length (fault_of (app verb) words) == 0)) (verb_in words) false
+
+-- the command, if the arguments are those of one
+unfoldable pub command_in : List (List ℕ) → Option Command
+command_in words = if are_refused words then None else values_in words
+
+-- `clap` promises to take the arguments
+unfoldable pub are_taken : List (List ℕ) → Bool
+are_taken words = option_map_or (λ verb. takes (app verb) words) (verb_in words) false
+
+-- ---- what a call returns that may run out of memory
+
+abbrev pub Gives : {T : Type 0} → Option T → Result T WordsFault → Type 0
+Gives expected (Ok value) = expected ≡ Some value
+Gives expected (Err faults.Usage) = expected ≡ None
+Gives expected (Err faults.NoMemory) = ⊤

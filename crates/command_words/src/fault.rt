@@ -1,0 +1,30 @@
+//! Why there is no command.
+ghost use Rattle.std.specs.Prelude.{◌≡◌};
+ghost use Rattle.command_words.specs.declared.fault.WordsFault.TheVariants as faults;
+
+use lib_types::NoMemory;
+use std::alloc::AllocError;
+
+/// Why arguments have no command.
+#[derive(Clone, Copy, Debug, PartialEq, Eq)]
+pub enum WordsFault {
+    /// They are those of no command.
+    Usage,
+    NoMemory,
+}
+
+impl From<NoMemory> for WordsFault {
+    ghost from_gives = { λ _ e. e ≡ faults.NoMemory };
+
+    fn from(_: NoMemory) -> Self {
+        WordsFault::NoMemory
+    }
+}
+
+impl From<AllocError> for WordsFault {
+    ghost from_gives = { λ _ e. e ≡ faults.NoMemory };
+
+    fn from(_: AllocError) -> Self {
+        WordsFault::NoMemory
+    }
+}

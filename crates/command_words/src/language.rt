@@ -1,0 +1,69 @@
+//! The arguments of each command, as `clap` reads them.
+ghost use Rattle.std.specs.Prelude.{◌≡◌, false, IfOk};
+ghost use Rattle.clap.specs.Words.{app_of, rule_of, with_rule};
+ghost use Rattle.command_words.specs.Language.{app, option_rule, without_requests, word_rule};
+
+use crate::verb::Verb;
+use clap::{Arg, Command};
+use std::alloc::{AllocError, Global};
+
+// An argument that is needed, without a name.
+fn word<'a>(alloc: Global, id: &'a str) -> Arg<'a>
+    ensures rule { rule_of result ≡ word_rule id.entry.now }
+    ensures local { result.global ≡ false }
+{
+    Arg::new(alloc, id).required(true)
+}
+
+// An option with one value.
+fn option<'a>(alloc: Global, id: &'a str) -> Arg<'a>
+    ensures rule { rule_of result ≡ option_rule id.entry.now }
+    ensures local { result.global ≡ false }
+{
+    Arg::new(alloc, id).long(id)
+}
+
+// A command without arguments, and without the options that `clap` adds.
+fn bare<'a>(alloc: Global) -> Command<'a>
+    ensures { app_of result ≡ without_requests }
+{
+    Command::new(alloc, "ldconfig")
+        .disable_help_flag(true)
+        .disable_version_flag(true)
+}
+
+// The command with one argument more.
+fn with<'a>(command: Command<'a>, arg: Arg<'a>) -> Result<Command<'a>, AllocError>
+    requires { arg.global ≡ false }
+    ensures { IfOk result (λ c. app_of c ≡ with_rule (app_of command.entry) (rule_of arg.entry)) }
+{
+    command.arg(arg)
+}
+
+#[tactic(auto, unfolding(crate::specs::Language::app))]
+fn update<'a>(alloc: Global) -> Result<Command<'a>, AllocError>
+    ensures { IfOk result (λ c. app_of c ≡ app Verb.Update) }
+{
+    with(bare(alloc), option(alloc, "tag"))
+}
+
+#[tactic(auto, unfolding(crate::specs::Language::app))]
+fn lookup<'a>(alloc: Global) -> Result<Command<'a>, AllocError>
+    ensures { IfOk result (λ c. app_of c ≡ app Verb.Lookup) }
+{
+    let named = with(bare(alloc), word(alloc, "NAME"))?;
+    let of_abi = with(named, option(alloc, "abi"))?;
+    with(of_abi, option(alloc, "caps"))
+}
+
+/// The arguments of this command.
+#[tactic(auto, unfolding(crate::specs::Language::app))]
+pub(crate) fn arguments_of<'a>(alloc: Global, verb: Verb) -> Result<Command<'a>, AllocError>
+    ensures { IfOk result (λ c. app_of c ≡ app verb) }
+{
+    match verb {
+        Verb::Update => update(alloc),
+        Verb::Print => Ok(bare(alloc)),
+        Verb::Lookup => lookup(alloc),
+    }
+}

@@ -1,0 +1,118 @@
+//! The arguments as a command.
+ghost use Rattle.std.specs.Prelude.{◌≡◌, true, Err, None, [], map, option_map, IfOk};
+ghost use Rattle.std.specs.String.{string_bytes};
+ghost use Rattle.clap.specs.Words.{app_of, fault_of, first_of, found_of, matches_of, rows_of, takes};
+ghost use Rattle.command_words.specs.Language.{app, verb_in};
+ghost use Rattle.command_words.specs.Words.{Gives, abi_by, are_taken, caps_by, command_by, command_in, lookup_by, tag_by, value_by, values_in};
+ghost use Rattle.command_words.specs.declared.fault.WordsFault.TheVariants as faults;
+
+use crate::fault::WordsFault;
+use crate::kinds::{Command, Lookup};
+use crate::language::arguments_of;
+use crate::values::{caps_in, is_value, number};
+use crate::verb::{Verb, verb_in};
+use clap::ArgMatches;
+use clap::error::ErrorKind;
+use lib_types::{Abi, Text, Texts};
+use std::alloc::Global;
+use tree_face::Tag;
+
+// What `clap` finds in the arguments of this command.
+fn parse<'a>(
+    alloc: Global,
+    verb: Verb,
+    arguments: &'a Vec<String>,
+) -> Result<ArgMatches<'a>, WordsFault>
+    ensures found { IfOk result (λ m. rows_of (found_of m) ≡ matches_of (app verb) (map string_bytes arguments.entry.now.items)) }
+    ensures accepted { IfOk result (λ _. fault_of (app verb) (map string_bytes arguments.entry.now.items) ≡ []) }
+    ensures refused { result ≡ Err faults.Usage → fault_of (app verb) (map string_bytes arguments.entry.now.items) ≡ [] → ⊥ }
+    ensures only { result ≡ Err faults.Usage → takes (app verb) (map string_bytes arguments.entry.now.items) ≡ true → ⊥ }
+{
+    let command = arguments_of(alloc, verb)?;
+    match command.try_get_matches_from(arguments.as_slice()) {
+        Ok(matches) => Ok(matches),
+        Err(error) => match error.kind() {
+            ErrorKind::OutOfMemory => Err(WordsFault::NoMemory),
+            _ => Err(WordsFault::Usage),
+        },
+    }
+}
+
+// The first value of this argument.
+#[tactic(auto, using(crate::proofs::Found::first_is))]
+fn first_of<'a>(found: &ArgMatches<'a>, id: &str) -> Option<&'a str>
+    ensures { option_map (λ t. t.now) result ≡ first_of id.now (rows_of (found_of found.now)) }
+{
+    found.get_str(id)
+}
+
+// The value of this argument, or what stands for it if it isn't given.
+fn value_by<'a>(found: &ArgMatches<'a>, id: &str, other: &'a str) -> Option<&'a str>
+    ensures { option_map (λ t. t.now) result ≡ value_by id.now other.now (rows_of (found_of found.now)) }
+{
+    let text = first_of(found, id).unwrap_or(other);
+    if is_value(text) { Some(text) } else { None }
+}
+
+fn tag_by(found: &ArgMatches<'_>) -> Option<u16>
+    ensures { result ≡ tag_by (rows_of (found_of found.now)) }
+{
+    number(value_by(found, "tag", "0")?)
+}
+
+fn abi_by(found: &ArgMatches<'_>) -> Option<Abi>
+    ensures { result ≡ abi_by (rows_of (found_of found.now)) }
+{
+    Abi::of_word(value_by(found, "abi", "x86-64")?.as_bytes())
+}
+
+fn caps_by(alloc: Global, found: &ArgMatches<'_>) -> Result<Texts, WordsFault>
+    ensures { Gives (caps_by (rows_of (found_of found.now))) result }
+{
+    match value_by(found, "caps", "") {
+        Some(list) => Ok(caps_in(alloc, list.as_bytes())?),
+        None => Err(WordsFault::Usage),
+    }
+}
+
+fn lookup_by(alloc: Global, found: &ArgMatches<'_>) -> Result<Lookup, WordsFault>
+    ensures { Gives (lookup_by (rows_of (found_of found.now))) result }
+{
+    let Some(name) = value_by(found, "NAME", "") else {
+        return Err(WordsFault::Usage);
+    };
+    let Some(abi) = abi_by(found) else {
+        return Err(WordsFault::Usage);
+    };
+    let caps = caps_by(alloc, found)?;
+    let name = Text::copy_of(alloc, name.as_bytes())?;
+    Ok(Lookup { name, abi, caps })
+}
+
+fn command_by(alloc: Global, verb: Verb, found: &ArgMatches<'_>) -> Result<Command, WordsFault>
+    ensures { Gives (command_by verb (rows_of (found_of found.now))) result }
+{
+    match verb {
+        Verb::Update => match tag_by(found) {
+            Some(tag) => Ok(Command::Update { tag: Tag(tag) }),
+            None => Err(WordsFault::Usage),
+        },
+        Verb::Print => Ok(Command::Print),
+        Verb::Lookup => Ok(Command::Lookup(lookup_by(alloc, found)?)),
+    }
+}
+
+/// The command of these arguments, the program's name not among them.
+#[tactic(auto, unfolding(crate::specs::Words::are_taken, crate::specs::Words::command_in))]
+pub fn command_of(alloc: Global, arguments: &Vec<String>) -> Result<Command, WordsFault>
+    ensures command { Gives (command_in (map string_bytes arguments.now.items)) result }
+    ensures no_command { verb_in (map string_bytes arguments.now.items) ≡ None → result ≡ Err faults.Usage }
+    ensures only { result ≡ Err faults.Usage → are_taken (map string_bytes arguments.now.items) ≡ true
+        → values_in (map string_bytes arguments.now.items) ≡ None }
+{
+    let Some(verb) = verb_in(arguments) else {
+        return Err(WordsFault::Usage);
+    };
+    let found = parse(alloc, verb, arguments)?;
+    command_by(alloc, verb, &found)
+}

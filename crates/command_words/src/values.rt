@@ -1,0 +1,78 @@
+//! The values of arguments.
+ghost use Rattle.std.specs.Prelude.{◌≡◌, ◌<◌, ◌^◌, ◌∷◌, length, nat_lt, option_map, position, if◌then◌else◌, Some, None, IfOk, IfSome, IsTrue};
+ghost use Rattle.std.specs.Char.{is_ascii_digit};
+ghost use Rattle.std.specs.List.{list_all, slice_split};
+ghost use Rattle.std.specs.Option.{option_copied};
+ghost use Rattle.std.specs.Str.Parse.{digits_value};
+ghost use Rattle.command_words.specs.Values.{caps_in, is_colon, is_value, number_in, parts_of};
+
+use lib_types::{NoMemory, Text, Texts};
+use std::alloc::Global;
+
+/// Whether the text may be a value.
+pub(crate) fn is_value(text: &str) -> bool
+    ensures { result ≡ is_value text.now }
+{
+    text.as_bytes() != b"-".as_slice()
+}
+
+fn are_digits(text: &[u8]) -> bool
+    ensures { result ≡ list_all is_ascii_digit text.now }
+{
+    text.iter().all(|b| b.is_ascii_digit())
+}
+
+// The number of some digits, if it is below 2^64.
+#[tactic(auto, using(mtree_manifest::proofs::Numbers::parsed))]
+fn number_of(digits: &str) -> Option<u64>
+    requires some { 0 < length digits.now }
+    requires digits { IsTrue (list_all is_ascii_digit digits.now) }
+    ensures { result ≡ (if nat_lt (digits_value 10 digits.now) (2 ^ 64) then Some (digits_value 10 digits.now) else None) }
+{
+    digits.parse::<u64>().ok()
+}
+
+/// The number that one to five decimal digits write, if it is below 2^16.
+pub(crate) fn number(text: &str) -> Option<u16>
+    ensures { result ≡ number_in text.now }
+{
+    if text.is_empty() || text.len() > 5 || !are_digits(text.as_bytes()) {
+        return None;
+    }
+    u16::try_from(number_of(text)?).ok()
+}
+
+fn first_colon(bytes: &[u8]) -> Option<usize>
+    ensures index { result ≡ position is_colon bytes.now }
+    ensures within { IfSome result (λ n. n < length bytes.now) }
+{
+    bytes.iter().position(|&b| b == b':')
+}
+
+// The first part, and what is behind the colon that ends it.
+#[tactic(auto, using(lib_types::proofs::Parting::cut_at, lib_types::proofs::Parting::cut_nowhere))]
+fn cut(bytes: &[u8]) -> (&[u8], Option<&[u8]>)
+    ensures parts { slice_split is_colon bytes.now ≡ result.0.now ∷ parts_of (option_copied result.1) }
+    ensures shorter { IfSome result.1 (λ rest. length rest.now < length bytes.now) }
+{
+    match first_colon(bytes) {
+        Some(n) => (&bytes[..n], Some(&bytes[n + 1..])),
+        None => (bytes, None),
+    }
+}
+
+/// The texts between colons that aren't empty.
+pub(crate) fn caps_in(alloc: Global, text: &[u8]) -> Result<Texts, NoMemory>
+    ensures { IfOk result (λ caps. caps ≡ caps_in text.now) }
+{
+    let mut caps = Texts::new(alloc);
+    let mut left = Some(text);
+    while let Some(bytes) = left {
+        let (part, rest) = cut(bytes);
+        if !part.is_empty() {
+            caps.push(Text::copy_of(alloc, part)?)?;
+        }
+        left = rest;
+    }
+    Ok(caps)
+}

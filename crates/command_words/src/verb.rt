@@ -1,0 +1,44 @@
+//! The first argument.
+ghost use Rattle.std.specs.Prelude.{◌≡◌, map};
+ghost use Rattle.std.specs.Str.{bytes_eq};
+ghost use Rattle.std.specs.String.{string_bytes};
+ghost use Rattle.command_words.specs.Language.{verb_in, verb_of};
+
+/// Which command the arguments name.
+#[derive(Clone, Copy, Debug, PartialEq, Eq)]
+pub(crate) enum Verb {
+    Update,
+    Print,
+    Lookup,
+}
+
+fn is_word(argument: &str, word: &str) -> bool
+    ensures { result ≡ bytes_eq argument.now word.now }
+{
+    argument.as_bytes() == word.as_bytes()
+}
+
+// The command of this name.
+fn verb_of(word: &str) -> Option<Verb>
+    ensures { result ≡ verb_of word.now }
+{
+    if is_word(word, "update") {
+        Some(Verb::Update)
+    } else if is_word(word, "print") || is_word(word, "-p") {
+        Some(Verb::Print)
+    } else if is_word(word, "lookup") {
+        Some(Verb::Lookup)
+    } else {
+        None
+    }
+}
+
+/// The command that the first argument names.
+pub(crate) fn verb_in(arguments: &Vec<String>) -> Option<Verb>
+    ensures { result ≡ verb_in (map string_bytes arguments.now.items) }
+{
+    if arguments.is_empty() {
+        return Some(Verb::Update);
+    }
+    verb_of(arguments[0].as_str())
+}

@@ -1,0 +1,61 @@
+//! A command as text: its name, and a line for each of its values.
+use command_words::{Command, Lookup, WordsFault};
+use lib_types::NoMemory;
+use std::alloc::Global;
+
+fn put_line(text: &mut Vec<u8>, front: &[u8], value: &[u8]) -> Result<(), NoMemory> {
+    text.extend_from_slice(front)?;
+    text.extend_from_slice(value)?;
+    text.push(b'\n')?;
+    Ok(())
+}
+
+fn put_number(
+    alloc: Global,
+    text: &mut Vec<u8>,
+    front: &[u8],
+    number: i32,
+) -> Result<(), NoMemory> {
+    let digits = format!(in alloc; "{number}")?;
+    put_line(text, front, digits.as_bytes())
+}
+
+// The ABI is shown by its flags in a cache.
+fn put_lookup(alloc: Global, text: &mut Vec<u8>, lookup: &Lookup) -> Result<(), NoMemory> {
+    put_line(text, b"name=", lookup.name.as_bytes())?;
+    put_number(alloc, text, b"flags=", lookup.abi.flags())?;
+    for index in 0..lookup.caps.len() {
+        if let Some(cap) = lookup.caps.get(index) {
+            put_line(text, b"cap=", cap.as_bytes())?;
+        }
+    }
+    Ok(())
+}
+
+fn put_command(alloc: Global, text: &mut Vec<u8>, command: &Command) -> Result<(), NoMemory> {
+    match command {
+        Command::Update { tag } => {
+            put_line(text, b"update", b"")?;
+            put_number(alloc, text, b"tag=", i32::from(tag.0))
+        }
+        Command::Print => put_line(text, b"print", b""),
+        Command::Lookup(lookup) => {
+            put_line(text, b"lookup", b"")?;
+            put_lookup(alloc, text, lookup)
+        }
+    }
+}
+
+/// The text of a command, or of the fault.
+pub(crate) fn shown(
+    alloc: Global,
+    command: Result<Command, WordsFault>,
+) -> Result<Vec<u8>, NoMemory> {
+    let mut text = Vec::new(alloc);
+    match command {
+        Ok(command) => put_command(alloc, &mut text, &command)?,
+        Err(WordsFault::Usage) => put_line(&mut text, b"Usage", b"")?,
+        Err(WordsFault::NoMemory) => put_line(&mut text, b"NoMemory", b"")?,
+    }
+    Ok(text)
+}

@@ -1,0 +1,40 @@
+//! One row: arguments, and the command that they are.
+use crate::shown::shown;
+use command_words::command_of;
+use lib_types::NoMemory;
+use std::alloc::Global;
+use std::str::from_utf8;
+use table_rows::{Row, Said, Trial, divide, text};
+
+/// A row has a line for each argument, and the command with its values, or `Usage`.
+pub(crate) struct Arguments;
+
+// The lines of a text.
+fn words_of(alloc: Global, text: &[u8]) -> Result<Vec<String>, NoMemory> {
+    let mut words = Vec::new(alloc);
+    let mut rest = text;
+    for _ in 0..text.len() {
+        if rest.is_empty() {
+            break;
+        }
+        let (word, behind) = divide(b'\n', rest);
+        words.push(String::from_str(alloc, from_utf8(word).unwrap_or("?"))?)?;
+        rest = behind;
+    }
+    Ok(words)
+}
+
+const WORDS: &[&[u8]] = &[b"arguments", b"command"];
+
+impl Trial for Arguments {
+    fn words() -> &'static [&'static [u8]] {
+        WORDS
+    }
+
+    // A body that always returns NoMemory meets the contract; the rows refuse it.
+    fn is_right(alloc: Global, row: Row<'_>, said: &mut Said) -> Result<bool, NoMemory> {
+        let words = words_of(alloc, &text(alloc, row, b"arguments")?)?;
+        let got = shown(alloc, command_of(alloc, &words))?;
+        said.is_same(b"command", &text(alloc, row, b"command")?, &got)
+    }
+}

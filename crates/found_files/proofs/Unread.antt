@@ -1,0 +1,58 @@
+-- The files behind links that have no analysis yet.
+use Rattle.std.proofs.Common.{◌≡◌, ◌++◌, ◌&&◌, ℕ, Bool, List, [], ◌∷◌, if◌then◌else◌, refl, ap, sym, ◌∙◌, Option, Some, None}
+use Rattle.std.proofs.lemmas.List.Elements.{filter-append}
+use Rattle.std.proofs.lemmas.List.Kept.{IsStrictlySortedBy-filter}
+use Rattle.std.specs.Cmp.Lexicographic.{slice_cmp}
+use Rattle.std.specs.List.{cons_option, filter, filter_map, flat_map}
+use Rattle.std.specs.List.Sorted.{IsStrictlySortedBy}
+use Rattle.std.specs.Option.{is_none, option_and_then}
+use Rattle.std.specs.Ordering.{nat_cmp}
+use Rattle.hwcap_dirs.specs.declared.kinds.Place.{Place}
+use Rattle.lib_types.proofs.SortedPairs.{by_test}
+use Rattle.image_tree.specs.Tree.{Nodes}
+use Rattle.found_files.proofs.InOrder.{ascending_sorted, in_ascending}
+use Rattle.found_files.proofs.Members.{kept_in, same_members}
+use Rattle.found_files.specs.Analyses.{Analyses, unread}
+use Rattle.found_files.specs.Order.{ascending}
+use Rattle.found_files.specs.Search.{files_of, followed, reached}
+use Rattle.found_files.specs.Table.{analysis_at}
+use Rattle.found_files.specs.Unread.{unread_file, unread_of}
+use Rattle.found_files.specs.declared.links.FollowedLink.{FollowedLink}
+use Rattle.found_files.specs.declared.links.FolderLinks.{FolderLinks}
+
+-- texts that are left out may be left out before
+pub ascending_left : (keep : List ℕ → Bool) (xs : List (List ℕ)) → ascending (filter keep xs) ≡ filter keep (ascending xs)
+ascending_left keep xs =
+    same_members (ascending (filter keep xs)) (filter keep (ascending xs)) (ascending_sorted (filter keep xs))
+    (IsStrictlySortedBy-filter (slice_cmp nat_cmp) keep (ascending xs) (ascending_sorted xs))
+    (λ z. in_ascending (filter keep xs) z ∙ kept_in keep z xs ∙ sym (kept_in keep z (ascending xs) ∙ ap (λ b. keep z && b) (in_ascending xs z)))
+
+module _ (what : Analyses) where
+  one : (file : Option (List ℕ)) (rest : List (List ℕ))
+      → cons_option (option_and_then (λ path. if is_none (what path) then Some path else None) file) (unread what rest) ≡ unread what (cons_option file rest)
+  one None rest = refl
+  one (Some path) rest = by_test (is_none (what path)) (λ e. rw e refl) (λ e. rw e refl)
+
+  in_folder : (links : List FollowedLink) → filter_map (unread_file what) links ≡ unread what (filter_map (λ link. link.file) links)
+  in_folder [] = refl
+  in_folder (link ∷ links) = ap (cons_option (unread_file what link)) (in_folder links) ∙ one link.file (filter_map (λ link. link.file) links)
+
+  in_folders : (folders : List FolderLinks) → flat_map (unread_of what) folders ≡ unread what (flat_map files_of folders)
+  in_folders [] = refl
+  in_folders (folder ∷ folders) =
+      ap (λ rest. unread_of what folder ++ rest) (in_folders folders)
+      ∙ ap (λ first. first ++ unread what (flat_map files_of folders)) (in_folder folder.links)
+      ∙ sym (filter-append (λ path. is_none (what path)) (files_of folder) (flat_map files_of folders))
+
+  pub unread_links : (t : Nodes) (places : List Place) (links : List FolderLinks) → links ≡ followed t places
+      → ascending (flat_map (unread_of what) links) ≡ unread what (reached t places)
+  unfolding reached
+  unread_links t places links e = rw e (ap ascending (in_folders (followed t places)) ∙ ascending_left (λ path. is_none (what path)) (flat_map files_of (followed t places)))
+
+-- of an empty table none has an analysis
+pub none_read : (paths : List (List ℕ)) → unread (analysis_at []) paths ≡ paths
+none_read [] = refl
+none_read (path ∷ paths) = ap (λ rest. path ∷ rest) (none_read paths)
+
+pub unread_sorted : (what : Analyses) (paths : List (List ℕ)) → IsStrictlySortedBy (slice_cmp nat_cmp) paths → IsStrictlySortedBy (slice_cmp nat_cmp) (unread what paths)
+unread_sorted what paths = IsStrictlySortedBy-filter (slice_cmp nat_cmp) (λ path. is_none (what path)) paths

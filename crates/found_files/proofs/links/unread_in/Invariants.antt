@@ -1,0 +1,10 @@
+use Rattle.std.proofs.Common.{◌≡◌, ◌++◌, drop}
+use Rattle.std.specs.List.{flat_map}
+use Rattle.found_files.specs.Table.{analysis_at}
+use Rattle.found_files.specs.Unread.{unread_of}
+use Rattle.found_files.proofs.links.unread_in.Given as goal
+
+-- the folders that are left give the rest
+abbrev pub invariant-loop-folder : goal.invariant-loop-folder
+invariant-loop-folder l =
+    l.paths.items ++ flat_map (unread_of (analysis_at l.table)) (drop l.folder-index l.links) ≡ flat_map (unread_of (analysis_at l.table)) l.links

@@ -1,0 +1,12 @@
+pub mod Above
+pub mod Below
+pub mod Clear
+mod Fronts
+pub mod Index
+pub mod Kept
+pub mod KindAt
+pub mod Listed
+pub mod Names
+pub mod Order
+pub mod Rising
+pub mod Runs

@@ -1,0 +1,5 @@
+pub mod Index
+pub mod Node
+pub mod Paths
+pub mod Runs
+pub mod Tree

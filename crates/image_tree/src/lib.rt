@@ -1,0 +1,10 @@
+//! The tree of an image: directories, files and links at their paths.
+#![tactic(auto)]
+
+mod node;
+mod path;
+mod tree;
+
+pub use node::{Id, Node, TEXT_MAX, is_node};
+pub use path::{PATH_MAX, is_kept, is_path};
+pub use tree::{Children, Kind, Listing, NODES_MAX, Nodes, Tree, TreeFault};

@@ -1,0 +1,66 @@
+//! What is at a path of a tree.
+ghost use Rattle.std.specs.Prelude.{◌≡◌};
+ghost use Rattle.image_tree.specs.Node.{is_node, is_dir, is_key, is_target, has_no_nul};
+
+use lib_types::{Text, is_utf8};
+
+/// The identity of a file's content: the ctime in nanoseconds since the epoch, the size in bytes.
+#[derive(Clone, Copy, Debug, PartialEq, Eq)]
+pub struct Id {
+    pub dev: u64,
+    pub inode: u64,
+    pub ctime: u64,
+    pub size: u64,
+}
+
+/// A directory, a file or a link.
+#[derive(Drop)]
+pub enum Node {
+    Dir,
+    /// A file, whose content a store holds under this key.
+    File { key: Text, id: Option<Id> },
+    /// A symbolic link with this text.
+    Link { target: Text },
+}
+
+/// The most bytes of a content key or a link's target.
+pub const TEXT_MAX: usize = 4095;
+
+/// Whether the node's key or target, if it has one, is valid.
+pub fn is_node(node: &Node) -> bool
+    ensures { result ≡ is_node node.now }
+{
+    match node {
+        Node::Dir => true,
+        Node::File { key, .. } => is_key(key.as_bytes()),
+        Node::Link { target } => is_target(target.as_bytes()),
+    }
+}
+
+/// Whether the node is a directory.
+pub(crate) fn is_dir(node: &Node) -> bool
+    ensures { result ≡ is_dir node.now }
+{
+    match node {
+        Node::Dir => true,
+        _ => false,
+    }
+}
+
+fn is_key(key: &[u8]) -> bool
+    ensures { result ≡ is_key key.now }
+{
+    is_target(key) && is_utf8(key)
+}
+
+fn is_target(target: &[u8]) -> bool
+    ensures { result ≡ is_target target.now }
+{
+    !target.is_empty() && target.len() <= TEXT_MAX && has_no_nul(target)
+}
+
+fn has_no_nul(bytes: &[u8]) -> bool
+    ensures { result ≡ has_no_nul bytes.now }
+{
+    bytes.iter().all(|&b| b != 0)
+}

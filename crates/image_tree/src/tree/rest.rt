@@ -1,0 +1,96 @@
+//! The entries of a tree from a place on.
+ghost use Rattle.std.specs.Prelude.{◌≡◌, ◌∷◌, [], ◌<◌, ◌≤◌, ◌+◌, MatchOption, true, length, drop, slice_index_or};
+ghost use Rattle.image_tree.specs.Runs.{joined, index_of, are_runs, run_length, IsPlace};
+
+use super::run::{PathEntry, Run};
+use super::runs::{Place, run_of};
+use std::marker::Model;
+
+/// Entries that are still to come, borrowed from the runs of a tree.
+#[derive(Drop)]
+pub(super) struct Rest<'a> {
+    // what is left of the first run
+    first: &'a [PathEntry],
+    // the runs behind it
+    others: &'a [Run],
+}
+
+impl<'a> Model for Rest<'a> {
+    ghost use Rattle.std.specs.Prelude.{◌≡◌, ◌++◌, true};
+    ghost use Rattle.image_tree.specs.Runs.{joined, are_runs};
+    ghost use Rattle.image_tree.specs.Tree.{Nodes};
+
+    ghost Value = { Nodes };
+
+    ghost view = { λ s. s.first.now ++ joined s.others.now };
+
+    ghost invariant = { λ s. are_runs s.others.now ≡ true };
+}
+
+impl<'a> Rest<'a> {
+    /// No entries.
+    pub(super) fn none() -> Rest<'a>
+        ensures { result ≡ [] }
+    {
+        Rest {
+            first: &[],
+            others: &[],
+        }
+    }
+
+    /// All entries.
+    pub(super) fn all(runs: &'a Vec<Run>) -> Rest<'a>
+        requires { are_runs runs.now.items ≡ true }
+        ensures { result ≡ joined runs.now.items }
+    {
+        Rest {
+            first: &[],
+            others: runs.as_slice(),
+        }
+    }
+
+    /// The entries from the place on.
+    pub(super) fn from(runs: &'a Vec<Run>, place: Place) -> Rest<'a>
+        requires runs { are_runs runs.now.items ≡ true }
+        requires place { IsPlace runs.now.items place }
+        ensures { result ≡ drop (index_of runs.now.items place) (joined runs.now.items) }
+    {
+        if place.run == runs.len() {
+            return Rest::none();
+        }
+        Rest {
+            first: rest_of_run(runs, place),
+            others: runs_behind(runs, place.run),
+        }
+    }
+
+    /// The first entry and those behind it.
+    pub(super) fn split_first(&self) -> Option<(&'a PathEntry, Rest<'a>)>
+        ensures { MatchOption result (self.now ≡ []) (λ r. self.now ≡ (r.0.now.0, r.0.now.1) ∷ r.1) }
+    {
+        if let Some((entry, first)) = self.first.split_first() {
+            let others = self.others;
+            return Some((entry, Rest { first, others }));
+        }
+        let (run, others) = self.others.split_first()?;
+        let (entry, first) = run.as_slice().split_first()?;
+        Some((entry, Rest { first, others }))
+    }
+}
+
+// The entries of the place's run from the place on.
+fn rest_of_run(runs: &Vec<Run>, place: Place) -> &[PathEntry]
+    requires run { place.run < length runs.now.items }
+    requires at { place.at ≤ run_length runs.now.items place.run }
+    ensures { result.now ≡ drop place.at (slice_index_or runs.now.items place.run []) }
+{
+    &run_of(runs, place.run).as_slice()[place.at..]
+}
+
+// The runs behind this one.
+fn runs_behind(runs: &Vec<Run>, run: usize) -> &[Run]
+    requires { run < length runs.now.items }
+    ensures { result.now ≡ drop (run + 1) runs.now.items }
+{
+    &runs[run + 1..]
+}

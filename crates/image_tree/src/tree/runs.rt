@@ -1,0 +1,354 @@
+//! The runs of a tree, and places in them.
+ghost use Rattle.std.specs.Prelude.{◌≡◌, ℕ, ◌<◌, ◌≤◌, [], IfOk, IfErr, IfSome, OnOk, OnErr, IsTrue, true, MatchOption, if◌then◌else◌, ◌==◌, ◌∷◌, ◌++◌, ◌+◌, false, length, take, drop, slice_index_or, slice_set};
+ghost use Rattle.std.specs.List.{insert, remove};
+ghost use Rattle.std.specs.Vec.{vec_len, vec_capacity};
+ghost use Rattle.image_tree.specs.Index.{IsGapFor};
+ghost use Rattle.image_tree.specs.Runs.{joined, is_run, are_runs, index_of, run_length, begins_by, divided, HasRoomAt, IsWithNode, IsRunWithNode, IsEntryPlace, IsPlace, IsPlaceOf, IsGapAt, IsEntryAt, IsEntryBefore};
+ghost use Rattle.image_tree.specs.Tree.{IsPathSorted};
+ghost use Rattle.image_tree.specs.declared.tree.run.TheConstants.{RUN_MAX};
+
+use super::run::{PathEntry, RUN_MAX, Run};
+use crate::node::Node;
+use crate::path::compare;
+use lib_types::NoMemory;
+use std::alloc::Global;
+
+/// An index in a run, and the run's index.
+#[derive(Clone, Copy)]
+pub(super) struct Place {
+    pub(super) run: usize,
+    pub(super) at: usize,
+}
+
+/// The run at this index.
+pub(super) fn run_of(runs: &Vec<Run>, index: usize) -> &Run
+    requires { index < length runs.now.items }
+    ensures { result.now ≡ slice_index_or runs.now.items index [] }
+{
+    &runs[index]
+}
+
+// The entry at this index of a run.
+fn entry_of(run: &Run, index: usize) -> &PathEntry
+    requires { index < length run.now }
+    ensures { (d : _) → (result.now.0, result.now.1) ≡ slice_index_or run.now index d }
+{
+    &run.as_slice()[index]
+}
+
+/// The entry at the place.
+pub(super) fn entry_at(runs: &Vec<Run>, place: Place) -> &PathEntry
+    requires { IsEntryPlace runs.now.items place }
+    ensures { IsEntryAt (joined runs.now.items) (index_of runs.now.items place) (result.now.0, result.now.1) }
+{
+    entry_of(run_of(runs, place.run), place.at)
+}
+
+/// The first entry from the place on.
+pub(super) fn entry_from(runs: &Vec<Run>, place: Place) -> Option<&PathEntry>
+    requires runs { IsTrue (are_runs runs.now.items) }
+    requires place { IsPlace runs.now.items place }
+    ensures { MatchOption result (index_of runs.now.items place ≡ length (joined runs.now.items))
+        (λ e. IsEntryAt (joined runs.now.items) (index_of runs.now.items place) (e.now.0, e.now.1)) }
+{
+    if place.run == runs.len() {
+        return None;
+    }
+    if place.at < run_of(runs, place.run).len() {
+        return Some(entry_at(runs, place));
+    }
+    if place.run + 1 == runs.len() {
+        return None;
+    }
+    Some(entry_at(
+        runs,
+        Place {
+            run: place.run + 1,
+            at: 0,
+        },
+    ))
+}
+
+/// The entry directly before the place.
+pub(super) fn entry_before(runs: &Vec<Run>, place: Place) -> Option<&PathEntry>
+    requires runs { IsTrue (are_runs runs.now.items) }
+    requires place { IsPlace runs.now.items place }
+    ensures { MatchOption result (index_of runs.now.items place ≡ 0)
+        (λ e. IsEntryBefore (joined runs.now.items) (index_of runs.now.items place) (e.now.0, e.now.1)) }
+{
+    if place.at > 0 {
+        return Some(entry_at(
+            runs,
+            Place {
+                run: place.run,
+                at: place.at - 1,
+            },
+        ));
+    }
+    if place.run == 0 {
+        return None;
+    }
+    let run = place.run - 1;
+    let at = run_of(runs, run).len() - 1;
+    Some(entry_at(runs, Place { run, at }))
+}
+
+// The place behind all entries.
+fn end(runs: &Vec<Run>) -> Place
+    ensures place { IsPlace runs.now.items result }
+    ensures index { index_of runs.now.items result ≡ length (joined runs.now.items) }
+{
+    match runs.len() {
+        0 => Place { run: 0, at: 0 },
+        count => Place {
+            run: count - 1,
+            at: run_of(runs, count - 1).len(),
+        },
+    }
+}
+
+// Whether the path comes after all entries.
+fn is_after_all(runs: &Vec<Run>, path: &[u8], end: Place) -> bool
+    requires runs { IsTrue (are_runs runs.now.items) }
+    requires sorted { IsPathSorted (joined runs.now.items) }
+    requires place { IsPlace runs.now.items end }
+    requires index { index_of runs.now.items end ≡ length (joined runs.now.items) }
+    ensures { IsTrue result → IsGapFor (joined runs.now.items) path.now (index_of runs.now.items end) }
+{
+    match entry_before(runs, end) {
+        None => true,
+        Some(last) => compare(last.path(), path).is_lt(),
+    }
+}
+
+// The number of runs that begin at the path or before it.
+fn runs_by(runs: &Vec<Run>, path: &[u8]) -> usize
+    requires runs { IsTrue (are_runs runs.now.items) }
+    requires sorted { IsPathSorted (joined runs.now.items) }
+    ensures bound { result ≤ length runs.now.items }
+    ensures before { (i : ℕ) → i < result → begins_by path.now (slice_index_or runs.now.items i []) ≡ true }
+    ensures after { (i : ℕ) → result ≤ i → i < length runs.now.items → begins_by path.now (slice_index_or runs.now.items i []) ≡ false }
+{
+    runs.partition_point(
+        |run: &Run| -> bool
+            ensures { result ≡ begins_by path.entry.now run.now }
+        { run.begins_by(path) },
+    )
+}
+
+/// The place of the path's entry, or that at which it would be inserted.
+pub(super) fn search(runs: &Vec<Run>, path: &[u8]) -> Result<Place, Place>
+    requires runs { IsTrue (are_runs runs.now.items) }
+    requires sorted { IsPathSorted (joined runs.now.items) }
+    ensures found { IfOk result (IsPlaceOf runs.now.items path.now) }
+    ensures absent { IfErr result (IsGapAt runs.now.items path.now) }
+{
+    let count = runs_by(runs, path);
+    if count == 0 {
+        return Err(Place { run: 0, at: 0 });
+    }
+    let run = count - 1;
+    match run_of(runs, run).search(path) {
+        Ok(at) => Ok(Place { run, at }),
+        Err(at) => Err(Place { run, at }),
+    }
+}
+
+/// The place of the path's entry, if it is one of the next few from this place on, in its run. Any place will do: paths that are
+/// looked up one after another mostly stand close together.
+pub(super) fn find_near(runs: &Vec<Run>, near: Place, path: &[u8]) -> Option<Place>
+    ensures { IfSome result (IsPlaceOf runs.now.items path.now) }
+{
+    if near.run >= runs.len() {
+        return None;
+    }
+    let at = run_of(runs, near.run).find_near(near.at, path)?;
+    Some(Place { run: near.run, at })
+}
+
+/// The place at which a path is put: that of its entry, or that of its gap. The lines of a sorted manifest each come after
+/// all others, so that case takes no search.
+pub(super) fn find(runs: &Vec<Run>, path: &[u8]) -> Result<Place, Place>
+    requires runs { IsTrue (are_runs runs.now.items) }
+    requires sorted { IsPathSorted (joined runs.now.items) }
+    ensures found { IfOk result (IsPlaceOf runs.now.items path.now) }
+    ensures absent { IfErr result (IsGapAt runs.now.items path.now) }
+{
+    let end = end(runs);
+    if is_after_all(runs, path, end) {
+        return Err(end);
+    }
+    search(runs, path)
+}
+
+// Overwrites the node of the entry at this index of a run.
+fn set_in_run(runs: &mut Vec<Run>, run: usize, at: usize, node: Node)
+    requires run { run < length runs.old.items }
+    requires at { at < run_length runs.old.items run }
+    ensures { IsRunWithNode runs.old.items run at node runs.new.items }
+{
+    runs[run].set_node(at, node);
+}
+
+/// Overwrites the node of the entry at the place.
+pub(super) fn set_node(runs: &mut Vec<Run>, place: Place, node: Node)
+    requires runs { IsTrue (are_runs runs.old.items) }
+    requires place { IsEntryPlace runs.old.items place }
+    ensures joined { IsWithNode (joined runs.old.items) (index_of runs.old.items place) node (joined runs.new.items) }
+    ensures runs { IsTrue (are_runs runs.new.items) }
+{
+    set_in_run(runs, place.run, place.at, node);
+}
+
+// Removes the entry at this index of a run.
+fn remove_in_run(runs: &mut Vec<Run>, run: usize, at: usize)
+    requires run { run < length runs.old.items }
+    requires at { at < run_length runs.old.items run }
+    ensures { runs.new.items ≡ slice_set runs.old.items run (remove (slice_index_or runs.old.items run []) at) }
+{
+    runs[run].remove(at);
+}
+
+// Removes this run if it has no entry.
+fn remove_if_empty(runs: &mut Vec<Run>, run: usize)
+    requires { run < length runs.old.items }
+    ensures { runs.new.items ≡ (if run_length runs.old.items run == 0 then remove runs.old.items run else runs.old.items) }
+{
+    if run_of(runs, run).len() == 0 {
+        let _ = runs.remove(run);
+    }
+}
+
+/// Removes the entry at the place.
+pub(super) fn remove(runs: &mut Vec<Run>, place: Place)
+    requires runs { IsTrue (are_runs runs.old.items) }
+    requires place { IsEntryPlace runs.old.items place }
+    ensures joined { joined runs.new.items ≡ remove (joined runs.old.items) (index_of runs.old.items place) }
+    ensures runs { IsTrue (are_runs runs.new.items) }
+{
+    remove_in_run(runs, place.run, place.at);
+    remove_if_empty(runs, place.run);
+}
+
+// Inserts an entry at this index of a run.
+fn insert_in_run(
+    runs: &mut Vec<Run>,
+    run: usize,
+    at: usize,
+    entry: PathEntry,
+) -> Result<(), NoMemory>
+    requires run { run < length runs.old.items }
+    requires at { at ≤ run_length runs.old.items run }
+    ensures done { OnOk result (runs.new.items ≡ slice_set runs.old.items run (insert (slice_index_or runs.old.items run []) at entry)) }
+    ensures refused { OnErr result (runs.new.items ≡ runs.old.items) }
+{
+    runs[run].insert(at, entry)
+}
+
+// Moves the entries of a run from this index on into a run of their own, which the result is.
+fn split_run(runs: &mut Vec<Run>, run: usize, at: usize) -> Result<Run, NoMemory>
+    requires run { run < length runs.old.items }
+    requires at { at ≤ run_length runs.old.items run }
+    ensures done { OnOk result (runs.new.items ≡ slice_set runs.old.items run (take at (slice_index_or runs.old.items run []))) }
+    ensures back { IfOk result (λ back. back ≡ drop at (slice_index_or runs.old.items run [])) }
+    ensures refused { OnErr result (runs.new.items ≡ runs.old.items) }
+    ensures len { vec_len runs.new ≡ vec_len runs.old }
+    ensures capacity { vec_capacity runs.new ≡ vec_capacity runs.old }
+{
+    runs[run].split_off(at)
+}
+
+// Divides a run at this index into two. All memory is there before an entry moves.
+fn divide(runs: &mut Vec<Run>, run: usize, at: usize) -> Result<(), NoMemory>
+    requires run { run < length runs.old.items }
+    requires at { at ≤ run_length runs.old.items run }
+    ensures done { OnOk result (runs.new.items ≡ divided runs.old.items run at) }
+    ensures refused { OnErr result (runs.new.items ≡ runs.old.items) }
+{
+    runs.try_reserve(1)?;
+    let back = split_run(runs, run, at)?;
+    runs.insert(run + 1, back)?;
+    Ok(())
+}
+
+// Divides the place's run in the middle, and returns the place of the same index.
+fn divide_at(runs: &mut Vec<Run>, place: Place) -> Result<Place, NoMemory>
+    requires runs { IsTrue (are_runs runs.old.items) }
+    requires run { place.run < length runs.old.items }
+    requires at { place.at ≤ run_length runs.old.items place.run }
+    requires full { run_length runs.old.items place.run ≡ RUN_MAX }
+    ensures same { joined runs.new.items ≡ joined runs.old.items }
+    ensures runs { IsTrue (are_runs runs.new.items) }
+    ensures place { IfOk result (HasRoomAt runs.new.items) }
+    ensures index { IfOk result (λ there. index_of runs.new.items there ≡ index_of runs.old.items place) }
+{
+    const MIDDLE: usize = RUN_MAX / 2;
+    divide(runs, place.run, MIDDLE)?;
+    if place.at <= MIDDLE {
+        return Ok(place);
+    }
+    Ok(Place {
+        run: place.run + 1,
+        at: place.at - MIDDLE,
+    })
+}
+
+// The place of the same index in a run that has room for one more entry.
+fn make_room(runs: &mut Vec<Run>, place: Place) -> Result<Place, NoMemory>
+    requires runs { IsTrue (are_runs runs.old.items) }
+    requires run { place.run < length runs.old.items }
+    requires at { place.at ≤ run_length runs.old.items place.run }
+    ensures same { joined runs.new.items ≡ joined runs.old.items }
+    ensures runs { IsTrue (are_runs runs.new.items) }
+    ensures place { IfOk result (HasRoomAt runs.new.items) }
+    ensures index { IfOk result (λ there. index_of runs.new.items there ≡ index_of runs.old.items place) }
+{
+    if run_of(runs, place.run).len() < RUN_MAX {
+        return Ok(place);
+    }
+    divide_at(runs, place)
+}
+
+// Inserts an entry at a place in a run that has room.
+fn insert_in_room(runs: &mut Vec<Run>, place: Place, entry: PathEntry) -> Result<(), NoMemory>
+    requires runs { IsTrue (are_runs runs.old.items) }
+    requires place { HasRoomAt runs.old.items place }
+    ensures done { OnOk result (joined runs.new.items ≡ insert (joined runs.old.items) (index_of runs.old.items place) entry) }
+    ensures refused { OnErr result (joined runs.new.items ≡ joined runs.old.items) }
+    ensures runs { IsTrue (are_runs runs.new.items) }
+{
+    insert_in_run(runs, place.run, place.at, entry)?;
+    Ok(())
+}
+
+// Puts a run of one entry behind all runs.
+fn push_run(alloc: Global, runs: &mut Vec<Run>, entry: PathEntry) -> Result<(), NoMemory>
+    ensures done { OnOk result (runs.new.items ≡ runs.old.items ++ (entry ∷ []) ∷ []) }
+    ensures refused { OnErr result (runs.new.items ≡ runs.old.items) }
+{
+    let mut run = Run::new(alloc);
+    run.insert(0, entry)?;
+    runs.push(run)?;
+    Ok(())
+}
+
+/// Inserts an entry at the place.
+pub(super) fn insert(
+    alloc: Global,
+    runs: &mut Vec<Run>,
+    place: Place,
+    entry: PathEntry,
+) -> Result<(), NoMemory>
+    requires runs { IsTrue (are_runs runs.old.items) }
+    requires place { IsPlace runs.old.items place }
+    ensures done { OnOk result (joined runs.new.items ≡ insert (joined runs.old.items) (index_of runs.old.items place) entry) }
+    ensures refused { OnErr result (joined runs.new.items ≡ joined runs.old.items) }
+    ensures runs { IsTrue (are_runs runs.new.items) }
+{
+    if place.run == runs.len() {
+        return push_run(alloc, runs, entry);
+    }
+    let place = make_room(runs, place)?;
+    insert_in_room(runs, place, entry)?;
+    Ok(())
+}

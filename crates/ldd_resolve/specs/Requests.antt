@@ -1,0 +1,106 @@
+-- How the code answers the requests of a listing.
+use Rattle.std.specs.Prelude.{◌≡◌, ℕ, ◌+◌, suc, List, [], ◌∷◌, length, map, if◌then◌else◌, true, Option, Some, None, is_some, Result, Ok, IfOk}
+use Rattle.std.specs.Option.{option_copied}
+use Rattle.tree_face.specs.Known.{IfKnown}
+use Rattle.tree_face.specs.Store.{Contents, StoreState}
+use Rattle.tree_face.specs.StoreUse.{Ending}
+use Rattle.image_tree.specs.Tree.{Nodes, node_at}
+use Rattle.cache_reader.specs.Cache.{CachedEntry}
+use Rattle.rpath_search.specs.Faults.{search_ending}
+use Rattle.rpath_search.specs.Places.{paths}
+use Rattle.rpath_search.specs.Search.{first_good, is_library}
+use Rattle.rpath_search.specs.declared.fault.SearchFault.{SearchFault}
+use Rattle.rpath_search.specs.declared.kinds.Env.{Env}
+use Rattle.rpath_search.specs.declared.kinds.Found.{Found}
+use Rattle.rpath_search.specs.declared.kinds.Owner.{Owner}
+use Rattle.ldd_resolve.specs.declared.kinds.Item.{Item}
+use Rattle.ldd_resolve.specs.declared.loading.Loading.{Loading}
+use Rattle.ldd_resolve.specs.declared.requests.Given.{Given}
+use Rattle.ldd_resolve.specs.declared.search.Answer.{Answer}
+use Rattle.ldd_resolve.specs.declared.search.Places.{Places}
+use Rattle.ldd_resolve.specs.Links.{behind}
+use Rattle.ldd_resolve.specs.Listing.{Record, Request, Scope, keys_searched, left, loaded}
+use Rattle.ldd_resolve.specs.Loading.{Advances, IsSound, Stands}
+use Rattle.ldd_resolve.specs.Resolving.{IfComplete, cached_in, object_at, scope_of, with_abi}
+use Rattle.ldd_resolve.specs.Searching.{AreKnown, Begins, Finds}
+
+-- ---- what the searches are given
+
+abbrev pub scope_by : Given → Contents → Scope
+scope_by g held = scope_of g.tree.now (option_copied g.cache) g.env.now held
+
+abbrev pub paths_by : Given → List ℕ → List Owner → List (List ℕ)
+paths_by g name chain = paths name chain g.env.now (cached_in (option_copied g.cache) g.env.now name)
+
+-- what is known of the loaded files
+abbrev pub AreKnownBy : Option Contents → Given → Places → Type 0
+AreKnownBy known g loaded = IfKnown known (λ held. AreKnown held g.tree.now g.env.now.abi loaded)
+
+-- what is found at the first good one of these paths
+abbrev pub FindsBy : Option Contents → Given → List (List ℕ) → List (List ℕ) → Option Answer → Type 0
+FindsBy known g loaded all a =
+    IfKnown known (λ held. Finds held g.tree.now g.env.now.abi loaded (first_good held g.tree.now g.env.now.abi all) a)
+
+abbrev pub BeginsPaths : Option Contents → Given → List (List ℕ) → List (List ℕ) → Ending → StoreState → StoreState → Type 0
+BeginsPaths known g loaded all ending old new = Begins known (λ held. keys_searched held g.tree.now g.env.now.abi loaded all) ending old new
+
+-- ---- the requests of one object
+
+-- requests of these names by the object with this chain
+abbrev pub requests_by : List Owner → List (List ℕ) → List Request
+requests_by chain names = map (λ name. record { name = name; chain = chain }) names
+
+-- the object with this number and chain is the one whose requests are answered; those of these names are left
+pub record IsAt (r : Record) (s : Loading) (number : ℕ) (chain : List Owner) (names : List (List ℕ)) : Type 0 where
+  pub stands : Stands r s (suc number) (requests_by chain names)
+  pub chain_is : behind (map (λ o. o.chain) r.objects) (Some number) ≡ chain
+
+-- By a call the state comes to stand for a record in which the requests of fewer names are left.
+abbrev pub Answers : Option Contents → Given → ℕ → List Owner → List (List ℕ) → List (List ℕ) → Ending → Loading → Loading → StoreState → StoreState → Type 0
+Answers known g number chain names rest ending s s2 old new =
+    (r : Record) → IsAt r s number chain names → Advances known (scope_by g) r ending (λ r2. IfComplete ending (IsAt r2 s2 number chain rest)) old new
+
+-- ---- the requests of all objects
+
+-- By a call the state that stands for a record with the requests of these objects left comes to stand for another one.
+abbrev pub AnswersObjects : Option Contents → Given → ℕ → ℕ → Ending → Loading → Loading → StoreState → StoreState → Type 0
+AnswersObjects known g number next ending s s2 old new =
+    (r : Record) → Stands r s number [] → Advances known (scope_by g) r ending (λ r2. IfComplete ending (Stands r2 s2 next [])) old new
+
+-- no request of the record is left, and these are its items
+pub record IsListed (r : Record) (items : List Item) : Type 0 where
+  pub all : left r ≡ []
+  pub listed : items ≡ r.items
+
+abbrev pub AnswersAll : Option Contents → Given → Ending → Loading → Loading → StoreState → StoreState → Type 0
+AnswersAll known g ending s s2 old new =
+    (r : Record) → Stands r s 0 [] → Advances known (scope_by g) r ending (λ r2. IfComplete ending (IsListed r2 s2.items)) old new
+
+-- ---- how the state grows
+
+-- the objects are as many as the files; those whose needed names were taken from the queue are so many
+pub record IsEven (s : Loading) (taken : ℕ) : Type 0 where
+  pub places : length s.links ≡ length s.places.loaded
+  pub pending : taken + length s.pending.items ≡ length s.links
+
+-- ---- the program
+
+-- the record of a program alone
+abbrev pub record_with : Found → List (List ℕ) → Record
+record_with p keys = record { objects = loaded p.path p.real p.object.dynamic [] [] ∷ []; answered = 0; items = []; keys = keys }
+
+-- the program's file, if that is no library
+abbrev pub outsider_of : Found → Option (List ℕ)
+outsider_of p = if is_library p.object.abi p.object then None else Some p.real
+
+abbrev pub StandsFirst : Found → Loading → Type 0
+StandsFirst p s = (keys : List (List ℕ)) → Stands (record_with p keys) s 0 []
+
+abbrev pub StartsSound : Found → Loading → Type 0
+StartsSound p s = (known : Option Contents) (t : Nodes) → is_some (node_at t p.real) ≡ true
+    → IfKnown known (λ held. object_at held t p.real ≡ Some (Ok p.object)) → IsSound known t p.object.abi s
+
+-- By a call the record of a program alone comes to one in which no request is left, whose items are returned.
+abbrev pub Lists : Option Contents → Nodes → Option (List CachedEntry) → Env → Found → Result (List Item) SearchFault → StoreState → StoreState → Type 0
+Lists known t cache env p result old new = (keys : List (List ℕ))
+    → Advances known (scope_of t cache (with_abi env p.object.abi)) (record_with p keys) (search_ending result) (λ r2. IfOk result (IsListed r2)) old new

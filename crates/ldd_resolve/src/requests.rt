@@ -1,0 +1,148 @@
+//! The requests of a listing, one after another.
+ghost use Rattle.std.specs.Prelude.{◌≡◌, ◌<◌, ◌∷◌, [], ℕ, List, length, IfOk, OnOk};
+ghost use Rattle.rpath_search.specs.declared.kinds.Owner.{Owner};
+ghost use Rattle.std.specs.Option.{option_copied};
+ghost use Rattle.rpath_search.specs.Faults.{search_ending};
+ghost use Rattle.ldd_resolve.specs.Loading.{Grows, IsSound};
+ghost use Rattle.ldd_resolve.specs.Requests.{Answers, AnswersAll, AreKnownBy, BeginsPaths, FindsBy, IsEven, paths_by};
+ghost use Rattle.ldd_resolve.specs.Resolving.{cached_in};
+ghost use Rattle.ldd_resolve.specs.Searching.{IsNew};
+
+use crate::loading::Loading;
+use crate::search::{Answer, Places, search};
+use cache_lookup::{Counted, Sorted, lookup};
+use lib_types::{Text, Texts};
+use rpath_search::{Chain, Env, SearchFault, places};
+use std::alloc::Global;
+use tree_face::{Store, Tree};
+
+/// What a listing is given beside the store.
+#[derive(Drop)]
+pub(crate) struct Given<'s, 'a> {
+    pub tree: &'s Tree,
+    pub cache: Option<&'s Sorted<'a>>,
+    /// With the ABI of the program.
+    pub env: &'s Env,
+}
+
+// The path that the cache has for a name.
+fn cached_path<'a>(cache: Option<&Sorted<'a>>, name: &[u8], env: &Env) -> Option<&'a [u8]>
+    ensures { option_copied result ≡ cached_in (option_copied cache.entry) env.now name.now }
+{
+    let cache = cache?;
+    let mut entries = Counted::new(cache);
+    let index = lookup(&mut entries, name, env.abi, &env.caps)?;
+    cache.path(index)
+}
+
+// What is found for a name that the first object of a chain needs.
+fn search_name<S: Store>(
+    alloc: Global,
+    given: &Given<'_, '_>,
+    store: &mut S,
+    loaded: &Places,
+    chain: &Chain,
+    name: &[u8],
+) -> Result<Option<Answer>, SearchFault>
+    requires { AreKnownBy (S.state store.old).held given.now loaded.now }
+    ensures finds { IfOk result (FindsBy (S.state store.old).held given.now loaded.now.loaded (paths_by given.now name.now chain.now)) }
+    ensures new { IfOk result (IsNew given.now.tree.now loaded.now.loaded) }
+    ensures begins { BeginsPaths (S.state store.old).held given.now loaded.now.loaded (paths_by given.now name.now chain.now)
+        (search_ending result) (S.state store.old) (S.state store.new) }
+{
+    let cached = cached_path(given.cache, name, given.env);
+    let paths = places(alloc, name, chain, given.env, cached)?;
+    search(alloc, given.tree, store, loaded, paths, given.env.abi)
+}
+
+// Answers a request by the object with this number.
+fn answer_request<S: Store>(
+    alloc: Global,
+    given: &Given<'_, '_>,
+    store: &mut S,
+    loading: &mut Loading,
+    number: usize,
+    chain: &Chain,
+    name: Text,
+) -> Result<(), SearchFault>
+    requires loader { number < length loading.old.links }
+    requires sound { IsSound (S.state store.old).held given.now.tree.now given.now.env.now.abi loading.old }
+    ensures sound { OnOk result (IsSound (S.state store.old).held given.now.tree.now given.now.env.now.abi loading.new) }
+    ensures grows { OnOk result (Grows loading.old loading.new) }
+    ensures answers { (rest : List (List ℕ)) → Answers (S.state store.old).held given.now number chain.now (name ∷ rest) rest (search_ending result)
+        loading.old loading.new (S.state store.old) (S.state store.new) }
+    ensures held { (S.state store.new).held ≡ (S.state store.old).held }
+{
+    if loading.names.contains(name.as_bytes()) {
+        return Ok(());
+    }
+    let answer = search_name(alloc, given, store, &loading.places, chain, name.as_bytes())?;
+    loading.take_answer(alloc, name, answer, number)?;
+    Ok(())
+}
+
+// Answers the requests by the object with this number and chain, of these names.
+fn answer_names<S: Store>(
+    alloc: Global,
+    given: &Given<'_, '_>,
+    store: &mut S,
+    loading: &mut Loading,
+    number: usize,
+    chain: &Chain,
+    needed: Texts,
+) -> Result<(), SearchFault>
+    requires loader { number < length loading.old.links }
+    requires sound { IsSound (S.state store.old).held given.now.tree.now given.now.env.now.abi loading.old }
+    ensures sound { OnOk result (IsSound (S.state store.old).held given.now.tree.now given.now.env.now.abi loading.new) }
+    ensures grows { OnOk result (Grows loading.old loading.new) }
+    ensures answers { Answers (S.state store.old).held given.now number chain.now needed [] (search_ending result)
+        loading.old loading.new (S.state store.old) (S.state store.new) }
+    ensures held { (S.state store.new).held ≡ (S.state store.old).held }
+{
+    for name in needed.into_vec() {
+        answer_request(alloc, given, store, loading, number, chain, name)?;
+    }
+    Ok(())
+}
+
+// The same by the object with this number.
+fn answer_object<S: Store>(
+    alloc: Global,
+    given: &Given<'_, '_>,
+    store: &mut S,
+    loading: &mut Loading,
+    number: usize,
+    needed: Texts,
+) -> Result<(), SearchFault>
+    requires loader { number < length loading.old.links }
+    requires sound { IsSound (S.state store.old).held given.now.tree.now given.now.env.now.abi loading.old }
+    ensures sound { OnOk result (IsSound (S.state store.old).held given.now.tree.now given.now.env.now.abi loading.new) }
+    ensures grows { OnOk result (Grows loading.old loading.new) }
+    ensures answers { (chain : List Owner) → Answers (S.state store.old).held given.now number chain needed [] (search_ending result)
+        loading.old loading.new (S.state store.old) (S.state store.new) }
+    ensures held { (S.state store.new).held ≡ (S.state store.old).held }
+{
+    let chain = loading.links.chain_of(alloc, number)?;
+    answer_names(alloc, given, store, loading, number, &chain, needed)
+}
+
+/// Answers the requests of all objects, breadth first.
+pub(crate) fn answer_all<S: Store>(
+    alloc: Global,
+    given: &Given<'_, '_>,
+    store: &mut S,
+    loading: &mut Loading,
+) -> Result<(), SearchFault>
+    requires sound { IsSound (S.state store.old).held given.now.tree.now given.now.env.now.abi loading.old }
+    requires even { IsEven loading.old 0 }
+    ensures answers { AnswersAll (S.state store.old).held given.now (search_ending result) loading.old loading.new (S.state store.old) (S.state store.new) }
+    ensures held { (S.state store.new).held ≡ (S.state store.old).held }
+{
+    given.tree.know();
+    let mut number = 0;
+    while let Some(needed) = loading.pending.pop_front() {
+        answer_object(alloc, given, store, loading, number, needed)?;
+        number += 1;
+    }
+    Ok(())
+}

@@ -1,0 +1,146 @@
+//! The listing of a program.
+ghost use Rattle.std.specs.Prelude.{◌≡◌, ◌∷◌, [], false, true, Ok, Err, Some, None, is_some, IfOk};
+ghost use Rattle.std.specs.Option.{option_copied};
+ghost use Rattle.elf_dynamic.specs.Begun.{ReadsBy, file_keys, key_in, lacks_one};
+ghost use Rattle.elf_headers.specs.Range.{IsInRange};
+ghost use Rattle.rpath_search.specs.Faults.{search_ending};
+ghost use Rattle.tree_face.specs.Known.{IfKnown};
+ghost use Rattle.tree_face.specs.Store.{Contents};
+ghost use Rattle.image_tree.specs.Tree.{node_at};
+ghost use Rattle.ldd_resolve.specs.Requests.{IsEven, Lists, StandsFirst, StartsSound, outsider_of};
+ghost use Rattle.ldd_resolve.specs.Resolving.{IfBadProgram, IsBadProgram, IsListing, IsNoProgram, ReadsListing, object_at, program_at, resolve_ending, with_abi};
+
+use crate::kinds::{Listing, ResolveFault};
+use crate::loading::Loading;
+use crate::requests::{Given, answer_all};
+use cache_lookup::Sorted;
+use elf_dynamic::kinds::Object;
+use elf_dynamic::object;
+use lib_types::{Abi, NoMemory, Text, Texts};
+use path_walk::file_at;
+use rpath_search::{Env, Found, SearchFault, from_root, is_library, key_at};
+use std::alloc::Global;
+use tree_face::{Store, Tree};
+
+fn copies_of(alloc: Global, texts: &Texts) -> Result<Texts, NoMemory>
+    ensures { IfOk result (λ copies. copies ≡ texts.now) }
+{
+    let mut copies = Texts::new(alloc);
+    for text in texts.as_slice() {
+        copies.push(Text::copy_of(alloc, text.as_bytes())?)?;
+    }
+    Ok(copies)
+}
+
+// The same for programs of another ABI.
+fn with_abi(alloc: Global, env: &Env, abi: Abi) -> Result<Env, NoMemory>
+    ensures { IfOk result (λ e. e ≡ with_abi env.now abi) }
+{
+    Ok(Env {
+        abi,
+        caps: copies_of(alloc, &env.caps)?,
+        library_path: Text::copy_of(alloc, env.library_path.as_bytes())?,
+        platform: Text::copy_of(alloc, env.platform.as_bytes())?,
+        secure: env.secure,
+    })
+}
+
+// Reads the file of the program, at a path without links. No key is there only if no file is.
+fn read_program<S: Store>(
+    alloc: Global,
+    tree: &Tree,
+    store: &mut S,
+    real: &[u8],
+) -> Result<Object, ResolveFault>
+    ensures object { IfOk result (λ o. IfKnown (S.state store.old).held (λ held. object_at held tree.now real.now ≡ Some (Ok o))) }
+    ensures defect { IfBadProgram result (λ d. IfKnown (S.state store.old).held (λ held. object_at held tree.now real.now ≡ Some (Err d))) }
+    ensures range { IfBadProgram result IsInRange }
+    ensures none { result ≡ Err ResolveFault.NoProgram → key_in (node_at tree.now real.now) ≡ None }
+    ensures held { IfOk result (λ _. IfKnown (S.state store.old).held (λ held. lacks_one held (file_keys tree.now (real.now ∷ [])) ≡ false)) }
+    ensures reads { ReadsBy (S.state store.old).held (file_keys tree.now (real.now ∷ [])) (resolve_ending result) (S.state store.old) (S.state store.new) }
+{
+    let Some(key) = key_at(tree, real) else {
+        return Err(ResolveFault::NoProgram);
+    };
+    Ok(object(alloc, store, key)?)
+}
+
+// The program's file, if that is no library.
+fn outsider_of(alloc: Global, program: &Found) -> Result<Option<Text>, NoMemory>
+    ensures { IfOk result (λ o. o ≡ outsider_of program.now) }
+{
+    if is_library(program.object.abi, &program.object) {
+        return Ok(None);
+    }
+    Ok(Some(Text::copy_of(alloc, program.real.as_bytes())?))
+}
+
+// The state with the program alone.
+fn first_loading(alloc: Global, program: Found) -> Result<Loading, NoMemory>
+    ensures stands { IfOk result (StandsFirst program) }
+    ensures sound { IfOk result (StartsSound program) }
+    ensures even { IfOk result (λ loading. IsEven loading 0) }
+{
+    let outsider = outsider_of(alloc, &program)?;
+    let Found { path, real, object } = program;
+    let mut loading = Loading::new(alloc, outsider);
+    loading.add_object(alloc, path.as_bytes(), real, object.dynamic, None)?;
+    Ok(loading)
+}
+
+// The libraries that a program loads, which was read.
+fn list<S: Store>(
+    alloc: Global,
+    tree: &Tree,
+    store: &mut S,
+    cache: Option<&Sorted<'_>>,
+    env: &Env,
+    program: Found,
+) -> Result<Listing, SearchFault>
+    requires node { is_some (node_at tree.now program.real) ≡ true }
+    requires object { IfKnown (S.state store.old).held (λ held. object_at held tree.now program.real ≡ Some (Ok program.object)) }
+    ensures { Lists (S.state store.old).held tree.now (option_copied cache.entry) env.now program result (S.state store.old) (S.state store.new) }
+{
+    let env = with_abi(alloc, env, program.object.abi)?;
+    let given = Given {
+        tree,
+        cache,
+        env: &env,
+    };
+    let mut loading = first_loading(alloc, program)?;
+    match answer_all(alloc, &given, store, &mut loading) {
+        Ok(()) => Ok(loading.items),
+        Err(fault) => Err(fault),
+    }
+}
+
+/// The libraries that a program loads, and from where. The program's ABI counts in place of that of `env`; without a cache the search
+/// finds nothing there.
+///
+/// A file that is loaded is not read again, and each is loaded once, so the call returns for every image. A name that isn't found is
+/// searched again for each later object that needs it, since that object's own directories may have it.
+pub fn resolve<S: Store>(
+    alloc: Global,
+    tree: &Tree,
+    store: &mut S,
+    cache: Option<&Sorted<'_>>,
+    program: &[u8],
+    env: &Env,
+) -> Result<Listing, ResolveFault>
+    ensures listing { IfOk result (λ items. IfKnown (S.state store.old).held
+        (λ held. IsListing tree.now (option_copied cache.entry) program.now env.now held items)) }
+    ensures no_program { IsNoProgram (program_at tree.now program.now) result }
+    ensures bad_program { IfBadProgram result (λ d. IfKnown (S.state store.old).held (λ held. IsBadProgram held tree.now program.now d)) }
+    ensures range { IfBadProgram result IsInRange }
+    ensures reads { ReadsListing (S.state store.old).held tree.now (option_copied cache.entry) program.now env.now (resolve_ending result)
+        (S.state store.old) (S.state store.new) }
+{
+    let path = from_root(alloc, program)?;
+    let Some(real) = file_at(alloc, tree, path.as_bytes())? else {
+        return Err(ResolveFault::NoProgram);
+    };
+    let object = read_program(alloc, tree, store, real.as_bytes())?;
+    let program = Found { path, real, object };
+    let listing = list(alloc, tree, store, cache, env, program)?;
+    Ok(listing)
+}

@@ -1,0 +1,16 @@
+//! Tests of what is listed of a program, and of the text of a listing. Each table is a file of data/.
+#![tactic(auto)]
+
+mod files;
+mod given;
+mod listings;
+
+use crate::listings::Listings;
+use std::io;
+use std::process::ExitCode;
+use table_rows::{status, try_tables};
+
+fn main(rt: HostRuntime) -> io::Result<ExitCode> {
+    let are_right = try_tables::<Listings>(&rt, &["listings", "objects", "refusals"])?;
+    Ok(status(are_right))
+}

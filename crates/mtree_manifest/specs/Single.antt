@@ -1,0 +1,61 @@
+-- One line by itself (mtree(5): a full path with its keywords), without defaults and without a directory that is open.
+use Rattle.std.specs.Prelude.{ℕ, Bool, ◌==◌, ◌&&◌, not, List, [], ◌∷◌, if◌then◌else◌, length, Option, Some, None, unwrap_or, Result, Ok, Err}
+use Rattle.image_tree.specs.declared.node.Node.{Node}
+use Rattle.mtree_manifest.specs.Keys.{Given, fault_unless, first_fault, given, no_values}
+use Rattle.mtree_manifest.specs.Lines.{goes_on, words_of}
+use Rattle.mtree_manifest.specs.Manifest.{head_of, is_dir, put_by, target_fault}
+use Rattle.mtree_manifest.specs.Paths.{is_full, place, place_fault}
+use Rattle.mtree_manifest.specs.declared.fault.LineKind.{LineKind}
+use Rattle.mtree_manifest.specs.declared.fault.LineKind.TheVariants.{BadLine}
+use Rattle.mtree_manifest.specs.declared.line.Head.{Head}
+use Rattle.mtree_manifest.specs.declared.line.Head.TheVariants as head
+
+-- the first word is a full path, and not the root's
+abbrev pub lead_fault : List ℕ → Option LineKind
+lead_fault first = fault_unless (is_full first && not (length (place [] first) == 0)) BadLine
+
+-- the fault of a first word, in a line that is a directory's or another's
+abbrev pub place_fault_alone : Bool → List ℕ → Option LineKind
+place_fault_alone is_dir first = first_fault (place_fault is_dir [] first) (lead_fault first)
+
+-- the first fault of a line with a path
+abbrev pub fault_alone : List ℕ → Given → Option LineKind
+fault_alone first g = first_fault g.fault (first_fault (place_fault_alone (is_dir g.values.kind) first) (target_fault g.values))
+
+abbrev pub entry_unless : Option LineKind → Option (List ℕ × Node) → Result (Option (List ℕ × Node)) LineKind
+entry_unless None entry = Ok entry
+entry_unless (Some kind) entry = Err kind
+
+-- a line with a path, for what its keywords give; a type that makes no node gives none
+abbrev pub entry_alone : List ℕ → Given → Result (Option (List ℕ × Node)) LineKind
+entry_alone first g = entry_unless (fault_alone first g) (put_by (place [] first) g.values)
+
+-- the fault of a line without a path, of which an escape may be bad
+abbrev pub pathless_fault : Option LineKind → LineKind
+pathless_fault fault = unwrap_or (first_fault fault (Some BadLine)) BadLine
+
+-- Only a line with a path gives something; of the others the keywords of `/set` are looked at.
+abbrev pub alone_by : Head → List ℕ → List (List ℕ) → Result (Option (List ℕ × Node)) LineKind
+alone_by head.Entry first rest = entry_alone first (given no_values rest)
+alone_by head.Set first rest = Err (pathless_fault (given no_values rest).fault)
+alone_by head.Unset first rest = Err BadLine
+alone_by head.Comment first rest = Err BadLine
+alone_by head.Close first rest = Err BadLine
+
+abbrev pub words_alone : List (List ℕ) → Result (Option (List ℕ × Node)) LineKind
+words_alone [] = Err BadLine
+words_alone (first ∷ rest) = alone_by (head_of first) first rest
+
+-- the path and the node that a line gives, or its first fault; it goes on in no other line
+abbrev pub line_alone : List ℕ → Result (Option (List ℕ × Node)) LineKind
+line_alone line = if goes_on line then Err BadLine else words_alone (words_of line)
+
+-- ---- words of private functions
+
+abbrev pub path_word : Option (Head × List ℕ) → Option (List ℕ)
+path_word None = None
+path_word (Some (head.Entry, first)) = Some first
+path_word (Some (head.Set, first)) = None
+path_word (Some (head.Unset, first)) = None
+path_word (Some (head.Comment, first)) = None
+path_word (Some (head.Close, first)) = None

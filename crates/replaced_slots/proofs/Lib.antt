@@ -1,0 +1,3 @@
+pub mod CallsOneByOne
+pub mod CrashesOneByOne
+pub mod Listed

@@ -1,7 +1,0 @@
-use Rattle.std.proofs.Common.{ap, map, List, ℕ, Option, ◌∙◌}
-use Rattle.tree_face.proofs.Listed.{names_listed}
-use Rattle.tree_face.specs.declared.node.Node.{Node}
-use Rattle.tree_face.proofs.tree.Tree.children.Goals as goal
-
-pub returns-clause-names : goal.returns-clause-names
-returns-clause-names c = c.of.ensures ∙ ap (map (λ (x : List ℕ × Option Node). x.0)) c.listing.ensures.list ∙ names_listed c.args.self.now c.args.path.now

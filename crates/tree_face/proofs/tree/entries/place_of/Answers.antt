@@ -1,6 +1,0 @@
-use Rattle.std.proofs.Common.{sym}
-use Rattle.tree_face.proofs.Index.{absent_node}
-use Rattle.tree_face.proofs.tree.entries.place_of.Goals as goal
-
-pub returns-in-Err : goal.returns-in-Err
-returns-in-Err c = sym (absent_node _ _ _ c.in-Err.ensures.absent.gap)

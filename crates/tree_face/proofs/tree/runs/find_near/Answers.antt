@@ -1,9 +1,0 @@
-use Rattle.std.proofs.Common.{◌<◌, length, subst, arith}
-use Rattle.tree_face.proofs.Runs.{place_found}
-use Rattle.tree_face.specs.Index.{IsIndexOf}
-use Rattle.tree_face.proofs.tree.runs.find_near.Goals as goal
-
-pub returns : goal.returns
-returns c =
-    let h : c.args.near.run < length c.args.runs.now.items = omega (arith, c.if-near-len.false, c.len.ensures) in
-    place_found c.args.runs.now.items _ c.args.path.now h (subst (λ r. IsIndexOf r c.args.path.now c.in_ok-at.at) c.run_of.ensures c.in_ok-at.ensures)
