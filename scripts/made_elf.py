@@ -1,4 +1,4 @@
-"""Makes shared objects with a DT_SONAME, or without one, and nothing else in them."""
+"""Makes shared objects with a DT_SONAME, or without one, and nothing else in them; or such that need others."""
 
 import struct
 
@@ -19,3 +19,22 @@ def elf(abi, soname=None, kind=3):
         at = offset, 0x1000 + offset, 0x1000 + offset, count, count
         made += struct.pack("<2I6Q", tag, 4, *at, aligned) if size == 2 else struct.pack("<8I", tag, *at, 4, aligned)
     return made + b"".join(struct.pack("<2" + word, *pair) for pair in table) + strings
+
+
+def needing(soname, needed, rpath=None):
+    """A shared x86-64 object with a DT_SONAME that needs others, and perhaps a DT_RPATH."""
+    names = [soname, *needed] + [rpath] * (rpath is not None)
+    offsets, strings = [], b"\0"
+    for name in names:
+        offsets.append(len(strings))
+        strings += name.encode() + b"\0"
+    address, dynamic_at, dynamic_size = 0x1000, 64 + 2 * 56, 16 * (len(names) + 3)
+    strings_at = dynamic_at + dynamic_size
+    size = strings_at + len(strings)
+    header = b"\x7fELF" + bytes([2, 1, 1]) + bytes(9) + struct.pack("<HHIQQQIHHHHHH", 3, 62, 1, 0, 64, 0, 0, 64, 56, 2, 0, 0, 0)
+    load = struct.pack("<IIQQQQQQ", 1, 4, 0, address, address, size, size, 0x1000)
+    dynamic = struct.pack("<IIQQQQQQ", 2, 4, dynamic_at, dynamic_at + address, dynamic_at + address, dynamic_size, dynamic_size, 8)
+    tags = [14] + [1] * len(needed) + [15] * (rpath is not None)
+    entries = b"".join(struct.pack("<QQ", tag, offset) for tag, offset in zip(tags, offsets))
+    entries += struct.pack("<6Q", 5, strings_at + address, 10, len(strings), 0, 0)
+    return header + load + dynamic + entries + strings

@@ -1,5 +1,7 @@
 mod Adding
 mod Back
+mod ByIds
 mod Damage
-mod Sorted
+pub mod Found
+pub mod Sorted
 mod Standing

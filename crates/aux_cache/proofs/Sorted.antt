@@ -33,7 +33,7 @@ same_id a b e =
     λ i. record { dev = d i; inode = n i; ctime = c i; size = s i }
 
 -- equal identities are the same
-exact : (a b : Id) → id_cmp a b ≡ Equal → a ≡ b
+pub exact : (a b : Id) → id_cmp a b ≡ Equal → a ≡ b
 exact a b e = same_id a b (exact_bytes (parts_of a) (parts_of b) e)
 
 -- ---- stamps with their identities as keys
@@ -42,7 +42,7 @@ pub ids_of : (xs : List Stamp) → keys_of (by_id xs) ≡ map (λ s. s.id) xs
 ids_of [] = refl
 ids_of (x ∷ xs) = ap (λ ks. x.id ∷ ks) (ids_of xs)
 
-values_are : (xs : List Stamp) → values_of (by_id xs) ≡ xs
+pub values_are : (xs : List Stamp) → values_of (by_id xs) ≡ xs
 values_are [] = refl
 values_are (x ∷ xs) = ap (λ ys. x ∷ ys) (values_are xs)
 
@@ -126,7 +126,7 @@ replaced xs s at sorted p =
     sym (map-set (λ (e : Id × Stamp). e.1) (by_id xs) at (key, s) ∙ ap (λ ys. set ys at s) (values_are xs))
     ∙ ap values_of (pairs.put_at_index id_total s.id (by_id xs) at s d (inside xs s.id at p) (same_at xs s.id at p) (before_at xs s.id at sorted p))
 
-put_pairs : (xs : List Stamp) (s : Stamp) → insert_entry id_cmp (by_id xs) s.id s ≡ by_id (put xs s)
+pub put_pairs : (xs : List Stamp) (s : Stamp) → insert_entry id_cmp (by_id xs) s.id s ≡ by_id (put xs s)
 put_pairs [] s = refl
 put_pairs (x ∷ xs) s = by (id_cmp s.id x.id) refl (put_pairs xs s)
   where

@@ -25,6 +25,10 @@ stamp_of stamps id = lookup (is_at (id_cmp id)) (by_id stamps)
 abbrev pub put : List Stamp → Stamp → List Stamp
 put stamps stamp = values_of (insert_entry id_cmp (by_id stamps) stamp.id stamp)
 
+-- the soname, if there is one, is a name
+abbrev pub HasName : Stamp → Type 0
+HasName stamp = IfSome stamp.soname (λ soname. is_name soname ≡ true)
+
 -- each soname is a name
 abbrev pub HaveNames : List Stamp → Type 0
-HaveNames stamps = All (λ stamp. IfSome stamp.soname (λ soname. is_name soname ≡ true)) stamps
+HaveNames stamps = All HasName stamps

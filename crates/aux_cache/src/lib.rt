@@ -2,6 +2,7 @@
 #![tactic(auto)]
 
 mod fault;
+mod gathered;
 mod layout;
 mod order;
 mod reader;
@@ -9,6 +10,7 @@ mod stamps;
 mod writer;
 
 pub use fault::AuxFault;
+pub use gathered::GatheredStamps;
 pub use reader::read;
 pub use stamps::{STAMPS_MAX, Stamp, Stamps};
 pub use writer::write;

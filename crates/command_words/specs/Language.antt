@@ -1,9 +1,10 @@
 -- Which arguments each command takes. They are read by `clap`, whose definitions say what is refused and what is found.
 use Rattle.std.specs.Prelude.{◌||◌, ℕ, true, List, [], ◌∷◌, codes, Option, Some, None, if◌then◌else◌}
 use Rattle.std.specs.Str.{bytes_eq}
+use Rattle.clap.specs.declared.builder.action.ArgAction.TheVariants.{SetTrue}
 use Rattle.clap.specs.Words.{App, Rule, new_app, new_rule, with_rule}
 use Rattle.command_words.specs.declared.verb.Verb.{Verb}
-use Rattle.command_words.specs.declared.verb.Verb.TheVariants.{Update, Print, Lookup}
+use Rattle.command_words.specs.declared.verb.Verb.TheVariants.{Update, Print, Lookup, Resolve}
 
 -- ---- the first argument
 
@@ -12,6 +13,7 @@ verb_of word =
     if bytes_eq word (codes "update") then Some Update
     else if bytes_eq word (codes "print") || bytes_eq word (codes "-p") then Some Print
     else if bytes_eq word (codes "lookup") then Some Lookup
+    else if bytes_eq word (codes "resolve") then Some Resolve
     else None
 
 -- without arguments it is `update`
@@ -29,14 +31,23 @@ word_rule id = record (new_rule id) { required = true }
 abbrev pub option_rule : List ℕ → Rule
 option_rule id = record (new_rule id) { long = Some id }
 
+-- `--ID`, without a value, once at most
+abbrev pub flag_rule : List ℕ → Rule
+flag_rule id = record (option_rule id) { action = Some SetTrue }
+
 -- nothing is taken, `--help` and `--version` neither
 abbrev pub without_requests : App
 without_requests =
     let empty = new_app (codes "ldconfig") in
     record empty { top = record empty.top { disable_help_flag = true; disable_version_flag = true } }
 
+-- a program for processors with some hwcaps names
+abbrev pub searched : App
+searched = with_rule (with_rule without_requests (word_rule (codes "PATH"))) (option_rule (codes "caps"))
+
 -- the options of a command, and the arguments that it needs
 unfoldable pub app : Verb → App
 app Update = with_rule without_requests (option_rule (codes "tag"))
 app Print = without_requests
 app Lookup = with_rule (with_rule (with_rule without_requests (word_rule (codes "NAME"))) (option_rule (codes "abi"))) (option_rule (codes "caps"))
+app Resolve = with_rule (with_rule (with_rule searched (option_rule (codes "library-path"))) (option_rule (codes "platform"))) (flag_rule (codes "secure"))

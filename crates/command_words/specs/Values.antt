@@ -9,6 +9,10 @@ use Rattle.std.specs.Str.Parse.{digits_value}
 abbrev pub is_value : List ℕ → Bool
 is_value text = not (bytes_eq text (codes "-"))
 
+-- what `clap` finds for a flag that is given
+abbrev pub is_true : List ℕ → Bool
+is_true text = bytes_eq text (codes "true")
+
 -- the number of 1 to 5 decimal digits, below 2^16
 abbrev pub number_in : List ℕ → Option ℕ
 number_in text =

@@ -5,12 +5,13 @@ use Rattle.clap.specs.Words.{Row, fault_of, first_of, matches_of, takes}
 use Rattle.lib_types.specs.Abi.{abi_of_word}
 use Rattle.lib_types.specs.declared.abi.Abi.{Abi}
 use Rattle.command_words.specs.Language.{app, verb_in}
-use Rattle.command_words.specs.Values.{caps_in, is_value, number_in}
+use Rattle.command_words.specs.Values.{caps_in, is_true, is_value, number_in}
 use Rattle.command_words.specs.declared.fault.WordsFault.{WordsFault}
 use Rattle.command_words.specs.declared.fault.WordsFault.TheVariants as faults
-use Rattle.command_words.specs.declared.kinds.Command.{Command}
-use Rattle.command_words.specs.declared.kinds.Command.TheVariants as commands
-use Rattle.command_words.specs.declared.kinds.Lookup.{Lookup}
+use Rattle.commands.specs.declared.kinds.Command.{Command}
+use Rattle.commands.specs.declared.kinds.Command.TheVariants as commands
+use Rattle.commands.specs.declared.kinds.Lookup.{Lookup}
+use Rattle.commands.specs.declared.kinds.Resolve.{Resolve}
 use Rattle.command_words.specs.declared.verb.Verb.{Verb}
 use Rattle.command_words.specs.declared.verb.Verb.TheVariants as verbs
 
@@ -35,11 +36,21 @@ abbrev pub lookup_by : List Row → Option Lookup
 lookup_by found = option_and_then (λ name. option_and_then (λ abi. option_map (λ caps. record { name = name; abi = abi; caps = caps })
     (caps_by found)) (abi_by found)) (value_by (codes "NAME") [] found)
 
+-- whether the flag is given
+abbrev pub secure_by : List Row → Bool
+secure_by found = option_map_or is_true (first_of (codes "secure") found) false
+
+abbrev pub resolve_by : List Row → Option Resolve
+resolve_by found = option_and_then (λ path. option_and_then (λ caps. option_and_then (λ library_path. option_map (λ platform.
+    record { path = path; caps = caps; library_path = library_path; platform = platform; secure = secure_by found })
+    (value_by (codes "platform") [] found)) (value_by (codes "library-path") [] found)) (caps_by found)) (value_by (codes "PATH") [] found)
+
 -- the command with these values, if they are values
 abbrev pub command_by : Verb → List Row → Option Command
 command_by verbs.Update found = option_map (λ tag. commands.Update (record { 0 = tag })) (tag_by found)
 command_by verbs.Print found = Some commands.Print
 command_by verbs.Lookup found = option_map commands.Lookup (lookup_by found)
+command_by verbs.Resolve found = option_map commands.Resolve (resolve_by found)
 
 -- ---- arguments
 

@@ -1,10 +1,10 @@
 //! The arguments of each command, as `clap` reads them.
 ghost use Rattle.std.specs.Prelude.{◌≡◌, false, IfOk};
 ghost use Rattle.clap.specs.Words.{app_of, rule_of, with_rule};
-ghost use Rattle.command_words.specs.Language.{app, option_rule, without_requests, word_rule};
+ghost use Rattle.command_words.specs.Language.{app, flag_rule, option_rule, searched, without_requests, word_rule};
 
 use crate::verb::Verb;
-use clap::{Arg, Command};
+use clap::{Arg, ArgAction, Command};
 use std::alloc::{AllocError, Global};
 
 // An argument that is needed, without a name.
@@ -21,6 +21,14 @@ fn option<'a>(alloc: Global, id: &'a str) -> Arg<'a>
     ensures local { result.global ≡ false }
 {
     Arg::new(alloc, id).long(id)
+}
+
+// An option without a value.
+fn flag<'a>(alloc: Global, id: &'a str) -> Arg<'a>
+    ensures rule { rule_of result ≡ flag_rule id.entry.now }
+    ensures local { result.global ≡ false }
+{
+    option(alloc, id).action(ArgAction::SetTrue)
 }
 
 // A command without arguments, and without the options that `clap` adds.
@@ -56,6 +64,23 @@ fn lookup<'a>(alloc: Global) -> Result<Command<'a>, AllocError>
     with(of_abi, option(alloc, "caps"))
 }
 
+// A program for processors with some hwcaps names.
+fn searched<'a>(alloc: Global) -> Result<Command<'a>, AllocError>
+    ensures { IfOk result (λ c. app_of c ≡ searched) }
+{
+    let named = with(bare(alloc), word(alloc, "PATH"))?;
+    with(named, option(alloc, "caps"))
+}
+
+#[tactic(auto, unfolding(crate::specs::Language::app))]
+fn resolve<'a>(alloc: Global) -> Result<Command<'a>, AllocError>
+    ensures { IfOk result (λ c. app_of c ≡ app Verb.Resolve) }
+{
+    let with_library_path = with(searched(alloc)?, option(alloc, "library-path"))?;
+    let with_platform = with(with_library_path, option(alloc, "platform"))?;
+    with(with_platform, flag(alloc, "secure"))
+}
+
 /// The arguments of this command.
 #[tactic(auto, unfolding(crate::specs::Language::app))]
 pub(crate) fn arguments_of<'a>(alloc: Global, verb: Verb) -> Result<Command<'a>, AllocError>
@@ -65,5 +90,6 @@ pub(crate) fn arguments_of<'a>(alloc: Global, verb: Verb) -> Result<Command<'a>,
         Verb::Update => update(alloc),
         Verb::Print => Ok(bare(alloc)),
         Verb::Lookup => lookup(alloc),
+        Verb::Resolve => resolve(alloc),
     }
 }

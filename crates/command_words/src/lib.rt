@@ -2,12 +2,10 @@
 #![tactic(auto)]
 
 mod fault;
-mod kinds;
 mod language;
 mod reading;
 mod values;
 mod verb;
 
 pub use fault::WordsFault;
-pub use kinds::{Command, Lookup};
 pub use reading::command_of;

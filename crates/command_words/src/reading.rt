@@ -3,16 +3,16 @@ ghost use Rattle.std.specs.Prelude.{◌≡◌, true, Err, None, [], map, option_
 ghost use Rattle.std.specs.String.{string_bytes};
 ghost use Rattle.clap.specs.Words.{app_of, fault_of, first_of, found_of, matches_of, rows_of, takes};
 ghost use Rattle.command_words.specs.Language.{app, verb_in};
-ghost use Rattle.command_words.specs.Words.{Gives, abi_by, are_taken, caps_by, command_by, command_in, lookup_by, tag_by, value_by, values_in};
+ghost use Rattle.command_words.specs.Words.{Gives, abi_by, are_taken, caps_by, command_by, command_in, lookup_by, resolve_by, secure_by, tag_by, value_by, values_in};
 ghost use Rattle.command_words.specs.declared.fault.WordsFault.TheVariants as faults;
 
 use crate::fault::WordsFault;
-use crate::kinds::{Command, Lookup};
 use crate::language::arguments_of;
-use crate::values::{caps_in, is_value, number};
+use crate::values::{caps_in, is_true, is_value, number};
 use crate::verb::{Verb, verb_in};
 use clap::ArgMatches;
 use clap::error::ErrorKind;
+use commands::{Command, Lookup, Resolve};
 use lib_types::{Abi, Text, Texts};
 use std::alloc::Global;
 use tree_face::Tag;
@@ -89,6 +89,43 @@ fn lookup_by(alloc: Global, found: &ArgMatches<'_>) -> Result<Lookup, WordsFault
     Ok(Lookup { name, abi, caps })
 }
 
+// Whether the flag is given.
+fn secure_by(found: &ArgMatches<'_>) -> bool
+    ensures { result ≡ secure_by (rows_of (found_of found.now)) }
+{
+    match first_of(found, "secure") {
+        Some(text) => is_true(text),
+        None => false,
+    }
+}
+
+// The value of this argument, empty if it isn't given.
+fn text_by(alloc: Global, found: &ArgMatches<'_>, id: &str) -> Result<Text, WordsFault>
+    ensures { Gives (value_by id.now [] (rows_of (found_of found.now))) result }
+{
+    match value_by(found, id, "") {
+        Some(text) => Ok(Text::copy_of(alloc, text.as_bytes())?),
+        None => Err(WordsFault::Usage),
+    }
+}
+
+fn resolve_by(alloc: Global, found: &ArgMatches<'_>) -> Result<Resolve, WordsFault>
+    ensures { Gives (resolve_by (rows_of (found_of found.now))) result }
+{
+    let path = text_by(alloc, found, "PATH")?;
+    let caps = caps_by(alloc, found)?;
+    let library_path = text_by(alloc, found, "library-path")?;
+    let platform = text_by(alloc, found, "platform")?;
+    let secure = secure_by(found);
+    Ok(Resolve {
+        path,
+        caps,
+        library_path,
+        platform,
+        secure,
+    })
+}
+
 fn command_by(alloc: Global, verb: Verb, found: &ArgMatches<'_>) -> Result<Command, WordsFault>
     ensures { Gives (command_by verb (rows_of (found_of found.now))) result }
 {
@@ -99,6 +136,7 @@ fn command_by(alloc: Global, verb: Verb, found: &ArgMatches<'_>) -> Result<Comma
         },
         Verb::Print => Ok(Command::Print),
         Verb::Lookup => Ok(Command::Lookup(lookup_by(alloc, found)?)),
+        Verb::Resolve => Ok(Command::Resolve(resolve_by(alloc, found)?)),
     }
 }
 

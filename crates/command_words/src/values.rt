@@ -4,7 +4,7 @@ ghost use Rattle.std.specs.Char.{is_ascii_digit};
 ghost use Rattle.std.specs.List.{list_all, slice_split};
 ghost use Rattle.std.specs.Option.{option_copied};
 ghost use Rattle.std.specs.Str.Parse.{digits_value};
-ghost use Rattle.command_words.specs.Values.{caps_in, is_colon, is_value, number_in, parts_of};
+ghost use Rattle.command_words.specs.Values.{caps_in, is_colon, is_true, is_value, number_in, parts_of};
 
 use lib_types::{NoMemory, Text, Texts};
 use std::alloc::Global;
@@ -16,6 +16,13 @@ pub(crate) fn is_value(text: &str) -> bool
     text.as_bytes() != b"-".as_slice()
 }
 
+/// Whether the text is that of a flag that is given.
+pub(crate) fn is_true(text: &str) -> bool
+    ensures { result ≡ is_true text.now }
+{
+    text.as_bytes() == b"true".as_slice()
+}
+
 fn are_digits(text: &[u8]) -> bool
     ensures { result ≡ list_all is_ascii_digit text.now }
 {
@@ -23,7 +30,7 @@ fn are_digits(text: &[u8]) -> bool
 }
 
 // The number of some digits, if it is below 2^64.
-#[tactic(auto, using(mtree_manifest::proofs::Numbers::parsed))]
+#[tactic(auto, using(manifest_words::proofs::Numbers::parsed))]
 fn number_of(digits: &str) -> Option<u64>
     requires some { 0 < length digits.now }
     requires digits { IsTrue (list_all is_ascii_digit digits.now) }

@@ -10,6 +10,7 @@ pub(crate) enum Verb {
     Update,
     Print,
     Lookup,
+    Resolve,
 }
 
 fn is_word(argument: &str, word: &str) -> bool
@@ -28,6 +29,8 @@ fn verb_of(word: &str) -> Option<Verb>
         Some(Verb::Print)
     } else if is_word(word, "lookup") {
         Some(Verb::Lookup)
+    } else if is_word(word, "resolve") {
+        Some(Verb::Resolve)
     } else {
         None
     }

@@ -1,6 +1,7 @@
 //! A command as text: its name, and a line for each of its values.
-use command_words::{Command, Lookup, WordsFault};
-use lib_types::NoMemory;
+use command_words::WordsFault;
+use commands::{Command, Lookup, Resolve};
+use lib_types::{NoMemory, Texts};
 use std::alloc::Global;
 
 fn put_line(text: &mut Vec<u8>, front: &[u8], value: &[u8]) -> Result<(), NoMemory> {
@@ -20,14 +21,27 @@ fn put_number(
     put_line(text, front, digits.as_bytes())
 }
 
+fn put_caps(text: &mut Vec<u8>, caps: &Texts) -> Result<(), NoMemory> {
+    for cap in caps.as_slice() {
+        put_line(text, b"cap=", cap.as_bytes())?;
+    }
+    Ok(())
+}
+
 // The ABI is shown by its flags in a cache.
 fn put_lookup(alloc: Global, text: &mut Vec<u8>, lookup: &Lookup) -> Result<(), NoMemory> {
     put_line(text, b"name=", lookup.name.as_bytes())?;
     put_number(alloc, text, b"flags=", lookup.abi.flags())?;
-    for index in 0..lookup.caps.len() {
-        if let Some(cap) = lookup.caps.get(index) {
-            put_line(text, b"cap=", cap.as_bytes())?;
-        }
+    put_caps(text, &lookup.caps)
+}
+
+fn put_resolve(text: &mut Vec<u8>, resolve: &Resolve) -> Result<(), NoMemory> {
+    put_line(text, b"path=", resolve.path.as_bytes())?;
+    put_caps(text, &resolve.caps)?;
+    put_line(text, b"library_path=", resolve.library_path.as_bytes())?;
+    put_line(text, b"platform=", resolve.platform.as_bytes())?;
+    if resolve.secure {
+        put_line(text, b"secure", b"")?;
     }
     Ok(())
 }
@@ -42,6 +56,10 @@ fn put_command(alloc: Global, text: &mut Vec<u8>, command: &Command) -> Result<(
         Command::Lookup(lookup) => {
             put_line(text, b"lookup", b"")?;
             put_lookup(alloc, text, lookup)
+        }
+        Command::Resolve(resolve) => {
+            put_line(text, b"resolve", b"")?;
+            put_resolve(text, resolve)
         }
     }
 }

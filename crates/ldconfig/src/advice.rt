@@ -2,7 +2,7 @@
 ghost use Rattle.std.specs.Prelude.{◌≡◌, ◌↔◌, ◌||◌, ℕ, None, Some, IsTrue, IsSome};
 ghost use Rattle.ldconfig.specs.Notes.{IsFewer};
 
-use ldconfig_cli::Status;
+use command_runs::Status;
 use mtree_manifest::LineKind;
 use std::str::from_utf8;
 
@@ -12,6 +12,7 @@ pub const USAGE: &str =
 usage: ldconfig update [--tag N]: plans the links of the libraries in image.mtree, in the folder of an image, and makes etc/ld.so.cache; the same without arguments
 usage: ldconfig print, or -p: prints etc/ld.so.cache
 usage: ldconfig lookup NAME [--abi ABI] [--caps LIST]: the path that the loader takes from etc/ld.so.cache; LIST: hwcaps names between colons, as in ldconfig lookup libz.so.1 --caps x86-64-v3:x86-64-v2
+usage: ldconfig resolve PATH [--caps LIST] [--library-path LIST] [--platform TEXT] [--secure]: the libraries that the program or library PATH of the image loads, and from where, as ldd lists them
 All run in the folder of an image. What they write and every exit status: README.md and docs/FORMATS.md
 ";
 
@@ -26,6 +27,12 @@ const NO_CACHE: &str =
 const BAD_CACHE: &str =
     "ldconfig: etc/ld.so.cache: the line on the output says what is wrong, docs/FORMATS.md explains it; ldconfig update makes another\n";
 
+const NO_PROGRAM: &str =
+    "ldconfig: the path leads to no file of image.mtree, links in the image followed\n";
+
+const BAD_PROGRAM: &str =
+    "ldconfig: the line on the output says why the file is no program or library, docs/FORMATS.md explains it\n";
+
 /// The lines, each with its line feed, that are the same whenever a command ends so.
 pub fn advice(status: Status) -> Option<&'static str>
     ensures { status ≡ Status.Done → result ≡ None }
@@ -35,6 +42,8 @@ pub fn advice(status: Status) -> Option<&'static str>
         Status::NoManifest => Some(NO_MANIFEST),
         Status::NoCache => Some(NO_CACHE),
         Status::BadCache(_) => Some(BAD_CACHE),
+        Status::NoProgram => Some(NO_PROGRAM),
+        Status::BadProgram(_) => Some(BAD_PROGRAM),
         Status::NoMemory => Some(OUT_OF_MEMORY),
         _ => None,
     }

@@ -8,9 +8,10 @@ ghost use Rattle.std.specs.Prelude.{◌≡◌};
 ghost use Rattle.ldconfig.specs.Start.{code_of};
 
 use advice::{OUT_OF_MEMORY, advice, written_before};
+use command_runs::Status;
 use device_rules::RunId;
 use image_folder::HeldFile;
-use ldconfig_cli::{Status, run};
+use ldconfig_cli::run;
 use lib_types::NoMemory;
 use notes::{note_manifest, note_size, note_update};
 use standard_streams::{Streams, write_error_line, write_text};

@@ -1,8 +1,8 @@
 //! Lines on the error output about an update that was done, and about what was too large.
 use crate::advice::{SHOWN, cause_of, fewer};
+use command_runs::Status;
 use device_rules::machine_name;
 use image_folder::HeldFile;
-use ldconfig_cli::Status;
 use mtree_manifest::ManifestFault;
 use slot_files::Written;
 use standard_streams::{Streams, printable, write_text};

@@ -1,6 +1,1 @@
-mod CrashedRun
-mod NotUsage
-mod RepairedRun
-mod RunByCommand
-mod Saying
-mod SettledSlots
+mod ByArguments

@@ -1,11 +1,2 @@
-pub mod CacheFault
-pub mod Crash
-pub mod Devices
-pub mod FaultLine
-pub mod Lookup
-pub mod Print
 pub mod Runs
-pub mod Status
-pub mod Update
-pub mod UpdateCommand
 pub mod Usage

@@ -1,31 +1,28 @@
--- What the commands do, by the arguments.
+-- What a run does, by its arguments.
 use Rattle.std.specs.Prelude.{◌≡◌, ◌↔◌, ◌≢◌, ◌⊎◌, ℕ, List, map, Option, Some, None, String, Vec}
 use Rattle.std.specs.declared.alloc.Global.{Global}
 use Rattle.std.specs.String.{string_bytes}
+use Rattle.command_runs.specs.Commands.{RunsCommand}
+use Rattle.command_runs.specs.declared.status.Status.{Status}
+use Rattle.command_runs.specs.declared.status.Status.TheVariants.{NoMemory, Usage}
+use Rattle.command_runs.specs.Devices.{Devices, devices}
 use Rattle.command_words.specs.Language.{verb_in}
 use Rattle.command_words.specs.Words.{command_in}
-use Rattle.command_words.specs.declared.kinds.Command.{Command}
-use Rattle.command_words.specs.declared.kinds.Command.TheVariants as commands
-use Rattle.command_words.specs.declared.kinds.Lookup.{Lookup}
-use Rattle.tree_face.specs.declared.disk.Tag.{Tag}
+use Rattle.commands.specs.declared.kinds.Command.{Command}
 use Rattle.tree_face.specs.Disk.{DiskState}
 use Rattle.tree_face.specs.Store.{StoreState}
 use Rattle.tree_face.specs.Stream.{SinkState, SourceState}
-use Rattle.ldconfig_cli.specs.declared.status.Status.{Status}
-use Rattle.ldconfig_cli.specs.declared.status.Status.TheVariants.{NoMemory, Usage}
-use Rattle.ldconfig_cli.specs.Devices.{Devices, devices}
-use Rattle.ldconfig_cli.specs.Lookup.{LookupRun}
-use Rattle.ldconfig_cli.specs.Print.{PrintRun}
-use Rattle.ldconfig_cli.specs.UpdateCommand.{UpdateRun}
 use Rattle.ldconfig_cli.specs.Usage.{UsageRun}
 
--- this command, or none
-pub record RunsCommand (command : Option Command) (status : Status) (old new : Devices) : Type 0 where
+-- this command is run, or the arguments are refused
+abbrev pub RunsAny : Option Command → Status → Devices → Devices → Type 0
+RunsAny (Some command) status old new = RunsCommand command status old new
+RunsAny None status old new = UsageRun old new status
+
+-- the command that the arguments are, if they are one
+pub record RunsArguments (command : Option Command) (status : Status) (old new : Devices) : Type 0 where
   pub usage : (status ≡ Usage) ↔ (command ≡ None)
-  pub no_command : command ≡ None → UsageRun old new status
-  pub update : (tag : Tag) → command ≡ Some (commands.Update tag) → UpdateRun tag old new status
-  pub print : command ≡ Some commands.Print → PrintRun old new status
-  pub lookup : (asked : Lookup) → command ≡ Some (commands.Lookup asked) → LookupRun asked old new status
+  pub runs : RunsAny command status old new
 
 -- memory has run out while the arguments behind the first were read, and nothing was done
 pub record GivesUp (words : List (List ℕ)) (status : Status) (old new : Devices) : Type 0 where
@@ -42,4 +39,4 @@ abbrev pub Runs : {S D I O : Type 0} → (S → StoreState) → (D → DiskState
 Runs store disk input output arguments status old new =
     let before = devices (store old.0) (disk old.1.0) (input old.1.1.0) (output old.1.1.1) in
     let after = devices (store new.0) (disk new.1.0) (input new.1.1.0) (output new.1.1.1) in
-    GivesUp (texts_of arguments) status before after ⊎ RunsCommand (command_in (texts_of arguments)) status before after
+    GivesUp (texts_of arguments) status before after ⊎ RunsArguments (command_in (texts_of arguments)) status before after

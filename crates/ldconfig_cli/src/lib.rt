@@ -1,11 +1,6 @@
-//! The commands of `ldconfig`, over any devices.
+//! The command line of `ldconfig`, over any devices.
 #![tactic(auto)]
 
-mod command;
-mod fault_line;
-mod lookup;
-mod print;
-mod status;
+mod command_line;
 
-pub use command::run;
-pub use status::Status;
+pub use command_line::run;

@@ -1,6 +1,6 @@
 //! What a row's store holds.
+use command_runs_fixture::{Pairs, library, nameless};
 use elf_samples::{SampleFault, library_file};
-use ldconfig_cli_fixture::{Pairs, library, nameless};
 use lib_types::{Abi, NoMemory, Text};
 use std::alloc::Global;
 use table_rows::{Row, divide, number, text_below};

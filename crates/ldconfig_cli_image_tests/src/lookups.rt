@@ -1,25 +1,10 @@
 //! Look-ups in the cache that an update has made.
-use ldconfig_cli_fixture::{Devices, run_words};
+use command_runs_fixture::Devices;
+use ldconfig_cli_fixture::run_line;
 use lib_types::NoMemory;
 use std::alloc::Global;
-use std::str::from_utf8;
 use table_rows::{Row, Said, divide};
 use tree_face::MemSink;
-
-// The arguments of a look-up, which stand between blanks.
-fn arguments_in<'a>(alloc: Global, line: &'a [u8]) -> Result<Vec<&'a str>, NoMemory> {
-    let mut arguments = Vec::new(alloc);
-    arguments.push("lookup")?;
-    let mut rest = line;
-    for _ in 0..line.len() {
-        let (argument, behind) = divide(b' ', rest);
-        if !argument.is_empty() {
-            arguments.push(from_utf8(argument).unwrap_or(""))?;
-        }
-        rest = behind;
-    }
-    Ok(arguments)
-}
 
 // What is written of a path, with the exit status.
 fn expected(alloc: Global, path: &[u8]) -> Result<(Vec<u8>, u64), NoMemory> {
@@ -43,7 +28,7 @@ fn is_answered(
     let (path, rest) = divide(b' ', line);
     let (want, status) = expected(alloc, path)?;
     devices.out = MemSink::new(alloc, Vec::new(alloc));
-    let got = run_words(alloc, &arguments_in(alloc, rest)?, devices)?;
+    let got = run_line(alloc, "lookup", rest, devices)?;
     Ok(
         said.is_same(line, &want, devices.out.written())?
             && said.is_number(alloc, b"status", status, u64::from(got.code()))?,

@@ -1,10 +1,9 @@
 //! One row: an update of an image, a print of its cache, look-ups in it, and a second update.
 use crate::held::held_of;
 use crate::lookups::are_answered;
+use command_runs_fixture::{Devices, OLD, Setting, has, image, make_devices, replacing_calls};
 use elf_samples::SampleFault;
-use ldconfig_cli_fixture::{
-    Devices, OLD, Setting, has, image, make_devices, replacing_calls, run_words,
-};
+use ldconfig_cli_fixture::run_words;
 use lib_types::NoMemory;
 use std::alloc::Global;
 use table_rows::{Row, Said, Trial, count, text, value};

@@ -1,7 +1,8 @@
 //! What `lookup` writes and returns.
 use cache_reader::CacheDefect;
-use ldconfig_cli::Status;
-use ldconfig_cli_fixture::{Devices, EMPTY_CACHE, ONE_CACHE, THREE_CACHE, copy, number, run_words};
+use command_runs::Status;
+use command_runs_fixture::{Devices, EMPTY_CACHE, ONE_CACHE, THREE_CACHE, copy, number};
+use ldconfig_cli_fixture::run_words;
 use std::alloc::Global;
 use std::process::Abort;
 use std::test::Fail;

@@ -1,8 +1,9 @@
 //! Arguments that are no command's, and the exit statuses.
-use ldconfig_cli::Status;
-use ldconfig_cli_fixture::{
-    Devices, LIBZ_MANIFEST, OLD, Setting, has, image, libz_held, make_devices, run_words,
+use command_runs::Status;
+use command_runs_fixture::{
+    Devices, LIBZ_MANIFEST, OLD, Setting, has, image, libz_held, make_devices,
 };
+use ldconfig_cli_fixture::run_words;
 use mtree_manifest::{LineKind, ManifestFault};
 use std::alloc::Global;
 use std::process::Abort;

@@ -1,16 +1,23 @@
 //! An update over devices that never fail.
-use ldconfig_cli::{Status, run};
-use ldconfig_cli_fixture::{LIBZ_MANIFEST, LIBZ_REPORT, ONE_CACHE, copy, has, libz_held, strings};
+use command_runs::{Status, run_command};
+use command_runs_fixture::{LIBZ_MANIFEST, LIBZ_REPORT, ONE_CACHE, copy, has, libz_held};
+use commands::Command;
 use std::alloc::Global;
 use std::test::Fail;
-use tree_face::{Slot, SureDisk, SureSink, SureSource, SureStore};
+use tree_face::{Slot, SureDisk, SureSink, SureSource, SureStore, Tag};
 
 // Updates the example over devices that never fail.
 fn update_surely(alloc: Global, disk: &mut SureDisk, out: &mut SureSink) -> Result<Status, Fail> {
-    let words = strings(alloc, &["update"])?;
     let mut store = SureStore::new(libz_held(alloc)?);
     let mut input = SureSource::new(Vec::new(alloc));
-    Ok(run(alloc, &words, &mut store, disk, &mut input, out))
+    Ok(run_command(
+        alloc,
+        Command::Update { tag: Tag(0) },
+        &mut store,
+        disk,
+        &mut input,
+        out,
+    ))
 }
 
 fn disk_of(alloc: Global, manifest: &[u8]) -> Result<SureDisk, Fail> {

@@ -31,7 +31,7 @@ use Rattle.lib_types.specs.declared.entry.Entry.{Entry}
 use Rattle.name_order.specs.Order.{token_order}
 use Rattle.tree_face.specs.Store.{Contents}
 use Rattle.image_tree.specs.Tree.{Nodes}
-use Rattle.ldconfig_core.specs.Ldconfig.{entries_in, places_in, planned_in, walk_in}
+use Rattle.searched_image.specs.Ldconfig.{entries_in, places_in, planned_in, walk_in}
 use Rattle.ldconfig_core.specs.Lookup.{FindsAsSearched}
 
 -- ---- the index of an item, and the item

@@ -8,7 +8,7 @@ use Rattle.analysed_files.specs.Files.{what_is}
 use Rattle.lib_types.specs.declared.entry.Entry.{Entry}
 use Rattle.tree_face.specs.Store.{Contents}
 use Rattle.update_report.specs.Report.{report_text}
-use Rattle.ldconfig_core.specs.Ldconfig.{entries_in, places_in, planned_in}
+use Rattle.searched_image.specs.Ldconfig.{entries_in, places_in, planned_in}
 use Rattle.ldconfig_core.specs.Outcome.{new_manifest}
 use Rattle.ldconfig_core.specs.Session.{Loaded}
 use Rattle.ldconfig_core.specs.Settled.{AreSettled, IsCacheAgain}

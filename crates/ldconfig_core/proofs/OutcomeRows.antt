@@ -1,35 +1,31 @@
 -- What an update comes to, by its conditions.
-use Rattle.std.proofs.Common.{◌≡◌, ◌≤◌, ◌<◌, ◌||◌, ℕ, Bool, true, false, cond, nat_lt, length, refl, ap, sym, ◌∙◌, arith}
-use Rattle.std.proofs.lemmas.Bool.Decides.{nat_tests}
+use Rattle.std.proofs.Common.{◌≡◌, ◌||◌, ◌&&◌, ℕ, Bool, true, false, not, cond, nat_lt, length, refl}
 use Rattle.cache_writer.specs.declared.writer.TheConstants.{ENTRIES_MAX}
 use Rattle.elf_dynamic.specs.Begun.{lacks_one}
 use Rattle.ldso_conf.specs.Reading.{conf_lacks}
 use Rattle.soname_links.specs.Apply.{nodes_with}
 use Rattle.tree_face.specs.Store.{Contents}
-use Rattle.ldconfig_core.specs.Begun.{behind_keys, has_too_many_nodes, lacks_wanted, wanted_keys}
-use Rattle.ldconfig_core.specs.Ldconfig.{entries_in, links_in, planned_in}
+use Rattle.searched_image.specs.Begun.{behind_keys, has_too_many_nodes, lacks_file, lacks_wanted, wanted_keys}
+use Rattle.searched_image.specs.Ldconfig.{entries_in, links_in, planned_in}
 use Rattle.ldconfig_core.specs.Outcome.{Outcome, Lacking, TooLarge, TooMany, Writes, is_too_long, new_manifest, size_of, update_outcome}
 use Rattle.ldconfig_core.specs.Session.{Loaded}
-
-pub over : (n m : ℕ) → n < m → nat_lt n m ≡ true
-over n m h = grind (arith, nat_tests)
-
-pub within : (n m : ℕ) → m ≤ n → nat_lt n m ≡ false
-within n m h = grind (arith, nat_tests)
 
 both_false : (a b : Bool) → (a || b) ≡ false → (a ≡ false) × (b ≡ false)
 both_false true b h = absurd (cc)
 both_false false b h = (refl, h)
 
 module _ (held : Contents) (s : Loaded) where
-  pub lacking_wanted : lacks_wanted held s.tree ≡ true → update_outcome held s ≡ Lacking
-  unfolding update_outcome
-  lacking_wanted lacks = by (conf_lacks held s.tree) (lacks_one held (wanted_keys held s.tree)) _ lacks
+  -- a file that has to be begun isn't held
+  pub lacking : lacks_file held s.tree ≡ true → update_outcome held s ≡ Lacking
+  unfolding update_outcome lacks_file
+  lacking lacks = by (conf_lacks held s.tree) (lacks_one held (wanted_keys held s.tree)) (has_too_many_nodes held s.tree) (lacks_one held (behind_keys held s.tree)) _ _ lacks
     where
-      by : (a b : Bool) (rest : Outcome) → (a || b) ≡ true → cond a Lacking (cond b Lacking rest) ≡ Lacking
-      by true b rest h = refl
-      by false true rest h = refl
-      by false false rest h = absurd (cc)
+      by : (a b many c : Bool) (nodes rest : Outcome) → ((a || b) || (not many && c)) ≡ true → cond a Lacking (cond b Lacking (cond many nodes (cond c Lacking rest))) ≡ Lacking
+      by true b many c nodes rest h = refl
+      by false true many c nodes rest h = refl
+      by false false false true nodes rest h = refl
+      by false false false false nodes rest h = absurd (cc)
+      by false false true c nodes rest h = absurd (cc)
 
   module _ (none : lacks_wanted held s.tree ≡ false) where
     abbrev no : (conf_lacks held s.tree ≡ false) × (lacks_one held (wanted_keys held s.tree) ≡ false)
@@ -40,10 +36,6 @@ module _ (held : Contents) (s : Loaded) where
     too_many_nodes nodes many is = rw (no.0, no.1, many, is) refl
 
     module _ (few : has_too_many_nodes held s.tree ≡ false) where
-      pub lacking_behind : lacks_one held (behind_keys held s.tree) ≡ true → update_outcome held s ≡ Lacking
-      unfolding update_outcome
-      lacking_behind lacks = rw (no.0, no.1, few, lacks) refl
-
       module _ (behind : lacks_one held (behind_keys held s.tree) ≡ false) where
         pub too_long : is_too_long (new_manifest held s) ≡ true → update_outcome held s ≡ TooLarge (length (planned_in held s.tree)) (size_of (new_manifest held s))
         unfolding update_outcome

@@ -1,31 +1,50 @@
 -- What an update is about to write is what the image's update writes.
-use Rattle.std.proofs.Common.{◌≡◌, ◌≤◌, ◌<◌, ℕ, true, false, nat_lt, List, length, Option, Some, None, Err, refl, ap, sym, subst, ◌∙◌, arith}
+use Rattle.std.proofs.Common.{◌≡◌, ◌⊎◌, inl, inr, ◌≤◌, ◌<◌, ℕ, true, false, nat_lt, List, length, Option, Some, None, Err, refl, ap, sym, subst, ◌∙◌, arith}
 use Rattle.std.proofs.lemmas.List.Sorted.{length_permutation}
+use Rattle.std.specs.Option.{option_map}
+use Rattle.std.specs.Prelude.{IsSomeAnd}
 use Rattle.winning_entries.specs.Entries.{AreEntriesOf}
 use Rattle.cache_writer.specs.declared.writer.TheConstants.{ENTRIES_MAX}
 use Rattle.lib_types.specs.declared.entry.Entry.{Entry}
 use Rattle.tree_face.proofs.StoreUse.{reads_all}
 use Rattle.tree_face.specs.Known.{IfKnown}
 use Rattle.tree_face.specs.Store.{Contents, StoreState}
-use Rattle.tree_face.specs.StoreUse.{Complete}
-use Rattle.image_tree.specs.Tree.{Nodes}
+use Rattle.tree_face.specs.StoreUse.{Ending, Complete, ReadsFiles}
+use Rattle.image_tree.specs.Tree.{Nodes, IsTree}
 use Rattle.update_report.specs.Report.{report_text}
-use Rattle.ldconfig_core.proofs.KeysBegun.{UpdateBy}
 use Rattle.ldconfig_core.proofs.LookedUp.{names_descend, searched}
 use Rattle.ldconfig_core.proofs.OutcomeRows as rows
-use Rattle.ldconfig_core.proofs.OutcomeRows.{over, within}
+use Rattle.searched_image.proofs.Limits.{over, within}
 use Rattle.ldconfig_core.specs.declared.fault.UpdateFault.{UpdateFault}
 use Rattle.ldconfig_core.specs.declared.fault.UpdateFault.TheVariants as faults
-use Rattle.ldconfig_core.specs.declared.finding.Found.{Found}
+use Rattle.searched_image.specs.Begun.{lacks_file, update_bytes, update_keys}
+use Rattle.searched_image.specs.Faults.{find_ending}
+use Rattle.searched_image.specs.Found.{HasTooManyNodes, IsFound}
+use Rattle.searched_image.specs.declared.fault.FindFault.{FindFault}
+use Rattle.searched_image.specs.declared.fault.FindFault.TheVariants as finding
+use Rattle.searched_image.specs.declared.finding.Found.{Found}
 use Rattle.ldconfig_core.specs.declared.prepare.Prepared.{Prepared}
-use Rattle.ldconfig_core.specs.Faults.{is_of_finding, is_of_making}
-use Rattle.ldconfig_core.specs.Ldconfig.{conf_in, entries_in, planned_in}
+use Rattle.ldconfig_core.specs.Faults.{is_of_making, of_finding}
+use Rattle.searched_image.specs.Ldconfig.{conf_in, entries_in, places_in, planned_in}
+use Rattle.analysed_files.specs.Files.{what_is}
+use Rattle.settled_links.specs.Search.{IsSearchedAlike}
+use Rattle.soname_links.specs.Settled.{IsSettled}
+use Rattle.ldconfig_core.proofs.SettledImage.{known_settled}
 use Rattle.ldconfig_core.specs.Lookup.{FindsAsSearched}
 use Rattle.ldconfig_core.specs.Outcome.{TooLarge, TooMany, Writes, is_too_long, manifest_with, new_manifest, size_of, update_outcome}
 use Rattle.ldconfig_core.specs.Settled.{AreSettled, IfReads, planned_image}
-use Rattle.ldconfig_core.specs.Stages.{IsFound, IsMadeOf, entries_of, loaded, said_of, texts_of}
+use Rattle.ldconfig_core.specs.Stages.{IsMadeOf, entries_of, loaded, said_of, texts_of}
 use Rattle.ldconfig_core.specs.Texts.{AreTexts, AreTextsOf, said_with}
 use Rattle.ldconfig_core.specs.Update.{AreUpdateTexts, IsAnswer, IsUpdated, update_ending}
+
+-- what is read for an update, if the store holds this
+abbrev FindsBy : Nodes → Option Contents → Ending → StoreState → StoreState → Type 0
+FindsBy t known e a b = ReadsFiles (IsSomeAnd known (λ held. lacks_file held t ≡ true)) (option_map (λ held. update_keys held t) known) (option_map (λ held. update_bytes held t) known) e a b
+
+-- the count of faults rose, or a file isn't held
+cause_of : {risen : Type 0} {a b : Type 0} → (a → b) → risen ⊎ a → risen ⊎ b
+cause_of f (inl risen) = inl risen
+cause_of f (inr lacks) = inr (f lacks)
 
 module _ (held : Contents) (t : Nodes) (found : Found) (tree : Nodes) (is : IsFound held t found tree) where
   manifest_is : manifest_with tree found.links.plan ≡ new_manifest held (loaded t)
@@ -122,6 +141,15 @@ module _ (t : Nodes) (found : Found) (tree : Nodes) where
   settled_is None is settled = tt
   settled_is (Some held) is settled = subst (λ (n : Nodes). AreSettled held (loaded t) (loaded n)) is.tree_is settled
 
+  planned_is : (known : Option Contents) → IfKnown known (λ held. IsFound held t found tree) → IfKnown known (λ held. tree ≡ planned_in held t)
+  planned_is None is = tt
+  planned_is (Some held) is = is.tree_is
+
+  -- the tree with the planned links is settled
+  pub settled_by : (known : Option Contents) → IsSearchedAlike t tree → IsTree tree → IfKnown known (λ held. IsFound held t found tree)
+      → IfKnown known (λ held. IsSettled (what_is held t) t (places_in held t) tree) → IfKnown known (λ held. AreSettled held (loaded t) (loaded tree))
+  settled_by known alike is_tree is still = known_settled t tree known alike is_tree (planned_is known is) still
+
   reads_is : (known : Option Contents) → IfKnown known (λ held. IsFound held t found tree) → (prepared : Prepared) → IsMadeOf found tree prepared
       → IfKnown known (λ held. IfReads (texts_of prepared).manifest (planned_image held (loaded t)))
   reads_is None is prepared made = tt
@@ -167,7 +195,7 @@ module _ (t : Nodes) (found : Found) (tree : Nodes) where
     making_answers (Some held) is faults.StoreFault of large many = absurd (cc)
     making_answers (Some held) is (faults.DiskFault fault) of large many = absurd (cc)
 
-    pub making_ends : (known : Option Contents) (fault : UpdateFault) → is_of_making fault ≡ true → UpdateBy t known Complete a b → UpdateBy t known (update_ending {A = A} (Err fault)) a b
+    pub making_ends : (known : Option Contents) (fault : UpdateFault) → is_of_making fault ≡ true → FindsBy t known Complete a b → FindsBy t known (update_ending {A = A} (Err fault)) a b
     making_ends known (faults.TooLarge nodes bytes) of reads = reads
     making_ends known (faults.TooMany count) of reads = reads
     making_ends known faults.NoMemory of reads = reads_all _ _ _ _ _ reads
@@ -175,20 +203,18 @@ module _ (t : Nodes) (found : Found) (tree : Nodes) where
     making_ends known (faults.DiskFault fault) of reads = absurd (cc)
 
 module _ (A B : Type 0) (t : Nodes) (a b : StoreState) where
-  pub finding_answers : (known : Option Contents) (fault : UpdateFault) → is_of_finding fault ≡ true
-      → ((nodes bytes : ℕ) → fault ≡ faults.TooLarge nodes bytes → IfKnown known (λ held. update_outcome held (loaded t) ≡ TooLarge nodes bytes))
-      → UpdateBy t known (update_ending {A = B} (Err fault)) a b → IfKnown known (λ held. IsAnswer {A = A} (update_outcome held (loaded t)) (Err fault) a b)
-  finding_answers None fault of large reads = tt
-  finding_answers (Some held) faults.StoreFault of large reads = reads.cause
-  finding_answers (Some held) (faults.TooLarge nodes bytes) of large reads = large nodes bytes refl
-  finding_answers (Some held) faults.NoMemory of large reads = tt
-  finding_answers (Some held) (faults.TooMany count) of large reads = absurd (cc)
-  finding_answers (Some held) (faults.DiskFault fault) of large reads = absurd (cc)
+  pub finding_answers : (known : Option Contents) (fault : FindFault)
+      → ((nodes : ℕ) → fault ≡ finding.TooLarge nodes → IfKnown known (λ held. HasTooManyNodes held t nodes))
+      → FindsBy t known (find_ending {A = B} (Err fault)) a b → IfKnown known (λ held. IsAnswer {A = A} (update_outcome held (loaded t)) (Err (of_finding fault)) a b)
+  finding_answers None fault large reads = tt
+  finding_answers (Some held) finding.StoreFault large reads = cause_of (rows.lacking held (loaded t)) reads.cause
+  finding_answers (Some held) (finding.TooLarge nodes) large reads =
+      let many = large nodes refl in
+      rows.too_many_nodes held (loaded t) many.none_lacks nodes many.many many.nodes_are
+  finding_answers (Some held) finding.NoMemory large reads = tt
 
-  pub finding_ends : (known : Option Contents) (fault : UpdateFault) → is_of_finding fault ≡ true → UpdateBy t known (update_ending {A = B} (Err fault)) a b
-      → UpdateBy t known (update_ending {A = A} (Err fault)) a b
-  finding_ends known faults.StoreFault of reads = reads
-  finding_ends known (faults.TooLarge nodes bytes) of reads = reads
-  finding_ends known faults.NoMemory of reads = reads
-  finding_ends known (faults.TooMany count) of reads = absurd (cc)
-  finding_ends known (faults.DiskFault fault) of reads = absurd (cc)
+  pub finding_ends : (known : Option Contents) (fault : FindFault) → FindsBy t known (find_ending {A = B} (Err fault)) a b
+      → FindsBy t known (update_ending {A = A} (Err (of_finding fault))) a b
+  finding_ends known finding.StoreFault reads = reads
+  finding_ends known (finding.TooLarge nodes) reads = reads
+  finding_ends known finding.NoMemory reads = reads

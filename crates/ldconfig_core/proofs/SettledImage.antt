@@ -20,13 +20,14 @@ use Rattle.soname_links.specs.declared.kinds.Planned.{Planned}
 use Rattle.soname_links.specs.Plan.{links, with_links}
 use Rattle.soname_links.specs.Settled.{IsSettled}
 use Rattle.image_tree.specs.declared.tree.TheConstants.{NODES_MAX}
+use Rattle.tree_face.specs.Known.{IfKnown}
 use Rattle.tree_face.specs.Store.{Contents}
 use Rattle.image_tree.specs.Tree.{Nodes, IsTree, node_at}
-use Rattle.ldconfig_core.proofs.FilesAgree.{key_same, what_same}
+use Rattle.searched_image.proofs.FilesAgree.{key_same, what_same}
 use Rattle.ldconfig_core.proofs.OneText.{one_entries}
-use Rattle.ldconfig_core.proofs.OutcomeRows.{within}
-use Rattle.ldconfig_core.specs.Begun.{behind_in, behind_keys, has_too_many_nodes, wanted_keys}
-use Rattle.ldconfig_core.specs.Ldconfig.{conf_in, entries_in, links_in, places_in, planned_in, reached_in, wanted_in}
+use Rattle.searched_image.proofs.Limits.{within}
+use Rattle.searched_image.specs.Begun.{behind_in, behind_keys, has_too_many_nodes, wanted_keys}
+use Rattle.searched_image.specs.Ldconfig.{conf_in, entries_in, links_in, places_in, planned_in, reached_in, wanted_in}
 use Rattle.ldconfig_core.specs.Outcome.{Lacking, TooLarge, TooMany, Writes, first_refusal, is_too_long, manifest_with, new_manifest, size_of, update_outcome}
 use Rattle.ldconfig_core.specs.Session.{Loaded}
 use Rattle.ldconfig_core.specs.Settled.{AreSettled, IsCacheAgain}
@@ -137,7 +138,7 @@ module _ (held : Contents) (t new : Nodes) (alike : IsSearchedAlike t new) (put 
         cache = is.cache_is ∙ ap cache_text (one_entries held (loaded t) is.entries are.entries of_tree are.are) ∙ sym are.cache_is;
       }
 
-  pub are_settled : AreSettled held (loaded t) (loaded new)
+  are_settled : AreSettled held (loaded t) (loaded new)
   are_settled = record {
     conf = same_conf;
     places = same_places;
@@ -152,7 +153,8 @@ module _ (held : Contents) (t new : Nodes) (alike : IsSearchedAlike t new) (put 
     texts = cache_again;
   }
 
--- the same by places that are those of the image
-pub are_settled_by : (held : Contents) (t new : Nodes) (at : List Place) → IsSearchedAlike t new → new ≡ planned_in held t → at ≡ places_in held t → IsSettled (what_is held t) t at new → IsTree new
-    → AreSettled held (loaded t) (loaded new)
-are_settled_by held t new at alike put same still tree = are_settled held t new alike put (subst (λ (p : List Place). IsSettled (what_is held t) t p new) same still) tree
+-- the same, if contents are known
+pub known_settled : (t new : Nodes) (known : Option Contents) → IsSearchedAlike t new → IsTree new → IfKnown known (λ held. new ≡ planned_in held t)
+    → IfKnown known (λ held. IsSettled (what_is held t) t (places_in held t) new) → IfKnown known (λ held. AreSettled held (loaded t) (loaded new))
+known_settled t new None alike tree put still = tt
+known_settled t new (Some held) alike tree put still = are_settled held t new alike put still tree

@@ -1,6 +1,4 @@
-pub mod Begun
 pub mod Faults
-pub mod Ldconfig
 pub mod Lookup
 pub mod Manifest
 pub mod Outcome

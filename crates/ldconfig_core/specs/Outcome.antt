@@ -9,8 +9,8 @@ use Rattle.soname_links.specs.Apply.{nodes_with}
 use Rattle.soname_links.specs.declared.kinds.Planned.{Planned}
 use Rattle.tree_face.specs.Store.{Contents}
 use Rattle.image_tree.specs.Tree.{Nodes}
-use Rattle.ldconfig_core.specs.Begun.{behind_keys, has_too_many_nodes, wanted_keys}
-use Rattle.ldconfig_core.specs.Ldconfig.{entries_in, links_in, planned_in}
+use Rattle.searched_image.specs.Begun.{behind_keys, has_too_many_nodes, wanted_keys}
+use Rattle.searched_image.specs.Ldconfig.{entries_in, links_in, planned_in}
 use Rattle.ldconfig_core.specs.Session.{Loaded}
 
 pub data Outcome : Type 0 where

@@ -1,7 +1,7 @@
 -- What an update leaves is settled: an update of it finds the same, plans no link and writes the same cache.
 use Rattle.std.specs.Prelude.{◌≡◌, ℕ, List, [], Option, Some, None, IfSome}
 use Rattle.tree_face.specs.Store.{Contents}
-use Rattle.ldconfig_core.specs.Ldconfig.{conf_in, entries_in, links_in, places_in, planned_in, reached_in, wanted_in}
+use Rattle.searched_image.specs.Ldconfig.{conf_in, entries_in, links_in, places_in, planned_in, reached_in, wanted_in}
 use Rattle.ldconfig_core.specs.Manifest.{HasTree, manifest_of}
 use Rattle.ldconfig_core.specs.Outcome.{Writes, new_manifest, update_outcome}
 use Rattle.ldconfig_core.specs.Session.{Loaded}

@@ -11,7 +11,6 @@ use Rattle.cache_writer.specs.ReadBack.{as_read}
 use Rattle.analysed_files.specs.Files.{what_is}
 use Rattle.hwcap_dirs.specs.Places.{absent}
 use Rattle.lib_types.specs.declared.entry.Entry.{Entry}
-use Rattle.found_files.specs.Order.{ascending}
 use Rattle.found_files.specs.Search.{dangling}
 use Rattle.soname_links.specs.Marks.{blocked, mixed}
 use Rattle.tree_face.specs.declared.disk.Slot.{Slot}
@@ -20,14 +19,10 @@ use Rattle.tree_face.specs.Store.{Contents}
 use Rattle.image_tree.specs.Tree.{Nodes}
 use Rattle.update_report.specs.Report.{Said, report_text}
 use Rattle.update_report.specs.Skips.{skip_at}
-use Rattle.ldconfig_core.specs.Begun.{opened_in}
-use Rattle.ldconfig_core.specs.Ldconfig.{conf_in, entries_in, links_in, places_in, planned_in, reached_in, wanted_in}
+use Rattle.searched_image.specs.Begun.{opened_in}
+use Rattle.searched_image.specs.Ldconfig.{conf_in, entries_in, library_files, links_in, places_in, planned_in}
 use Rattle.ldconfig_core.specs.Outcome.{new_manifest}
 use Rattle.ldconfig_core.specs.Session.{Loaded}
-
--- the library files, by their paths
-abbrev pub library_files : Contents → Nodes → List (List ℕ)
-library_files held t = ascending (wanted_in held t ++ reached_in held t)
 
 -- what the report says, with the entries in their order
 abbrev pub said_with : Contents → Nodes → List Entry → Said

@@ -1,18 +1,18 @@
 -- One update of a loaded image: what it returns, and what it leaves on the store and on the disk.
-use Rattle.std.specs.Prelude.{◌≡◌, ◌⊎◌, ◌≤◌, length, Option, Result, Ok, Err, IfOk, IsSomeAnd, ⊤}
-use Rattle.std.specs.Option.{option_map}
+use Rattle.std.specs.Prelude.{◌≡◌, ◌⊎◌, ◌≤◌, length, Option, Result, Ok, Err, IfOk, ⊤}
 use Rattle.atomic_replace.specs.declared.fault.DiskFault.{DiskFault}
 use Rattle.lib_types.specs.Counts.{HasRisen}
 use Rattle.tree_face.specs.declared.disk.Tag.{Tag}
 use Rattle.tree_face.specs.Disk.{DiskState}
 use Rattle.tree_face.specs.Known.{IfKnown}
 use Rattle.tree_face.specs.Store.{Contents, StoreState}
-use Rattle.tree_face.specs.StoreUse.{Ending, Complete, DeviceFailed, GaveUp, ReadsFiles}
-use Rattle.ldconfig_core.specs.Begun.{opened_in, update_bytes, update_keys}
+use Rattle.tree_face.specs.StoreUse.{Ending, Complete, DeviceFailed, GaveUp}
+use Rattle.searched_image.specs.Begun.{opened_in}
+use Rattle.searched_image.specs.Found.{ReadsFinding}
 use Rattle.ldconfig_core.specs.declared.fault.UpdateFault.{UpdateFault}
 use Rattle.ldconfig_core.specs.declared.fault.UpdateFault.TheVariants as faults
 use Rattle.ldconfig_core.specs.declared.report.Report.{Report}
-use Rattle.ldconfig_core.specs.Ldconfig.{entries_in, links_in}
+use Rattle.searched_image.specs.Ldconfig.{entries_in, links_in}
 use Rattle.ldconfig_core.specs.Lookup.{FindsAsSearched}
 use Rattle.ldconfig_core.specs.Outcome.{Outcome, Lacking, TooLarge, TooMany, Writes, new_manifest, update_outcome}
 use Rattle.replaced_slots.specs.Replaced.{KeepsRestMade, WritesAll, WritesPart}
@@ -44,9 +44,7 @@ update_ending (Err faults.NoMemory) = GaveUp
 
 -- the keys of the update are begun, and no others
 abbrev pub ReadsUpdate : Loaded → Ending → StoreState → StoreState → Type 0
-ReadsUpdate s ending old new =
-    ReadsFiles (IsSomeAnd old.held (λ held. update_outcome held s ≡ Lacking)) (option_map (λ held. update_keys held s.tree) old.held)
-    (option_map (λ held. update_bytes held s.tree) old.held) ending old new
+ReadsUpdate s ending old new = ReadsFinding s.tree ending old new
 
 -- ---- the disk
 

@@ -1,14 +1,12 @@
 //! Why an image isn't loaded or updated.
 ghost use Rattle.std.specs.Prelude.{◌≡◌};
-ghost use Rattle.ldconfig_core.specs.Faults.{of_apply, of_conf, of_entries, of_manifest, of_reading};
+ghost use Rattle.ldconfig_core.specs.Faults.{of_entries, of_finding, of_manifest};
 ghost use Rattle.ldconfig_core.specs.declared.fault.UpdateFault.TheVariants as update_faults;
 
 use atomic_replace::DiskFault;
-use elf_dynamic::AnalyseFault;
-use ldso_conf::ConfFault;
 use lib_types::NoMemory;
 use mtree_manifest::ManifestFault;
-use soname_links::ApplyFault;
+use searched_image::FindFault;
 use std::alloc::{AllocError, AllocFailed};
 use thiserror::Error;
 use tree_face::Slot;
@@ -85,35 +83,14 @@ impl<T: Drop> From<AllocFailed<T>> for UpdateFault {
     }
 }
 
-impl From<ConfFault> for UpdateFault {
-    ghost from_gives = { λ fault e. e ≡ of_conf fault };
+impl From<FindFault> for UpdateFault {
+    ghost from_gives = { λ fault e. e ≡ of_finding fault };
 
-    fn from(fault: ConfFault) -> Self {
+    fn from(fault: FindFault) -> Self {
         match fault {
-            ConfFault::StoreFault => UpdateFault::StoreFault,
-            ConfFault::NoMemory => UpdateFault::NoMemory,
-        }
-    }
-}
-
-impl From<AnalyseFault> for UpdateFault {
-    ghost from_gives = { λ fault e. e ≡ of_reading fault };
-
-    fn from(fault: AnalyseFault) -> Self {
-        match fault {
-            AnalyseFault::StoreFault => UpdateFault::StoreFault,
-            AnalyseFault::NoMemory => UpdateFault::NoMemory,
-        }
-    }
-}
-
-impl From<ApplyFault> for UpdateFault {
-    ghost from_gives = { λ fault e. e ≡ of_apply fault };
-
-    fn from(fault: ApplyFault) -> Self {
-        match fault {
-            ApplyFault::TooLarge { nodes } => UpdateFault::TooLarge { nodes, bytes: 0 },
-            ApplyFault::NoMemory => UpdateFault::NoMemory,
+            FindFault::StoreFault => UpdateFault::StoreFault,
+            FindFault::TooLarge { nodes } => UpdateFault::TooLarge { nodes, bytes: 0 },
+            FindFault::NoMemory => UpdateFault::NoMemory,
         }
     }
 }

@@ -2,12 +2,9 @@
 #![tactic(auto)]
 
 mod fault;
-mod finding;
-mod following;
 mod image;
 mod prepare;
 mod report;
-mod search;
 mod session;
 
 pub use fault::{LoadFault, UpdateFault};

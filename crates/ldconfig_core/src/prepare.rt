@@ -14,10 +14,10 @@ ghost use Rattle.ldconfig_core.specs.Update.{AreUpdateTexts, IsAnswer, IsUpdated
 ghost use Rattle.update_report.specs.Report.{report_text};
 
 use crate::fault::UpdateFault;
-use crate::finding::{Found, find};
 use crate::report::Report;
 use lib_types::{Entries, NoMemory};
 use mtree_manifest::TEXT_MAX;
+use searched_image::{Found, find};
 use soname_links::kinds::Plan;
 use std::alloc::Global;
 use tree_face::{Store, Tree};

@@ -1,9 +1,9 @@
 //! What is listed of a program.
-use crate::files::{Pairs, held_of};
 use crate::given::{env_of, failing};
 use cache_lookup::{Sorted, sorted};
 use cache_reader::CacheView;
 use cache_rows::cache_of;
+use elf_rows::{Pairs, held_of};
 use elf_samples::SampleFault;
 use ldd_resolve::{Listing, ResolveFault, listing_text, resolve};
 use lib_types::{Defect, NoMemory, Texts};

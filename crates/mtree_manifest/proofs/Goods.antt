@@ -8,25 +8,25 @@ use Rattle.image_tree.specs.declared.node.Node.{Node}
 use Rattle.image_tree.specs.declared.node.Node.TheVariants as node
 use Rattle.image_tree.specs.Node.{is_node, is_key, is_target, has_no_nul}
 use Rattle.image_tree.specs.Paths.{is_path}
-use Rattle.mtree_manifest.specs.Escape.{decoded, in_front}
+use Rattle.manifest_words.specs.Escape.{decoded, in_front}
 use Rattle.mtree_manifest.specs.Good.{IsGood, IsGoodAt, IsGoodBehind, IsGoodOpen, are_good, is_good_link, is_good_contents}
 use Rattle.mtree_manifest.specs.Progress.{Open, started, given_by_head, with_word_behind, with_word, line_ended, reading_behind, reading_of}
-use Rattle.mtree_manifest.specs.Keys.{Values, Given, no_values, given_by, divided, is_equals, keyword_of, with_value, without, value_fault, rank, first_fault, fault_unless, text_fault, is_link_text}
-use Rattle.mtree_manifest.specs.Decoding.{first_byte}
-use Rattle.mtree_manifest.proofs.Names.{path_key}
-use Rattle.mtree_manifest.proofs.Decode.{decoded_step, then_rest}
+use Rattle.manifest_words.specs.Keys.{Values, Given, no_values, given_by, divided, is_equals, keyword_of, with_value, without, value_fault, rank, first_fault, fault_unless, text_fault, is_link_text}
+use Rattle.manifest_words.specs.Decoding.{first_byte}
+use Rattle.manifest_words.proofs.Names.{path_key}
+use Rattle.manifest_words.proofs.Decoded.{decoded_step, then_rest}
 use Rattle.mtree_manifest.specs.Manifest.{State, ◌>>=◌, Faulty, Defaults, Puts, head_of, with_put, with_node, with_reading, entry_fault, entry, node_of, node_by, text_of, key_of, id_of, target_fault, unless_faulty, put_by, stack_behind, is_dir}
-use Rattle.mtree_manifest.specs.Paths.{Stack, closed, place, place_fault_of, path_of, names_of, below, base_of, is_place, is_directive}
-use Rattle.mtree_manifest.specs.declared.fault.LineKind.{LineKind}
-use Rattle.mtree_manifest.specs.declared.fault.LineKind.TheVariants.{BadLine}
+use Rattle.manifest_words.specs.Paths.{Stack, closed, place, place_fault_of, path_of, names_of, below, base_of, is_place, is_directive}
+use Rattle.manifest_words.specs.declared.fault.LineKind.{LineKind}
+use Rattle.manifest_words.specs.declared.fault.LineKind.TheVariants.{BadLine}
 use Rattle.mtree_manifest.specs.declared.fault.ManifestFault.{ManifestFault}
 use Rattle.image_tree.specs.Tree.{Nodes}
-use Rattle.mtree_manifest.specs.declared.keys.Keyword.{Keyword}
-use Rattle.mtree_manifest.specs.declared.keys.Keyword.TheVariants as keyword
+use Rattle.manifest_words.specs.declared.keys.Keyword.{Keyword}
+use Rattle.manifest_words.specs.declared.keys.Keyword.TheVariants as keyword
 use Rattle.mtree_manifest.specs.declared.line.Head.{Head}
 use Rattle.mtree_manifest.specs.declared.line.Head.TheVariants as head
-use Rattle.mtree_manifest.specs.declared.keys.LineType.{LineType}
-use Rattle.mtree_manifest.specs.declared.keys.LineType.TheVariants as types
+use Rattle.manifest_words.specs.declared.keys.LineType.{LineType}
+use Rattle.manifest_words.specs.declared.keys.LineType.TheVariants as types
 
 -- no fault of a line is none of its parts
 pub neither : (a b : Option LineKind) → first_fault a b ≡ None → (a ≡ None) × (b ≡ None)
@@ -38,7 +38,7 @@ neither (Some x) (Some y) e = absurd (chosen (leb (rank x) (rank y)) e)
     chosen true h = cc
     chosen false h = cc
 
-holds : (t : Bool) (kind : LineKind) → fault_unless t kind ≡ None → t ≡ true
+pub holds : (t : Bool) (kind : LineKind) → fault_unless t kind ≡ None → t ≡ true
 holds true kind e = refl
 holds false kind e = absurd (cc)
 
@@ -49,7 +49,7 @@ pub faulty : (dirs : Stack) (first : List ℕ) (g : Given) (kind : LineKind) →
 faulty dirs first g kind e = ap (λ f. unless_faulty f (Puts (stack_behind dirs first g.values) (put_by (place dirs first) g.values))) e
 
 -- a place that is not the root's is a path's
-path_found : (d : Bool) (base word : List ℕ) (found : Option (List (List ℕ))) → place_fault_of d base word found ≡ None → eqb (length (path_of found base)) 0 ≡ false → is_path (path_of found base) ≡ true
+pub path_found : (d : Bool) (base word : List ℕ) (found : Option (List (List ℕ))) → place_fault_of d base word found ≡ None → eqb (length (path_of found base)) 0 ≡ false → is_path (path_of found base) ≡ true
 path_found d base word None e some = absurd (cc)
 path_found d base word (Some names) e some =
     let test = holds (not (is_directive word) && is_place d base names) _ e in

@@ -16,16 +16,16 @@ use Rattle.image_tree.specs.declared.node.Node.{Node}
 use Rattle.image_tree.specs.declared.node.Node.TheVariants as node
 use Rattle.image_tree.specs.Node.{is_node, is_key, is_target, has_no_nul}
 use Rattle.mtree_manifest.specs.Canon.{id_words, key_words, node_words, node_line}
-use Rattle.mtree_manifest.specs.Escape.{escaped}
-use Rattle.mtree_manifest.specs.Keys.{Values, Given, no_values, given, given_word, given_by, divided, is_equals, keyword_of, value_fault, with_value, number_of, text_fault, fault_unless, is_link_text}
-use Rattle.mtree_manifest.specs.Lines.{goes_on}
+use Rattle.manifest_words.specs.Escape.{escaped}
+use Rattle.manifest_words.specs.Keys.{Values, Given, no_values, given, given_word, given_by, divided, is_equals, keyword_of, value_fault, with_value, number_of, text_fault, fault_unless, is_link_text}
+use Rattle.manifest_words.specs.Lines.{goes_on}
 use Rattle.mtree_manifest.specs.Manifest.{node_by, key_of, id_of, is_link, target_fault}
-use Rattle.mtree_manifest.specs.Range.{AreBytes, IsSomeIdInRange, IsNodeInRange}
-use Rattle.mtree_manifest.specs.declared.fault.LineKind.TheVariants.{BadLine, BadNumber, NoTarget}
-use Rattle.mtree_manifest.specs.declared.keys.LineType.TheVariants as types
-use Rattle.mtree_manifest.proofs.Escaping.{decoded_escaped, escaped_printed, escaped_some, escaped_ends, bytes_same}
-use Rattle.mtree_manifest.proofs.Numbers.{digits_model}
-use Rattle.mtree_manifest.proofs.Tokens.{IsToken, are_printed, spaced, goes_on-append}
+use Rattle.manifest_words.specs.Range.{AreBytes, IsSomeIdInRange, IsNodeInRange}
+use Rattle.manifest_words.specs.declared.fault.LineKind.TheVariants.{BadLine, BadNumber, NoTarget}
+use Rattle.manifest_words.specs.declared.keys.LineType.TheVariants as types
+use Rattle.manifest_words.proofs.Escaping.{decoded_escaped, escaped_printed, escaped_some, escaped_ends, bytes_same}
+use Rattle.manifest_words.proofs.Numbers.{digits_model}
+use Rattle.manifest_words.proofs.Tokens.{IsToken, are_printed, spaced, goes_on-append}
 
 -- ---- the words
 

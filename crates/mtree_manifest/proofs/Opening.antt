@@ -3,7 +3,7 @@ use Rattle.std.proofs.Common.{◌≡◌, ◌≤◌, ◌<◌, ◌-◌, suc, ℕ, 
 use Rattle.std.proofs.lemmas.Bool.{cases_lt}
 use Rattle.std.proofs.lemmas.List.{take-take, take-append-le, take_all, map-append, get_or-map, get_or-take, length-map}
 use Rattle.std.proofs.lemmas.List.Elements.{All-take}
-use Rattle.mtree_manifest.specs.Paths.{current}
+use Rattle.manifest_words.specs.Paths.{current}
 use Rattle.mtree_manifest.specs.Stacks.{IsStack, paths_in, top, opened}
 
 -- fewer directories

@@ -1,10 +1,10 @@
 -- Going over the physical lines gives what the joined lines give.
 use Rattle.std.proofs.Common.{◌≡◌, ℕ, ◌+◌, Bool, true, false, cond, List, [], ◌∷◌, ◌++◌, Some, None, Result, Ok, Err, refl, ap, sym, ◌∙◌, append_assoc}
 use Rattle.std.specs.List.{fold}
-use Rattle.mtree_manifest.specs.Keys.{Values, Given, unset_word, unset}
-use Rattle.mtree_manifest.specs.Lines.{Line, before, joined, goes_on, physical_words}
+use Rattle.manifest_words.specs.Keys.{Values, Given, unset_word, unset}
+use Rattle.manifest_words.specs.Lines.{Line, before, joined, goes_on, physical_words}
 use Rattle.mtree_manifest.specs.Manifest.{State, Reading, ◌>>=◌, reading_by, head_of, with_reading, with_line, with_lines}
-use Rattle.mtree_manifest.specs.Paths.{Stack}
+use Rattle.manifest_words.specs.Paths.{Stack}
 use Rattle.mtree_manifest.specs.Progress.{Open, Progress, started, given_by_head, with_word, reading_of, line_ended, going_on, with_physicals}
 use Rattle.mtree_manifest.specs.declared.fault.ManifestFault.{ManifestFault}
 use Rattle.mtree_manifest.specs.declared.line.Head.{Head}

@@ -21,17 +21,17 @@ use Rattle.image_tree.proofs.Order.{path_total}
 use Rattle.bstr.proofs.lemmas.LineLemmas.{lines-nil}
 use Rattle.bstr.specs.Text.{without_terminator}
 use Rattle.mtree_manifest.specs.Canon.{canon, node_line}
-use Rattle.mtree_manifest.specs.Keys.{Values, no_values, first_fault}
-use Rattle.mtree_manifest.specs.Lines.{Line, joined, goes_on, physical_words, physical_lines}
+use Rattle.manifest_words.specs.Keys.{Values, no_values, first_fault}
+use Rattle.manifest_words.specs.Lines.{Line, joined, goes_on, physical_words, physical_lines}
 use Rattle.mtree_manifest.specs.Manifest.{State, Puts, ◌>>=◌, reading, entry, entry_fault, put_by, stack_behind, node_of, node_by, is_dir, target_fault, unless_faulty, with_node, with_reading, with_lines, no_lines, outcome, tree_of}
-use Rattle.mtree_manifest.specs.Paths.{decoded_each, names_of, place, place_fault}
-use Rattle.mtree_manifest.specs.Range.{AreBytes, IsInRange, AreInRange}
+use Rattle.manifest_words.specs.Paths.{decoded_each, names_of, place, place_fault}
+use Rattle.manifest_words.specs.Range.{AreBytes, IsInRange, AreInRange}
 use Rattle.mtree_manifest.specs.declared.fault.TheConstants.{TEXT_MAX}
-use Rattle.mtree_manifest.proofs.Escaping.{split_escaped, bytes_of_parts, names_kept, names_decoded}
+use Rattle.manifest_words.proofs.Escaping.{split_escaped, bytes_of_parts, names_kept, names_decoded}
 use Rattle.mtree_manifest.proofs.Keywords.{keywords, path_word, line_spaced, keyword_tokens, path_token, values_for, keywords_given, node_made, target_made}
-use Rattle.mtree_manifest.specs.Escape.{escaped}
-use Rattle.mtree_manifest.proofs.FullWords.{path_first, path_names, leads_there, leads_well}
-use Rattle.mtree_manifest.proofs.Tokens.{IsBody, spaced, tokens_body, tokens_physical, physical_first}
+use Rattle.manifest_words.specs.Escape.{escaped}
+use Rattle.manifest_words.proofs.FullWords.{path_first, path_names, leads_there, leads_well}
+use Rattle.manifest_words.proofs.Tokens.{IsBody, spaced, tokens_body, tokens_physical, physical_first}
 
 -- ---- the first word of a line leads to the path
 

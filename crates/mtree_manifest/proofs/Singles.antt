@@ -1,21 +1,22 @@
 -- A line by itself, as the code reads it.
 use Rattle.std.proofs.Common.{◌≡◌, ℕ, Bool, true, false, not, ◌&&◌, eqb, List, [], ◌∷◌, length, Option, Some, None, Result, Ok, Err, refl, ap, ◌∙◌}
+use Rattle.std.proofs.lemmas.Bool.{and_parts, not-true}
 use Rattle.std.specs.List.{fold}
 use Rattle.std.specs.Bool.{IsTrue}
 use Rattle.std.specs.Option.{IfSome, option_map}
 use Rattle.image_tree.specs.Node.{is_node}
 use Rattle.image_tree.specs.Paths.{is_path}
 use Rattle.image_tree.specs.declared.node.Node.{Node}
-use Rattle.mtree_manifest.proofs.Goods.{good_node, good_path, neither, none_good, words_good}
+use Rattle.mtree_manifest.proofs.Goods.{good_node, good_path, holds, neither, none_good, path_found, words_good}
 use Rattle.mtree_manifest.proofs.Progressing.{behind_first}
 use Rattle.mtree_manifest.specs.Good.{IsGood, IsGoodBehind}
-use Rattle.mtree_manifest.specs.Keys.{Given, fault_unless, first_fault, no_values, unset_word}
+use Rattle.manifest_words.specs.Keys.{Given, fault_unless, first_fault, no_values, unset_word}
 use Rattle.mtree_manifest.specs.Manifest.{entry_fault, head_of, is_dir, node_of, put_by}
-use Rattle.mtree_manifest.specs.Paths.{base_of, is_directive, is_full, is_place, names_of, place, place_fault, place_fault_of}
+use Rattle.manifest_words.specs.Paths.{base_of, is_directive, is_full, is_place, names_of, place, place_fault, place_fault_of}
 use Rattle.mtree_manifest.specs.Progress.{Open, given_by_head, started, with_word}
 use Rattle.mtree_manifest.specs.Single.{alone_by, entry_alone, entry_unless, fault_alone, lead_fault, path_word, pathless_fault, place_fault_alone, words_alone}
-use Rattle.mtree_manifest.specs.declared.fault.LineKind.{LineKind}
-use Rattle.mtree_manifest.specs.declared.fault.LineKind.TheVariants.{BadEscape, BadLine}
+use Rattle.manifest_words.specs.declared.fault.LineKind.{LineKind}
+use Rattle.manifest_words.specs.declared.fault.LineKind.TheVariants.{BadEscape, BadLine}
 use Rattle.mtree_manifest.specs.declared.line.Head.{Head}
 use Rattle.mtree_manifest.specs.declared.line.Head.TheVariants as head
 
@@ -66,6 +67,16 @@ refused d first kind e = by_names d (base_of [] first) first (names_of first) ki
 
 pub found : (d : Bool) (first : List ℕ) → place_fault d [] first ≡ None → place_fault_alone d first ≡ lead_fault first
 found d first e = ap (λ f. first_fault f (lead_fault first)) e
+
+-- ---- a word without a fault
+
+-- it leads to a path
+pub leads : (word : List ℕ) → place_fault_alone false word ≡ None → is_path (place [] word) ≡ true
+leads word e =
+    let both = neither (place_fault false [] word) (lead_fault word) e in
+    let full = holds (is_full word && not (eqb (length (place [] word)) 0)) BadLine both.1 in
+    let some = (and_parts (is_full word) (not (eqb (length (place [] word)) 0)) full).1 in
+    path_found false (base_of [] word) word (names_of word) both.0 (not-true (eqb (length (place [] word)) 0) some)
 
 -- ---- a line without a fault
 

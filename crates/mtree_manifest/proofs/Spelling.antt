@@ -2,9 +2,9 @@
 use Rattle.std.proofs.Common.{◌≡◌, ◌<◌, ◌≤◌, ℕ, zero, suc, Bool, true, false, cond, eqb, leb, not, ◌&&◌, ◌||◌, List, [], ◌∷◌, ◌++◌, length, map, flat_map, Option, Some, None, refl, ap, sym, ◌∙◌, arith}
 use Rattle.std.proofs.lemmas.Bool.{agree_below_at, and_parts, leb-true}
 use Rattle.std.specs.Option.{is_none, option_map}
-use Rattle.mtree_manifest.specs.Decoding.{first_byte, escape_at, escape_by, octal_at}
-use Rattle.mtree_manifest.specs.Escape.{DecodesAll, StandsFor, backslash, byte_of, decoded, in_front, is_octal, letter, octal, octal_value}
-use Rattle.mtree_manifest.proofs.Decode.{decoded_nil, decoded_plain, decoded_step, then_rest}
+use Rattle.manifest_words.specs.Decoding.{first_byte, escape_at, escape_by, octal_at}
+use Rattle.manifest_words.specs.Escape.{DecodesAll, StandsFor, backslash, byte_of, decoded, in_front, is_octal, letter, octal, octal_value}
+use Rattle.manifest_words.proofs.Decoded.{decoded_nil, decoded_plain, decoded_step, then_rest}
 
 -- ---- what stands for bytes is decoded to them
 

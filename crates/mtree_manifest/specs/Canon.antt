@@ -5,7 +5,7 @@ use Rattle.image_tree.specs.declared.node.Id.{Id}
 use Rattle.image_tree.specs.declared.node.Node.{Node}
 use Rattle.image_tree.specs.declared.node.Node.TheVariants.{Dir, File, Link}
 use Rattle.image_tree.specs.Tree.{Nodes}
-use Rattle.mtree_manifest.specs.Escape.{escaped}
+use Rattle.manifest_words.specs.Escape.{escaped}
 
 abbrev pub id_words : Option Id → List ℕ
 id_words None = []

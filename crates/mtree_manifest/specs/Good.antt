@@ -1,8 +1,8 @@
 -- Values that were found good, of which a node can be made.
 use Rattle.std.specs.Prelude.{◌≡◌, Bool, true, List, ℕ, ◌&&◌, Option, Some, None, is_none}
-use Rattle.mtree_manifest.specs.Keys.{Values, Given, value_fault}
+use Rattle.manifest_words.specs.Keys.{Values, Given, value_fault}
 use Rattle.mtree_manifest.specs.Progress.{Open}
-use Rattle.mtree_manifest.specs.declared.keys.Keyword.TheVariants as keyword
+use Rattle.manifest_words.specs.declared.keys.Keyword.TheVariants as keyword
 use Rattle.mtree_manifest.specs.declared.line.Head.{Head}
 use Rattle.mtree_manifest.specs.declared.line.Head.TheVariants as head
 

@@ -1,7 +1,7 @@
 -- What the code's open line stands for.
 use Rattle.std.specs.Prelude.{option_map}
 use Rattle.mtree_manifest.specs.Progress.{Open}
-use Rattle.mtree_manifest.specs.Views.{given_in}
+use Rattle.manifest_words.specs.Views.{given_in}
 use Rattle.mtree_manifest.specs.declared.line.Line as the_line
 
 abbrev pub line_in : the_line.Line → Open

@@ -7,19 +7,19 @@ use Rattle.image_tree.specs.declared.node.Id.{Id}
 use Rattle.image_tree.specs.declared.node.Node.{Node}
 use Rattle.image_tree.specs.declared.node.Node.TheVariants as node
 use Rattle.image_tree.specs.Tree.{Nodes, put, clashes, has_no_room}
-use Rattle.mtree_manifest.specs.Escape.{decoded}
-use Rattle.mtree_manifest.specs.Keys.{Values, Given, no_values, given, unset, first_fault, fault_unless}
-use Rattle.mtree_manifest.specs.Lines.{Line, lines_in}
-use Rattle.mtree_manifest.specs.Paths.{Stack, closed, is_full, place, place_fault}
+use Rattle.manifest_words.specs.Escape.{decoded}
+use Rattle.manifest_words.specs.Keys.{Values, Given, no_values, given, unset, first_fault, fault_unless}
+use Rattle.manifest_words.specs.Lines.{Line, lines_in}
+use Rattle.manifest_words.specs.Paths.{Stack, closed, is_full, place, place_fault}
 use Rattle.mtree_manifest.specs.declared.fault.TheConstants.{TEXT_MAX}
-use Rattle.mtree_manifest.specs.declared.fault.LineKind.{LineKind}
-use Rattle.mtree_manifest.specs.declared.fault.LineKind.TheVariants.{BadLine, NoTarget}
+use Rattle.manifest_words.specs.declared.fault.LineKind.{LineKind}
+use Rattle.manifest_words.specs.declared.fault.LineKind.TheVariants.{BadLine, NoTarget}
 use Rattle.mtree_manifest.specs.declared.fault.ManifestFault.{ManifestFault}
 use Rattle.mtree_manifest.specs.declared.fault.ManifestFault.TheVariants.{TooLong, Bad, Clash, TooMany}
 use Rattle.mtree_manifest.specs.declared.line.Head.{Head}
 use Rattle.mtree_manifest.specs.declared.line.Head.TheVariants as head
-use Rattle.mtree_manifest.specs.declared.keys.LineType.{LineType}
-use Rattle.mtree_manifest.specs.declared.keys.LineType.TheVariants as types
+use Rattle.manifest_words.specs.declared.keys.LineType.{LineType}
+use Rattle.manifest_words.specs.declared.keys.LineType.TheVariants as types
 
 -- ---- what one line reads as
 

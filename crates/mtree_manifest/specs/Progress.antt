@@ -1,9 +1,9 @@
 -- How the code goes over the physical lines: with the line that is open, word by word.
 use Rattle.std.specs.Prelude.{ℕ, ◌+◌, Bool, List, [], ◌∷◌, fold, if◌then◌else◌, Option, Some, None, Result, Ok}
-use Rattle.mtree_manifest.specs.Keys.{Values, Given, given_word, unset_word}
-use Rattle.mtree_manifest.specs.Lines.{goes_on, physical_words}
+use Rattle.manifest_words.specs.Keys.{Values, Given, given_word, unset_word}
+use Rattle.manifest_words.specs.Lines.{goes_on, physical_words}
 use Rattle.mtree_manifest.specs.Manifest.{Reading, Defaults, Puts, State, ◌>>=◌, head_of, set_line, close_line, entry, with_reading}
-use Rattle.mtree_manifest.specs.Paths.{Stack}
+use Rattle.manifest_words.specs.Paths.{Stack}
 use Rattle.mtree_manifest.specs.declared.fault.ManifestFault.{ManifestFault}
 use Rattle.mtree_manifest.specs.declared.line.Head.{Head}
 use Rattle.mtree_manifest.specs.declared.line.Head.TheVariants as head

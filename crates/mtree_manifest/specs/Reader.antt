@@ -1,11 +1,11 @@
 -- What the reader's parts stand for.
 use Rattle.std.specs.Prelude.{ℕ, List, Result}
-use Rattle.mtree_manifest.specs.Keys.{Values}
-use Rattle.mtree_manifest.specs.Paths.{place}
+use Rattle.manifest_words.specs.Keys.{Values}
+use Rattle.manifest_words.specs.Paths.{place}
 use Rattle.mtree_manifest.specs.declared.fault.ManifestFault.{ManifestFault}
 use Rattle.mtree_manifest.specs.Lining.{line_in}
 use Rattle.mtree_manifest.specs.Manifest.{State, put_by, stack_behind, with_put}
-use Rattle.mtree_manifest.specs.Views.{values_in}
+use Rattle.manifest_words.specs.Views.{values_in}
 use Rattle.mtree_manifest.specs.Progress.{Progress}
 use Rattle.mtree_manifest.specs.declared.line.Line as the_line
 use Rattle.mtree_manifest.specs.declared.reader.Reader as the_reader

@@ -1,12 +1,12 @@
 -- One line by itself (mtree(5): a full path with its keywords), without defaults and without a directory that is open.
-use Rattle.std.specs.Prelude.{ℕ, Bool, ◌==◌, ◌&&◌, not, List, [], ◌∷◌, if◌then◌else◌, length, Option, Some, None, unwrap_or, Result, Ok, Err}
+use Rattle.std.specs.Prelude.{ℕ, Bool, false, ◌==◌, ◌&&◌, not, List, [], ◌∷◌, if◌then◌else◌, length, Option, Some, None, unwrap_or, Result, Ok, Err}
 use Rattle.image_tree.specs.declared.node.Node.{Node}
-use Rattle.mtree_manifest.specs.Keys.{Given, fault_unless, first_fault, given, no_values}
-use Rattle.mtree_manifest.specs.Lines.{goes_on, words_of}
+use Rattle.manifest_words.specs.Keys.{Given, fault_unless, first_fault, given, no_values}
+use Rattle.manifest_words.specs.Lines.{goes_on, words_of}
 use Rattle.mtree_manifest.specs.Manifest.{head_of, is_dir, put_by, target_fault}
-use Rattle.mtree_manifest.specs.Paths.{is_full, place, place_fault}
-use Rattle.mtree_manifest.specs.declared.fault.LineKind.{LineKind}
-use Rattle.mtree_manifest.specs.declared.fault.LineKind.TheVariants.{BadLine}
+use Rattle.manifest_words.specs.Paths.{is_full, place, place_fault}
+use Rattle.manifest_words.specs.declared.fault.LineKind.{LineKind}
+use Rattle.manifest_words.specs.declared.fault.LineKind.TheVariants.{BadLine}
 use Rattle.mtree_manifest.specs.declared.line.Head.{Head}
 use Rattle.mtree_manifest.specs.declared.line.Head.TheVariants as head
 
@@ -49,6 +49,16 @@ words_alone (first ∷ rest) = alone_by (head_of first) first rest
 -- the path and the node that a line gives, or its first fault; it goes on in no other line
 abbrev pub line_alone : List ℕ → Result (Option (List ℕ × Node)) LineKind
 line_alone line = if goes_on line then Err BadLine else words_alone (words_of line)
+
+-- ---- one word by itself
+
+abbrev pub path_unless : Option LineKind → List ℕ → Result (List ℕ) LineKind
+path_unless None path = Ok path
+path_unless (Some kind) path = Err kind
+
+-- the path to which a full word leads, or its first fault, of which a bad escape comes before all others
+abbrev pub path_alone : List ℕ → Result (List ℕ) LineKind
+path_alone word = path_unless (place_fault_alone false word) (place [] word)
 
 -- ---- words of private functions
 

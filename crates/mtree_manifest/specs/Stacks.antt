@@ -1,6 +1,6 @@
 -- How the code keeps the open directories: one buffer, and how many of its bytes each of their paths takes.
 use Rattle.std.specs.Prelude.{ℕ, ◌≤◌, ◌-◌, List, [], ◌∷◌, ◌++◌, All, AllPairs, map, take, length, slice_index}
-use Rattle.mtree_manifest.specs.Paths.{Stack, current}
+use Rattle.manifest_words.specs.Paths.{Stack, current}
 
 abbrev pub paths_in : List ℕ → List ℕ → Stack
 paths_in path lens = map (λ n. take n path) lens

@@ -1,6 +1,6 @@
 //! The directories that are open.
 ghost use Rattle.std.specs.Prelude.{◌≡◌, ◌≤◌, ◌++◌, ◌∷◌, ◌==◌, [], not, length, OnOk};
-ghost use Rattle.mtree_manifest.specs.Paths.{current, closed};
+ghost use Rattle.manifest_words.specs.Paths.{current, closed};
 ghost use Rattle.mtree_manifest.specs.Stacks.{IsStack, paths_in, top, opened};
 
 use lib_types::NoMemory;
@@ -17,7 +17,7 @@ pub(crate) struct Dirs {
 }
 
 impl Model for Dirs {
-    ghost use Rattle.mtree_manifest.specs.Paths.{Stack};
+    ghost use Rattle.manifest_words.specs.Paths.{Stack};
     ghost use Rattle.mtree_manifest.specs.Stacks.{IsStack, paths_in};
 
     ghost Value = { Stack };

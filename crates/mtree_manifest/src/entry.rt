@@ -6,16 +6,16 @@ ghost use Rattle.image_tree.specs.Paths.{is_path};
 ghost use Rattle.image_tree.specs.Tree.{IsFullFor};
 ghost use Rattle.mtree_manifest.specs.Ends.{Ends};
 ghost use Rattle.mtree_manifest.specs.Manifest.{text_of, key_of, id_of, node_of, is_dir, is_link, target_fault, with_node};
-ghost use Rattle.mtree_manifest.specs.Paths.{names_of, place_fault_of, path_of, base_by};
-ghost use Rattle.mtree_manifest.specs.Naming.{is_place_behind, place_fault_behind};
-ghost use Rattle.mtree_manifest.specs.Views.{values_in};
+ghost use Rattle.manifest_words.specs.Paths.{names_of, place_fault_of, path_of, base_by};
+ghost use Rattle.manifest_words.specs.Naming.{is_place_behind, place_fault_behind};
+ghost use Rattle.manifest_words.specs.Views.{values_in};
 
-use crate::escape::decode;
-use crate::fault::{LineKind, ManifestFault};
-use crate::keys::{Keys, LineType, fault_unless};
-use crate::paths::{append_names, behind_first, is_directive, is_full};
-use crate::plain::KnownPath;
+use crate::fault::ManifestFault;
 use lib_types::{NoMemory, Text};
+use manifest_words::{
+    Keys, KnownPath, LineKind, LineType, append_names, behind_first, decode, fault_unless,
+    is_directive, is_full,
+};
 use std::alloc::Global;
 use tree_face::{Id, Node, Tree, TreeFault, is_path};
 
@@ -75,7 +75,7 @@ fn place_fault(word: &[u8], is_place: bool) -> Option<LineKind>
 }
 
 /// Fills the buffer with where a first word leads, in or below the current directory. Says what is wrong with the word.
-#[tactic(auto, using(crate::proofs::Places::fault_behind))]
+#[tactic(auto, using(manifest_words::proofs::Places::fault_behind))]
 pub(crate) fn find_place<'a>(
     path: &mut Vec<u8>,
     known: &mut KnownPath<'a>,

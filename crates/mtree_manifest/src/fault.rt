@@ -2,25 +2,11 @@
 ghost use Rattle.std.specs.Prelude.{◌≡◌};
 
 use lib_types::NoMemory;
+use manifest_words::LineKind;
 use std::alloc::{AllocError, AllocFailed};
 
 /// The most bytes of a manifest's text: 64 MiB, some eighty bytes for each node that a tree may have.
 pub const TEXT_MAX: usize = 1 << 26;
-
-/// What is wrong with a line. Of several faults of one line the first in this order counts.
-#[derive(Clone, Copy, Debug, PartialEq, Eq)]
-pub enum LineKind {
-    /// A backslash begins no escape.
-    BadEscape,
-    /// The line has no form that a line may have.
-    BadLine,
-    /// A number isn't 1 to 20 decimal digits, or isn't below 2^64.
-    BadNumber,
-    /// The value of `type` is no type.
-    BadType,
-    /// A link has no target.
-    NoTarget,
-}
 
 /// Why a manifest was not read. Lines are counted from 1, and a joined line has the number of its first physical line.
 #[derive(Clone, Copy, Debug, PartialEq, Eq)]

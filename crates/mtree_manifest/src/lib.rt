@@ -3,18 +3,14 @@
 
 mod dirs;
 mod entry;
-mod escape;
 mod fault;
-mod keys;
 mod line;
-mod parts;
-mod paths;
-mod plain;
 mod reader;
 mod single;
 mod writer;
 
-pub use fault::{EntryLineFault, LineKind, ManifestFault, TEXT_MAX};
+pub use fault::{EntryLineFault, ManifestFault, TEXT_MAX};
+pub use manifest_words::LineKind;
 pub use reader::read;
-pub use single::read_entry;
+pub use single::{read_entry, read_path};
 pub use writer::write;

@@ -1,15 +1,14 @@
 //! A line whose words are read one after another.
 ghost use Rattle.std.specs.Prelude.{◌≡◌, true, nat_eq, codes, fold, OnOk};
 ghost use Rattle.std.specs.List.{starts_with};
-ghost use Rattle.mtree_manifest.specs.Lines.{words_of, goes_on, physical_words};
+ghost use Rattle.manifest_words.specs.Lines.{words_of, goes_on, physical_words};
 ghost use Rattle.mtree_manifest.specs.Manifest.{head_of};
 ghost use Rattle.mtree_manifest.specs.Progress.{started, given_by_head, with_word};
-ghost use Rattle.mtree_manifest.specs.Views.{values_in, given_in};
+ghost use Rattle.manifest_words.specs.Views.{values_in, given_in};
 ghost use Rattle.mtree_manifest.specs.Lining.{line_in};
 
-use crate::keys::{Given, Keys, given_word, unset_word};
-use crate::parts::{Separator, split};
 use lib_types::NoMemory;
+use manifest_words::{Given, Keys, Separator, given_word, split, unset_word};
 use std::alloc::Global;
 
 /// What the first word of a line makes of it.

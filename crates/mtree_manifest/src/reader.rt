@@ -4,24 +4,22 @@ ghost use Rattle.mtree_manifest.specs.declared.fault.ManifestFault.TheVariants a
 ghost use Rattle.std.specs.Prelude.{◌≡◌, ◌⊎◌, ◌≤◌, Some, None, length, OnOk, IfOk, IfErr, IsErrOf, IsTrue};
 ghost use Rattle.mtree_manifest.specs.Ends.{Ends};
 ghost use Rattle.mtree_manifest.specs.Good.{IsGood, IsGoodOpen, are_good};
-ghost use Rattle.mtree_manifest.specs.Lines.{lines_in};
+ghost use Rattle.manifest_words.specs.Lines.{lines_in};
 ghost use Rattle.mtree_manifest.specs.Lining.{line_in};
-ghost use Rattle.mtree_manifest.specs.Escape.{DecodesAll};
+ghost use Rattle.manifest_words.specs.Escape.{DecodesAll};
 ghost use Rattle.mtree_manifest.specs.Manifest.{no_lines, set_line, close_line, entry_fault, entry, stack_behind, with_reading, with_lines, tree_of, first_bad};
-ghost use Rattle.mtree_manifest.specs.Paths.{place};
+ghost use Rattle.manifest_words.specs.Paths.{place};
 ghost use Rattle.mtree_manifest.specs.Progress.{line_ended, physical_taken};
 ghost use Rattle.mtree_manifest.specs.Reader.{state_in, progress_in, entry_put};
-ghost use Rattle.mtree_manifest.specs.Views.{values_in, given_in};
+ghost use Rattle.manifest_words.specs.Views.{values_in, given_in};
 
 use crate::dirs::Dirs;
 use crate::entry::{find_place, is_dir, node_of, put_node, target_fault};
-use crate::fault::{LineKind, ManifestFault, TEXT_MAX};
-use crate::keys::{Given, Keys, first_fault, no_keys};
+use crate::fault::{ManifestFault, TEXT_MAX};
 use crate::line::{Head, Line, add_physical, goes_on, start_line};
-use crate::paths::is_full;
-use crate::plain::KnownPath;
 use bstr::ByteSlice;
 use lib_types::NoMemory;
+use manifest_words::{Given, Keys, KnownPath, LineKind, first_fault, is_full, no_keys};
 use std::alloc::Global;
 use tree_face::Tree;
 
@@ -39,7 +37,7 @@ pub(crate) struct Reader<'a> {
 }
 
 // Opens the directory of a relative line, whose path begins with that of the current one.
-#[tactic(auto, using(crate::proofs::Places::place_from, crate::proofs::Places::place_longer))]
+#[tactic(auto, using(manifest_words::proofs::Places::place_from, manifest_words::proofs::Places::place_longer))]
 fn open_place(dirs: &mut Dirs, keys: &Keys<'_>, first: &[u8], path: &[u8]) -> Result<(), NoMemory>
     requires { path.now ≡ place dirs.old first.now }
     ensures { OnOk result (dirs.new ≡ stack_behind dirs.old first.now (values_in keys.now)) }

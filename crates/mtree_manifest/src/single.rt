@@ -5,17 +5,17 @@ ghost use Rattle.image_tree.specs.Node.{is_node};
 ghost use Rattle.image_tree.specs.Paths.{is_path};
 ghost use Rattle.mtree_manifest.specs.Good.{IsGood};
 ghost use Rattle.mtree_manifest.specs.Manifest.{put_by};
-ghost use Rattle.mtree_manifest.specs.Paths.{place};
-ghost use Rattle.mtree_manifest.specs.Single.{entry_alone, line_alone, path_word, pathless_fault, place_fault_alone};
-ghost use Rattle.mtree_manifest.specs.Views.{given_in, values_in};
+ghost use Rattle.manifest_words.specs.Paths.{place};
+ghost use Rattle.mtree_manifest.specs.Single.{entry_alone, line_alone, path_alone, path_word, pathless_fault, place_fault_alone};
+ghost use Rattle.manifest_words.specs.Views.{given_in, values_in};
 
 use crate::entry::{find_place, is_dir, node_of, target_fault};
-use crate::fault::{EntryLineFault, LineKind};
-use crate::keys::{Given, Keys, fault_unless, first_fault, no_keys};
+use crate::fault::EntryLineFault;
 use crate::line::{Head, add_words, goes_on, start_line};
-use crate::paths::is_full;
-use crate::plain::KnownPath;
 use lib_types::{NoMemory, Text};
+use manifest_words::{
+    Given, Keys, KnownPath, LineKind, fault_unless, first_fault, is_full, no_keys,
+};
 use std::alloc::Global;
 use tree_face::Node;
 
@@ -97,5 +97,19 @@ pub fn read_entry(alloc: Global, line: &[u8]) -> Result<Option<(Text, Node)>, En
     match path_word(words.first) {
         Some(first) => read_path_line(alloc, &words.given, first),
         None => Err(EntryLineFault::Bad(pathless_fault(words.given.fault))),
+    }
+}
+
+/// The path that one word leads to, which is a full path, as a script's line that drops a node has it.
+#[tactic(auto, using(crate::proofs::Singles::leads))]
+pub fn read_path(alloc: Global, word: &[u8]) -> Result<Text, EntryLineFault>
+    ensures path { IfOk result (λ path. path_alone word.now ≡ Ok path) }
+    ensures bad { (kind : LineKind) → IsErrOf result (EntryLineFault.Bad kind) → path_alone word.now ≡ Err kind }
+    ensures proper { IfOk result (λ path. IsTrue (is_path path)) }
+{
+    let mut path = Vec::new(alloc);
+    match find_path(&mut path, false, word)? {
+        Some(kind) => Err(EntryLineFault::Bad(kind)),
+        None => Ok(Text::from_vec(path)),
     }
 }

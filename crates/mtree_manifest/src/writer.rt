@@ -3,15 +3,15 @@ ghost use Rattle.std.specs.Prelude.{◌≡◌, ◌+◌, ◌++◌, ◌<◌, ◌�
 ghost use Rattle.std.specs.List.{list_all};
 ghost use Rattle.std.specs.Str.{bytes_eq};
 ghost use Rattle.mtree_manifest.specs.Canon.{id_words, key_words, file_words, node_words, node_line, canon};
-ghost use Rattle.mtree_manifest.specs.Escape.{is_plain, octal_digits, escaped_byte, escaped};
+ghost use Rattle.manifest_words.specs.Escape.{is_plain, octal_digits, escaped_byte, escaped};
 ghost use Rattle.mtree_manifest.specs.Manifest.{tree_of};
 ghost use Rattle.mtree_manifest.specs.declared.fault.TheConstants.{TEXT_MAX};
 ghost use Rattle.mtree_manifest.specs.declared.writer.TheConstants.{ID_SIZE};
 ghost use Rattle.image_tree.specs.Tree.{IsTree};
-ghost use Rattle.mtree_manifest.specs.Range.{AreBytes, IsIdInRange, IsSomeIdInRange, IsNodeInRange, IsInRange, AreInRange};
+ghost use Rattle.manifest_words.specs.Range.{AreBytes, IsIdInRange, IsSomeIdInRange, IsNodeInRange, IsInRange, AreInRange};
 
-use crate::paths::behind_first;
 use lib_types::NoMemory;
+use manifest_words::behind_first;
 use std::alloc::Global;
 use tree_face::{Id, Node, Tree};
 
@@ -66,7 +66,7 @@ fn push_each(out: &mut Vec<u8>, bytes: &[u8]) -> Result<(), NoMemory>
     Ok(())
 }
 
-#[tactic(auto, using(crate::proofs::Escaping::plain_escaped))]
+#[tactic(auto, using(manifest_words::proofs::Escaping::plain_escaped))]
 fn push_escaped(out: &mut Vec<u8>, bytes: &[u8]) -> Result<(), NoMemory>
     ensures text { OnOk result (out.new.items ≡ out.old.items ++ escaped bytes.now) }
     ensures range { AreBytes bytes.now }

@@ -1,9 +1,5 @@
-//! Tests of trees and of the devices in memory. They are a crate of their own, since a crate with tests is proved twice.
+//! Tests of the devices in memory. They are a crate of their own, since a crate with tests is proved twice.
 #![tactic(auto)]
 
 #[cfg(test)]
 mod devices;
-#[cfg(test)]
-mod listing;
-#[cfg(test)]
-mod tree;

@@ -1,6 +1,6 @@
 use Rattle.std.proofs.Common.{◌≡◌, length, eqb, not}
 use Rattle.std.specs.List.{filter, fold}
-use Rattle.mtree_manifest.specs.Lines.{words_of}
+use Rattle.manifest_words.specs.Lines.{words_of}
 use Rattle.mtree_manifest.specs.Progress.{with_word}
 use Rattle.mtree_manifest.specs.Lining.{line_in}
 use Rattle.mtree_manifest.proofs.line.add_words.Given as goal

@@ -1,6 +1,6 @@
 use Rattle.std.proofs.Common.{◌≡◌, ◌≤◌, ◌+◌, length, true}
 use Rattle.mtree_manifest.specs.Good.{are_good, IsGoodOpen}
-use Rattle.mtree_manifest.specs.Lines.{lines_in}
+use Rattle.manifest_words.specs.Lines.{lines_in}
 use Rattle.mtree_manifest.specs.Lining.{line_in}
 use Rattle.mtree_manifest.specs.Manifest.{no_lines, with_lines}
 use Rattle.mtree_manifest.specs.Progress.{with_physicals}

@@ -1,9 +1,9 @@
 use Rattle.std.proofs.Common.{◌≡◌, sym, subst, true}
 use Rattle.mtree_manifest.specs.Good.{IsGoodOpen, are_good}
-use Rattle.mtree_manifest.specs.Lines.{physical_words}
+use Rattle.manifest_words.specs.Lines.{physical_words}
 use Rattle.mtree_manifest.specs.Lining.{line_in}
 use Rattle.mtree_manifest.specs.Reader.{state_in}
-use Rattle.mtree_manifest.specs.Views.{values_in}
+use Rattle.manifest_words.specs.Views.{values_in}
 use Rattle.mtree_manifest.proofs.Goods.{words_good, defaults_good}
 use Rattle.mtree_manifest.proofs.reader.take_physical.Goals as goal
 

@@ -1,12 +1,12 @@
 use Rattle.std.proofs.Common.{◌≡◌, Some, None, sym, ap, subst, ◌∙◌, rules}
 use Rattle.mtree_manifest.proofs.Singles.{alone_of, good, read}
 use Rattle.mtree_manifest.specs.Good.{IsGood}
-use Rattle.mtree_manifest.specs.Keys.{no_values}
+use Rattle.manifest_words.specs.Keys.{no_values}
 use Rattle.mtree_manifest.specs.Lining.{line_in}
-use Rattle.mtree_manifest.specs.Lines.{words_of}
+use Rattle.manifest_words.specs.Lines.{words_of}
 use Rattle.mtree_manifest.specs.Progress.{Open, started, with_word}
 use Rattle.mtree_manifest.specs.Single.{line_alone, path_word, words_alone}
-use Rattle.mtree_manifest.specs.Views.{given_in}
+use Rattle.manifest_words.specs.Views.{given_in}
 use Rattle.std.specs.List.{fold}
 use Rattle.mtree_manifest.proofs.single.read_entry.Goals as goal
 

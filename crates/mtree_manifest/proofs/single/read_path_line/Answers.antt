@@ -1,9 +1,9 @@
 use Rattle.std.proofs.Common.{◌≡◌, None, Ok, [], ap, sym, ◌∙◌, rules}
 use Rattle.mtree_manifest.proofs.Singles.{entry_made, none_placed, proper}
 use Rattle.mtree_manifest.specs.Manifest.{put_by}
-use Rattle.mtree_manifest.specs.Paths.{place}
+use Rattle.manifest_words.specs.Paths.{place}
 use Rattle.mtree_manifest.specs.Single.{fault_alone}
-use Rattle.mtree_manifest.specs.Views.{given_in, values_in}
+use Rattle.manifest_words.specs.Views.{given_in, values_in}
 use Rattle.mtree_manifest.proofs.single.read_path_line.Goals as goal
 
 pub returns-in_ok-put_by-in-None-clause-entry : goal.returns-in_ok-put_by-in-None-clause-entry

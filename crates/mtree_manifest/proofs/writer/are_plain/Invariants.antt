@@ -1,6 +1,6 @@
 use Rattle.std.proofs.Common.{◌≡◌, ◌&&◌, drop}
 use Rattle.std.specs.List.{list_all}
-use Rattle.mtree_manifest.specs.Escape.{is_plain}
+use Rattle.manifest_words.specs.Escape.{is_plain}
 use Rattle.mtree_manifest.proofs.writer.are_plain.Given as goal
 
 -- what is left decides

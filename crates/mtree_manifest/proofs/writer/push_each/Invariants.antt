@@ -1,5 +1,5 @@
 use Rattle.std.proofs.Common.{◌≡◌, ◌++◌, take}
-use Rattle.mtree_manifest.specs.Escape.{escaped}
+use Rattle.manifest_words.specs.Escape.{escaped}
 use Rattle.mtree_manifest.proofs.writer.push_each.Given as goal
 
 abbrev pub invariant-loop-b : goal.invariant-loop-b

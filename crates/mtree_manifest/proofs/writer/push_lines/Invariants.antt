@@ -1,7 +1,7 @@
 use Rattle.std.proofs.Common.{◌≡◌, ◌++◌}
 use Rattle.std.specs.List.{flat_map}
 use Rattle.mtree_manifest.specs.Canon.{node_line}
-use Rattle.mtree_manifest.specs.Range.{AreInRange}
+use Rattle.manifest_words.specs.Range.{AreInRange}
 use Rattle.mtree_manifest.proofs.writer.push_lines.Given as goal
 
 -- the lines of the nodes that are left complete the text

@@ -1,8 +1,8 @@
 use Rattle.std.proofs.Common.{◌≡◌, ◌∙◌, ap, sym, subst, true, Some}
 use Rattle.image_tree.specs.Paths.{is_path}
 use Rattle.mtree_manifest.specs.Manifest.{node_of}
-use Rattle.mtree_manifest.specs.Paths.{place}
-use Rattle.mtree_manifest.specs.Views.{values_in, given_in}
+use Rattle.manifest_words.specs.Paths.{place}
+use Rattle.manifest_words.specs.Views.{values_in, given_in}
 use Rattle.mtree_manifest.proofs.Goods.{good_path, good_node}
 use Rattle.mtree_manifest.proofs.reader.Reader.put_entry.Goals as goal
 

@@ -1,0 +1,9 @@
+mod ByCommand
+mod CrashedRun
+mod NotUsage
+mod ReadSlots
+mod RepairedRun
+mod ResolveListed
+mod ResolveRead
+mod Saying
+mod SettledSlots

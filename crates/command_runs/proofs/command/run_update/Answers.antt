@@ -1,0 +1,19 @@
+use Rattle.std.proofs.Common.{refl}
+use Rattle.command_runs.proofs.CrashedRun.{leaves_whole}
+use Rattle.command_runs.proofs.RepairedRun.{repairs}
+use Rattle.command_runs.proofs.SettledSlots.{finds, settles}
+use Rattle.command_runs.proofs.command.run_update.Goals as goal
+
+pub returns : goal.returns
+returns g c = λ input.
+    let whole = leaves_whole c.args.tag c.update-status.result _ _ _ _ _ _ (g.met.D.Disk.moments c.args.disk.now) c.update-status.ensures in
+    record {
+      reported = g.O.Sink.state c.update-status.new.out;
+      updates = c.update-status.ensures;
+      line = c.put_fault_line.ensures;
+      settles = settles c.args.tag c.update-status.result _ _ _ _ _ _ c.update-status.ensures;
+      finds = finds c.args.tag c.update-status.result _ _ _ _ _ _ c.update-status.ensures;
+      whole = whole;
+      repairs = repairs c.update-status.result (g.S.Store.state c.args.store.now).held _ (g.D.Disk.state c.args.disk.now) (g.D.Disk.state c.update-status.new.disk) refl whole;
+      input = refl;
+    }

@@ -1,0 +1,15 @@
+//! Devices in memory for one run of the command, what they have to hold after it, and libraries and caches that several
+//! tests speak of.
+//! Tests of the command use it in crates of their own, so that no check of them is long.
+#![tactic(auto)]
+
+mod devices;
+mod libraries;
+mod samples;
+
+pub use devices::{
+    Devices, LIBZ_KEY, LIBZ_MANIFEST, LIBZ_REPORT, OLD, Pairs, Setting, Wanted, copy, done, has,
+    image, is_left, make_devices, number, one, refused, replacing_calls, run_update,
+};
+pub use libraries::{Held, all, library, libz, libz_held, nameless};
+pub use samples::{EMPTY_CACHE, ONE_CACHE, THREE_CACHE};

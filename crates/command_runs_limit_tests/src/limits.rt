@@ -1,0 +1,164 @@
+//! As many entries, nodes and bytes as there may be, and one more.
+use command_runs::Status;
+use command_runs_fixture::{Devices, Held, OLD, all, has, image, make_devices, run_update};
+use mtree_manifest::TEXT_MAX;
+use std::alloc::Global;
+use std::process::Abort;
+use std::test::Fail;
+use tree_face::{Disk, Slot};
+
+const MOST_ENTRIES: usize = 131072;
+
+const MOST_NODES: usize = 1048576;
+
+// 2^26 - 7 - 43 - 47 - 68548 * 979, without the 24 bytes of `./rest/folder/` and ` type=dir` and the newline
+const REST: usize = 251;
+
+// A manifest of so many lines, each with a number of seven digits between two texts.
+fn numbered(alloc: Global, before: &str, count: usize, behind: &str) -> Result<Vec<u8>, Fail> {
+    let mut text = Vec::from_slice(alloc, b"#mtree\n")?;
+    for n in 0..count {
+        text.extend_from_slice(before.as_bytes())?;
+        let digits = [
+            n / 1_000_000,
+            n / 100_000,
+            n / 10_000,
+            n / 1_000,
+            n / 100,
+            n / 10,
+            n,
+        ];
+        for digit in digits {
+            text.push(b'0' + (digit % 10) as u8)?;
+        }
+        text.extend_from_slice(behind.as_bytes())?;
+    }
+    Ok(text)
+}
+
+// Runs an update of a manifest that is too much, which has to leave all as it was.
+fn assert_refused(
+    rt: &impl Abort,
+    alloc: Global,
+    manifest: &[u8],
+    held: &[Held<'_>],
+    want: Status,
+    line: &str,
+) -> Result<(), Fail> {
+    let mut devices = make_devices(alloc, image(manifest), all(alloc, held)?)?;
+    let status = run_update(alloc, &mut devices);
+    assert!(rt; status == want);
+    assert!(rt; devices.out.written() == line.as_bytes());
+    assert!(rt; devices.disk.calls().is_empty());
+    let disk = &mut devices.disk;
+    assert!(rt; has(alloc, disk, Slot::Manifest, Some(manifest)));
+    assert!(rt; has(alloc, disk, Slot::Cache, Some(OLD)));
+    Ok(())
+}
+
+// Runs an update of a manifest that isn't too much, and gives the lengths of the manifest and of the cache that it leaves.
+fn assert_done(
+    rt: &impl Abort,
+    alloc: Global,
+    manifest: &[u8],
+    held: &[Held<'_>],
+    report: &str,
+) -> Result<(usize, usize), Fail> {
+    let mut devices = make_devices(alloc, image(manifest), all(alloc, held)?)?;
+    let status = run_update(alloc, &mut devices);
+    assert!(rt; status == Status::Done);
+    assert!(rt; devices.out.written() == report.as_bytes());
+    let manifest = size(alloc, &mut devices, Slot::Manifest)?;
+    Ok((manifest, size(alloc, &mut devices, Slot::Cache)?))
+}
+
+// How many bytes the slot holds.
+fn size(alloc: Global, devices: &mut Devices, slot: Slot) -> Result<usize, Fail> {
+    match devices.disk.read(alloc, slot)? {
+        Some(bytes) => Ok(bytes.len()),
+        None => Ok(0),
+    }
+}
+
+// All files have one content, which has no DT_SONAME.
+#[test]
+fn entries_of_a_cache(rt: HostRuntime) -> Result<(), Fail> {
+    let alloc = rt.alloc();
+    let held = [Held::Nameless("k")];
+    let most = numbered(alloc, "./usr/lib/lib", MOST_ENTRIES, ".so contents=k\n")?;
+    let report = "131072 libs, 0 links, 131072 files opened\n";
+    let sizes = assert_done(&rt, alloc, &most, &held, report)?;
+    // an entry has 24 bytes, a soname 14 and a path 23; the strings end at a multiple of four
+    assert!(rt; sizes == (most.len(), 48 + MOST_ENTRIES * (24 + 14 + 23) + 24 + 42));
+    let more = numbered(alloc, "./usr/lib/lib", MOST_ENTRIES + 1, ".so contents=k\n")?;
+    let want = Status::TooMany { count: 131073 };
+    assert_refused(&rt, alloc, &more, &held, want, "fault: TooMany 131073\n")
+}
+
+// A library for which a link is planned, among folders.
+#[test]
+fn nodes_of_a_tree(rt: HostRuntime) -> Result<(), Fail> {
+    let alloc = rt.alloc();
+    let held = [Held::Library("k", "libk.so.1")];
+    let library = b"./usr/lib/libk.so.1.2 contents=k\n";
+    let mut most = numbered(alloc, "./d", MOST_NODES - 2, " type=dir\n")?;
+    most.extend_from_slice(library)?;
+    let report = "link: /usr/lib/libk.so.1 -> libk.so.1.2\n1 libs, 1 links, 1 files opened\n";
+    let (size, _) = assert_done(&rt, alloc, &most, &held, report)?;
+    // ` type=file` is written, and the link's line
+    let wanted = most.len().saturating_add(10 + 47);
+    assert!(rt; size == wanted);
+    let mut more = numbered(alloc, "./d", MOST_NODES - 1, " type=dir\n")?;
+    more.extend_from_slice(library)?;
+    let want = Status::TooLarge {
+        nodes: 1048577,
+        bytes: 0,
+    };
+    assert_refused(&rt, alloc, &more, &held, want, "fault: TooLarge\n")?;
+    // a file that is looked for isn't held: this comes first; then one to which a link leads, and this doesn't
+    assert_refused(
+        &rt,
+        alloc,
+        &more,
+        &[],
+        Status::StoreFault,
+        "fault: StoreFault\n",
+    )?;
+    let mut lacking = numbered(alloc, "./d", MOST_NODES - 3, " type=dir\n")?;
+    lacking.extend_from_slice(library)?;
+    lacking.extend_from_slice(b"./none\n./usr/lib/libn.so type=link link=/none\n")?;
+    assert_refused(&rt, alloc, &lacking, &held, want, "fault: TooLarge\n")
+}
+
+// A manifest whose new one has 2^26 bytes, and as many more as are added to a folder's name: 68,548 folders have 979 bytes each,
+// since a byte that isn't ASCII is written with four; then come the head with 7, the library with 43, its link with 47, and
+// a folder with the rest.
+fn expanding(alloc: Global, added: usize) -> Result<Vec<u8>, Fail> {
+    let mut name = String::from_str(alloc, "./")?;
+    for _ in 0..120 {
+        name.push('é')?;
+    }
+    let mut text = numbered(alloc, name.as_str(), 68548, " type=dir\n")?;
+    text.extend_from_slice(b"./usr/lib/libk.so.1.2 contents=k\n./rest/folder/")?;
+    for _ in 0..REST.saturating_add(added) {
+        text.push(b'r')?;
+    }
+    text.extend_from_slice(b" type=dir\n")?;
+    Ok(text)
+}
+
+#[test]
+fn bytes_of_a_manifest(rt: HostRuntime) -> Result<(), Fail> {
+    let alloc = rt.alloc();
+    let held = [Held::Library("k", "libk.so.1")];
+    let report = "link: /usr/lib/libk.so.1 -> libk.so.1.2\n1 libs, 1 links, 1 files opened\n";
+    let most = expanding(alloc, 0)?;
+    let (size, _) = assert_done(&rt, alloc, &most, &held, report)?;
+    assert!(rt; size == TEXT_MAX);
+    let more = expanding(alloc, 1)?;
+    let want = Status::TooLarge {
+        nodes: 68551,
+        bytes: 67108865,
+    };
+    assert_refused(&rt, alloc, &more, &held, want, "fault: TooLarge\n")
+}

@@ -1,0 +1,40 @@
+//! The commands.
+use lib_types::{Abi, Text, Texts};
+use tree_face::Tag;
+
+/// What is looked up in the cache.
+#[derive(Drop)]
+pub struct Lookup {
+    pub name: Text,
+    pub abi: Abi,
+    /// The hwcaps names that the processor has, the preferred one first.
+    pub caps: Texts,
+}
+
+/// The program whose libraries are listed, and what the loader is given beside the files.
+#[derive(Drop)]
+pub struct Resolve {
+    /// The program's path in the image.
+    pub path: Text,
+    /// The hwcaps names that the processor has, the preferred one first.
+    pub caps: Texts,
+    /// `LD_LIBRARY_PATH`; empty, if there is none.
+    pub library_path: Text,
+    /// What `$PLATFORM` stands for.
+    pub platform: Text,
+    /// Whether the program runs in secure execution, as a set-user-ID program does.
+    pub secure: bool,
+}
+
+/// A command of the program.
+#[derive(Drop)]
+pub enum Command {
+    /// To write the cache of the image, by way of the temporary files of this tag.
+    Update { tag: Tag },
+    /// To print the cache.
+    Print,
+    /// To look up a name in the cache.
+    Lookup(Lookup),
+    /// To list the libraries that a program loads.
+    Resolve(Resolve),
+}

@@ -1,0 +1,6 @@
+//! The commands of the program, with their values.
+#![tactic(auto)]
+
+mod kinds;
+
+pub use kinds::{Command, Lookup, Resolve};

@@ -1,5 +1,0 @@
-use Rattle.std.specs.Prelude.{◌≡◌, length}
-use Rattle.ldconfig_cli_fixture.proofs.libraries.all.Given as goal
-
-abbrev pub invariant-loop-one : goal.invariant-loop-one
-invariant-loop-one l = length l.pairs.items ≡ l.one-index

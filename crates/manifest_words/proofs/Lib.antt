@@ -1,0 +1,8 @@
+pub mod Beside
+pub mod Decoded
+pub mod Escaping
+pub mod FullWords
+pub mod Names
+pub mod Numbers
+pub mod Places
+pub mod Tokens

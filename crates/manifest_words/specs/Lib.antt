@@ -1,0 +1,10 @@
+pub mod Decoding
+pub mod Escape
+pub mod Keys
+pub mod Lines
+pub mod Naming
+pub mod Parts
+pub mod Paths
+pub mod Plain
+pub mod Range
+pub mod Views

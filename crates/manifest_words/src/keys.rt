@@ -1,0 +1,364 @@
+//! The keywords of a line and their values.
+ghost use Rattle.std.specs.Prelude.{◌≡◌, ◌<◌, ◌≤◌, ◌^◌, if◌then◌else◌, nat_lt, not, Some, None, is_some, length, IfOk, OnOk, IfSome, IsTrue, bytes_eq, position};
+ghost use Rattle.std.specs.List.{list_any, list_all};
+ghost use Rattle.std.specs.Char.{is_ascii_digit};
+ghost use Rattle.std.specs.Str.Parse.{digits_value};
+ghost use Rattle.image_tree.specs.Node.{is_key, has_no_nul};
+ghost use Rattle.manifest_words.specs.Keys.{rank, first_fault, fault_unless, keyword_of, is_known, type_of, is_type, no_node_types, number_of, is_link_text, without, given_by, given_word, unset_word, is_equals, no_values};
+ghost use Rattle.manifest_words.specs.declared.fault.LineKind.TheVariants.{BadNumber};
+ghost use Rattle.manifest_words.specs.Views.{values_in, given_in, fault_of_text, written_fault};
+
+use crate::escape::{decode, has_backslash};
+use crate::fault::LineKind;
+use lib_types::{NoMemory, is_utf8};
+use std::alloc::Global;
+
+/// The keywords that have a meaning here, and all others.
+#[derive(Clone, Copy, Debug, PartialEq, Eq)]
+pub enum Keyword {
+    Type,
+    Link,
+    Dev,
+    Inode,
+    Ctime,
+    Size,
+    Contents,
+    Other,
+}
+
+/// The types that make a node, those that make none, and what is no type.
+#[derive(Clone, Copy, Debug, PartialEq, Eq)]
+pub enum LineType {
+    File,
+    Dir,
+    Link,
+    NoNode,
+    Unknown,
+}
+
+/// The values of keywords. Those of `link` and `contents` are kept as they are written.
+#[derive(Clone, Copy)]
+pub struct Keys<'a> {
+    pub kind: LineType,
+    /// Empty if there is none.
+    pub link: &'a [u8],
+    pub dev: Option<u64>,
+    pub inode: Option<u64>,
+    pub ctime: Option<u64>,
+    pub size: Option<u64>,
+    pub contents: Option<&'a [u8]>,
+}
+
+/// The values after some of a line's keywords, and the first fault of these.
+#[derive(Clone, Copy)]
+pub struct Given<'a> {
+    pub keys: Keys<'a>,
+    pub fault: Option<LineKind>,
+}
+
+/// No value at all: a line without a type is a file's.
+pub fn no_keys<'a>() -> Keys<'a>
+    ensures { values_in result ≡ no_values }
+{
+    Keys {
+        kind: LineType::File,
+        link: b"",
+        dev: None,
+        inode: None,
+        ctime: None,
+        size: None,
+        contents: None,
+    }
+}
+
+fn rank(kind: LineKind) -> u8
+    ensures { result ≡ rank kind }
+{
+    match kind {
+        LineKind::BadEscape => 0,
+        LineKind::BadLine => 1,
+        LineKind::BadNumber => 2,
+        LineKind::BadType => 3,
+        LineKind::NoTarget => 4,
+    }
+}
+
+/// Of two faults of one line the one that counts.
+pub fn first_fault(a: Option<LineKind>, b: Option<LineKind>) -> Option<LineKind>
+    ensures { result ≡ first_fault a b }
+{
+    let Some(x) = a else {
+        return b;
+    };
+    let Some(y) = b else {
+        return a;
+    };
+    if rank(x) <= rank(y) { a } else { b }
+}
+
+/// No fault if the test holds.
+pub fn fault_unless(holds: bool, kind: LineKind) -> Option<LineKind>
+    ensures { result ≡ fault_unless holds kind }
+{
+    if holds { None } else { Some(kind) }
+}
+
+fn keyword_of(key: &[u8]) -> Keyword
+    ensures { result ≡ keyword_of key.now }
+{
+    match key {
+        b"type" => Keyword::Type,
+        b"link" => Keyword::Link,
+        b"dev" => Keyword::Dev,
+        b"inode" => Keyword::Inode,
+        b"ctime" => Keyword::Ctime,
+        b"size" => Keyword::Size,
+        b"contents" => Keyword::Contents,
+        _ => Keyword::Other,
+    }
+}
+
+fn is_known(keyword: Keyword) -> bool
+    ensures { result ≡ is_known keyword }
+{
+    match keyword {
+        Keyword::Other => false,
+        _ => true,
+    }
+}
+
+// Whether the value is a type that makes no node.
+fn makes_no_node(value: &[u8]) -> bool
+    ensures { result ≡ list_any (bytes_eq value.now) no_node_types }
+{
+    value == b"block".as_slice()
+        || value == b"char".as_slice()
+        || value == b"fifo".as_slice()
+        || value == b"socket".as_slice()
+}
+
+fn type_of(value: &[u8]) -> LineType
+    ensures { result ≡ type_of value.now }
+{
+    match value {
+        b"file" => LineType::File,
+        b"dir" => LineType::Dir,
+        b"link" => LineType::Link,
+        _ if makes_no_node(value) => LineType::NoNode,
+        _ => LineType::Unknown,
+    }
+}
+
+fn is_type(kind: LineType) -> bool
+    ensures { result ≡ is_type kind }
+{
+    match kind {
+        LineType::Unknown => false,
+        _ => true,
+    }
+}
+
+fn are_digits(value: &[u8]) -> bool
+    ensures { result ≡ list_all is_ascii_digit value.now }
+{
+    value.iter().all(|b| b.is_ascii_digit())
+}
+
+// The number that twenty digits write, if it is below 2^64.
+#[tactic(auto, using(crate::proofs::Numbers::parsed, crate::proofs::Numbers::digits_text))]
+fn long_number(value: &[u8]) -> Option<u64>
+    requires some { 0 < length value.now }
+    requires digits { IsTrue (list_all is_ascii_digit value.now) }
+    ensures { result ≡ (if nat_lt (digits_value 10 value.now) (2 ^ 64) then Some (digits_value 10 value.now) else None) }
+{
+    match std::str::from_utf8(value) {
+        Ok(digits) => digits.parse::<u64>().ok(),
+        Err(_) => None,
+    }
+}
+
+// The number that fewer digits write, which is below 2^64, in one pass.
+#[tactic(auto, using(crate::proofs::Numbers::no_digits))]
+fn short_number(value: &[u8]) -> Option<u64>
+    requires few { length value.now ≤ 19 }
+    ensures { result ≡ (if list_all is_ascii_digit value.now then Some (digits_value 10 value.now) else None) }
+{
+    let mut number = 0;
+    for &digit in value {
+        if !digit.is_ascii_digit() {
+            return None;
+        }
+        number = 10 * number + u64::from(digit - b'0');
+    }
+    Some(number)
+}
+
+#[tactic(auto, using(crate::proofs::Numbers::short_fits))]
+fn number_of(value: &[u8]) -> Option<u64>
+    ensures { result ≡ number_of value.now }
+{
+    if value.is_empty() || value.len() > 20 {
+        return None;
+    }
+    if value.len() < 20 {
+        short_number(value)
+    } else if are_digits(value) {
+        long_number(value)
+    } else {
+        None
+    }
+}
+
+// Keeps the number that the value writes, and returns the fault of a value that writes none.
+fn number_in(number: &mut Option<u64>, value: &[u8]) -> Option<LineKind>
+    ensures number { number.new ≡ number_of value.now }
+    ensures fault { result ≡ fault_unless (is_some (number_of value.now)) BadNumber }
+{
+    *number = number_of(value);
+    fault_unless(number.is_some(), LineKind::BadNumber)
+}
+
+fn has_no_nul(text: &[u8]) -> bool
+    ensures { result ≡ has_no_nul text.now }
+{
+    text.iter().all(|&b| b != 0)
+}
+
+/// The most bytes of a content key or a link's target.
+const VALUE_MAX: usize = 4095;
+
+fn is_link_text(text: &[u8]) -> bool
+    ensures { result ≡ is_link_text text.now }
+{
+    text.len() <= VALUE_MAX && has_no_nul(text)
+}
+
+fn is_key(text: &[u8]) -> bool
+    ensures { result ≡ is_key text.now }
+{
+    !text.is_empty() && is_link_text(text) && is_utf8(text)
+}
+
+// The fault of a text that may be a key, or else a link's.
+fn fault_of_text(is_contents: bool, text: &[u8]) -> Option<LineKind>
+    ensures { result ≡ fault_of_text is_contents text.now }
+{
+    let good = if is_contents {
+        is_key(text)
+    } else {
+        is_link_text(text)
+    };
+    fault_unless(good, LineKind::BadLine)
+}
+
+// The fault of a value that has escapes, which are decoded for the test.
+fn escaped_fault(
+    alloc: Global,
+    is_contents: bool,
+    value: &[u8],
+) -> Result<Option<LineKind>, NoMemory>
+    ensures { IfOk result (λ fault. fault ≡ written_fault is_contents value.now) }
+{
+    let mut text = Vec::new(alloc);
+    if decode(&mut text, value)? {
+        Ok(fault_of_text(is_contents, text.as_slice()))
+    } else {
+        Ok(Some(LineKind::BadEscape))
+    }
+}
+
+// The fault of a value of `contents` or `link`. One that stands for itself is tested where it stands.
+#[tactic(auto, using(crate::proofs::Decoded::plain_fault))]
+fn written_fault(
+    alloc: Global,
+    is_contents: bool,
+    value: &[u8],
+) -> Result<Option<LineKind>, NoMemory>
+    ensures { IfOk result (λ fault. fault ≡ written_fault is_contents value.now) }
+{
+    if has_backslash(value) {
+        escaped_fault(alloc, is_contents, value)
+    } else {
+        Ok(fault_of_text(is_contents, value))
+    }
+}
+
+// The values with one more, whose fault counts with those before.
+fn given_value<'a>(
+    alloc: Global,
+    given: &mut Given<'a>,
+    keyword: Keyword,
+    value: &'a [u8],
+) -> Result<(), NoMemory>
+    ensures { OnOk result (given_in given.new ≡ given_by (given_in given.old) (keyword, Some value.entry.now)) }
+{
+    let keys = &mut given.keys;
+    let fault = match keyword {
+        Keyword::Type => {
+            keys.kind = type_of(value);
+            fault_unless(is_type(keys.kind), LineKind::BadType)
+        }
+        Keyword::Link => {
+            keys.link = value;
+            written_fault(alloc, false, value)?
+        }
+        Keyword::Contents => {
+            keys.contents = Some(value);
+            written_fault(alloc, true, value)?
+        }
+        Keyword::Dev => number_in(&mut keys.dev, value),
+        Keyword::Inode => number_in(&mut keys.inode, value),
+        Keyword::Ctime => number_in(&mut keys.ctime, value),
+        Keyword::Size => number_in(&mut keys.size, value),
+        Keyword::Other => None,
+    };
+    given.fault = first_fault(given.fault, fault);
+    Ok(())
+}
+
+fn without<'a>(keys: Keys<'a>, keyword: Keyword) -> Keys<'a>
+    ensures { values_in result ≡ without (values_in keys.entry) keyword }
+{
+    let mut keys = keys;
+    match keyword {
+        Keyword::Type => keys.kind = LineType::File,
+        Keyword::Link => keys.link = b"",
+        Keyword::Dev => keys.dev = None,
+        Keyword::Inode => keys.inode = None,
+        Keyword::Ctime => keys.ctime = None,
+        Keyword::Size => keys.size = None,
+        Keyword::Contents => keys.contents = None,
+        Keyword::Other => {}
+    }
+    keys
+}
+
+fn first_equals(word: &[u8]) -> Option<usize>
+    ensures place { result ≡ position is_equals word.now }
+    ensures within { IfSome result (λ n. n < length word.now) }
+{
+    word.iter().position(|&b| b == b'=')
+}
+
+/// Adds what one word more gives.
+pub fn given_word<'a>(alloc: Global, given: &mut Given<'a>, word: &'a [u8]) -> Result<(), NoMemory>
+    ensures { OnOk result (given_in given.new ≡ given_word (given_in given.old) word.entry.now) }
+{
+    let Some(n) = first_equals(word) else {
+        let fault = fault_unless(!is_known(keyword_of(word)), LineKind::BadLine);
+        given.fault = first_fault(given.fault, fault);
+        return Ok(());
+    };
+    given_value(alloc, given, keyword_of(&word[..n]), &word[n + 1..])
+}
+
+/// The values without that of the keyword that the word names, or without all.
+pub fn unset_word<'a>(keys: Keys<'a>, word: &[u8]) -> Keys<'a>
+    ensures { values_in result ≡ unset_word (values_in keys.entry) word.now }
+{
+    if word == b"all".as_slice() {
+        no_keys()
+    } else {
+        without(keys, keyword_of(word))
+    }
+}

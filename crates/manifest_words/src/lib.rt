@@ -1,0 +1,16 @@
+//! The words of a manifest's line, as mtree(5) has them: escapes, paths, keywords with their values.
+#![tactic(auto)]
+
+mod escape;
+mod fault;
+mod keys;
+mod parts;
+mod paths;
+mod plain;
+
+pub use escape::decode;
+pub use fault::LineKind;
+pub use keys::{Given, Keys, LineType, fault_unless, first_fault, given_word, no_keys, unset_word};
+pub use parts::{Separator, split};
+pub use paths::{append_names, behind_first, is_directive, is_full};
+pub use plain::KnownPath;

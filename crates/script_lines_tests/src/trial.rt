@@ -1,0 +1,33 @@
+//! One row: a line, and what it asks for.
+use crate::shown::shown;
+use lib_types::NoMemory;
+use script_lines::read_line;
+use std::alloc::Global;
+use table_rows::{Row, Said, Trial, text};
+
+/// A row has a line, with its line feed, and what it asks for or its fault.
+pub(crate) struct Lines;
+
+const WORDS: &[&[u8]] = &[b"line", b"asks"];
+
+// The text without its last byte, the line feed.
+fn line_of(text: &[u8]) -> &[u8] {
+    if text.is_empty() {
+        text
+    } else {
+        &text[..text.len() - 1]
+    }
+}
+
+impl Trial for Lines {
+    fn words() -> &'static [&'static [u8]] {
+        WORDS
+    }
+
+    // A body that always returns NoMemory meets the contract; the rows refuse it.
+    fn is_right(alloc: Global, row: Row<'_>, said: &mut Said) -> Result<bool, NoMemory> {
+        let line = text(alloc, row, b"line")?;
+        let got = shown(alloc, read_line(alloc, line_of(&line)))?;
+        said.is_same(b"asks", &text(alloc, row, b"asks")?, &got)
+    }
+}

@@ -1,0 +1,8 @@
+mod Bests
+mod Endings
+pub mod FilesAgree
+mod FoundParts
+mod KeysBegun
+mod KnownParts
+pub mod Limits
+mod SearchParts

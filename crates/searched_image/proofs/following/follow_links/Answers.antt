@@ -1,0 +1,74 @@
+use Rattle.std.proofs.Common.{rules, ◌≡◌, ◌+◌, ◌||◌, ℕ, Bool, true, false, List, length, Result, Err, nat_cmp, ap, sym, subst, ◌∙◌}
+use Rattle.std.specs.Cmp.Lexicographic.{slice_cmp}
+use Rattle.std.specs.List.{list_any}
+use Rattle.std.specs.List.Sorted.{IsStrictlySortedBy}
+use Rattle.std.specs.Map.{keys_of}
+use Rattle.std.specs.Str.{bytes_eq}
+use Rattle.analysed_files.proofs.Unread.{all_read, among_all, same_keys}
+use Rattle.analysed_files.specs.Files.{unread_keys}
+use Rattle.found_files.proofs.Unread.{unread_sorted}
+use Rattle.found_files.specs.Analyses.{Analyses, unread}
+use Rattle.found_files.specs.Search.{reached}
+use Rattle.found_files.specs.Table.{analysis_at}
+use Rattle.tree_face.proofs.StoreUse.{reads_all}
+use Rattle.image_tree.specs.Tree.{Nodes}
+use Rattle.searched_image.proofs.FilesAgree.{reached_sorted}
+use Rattle.searched_image.specs.declared.fault.FindFault.TheVariants as finding
+use Rattle.searched_image.proofs.following.follow_links.Goals as goal
+
+-- the keys of the files without an analysis are those of all
+keys : (t : Nodes) (what : Analyses) (paths files : List (List ℕ)) → paths ≡ unread what files → unread_keys t what paths ≡ unread_keys t what files
+keys t what paths files is = ap (unread_keys t what) is ∙ same_keys t what files
+
+either : (a b c : Bool) → (b ≡ true → c ≡ true) → (a || b) ≡ true → (a || c) ≡ true
+either true b c h e = e
+either false b c h e = h e
+
+pub read_files-requires : goal.read_files-requires
+read_files-requires g c = record {
+  sorted = subst (λ (paths : List (List ℕ)). IsStrictlySortedBy (slice_cmp nat_cmp) paths) (sym (c.in_ok-paths.ensures c.args.tree.now c.args.dirs.now.places c.in_ok-links.ensures))
+      (unread_sorted (analysis_at c.args.files.now.table) (reached c.args.tree.now c.args.dirs.now.places) (reached_sorted c.args.tree.now c.args.dirs.now.places));
+}
+
+pub returns-in_err-read_files-clause-reads : goal.returns-in_err-read_files-clause-reads
+returns-in_err-read_files-clause-reads g c =
+    let t = c.args.tree.now in
+    let is = keys t (analysis_at c.args.files.now.table) _ _ (c.in_ok-paths.ensures t c.args.dirs.now.places c.in_ok-links.ensures) in
+    search (rules, rw is at c.read_files.ensures.reads)
+
+pub returns-in_err-dangling-clause-reads : goal.returns-in_err-dangling-clause-reads
+returns-in_err-dangling-clause-reads g c =
+    let t = c.args.tree.now in
+    let is = keys t (analysis_at c.args.files.now.table) _ _ (c.in_ok-paths.ensures t c.args.dirs.now.places c.in_ok-links.ensures) in
+    let same : c.from_residual-in_err-dangling.result ≡ Err finding.NoMemory = search rules in
+    rw same (reads_all _ _ _ _ _ (rw is at c.in_ok-read_files.ensures.reads))
+
+pub returns-clause-all : goal.returns-clause-all
+returns-clause-all g c =
+    let is = c.in_ok-paths.ensures c.args.tree.now c.args.dirs.now.places c.in_ok-links.ensures in
+    all_read c.args.tree.now _ _ _ c.in_ok-read_files.ensures.kept (rw is at c.in_ok-read_files.ensures.all)
+
+pub returns-clause-only : goal.returns-clause-only
+returns-clause-only g c path there =
+    let files = reached c.args.tree.now c.args.dirs.now.places in
+    let is = c.in_ok-paths.ensures c.args.tree.now c.args.dirs.now.places c.in_ok-links.ensures in
+    either (list_any (bytes_eq path) (keys_of c.args.files.now.table)) (list_any (bytes_eq path) (unread (analysis_at c.args.files.now.table) files)) (list_any (bytes_eq path) files)
+    (among_all (analysis_at c.args.files.now.table) files path) (rw is at c.in_ok-read_files.ensures.only path there)
+
+pub returns-clause-begun : goal.returns-clause-begun
+returns-clause-begun g c =
+    let t = c.args.tree.now in
+    let is = keys t (analysis_at c.args.files.now.table) _ _ (c.in_ok-paths.ensures t c.args.dirs.now.places c.in_ok-links.ensures) in
+    c.in_ok-read_files.ensures.begun ∙ ap (λ ks. c.args.files.now.begun + length ks) is
+
+pub returns-clause-none_lacks : goal.returns-clause-none_lacks
+returns-clause-none_lacks g c =
+    let t = c.args.tree.now in
+    let is = keys t (analysis_at c.args.files.now.table) _ _ (c.in_ok-paths.ensures t c.args.dirs.now.places c.in_ok-links.ensures) in
+    rw is at c.in_ok-read_files.ensures.none_lacks
+
+pub returns-clause-reads : goal.returns-clause-reads
+returns-clause-reads g c =
+    let t = c.args.tree.now in
+    let is = keys t (analysis_at c.args.files.now.table) _ _ (c.in_ok-paths.ensures t c.args.dirs.now.places c.in_ok-links.ensures) in
+    rw is at c.in_ok-read_files.ensures.reads

@@ -1,0 +1,4 @@
+pub mod Begun
+pub mod Faults
+pub mod Found
+pub mod Ldconfig

@@ -1,0 +1,7 @@
+mod Apart
+mod Calls
+mod Disks
+mod Kept
+mod Left
+mod Lists
+mod Runs

@@ -1,0 +1,38 @@
+-- The calls of a world, made on a disk.
+use Rattle.std.specs.Prelude.{◌≡◌, Bool, List, [], ◌∷◌, Some, IfSome, Result, Ok}
+use Rattle.std.specs.List.{list_any, slice_get}
+use Rattle.lib_types.specs.declared.fault.Failed.{Failed}
+use Rattle.atomic_replace.specs.Step.{Makes}
+use Rattle.tree_face.specs.Disk.{Content, DiskContent, DiskState, content_eq}
+use Rattle.tree_face.specs.declared.disk.Slot.TheVariants.{Cache}
+use Rattle.update_world.specs.Turns.{PostCall}
+use Rattle.update_world.specs.declared.post.Post.{Post}
+use Rattle.update_world.specs.declared.post.Reading.{Reading}
+
+-- the cache slot of a disk of known contents holds this content, and a crash leaves no other
+pub record HoldsAlone (first : Content) (s : DiskState) : Type 0 where
+  pub known : DiskContent
+  pub contents : s.contents ≡ Some known
+  pub held : known.now.cache ≡ first
+  pub left : (b : Content) → s.may Cache b ≡ content_eq first b
+
+abbrev pub done : Result (Unit {0}) Failed
+done = Ok tt
+
+-- a call of a post on the cache slot, which returns Ok
+abbrev pub IsMade : List Post → PostCall → DiskState → DiskState → Type 0
+IsMade posts call old new = IfSome (slice_get posts call.0) (λ p. Makes p.tag (Cache, p.bytes) call.1 old new done)
+
+-- these calls, one after another
+abbrev pub AreMade : List Post → List PostCall → DiskState → DiskState → Type 0
+AreMade posts [] old new = new ≡ old
+AreMade posts (call ∷ calls) old new = (middle : DiskState) × IsMade posts call old middle × AreMade posts calls middle new
+
+-- whether the content is that of one of these readings
+abbrev pub is_among : Content → List Reading → Bool
+is_among b readings = list_any (λ r. content_eq r.bytes b) readings
+
+-- of a disk on which these calls were made a crash leaves exactly the contents of these readings
+abbrev pub LeavesExactly : Content → List Post → List PostCall → List Reading → Type 0
+LeavesExactly first posts calls readings =
+    (old new : DiskState) → HoldsAlone first old → AreMade posts calls old new → (b : Content) → new.may Cache b ≡ is_among b readings

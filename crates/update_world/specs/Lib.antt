@@ -1,0 +1,4 @@
+pub mod Disks
+pub mod Kept
+pub mod Turns
+pub mod Worlds

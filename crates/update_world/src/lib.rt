@@ -1,0 +1,15 @@
+//! Updaters and loaders at once, taken one call of a device at a time: what loaders read, and what a crash leaves.
+#![tactic(auto)]
+
+mod fault;
+mod machine;
+mod post;
+mod readings;
+mod run;
+mod tags;
+mod world;
+
+pub use fault::WorldFault;
+pub use post::{Post, Posts, Reading, Readings, Turn};
+pub use run::world_run;
+pub use world::World;

@@ -1,0 +1,110 @@
+//! One row: a world, rounds of turns, what is read, and what a crash may leave after each round.
+use crate::shown::Seen;
+use lib_types::{NoMemory, Text};
+use std::alloc::Global;
+use table_rows::{Row, Said, Trial, divide, number, text, value};
+use tree_face::Tag;
+use update_world::{Post, Posts, Turn, World, WorldFault};
+
+/// A row has the first content, if there is one, a line for each post with its tag and bytes, and rounds of turns, in which a digit is a
+/// step of the post with this index and any other character a load.
+pub(crate) struct Rounds;
+
+fn posts_of(alloc: Global, row: Row<'_>) -> Result<Posts, NoMemory> {
+    let mut posts = Posts::new(alloc);
+    for line in row {
+        let (word, rest) = divide(b' ', line);
+        if word == b"post".as_slice() {
+            let (tag, bytes) = divide(b' ', rest);
+            posts.push(Post {
+                tag: Tag(u16::try_from(number(tag)).unwrap_or(0)),
+                bytes: Text::copy_of(alloc, bytes)?,
+            })?;
+        }
+    }
+    Ok(posts)
+}
+
+fn first_of(alloc: Global, row: Row<'_>) -> Result<Option<Text>, NoMemory> {
+    match value(row, b"first") {
+        Some(bytes) => Ok(Some(Text::copy_of(alloc, bytes)?)),
+        None => Ok(None),
+    }
+}
+
+fn turns_of(alloc: Global, round: &[u8]) -> Result<Vec<Turn>, NoMemory> {
+    let mut turns = Vec::new(alloc);
+    for byte in round {
+        turns.push(if byte.is_ascii_digit() {
+            Turn::Step(u32::from(byte.saturating_sub(b'0')))
+        } else {
+            Turn::Load
+        })?;
+    }
+    Ok(turns)
+}
+
+fn take_rounds(alloc: Global, world: &mut World, rounds: &[u8]) -> Result<Seen, NoMemory> {
+    let mut seen = Seen::new(alloc);
+    let mut rest = rounds;
+    for _ in 0..rounds.len() {
+        if rest.is_empty() {
+            break;
+        }
+        let (round, behind) = divide(b' ', rest);
+        seen.take(alloc, world, &turns_of(alloc, round)?)?;
+        rest = behind;
+    }
+    Ok(seen)
+}
+
+fn is_text(
+    alloc: Global,
+    row: Row<'_>,
+    word: &[u8],
+    got: &[u8],
+    said: &mut Said,
+) -> Result<bool, NoMemory> {
+    said.is_same(word, &text(alloc, row, word)?, got)
+}
+
+fn are_right(
+    alloc: Global,
+    row: Row<'_>,
+    world: &mut World,
+    said: &mut Said,
+) -> Result<bool, NoMemory> {
+    let got = take_rounds(alloc, world, value(row, b"rounds").unwrap_or(b""))?;
+    let read = is_text(alloc, row, b"readings", &got.read, said)?;
+    Ok(is_text(alloc, row, b"left", &got.left, said)? && read)
+}
+
+fn is_tag(alloc: Global, tag: Tag, want: &[u8], said: &mut Said) -> Result<bool, NoMemory> {
+    let got = format!(in alloc; "{}", tag.0)?;
+    said.is_same(b"same-tag", want, got.as_bytes())
+}
+
+const WORDS: &[&[u8]] = &[
+    b"first",
+    b"post",
+    b"rounds",
+    b"readings",
+    b"left",
+    b"same-tag",
+];
+
+impl Trial for Rounds {
+    fn words() -> &'static [&'static [u8]] {
+        WORDS
+    }
+
+    // A body that always returns NoMemory meets the contract; the rows refuse it.
+    fn is_right(alloc: Global, row: Row<'_>, said: &mut Said) -> Result<bool, NoMemory> {
+        let want = value(row, b"same-tag").unwrap_or(b"");
+        match World::new(alloc, first_of(alloc, row)?, posts_of(alloc, row)?) {
+            Ok(mut world) => Ok(are_right(alloc, row, &mut world, said)? && want.is_empty()),
+            Err(WorldFault::SameTag { tag }) => is_tag(alloc, tag, want, said),
+            Err(WorldFault::NoMemory) => Err(NoMemory),
+        }
+    }
+}
