@@ -4,7 +4,7 @@ ghost use Rattle.std.specs.Cmp.Lexicographic.{slice_cmp};
 ghost use Rattle.std.specs.List.{cons_option, list_any};
 ghost use Rattle.std.specs.List.Sorted.{IsStrictlySortedBy};
 ghost use Rattle.std.specs.Map.{keys_of};
-ghost use Rattle.std.specs.Option.{is_some, option_and_then};
+ghost use Rattle.std.specs.Option.{option_and_then};
 ghost use Rattle.std.specs.Ordering.{nat_cmp};
 ghost use Rattle.std.specs.Str.{bytes_eq};
 ghost use Rattle.aux_cache.specs.Stamps.{HaveNames, stamp_of};
@@ -12,14 +12,13 @@ ghost use Rattle.elf_dynamic.specs.Begun.{ReadsKeys, file_keys, lacks_one};
 ghost use Rattle.elf_dynamic.specs.Faults.{analyse_ending};
 ghost use Rattle.found_files.specs.Analyses.{KeepsAnalyses, has_name};
 ghost use Rattle.found_files.specs.Table.{analysis_at, with_analysis};
-ghost use Rattle.image_tree.specs.declared.node.Id.{Id};
 ghost use Rattle.lib_types.specs.Counts.{raised};
 ghost use Rattle.tree_face.specs.Known.{IfKnown};
 ghost use Rattle.analysed_files.specs.Files.{AreRead, AreRight, unread_key};
 ghost use Rattle.stamped_files.specs.Opened.{ReadsOpened, opened_keys, opens};
 ghost use Rattle.stamped_files.specs.Reading.{IsFoundBy, ReadsOne, key_opened, keys_opened};
 ghost use Rattle.stamped_files.specs.State.{stamps_there, unread_paths};
-ghost use Rattle.stamped_files.specs.Stamped.{AreSame, AreTrue, IfHonest, id_at, stamp_by, stamps_at, with_stamps};
+ghost use Rattle.stamped_files.specs.Stamped.{AreSame, AreTrue, IfHonest, StampTheSame, id_at, stamp_by, stamps_at, with_stamps};
 
 use crate::stamped::{keep, said};
 use aux_cache::{GatheredStamps, Stamps};
@@ -174,8 +173,8 @@ pub fn read_files<S: Store>(
         (λ held. files.new.stamps ≡ with_stamps files.old.stamps (stamps_at held tree.now (unread_paths files.old paths)))) }
     ensures are_true { OnOk result (IfHonest (S.state store.old).held tree.now (stamps_there loaded.now files.old)
         (λ held. AreTrue held tree.now (stamps_there loaded.now files.new))) }
-    ensures stamped { OnOk result (IfKnown (S.state store.old).held (λ held. (id : Id) → is_some (stamp_of (stamps_there loaded.now files.new) id)
-        ≡ is_some (stamp_of (stamps_there loaded.now files.old ++ stamps_at held tree.now (unread_paths files.old paths)) id))) }
+    ensures stamped { OnOk result (IfKnown (S.state store.old).held (λ held. StampTheSame (stamps_there loaded.now files.new)
+        (stamps_there loaded.now files.old ++ stamps_at held tree.now (unread_paths files.old paths)))) }
     ensures begun { OnOk result (IfKnown (S.state store.old).held (λ held. files.new.begun ≡ files.old.begun
         + length (opened_keys held tree.now (stamps_there loaded.now files.old) (unread_paths files.old paths)))) }
     ensures opens { OnOk result (IfKnown (S.state store.old).held (λ held. AreSame held tree.now tree.now → files.new.begun ≡ files.old.begun

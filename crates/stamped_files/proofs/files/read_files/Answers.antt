@@ -4,7 +4,7 @@ use Rattle.elf_dynamic.specs.declared.fault.AnalyseFault.{AnalyseFault}
 use Rattle.elf_dynamic.specs.declared.fault.AnalyseFault.TheVariants.{StoreFault, NoMemory}
 use Rattle.elf_dynamic.specs.Faults.{analyse_ending}
 use Rattle.tree_face.proofs.StoreUse.{IsPartial}
-use Rattle.stamped_files.proofs.ReadOn.{all_begun, all_few, all_most, all_opens, all_reads, all_stamps, most_last, none_lacking, none_read, read_last, read_on}
+use Rattle.stamped_files.proofs.ReadOn.{all_begun, all_few, all_most, all_opens, all_reads, all_stamped, all_stamps, most_last, none_lacking, none_read, read_last, read_on}
 use Rattle.stamped_files.proofs.files.read_files.Goals as goal
 
 is_partial : (fault : AnalyseFault) → IsPartial (analyse_ending {X = Unit {0}} (Err fault))
@@ -70,3 +70,8 @@ pub returns-clause-stamps : goal.returns-clause-stamps
 returns-clause-stamps g c =
     let left : c.loop-path.path-iterator.rest.items ≡ [] = nil_from_length _ (search rules) in
     all_stamps c.args.tree.now c.args.loaded.now _ c.args.paths c.requires.sorted c.args.files.now c.loop-path.files _ _ (rw left at c.loop-path.invariant)
+
+pub returns-clause-stamped : goal.returns-clause-stamped
+returns-clause-stamped g c =
+    let left : c.loop-path.path-iterator.rest.items ≡ [] = nil_from_length _ (search rules) in
+    all_stamped c.args.tree.now c.args.loaded.now _ c.args.paths c.requires.sorted c.args.files.now c.loop-path.files _ _ (rw left at c.loop-path.invariant)
