@@ -10,7 +10,7 @@ from collections import namedtuple
 SYSTEM_DIRS = [b"/lib", b"/usr/lib", b"/lib64", b"/usr/lib64"]
 MOST_LINKS, LONGEST_PATH, LARGEST_CONF, MOST_DEPTH = 40, 4095, 2**20, 16
 
-# A directory, a file with its key and perhaps its identity (inode, ctime, size), or a link with its target.
+# A directory, a file with its key and perhaps its identity (device, inode, ctime, size), or a link with its target.
 Node = namedtuple("Node", "kind text identity", defaults=(b"", None))
 # A file or a link by its name, with the soname and the ABI of its library.
 Library = namedtuple("Library", "name soname abi")
@@ -36,10 +36,11 @@ def components(text):
 
 
 class Image:
-    """The nodes by their paths. The contents by their keys, each with what it is: (ABI, DT_SONAME), or a defect."""
+    """The nodes by their paths. The contents by their keys, each with what it is: (ABI, DT_SONAME), or a defect. Perhaps stamps, which say
+    what a library is by its file's identity."""
 
-    def __init__(self, nodes, contents):
-        self.nodes, self.contents, self.names = nodes, contents, {b"/": set()}
+    def __init__(self, nodes, contents, stamps=None):
+        self.nodes, self.contents, self.stamps, self.names = nodes, contents, stamps or {}, {b"/": set()}
         for path, node in nodes.items():
             if node.kind == "dir":
                 self.names.setdefault(path, set())
@@ -56,6 +57,10 @@ class Image:
 
     def content(self, file):
         return self.contents[self.nodes[file].text]
+
+    def what(self, file):
+        """What a file is: by the stamp of its identity, or else by its content."""
+        return self.stamps.get(self.nodes[file].identity) or self.content(file)[1]
 
     def target(self, path):
         return self.nodes[path].text if self.kind(path) == "link" else None
@@ -93,7 +98,7 @@ class Image:
     def libraries(self, folder, kind):
         """The libraries in a folder: files, or links to them. The soname is DT_SONAME, or the name of the file itself."""
         pairs = [(path, self.file(path)) for path in self.named(folder, kind)]
-        found = [(last(path), last(file), self.content(file)[1]) for path, file in pairs if file]
+        found = [(last(path), last(file), self.what(file)) for path, file in pairs if file]
         return [Library(name, what[1] or own, what[0]) for name, own, what in found if isinstance(what, tuple)]
 
 

@@ -24,7 +24,7 @@ from image_search import LARGEST_CONF, Conf, Image, Node, components, last, pare
 TOP = Path(__file__).resolve().parent.parent
 PROGRAM = Path(os.environ.get("LDCONFIG") or TOP / "crates/ldconfig/out/ldconfig").absolute()
 MANIFEST = TOP / "scripts/manifest"
-CACHE = b"/etc/ld.so.cache"
+CACHE, AUX = b"/etc/ld.so.cache", b"/var/cache/ldconfig/aux-cache"
 KINDS = {stat.S_IFLNK: "a symbolic link", stat.S_IFDIR: "a directory", stat.S_IFREG: "a regular file", stat.S_IFIFO: "a pipe"}
 # So much of a file is copied at once.
 PIECE = 2**20

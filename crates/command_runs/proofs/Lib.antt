@@ -1,9 +1,5 @@
 mod ByCommand
-mod CrashedRun
 mod NotUsage
 mod ReadSlots
-mod RepairedRun
 mod ResolveListed
 mod ResolveRead
-mod Saying
-mod SettledSlots

@@ -15,8 +15,8 @@ use Rattle.tree_face.specs.Known.{IfKnown}
 use Rattle.tree_face.specs.Store.{Contents, StoreState}
 use Rattle.tree_face.specs.StoreUse.{Complete, GaveUp}
 use Rattle.tree_face.specs.Stream.{SinkState}
-use Rattle.command_runs.specs.declared.status.Status.{Status}
-use Rattle.command_runs.specs.declared.status.Status.TheVariants.{Done, Missing, Usage, BadManifest, NoCache, BadCache, NoProgram, BadProgram, TooMany, StoreFault, DiskFault, OutputFault, NoMemory, NoManifest, TooLarge}
+use Rattle.command_status.specs.declared.status.Status.{Status}
+use Rattle.command_status.specs.declared.status.Status.TheVariants.{BadScript, InputFault, TooLong, Done, Missing, Usage, BadManifest, NoCache, BadCache, NoProgram, BadProgram, TooMany, StoreFault, DiskFault, OutputFault, NoMemory, NoManifest, TooLarge}
 use Rattle.command_runs.specs.Resolve.{HasNoProgram, Image, ListedBy, ListsIn, WritesItems, store_ending}
 
 neither : {A B : Type 0} → (A → ⊥) → (B → ⊥) → A ⊎ B → ⊥
@@ -66,6 +66,9 @@ module _ (path : List ℕ) (env : Env) (image : Image) where
     listed (TooMany count) a b writes = absurd writes
     listed StoreFault a b writes = absurd writes
     listed DiskFault a b writes = absurd writes
+    listed (BadScript line kind) a b writes = absurd writes
+    listed InputFault a b writes = absurd writes
+    listed (TooLong taken) a b writes = absurd writes
     listed NoManifest a b writes = absurd writes
     listed (TooLarge nodes bytes) a b writes = absurd writes
 
@@ -84,6 +87,9 @@ module _ (path : List ℕ) (env : Env) (image : Image) where
     listed_reads (TooMany count) a b s t writes reads = absurd writes
     listed_reads StoreFault a b s t writes reads = absurd writes
     listed_reads DiskFault a b s t writes reads = absurd writes
+    listed_reads (BadScript line kind) a b s t writes reads = absurd writes
+    listed_reads InputFault a b s t writes reads = absurd writes
+    listed_reads (TooLong taken) a b s t writes reads = absurd writes
     listed_reads NoManifest a b s t writes reads = absurd writes
     listed_reads (TooLarge nodes bytes) a b s t writes reads = absurd writes
 

@@ -1,6 +1,6 @@
 -- What is read of the slots for a listing.
 use Rattle.std.proofs.Common.{◌≡◌, ℕ, List, [], ◌∷◌, Option, Some, None, Err, inl, inr, sym, subst, ◌∙◌}
-use Rattle.ldconfig_core.specs.Manifest.{HasTree, manifest_of}
+use Rattle.loaded_image.specs.Manifest.{HasTree, manifest_of}
 use Rattle.image_tree.specs.Tree.{Nodes}
 use Rattle.rpath_search.specs.declared.kinds.Env.{Env}
 use Rattle.tree_face.specs.declared.disk.Slot.TheVariants as slots
@@ -12,8 +12,8 @@ use Rattle.tree_face.specs.StoreUse.{Complete, DeviceFailed, GaveUp}
 use Rattle.tree_face.specs.Stream.{SinkState}
 use Rattle.commands.specs.declared.kinds.Resolve.{Resolve}
 use Rattle.command_runs.specs.declared.resolve.ReadImage.{ReadImage}
-use Rattle.command_runs.specs.declared.status.Status.{Status}
-use Rattle.command_runs.specs.declared.status.Status.TheVariants.{Done, Missing, Usage, BadManifest, NoCache, BadCache, NoProgram, BadProgram, TooMany, StoreFault, DiskFault, OutputFault, NoMemory, NoManifest, TooLarge}
+use Rattle.command_status.specs.declared.status.Status.{Status}
+use Rattle.command_status.specs.declared.status.Status.TheVariants.{BadScript, InputFault, TooLong, Done, Missing, Usage, BadManifest, NoCache, BadCache, NoProgram, BadProgram, TooMany, StoreFault, DiskFault, OutputFault, NoMemory, NoManifest, TooLarge}
 use Rattle.command_runs.specs.Print.{IsInSlot, slot_ending}
 use Rattle.command_runs.specs.Resolve.{HoldsSlot, IsCacheOf, IsRead, IsUnreadable, ListedBy, ListsOrRefuses, ResolvedBy, bytes_in, env_of, slots_read}
 use Rattle.command_runs.proofs.ReadSlots.{gave_up, reads_next}
@@ -37,6 +37,9 @@ module _ (disk : Option DiskContent) where
   read_second (TooMany count) a b c is first next = absurd is
   read_second StoreFault a b c is first next = absurd is
   read_second OutputFault a b c is first next = absurd is
+  read_second (BadScript line kind) a b c is first next = absurd is
+  read_second InputFault a b c is first next = absurd is
+  read_second (TooLong taken) a b c is first next = absurd is
   read_second NoManifest a b c is first next = absurd is
   read_second (TooLarge nodes bytes) a b c is first next = absurd is
 
@@ -57,6 +60,9 @@ module _ (path : List ℕ) (env : Env) (tree : Nodes) (bytes : Option (List ℕ)
   by_listing (BadCache d) image held a b listed reads = absurd listed
   by_listing (TooMany count) image held a b listed reads = absurd listed
   by_listing DiskFault image held a b listed reads = absurd listed
+  by_listing (BadScript line kind) image held a b listed reads = absurd listed
+  by_listing InputFault image held a b listed reads = absurd listed
+  by_listing (TooLong taken) image held a b listed reads = absurd listed
   by_listing NoManifest image held a b listed reads = absurd listed
   by_listing (TooLarge nodes size) image held a b listed reads = absurd listed
 

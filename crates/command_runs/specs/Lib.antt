@@ -1,12 +1,4 @@
-pub mod CacheFault
 pub mod Commands
-pub mod Crash
-pub mod Devices
-pub mod FaultLine
 pub mod Lookup
 pub mod Print
-pub mod ProgramFault
 pub mod Resolve
-pub mod Status
-pub mod Update
-pub mod UpdateCommand

@@ -13,11 +13,11 @@ use Rattle.tree_face.specs.Follows.{IsFollowedBy, IsFollowedByPart}
 use Rattle.tree_face.specs.Known.{Relates}
 use Rattle.tree_face.specs.Stream.{SinkState}
 use Rattle.update_report.specs.Lines.{line}
-use Rattle.command_runs.specs.Devices.{Devices}
+use Rattle.update_runs.specs.Devices.{Devices}
 use Rattle.command_runs.specs.Print.{IsInSlot, slot_ending}
-use Rattle.command_runs.specs.Status.{EndsWith}
-use Rattle.command_runs.specs.declared.status.Status.{Status}
-use Rattle.command_runs.specs.declared.status.Status.TheVariants.{Done, Missing, NoCache, BadCache, DiskFault, OutputFault, NoMemory}
+use Rattle.command_status.specs.Status.{EndsWith}
+use Rattle.command_status.specs.declared.status.Status.{Status}
+use Rattle.command_status.specs.declared.status.Status.TheVariants.{Done, Missing, NoCache, BadCache, DiskFault, OutputFault, NoMemory}
 
 -- what is written of the path
 abbrev pub answer_text : Option (List ℕ) → List ℕ

@@ -12,10 +12,10 @@ use Rattle.tree_face.specs.Follows.{IsFollowedBy, IsFollowedByPart}
 use Rattle.tree_face.specs.Known.{IfKnown, Relates}
 use Rattle.tree_face.specs.StoreUse.{Ending, Complete, DeviceFailed, GaveUp}
 use Rattle.tree_face.specs.Stream.{SinkState}
-use Rattle.command_runs.specs.declared.status.Status.{Status}
-use Rattle.command_runs.specs.declared.status.Status.TheVariants.{Done, NoCache, BadCache, DiskFault, OutputFault, NoMemory}
-use Rattle.command_runs.specs.Devices.{Devices}
-use Rattle.command_runs.specs.Status.{EndsWith}
+use Rattle.command_status.specs.declared.status.Status.{Status}
+use Rattle.command_status.specs.declared.status.Status.TheVariants.{Done, NoCache, BadCache, DiskFault, OutputFault, NoMemory}
+use Rattle.update_runs.specs.Devices.{Devices}
+use Rattle.command_status.specs.Status.{EndsWith}
 
 -- the name of the cache on the first line
 abbrev pub cache_name : List ℕ

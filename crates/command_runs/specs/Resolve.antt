@@ -7,7 +7,7 @@ use Rattle.cache_lookup.specs.Scan.{AreDescending}
 use Rattle.cache_reader.specs.Cache.{CachedEntry, defect, read}
 use Rattle.cache_reader.specs.declared.defect.CacheDefect.{CacheDefect}
 use Rattle.commands.specs.declared.kinds.Resolve.{Resolve}
-use Rattle.ldconfig_core.specs.Manifest.{Manifest, Empty, Faulty, HasTree, manifest_of}
+use Rattle.loaded_image.specs.Manifest.{Manifest, Empty, Faulty, HasTree, manifest_of}
 use Rattle.ldd_resolve.specs.Printed.{listing_text}
 use Rattle.ldd_resolve.specs.Resolving.{IsBadProgram, IsListing, ReadsListing, program_at}
 use Rattle.ldd_resolve.specs.declared.kinds.Item.{Item}
@@ -25,12 +25,12 @@ use Rattle.tree_face.specs.StoreUse.{Ending, Complete, DeviceFailed, GaveUp}
 use Rattle.tree_face.specs.Stream.{SinkState}
 use Rattle.image_tree.specs.Tree.{Nodes}
 use Rattle.command_runs.specs.declared.resolve.ReadImage.{ReadImage}
-use Rattle.command_runs.specs.declared.status.Status.{Status}
-use Rattle.command_runs.specs.declared.status.Status.TheVariants.{Done, Missing, BadManifest, BadCache, NoProgram, BadProgram, StoreFault, DiskFault, OutputFault, NoMemory, NoManifest}
-use Rattle.command_runs.specs.Devices.{Devices}
+use Rattle.command_status.specs.declared.status.Status.{Status}
+use Rattle.command_status.specs.declared.status.Status.TheVariants.{Done, Missing, BadManifest, BadCache, NoProgram, BadProgram, StoreFault, DiskFault, OutputFault, NoMemory, NoManifest}
+use Rattle.update_runs.specs.Devices.{Devices}
 use Rattle.command_runs.specs.Lookup.{HasFault, IsRefused}
 use Rattle.command_runs.specs.Print.{slot_ending}
-use Rattle.command_runs.specs.Status.{EndsWith}
+use Rattle.command_status.specs.Status.{EndsWith}
 
 -- ---- the image
 

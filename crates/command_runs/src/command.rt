@@ -2,66 +2,22 @@
 ghost use Rattle.std.specs.Prelude.{◌≡◌};
 ghost use Rattle.tree_face.specs.Store.{StoreState};
 ghost use Rattle.command_runs.specs.Commands.{RunsCommand};
-ghost use Rattle.command_runs.specs.Devices.{devices};
+ghost use Rattle.update_runs.specs.Devices.{devices};
 ghost use Rattle.command_runs.specs.Lookup.{LookupRun};
 ghost use Rattle.command_runs.specs.Print.{PrintRun};
 ghost use Rattle.command_runs.specs.Resolve.{ResolveRun};
-ghost use Rattle.command_runs.specs.Status.{EndsWith};
-ghost use Rattle.command_runs.specs.Update.{LoadsAndUpdates};
-ghost use Rattle.command_runs.specs.UpdateCommand.{UpdateRun};
+ghost use Rattle.command_status.specs.Status.{EndsWith};
 ghost use Rattle.tree_face.specs.Stream.{SourceState};
 
-use crate::fault_line::put_line;
 use crate::lookup::look_up;
 use crate::print::print;
 use crate::resolve::resolve;
-use crate::status::Status;
+use command_status::{Status, put_fault_line};
 use commands::{Command, Lookup, Resolve};
-use ldconfig_core::Session;
+use script_runs::run_batch;
 use std::alloc::Global;
-use tree_face::{Disk, Sink, Source, Store, Tag, put_all};
-
-// One update, which writes its report but no fault line.
-fn update<S: Store, D: Disk, O: Sink>(
-    alloc: Global,
-    store: &mut S,
-    disk: &mut D,
-    out: &mut O,
-    tag: Tag,
-) -> Status
-    ensures { LoadsAndUpdates tag result (S.state store.old) (S.state store.new) (D.state disk.old) (D.state disk.new) (O.state out.old) (O.state out.new) }
-{
-    let session = match Session::load(alloc, disk) {
-        Ok(session) => session,
-        Err(fault) => return Status::from(fault),
-    };
-    let report = match ldconfig_core::update(alloc, session, store, disk, tag) {
-        Ok((_, report)) => report,
-        Err(fault) => return Status::from(fault),
-    };
-    if put_all(out, report.text.as_bytes()).is_err() {
-        return Status::OutputFault;
-    }
-    Status::Done
-}
-
-// The command `update`. The state of the input is any, since nothing is read from it.
-fn run_update<S: Store, D: Disk, O: Sink>(
-    alloc: Global,
-    store: &mut S,
-    disk: &mut D,
-    out: &mut O,
-    tag: Tag,
-) -> Status
-    ensures { (input : SourceState) → UpdateRun tag
-        (devices (S.state store.old) (D.state disk.old) input (O.state out.old))
-        (devices (S.state store.new) (D.state disk.new) input (O.state out.new))
-        result }
-{
-    let status = update(alloc, store, disk, out, tag);
-    put_fault_line(out, status);
-    status
-}
+use tree_face::{Disk, Sink, Source, Store};
+use update_runs::run_update;
 
 // The command `print`. The states of the store and the input are any, since nothing is read from them.
 fn run_print<D: Disk, O: Sink>(alloc: Global, disk: &mut D, out: &mut O) -> Status
@@ -105,15 +61,6 @@ fn run_resolve<S: Store, D: Disk, O: Sink>(
     status
 }
 
-// Writes the fault line of a status that has one.
-fn put_fault_line<O: Sink>(out: &mut O, status: Status)
-    ensures { EndsWith status (O.state out.old) (O.state out.new) }
-{
-    if let Some(line) = status.fault_line() {
-        let _ = put_line(out, &line);
-    }
-}
-
 /// Writes the fault line of arguments that are those of no command, and returns that status.
 pub fn refuse_arguments<O: Sink>(out: &mut O) -> Status
     ensures status { result ≡ Status.Usage }
@@ -126,10 +73,11 @@ pub fn refuse_arguments<O: Sink>(out: &mut O) -> Status
 /// Runs a command.
 ///
 /// `update` plans the links of the libraries of the manifest's tree, puts them into the Manifest slot, the cache of the entries into
-/// the Cache slot, and writes a report.
+/// the Cache slot and the stamps of the libraries into the Aux slot, and writes a report. `batch` takes a script of edits of the tree and
+/// of updates from the input.
 /// `print` writes the entries of the cache as text, and `lookup` the path that the loader takes from it for a name. `resolve` lists the
 /// libraries that a program of the manifest's tree loads. Every other status than Done and Missing but OutputFault and NoMemory writes
-/// its fault line. Nothing is read from the input.
+/// its fault line. Only `batch` reads the input.
 pub fn run_command<S: Store, D: Disk, I: Source, O: Sink>(
     alloc: Global,
     command: Command,
@@ -145,6 +93,7 @@ pub fn run_command<S: Store, D: Disk, I: Source, O: Sink>(
 {
     match command {
         Command::Update { tag } => run_update(alloc, store, disk, out, tag),
+        Command::Batch { tag } => run_batch(alloc, store, disk, input, out, tag),
         Command::Print => run_print(alloc, disk, out),
         Command::Lookup(lookup) => run_lookup(alloc, disk, out, &lookup),
         Command::Resolve(asked) => run_resolve(alloc, store, disk, out, asked),

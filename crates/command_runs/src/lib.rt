@@ -2,11 +2,9 @@
 #![tactic(auto)]
 
 mod command;
-mod fault_line;
 mod lookup;
 mod print;
 mod resolve;
-mod status;
 
 pub use command::{refuse_arguments, run_command};
-pub use status::Status;
+pub use command_status::Status;

@@ -10,9 +10,9 @@ ghost use Rattle.command_runs.specs.Lookup.{AnsweredBy, AnswersBytes, IsAnswer, 
 ghost use Rattle.command_runs.specs.Print.{slot_ending};
 
 use crate::print::read_cache;
-use crate::status::Status;
 use cache_lookup::{Counted, Sorted, sorted};
 use cache_reader::{CacheDefect, CacheView};
+use command_status::Status;
 use commands::Lookup;
 use lib_types::Failed;
 use std::alloc::Global;

@@ -4,8 +4,8 @@ ghost use Rattle.tree_face.specs.DiskUse.{ReadsOnly};
 ghost use Rattle.tree_face.specs.declared.disk.Slot.TheVariants as slots;
 ghost use Rattle.command_runs.specs.Print.{IsRead, PrintedBy, PrintsBytes, cache_name, slot_ending, read_ending};
 
-use crate::status::Status;
 use cache_reader::CacheView;
+use command_status::Status;
 use std::alloc::Global;
 use tree_face::{Disk, DiskRead, Sink, Slot};
 

@@ -1,19 +1,19 @@
 //! The command `resolve`.
 ghost use Rattle.std.specs.Prelude.{◌≡◌, ◌∷◌, [], Some, None};
 ghost use Rattle.std.specs.Option.{option_copied};
-ghost use Rattle.ldconfig_core.specs.Manifest.{manifest_of};
+ghost use Rattle.loaded_image.specs.Manifest.{manifest_of};
 ghost use Rattle.tree_face.specs.DiskUse.{ReadsOnly};
 ghost use Rattle.tree_face.specs.declared.disk.Slot.TheVariants as slots;
 ghost use Rattle.command_runs.specs.Print.{slot_ending};
 ghost use Rattle.command_runs.specs.Resolve.{AreRead, HoldsSlot, IsTree, IsTreeOf, ListsIn, ListsOrRefuses, ResolvedBy, WritesItems, bytes_in, ending_by, env_of, is_whole, slots_by, slots_read};
 
 use crate::lookup::sorted_cache;
-use crate::status::Status;
 use cache_lookup::Sorted;
+use command_status::Status;
 use commands::Resolve;
-use ldconfig_core::LoadFault;
 use ldd_resolve::{Listing, listing_text};
 use lib_types::{Abi, Text};
+use loaded_image::LoadFault;
 use rpath_search::Env;
 use std::alloc::Global;
 use tree_face::{Disk, DiskRead, Sink, Slot, Store, Tree, put_all};

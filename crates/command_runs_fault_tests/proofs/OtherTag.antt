@@ -5,12 +5,12 @@ use Rattle.tree_face.specs.declared.disk.Tag.{Tag}
 use Rattle.tree_face.specs.Disk.{DiskState}
 use Rattle.tree_face.specs.Store.{StoreState}
 use Rattle.tree_face.specs.Stream.{SinkState}
-use Rattle.ldconfig_core.specs.declared.fault.LoadFault.{LoadFault}
-use Rattle.ldconfig_core.specs.Session.{Loaded, Loads}
-use Rattle.command_runs.specs.declared.status.Status.{Status}
-use Rattle.command_runs.specs.Devices.{Devices}
-use Rattle.command_runs.specs.Update.{AfterLoad, LoadsAndUpdates}
-use Rattle.command_runs.specs.UpdateCommand.{UpdateRun}
+use Rattle.loaded_image.specs.declared.fault.LoadFault.{LoadFault}
+use Rattle.loaded_image.specs.Session.{Loaded, Loads}
+use Rattle.command_status.specs.declared.status.Status.{Status}
+use Rattle.update_runs.specs.Devices.{Devices}
+use Rattle.update_runs.specs.Update.{AfterLoad, LoadsAndUpdates}
+use Rattle.update_runs.specs.UpdateCommand.{UpdateRun}
 
 -- the tag of an update
 abbrev own : Tag

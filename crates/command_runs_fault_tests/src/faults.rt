@@ -1,18 +1,16 @@
 //! Devices that fail, each at each of its calls.
-ghost use Rattle.tree_face.specs.SureStream.{failing_sink_state};
-
 use command_runs::{Status, run_command};
 use command_runs_fixture::{
-    Devices, Held, LIBZ_MANIFEST, LIBZ_REPORT, OLD, ONE_CACHE, Setting, Wanted, all, done, has,
-    image, is_left, make_devices, number, refused, replacing_calls, run_update,
+    Devices, Held, LIBZ_MANIFEST, LIBZ_REPORT, NO_STAMPS, NarrowSink, OLD, ONE_CACHE, Setting,
+    Wanted, all, done, has, image, is_left, make_devices, refused, replacing_calls, run_update,
 };
 use commands::Command;
-use lib_types::{Failed, NoMemory};
+use lib_types::NoMemory;
 use mtree_manifest::{LineKind, ManifestFault};
 use std::alloc::Global;
 use std::process::Abort;
 use std::test::Fail;
-use tree_face::{Disk, MemSink, Sink, Slot, Tag};
+use tree_face::{Disk, Slot, Tag};
 
 // Runs an update, compares all that it leaves, and returns how many files it begins.
 fn assert_update(
@@ -133,8 +131,8 @@ const LIBZ: Update<'_> = Update {
     before: LIBZ_MANIFEST,
     manifest: LIBZ_MANIFEST,
     cache: ONE_CACHE,
-    slots: &[Slot::Cache],
-    calls: 5,
+    slots: &[Slot::Cache, Slot::Aux],
+    calls: 10,
     held: &[Held::Library("usr/lib/libz.so.1", "libz.so.1")],
 };
 
@@ -142,12 +140,15 @@ const LINKED: Update<'_> = Update {
     before: LINKED_MANIFEST,
     manifest: LINKED_AFTER,
     cache: LINKED_CACHE,
-    slots: &[Slot::Manifest, Slot::Cache],
-    calls: 10,
+    slots: &[Slot::Manifest, Slot::Cache, Slot::Aux],
+    calls: 15,
     held: LINKED_HELD,
 };
 
 const UPDATES: &[Update<'_>] = &[LIBZ, LINKED];
+
+// How many calls of the disk read slots, before any writes one.
+const READS: u64 = 2;
 
 fn devices_of(
     alloc: Global,
@@ -161,19 +162,19 @@ fn devices_of(
     Ok(make_devices(alloc, setting, all(alloc, update.held)?)?)
 }
 
-// Whether the slot has an old content or a new one, if its publishing is one call and another fails. A publishing that fails
-// leaves the old content or the new one.
+// Whether the slot has an old content or a new one, None being none, if its publishing is one call and another fails. A publishing that
+// fails leaves the old content or the new one.
 fn is_old_or_new(
     alloc: Global,
     devices: &mut Devices,
     slot: Slot,
-    contents: (&[u8], &[u8]),
+    contents: (Option<&[u8]>, &[u8]),
     publishing: u64,
     failing: u64,
 ) -> bool {
     let (old, new) = contents;
     let disk = &mut devices.disk;
-    (failing <= publishing && has(alloc, disk, slot, Some(old)))
+    (failing <= publishing && has(alloc, disk, slot, old))
         || (failing >= publishing && has(alloc, disk, slot, Some(new)))
 }
 
@@ -189,15 +190,22 @@ fn are_first(
     Ok(devices.disk.calls() == calls.as_slice())
 }
 
-// Whether an update whose disk failed at a call has left what it may leave. The disk's call 0 reads the manifest, and then five
-// calls replace each slot, the fourth of them by publishing.
+// Whether an update whose disk failed at a call has left what it may leave. The disk's calls 0 and 1 read the manifest and the auxiliary
+// cache, and then five calls replace each slot, the fourth of them by publishing; the last but one publishes the auxiliary cache.
 fn is_cut_short(alloc: Global, update: &Update<'_>, devices: &mut Devices, call: u64) -> bool {
-    let manifests = (update.before, update.manifest);
-    let caches = (OLD, update.cache);
-    let publishing = update.calls.saturating_sub(1);
-    is_old_or_new(alloc, devices, Slot::Manifest, manifests, 4, call)
-        && is_old_or_new(alloc, devices, Slot::Cache, caches, publishing, call)
-        && has(alloc, &mut devices.disk, Slot::Aux, None)
+    let manifests = (Some(update.before), update.manifest);
+    let caches = (Some(OLD), update.cache);
+    let last = update.calls;
+    is_old_or_new(alloc, devices, Slot::Manifest, manifests, 5, call)
+        && is_old_or_new(
+            alloc,
+            devices,
+            Slot::Cache,
+            caches,
+            last.saturating_sub(5),
+            call,
+        )
+        && is_old_or_new(alloc, devices, Slot::Aux, (None, NO_STAMPS), last, call)
 }
 
 fn assert_disk_fault(
@@ -213,7 +221,7 @@ fn assert_disk_fault(
         devices.out.written() == b"fault: DiskFault\n".as_slice(),
         "call {call}"
     );
-    let made = call.saturating_sub(1);
+    let made = call.saturating_sub(READS);
     assert!(rt; are_first(alloc, update, devices, made)?, "call {call}");
     assert!(rt; is_cut_short(alloc, update, devices, call), "call {call}");
     Ok(())
@@ -234,7 +242,7 @@ fn assert_fails(
 #[test]
 fn the_disk_fails(rt: HostRuntime) -> Result<(), Fail> {
     for update in UPDATES {
-        for call in 0..=update.calls {
+        for call in 0..READS.saturating_add(update.calls) {
             assert_fails(&rt, rt.alloc(), update, call)?;
         }
     }
@@ -258,7 +266,7 @@ fn assert_stops(
     assert!(rt; !is_readable(alloc, &mut devices), "after {calls}");
     // the disk goes on
     devices.disk.stop_after(99);
-    let failing = calls.saturating_add(1);
+    let failing = calls.saturating_add(READS);
     assert_disk_fault(rt, alloc, update, status, &mut devices, failing)?;
     assert_mended(rt, alloc, update, &mut devices)
 }
@@ -275,6 +283,7 @@ fn assert_mended(
     let disk = &mut devices.disk;
     assert!(rt; has(alloc, disk, Slot::Manifest, Some(update.manifest)));
     assert!(rt; has(alloc, disk, Slot::Cache, Some(update.cache)));
+    assert!(rt; has(alloc, disk, Slot::Aux, Some(NO_STAMPS)));
     Ok(())
 }
 
@@ -332,21 +341,6 @@ fn the_sink_fails(rt: HostRuntime) -> Result<(), Fail> {
     Ok(())
 }
 
-/// A sink that takes at most seven bytes at a call.
-#[derive(Drop)]
-struct NarrowSink {
-    sink: MemSink,
-}
-
-impl Sink for NarrowSink {
-    ghost state = { λ s. failing_sink_state s.sink };
-
-    fn write(&mut self, bytes: &[u8]) -> Result<usize, Failed> {
-        let count = bytes.len().min(7);
-        self.sink.write(&bytes[..count])
-    }
-}
-
 // The call that fails, the status, and what was written before.
 const WRITTEN: &[(u64, Status, &[u8])] = &[
     (9, Status::Done, LIBZ_REPORT),
@@ -354,12 +348,6 @@ const WRITTEN: &[(u64, Status, &[u8])] = &[
     (1, Status::OutputFault, b"1 libs,"),
     (0, Status::OutputFault, b""),
 ];
-
-fn narrow_sink(alloc: Global, call: u64) -> Result<NarrowSink, NoMemory> {
-    Ok(NarrowSink {
-        sink: MemSink::new(alloc, number(alloc, Some(call))?),
-    })
-}
 
 // Runs an update that writes to this sink.
 fn update_into(alloc: Global, devices: &mut Devices, out: &mut NarrowSink) -> Status {
@@ -378,10 +366,10 @@ fn a_sink_takes_parts(rt: HostRuntime) -> Result<(), Fail> {
     let alloc = rt.alloc();
     for (call, want, written) in WRITTEN {
         let mut devices = devices_of(alloc, &LIBZ, None)?;
-        let mut out = narrow_sink(alloc, *call)?;
+        let mut out = NarrowSink::new(alloc, *call)?;
         let status = update_into(alloc, &mut devices, &mut out);
         assert!(rt; status == *want, "call {call}");
-        assert!(rt; out.sink.written() == *written, "call {call}");
+        assert!(rt; out.written() == *written, "call {call}");
         assert!(rt;
             has(alloc, &mut devices.disk, Slot::Cache, Some(ONE_CACHE)),
             "call {call}"

@@ -1,6 +1,7 @@
 //! Devices in memory for one run of the command, and what they have to hold after it.
-ghost use Rattle.std.specs.Prelude.{◌≡◌, ◌∷◌, [], Some, None, IfOk, IfSome, option_map, option_copied};
+ghost use Rattle.std.specs.Prelude.{◌≡◌, ◌∷◌, [], Some, None, IfOk, IfSome, IsSomeAnd, option_map, option_copied};
 
+use crate::samples::NO_STAMPS;
 use command_runs::{Status, run_command};
 use commands::Command;
 use lib_types::{NoMemory, Text};
@@ -19,16 +20,17 @@ pub const LIBZ_REPORT: &[u8] = b"1 libs, 0 links, 1 files opened\n";
 /// What a store holds: keys and contents.
 pub type Pairs = Vec<(Text, Text)>;
 
-/// A manifest, and for each device the number of the call that fails.
+/// What the Manifest slot and the Aux slot hold, and for each device the number of the call that fails.
 #[derive(Clone, Copy)]
 pub struct Setting<'a> {
     pub manifest: Option<&'a [u8]>,
+    pub aux: Option<&'a [u8]>,
     pub store_fails: Option<u64>,
     pub disk_fails: Option<u64>,
     pub out_fails: Option<u64>,
 }
 
-/// What a run has to leave. It never writes the Aux slot.
+/// What a run has to leave.
 #[derive(Clone, Copy)]
 pub struct Wanted<'a> {
     pub status: Status,
@@ -36,6 +38,8 @@ pub struct Wanted<'a> {
     /// The new manifest, if one is written.
     pub manifest: Option<&'a [u8]>,
     pub cache: &'a [u8],
+    /// The new auxiliary cache, if one is written.
+    pub aux: Option<&'a [u8]>,
 }
 
 #[derive(Drop)]
@@ -46,28 +50,31 @@ pub struct Devices {
     pub out: MemSink,
 }
 
-/// A run with this manifest, in which no device fails.
+/// A run with this manifest and an empty Aux slot, in which no device fails.
 pub fn image(manifest: &[u8]) -> Setting<'_> {
     Setting {
         manifest: Some(manifest),
+        aux: None,
         store_fails: None,
         disk_fails: None,
         out_fails: None,
     }
 }
 
-/// What a run that is done leaves, if no links are planned.
+/// What a run that is done leaves, if no links are planned and no file has an identity.
 pub fn done<'a>(written: &'a [u8], cache: &'a [u8]) -> Wanted<'a>
     ensures status { result.status ≡ Status.Done }
     ensures written { result.written.now ≡ written.entry.now }
     ensures manifest { result.manifest ≡ None }
     ensures cache { result.cache.now ≡ cache.entry.now }
+    ensures aux { IsSomeAnd result.aux (λ aux. aux.now ≡ NO_STAMPS.now) }
 {
     Wanted {
         status: Status::Done,
         written,
         manifest: None,
         cache,
+        aux: Some(NO_STAMPS),
     }
 }
 
@@ -77,12 +84,14 @@ pub fn refused(status: Status, written: &[u8]) -> Wanted<'_>
     ensures written { result.written.now ≡ written.entry.now }
     ensures manifest { result.manifest ≡ None }
     ensures cache { result.cache.now ≡ OLD.now }
+    ensures aux { result.aux ≡ None }
 {
     Wanted {
         status,
         written,
         manifest: None,
         cache: OLD,
+        aux: None,
     }
 }
 
@@ -120,7 +129,7 @@ pub fn make_devices(alloc: Global, setting: Setting<'_>, held: Pairs) -> Result<
             alloc,
             copy(alloc, setting.manifest)?,
             copy(alloc, Some(OLD))?,
-            None,
+            copy(alloc, setting.aux)?,
             number(alloc, setting.disk_fails)?,
         ),
         input: MemSource::new(Vec::new(alloc), Vec::new(alloc)),
@@ -133,6 +142,18 @@ pub fn run_update(alloc: Global, devices: &mut Devices) -> Status {
     run_command(
         alloc,
         Command::Update { tag: Tag(0) },
+        &mut devices.store,
+        &mut devices.disk,
+        &mut devices.input,
+        &mut devices.out,
+    )
+}
+
+/// Takes the script that is the input, by way of the temporary files of the tag 0.
+pub fn run_script(alloc: Global, devices: &mut Devices) -> Status {
+    run_command(
+        alloc,
+        Command::Batch { tag: Tag(0) },
         &mut devices.store,
         &mut devices.disk,
         &mut devices.input,
@@ -166,7 +187,12 @@ pub fn is_left(
             want.manifest.or(setting.manifest),
         )
         && has(alloc, &mut devices.disk, Slot::Cache, Some(want.cache))
-        && has(alloc, &mut devices.disk, Slot::Aux, None)
+        && has(
+            alloc,
+            &mut devices.disk,
+            Slot::Aux,
+            want.aux.or(setting.aux),
+        )
 }
 
 /// The calls that replace these slots, one slot after another.

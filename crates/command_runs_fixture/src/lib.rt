@@ -5,11 +5,13 @@
 
 mod devices;
 mod libraries;
+mod narrow_sink;
 mod samples;
 
 pub use devices::{
     Devices, LIBZ_KEY, LIBZ_MANIFEST, LIBZ_REPORT, OLD, Pairs, Setting, Wanted, copy, done, has,
-    image, is_left, make_devices, number, one, refused, replacing_calls, run_update,
+    image, is_left, make_devices, number, one, refused, replacing_calls, run_script, run_update,
 };
 pub use libraries::{Held, all, library, libz, libz_held, nameless};
-pub use samples::{EMPTY_CACHE, ONE_CACHE, THREE_CACHE};
+pub use narrow_sink::NarrowSink;
+pub use samples::{EMPTY_CACHE, NO_STAMPS, ONE_CACHE, THREE_CACHE};

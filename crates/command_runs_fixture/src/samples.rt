@@ -1,4 +1,5 @@
-//! Caches that several tests speak of, byte by byte as glibc's dl-cache.h lays them out.
+//! Caches that several tests speak of, byte by byte as glibc's dl-cache.h lays them out, and auxiliary caches, as docs/FORMATS.md lays
+//! them out.
 
 /// A cache of no entries: 114 bytes.
 pub const EMPTY_CACHE: &[u8] = b"\
@@ -34,3 +35,6 @@ pub const THREE_CACHE: &[u8] = b"\
     \x00\x00\x00\
     \x74\x21\xa4\xea\x01\x00\x00\x00\x00\x00\x00\x00\x00\x00\x00\x00\xf8\x00\x00\x00\x2a\x00\x00\x00\
     ldconfig (image profile) release version 1";
+
+/// An auxiliary cache without stamps: 33 bytes.
+pub const NO_STAMPS: &[u8] = b"glibc-ld.so.auxcache-1.0\x00\x00\x00\x00\x01\x00\x00\x00\0";

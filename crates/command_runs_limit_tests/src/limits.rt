@@ -1,11 +1,14 @@
 //! As many entries, nodes and bytes as there may be, and one more.
 use command_runs::Status;
-use command_runs_fixture::{Devices, Held, OLD, all, has, image, make_devices, run_update};
+use command_runs_fixture::{
+    Devices, EMPTY_CACHE, Held, OLD, all, has, image, make_devices, run_script, run_update,
+};
+use lib_types::Failed;
 use mtree_manifest::TEXT_MAX;
 use std::alloc::Global;
 use std::process::Abort;
 use std::test::Fail;
-use tree_face::{Disk, Slot};
+use tree_face::{Disk, MemSource, Slot, Source};
 
 const MOST_ENTRIES: usize = 131072;
 
@@ -53,6 +56,7 @@ fn assert_refused(
     let disk = &mut devices.disk;
     assert!(rt; has(alloc, disk, Slot::Manifest, Some(manifest)));
     assert!(rt; has(alloc, disk, Slot::Cache, Some(OLD)));
+    assert!(rt; has(alloc, disk, Slot::Aux, None));
     Ok(())
 }
 
@@ -161,4 +165,46 @@ fn bytes_of_a_manifest(rt: HostRuntime) -> Result<(), Fail> {
         bytes: 67108865,
     };
     assert_refused(&rt, alloc, &more, &held, want, "fault: TooLarge\n")
+}
+
+// A comment of 64 bytes with its newline.
+const COMMENT: &[u8] = b"# a comment of a script, which asks for nothing, and is ignored\n";
+
+// A script of 2^26 bytes that has one update, and so many bytes more.
+fn script_of(alloc: Global, more: usize) -> Result<Vec<u8>, Fail> {
+    let mut text = Vec::new(alloc);
+    for _ in 1..1 << 20 {
+        text.extend_from_slice(COMMENT)?;
+    }
+    text.extend_from_slice(b"update\n")?;
+    for _ in 0..57usize.saturating_add(more) {
+        text.push(b'#')?;
+    }
+    Ok(text)
+}
+
+// How many bytes the source has left, of at most eight.
+fn left_in(devices: &mut Devices) -> Result<usize, Failed> {
+    devices.input.read(&mut [0; 8])
+}
+
+#[test]
+fn bytes_of_a_script(rt: HostRuntime) -> Result<(), Fail> {
+    let alloc = rt.alloc();
+    let manifest = b"#mtree\n";
+    let mut devices = make_devices(alloc, image(manifest), Vec::new(alloc))?;
+    devices.input = MemSource::new(script_of(alloc, 0)?, Vec::new(alloc));
+    assert!(rt; run_script(alloc, &mut devices) == Status::Done);
+    assert!(rt; devices.out.written() == b"0 libs, 0 links, 0 files opened\n".as_slice());
+    assert!(rt; has(alloc, &mut devices.disk, Slot::Cache, Some(EMPTY_CACHE)));
+    // one byte more than a script may have is taken of those that there are, and nothing is done
+    let mut devices = make_devices(alloc, image(manifest), Vec::new(alloc))?;
+    devices.input = MemSource::new(script_of(alloc, 3)?, Vec::new(alloc));
+    let want = Status::TooLong { taken: 67108865 };
+    assert!(rt; run_script(alloc, &mut devices) == want);
+    assert!(rt; left_in(&mut devices)? == 2);
+    assert!(rt; devices.out.written() == b"fault: TooLong\n".as_slice());
+    assert!(rt; devices.disk.reads().is_empty());
+    assert!(rt; has(alloc, &mut devices.disk, Slot::Cache, Some(OLD)));
+    Ok(())
 }

@@ -4,13 +4,14 @@ use Rattle.std.specs.Str.{bytes_eq}
 use Rattle.clap.specs.declared.builder.action.ArgAction.TheVariants.{SetTrue}
 use Rattle.clap.specs.Words.{App, Rule, new_app, new_rule, with_rule}
 use Rattle.command_words.specs.declared.verb.Verb.{Verb}
-use Rattle.command_words.specs.declared.verb.Verb.TheVariants.{Update, Print, Lookup, Resolve}
+use Rattle.command_words.specs.declared.verb.Verb.TheVariants.{Update, Batch, Print, Lookup, Resolve}
 
 -- ---- the first argument
 
 abbrev pub verb_of : List ℕ → Option Verb
 verb_of word =
     if bytes_eq word (codes "update") then Some Update
+    else if bytes_eq word (codes "batch") then Some Batch
     else if bytes_eq word (codes "print") || bytes_eq word (codes "-p") then Some Print
     else if bytes_eq word (codes "lookup") then Some Lookup
     else if bytes_eq word (codes "resolve") then Some Resolve
@@ -41,13 +42,18 @@ without_requests =
     let empty = new_app (codes "ldconfig") in
     record empty { top = record empty.top { disable_help_flag = true; disable_version_flag = true } }
 
+-- what may be given the number of its temporary files
+abbrev pub tagged : App
+tagged = with_rule without_requests (option_rule (codes "tag"))
+
 -- a program for processors with some hwcaps names
 abbrev pub searched : App
 searched = with_rule (with_rule without_requests (word_rule (codes "PATH"))) (option_rule (codes "caps"))
 
 -- the options of a command, and the arguments that it needs
 unfoldable pub app : Verb → App
-app Update = with_rule without_requests (option_rule (codes "tag"))
+app Update = tagged
+app Batch = tagged
 app Print = without_requests
 app Lookup = with_rule (with_rule (with_rule without_requests (word_rule (codes "NAME"))) (option_rule (codes "abi"))) (option_rule (codes "caps"))
 app Resolve = with_rule (with_rule (with_rule searched (option_rule (codes "library-path"))) (option_rule (codes "platform"))) (flag_rule (codes "secure"))

@@ -12,6 +12,7 @@ use Rattle.commands.specs.declared.kinds.Command.{Command}
 use Rattle.commands.specs.declared.kinds.Command.TheVariants as commands
 use Rattle.commands.specs.declared.kinds.Lookup.{Lookup}
 use Rattle.commands.specs.declared.kinds.Resolve.{Resolve}
+use Rattle.tree_face.specs.declared.disk.Tag.{Tag}
 use Rattle.command_words.specs.declared.verb.Verb.{Verb}
 use Rattle.command_words.specs.declared.verb.Verb.TheVariants as verbs
 
@@ -23,8 +24,9 @@ value_by id other found =
     let text = unwrap_or (first_of id found) other in
     if is_value text then Some text else None
 
-abbrev pub tag_by : List Row → Option ℕ
-tag_by found = option_and_then number_in (value_by (codes "tag") (codes "0") found)
+-- the number of the temporary files
+abbrev pub tag_by : List Row → Option Tag
+tag_by found = option_map (λ number. record { 0 = number }) (option_and_then number_in (value_by (codes "tag") (codes "0") found))
 
 abbrev pub abi_by : List Row → Option Abi
 abi_by found = option_and_then abi_of_word (value_by (codes "abi") (codes "x86-64") found)
@@ -47,7 +49,8 @@ resolve_by found = option_and_then (λ path. option_and_then (λ caps. option_an
 
 -- the command with these values, if they are values
 abbrev pub command_by : Verb → List Row → Option Command
-command_by verbs.Update found = option_map (λ tag. commands.Update (record { 0 = tag })) (tag_by found)
+command_by verbs.Update found = option_map commands.Update (tag_by found)
+command_by verbs.Batch found = option_map commands.Batch (tag_by found)
 command_by verbs.Print found = Some commands.Print
 command_by verbs.Lookup found = option_map commands.Lookup (lookup_by found)
 command_by verbs.Resolve found = option_map commands.Resolve (resolve_by found)

@@ -1,7 +1,7 @@
 //! The arguments of each command, as `clap` reads them.
 ghost use Rattle.std.specs.Prelude.{◌≡◌, false, IfOk};
 ghost use Rattle.clap.specs.Words.{app_of, rule_of, with_rule};
-ghost use Rattle.command_words.specs.Language.{app, flag_rule, option_rule, searched, without_requests, word_rule};
+ghost use Rattle.command_words.specs.Language.{app, flag_rule, option_rule, searched, tagged, without_requests, word_rule};
 
 use crate::verb::Verb;
 use clap::{Arg, ArgAction, Command};
@@ -48,9 +48,9 @@ fn with<'a>(command: Command<'a>, arg: Arg<'a>) -> Result<Command<'a>, AllocErro
     command.arg(arg)
 }
 
-#[tactic(auto, unfolding(crate::specs::Language::app))]
-fn update<'a>(alloc: Global) -> Result<Command<'a>, AllocError>
-    ensures { IfOk result (λ c. app_of c ≡ app Verb.Update) }
+// What may be given the number of its temporary files.
+fn tagged<'a>(alloc: Global) -> Result<Command<'a>, AllocError>
+    ensures { IfOk result (λ c. app_of c ≡ tagged) }
 {
     with(bare(alloc), option(alloc, "tag"))
 }
@@ -87,7 +87,7 @@ pub(crate) fn arguments_of<'a>(alloc: Global, verb: Verb) -> Result<Command<'a>,
     ensures { IfOk result (λ c. app_of c ≡ app verb) }
 {
     match verb {
-        Verb::Update => update(alloc),
+        Verb::Update | Verb::Batch => tagged(alloc),
         Verb::Print => Ok(bare(alloc)),
         Verb::Lookup => lookup(alloc),
         Verb::Resolve => resolve(alloc),

@@ -54,10 +54,14 @@ fn value_by<'a>(found: &ArgMatches<'a>, id: &str, other: &'a str) -> Option<&'a 
     if is_value(text) { Some(text) } else { None }
 }
 
-fn tag_by(found: &ArgMatches<'_>) -> Option<u16>
-    ensures { result ≡ tag_by (rows_of (found_of found.now)) }
+// The number of the temporary files.
+fn tag_by(found: &ArgMatches<'_>) -> Result<Tag, WordsFault>
+    ensures { Gives (tag_by (rows_of (found_of found.now))) result }
 {
-    number(value_by(found, "tag", "0")?)
+    match value_by(found, "tag", "0").and_then(number) {
+        Some(tag) => Ok(Tag(tag)),
+        None => Err(WordsFault::Usage),
+    }
 }
 
 fn abi_by(found: &ArgMatches<'_>) -> Option<Abi>
@@ -130,10 +134,8 @@ fn command_by(alloc: Global, verb: Verb, found: &ArgMatches<'_>) -> Result<Comma
     ensures { Gives (command_by verb (rows_of (found_of found.now))) result }
 {
     match verb {
-        Verb::Update => match tag_by(found) {
-            Some(tag) => Ok(Command::Update { tag: Tag(tag) }),
-            None => Err(WordsFault::Usage),
-        },
+        Verb::Update => tag_by(found).map(|tag| Command::Update { tag }),
+        Verb::Batch => tag_by(found).map(|tag| Command::Batch { tag }),
         Verb::Print => Ok(Command::Print),
         Verb::Lookup => Ok(Command::Lookup(lookup_by(alloc, found)?)),
         Verb::Resolve => Ok(Command::Resolve(resolve_by(alloc, found)?)),

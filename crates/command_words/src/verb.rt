@@ -8,6 +8,7 @@ ghost use Rattle.command_words.specs.Language.{verb_in, verb_of};
 #[derive(Clone, Copy, Debug, PartialEq, Eq)]
 pub(crate) enum Verb {
     Update,
+    Batch,
     Print,
     Lookup,
     Resolve,
@@ -25,6 +26,8 @@ fn verb_of(word: &str) -> Option<Verb>
 {
     if is_word(word, "update") {
         Some(Verb::Update)
+    } else if is_word(word, "batch") {
+        Some(Verb::Batch)
     } else if is_word(word, "print") || is_word(word, "-p") {
         Some(Verb::Print)
     } else if is_word(word, "lookup") {

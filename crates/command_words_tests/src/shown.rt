@@ -3,6 +3,7 @@ use command_words::WordsFault;
 use commands::{Command, Lookup, Resolve};
 use lib_types::{NoMemory, Texts};
 use std::alloc::Global;
+use tree_face::Tag;
 
 fn put_line(text: &mut Vec<u8>, front: &[u8], value: &[u8]) -> Result<(), NoMemory> {
     text.extend_from_slice(front)?;
@@ -19,6 +20,10 @@ fn put_number(
 ) -> Result<(), NoMemory> {
     let digits = format!(in alloc; "{number}")?;
     put_line(text, front, digits.as_bytes())
+}
+
+fn put_tag(alloc: Global, text: &mut Vec<u8>, tag: &Tag) -> Result<(), NoMemory> {
+    put_number(alloc, text, b"tag=", i32::from(tag.0))
 }
 
 fn put_caps(text: &mut Vec<u8>, caps: &Texts) -> Result<(), NoMemory> {
@@ -50,7 +55,11 @@ fn put_command(alloc: Global, text: &mut Vec<u8>, command: &Command) -> Result<(
     match command {
         Command::Update { tag } => {
             put_line(text, b"update", b"")?;
-            put_number(alloc, text, b"tag=", i32::from(tag.0))
+            put_tag(alloc, text, tag)
+        }
+        Command::Batch { tag } => {
+            put_line(text, b"batch", b"")?;
+            put_tag(alloc, text, tag)
         }
         Command::Print => put_line(text, b"print", b""),
         Command::Lookup(lookup) => {

@@ -31,6 +31,8 @@ pub struct Resolve {
 pub enum Command {
     /// To write the cache of the image, by way of the temporary files of this tag.
     Update { tag: Tag },
+    /// To take the script of edits and updates on the input, by way of the temporary files of this tag.
+    Batch { tag: Tag },
     /// To print the cache.
     Print,
     /// To look up a name in the cache.

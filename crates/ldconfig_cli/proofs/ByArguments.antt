@@ -2,9 +2,9 @@
 use Rattle.std.proofs.Common.{◌≡◌, Option, Some, None, subst, sym}
 use Rattle.commands.specs.declared.kinds.Command.{Command}
 use Rattle.command_runs.specs.Commands.{RunsCommand}
-use Rattle.command_runs.specs.Devices.{Devices}
-use Rattle.command_runs.specs.declared.status.Status.{Status}
-use Rattle.command_runs.specs.declared.status.Status.TheVariants.{Usage}
+use Rattle.update_runs.specs.Devices.{Devices}
+use Rattle.command_status.specs.declared.status.Status.{Status}
+use Rattle.command_status.specs.declared.status.Status.TheVariants.{Usage}
 use Rattle.ldconfig_cli.specs.Runs.{RunsAny, RunsArguments}
 use Rattle.ldconfig_cli.specs.Usage.{UsageRun}
 

@@ -3,9 +3,9 @@ use Rattle.std.specs.Prelude.{◌≡◌, ◌↔◌, ◌≢◌, ◌⊎◌, ℕ, L
 use Rattle.std.specs.declared.alloc.Global.{Global}
 use Rattle.std.specs.String.{string_bytes}
 use Rattle.command_runs.specs.Commands.{RunsCommand}
-use Rattle.command_runs.specs.declared.status.Status.{Status}
-use Rattle.command_runs.specs.declared.status.Status.TheVariants.{NoMemory, Usage}
-use Rattle.command_runs.specs.Devices.{Devices, devices}
+use Rattle.command_status.specs.declared.status.Status.{Status}
+use Rattle.command_status.specs.declared.status.Status.TheVariants.{NoMemory, Usage}
+use Rattle.update_runs.specs.Devices.{Devices, devices}
 use Rattle.command_words.specs.Language.{verb_in}
 use Rattle.command_words.specs.Words.{command_in}
 use Rattle.commands.specs.declared.kinds.Command.{Command}

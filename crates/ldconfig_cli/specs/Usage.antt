@@ -1,9 +1,9 @@
 -- Arguments that are those of no command.
 use Rattle.std.specs.Prelude.{◌≡◌}
-use Rattle.command_runs.specs.Devices.{Devices}
-use Rattle.command_runs.specs.Status.{EndsWith}
-use Rattle.command_runs.specs.declared.status.Status.{Status}
-use Rattle.command_runs.specs.declared.status.Status.TheVariants.{Usage}
+use Rattle.update_runs.specs.Devices.{Devices}
+use Rattle.command_status.specs.Status.{EndsWith}
+use Rattle.command_status.specs.declared.status.Status.{Status}
+use Rattle.command_status.specs.declared.status.Status.TheVariants.{Usage}
 
 -- only the fault line is written, and nothing is read
 pub record UsageRun (old new : Devices) (status : Status) : Type 0 where

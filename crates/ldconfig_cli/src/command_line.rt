@@ -1,8 +1,8 @@
 //! The top call.
 ghost use Rattle.std.specs.Prelude.{◌≡◌};
 ghost use Rattle.tree_face.specs.Store.{Contents};
-ghost use Rattle.ldconfig_core.specs.Session.{Loaded};
-ghost use Rattle.ldconfig_core.specs.Texts.{AreTextsOf, UpdateTexts};
+ghost use Rattle.loaded_image.specs.Session.{Loaded};
+ghost use Rattle.ldconfig_core.specs.Texts.{AreAlike, AreTextsOf, UpdateTexts};
 ghost use Rattle.ldconfig_cli.specs.Runs.{Runs};
 
 use command_runs::{Status, refuse_arguments, run_command};
@@ -27,6 +27,9 @@ pub fn run<S: Store, D: Disk, I: Source, O: Sink>(
 
     // The texts of an update are determined by the image and the contents, and every image has some.
     ensures one_update { (held : Contents) (s : Loaded) (a b : UpdateTexts) → AreTextsOf held s a → AreTextsOf held s b → a ≡ b }
+    // What is written depends on the tree and the contents alone, whatever stamps an auxiliary cache has given.
+    ensures any_stamps { (held : Contents) (s rebuilt : Loaded) (a b : UpdateTexts) → rebuilt.tree ≡ s.tree → rebuilt.edited ≡ s.edited
+        → AreTextsOf held s a → AreTextsOf held rebuilt b → AreAlike a b }
     ensures some_update { (held : Contents) (s : Loaded) → (texts : UpdateTexts) × AreTextsOf held s texts }
 {
     match command_of(alloc, words) {

@@ -20,9 +20,8 @@ fn abi_of(kind: &[u8]) -> Option<Abi> {
     }
 }
 
-// The library libz.so.1 with the byte at an offset changed, both written behind one another, as often as may be.
-fn changed(alloc: Global, changes: &[u8]) -> Result<Vec<u8>, SampleFault> {
-    let mut bytes = library(alloc, b"libz.so.1")?;
+/// Changes the bytes at some offsets; an offset and its byte are written behind one another, as often as may be.
+pub(crate) fn change(bytes: &mut Vec<u8>, changes: &[u8]) {
     let mut rest = changes;
     for _ in 0..changes.len() {
         let (at, behind) = divide(b' ', rest);
@@ -33,6 +32,12 @@ fn changed(alloc: Global, changes: &[u8]) -> Result<Vec<u8>, SampleFault> {
         }
         rest = behind;
     }
+}
+
+// The library libz.so.1 with such changes.
+fn changed(alloc: Global, changes: &[u8]) -> Result<Vec<u8>, SampleFault> {
+    let mut bytes = library(alloc, b"libz.so.1")?;
+    change(&mut bytes, changes);
     Ok(bytes)
 }
 

@@ -1,12 +1,16 @@
-//! Tests of the command `update` over images: with links, conf files, subdirectories for processors, damaged libraries, and what is
-//! refused: what it reports, the manifest that it leaves, its cache, its cache as it is printed, and that a second update plans nothing
-//! more. Each table is a file of data/.
+//! Tests of the commands `update` and `batch` over images: with links, conf files, subdirectories for processors, damaged libraries, and what is
+//! refused: what they report, the manifest and the stamps that they leave, the cache, the cache as it is printed, and that a second update
+//! plans nothing more. Each table is a file of data/.
 #![tactic(auto)]
 
+mod auxes;
 mod held;
+mod image;
 mod lookups;
+mod script;
 mod trial;
 
+use crate::script::Script;
 use crate::trial::Update;
 use std::io;
 use std::process::ExitCode;
@@ -14,9 +18,13 @@ use table_rows::{status, try_tables};
 
 const TABLES: &[&str] = &[
     "images", "damages", "refusals", "plans", "surveys", "winners", "entries", "folders",
-    "reports", "limits",
+    "reports", "limits", "stamps", "auxes",
 ];
 
+const SCRIPTS: &[&str] = &["scripts", "lines"];
+
 fn main(rt: HostRuntime) -> io::Result<ExitCode> {
-    Ok(status(try_tables::<Update>(&rt, TABLES)?))
+    let updates = try_tables::<Update>(&rt, TABLES)?;
+    let scripts = try_tables::<Script>(&rt, SCRIPTS)?;
+    Ok(status(updates && scripts))
 }

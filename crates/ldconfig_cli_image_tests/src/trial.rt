@@ -1,78 +1,18 @@
 //! One row: an update of an image, a print of its cache, look-ups in it, and a second update.
-use crate::held::held_of;
+use crate::auxes::{left, loaded};
+use crate::image::{content, devices_of, either, has_replaced, is_cache, is_run, is_text};
 use crate::lookups::are_answered;
-use command_runs_fixture::{Devices, OLD, Setting, has, image, make_devices, replacing_calls};
-use elf_samples::SampleFault;
-use ldconfig_cli_fixture::run_words;
+use command_runs_fixture::{Devices, OLD, has};
 use lib_types::NoMemory;
 use std::alloc::Global;
-use table_rows::{Row, Said, Trial, count, text, value};
-use tree_face::{Disk, MemSink, Slot};
+use table_rows::{Row, Said, Trial, count, value};
+use tree_face::Slot;
 
-/// A row has a manifest, if there is one, what the store holds, the status if the update is refused, how many files are begun, and
-/// the report or the fault line. If the update is done: the report of a second one if it is another, the new manifest if one is
-/// written, what is printed of the cache, what look-ups in it answer, and its length or its bytes if they are compared.
+/// A row has a manifest and an auxiliary cache, if there are such, what the store holds, the status if the update is refused, how many
+/// files are begun, and the report or the fault line. If the update is done: the report of a second one if it is another, the new manifest
+/// if one is written, the auxiliary cache if it has stamps, what is printed of the cache, what look-ups in it answer, and its length or its
+/// bytes if they are compared.
 pub(crate) struct Update;
-
-fn devices_of(alloc: Global, row: Row<'_>) -> Result<Devices, SampleFault> {
-    let manifest = text(alloc, row, b"manifest")?;
-    let held = held_of(alloc, row)?;
-    let setting = match value(row, b"manifest") {
-        Some(_) => image(&manifest),
-        None => Setting {
-            manifest: None,
-            ..image(b"")
-        },
-    };
-    Ok(make_devices(alloc, setting, held)?)
-}
-
-// The first word if the row has a line of it, else the second.
-fn either<'a>(row: Row<'_>, first: &'a [u8], second: &'a [u8]) -> &'a [u8] {
-    if value(row, first).is_some() {
-        first
-    } else {
-        second
-    }
-}
-
-// Whether this is the row's text of this name.
-fn is_text(
-    alloc: Global,
-    row: Row<'_>,
-    name: &[u8],
-    got: &[u8],
-    said: &mut Said,
-) -> Result<bool, NoMemory> {
-    let want = text(alloc, row, name)?;
-    said.is_same(name, &want, got)
-}
-
-// What a slot holds, nothing if it can't be read.
-fn content(alloc: Global, devices: &mut Devices, slot: Slot) -> Vec<u8> {
-    match devices.disk.read(alloc, slot) {
-        Ok(Some(found)) => found,
-        _ => Vec::new(alloc),
-    }
-}
-
-// Runs a command with a new sink. Whether it has this exit status, and writes the row's text of this name.
-fn is_run(
-    alloc: Global,
-    row: Row<'_>,
-    word: &str,
-    status: u64,
-    name: &[u8],
-    devices: &mut Devices,
-    said: &mut Said,
-) -> Result<bool, NoMemory> {
-    devices.out = MemSink::new(alloc, Vec::new(alloc));
-    let got = run_words(alloc, &[word], devices)?;
-    Ok(
-        is_text(alloc, row, name, devices.out.written(), said)?
-            && said.is_number(alloc, b"status", status, u64::from(got.code()))?,
-    )
-}
 
 // Whether the manifest is the one that an update leaves.
 fn is_left(
@@ -91,33 +31,39 @@ fn is_left(
     )
 }
 
-// The slots that the first update writes, or those that both write, of which the second writes the Cache slot alone. One that is
-// refused writes none.
+// Whether the auxiliary cache is the one that an update leaves. One that is refused leaves the old one.
+fn is_aux_left(
+    alloc: Global,
+    row: Row<'_>,
+    devices: &mut Devices,
+    said: &mut Said,
+) -> Result<bool, NoMemory> {
+    if value(row, b"status").is_some() {
+        let aux = loaded(alloc, row)?;
+        return Ok(has(alloc, &mut devices.disk, Slot::Aux, aux.as_deref()));
+    }
+    let got = content(alloc, devices, Slot::Aux);
+    said.is_same(b"left", &left(alloc, row)?, &got)
+}
+
+// The slots that the first update writes, or those that both write, of which the second writes no manifest. One that is refused writes
+// none.
 fn slots(row: Row<'_>, both: bool) -> &'static [Slot] {
     if value(row, b"status").is_some() {
         return &[];
     }
     match (value(row, b"new").is_some(), both) {
-        (false, false) => &[Slot::Cache],
-        (false, true) => &[Slot::Cache, Slot::Cache],
-        (true, false) => &[Slot::Manifest, Slot::Cache],
-        (true, true) => &[Slot::Manifest, Slot::Cache, Slot::Cache],
+        (false, false) => &[Slot::Cache, Slot::Aux],
+        (false, true) => &[Slot::Cache, Slot::Aux, Slot::Cache, Slot::Aux],
+        (true, false) => &[Slot::Manifest, Slot::Cache, Slot::Aux],
+        (true, true) => &[
+            Slot::Manifest,
+            Slot::Cache,
+            Slot::Aux,
+            Slot::Cache,
+            Slot::Aux,
+        ],
     }
-}
-
-// Whether these slots were replaced, one after another, and nothing else was written.
-fn has_replaced(
-    alloc: Global,
-    devices: &Devices,
-    slots: &[Slot],
-    said: &mut Said,
-) -> Result<bool, NoMemory> {
-    let calls = replacing_calls(alloc, slots)?;
-    let is_so = devices.disk.calls() == calls.as_slice();
-    if !is_so {
-        said.say(b"other writing calls", b"")?;
-    }
-    Ok(is_so)
 }
 
 fn is_first(
@@ -131,20 +77,12 @@ fn is_first(
         is_run(alloc, row, "update", status, b"report", devices, said)?
             && said.is_number(alloc, b"begun", count(row, b"begun"), devices.store.begun())?
             && has_replaced(alloc, devices, slots(row, false), said)?
-            && is_left(alloc, row, devices, said)?,
+            && is_left(alloc, row, devices, said)?
+            && is_aux_left(alloc, row, devices, said)?,
     )
 }
 
-// Whether a cache has the length and the bytes that the row says, if it says them.
-fn is_cache(alloc: Global, row: Row<'_>, cache: &[u8], said: &mut Said) -> Result<bool, NoMemory> {
-    let size = count(row, b"size");
-    Ok(
-        (size == 0 || said.is_number(alloc, b"size", size, cache.len() as u64)?)
-            && (value(row, b"cache").is_none() || is_text(alloc, row, b"cache", cache, said)?),
-    )
-}
-
-// Whether the second update reports the same but for the links, and leaves this cache and no Aux slot.
+// Whether the second update reports the same but for the links and what is opened, and leaves this cache and the same stamps.
 fn is_second(
     alloc: Global,
     row: Row<'_>,
@@ -164,7 +102,7 @@ fn is_second(
         )? && has_replaced(alloc, devices, slots(row, true), said)?
             && is_left(alloc, row, devices, said)?
             && said.is_same(b"cache", cache, &content(alloc, devices, Slot::Cache))?
-            && has(alloc, &mut devices.disk, Slot::Aux, None),
+            && is_aux_left(alloc, row, devices, said)?,
     )
 }
 
@@ -193,6 +131,11 @@ fn is_as_written(
 
 const WORDS: &[&[u8]] = &[
     b"manifest",
+    b"aux",
+    b"loaded",
+    b"aux-changed",
+    b"aux-cut",
+    b"left",
     b"library",
     b"library-i386",
     b"library-x32",

@@ -1,8 +1,8 @@
 //! Arguments that are no command's, and the exit statuses.
-use command_runs::Status;
 use command_runs_fixture::{
     Devices, LIBZ_MANIFEST, OLD, Setting, has, image, libz_held, make_devices,
 };
+use command_status::{ScriptKind, Status};
 use ldconfig_cli_fixture::run_words;
 use mtree_manifest::{LineKind, ManifestFault};
 use std::alloc::Global;
@@ -72,11 +72,20 @@ const CODES: &[(Status, u8)] = &[
         }),
         3,
     ),
+    (
+        Status::BadScript {
+            line: 1,
+            kind: ScriptKind::NotThere,
+        },
+        4,
+    ),
     (Status::TooMany { count: 131073 }, 9),
     (Status::StoreFault, 10),
     (Status::DiskFault, 11),
+    (Status::InputFault, 12),
     (Status::OutputFault, 13),
     (Status::NoMemory, 14),
+    (Status::TooLong { taken: 67108865 }, 15),
     (Status::NoManifest, 16),
     (
         Status::TooLarge {

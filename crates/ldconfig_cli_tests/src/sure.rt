@@ -1,6 +1,8 @@
 //! An update over devices that never fail.
 use command_runs::{Status, run_command};
-use command_runs_fixture::{LIBZ_MANIFEST, LIBZ_REPORT, ONE_CACHE, copy, has, libz_held};
+use command_runs_fixture::{
+    LIBZ_MANIFEST, LIBZ_REPORT, NO_STAMPS, ONE_CACHE, copy, has, libz_held,
+};
 use commands::Command;
 use std::alloc::Global;
 use std::test::Fail;
@@ -33,5 +35,6 @@ fn devices_that_never_fail(rt: HostRuntime) -> Result<(), Fail> {
     assert!(rt; status == Status::Done);
     assert!(rt; out.written() == LIBZ_REPORT);
     assert!(rt; has(alloc, &mut disk, Slot::Cache, Some(ONE_CACHE)));
+    assert!(rt; has(alloc, &mut disk, Slot::Aux, Some(NO_STAMPS)));
     Ok(())
 }

@@ -23,7 +23,7 @@ use Rattle.cache_lookup.specs.Scan.{AreDescending, chosen, first_for, is_candida
 use Rattle.cache_reader.specs.Cache.{CachedEntry, cap_of, entry_at, hwcap, indexes, name_offsets, read, text_at}
 use Rattle.cache_writer.specs.CacheText.{hwcap_of, hwcaps_names}
 use Rattle.cache_writer.specs.ReadBack.{as_read}
-use Rattle.analysed_files.specs.Files.{what_is}
+use Rattle.stamped_files.specs.Files.{what_is}
 use Rattle.lib_types.proofs.SortedPairs.{by_test}
 use Rattle.lib_types.specs.Abi.{flags_of}
 use Rattle.lib_types.specs.declared.abi.Abi.{Abi}

@@ -1,20 +1,11 @@
--- Why an image isn't loaded or updated, by the faults of its parts.
+-- Why an image isn't updated, by the faults of its parts.
 use Rattle.std.specs.Prelude.{Bool, true, false}
-use Rattle.mtree_manifest.specs.declared.fault.ManifestFault.{ManifestFault}
-use Rattle.mtree_manifest.specs.declared.fault.ManifestFault.TheVariants as manifests
 use Rattle.searched_image.specs.declared.fault.FindFault.{FindFault}
 use Rattle.searched_image.specs.declared.fault.FindFault.TheVariants as finding
 use Rattle.winning_entries.specs.declared.fault.EntryFault.{EntryFault}
 use Rattle.winning_entries.specs.declared.fault.EntryFault.TheVariants as entering
-use Rattle.ldconfig_core.specs.declared.fault.LoadFault.{LoadFault}
-use Rattle.ldconfig_core.specs.declared.fault.LoadFault.TheVariants as loading
 use Rattle.ldconfig_core.specs.declared.fault.UpdateFault.{UpdateFault}
 use Rattle.ldconfig_core.specs.declared.fault.UpdateFault.TheVariants as updating
-
--- a manifest's fault, or out of memory
-abbrev pub of_manifest : ManifestFault → LoadFault
-of_manifest manifests.NoMemory = loading.NoMemory
-of_manifest fault = loading.BadManifest fault
 
 -- the fault of looking through the image
 abbrev pub of_finding : FindFault → UpdateFault

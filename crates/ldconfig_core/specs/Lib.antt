@@ -1,9 +1,7 @@
 pub mod Faults
 pub mod Lookup
-pub mod Manifest
 pub mod Outcome
 pub mod Repair
-pub mod Session
 pub mod Settled
 pub mod Stages
 pub mod Texts

@@ -1,7 +1,7 @@
 -- What an update of a loaded image comes to, for given contents.
-use Rattle.std.specs.Prelude.{ℕ, Bool, false, List, [], ◌∷◌, nat_lt, if◌then◌else◌, length, Option, Some, None}
+use Rattle.std.specs.Prelude.{ℕ, Bool, true, false, List, [], ◌∷◌, nat_lt, if◌then◌else◌, length, Option, Some, None}
 use Rattle.cache_writer.specs.declared.writer.TheConstants.{ENTRIES_MAX}
-use Rattle.elf_dynamic.specs.Begun.{lacks_one}
+use Rattle.elf_dynamic.specs.Begun.{file_keys, lacks_one}
 use Rattle.ldso_conf.specs.Reading.{conf_lacks}
 use Rattle.mtree_manifest.specs.Canon.{canon}
 use Rattle.mtree_manifest.specs.declared.fault.TheConstants.{TEXT_MAX}
@@ -9,9 +9,9 @@ use Rattle.soname_links.specs.Apply.{nodes_with}
 use Rattle.soname_links.specs.declared.kinds.Planned.{Planned}
 use Rattle.tree_face.specs.Store.{Contents}
 use Rattle.image_tree.specs.Tree.{Nodes}
-use Rattle.searched_image.specs.Begun.{behind_keys, has_too_many_nodes, wanted_keys}
-use Rattle.searched_image.specs.Ldconfig.{entries_in, links_in, planned_in}
-use Rattle.ldconfig_core.specs.Session.{Loaded}
+use Rattle.loaded_image.specs.Session.{Loaded}
+use Rattle.searched_image.specs.Begun.{has_too_many_nodes}
+use Rattle.searched_image.specs.Ldconfig.{behind_in, entries_in, links_in, planned_in, wanted_in}
 
 pub data Outcome : Type 0 where
   -- the content of a conf file or of a library file isn't held
@@ -20,16 +20,17 @@ pub data Outcome : Type 0 where
   TooLarge : ℕ → ℕ → Outcome
   -- there are more entries than a cache may have
   TooMany : ℕ → Outcome
-  -- the cache is written, and the manifest too if links are planned
+  -- the caches are written, and before them the manifest if the image was edited or links are planned
   Writes : Outcome
 
--- the manifest that is written for these links and the tree with them
-abbrev pub manifest_with : Nodes → List Planned → Option (List ℕ)
-manifest_with t [] = None
-manifest_with t (planned ∷ plan) = Some (canon t)
+-- the manifest that is written for the tree with these links, if it was edited or there are any
+abbrev pub manifest_with : Bool → Nodes → List Planned → Option (List ℕ)
+manifest_with true t plan = Some (canon t)
+manifest_with false t [] = None
+manifest_with false t (planned ∷ plan) = Some (canon t)
 
 unfoldable pub new_manifest : Contents → Loaded → Option (List ℕ)
-new_manifest held s = manifest_with (planned_in held s.tree) (links_in held s.tree)
+new_manifest held s = manifest_with s.edited (planned_in held s.tree) (links_in held s.tree)
 
 abbrev pub is_too_long : Option (List ℕ) → Bool
 is_too_long None = false
@@ -39,6 +40,13 @@ abbrev pub size_of : Option (List ℕ) → ℕ
 size_of None = 0
 size_of (Some text) = length text
 
+-- the keys of the library files, whatever stamps say: a file that a true stamp tells of is held too
+unfoldable pub wanted_files : Contents → Nodes → List (List ℕ)
+wanted_files held t = file_keys t (wanted_in held t)
+
+unfoldable pub behind_files : Contents → Nodes → List (List ℕ)
+behind_files held t = file_keys (planned_in held t) (behind_in held t)
+
 -- why no cache is written, if the condition holds
 abbrev pub Refusal : Type 0
 Refusal = Bool × Outcome
@@ -46,9 +54,9 @@ Refusal = Bool × Outcome
 abbrev pub refusals : Contents → Loaded → List Refusal
 refusals held s =
     (conf_lacks held s.tree, Lacking)
-    ∷ (lacks_one held (wanted_keys held s.tree), Lacking)
+    ∷ (lacks_one held (wanted_files held s.tree), Lacking)
     ∷ (has_too_many_nodes held s.tree, TooLarge (nodes_with s.tree (links_in held s.tree)) 0)
-    ∷ (lacks_one held (behind_keys held s.tree), Lacking)
+    ∷ (lacks_one held (behind_files held s.tree), Lacking)
     ∷ (is_too_long (new_manifest held s), TooLarge (length (planned_in held s.tree)) (size_of (new_manifest held s)))
     ∷ (nat_lt ENTRIES_MAX (length (entries_in held s.tree)), TooMany (length (entries_in held s.tree)))
     ∷ []

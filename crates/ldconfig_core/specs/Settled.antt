@@ -1,26 +1,29 @@
--- What an update leaves is settled: an update of it finds the same, plans no link and writes the same cache.
-use Rattle.std.specs.Prelude.{◌≡◌, ℕ, List, [], Option, Some, None, IfSome}
+-- What an update leaves is settled: an update of it finds the same, plans no link and writes the same caches.
+use Rattle.std.specs.Prelude.{◌≡◌, ℕ, false, List, [], Option, Some, None, IfSome}
+use Rattle.loaded_image.specs.Manifest.{HasTree, manifest_of}
+use Rattle.loaded_image.specs.Session.{Loaded}
+use Rattle.searched_image.specs.Ldconfig.{conf_in, entries_in, links_in, places_in, planned_in, reached_in, stamps_in, wanted_in}
+use Rattle.aux_cache.specs.declared.stamps.Stamp.{Stamp}
+use Rattle.stamped_files.specs.Stamped.{AreSame, AreTrue, content_of, id_at}
 use Rattle.tree_face.specs.Store.{Contents}
-use Rattle.searched_image.specs.Ldconfig.{conf_in, entries_in, links_in, places_in, planned_in, reached_in, wanted_in}
-use Rattle.ldconfig_core.specs.Manifest.{HasTree, manifest_of}
 use Rattle.ldconfig_core.specs.Outcome.{Writes, new_manifest, update_outcome}
-use Rattle.ldconfig_core.specs.Session.{Loaded}
 use Rattle.ldconfig_core.specs.Texts.{AreTextsOf, UpdateTexts}
 
--- the image with the planned links
+-- the image with the planned links, and with the stamps of its libraries
 abbrev pub planned_image : Contents → Loaded → Loaded
-planned_image held s = record { tree = planned_in held s.tree }
+planned_image held s = record { tree = planned_in held s.tree; stamps = stamps_in held s.tree; edited = false; damaged = None }
 
 -- a manifest that is written, if one is, reads as the image
 abbrev pub IfReads : Option (List ℕ) → Loaded → Type 0
 IfReads manifest s = IfSome manifest (λ text. manifest_of (Some text) ≡ HasTree s.tree)
 
--- what an update of the image writes, none of it a manifest, is the cache that was written
-pub record IsCacheAgain (texts again : UpdateTexts) : Type 0 where
+-- what an update of the image writes, none of it a manifest, are the caches that were written
+pub record AreCachesAgain (texts again : UpdateTexts) : Type 0 where
   pub manifest : again.manifest ≡ None
   pub cache : again.cache ≡ texts.cache
+  pub aux : again.aux ≡ texts.aux
 
--- an update of the new image is that of the old one, but for the planned links, which are there
+-- an update of the new image is that of the old one, but for the planned links, which are there; its stamps are true
 pub record AreSettled (held : Contents) (s new : Loaded) : Type 0 where
   pub conf : conf_in held new.tree ≡ conf_in held s.tree
   pub places : places_in held new.tree ≡ places_in held s.tree
@@ -29,8 +32,17 @@ pub record AreSettled (held : Contents) (s new : Loaded) : Type 0 where
   pub planned : planned_in held new.tree ≡ new.tree
   pub reached : reached_in held new.tree ≡ reached_in held s.tree
   pub entries : entries_in held new.tree ≡ entries_in held s.tree
+  pub stamps : stamps_in held new.tree ≡ stamps_in held s.tree
   pub no_manifest : new_manifest held new ≡ None
   -- no manifest is written only if the tree had its links
   pub unchanged : new_manifest held s ≡ None → new.tree ≡ s.tree
+  -- each path has the same identity and content
+  pub ids : (path : List ℕ) → id_at new.tree path ≡ id_at s.tree path
+  pub contents : (path : List ℕ) → content_of held new.tree path ≡ content_of held s.tree path
+  pub are_true : AreTrue held new.tree new.stamps
+  pub same : AreSame held new.tree new.tree
+  -- stamps that are true of the old image are true of the new one, and the other way round
+  pub true_too : (stamps : List Stamp) → AreTrue held s.tree stamps → AreTrue held new.tree stamps
+  pub true_before : AreTrue held s.tree new.stamps
   pub outcome : update_outcome held s ≡ Writes → update_outcome held new ≡ Writes
-  pub texts : (texts again : UpdateTexts) → AreTextsOf held s texts → AreTextsOf held new again → IsCacheAgain texts again
+  pub texts : (texts again : UpdateTexts) → AreTextsOf held s texts → AreTextsOf held new again → AreCachesAgain texts again

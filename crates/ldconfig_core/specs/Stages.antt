@@ -1,5 +1,5 @@
 -- What private functions say of what is made of what was found.
-use Rattle.std.specs.Prelude.{◌≡◌, ◌≤◌, ◌<◌, ℕ, true, false, List, length, map, None}
+use Rattle.std.specs.Prelude.{◌≡◌, ◌≤◌, ◌<◌, ℕ, Bool, true, false, List, length, map, Option, Some, None, IfSome}
 use Rattle.std.specs.List.{filter_map}
 use Rattle.std.specs.Map.{keys_of}
 use Rattle.winning_entries.specs.Entries as entries
@@ -18,22 +18,28 @@ use Rattle.update_report.specs.Skips.{skip_at}
 use Rattle.searched_image.specs.declared.finding.Found.{Found}
 use Rattle.ldconfig_core.specs.declared.prepare.Prepared.{Prepared}
 use Rattle.ldconfig_core.specs.Outcome.{is_too_long, manifest_with, size_of}
-use Rattle.ldconfig_core.specs.Session.{Loaded}
-use Rattle.ldconfig_core.specs.Settled.{IfReads}
+use Rattle.loaded_image.specs.Session.{Loaded}
+use Rattle.loaded_image.specs.Aux.{stamps_of_slot}
+use Rattle.aux_cache.specs.AuxFile.{damage}
+use Rattle.aux_cache.specs.AuxText.{aux_text}
+use Rattle.aux_cache.specs.declared.stamps.Stamp.{Stamp}
+use Rattle.loaded_image.specs.Manifest.{HasTree, manifest_of}
 use Rattle.ldconfig_core.specs.Texts.{UpdateTexts, manifest_bytes}
 
-abbrev pub loaded : Nodes → Loaded
-loaded t = record { tree = t }
+-- an image of this tree and these stamps, of which all is stored
+abbrev pub stored_image : Nodes → List Stamp → Loaded
+stored_image tree stamps = record { tree = tree; stamps = stamps; edited = false; damaged = None }
 
--- ---- what is made of it
+-- ---- what is made of what is found
 
 -- the entries of what is found, in no order
 abbrev pub entries_of : Found → Nodes → List Entry
 entries_of found tree = entries.found (analysis_at found.search.files.table) tree found.search.dirs.places
 
 -- what the report says of it
-abbrev pub said_of : Found → List Entry → Said
-said_of found entries = record {
+abbrev pub said_of : Option ℕ → Found → List Entry → Said
+said_of damaged found entries = record {
+  damaged = damaged;
   conf = found.search.conf.reports;
   places = found.search.dirs.places;
   absent = found.search.dirs.absent;
@@ -46,31 +52,39 @@ said_of found entries = record {
   opened = found.search.files.begun;
 }
 
+-- a manifest, if one is written, reads as the tree
+abbrev pub IfTree : Option (List ℕ) → Nodes → Type 0
+IfTree manifest tree = IfSome manifest (λ text. manifest_of (Some text) ≡ HasTree tree)
+
 -- the manifest is too long, and these are the sizes of the image
-abbrev pub IsTooLarge : Nodes → List Planned → ℕ → ℕ → Type 0
-IsTooLarge tree plan nodes bytes =
-    (nodes ≡ length tree) × ((bytes ≡ size_of (manifest_with tree plan)) × (is_too_long (manifest_with tree plan) ≡ true))
+abbrev pub IsTooLarge : Bool → Nodes → List Planned → ℕ → ℕ → Type 0
+IsTooLarge edited tree plan nodes bytes =
+    (nodes ≡ length tree) × ((bytes ≡ size_of (manifest_with edited tree plan)) × (is_too_long (manifest_with edited tree plan) ≡ true))
 
 -- the manifest isn't too long, but there are so many entries
-abbrev pub HasTooMany : Found → Nodes → ℕ → Type 0
-HasTooMany found tree count =
-    (is_too_long (manifest_with tree found.links.plan) ≡ false) × ((count ≡ length (entries_of found tree)) × (ENTRIES_MAX < count))
+abbrev pub HasTooMany : Bool → Found → Nodes → ℕ → Type 0
+HasTooMany edited found tree count =
+    (is_too_long (manifest_with edited tree found.links.plan) ≡ false) × ((count ≡ length (entries_of found tree)) × (ENTRIES_MAX < count))
 
 -- the texts and the numbers of what is found
-pub record IsMadeOf (found : Found) (tree : Nodes) (prepared : Prepared) : Type 0 where
+pub record IsMadeOf (edited : Bool) (damaged : Option ℕ) (found : Found) (tree : Nodes) (prepared : Prepared) : Type 0 where
   pub entries : List Entry
   pub are : AreEntriesOf (entries_of found tree) entries
   pub few : length (entries_of found tree) ≤ ENTRIES_MAX
-  pub manifest : manifest_bytes prepared.manifest ≡ manifest_with tree found.links.plan
-  pub short : is_too_long (manifest_with tree found.links.plan) ≡ false
-  pub reads : IfReads (manifest_bytes prepared.manifest) (loaded tree)
+  pub manifest : manifest_bytes prepared.manifest ≡ manifest_with edited tree found.links.plan
+  pub short : is_too_long (manifest_with edited tree found.links.plan) ≡ false
+  pub reads : IfTree (manifest_bytes prepared.manifest) tree
   pub cache : prepared.cache.items ≡ cache_text entries
   pub accepted : defect prepared.cache.items ≡ None
   pub read_back : read prepared.cache.items ≡ map (as_read (hwcaps_names entries)) entries
-  pub text : prepared.report.text ≡ report_text (said_of found entries)
+  pub aux : prepared.aux.items ≡ aux_text found.search.files.stamps
+  pub undamaged : damage prepared.aux.items ≡ None
+  pub aux_read : stamps_of_slot (Some prepared.aux.items) ≡ found.search.files.stamps
+  pub stamps : prepared.stamps ≡ found.search.files.stamps
+  pub text : prepared.report.text ≡ report_text (said_of damaged found entries)
   pub libs : prepared.report.libs ≡ length entries
   pub links : prepared.report.links ≡ length found.links.plan
   pub opened : prepared.report.opened ≡ found.search.files.begun
 
 abbrev pub texts_of : Prepared → UpdateTexts
-texts_of prepared = record { manifest = manifest_bytes prepared.manifest; cache = prepared.cache.items; report = prepared.report.text }
+texts_of prepared = record { manifest = manifest_bytes prepared.manifest; cache = prepared.cache.items; aux = prepared.aux.items; report = prepared.report.text }

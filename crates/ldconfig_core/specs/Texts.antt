@@ -8,41 +8,46 @@ use Rattle.cache_lookup.specs.Scan.{AreDescending}
 use Rattle.cache_reader.specs.Cache.{defect, read}
 use Rattle.cache_writer.specs.CacheText.{cache_text, hwcaps_names}
 use Rattle.cache_writer.specs.ReadBack.{as_read}
-use Rattle.analysed_files.specs.Files.{what_is}
+use Rattle.stamped_files.specs.Files.{what_is}
 use Rattle.hwcap_dirs.specs.Places.{absent}
 use Rattle.lib_types.specs.declared.entry.Entry.{Entry}
 use Rattle.found_files.specs.Search.{dangling}
 use Rattle.soname_links.specs.Marks.{blocked, mixed}
 use Rattle.tree_face.specs.declared.disk.Slot.{Slot}
-use Rattle.tree_face.specs.declared.disk.Slot.TheVariants.{Manifest, Cache}
+use Rattle.tree_face.specs.declared.disk.Slot.TheVariants.{Manifest, Cache, Aux}
 use Rattle.tree_face.specs.Store.{Contents}
-use Rattle.image_tree.specs.Tree.{Nodes}
 use Rattle.update_report.specs.Report.{Said, report_text}
 use Rattle.update_report.specs.Skips.{skip_at}
 use Rattle.searched_image.specs.Begun.{opened_in}
-use Rattle.searched_image.specs.Ldconfig.{conf_in, entries_in, library_files, links_in, places_in, planned_in}
+use Rattle.searched_image.specs.Ldconfig.{conf_in, entries_in, library_files, links_in, places_in, planned_in, stamps_in}
 use Rattle.ldconfig_core.specs.Outcome.{new_manifest}
-use Rattle.ldconfig_core.specs.Session.{Loaded}
+use Rattle.loaded_image.specs.Aux.{stamps_of_slot}
+use Rattle.loaded_image.specs.Session.{Loaded}
+use Rattle.aux_cache.specs.AuxFile.{damage}
+use Rattle.aux_cache.specs.AuxText.{aux_text}
+use Rattle.aux_cache.specs.declared.stamps.Stamp.{Stamp}
 
 -- what the report says, with the entries in their order
-abbrev pub said_with : Contents → Nodes → List Entry → Said
-said_with held t entries = record {
-  conf = (conf_in held t).reports;
-  places = places_in held t;
-  absent = absent t (conf_in held t).dirs;
-  plan = links_in held t;
-  blocked = blocked (what_is held t) t (places_in held t);
-  mixed = mixed (what_is held t) t (places_in held t);
-  skips = filter_map (skip_at (what_is held t)) (library_files held t);
-  dangling = dangling (planned_in held t) (places_in held t);
+abbrev pub said_with : Contents → Loaded → List Entry → Said
+said_with held s entries = record {
+  damaged = s.damaged;
+  conf = (conf_in held s.tree).reports;
+  places = places_in held s.tree;
+  absent = absent s.tree (conf_in held s.tree).dirs;
+  plan = links_in held s.tree;
+  blocked = blocked (what_is held s.tree) s.tree (places_in held s.tree);
+  mixed = mixed (what_is held s.tree) s.tree (places_in held s.tree);
+  skips = filter_map (skip_at (what_is held s.tree)) (library_files held s.tree);
+  dangling = dangling (planned_in held s.tree) (places_in held s.tree);
   entries = entries;
-  opened = opened_in held t;
+  opened = opened_in held s.tree s.stamps;
 }
 
--- the manifest, if it is written, the cache, and the report of an update
+-- the manifest, if it is written, the cache, the auxiliary cache, and the report of an update
 pub record UpdateTexts : Type 0 where
   pub manifest : Option (List ℕ)
   pub cache : List ℕ
+  pub aux : List ℕ
   pub report : List ℕ
 
 -- the texts of the update of a loaded image
@@ -51,10 +56,17 @@ pub record AreTextsOf (held : Contents) (s : Loaded) (texts : UpdateTexts) : Typ
   pub are : AreEntriesOf (entries_in held s.tree) entries
   pub manifest_is : texts.manifest ≡ new_manifest held s
   pub cache_is : texts.cache ≡ cache_text entries
-  pub report_is : texts.report ≡ report_text (said_with held s.tree entries)
+  pub aux_is : texts.aux ≡ aux_text (stamps_in held s.tree)
+  pub report_is : texts.report ≡ report_text (said_with held s entries)
+
+-- the same is written: manifest, cache and auxiliary cache
+pub record AreAlike (texts others : UpdateTexts) : Type 0 where
+  pub manifest : others.manifest ≡ texts.manifest
+  pub cache : others.cache ≡ texts.cache
+  pub aux : others.aux ≡ texts.aux
 
 -- Whatever is known of contents, the cache is one of some entries, which a reader accepts and reads as these, in the loader's order of names,
--- and the report one of some findings.
+-- the auxiliary cache one of some stamps, as which it is read, and the report one of some findings.
 pub record AreTexts (texts : UpdateTexts) : Type 0 where
   pub said : Said
   pub report_is : texts.report ≡ report_text said
@@ -62,6 +74,10 @@ pub record AreTexts (texts : UpdateTexts) : Type 0 where
   pub accepted : defect texts.cache ≡ None
   pub read_back : read texts.cache ≡ map (as_read (hwcaps_names said.entries)) said.entries
   pub descending : AreDescending (read texts.cache)
+  pub stamps : List Stamp
+  pub aux_is : texts.aux ≡ aux_text stamps
+  pub undamaged : damage texts.aux ≡ None
+  pub aux_read : stamps_of_slot (Some texts.aux) ≡ stamps
 
 -- ---- what is written
 
@@ -69,13 +85,13 @@ abbrev pub of_manifest : Option (List ℕ) → List Write
 of_manifest None = []
 of_manifest (Some text) = (Manifest, text) ∷ []
 
--- the manifest, if it is written, and then the cache
-abbrev pub writes_of : Option (List ℕ) → List ℕ → List Write
-writes_of manifest cache = of_manifest manifest ++ (Cache, cache) ∷ []
+-- the manifest, if it is written, then the cache, and then the auxiliary cache
+abbrev pub writes_of : UpdateTexts → List Write
+writes_of texts = of_manifest texts.manifest ++ (Cache, texts.cache) ∷ (Aux, texts.aux) ∷ []
 
 -- the slots that an update may write
 abbrev pub update_slots : List Slot
-update_slots = Manifest ∷ Cache ∷ []
+update_slots = Manifest ∷ Cache ∷ Aux ∷ []
 
 abbrev pub manifest_bytes : Option (Vec ℕ Global) → Option (List ℕ)
 manifest_bytes manifest = option_map (λ text. text.items) manifest

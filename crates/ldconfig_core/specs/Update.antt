@@ -1,10 +1,9 @@
 -- One update of a loaded image: what it returns, and what it leaves on the store and on the disk.
-use Rattle.std.specs.Prelude.{◌≡◌, ◌⊎◌, ◌≤◌, length, Option, Result, Ok, Err, IfOk, ⊤}
+use Rattle.std.specs.Prelude.{◌≡◌, ◌⊎◌, ◌≤◌, length, Option, Some, Result, Ok, Err, IfOk, ⊤}
 use Rattle.atomic_replace.specs.declared.fault.DiskFault.{DiskFault}
 use Rattle.lib_types.specs.Counts.{HasRisen}
 use Rattle.tree_face.specs.declared.disk.Tag.{Tag}
 use Rattle.tree_face.specs.Disk.{DiskState}
-use Rattle.tree_face.specs.Known.{IfKnown}
 use Rattle.tree_face.specs.Store.{Contents, StoreState}
 use Rattle.tree_face.specs.StoreUse.{Ending, Complete, DeviceFailed, GaveUp}
 use Rattle.searched_image.specs.Begun.{opened_in}
@@ -12,11 +11,13 @@ use Rattle.searched_image.specs.Found.{ReadsFinding}
 use Rattle.ldconfig_core.specs.declared.fault.UpdateFault.{UpdateFault}
 use Rattle.ldconfig_core.specs.declared.fault.UpdateFault.TheVariants as faults
 use Rattle.ldconfig_core.specs.declared.report.Report.{Report}
-use Rattle.searched_image.specs.Ldconfig.{entries_in, links_in}
+use Rattle.loaded_image.specs.Aux.{stamps_of_slot}
+use Rattle.searched_image.specs.Ldconfig.{entries_in, links_in, stamps_in}
 use Rattle.ldconfig_core.specs.Lookup.{FindsAsSearched}
 use Rattle.ldconfig_core.specs.Outcome.{Outcome, Lacking, TooLarge, TooMany, Writes, new_manifest, update_outcome}
 use Rattle.replaced_slots.specs.Replaced.{KeepsRestMade, WritesAll, WritesPart}
-use Rattle.ldconfig_core.specs.Session.{Loaded}
+use Rattle.loaded_image.specs.Session.{Loaded}
+use Rattle.stamped_files.specs.Stamped.{IfHonest}
 use Rattle.ldconfig_core.specs.Settled.{AreSettled, IfReads, planned_image}
 use Rattle.ldconfig_core.specs.Texts.{AreTexts, AreTextsOf, UpdateTexts, update_slots, writes_of}
 
@@ -42,32 +43,37 @@ update_ending (Err faults.NoMemory) = GaveUp
 
 -- ---- the store
 
--- the keys of the update are begun, and no others
+-- the keys of the update are begun
 abbrev pub ReadsUpdate : Loaded → Ending → StoreState → StoreState → Type 0
-ReadsUpdate s ending old new = ReadsFinding s.tree ending old new
+ReadsUpdate s ending old new = ReadsFinding s.tree s.stamps ending old new
 
 -- ---- the disk
 
--- the texts of an update of this image, which is settled with them: if contents are known, of the one that there is
+-- a fact of an image whose stamps are true and whose files of equal identity have equal content, if contents are known
+abbrev pub IfHonestly : Option Contents → Loaded → (Contents → Type 0) → Type 0
+IfHonestly known s P = IfHonest known s.tree s.stamps P
+
+-- the texts of an update of this image, which is settled with them: if contents are known and stamps are true, of the one that there is
 pub record AreUpdateTexts (s : Loaded) (known : Option Contents) (texts : UpdateTexts) : Type 0 where
   pub are : AreTexts texts
-  pub are_of : IfKnown known (λ held. AreTextsOf held s texts)
-  pub finds : IfKnown known (λ held. FindsAsSearched held s.tree texts.cache)
-  pub settles : IfKnown known (λ held. AreSettled held s (planned_image held s))
-  pub reads : IfKnown known (λ held. IfReads texts.manifest (planned_image held s))
+  pub are_of : IfHonestly known s (λ held. AreTextsOf held s texts)
+  pub aux_read : IfHonestly known s (λ held. stamps_of_slot (Some texts.aux) ≡ stamps_in held s.tree)
+  pub finds : IfHonestly known s (λ held. FindsAsSearched held s.tree texts.cache)
+  pub settles : IfHonestly known s (λ held. AreSettled held s (planned_image held s))
+  pub reads : IfHonestly known s (λ held. IfReads texts.manifest (planned_image held s))
 
 -- the texts of the update are written, and this is its report
 pub record LeavesTexts (tag : Tag) (s : Loaded) (known : Option Contents) (report : Report) (old new : DiskState) : Type 0 where
   pub texts : UpdateTexts
   pub are : AreUpdateTexts s known texts
   pub report_is : report.text ≡ texts.report
-  pub written : WritesAll tag (writes_of texts.manifest texts.cache) old new
+  pub written : WritesAll tag (writes_of texts) old new
 
 -- a writing call of these texts failed
 pub record MayLeaveTexts (tag : Tag) (s : Loaded) (known : Option Contents) (fault : DiskFault) (old new : DiskState) : Type 0 where
   pub texts : UpdateTexts
   pub are : AreUpdateTexts s known texts
-  pub written : WritesPart tag (writes_of texts.manifest texts.cache) fault old new
+  pub written : WritesPart tag (writes_of texts) fault old new
 
 -- Nothing is written unless all texts were made.
 abbrev pub DiskAfter : Tag → Loaded → Option Contents → Result (Loaded × Report) UpdateFault → DiskState → DiskState → Type 0
@@ -84,9 +90,9 @@ DiskAfter tag s known (Err faults.NoMemory) old new = new ≡ old
 pub record IsReportFor (held : Contents) (s : Loaded) (report : Report) : Type 0 where
   pub libs : report.libs ≡ length (entries_in held s.tree)
   pub links : report.links ≡ length (links_in held s.tree)
-  pub opened : report.opened ≡ opened_in held s.tree
+  pub opened : report.opened ≡ opened_in held s.tree s.stamps
 
--- It is the image with the planned links, which is settled, and as which a manifest that is written reads.
+-- It is the image with the planned links and its stamps, which is settled, and as which a manifest that is written reads.
 pub record IsUpdated (held : Contents) (s : Loaded) (updated : Loaded × Report) : Type 0 where
   pub planned : updated.0 ≡ planned_image held s
   pub settled : AreSettled held s updated.0
@@ -96,9 +102,9 @@ pub record IsUpdated (held : Contents) (s : Loaded) (updated : Loaded × Report)
 -- ---- one update
 
 pub record Updates (tag : Tag) (s : Loaded) (result : Result (Loaded × Report) UpdateFault) (store after_store : StoreState) (disk after_disk : DiskState) : Type 0 where
-  pub answers : IfKnown store.held (λ held. IsAnswer (update_outcome held s) result store after_store)
+  pub answers : IfHonestly store.held s (λ held. IsAnswer (update_outcome held s) result store after_store)
   pub reads : ReadsUpdate s (update_ending result) store after_store
   pub written : DiskAfter tag s store.held result disk after_disk
   pub made : KeepsRestMade tag.0 update_slots disk after_disk
   pub disk_faults : disk.faults ≤ after_disk.faults
-  pub updated : IfOk result (λ updated. IfKnown store.held (λ held. IsUpdated held s updated))
+  pub updated : IfOk result (λ updated. IfHonestly store.held s (λ held. IsUpdated held s updated))

@@ -1,32 +1,14 @@
-//! Why an image isn't loaded or updated.
+//! Why an image isn't updated.
 ghost use Rattle.std.specs.Prelude.{◌≡◌};
-ghost use Rattle.ldconfig_core.specs.Faults.{of_entries, of_finding, of_manifest};
+ghost use Rattle.ldconfig_core.specs.Faults.{of_entries, of_finding};
 ghost use Rattle.ldconfig_core.specs.declared.fault.UpdateFault.TheVariants as update_faults;
 
 use atomic_replace::DiskFault;
 use lib_types::NoMemory;
-use mtree_manifest::ManifestFault;
 use searched_image::FindFault;
 use std::alloc::{AllocError, AllocFailed};
 use thiserror::Error;
-use tree_face::Slot;
 use winning_entries::EntryFault;
-
-/// Why an image isn't loaded.
-#[derive(Clone, Copy, Debug, PartialEq, Eq, Error)]
-pub enum LoadFault {
-    /// A slot can't be read.
-    #[error("a slot of the disk can't be read")]
-    DiskFailed { slot: Slot },
-    /// The Manifest slot holds nothing.
-    #[error("there is no manifest")]
-    NoManifest,
-    /// The manifest has no tree. This fault is never NoMemory.
-    #[error("the manifest has no tree")]
-    BadManifest(ManifestFault),
-    #[error("out of memory")]
-    NoMemory,
-}
 
 /// Why an image isn't updated.
 #[derive(Clone, Copy, Debug, PartialEq, Eq, Error)]
@@ -46,17 +28,6 @@ pub enum UpdateFault {
     DiskFault(DiskFault),
     #[error("out of memory")]
     NoMemory,
-}
-
-impl From<ManifestFault> for LoadFault {
-    ghost from_gives = { λ fault e. e ≡ of_manifest fault };
-
-    fn from(fault: ManifestFault) -> Self {
-        match fault {
-            ManifestFault::NoMemory => LoadFault::NoMemory,
-            _ => LoadFault::BadManifest(fault),
-        }
-    }
 }
 
 impl From<NoMemory> for UpdateFault {

@@ -1,49 +1,65 @@
 //! The update of an image.
-ghost use Rattle.std.specs.Prelude.{◌≤◌, OnOk, IfErr};
+ghost use Rattle.std.specs.Prelude.{◌≡◌, ◌≤◌, OnOk, IfErr};
+ghost use Rattle.aux_cache.specs.Stamps.{HaveNames};
 ghost use Rattle.replaced_slots.specs.Replaced.{KeepsRestMade, WritesAll, WritesPart};
-ghost use Rattle.ldconfig_core.specs.Texts.{manifest_bytes, update_slots, writes_of};
+ghost use Rattle.ldconfig_core.specs.Stages.{stored_image, texts_of};
+ghost use Rattle.ldconfig_core.specs.Texts.{update_slots, writes_of};
 ghost use Rattle.ldconfig_core.specs.Update.{Updates};
 
 use crate::fault::UpdateFault;
-use crate::prepare::prepare;
+use crate::prepare::{Prepared, prepare};
 use crate::report::Report;
-use crate::session::Session;
 use atomic_replace::DiskFault;
+use aux_cache::Stamps;
+use loaded_image::Session;
 use replaced_slots::{SlotWrite, replace_slots};
 use std::alloc::Global;
-use tree_face::{Disk, Slot, Store, Tag};
+use tree_face::{Disk, Slot, Store, Tag, Tree};
 
-// Replaces the manifest, if there is a new one, and then the cache.
-fn write_texts<D: Disk>(
-    disk: &mut D,
-    tag: Tag,
-    manifest: &Option<Vec<u8>>,
-    cache: &[u8],
-) -> Result<(), DiskFault>
-    ensures done { OnOk result (WritesAll tag (writes_of (manifest_bytes manifest.now) cache.now) (D.state disk.old) (D.state disk.new)) }
-    ensures failed { IfErr result (λ fault. WritesPart tag (writes_of (manifest_bytes manifest.now) cache.now) fault (D.state disk.old) (D.state disk.new)) }
+// Replaces the manifest, if there is a new one, then the cache, and then the auxiliary cache.
+fn write_texts<D: Disk>(disk: &mut D, tag: Tag, prepared: &Prepared) -> Result<(), DiskFault>
+    ensures done { OnOk result (WritesAll tag (writes_of (texts_of prepared.now)) (D.state disk.old) (D.state disk.new)) }
+    ensures failed { IfErr result (λ fault. WritesPart tag (writes_of (texts_of prepared.now)) fault (D.state disk.old) (D.state disk.new)) }
     ensures made { KeepsRestMade tag.0 update_slots (D.state disk.old) (D.state disk.new) }
     ensures faults { (D.state disk.old).faults ≤ (D.state disk.new).faults }
 {
     let cache = SlotWrite {
         slot: Slot::Cache,
-        bytes: cache,
+        bytes: prepared.cache.as_slice(),
     };
-    match manifest {
+    let aux = SlotWrite {
+        slot: Slot::Aux,
+        bytes: prepared.aux.as_slice(),
+    };
+    match &prepared.manifest {
         Some(text) => {
             let manifest = SlotWrite {
                 slot: Slot::Manifest,
                 bytes: text.as_slice(),
             };
-            replace_slots(disk, tag, &[manifest, cache])
+            replace_slots(disk, tag, &[manifest, cache, aux])
         }
-        None => replace_slots(disk, tag, &[cache]),
+        None => replace_slots(disk, tag, &[cache, aux]),
     }
 }
 
-/// Updates an image: plans the links of its libraries, writes the cache of their entries, the manifest before it if links are
-/// planned, and makes the report. All memory is taken before the first writing call. An update of the session that is returned, which
-/// has the planned links, would find the same, plan no link and write the same cache.
+// The image of this tree and these stamps, of which all is stored.
+fn updated(tree: Tree, stamps: Stamps) -> Session
+    requires names { HaveNames stamps }
+    ensures { result ≡ stored_image tree stamps }
+{
+    Session {
+        tree,
+        stamps,
+        edited: false,
+        damaged: None,
+    }
+}
+
+/// Updates an image: plans the links of its libraries, and writes the manifest if the image was edited or links are planned, the cache of
+/// the libraries' entries, and the auxiliary cache of their stamps. It opens only those library files of which no stamp says what they are.
+/// All memory is taken before the first writing call. An update of the session that is returned, which has the planned links and the
+/// stamps, would find the same, plan no link and write the same caches.
 pub fn update<S: Store, D: Disk>(
     alloc: Global,
     session: Session,
@@ -53,10 +69,10 @@ pub fn update<S: Store, D: Disk>(
 ) -> Result<(Session, Report), UpdateFault>
     ensures updates { Updates tag session result (S.state store.old) (S.state store.new) (D.state disk.old) (D.state disk.new) }
 {
-    let mut updated = session;
-    let prepared = prepare(alloc, &mut updated.tree, store)?;
-    match write_texts(disk, tag, &prepared.manifest, &prepared.cache) {
-        Ok(()) => Ok((updated, prepared.report)),
+    let mut image = session;
+    let prepared = prepare(alloc, &mut image, store)?;
+    match write_texts(disk, tag, &prepared) {
+        Ok(()) => Ok((updated(image.tree, prepared.stamps), prepared.report)),
         Err(fault) => Err(UpdateFault::DiskFault(fault)),
     }
 }

@@ -1,21 +1,25 @@
 //! What an update is about to write.
-ghost use Rattle.std.specs.Prelude.{◌≡◌, ℕ, false, true, length, IfErr, IfOk, IsErrOf, IsTrue};
+ghost use Rattle.std.specs.Prelude.{◌≡◌, ℕ, false, true, length, IfErr, IfOk, IsErrOf, IsTrue, None, Some};
+ghost use Rattle.aux_cache.specs.AuxFile.{damage};
+ghost use Rattle.aux_cache.specs.AuxText.{aux_text};
+ghost use Rattle.aux_cache.specs.Stamps.{HaveNames};
+ghost use Rattle.loaded_image.specs.Aux.{stamps_of_slot};
 ghost use Rattle.found_files.specs.Best.{bests_of};
 ghost use Rattle.found_files.specs.Search.{followed};
 ghost use Rattle.found_files.specs.Table.{analysis_at};
-ghost use Rattle.tree_face.specs.Known.{IfKnown};
 ghost use Rattle.hwcap_dirs.specs.Places.{are_spelled};
 ghost use Rattle.ldconfig_core.specs.Faults.{is_of_making, is_of_preparing, is_size_fault};
 ghost use Rattle.ldconfig_core.specs.Outcome.{is_too_long, manifest_with, update_outcome};
-ghost use Rattle.ldconfig_core.specs.Settled.{IfReads};
-ghost use Rattle.ldconfig_core.specs.Stages.{loaded, said_of, texts_of, HasTooMany, IsMadeOf, IsTooLarge};
+ghost use Rattle.ldconfig_core.specs.Stages.{said_of, stored_image, texts_of, HasTooMany, IfTree, IsMadeOf, IsTooLarge};
 ghost use Rattle.ldconfig_core.specs.Texts.{manifest_bytes};
-ghost use Rattle.ldconfig_core.specs.Update.{AreUpdateTexts, IsAnswer, IsUpdated, ReadsUpdate, update_ending};
+ghost use Rattle.ldconfig_core.specs.Update.{AreUpdateTexts, IfHonestly, IsAnswer, IsUpdated, ReadsUpdate, update_ending};
 ghost use Rattle.update_report.specs.Report.{report_text};
 
 use crate::fault::UpdateFault;
 use crate::report::Report;
+use aux_cache::{STAMPS_MAX, Stamps};
 use lib_types::{Entries, NoMemory};
+use loaded_image::Session;
 use mtree_manifest::TEXT_MAX;
 use searched_image::{Found, find};
 use soname_links::kinds::Plan;
@@ -27,21 +31,29 @@ use winning_entries::entries_by;
 /// What an update is about to write, and its report.
 #[derive(Drop)]
 pub struct Prepared {
-    /// The new manifest, if links are planned.
+    /// The new manifest, if the image was edited or links are planned.
     pub manifest: Option<Vec<u8>>,
     pub cache: Vec<u8>,
+    pub aux: Vec<u8>,
+    /// Those of which the auxiliary cache is the text.
+    pub stamps: Stamps,
     pub report: Report,
 }
 
-// The manifest of the tree with these links, if there are any.
-fn new_manifest(alloc: Global, tree: &Tree, plan: &Plan) -> Result<Option<Vec<u8>>, UpdateFault>
-    ensures text { IfOk result (λ text. manifest_bytes text ≡ manifest_with tree.now plan.now) }
-    ensures short { IfOk result (λ _. is_too_long (manifest_with tree.now plan.now) ≡ false) }
-    ensures reads { IfOk result (λ text. IfReads (manifest_bytes text) (loaded tree.now)) }
-    ensures too_large { (nodes bytes : ℕ) → IsErrOf result (UpdateFault.TooLarge nodes bytes) → IsTooLarge tree.now plan.now nodes bytes }
+// The manifest of the tree with these links, if it was edited or there are any.
+fn new_manifest(
+    alloc: Global,
+    tree: &Tree,
+    edited: bool,
+    plan: &Plan,
+) -> Result<Option<Vec<u8>>, UpdateFault>
+    ensures text { IfOk result (λ text. manifest_bytes text ≡ manifest_with edited tree.now plan.now) }
+    ensures short { IfOk result (λ _. is_too_long (manifest_with edited tree.now plan.now) ≡ false) }
+    ensures reads { IfOk result (λ text. IfTree (manifest_bytes text) tree.now) }
+    ensures too_large { (nodes bytes : ℕ) → IsErrOf result (UpdateFault.TooLarge nodes bytes) → IsTooLarge edited tree.now plan.now nodes bytes }
     ensures others { IfErr result (λ fault. is_size_fault fault ≡ true) }
 {
-    if plan.is_empty() {
+    if !edited && plan.is_empty() {
         return Ok(None);
     }
     let text = mtree_manifest::write(alloc, tree)?;
@@ -54,18 +66,24 @@ fn new_manifest(alloc: Global, tree: &Tree, plan: &Plan) -> Result<Option<Vec<u8
     Ok(Some(text))
 }
 
-// The report of what was found, of which nothing is needed after it.
-fn report_of(alloc: Global, found: Found, entries: &Entries) -> Result<Report, NoMemory>
-    ensures text { IfOk result (λ report. report.text ≡ report_text (said_of found entries.now)) }
+// The report of what was found.
+fn report_of(
+    alloc: Global,
+    damaged: Option<u64>,
+    found: &Found,
+    entries: &Entries,
+) -> Result<Report, NoMemory>
+    ensures text { IfOk result (λ report. report.text ≡ report_text (said_of damaged found.now entries.now)) }
     ensures libs { IfOk result (λ report. report.libs ≡ length entries.now) }
-    ensures links { IfOk result (λ report. report.links ≡ length found.links.plan) }
-    ensures opened { IfOk result (λ report. report.opened ≡ found.search.files.begun) }
+    ensures links { IfOk result (λ report. report.links ≡ length found.now.links.plan) }
+    ensures opened { IfOk result (λ report. report.opened ≡ found.now.search.files.begun) }
 {
     let search = &found.search;
     let skips = skips_in(alloc, &search.files.table)?;
     let text = report(
         alloc,
         &Findings {
+            damaged,
             conf: &search.conf.reports,
             dirs: &search.dirs,
             plan: &found.links.plan,
@@ -94,17 +112,47 @@ fn count(items: usize) -> Result<u32, NoMemory>
     }
 }
 
+// The stamps of what was found, of which nothing else is needed any more.
+fn stamps_of(alloc: Global, found: Found) -> Result<Stamps, NoMemory>
+    ensures stamps { IfOk result (λ stamps. stamps ≡ found.search.files.stamps) }
+    ensures names { IfOk result HaveNames }
+{
+    let search = found.search;
+    let files = search.files;
+    files.stamps.into_stamps(alloc)
+}
+
+// The auxiliary cache of these stamps. A tree has fewer files than an auxiliary cache may have stamps.
+fn aux_of(alloc: Global, stamps: &Stamps) -> Result<Vec<u8>, NoMemory>
+    requires names { HaveNames stamps.now }
+    ensures text { IfOk result (λ aux. aux.items ≡ aux_text stamps.now) }
+    ensures undamaged { IfOk result (λ aux. damage aux.items ≡ None) }
+    ensures read { IfOk result (λ aux. stamps_of_slot (Some aux.items) ≡ stamps.now) }
+{
+    if stamps.len() > STAMPS_MAX {
+        return Err(NoMemory);
+    }
+    aux_cache::write(alloc, stamps)
+}
+
 // Makes what is written of what was found in the tree with its planned links.
-fn make(alloc: Global, tree: &Tree, found: Found) -> Result<Prepared, UpdateFault>
+fn make(
+    alloc: Global,
+    tree: &Tree,
+    edited: bool,
+    damaged: Option<u64>,
+    found: Found,
+) -> Result<Prepared, UpdateFault>
     requires spelled { IsTrue (are_spelled found.search.dirs.places) }
     requires bests { found.links.bests ≡ bests_of (analysis_at found.search.files.table) tree.now found.search.dirs.places }
     requires links { found.followed.links ≡ followed tree.now found.search.dirs.places }
-    ensures made { IfOk result (IsMadeOf found tree.now) }
-    ensures too_large { (nodes bytes : ℕ) → IsErrOf result (UpdateFault.TooLarge nodes bytes) → IsTooLarge tree.now found.links.plan nodes bytes }
-    ensures too_many { (count : ℕ) → IsErrOf result (UpdateFault.TooMany count) → HasTooMany found tree.now count }
+    ensures made { IfOk result (IsMadeOf edited damaged found tree.now) }
+    ensures names { IfOk result (λ prepared. HaveNames prepared.stamps) }
+    ensures too_large { (nodes bytes : ℕ) → IsErrOf result (UpdateFault.TooLarge nodes bytes) → IsTooLarge edited tree.now found.links.plan nodes bytes }
+    ensures too_many { (count : ℕ) → IsErrOf result (UpdateFault.TooMany count) → HasTooMany edited found tree.now count }
     ensures others { IfErr result (λ fault. is_of_making fault ≡ true) }
 {
-    let manifest = new_manifest(alloc, tree, &found.links.plan)?;
+    let manifest = new_manifest(alloc, tree, edited, &found.links.plan)?;
     let entries = entries_by(
         alloc,
         tree,
@@ -113,30 +161,37 @@ fn make(alloc: Global, tree: &Tree, found: Found) -> Result<Prepared, UpdateFaul
         &found.links.bests,
         &found.followed.links,
     )?;
-    let report = report_of(alloc, found, &entries)?;
+    let report = report_of(alloc, damaged, &found, &entries)?;
+    let stamps = stamps_of(alloc, found)?;
     let cache = cache_writer::write(alloc, &entries)?;
+    let aux = aux_of(alloc, &stamps)?;
     Ok(Prepared {
         manifest,
         cache,
+        aux,
+        stamps,
         report,
     })
 }
 
-/// Makes what the update of a tree writes, and puts the planned links into the tree.
+/// Makes what the update of an image writes, and puts the planned links into its tree.
 pub fn prepare<S: Store>(
     alloc: Global,
-    tree: &mut Tree,
+    image: &mut Session,
     store: &mut S,
 ) -> Result<Prepared, UpdateFault>
-    ensures updated { IfOk result (λ prepared. IfKnown (S.state store.old).held
-        (λ held. IsUpdated held (loaded tree.old) (loaded tree.new, prepared.report))) }
-    ensures texts { IfOk result (λ prepared. AreUpdateTexts (loaded tree.old) (S.state store.old).held (texts_of prepared)) }
-    ensures answers { IfKnown (S.state store.old).held
-        (λ held. IsAnswer (update_outcome held (loaded tree.old)) result (S.state store.old) (S.state store.new)) }
+    ensures updated { IfOk result (λ prepared. IfHonestly (S.state store.old).held image.old
+        (λ held. IsUpdated held image.old (stored_image image.new.tree prepared.stamps, prepared.report))) }
+    ensures names { IfOk result (λ prepared. HaveNames prepared.stamps) }
+    ensures texts { IfOk result (λ prepared. AreUpdateTexts image.old (S.state store.old).held (texts_of prepared)) }
+    ensures answers { IfHonestly (S.state store.old).held image.old
+        (λ held. IsAnswer (update_outcome held image.old) result (S.state store.old) (S.state store.new)) }
     ensures others { IfErr result (λ fault. is_of_preparing fault ≡ true) }
-    ensures reads { ReadsUpdate (loaded tree.old) (update_ending result) (S.state store.old) (S.state store.new) }
+    ensures reads { ReadsUpdate image.old (update_ending result) (S.state store.old) (S.state store.new) }
 {
-    let found = find(alloc, tree, store)?;
-    let prepared = make(alloc, tree, found)?;
+    let found = find(alloc, &mut image.tree, store, &image.stamps)?;
+    // Those that were loaded have served, and what is made needs the memory.
+    image.stamps = Stamps::new(alloc);
+    let prepared = make(alloc, &image.tree, image.edited, image.damaged, found)?;
     Ok(prepared)
 }

@@ -1,9 +1,7 @@
 -- The best libraries of the places are the same once links are put and more files are read.
-use Rattle.std.proofs.Common.{◌≡◌, ℕ, true, cond, List, [], ◌∷◌, map, refl, ap, sym, subst, ◌∙◌, Option, Some, None}
-use Rattle.std.specs.List.{list_any}
+use Rattle.std.proofs.Common.{◌≡◌, true, cond, List, [], ◌∷◌, map, refl, ap, sym, subst, ◌∙◌, Option, Some, None}
 use Rattle.std.specs.Option.{is_none, is_some}
-use Rattle.std.specs.Str.{bytes_eq}
-use Rattle.analysed_files.specs.Files.{AreRead}
+use Rattle.stamped_files.specs.Files.{AreRead}
 use Rattle.elf_dynamic.specs.Begun.{key_in}
 use Rattle.hwcap_dirs.specs.declared.kinds.Place.{Place}
 use Rattle.lib_types.specs.declared.analysis.Analysis.{Analysis}

@@ -1,35 +1,36 @@
 -- What was read of the files of an image is what they are.
-use Rattle.std.proofs.Common.{◌≡◌, ◌+◌, ◌||◌, ◌++◌, ℕ, Bool, true, false, cond, not, List, [], ◌∷◌, Option, Some, None, refl, ap, sym, subst, ◌∙◌, filter}
+use Rattle.std.proofs.Common.{◌≡◌, ◌||◌, ◌++◌, ℕ, true, false, cond, not, List, [], ◌∷◌, Option, Some, None, refl, ap, sym, ◌∙◌, filter}
 use Rattle.std.proofs.lemmas.Bool.{or_left, or_right}
 use Rattle.std.proofs.lemmas.List.Folds.{list_any-append}
 use Rattle.std.specs.Cmp.Lexicographic.{slice_cmp}
-use Rattle.std.specs.List.{cons_option, filter_map, list_any}
+use Rattle.std.specs.List.{filter_map}
 use Rattle.std.specs.List.Sorted.{IsStrictlySortedBy}
 use Rattle.std.specs.Map.{keys_of}
 use Rattle.std.specs.Option.{is_none, is_some, option_and_then, option_map}
 use Rattle.std.specs.Ordering.{nat_cmp}
 use Rattle.std.specs.Str.{bytes_eq}
 use Rattle.elf_dynamic.specs.Analysis.{analysis}
-use Rattle.analysed_files.specs.Files.{AreRead, AreRight, unread_key, unread_keys, what_is}
-use Rattle.elf_dynamic.specs.Begun.{file_keys, key_in}
+use Rattle.stamped_files.specs.Files.{AreRead, AreRight, what_is}
+use Rattle.elf_dynamic.specs.Begun.{key_in}
 use Rattle.hwcap_dirs.specs.declared.kinds.Place.{Place}
-use Rattle.ldso_conf.specs.Reading as conf
 use Rattle.lib_types.proofs.SortedPairs.{by_test}
 use Rattle.lib_types.specs.declared.analysis.Analysis.{Analysis}
 use Rattle.found_files.proofs.InOrder.{ascending_sorted, in_ascending}
 use Rattle.found_files.proofs.Members.{is_in}
-use Rattle.found_files.specs.Analyses.{AgreeOn, Analyses, KeepsAnalyses}
+use Rattle.found_files.specs.Analyses.{AgreeOn, Analyses, HaveAnalyses, KeepsAnalyses, unread}
 use Rattle.found_files.specs.Order.{ascending}
 use Rattle.found_files.specs.Search.{reached, wanted}
 use Rattle.found_files.specs.Table.{Rows, analysis_at}
-use Rattle.settled_links.specs.Search.{IsSearchedAlike}
+use Rattle.settled_links.proofs.Agree.{agree}
+use Rattle.settled_links.specs.Search.{IsSearchedAlike, file_in}
+use Rattle.stamped_files.specs.Stamped.{content_of, id_at, id_in}
 use Rattle.image_tree.specs.declared.node.Node.{Node}
 use Rattle.image_tree.specs.declared.node.Node.TheVariants as node
 use Rattle.tree_face.specs.Store.{Contents}
 use Rattle.image_tree.specs.Tree.{Nodes, node_at}
 use Rattle.update_report.proofs.Picked.{in_table, same_picked}
 use Rattle.update_report.proofs.SkipsOfFiles.{skips_agree}
-use Rattle.update_report.specs.Skips.{is_skipped, skip_at}
+use Rattle.update_report.specs.Skips.{skip_at}
 
 -- ---- the order of the paths that are read
 
@@ -59,15 +60,28 @@ agree_read held t what paths right read path there = by_test (is_some (what path
     (λ e. right path e)
     (λ e. none_is (what path) e ∙ sym (nothing_at held (key_in (node_at t path)) (no_key (what path) (key_in (node_at t path)) e (read path there))))
 
-pub one_key : (o : Option Node) → key_in o ≡ conf.key_in o
-one_key None = refl
-one_key (Some node.Dir) = refl
-one_key (Some (node.File key id)) = refl
-one_key (Some (node.Link target)) = refl
+-- the parts of a file
+key_of : (o : Option Node) → key_in o ≡ option_map (λ file. file.0) (file_in o)
+key_of None = refl
+key_of (Some node.Dir) = refl
+key_of (Some (node.File key id)) = refl
+key_of (Some (node.Link target)) = refl
+
+id_of : (o : Option Node) → id_in o ≡ option_and_then (λ file. file.1) (file_in o)
+id_of None = refl
+id_of (Some node.Dir) = refl
+id_of (Some (node.File key id)) = refl
+id_of (Some (node.Link target)) = refl
 
 module _ (held : Contents) (t new : Nodes) (alike : IsSearchedAlike t new) where
   pub key_same : (path : List ℕ) → key_in (node_at new path) ≡ key_in (node_at t path)
-  key_same path = one_key (node_at new path) ∙ alike.files path ∙ sym (one_key (node_at t path))
+  key_same path = key_of (node_at new path) ∙ ap (option_map (λ file. file.0)) (alike.files path) ∙ sym (key_of (node_at t path))
+
+  pub id_same : (path : List ℕ) → id_at new path ≡ id_at t path
+  id_same path = id_of (node_at new path) ∙ ap (option_and_then (λ file. file.1)) (alike.files path) ∙ sym (id_of (node_at t path))
+
+  pub content_same : (path : List ℕ) → content_of held new path ≡ content_of held t path
+  content_same path = ap (option_and_then held) (key_same path)
 
   pub what_same : (path : List ℕ) → what_is held new path ≡ what_is held t path
   what_same path = ap (λ k. option_map analysis (option_and_then held k)) (key_same path)
@@ -84,30 +98,33 @@ module _ (held : Contents) (t new : Nodes) (alike : IsSearchedAlike t new) where
       (λ f. let z : true ≡ false = sym f ∙ ap is_some (sym (keeps path f)) ∙ e in absurd (cc))
       (λ f. none_is (after path) e ∙ sym (none_is (before path) f) ∙ agree path there))
 
-  -- ---- the keys of the files behind links
+-- ---- the files behind links
 
-  module _ (rows : Rows) (wanted_paths : List (List ℕ)) (read : AreRead t (analysis_at rows) wanted_paths)
-      (only : (path : List ℕ) → is_in (keys_of rows) path ≡ true → is_in wanted_paths path ≡ true) where
-    none_there : (path : List ℕ) → is_in wanted_paths path ≡ false → analysis_at rows path ≡ None
-    none_there path out = by_test (is_some (analysis_at rows path))
-        (λ e. let z : true ≡ false = sym (only path (has_row rows path e)) ∙ out in absurd (cc))
-        (λ e. none_is (analysis_at rows path) e)
-      where
-        has_row : (rows : Rows) (path : List ℕ) → is_some (analysis_at rows path) ≡ true → is_in (keys_of rows) path ≡ true
-        has_row [] path h = absurd (cc)
-        has_row (e ∷ rows) path h = by_test (bytes_eq path e.0)
-            (λ f. or_left (bytes_eq path e.0) (is_in (keys_of rows) path) f)
-            (λ f. or_right (bytes_eq path e.0) (is_in (keys_of rows) path) (has_row rows path (rw f at h)))
+-- what stands in the rows is said of the paths there
+has_row : (rows : Rows) (path : List ℕ) → is_some (analysis_at rows path) ≡ true → is_in (keys_of rows) path ≡ true
+has_row [] path h = absurd (cc)
+has_row (e ∷ rows) path h = by_test (bytes_eq path e.0)
+    (λ f. or_left (bytes_eq path e.0) (is_in (keys_of rows) path) f)
+    (λ f. or_right (bytes_eq path e.0) (is_in (keys_of rows) path) (has_row rows path (rw f at h)))
 
-    read_new : (path : List ℕ) → is_in wanted_paths path ≡ true → unread_key new (analysis_at rows) path ≡ None
-    read_new path there = ap (λ k. cond (is_none (analysis_at rows path)) k None) (key_same path) ∙ read path there
+none_not : (a : Option Analysis) → is_none a ≡ not (is_some a)
+none_not None = refl
+none_not (Some a) = refl
 
-    pub behind_keys_are : (paths : List (List ℕ)) → unread_keys new (analysis_at rows) paths ≡ file_keys new (filter (λ path. not (is_in wanted_paths path)) paths)
-    behind_keys_are [] = refl
-    behind_keys_are (path ∷ paths) = by_test (is_in wanted_paths path)
-        (λ e. rw e (ap (λ o. cons_option o (unread_keys new (analysis_at rows) paths)) (read_new path e) ∙ behind_keys_are paths))
-        (λ e. rw e (ap (λ a. cons_option (cond (is_none a) (key_in (node_at new path)) None) (unread_keys new (analysis_at rows) paths)) (none_there path e)
-        ∙ ap (cons_option (key_in (node_at new path))) (behind_keys_are paths)))
+module _ (rows : Rows) (wanted_paths : List (List ℕ)) (all : HaveAnalyses (analysis_at rows) wanted_paths)
+    (only : (path : List ℕ) → is_in (keys_of rows) path ≡ true → is_in wanted_paths path ≡ true) where
+  some_there : (path : List ℕ) → is_some (analysis_at rows path) ≡ is_in wanted_paths path
+  some_there path = by_test (is_in wanted_paths path)
+      (λ e. all path e ∙ sym e)
+      (λ e. by_test (is_some (analysis_at rows path))
+      (λ f. let z : true ≡ false = sym (only path (has_row rows path f)) ∙ e in absurd (cc))
+      (λ f. f ∙ sym e))
+
+  -- those that weren't read are the others
+  pub unread_are : (paths : List (List ℕ)) → unread (analysis_at rows) paths ≡ filter (λ path. not (is_in wanted_paths path)) paths
+  unread_are paths =
+      ap (λ keep. filter keep paths)
+      (agree (λ path. is_none (analysis_at rows path)) (λ path. not (is_in wanted_paths path)) (λ path. none_not (analysis_at rows path) ∙ ap not (some_there path)))
 
 -- ---- the files that are no libraries
 

@@ -1,18 +1,20 @@
 -- All that an update finds, part by part.
-use Rattle.std.proofs.Common.{◌≡◌, ◌≤◌, ◌<◌, ◌+◌, ◌||◌, ◌++◌, ℕ, true, false, not, List, length, Option, Some, None, refl, ap, sym, subst, ◌∙◌, filter, arith}
+use Rattle.std.proofs.Common.{◌≡◌, ◌≤◌, ◌<◌, ◌+◌, ◌||◌, ◌++◌, ℕ, true, false, not, List, [], length, ap, sym, subst, ◌∙◌, filter, arith}
 use Rattle.std.proofs.lemmas.Bool.{or_left, or_right}
-use Rattle.std.specs.List.{filter_map, list_any}
+use Rattle.std.proofs.lemmas.List.Elements.{filter_map-append}
+use Rattle.std.proofs.lemmas.List.Sums.{fold-append}
+use Rattle.std.specs.List.{filter_map}
 use Rattle.std.specs.Map.{keys_of}
-use Rattle.std.specs.Str.{bytes_eq}
 use Rattle.winning_entries.proofs.NoOtherFiles.{found_agrees}
 use Rattle.winning_entries.specs.Entries as entries
-use Rattle.analysed_files.specs.Files.{AreRead, AreRight, unread_keys, what_is}
-use Rattle.elf_dynamic.specs.Begun.{file_keys, lacks_one}
-use Rattle.analysed_files.specs.declared.files.Files.{Files}
-use Rattle.hwcap_dirs.specs.declared.kinds.Place.{Place}
+use Rattle.stamped_files.specs.Files.{AreRead, AreRight, what_is}
+use Rattle.aux_cache.specs.Stamps.{put}
+use Rattle.aux_cache.specs.declared.stamps.Stamp.{Stamp}
+use Rattle.elf_dynamic.specs.Begun.{lacks_one}
 use Rattle.lib_types.proofs.SortedPairs.{by_test}
-use Rattle.found_files.proofs.Members.{is_in}
-use Rattle.found_files.specs.Analyses.{AgreeOn, KeepsAnalyses}
+use Rattle.found_files.proofs.Members.{AreSorted, is_in}
+use Rattle.found_files.proofs.Unread.{unread_sorted}
+use Rattle.found_files.specs.Analyses.{AgreeOn, HaveAnalyses, KeepsAnalyses}
 use Rattle.found_files.specs.Order.{ascending}
 use Rattle.found_files.specs.Search.{dangling, reached, wanted}
 use Rattle.found_files.specs.Table.{analysis_at}
@@ -24,20 +26,24 @@ use Rattle.soname_links.specs.Marks.{blocked, mixed}
 use Rattle.soname_links.specs.Plan.{links, with_links}
 use Rattle.soname_links.specs.Settled.{IsSettled}
 use Rattle.image_tree.specs.declared.tree.TheConstants.{NODES_MAX}
-use Rattle.tree_face.specs.Known.{IfKnown}
+use Rattle.stamped_files.specs.Opened.{opened_keys, opens}
+use Rattle.stamped_files.specs.Stamped.{AreSame, stamp_at, stamps_at, with_stamps}
+use Rattle.stamped_files.specs.State.{stamps_there, unread_paths}
+use Rattle.stamped_files.specs.declared.files.Files.{Files}
 use Rattle.tree_face.specs.Store.{Contents}
 use Rattle.image_tree.specs.Tree.{Nodes}
-use Rattle.searched_image.proofs.FilesAgree.{agree_read, behind_keys_are, right_new, skips_are, still_agree, what_same}
+use Rattle.searched_image.proofs.FilesAgree.{agree_read, reached_sorted, right_new, skips_are, still_agree, unread_are, what_same}
 use Rattle.searched_image.proofs.Limits.{over, within}
-use Rattle.searched_image.specs.Begun.{behind_in, behind_keys, has_too_many_nodes, opened_in, wanted_keys}
+use Rattle.searched_image.proofs.StampsAgree.{keys_alike, opens_both, stamps_same}
+use Rattle.searched_image.specs.Begun.{behind_keys, has_too_many_nodes, opened_in, stamps_wanted}
 use Rattle.searched_image.specs.declared.finding.Found.{Found}
 use Rattle.searched_image.specs.declared.following.Followed.{Followed}
 use Rattle.searched_image.specs.declared.search.Search.{Search}
-use Rattle.searched_image.specs.Ldconfig.{entries_in, library_files, links_in, places_in, planned_in, reached_in, wanted_in}
+use Rattle.searched_image.specs.Ldconfig.{behind_in, entries_in, links_in, planned_in, reached_in, stamps_in, wanted_in}
 use Rattle.searched_image.specs.Found.{HasTooManyNodes, IsFound, IsSearched}
 use Rattle.update_report.specs.Skips.{skip_at}
 
-module _ (held : Contents) (t : Nodes) (search : Search) (s : IsSearched held t search) (read : AreRead t (analysis_at search.files.table) (wanted t search.dirs.places)) where
+module _ (held : Contents) (t : Nodes) (loaded : List Stamp) (search : Search) (s : IsSearched held t loaded search) (read : AreRead t (analysis_at search.files.table) (wanted t search.dirs.places)) where
   pub agree_wanted : AgreeOn (wanted t search.dirs.places) (what_is held t) (analysis_at search.files.table)
   agree_wanted = agree_read held t (analysis_at search.files.table) (wanted t search.dirs.places) s.right read
 
@@ -55,13 +61,14 @@ module _ (held : Contents) (t : Nodes) (search : Search) (s : IsSearched held t 
   pub many_nodes : (nodes : ℕ) → nodes ≡ nodes_with t (links (analysis_at search.files.table) t search.dirs.places) → NODES_MAX < nodes → has_too_many_nodes held t ≡ true
   many_nodes nodes e more = rw (← links_are) (over NODES_MAX (nodes_with t (links (analysis_at search.files.table) t search.dirs.places)) (omega (arith, more, e)))
 
-  pub too_large : (nodes : ℕ) → nodes ≡ nodes_with t (links (analysis_at search.files.table) t search.dirs.places) → NODES_MAX < nodes → HasTooManyNodes held t nodes
+  pub too_large : (nodes : ℕ) → nodes ≡ nodes_with t (links (analysis_at search.files.table) t search.dirs.places) → NODES_MAX < nodes → HasTooManyNodes held t loaded nodes
   too_large nodes e more = record { none_lacks = s.none_lacks; many = many_nodes nodes e more; nodes_are = e ∙ ap (nodes_with t) links_are }
 
-  module _ (only : (path : List ℕ) → is_in (keys_of search.files.table) path ≡ true → is_in (wanted t search.dirs.places) path ≡ true) (new : Nodes) (alike : IsSearchedAlike t new)
-      (put : new ≡ with_links t (links (analysis_at search.files.table) t search.dirs.places)) where
+  module _ (all : HaveAnalyses (analysis_at search.files.table) (wanted t search.dirs.places))
+      (only : (path : List ℕ) → is_in (keys_of search.files.table) path ≡ true → is_in (wanted t search.dirs.places) path ≡ true) (new : Nodes) (alike : IsSearchedAlike t new)
+      (new_is : new ≡ with_links t (links (analysis_at search.files.table) t search.dirs.places)) where
     pub is_planned : new ≡ planned_in held t
-    is_planned = put ∙ tree_is
+    is_planned = new_is ∙ tree_is
 
     reached_are : reached new search.dirs.places ≡ reached_in held t
     unfolding reached_in
@@ -71,13 +78,47 @@ module _ (held : Contents) (t : Nodes) (search : Search) (s : IsSearched held t 
     unfolding wanted_in
     wanted_are = ap (wanted t) s.places
 
-    pub behind_are : unread_keys new (analysis_at search.files.table) (reached new search.dirs.places) ≡ behind_keys held t
+    -- the files behind links that weren't read
+    abbrev behind : List (List ℕ)
+    behind = unread_paths search.files (reached new search.dirs.places)
+
+    behind_sorted : AreSorted behind
+    behind_sorted = unread_sorted (analysis_at search.files.table) (reached new search.dirs.places) (reached_sorted new search.dirs.places)
+
+    paths_are : behind ≡ behind_in held t
+    paths_are =
+        unread_are search.files.table (wanted t search.dirs.places) all only (reached new search.dirs.places)
+        ∙ ap (λ paths. filter (λ path. not (is_in (wanted t search.dirs.places) path)) paths) reached_are
+        ∙ ap (λ paths. filter (λ path. not (is_in paths path)) (reached_in held t)) wanted_are
+
+    -- the stamps there are those of the same identities
+    opened_are : opened_keys held new (stamps_there loaded search.files) behind ≡ opened_keys held new (stamps_wanted held t loaded) behind
+    opened_are = keys_alike held new (stamps_there loaded search.files) (stamps_wanted held t loaded) behind behind_sorted s.stamped
+
+    pub behind_are : opened_keys held new (stamps_there loaded search.files) behind ≡ behind_keys held t loaded
     unfolding behind_keys
     behind_are =
-        behind_keys_are held t new alike search.files.table (wanted t search.dirs.places) read only (reached new search.dirs.places)
-        ∙ ap (λ paths. file_keys new (filter (λ path. not (is_in (wanted t search.dirs.places) path)) paths)) reached_are
-        ∙ ap (λ paths. file_keys new (filter (λ path. not (is_in paths path)) (reached_in held t))) wanted_are
-        ∙ ap (λ n. file_keys n (behind_in held t)) is_planned
+        opened_are
+        ∙ ap (λ n. opened_keys held n (stamps_wanted held t loaded) behind) is_planned
+        ∙ ap (λ paths. opened_keys held (planned_in held t) (stamps_wanted held t loaded) paths) paths_are
+
+    opened_is : AreSame held t t → (before after : ℕ) → before ≡ opens held t loaded (wanted_in held t)
+        → after ≡ before + length (opened_keys held new (stamps_there loaded search.files) behind) → after ≡ opened_in held t loaded
+    unfolding stamps_wanted
+    opened_is same before after first next =
+        let both = opens_both held t new alike same loaded (wanted_in held t) behind behind_sorted in
+        let keys = ap length opened_are in
+        let count : after ≡ opens held t loaded (wanted_in held t ++ behind) = omega (arith, first, next, both, keys) in
+        count ∙ ap (λ paths. opens held t loaded (wanted_in held t ++ paths)) paths_are
+
+    stamps_are : (stamps : List Stamp) → stamps ≡ with_stamps search.files.stamps (stamps_at held new behind) → stamps ≡ stamps_in held t
+    unfolding stamps_in
+    stamps_are stamps e =
+        e
+        ∙ ap (λ l. with_stamps l (stamps_at held new behind)) s.stamps
+        ∙ ap (λ l. with_stamps (with_stamps [] (stamps_at held t (wanted_in held t))) l) (stamps_same held t new alike behind ∙ ap (stamps_at held t) paths_are)
+        ∙ sym (fold-append put [] (stamps_at held t (wanted_in held t)) (stamps_at held t (behind_in held t)))
+        ∙ ap (λ l. with_stamps [] l) (sym (filter_map-append (stamp_at held t) (wanted_in held t) (behind_in held t)))
 
     module _ (made : Survey) (followed : Followed) (files : Files) (still : IsSettled (analysis_at search.files.table) t search.dirs.places new) where
       abbrev found : Found
@@ -89,19 +130,19 @@ module _ (held : Contents) (t : Nodes) (search : Search) (s : IsSearched held t 
           → (AreRight held new (analysis_at search.files.table) → AreRight held new (analysis_at files.table))
           → KeepsAnalyses (analysis_at search.files.table) (analysis_at files.table) → AreRead new (analysis_at files.table) (reached new search.dirs.places)
           → ((path : List ℕ) → is_in (keys_of files.table) path ≡ true → (is_in (keys_of search.files.table) path || is_in (reached new search.dirs.places) path) ≡ true)
-          → files.begun ≡ search.files.begun + length (unread_keys new (analysis_at search.files.table) (reached new search.dirs.places))
-          → lacks_one held (unread_keys new (analysis_at search.files.table) (reached new search.dirs.places)) ≡ false
-          → IsFound held t found new
+          → AreSame held t t → files.stamps ≡ with_stamps search.files.stamps (stamps_at held new behind)
+          → files.begun ≡ search.files.begun + length (opened_keys held new (stamps_there loaded search.files) behind)
+          → lacks_one held (opened_keys held new (stamps_there loaded search.files) behind) ≡ false
+          → IsFound held t loaded found new
       unfolding entries_in
-      is_found plan few b m d right keeps all more begun none =
+      is_found plan few b m d right keeps read_all more same stamps begun none =
           let after = right (right_new held t new alike (analysis_at search.files.table) s.right) in
           let one : AgreeOn (wanted t search.dirs.places) (what_is held t) (analysis_at files.table) =
           still_agree held t new alike (analysis_at search.files.table) (analysis_at files.table) (wanted t search.dirs.places) agree_wanted keeps after in
           let other : AgreeOn (reached new search.dirs.places) (what_is held t) (analysis_at files.table) =
-          λ path there. agree_read held new (analysis_at files.table) (reached new search.dirs.places) after all path there ∙ what_same held t new alike path in
+          λ path there. agree_read held new (analysis_at files.table) (reached new search.dirs.places) after read_all path there ∙ what_same held t new alike path in
           let one_new : AgreeOn (wanted new search.dirs.places) (what_is held t) (analysis_at files.table) =
           subst (λ (paths : List (List ℕ)). AgreeOn paths (what_is held t) (analysis_at files.table)) (sym still.files) one in
-          let behind = behind_are in
           record {
             conf = s.conf;
             places = s.places;
@@ -119,9 +160,9 @@ module _ (held : Contents) (t : Nodes) (search : Search) (s : IsSearched held t 
                 (λ e. or_right (is_in (wanted t search.dirs.places) path) (is_in (reached new search.dirs.places) path) (sym (ap (λ b. b || is_in (reached new search.dirs.places) path) e) ∙ more path there)))
                 ∙ ap (λ paths. filter_map (skip_at (what_is held t)) (ascending (paths ++ reached new search.dirs.places))) wanted_are
                 ∙ ap (λ paths. filter_map (skip_at (what_is held t)) (ascending (wanted_in held t ++ paths))) reached_are;
-            opened = begun ∙ ap (λ n. n + length (unread_keys new (analysis_at search.files.table) (reached new search.dirs.places))) s.begun
-                ∙ ap (λ keys. length (wanted_keys held t) + length keys) behind;
+            stamps = stamps_are files.stamps stamps;
+            opened = opened_is same search.files.begun files.begun s.begun begun;
             none_lacks = s.none_lacks;
             few = few_nodes few;
-            none_behind = ap (lacks_one held) (sym behind) ∙ none;
+            none_behind = ap (lacks_one held) (sym behind_are) ∙ none;
           }

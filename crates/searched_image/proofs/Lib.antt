@@ -1,3 +1,4 @@
+mod AnyStamps
 mod Bests
 mod Endings
 pub mod FilesAgree
@@ -6,3 +7,4 @@ mod KeysBegun
 mod KnownParts
 pub mod Limits
 mod SearchParts
+mod StampsAgree

@@ -1,63 +1,99 @@
 -- What is found before the links are planned.
-use Rattle.std.proofs.Common.{◌≡◌, ◌+◌, ◌||◌, ℕ, true, false, List, [], length, Option, Some, None, refl, ap, sym, subst, ◌∙◌, arith}
-use Rattle.analysed_files.specs.Files.{AreRight, unread_keys}
-use Rattle.elf_dynamic.specs.Begun.{file_keys, lacks_one}
-use Rattle.analysed_files.specs.declared.files.Files.{Files}
+use Rattle.std.proofs.Common.{◌≡◌, ◌+◌, ◌||◌, ◌++◌, false, List, [], Option, Some, None, ap, sym, subst, ◌∙◌, arith}
+use Rattle.std.proofs.lemmas.List.{append-nil}
+use Rattle.stamped_files.specs.Files.{AreRight}
+use Rattle.aux_cache.specs.declared.stamps.Stamp.{Stamp}
+use Rattle.elf_dynamic.specs.Begun.{lacks_one}
 use Rattle.hwcap_dirs.specs.Places.{absent, places}
 use Rattle.hwcap_dirs.specs.declared.kinds.Place.{Place}
 use Rattle.ldso_conf.specs.Reading.{IsConfOf, conf_lacks}
 use Rattle.ldso_conf.specs.declared.kinds.Conf.{Conf}
+use Rattle.found_files.proofs.Unread.{none_read}
+use Rattle.found_files.specs.Analyses.{unread}
 use Rattle.found_files.specs.Search.{wanted}
 use Rattle.found_files.specs.Table.{Rows, analysis_at}
+use Rattle.stamped_files.specs.Opened.{opened_keys, opens}
+use Rattle.stamped_files.specs.Stamped.{AreSame, AreTrue, IfHonest, StampTheSame, stamps_at, with_stamps}
+use Rattle.stamped_files.specs.State.{stamps_there, unread_paths}
+use Rattle.stamped_files.specs.declared.files.Files.{Files}
 use Rattle.tree_face.specs.Known.{IfKnown}
 use Rattle.tree_face.specs.Store.{Contents}
 use Rattle.image_tree.specs.Tree.{Nodes}
-use Rattle.searched_image.specs.Begun.{lacks_wanted, wanted_keys}
+use Rattle.searched_image.specs.Begun.{stamps_wanted, wanted_keys}
 use Rattle.searched_image.specs.Ldconfig.{conf_in, places_in, wanted_in}
 use Rattle.searched_image.specs.Found.{IsSearched}
 use Rattle.searched_image.specs.declared.search.Search.{Search}
 
-module _ (t : Nodes) (conf : Conf) where
+-- no files are there at first
+pub record IsEmpty (first : Files) : Type 0 where
+  pub table : first.table ≡ []
+  pub stamps : first.stamps ≡ []
+  pub begun : first.begun ≡ 0
+
+module _ (t : Nodes) (loaded : List Stamp) (conf : Conf) (found : List Place) (first : Files) (placed : found ≡ places t conf.dirs) (empty : IsEmpty first) where
+  stamps_first : stamps_there loaded first ≡ loaded
+  stamps_first = ap (λ l. loaded ++ l) empty.stamps ∙ append-nil loaded
+
   module _ (held : Contents) (is : IsConfOf conf held t) where
-    places_are : (found : List Place) → found ≡ places t conf.dirs → found ≡ places_in held t
+    places_are : found ≡ places_in held t
     unfolding places_in conf_in
-    places_are found p = p ∙ ap (places t) is.dirs
+    places_are = placed ∙ ap (places t) is.dirs
 
-    keys_are : (found : List Place) → found ≡ places t conf.dirs → (rows : Rows) → rows ≡ [] → unread_keys t (analysis_at rows) (wanted t found) ≡ wanted_keys held t
-    unfolding wanted_keys wanted_in
-    keys_are found p rows none = ap (λ r. unread_keys t (analysis_at r) (wanted t found)) none ∙ ap (λ l. file_keys t (wanted t l)) (places_are found p)
+    paths_are : unread_paths first (wanted t found) ≡ wanted_in held t
+    unfolding wanted_in
+    paths_are = ap (λ rows. unread (analysis_at rows) (wanted t found)) empty.table ∙ none_read (wanted t found) ∙ ap (wanted t) places_are
 
-    is_searched : (search : Search) (first : Files) → first.table ≡ [] → first.begun ≡ 0 → search.conf ≡ conf → search.dirs.places ≡ places t conf.dirs
-        → search.dirs.absent ≡ absent t conf.dirs → (AreRight held t (analysis_at first.table) → AreRight held t (analysis_at search.files.table))
-        → search.files.begun ≡ first.begun + length (unread_keys t (analysis_at first.table) (wanted t search.dirs.places))
-        → lacks_one held (unread_keys t (analysis_at first.table) (wanted t search.dirs.places)) ≡ false → IsSearched held t search
-    unfolding conf_in
-    is_searched search first none zero_begun r p a right begun lacks =
-        let keys = keys_are search.dirs.places p first.table none in
-        record {
-          conf = subst (λ (x : Conf). IsConfOf x held t) (sym r) is;
-          places = places_are search.dirs.places p;
-          absent_is = a ∙ ap (absent t) is.dirs;
-          right = right (subst (λ (rows : Rows). AreRight held t (analysis_at rows)) (sym none) (λ path there. absurd (cc)));
-          begun = omega (arith, begun, zero_begun, ap length keys);
-          none_lacks = ap (λ b. b || lacks_one held (wanted_keys held t)) is.all_held ∙ ap (lacks_one held) (sym keys) ∙ lacks;
-        }
+    keys_are : opened_keys held t (stamps_there loaded first) (unread_paths first (wanted t found)) ≡ wanted_keys held t loaded
+    unfolding wanted_keys
+    keys_are = ap (λ l. opened_keys held t l (unread_paths first (wanted t found))) stamps_first ∙ ap (λ paths. opened_keys held t loaded paths) paths_are
 
--- ---- if contents are known
+    module _ (search : Search) (read : search.conf ≡ conf) (there : search.dirs.places ≡ found) (absent_are : search.dirs.absent ≡ absent t conf.dirs) where
+      is_searched : (AreRight held t (analysis_at first.table) → AreRight held t (analysis_at search.files.table))
+          → search.files.stamps ≡ with_stamps first.stamps (stamps_at held t (unread_paths first (wanted t found)))
+          → AreTrue held t (stamps_there loaded search.files)
+          → StampTheSame (stamps_there loaded search.files) (stamps_there loaded first ++ stamps_at held t (unread_paths first (wanted t found)))
+          → search.files.begun ≡ first.begun + opens held t (stamps_there loaded first) (unread_paths first (wanted t found))
+          → lacks_one held (opened_keys held t (stamps_there loaded first) (unread_paths first (wanted t found))) ≡ false → IsSearched held t loaded search
+      unfolding conf_in stamps_wanted
+      is_searched right stamps are_true stamped begun lacks =
+          let count = ap (λ l. opens held t l (unread_paths first (wanted t found))) stamps_first ∙ ap (λ paths. opens held t loaded paths) paths_are in
+          record {
+            conf = subst (λ (x : Conf). IsConfOf x held t) (sym read) is;
+            places = there ∙ places_are;
+            absent_is = absent_are ∙ ap (absent t) is.dirs;
+            right = right (subst (λ (rows : Rows). AreRight held t (analysis_at rows)) (sym empty.table) (λ path there. absurd (cc)));
+            stamps = stamps ∙ ap (λ l. with_stamps l (stamps_at held t (unread_paths first (wanted t found)))) empty.stamps ∙ ap (λ paths. with_stamps [] (stamps_at held t paths)) paths_are;
+            are_true = are_true;
+            stamped = subst (λ l. StampTheSame (stamps_there loaded search.files) l)
+                (ap (λ l. l ++ stamps_at held t (unread_paths first (wanted t found))) stamps_first ∙ ap (λ paths. loaded ++ stamps_at held t paths) paths_are) stamped;
+            begun = omega (arith, begun, empty.begun, count);
+            none_lacks = ap (λ b. b || lacks_one held (wanted_keys held t loaded)) is.all_held ∙ ap (lacks_one held) (sym keys_are) ∙ lacks;
+          }
 
-pub searched : (t : Nodes) (conf : Conf) (known : Option Contents) (search : Search) (first : Files) → IfKnown known (λ held. IsConfOf conf held t) → first.table ≡ [] → first.begun ≡ 0
-    → search.conf ≡ conf → search.dirs.places ≡ places t conf.dirs → search.dirs.absent ≡ absent t conf.dirs
-    → IfKnown known (λ held. AreRight held t (analysis_at first.table) → AreRight held t (analysis_at search.files.table))
-    → search.files.begun ≡ first.begun + length (unread_keys t (analysis_at first.table) (wanted t search.dirs.places))
-    → IfKnown known (λ held. lacks_one held (unread_keys t (analysis_at first.table) (wanted t search.dirs.places)) ≡ false) → IfKnown known (λ held. IsSearched held t search)
-searched t conf None search first is none zero_begun r p a right begun lacks = tt
-searched t conf (Some held) search first is none zero_begun r p a right begun lacks = is_searched t conf held is search first none zero_begun r p a right begun lacks
+  -- ---- if contents are known
+
+  pub wanted_keys_are : (known : Option Contents) → IfKnown known (λ held. IsConfOf conf held t)
+      → IfKnown known (λ held. opened_keys held t (stamps_there loaded first) (unread_paths first (wanted t found)) ≡ wanted_keys held t loaded)
+  wanted_keys_are None is = tt
+  wanted_keys_are (Some held) is = keys_are held is
+
+  module _ (search : Search) (read : search.conf ≡ conf) (there : search.dirs.places ≡ found) (absent_are : search.dirs.absent ≡ absent t conf.dirs) where
+    pub searched : (known : Option Contents) → IfKnown known (λ held. IsConfOf conf held t)
+        → IfHonest known t (stamps_there loaded first) (λ held. AreRight held t (analysis_at first.table) → AreRight held t (analysis_at search.files.table))
+        → IfHonest known t (stamps_there loaded first) (λ held. search.files.stamps ≡ with_stamps first.stamps (stamps_at held t (unread_paths first (wanted t found))))
+        → IfHonest known t (stamps_there loaded first) (λ held. AreTrue held t (stamps_there loaded search.files))
+        → IfKnown known (λ held. StampTheSame (stamps_there loaded search.files) (stamps_there loaded first ++ stamps_at held t (unread_paths first (wanted t found))))
+        → IfKnown known (λ held. AreSame held t t → search.files.begun ≡ first.begun + opens held t (stamps_there loaded first) (unread_paths first (wanted t found)))
+        → IfKnown known (λ held. lacks_one held (opened_keys held t (stamps_there loaded first) (unread_paths first (wanted t found))) ≡ false)
+        → IfHonest known t loaded (λ held. IsSearched held t loaded search)
+    searched None is right stamps are_true stamped begun lacks = tt
+    searched (Some held) is right stamps are_true stamped begun lacks = λ honest same.
+        let there_honest : AreTrue held t (stamps_there loaded first) = subst (AreTrue held t) (sym stamps_first) honest in
+        is_searched held is search read there absent_are (right there_honest same) (stamps there_honest same) (are_true there_honest same) stamped (begun same) lacks
 
 pub all_conf : (t : Nodes) (conf : Conf) (known : Option Contents) → IfKnown known (λ held. IsConfOf conf held t) → IfKnown known (λ held. conf_lacks held t ≡ false)
 all_conf t conf None is = tt
 all_conf t conf (Some held) is = is.all_held
 
-pub wanted_keys_are : (t : Nodes) (conf : Conf) (known : Option Contents) (found : List Place) (first : Files) → IfKnown known (λ held. IsConfOf conf held t) → found ≡ places t conf.dirs
-    → first.table ≡ [] → IfKnown known (λ held. unread_keys t (analysis_at first.table) (wanted t found) ≡ wanted_keys held t)
-wanted_keys_are t conf None found first is p none = tt
-wanted_keys_are t conf (Some held) found first is p none = keys_are t conf held is found p first.table none
+pub is_empty : (first : Files) → first.table ≡ [] → first.stamps ≡ [] → first.begun ≡ 0 → IsEmpty first
+is_empty first none no_stamps zero_begun = record { table = none; stamps = no_stamps; begun = zero_begun }

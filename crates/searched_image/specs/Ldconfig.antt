@@ -1,8 +1,11 @@
 -- An update of an image as ldconfig(8) makes it, from the conf file to the cache, for the contents that a store holds.
-use Rattle.std.specs.Prelude.{◌++◌, ℕ, List, Option}
+use Rattle.std.specs.Prelude.{◌++◌, ℕ, List, Option, filter, not}
+use Rattle.std.specs.List.{list_any}
+use Rattle.std.specs.Str.{bytes_eq}
+use Rattle.aux_cache.specs.declared.stamps.Stamp.{Stamp}
 use Rattle.winning_entries.specs.Entries.{found}
 use Rattle.winning_entries.specs.Walk.{walk}
-use Rattle.analysed_files.specs.Files.{what_is}
+use Rattle.stamped_files.specs.Files.{what_is}
 use Rattle.hwcap_dirs.specs.declared.kinds.Place.{Place}
 use Rattle.hwcap_dirs.specs.Places.{places}
 use Rattle.ldso_conf.specs.Reading.{Reading, reading}
@@ -12,6 +15,7 @@ use Rattle.found_files.specs.Order.{ascending}
 use Rattle.found_files.specs.Search.{reached, wanted}
 use Rattle.soname_links.specs.declared.kinds.Planned.{Planned}
 use Rattle.soname_links.specs.Plan.{links, with_links}
+use Rattle.stamped_files.specs.Stamped.{stamps_of}
 use Rattle.tree_face.specs.Store.{Contents}
 use Rattle.image_tree.specs.Tree.{Nodes}
 
@@ -42,6 +46,18 @@ reached_in held t = reached (planned_in held t) (places_in held t)
 -- the library files, by their paths
 abbrev pub library_files : Contents → Nodes → List (List ℕ)
 library_files held t = ascending (wanted_in held t ++ reached_in held t)
+
+-- those among them that have other names
+abbrev pub behind_in : Contents → Nodes → List (List ℕ)
+behind_in held t = filter (λ path. not (list_any (bytes_eq path) (wanted_in held t))) (reached_in held t)
+
+-- the library files, each once, in the order in which they are read
+abbrev pub library_paths : Contents → Nodes → List (List ℕ)
+library_paths held t = wanted_in held t ++ behind_in held t
+
+-- The auxiliary cache has the stamps of those that have identities and are libraries, by their identities.
+unfoldable pub stamps_in : Contents → Nodes → List Stamp
+stamps_in held t = stamps_of held t (library_paths held t)
 
 -- Each soname in a place has an entry in the cache, for the best of its files, or else of the links to its files. They are in no order here.
 unfoldable pub entries_in : Contents → Nodes → List Entry

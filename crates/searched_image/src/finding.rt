@@ -1,6 +1,6 @@
 //! All that an update finds.
 ghost use Rattle.std.specs.Prelude.{◌≡◌, ℕ, IfOk, IsErrOf, IsTrue, OnOk};
-ghost use Rattle.analysed_files.specs.Files.{what_is};
+ghost use Rattle.stamped_files.specs.Files.{what_is};
 ghost use Rattle.hwcap_dirs.specs.Places.{are_spelled};
 ghost use Rattle.found_files.specs.Best.{bests_of};
 ghost use Rattle.found_files.specs.Search.{followed};
@@ -8,7 +8,8 @@ ghost use Rattle.found_files.specs.Table.{analysis_at};
 ghost use Rattle.image_tree.specs.Tree.{IsTree};
 ghost use Rattle.settled_links.specs.Search.{IsSearchedAlike};
 ghost use Rattle.soname_links.specs.Settled.{IsSettled};
-ghost use Rattle.tree_face.specs.Known.{IfKnown};
+ghost use Rattle.aux_cache.specs.Stamps.{HaveNames};
+ghost use Rattle.stamped_files.specs.Stamped.{IfHonest};
 ghost use Rattle.searched_image.specs.Faults.{find_ending};
 ghost use Rattle.searched_image.specs.Found.{HasTooManyNodes, IsFound, ReadsFinding};
 ghost use Rattle.searched_image.specs.Ldconfig.{places_in};
@@ -16,12 +17,13 @@ ghost use Rattle.searched_image.specs.Ldconfig.{places_in};
 use crate::fault::FindFault;
 use crate::following::{Followed, follow_links};
 use crate::search::{Search, search_image};
+use aux_cache::Stamps;
 use settled_links::plan_links;
 use soname_links::Survey;
 use std::alloc::Global;
 use tree_face::{Store, Tree};
 
-/// All that an update finds. The files are all that were read.
+/// All that an update finds. The files are all library files.
 #[derive(Drop)]
 pub struct Found {
     pub search: Search,
@@ -29,23 +31,30 @@ pub struct Found {
     pub followed: Followed,
 }
 
-/// Looks through an image, and puts the planned links into its tree.
-pub fn find<S: Store>(alloc: Global, tree: &mut Tree, store: &mut S) -> Result<Found, FindFault>
-    ensures found { IfOk result (λ found. IfKnown (S.state store.old).held (λ held. IsFound held tree.old found tree.new)) }
+/// Looks through an image, and puts the planned links into its tree. Of the library files only those are opened of which no stamp says what
+/// they are: none that is loaded, and none of a library that was read before.
+pub fn find<S: Store>(
+    alloc: Global,
+    tree: &mut Tree,
+    store: &mut S,
+    loaded: &Stamps,
+) -> Result<Found, FindFault>
+    requires names { HaveNames loaded.now }
+    ensures found { IfOk result (λ found. IfHonest (S.state store.old).held tree.old loaded.now (λ held. IsFound held tree.old loaded.now found tree.new)) }
     ensures is_tree { OnOk result (IsTree tree.new) }
     ensures alike { OnOk result (IsSearchedAlike tree.old tree.new) }
-    ensures settled { OnOk result (IfKnown (S.state store.old).held
+    ensures settled { OnOk result (IfHonest (S.state store.old).held tree.old loaded.now
         (λ held. IsSettled (what_is held tree.old) tree.old (places_in held tree.old) tree.new)) }
     ensures links { IfOk result (λ found. found.followed.links ≡ followed tree.new found.search.dirs.places) }
     ensures bests { IfOk result (λ found. found.links.bests ≡ bests_of (analysis_at found.search.files.table) tree.new found.search.dirs.places) }
     ensures spelled { IfOk result (λ found. IsTrue (are_spelled found.search.dirs.places)) }
     ensures too_large { (nodes : ℕ) → IsErrOf result (FindFault.TooLarge nodes) →
-        IfKnown (S.state store.old).held (λ held. HasTooManyNodes held tree.old nodes) }
-    ensures reads { ReadsFinding tree.old (find_ending result) (S.state store.old) (S.state store.new) }
+        IfHonest (S.state store.old).held tree.old loaded.now (λ held. HasTooManyNodes held tree.old loaded.now nodes) }
+    ensures reads { ReadsFinding tree.old loaded.now (find_ending result) (S.state store.old) (S.state store.new) }
 {
-    let mut search = search_image(alloc, tree, store)?;
+    let mut search = search_image(alloc, tree, store, loaded)?;
     let links = plan_links(alloc, tree, &search.dirs, &search.files.table)?;
-    let followed = follow_links(alloc, tree, store, &search.dirs, &mut search.files)?;
+    let followed = follow_links(alloc, tree, store, loaded, &search.dirs, &mut search.files)?;
     Ok(Found {
         search,
         links,

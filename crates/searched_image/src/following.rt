@@ -3,20 +3,24 @@ ghost use Rattle.std.specs.Prelude.{◌≡◌, ◌+◌, ◌||◌, ℕ, List, tru
 ghost use Rattle.std.specs.List.{list_any};
 ghost use Rattle.std.specs.Map.{keys_of};
 ghost use Rattle.std.specs.Str.{bytes_eq};
-ghost use Rattle.analysed_files.specs.Files.{AreRead, AreRight, unread_keys};
-ghost use Rattle.elf_dynamic.specs.Begun.{ReadsKeys, lacks_one};
+ghost use Rattle.stamped_files.specs.Files.{AreRead, AreRight};
+ghost use Rattle.aux_cache.specs.Stamps.{HaveNames};
+ghost use Rattle.elf_dynamic.specs.Begun.{lacks_one};
 ghost use Rattle.found_files.specs.Analyses.{KeepsAnalyses};
 ghost use Rattle.found_files.specs.Search.{dangling, followed, reached};
 ghost use Rattle.found_files.specs.Table.{analysis_at};
+ghost use Rattle.stamped_files.specs.Opened.{ReadsOpened, opened_keys};
+ghost use Rattle.stamped_files.specs.Stamped.{IfHonest, stamps_at, with_stamps};
+ghost use Rattle.stamped_files.specs.State.{stamps_there, unread_paths};
 ghost use Rattle.tree_face.specs.Known.{IfKnown};
-ghost use Rattle.searched_image.specs.Faults.{is_store_fault};
-ghost use Rattle.searched_image.specs.Faults.{find_ending};
+ghost use Rattle.searched_image.specs.Faults.{find_ending, is_store_fault};
 
 use crate::fault::FindFault;
-use analysed_files::{Files, read_files};
+use aux_cache::Stamps;
 use found_files::{PlaceLinks, dangling_among, follow, unread_behind};
 use hwcap_dirs::Dirs;
 use lib_types::Texts;
+use stamped_files::{Files, read_files};
 use std::alloc::Global;
 use tree_face::{Store, Tree};
 
@@ -29,33 +33,38 @@ pub struct Followed {
     pub dangling: Texts,
 }
 
-/// Follows the links with library names, and reads the files to which they lead, if those have no analysis yet.
+/// Follows the links with library names, and reads the files to which they lead, if those have no analysis yet. Only those are opened of which no
+/// stamp says what they are.
 pub fn follow_links<S: Store>(
     alloc: Global,
     tree: &Tree,
     store: &mut S,
+    loaded: &Stamps,
     dirs: &Dirs,
     files: &mut Files,
 ) -> Result<Followed, FindFault>
+    requires names { HaveNames loaded.now }
     ensures links { IfOk result (λ found. found.links ≡ followed tree.now dirs.now.places) }
     ensures dangling { IfOk result (λ found. found.dangling ≡ dangling tree.now dirs.now.places) }
-    ensures right { OnOk result (IfKnown (S.state store.old).held
+    ensures right { OnOk result (IfHonest (S.state store.old).held tree.now (stamps_there loaded.now files.old)
         (λ held. AreRight held tree.now (analysis_at files.old.table) → AreRight held tree.now (analysis_at files.new.table))) }
     ensures kept { OnOk result (KeepsAnalyses (analysis_at files.old.table) (analysis_at files.new.table)) }
     ensures all { OnOk result (AreRead tree.now (analysis_at files.new.table) (reached tree.now dirs.now.places)) }
     ensures only { OnOk result ((path : List ℕ) → list_any (bytes_eq path) (keys_of files.new.table) ≡ true →
         (list_any (bytes_eq path) (keys_of files.old.table) || list_any (bytes_eq path) (reached tree.now dirs.now.places)) ≡ true) }
-    ensures begun { OnOk result (files.new.begun ≡
-        files.old.begun + length (unread_keys tree.now (analysis_at files.old.table) (reached tree.now dirs.now.places))) }
-    ensures none_lacks { OnOk result (IfKnown (S.state store.old).held
-        (λ held. lacks_one held (unread_keys tree.now (analysis_at files.old.table) (reached tree.now dirs.now.places)) ≡ false)) }
-    ensures reads { ReadsKeys (unread_keys tree.now (analysis_at files.old.table) (reached tree.now dirs.now.places)) (find_ending result)
-        (S.state store.old) (S.state store.new) }
+    ensures stamps { OnOk result (IfHonest (S.state store.old).held tree.now (stamps_there loaded.now files.old)
+        (λ held. files.new.stamps ≡ with_stamps files.old.stamps (stamps_at held tree.now (unread_paths files.old (reached tree.now dirs.now.places))))) }
+    ensures begun { OnOk result (IfKnown (S.state store.old).held (λ held. files.new.begun ≡ files.old.begun
+        + length (opened_keys held tree.now (stamps_there loaded.now files.old) (unread_paths files.old (reached tree.now dirs.now.places))))) }
+    ensures none_lacks { OnOk result (IfKnown (S.state store.old).held (λ held.
+        lacks_one held (opened_keys held tree.now (stamps_there loaded.now files.old) (unread_paths files.old (reached tree.now dirs.now.places))) ≡ false)) }
+    ensures reads { ReadsOpened (λ held. opened_keys held tree.now (stamps_there loaded.now files.old) (unread_paths files.old (reached tree.now dirs.now.places)))
+        (find_ending result) (S.state store.old) (S.state store.new) }
     ensures others { IfErr result (λ fault. is_store_fault fault ≡ true) }
 {
     let links = follow(alloc, tree, dirs)?;
     let paths = unread_behind(alloc, &links, &files.table)?;
-    read_files(alloc, tree, store, paths, files)?;
+    read_files(alloc, tree, store, loaded, paths, files)?;
     let dangling = dangling_among(alloc, &links)?;
     Ok(Followed { links, dangling })
 }

@@ -3,21 +3,22 @@ ghost use Rattle.std.specs.Prelude.{◌≡◌, ℕ, List, true, IfErr, IfOk, IsT
 ghost use Rattle.std.specs.List.{list_any};
 ghost use Rattle.std.specs.Map.{keys_of};
 ghost use Rattle.std.specs.Str.{bytes_eq};
-ghost use Rattle.analysed_files.specs.Files.{AreRead};
+ghost use Rattle.stamped_files.specs.Files.{AreRead};
+ghost use Rattle.aux_cache.specs.Stamps.{HaveNames};
 ghost use Rattle.hwcap_dirs.specs.Places.{are_dirs, are_spelled};
 ghost use Rattle.found_files.specs.Analyses.{HaveAnalyses};
 ghost use Rattle.found_files.specs.Search.{wanted};
 ghost use Rattle.found_files.specs.Table.{analysis_at};
-ghost use Rattle.tree_face.specs.Known.{IfKnown};
-ghost use Rattle.searched_image.specs.Faults.{is_store_fault};
+ghost use Rattle.stamped_files.specs.Stamped.{IfHonest};
+ghost use Rattle.searched_image.specs.Faults.{find_ending, is_store_fault};
 ghost use Rattle.searched_image.specs.Found.{IsSearched, ReadsSearch};
-ghost use Rattle.searched_image.specs.Faults.{find_ending};
 
 use crate::fault::FindFault;
-use analysed_files::{Files, read_files};
+use aux_cache::Stamps;
 use found_files::wanted;
 use hwcap_dirs::{Dirs, order};
 use ldso_conf::{Conf, read_conf};
+use stamped_files::{Files, read_files};
 use std::alloc::Global;
 use tree_face::{Store, Tree};
 
@@ -31,20 +32,23 @@ pub struct Search {
     pub files: Files,
 }
 
-/// Reads the conf files, and then the files with library names in the places.
+/// Reads the conf files, and then the files with library names in the places. Of the latter only those are opened of which no stamp says what
+/// they are.
 pub fn search_image<S: Store>(
     alloc: Global,
     tree: &Tree,
     store: &mut S,
+    loaded: &Stamps,
 ) -> Result<Search, FindFault>
-    ensures found { IfOk result (λ search. IfKnown (S.state store.old).held (λ held. IsSearched held tree.now search)) }
+    requires names { HaveNames loaded.now }
+    ensures found { IfOk result (λ search. IfHonest (S.state store.old).held tree.now loaded.now (λ held. IsSearched held tree.now loaded.now search)) }
     ensures real { IfOk result (λ search. IsTrue (are_dirs tree.now search.dirs.places)) }
     ensures spelled { IfOk result (λ search. IsTrue (are_spelled search.dirs.places)) }
     ensures read { IfOk result (λ search. AreRead tree.now (analysis_at search.files.table) (wanted tree.now search.dirs.places)) }
     ensures all { IfOk result (λ search. HaveAnalyses (analysis_at search.files.table) (wanted tree.now search.dirs.places)) }
     ensures only { IfOk result (λ search. (path : List ℕ) → list_any (bytes_eq path) (keys_of search.files.table) ≡ true →
         list_any (bytes_eq path) (wanted tree.now search.dirs.places) ≡ true) }
-    ensures reads { ReadsSearch tree.now (find_ending result) (S.state store.old) (S.state store.new) }
+    ensures reads { ReadsSearch tree.now loaded.now (find_ending result) (S.state store.old) (S.state store.new) }
     ensures others { IfErr result (λ fault. is_store_fault fault ≡ true) }
 {
     tree.know();
@@ -52,6 +56,6 @@ pub fn search_image<S: Store>(
     let dirs = order(alloc, tree, &conf.dirs)?;
     let paths = wanted(alloc, tree, &dirs)?;
     let mut files = Files::new(alloc, paths.len());
-    read_files(alloc, tree, store, paths, &mut files)?;
+    read_files(alloc, tree, store, loaded, paths, &mut files)?;
     Ok(Search { conf, dirs, files })
 }

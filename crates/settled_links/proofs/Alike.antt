@@ -1,6 +1,7 @@
 -- Two trees that differ by links with library names alone.
 use Rattle.std.proofs.Common.{◌≡◌, ◌⊎◌, inl, inr, ℕ, true, false, List, refl, ap, sym, ◌∙◌, Option, Some, None}
 use Rattle.name_order.specs.LibraryName.{is_library_name}
+use Rattle.std.specs.Option.{option_map}
 use Rattle.hwcap_dirs.specs.Places.{is_dir}
 use Rattle.ldso_conf.specs.Reading.{key_in}
 use Rattle.image_tree.specs.Tree.{Nodes, kind_at, node_at}
@@ -10,6 +11,7 @@ use Rattle.image_tree.specs.declared.tree.Kind.{Kind}
 use Rattle.image_tree.specs.declared.tree.Kind.TheVariants as kinds
 use Rattle.soname_links.proofs.KindsAt.{is_open}
 use Rattle.soname_links.specs.Plan.{is_taken}
+use Rattle.settled_links.specs.Search.{file_in}
 use Rattle.found_files.specs.Libraries.{last_name}
 
 -- there is a link with a library name at the path, or nothing
@@ -39,11 +41,18 @@ free_no_dir kinds.Absent h = refl
 free_no_dir kinds.File h = absurd (cc)
 free_no_dir kinds.Dir h = absurd (cc)
 
-open_no_key : (o : Option Node) → is_open o ≡ true → key_in o ≡ None
-open_no_key None h = refl
-open_no_key (Some (node.Link target)) h = refl
-open_no_key (Some node.Dir) h = absurd (cc)
-open_no_key (Some (node.File key id)) h = absurd (cc)
+open_no_file : (o : Option Node) → is_open o ≡ true → file_in o ≡ None
+open_no_file None h = refl
+open_no_file (Some (node.Link target)) h = refl
+open_no_file (Some node.Dir) h = absurd (cc)
+open_no_file (Some (node.File key id)) h = absurd (cc)
+
+-- the key of a file
+key_of : (o : Option Node) → key_in o ≡ option_map (λ file. file.0) (file_in o)
+key_of None = refl
+key_of (Some node.Dir) = refl
+key_of (Some (node.File key id)) = refl
+key_of (Some (node.Link target)) = refl
 
 module _ (t new : Nodes) (alike : IsAlike t new) (path : List ℕ) where
   pub same_dir : is_dir (kind_at new path) ≡ is_dir (kind_at t path)
@@ -53,9 +62,12 @@ module _ (t new : Nodes) (alike : IsAlike t new) (path : List ℕ) where
       by (inl same) = ap is_dir same.kind
       by (inr spots) = free_no_dir (kind_at new path) spots.1.kind ∙ sym (free_no_dir (kind_at t path) spots.0.kind)
 
-  pub same_key : key_in (node_at new path) ≡ key_in (node_at t path)
-  same_key = by (alike path)
+  pub same_file : file_in (node_at new path) ≡ file_in (node_at t path)
+  same_file = by (alike path)
     where
-      by : IsSame t new path ⊎ (IsSpot t path × IsSpot new path) → key_in (node_at new path) ≡ key_in (node_at t path)
-      by (inl same) = ap key_in same.node
-      by (inr spots) = open_no_key (node_at new path) spots.1.node ∙ sym (open_no_key (node_at t path) spots.0.node)
+      by : IsSame t new path ⊎ (IsSpot t path × IsSpot new path) → file_in (node_at new path) ≡ file_in (node_at t path)
+      by (inl same) = ap file_in same.node
+      by (inr spots) = open_no_file (node_at new path) spots.1.node ∙ sym (open_no_file (node_at t path) spots.0.node)
+
+  pub same_key : key_in (node_at new path) ≡ key_in (node_at t path)
+  same_key = key_of (node_at new path) ∙ ap (option_map (λ file. file.0)) same_file ∙ sym (key_of (node_at t path))

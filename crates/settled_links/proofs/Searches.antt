@@ -7,7 +7,7 @@ use Rattle.soname_links.specs.Plan.{links, with_links}
 use Rattle.found_files.specs.Analyses.{Analyses, HaveNames}
 use Rattle.soname_links.specs.declared.kinds.Planned.{Planned}
 use Rattle.image_tree.specs.Tree.{Nodes, IsTree}
-use Rattle.settled_links.proofs.Alike.{IsAlike, same_key}
+use Rattle.settled_links.proofs.Alike.{IsAlike, same_file}
 use Rattle.settled_links.proofs.Places.{same_places}
 use Rattle.settled_links.proofs.Planned.{planned_alike}
 use Rattle.settled_links.proofs.Reading.{same_items}
@@ -18,4 +18,4 @@ pub searched_alike : (t new : Nodes) (plan : List Planned) (what : Analyses) (pl
 searched_alike t new plan what places tree after named dirs made put =
     let room = have_room what named t tree places dirs in
     let alike : IsAlike t new = subst (λ (n : Nodes). IsAlike t n) (sym (put ∙ ap (with_links t) made)) (planned_alike t (links what t places) room) in
-    record { conf = same_items t new tree after alike; places = same_places t new tree after alike; files = same_key t new alike }
+    record { conf = same_items t new tree after alike; places = same_places t new tree after alike; files = same_file t new alike }

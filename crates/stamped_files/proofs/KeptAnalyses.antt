@@ -16,7 +16,7 @@ use Rattle.tree_face.specs.Store.{Contents}
 use Rattle.image_tree.specs.Tree.{Nodes, node_at}
 use Rattle.found_files.specs.Analyses.{Analyses, KeepsAnalyses, unread}
 use Rattle.found_files.specs.Table.{Rows, analysis_at, with_analysis}
-use Rattle.analysed_files.specs.Files.{AreRight, unread_key, what_is}
+use Rattle.stamped_files.specs.Files.{AreRight, unread_key, what_is}
 use Rattle.elf_dynamic.specs.Begun.{key_in}
 use Rattle.stamped_files.specs.Reading.{is_in}
 

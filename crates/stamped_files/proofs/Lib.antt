@@ -4,4 +4,5 @@ pub mod Opens
 pub mod ReadOn
 pub mod ReadOne
 pub mod Stamps
+pub mod Truth
 pub mod Unread

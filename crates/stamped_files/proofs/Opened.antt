@@ -1,9 +1,8 @@
 -- The keys that are opened, file by file.
-use Rattle.std.proofs.Common.{◌≡◌, ◌+◌, ◌++◌, ◌||◌, ℕ, suc, Bool, true, false, cond, not, List, [], ◌∷◌, filter, take, refl, ap, sym, subst, ◌∙◌, append_assoc, arith, Option, Some, None}
+use Rattle.std.proofs.Common.{◌≡◌, ◌+◌, ◌++◌, ◌||◌, ℕ, suc, Bool, true, false, cond, not, List, [], ◌∷◌, take, refl, ap, sym, ◌∙◌, append_assoc, arith, Option, Some, None}
 use Rattle.std.proofs.lemmas.List.{append-nil}
 use Rattle.std.proofs.lemmas.List.Elements.{filter_map-append}
 use Rattle.std.proofs.lemmas.List.Folds.{list_any-append}
-use Rattle.std.proofs.lemmas.List.Kept.{IsStrictlySortedBy-filter}
 use Rattle.std.proofs.lemmas.List.Sums.{fold-append}
 use Rattle.std.proofs.lemmas.Map.Keys.{sorted_tail}
 use Rattle.std.proofs.lemmas.Slice.Eq.{bytes_eq-Decides}
@@ -21,7 +20,7 @@ use Rattle.image_tree.specs.Tree.{Nodes, node_at}
 use Rattle.image_tree.specs.declared.node.Id.{Id}
 use Rattle.lib_types.proofs.SortedPairs.{by_test}
 use Rattle.tree_face.specs.Store.{Contents}
-use Rattle.stamped_files.proofs.KeptAnalyses.{not_behind, turned}
+use Rattle.stamped_files.proofs.KeptAnalyses.{not_behind}
 use Rattle.stamped_files.proofs.Stamps.{stamped_both}
 use Rattle.stamped_files.specs.Opened.{opened_keys, unstamped_key}
 use Rattle.stamped_files.specs.Reading.{HasOpened, is_in, is_stamped, keys_opened, opened_by}

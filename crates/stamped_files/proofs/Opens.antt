@@ -1,5 +1,5 @@
 -- How many files are opened, if files of equal identity have equal content.
-use Rattle.std.proofs.Common.{◌≡◌, ◌+◌, ◌++◌, ◌||◌, ℕ, Bool, true, false, cond, not, List, [], ◌∷◌, filter, length, refl, ap, sym, subst, ◌∙◌, arith, Option, Some, None}
+use Rattle.std.proofs.Common.{◌≡◌, ◌+◌, ◌++◌, ◌||◌, ℕ, Bool, true, false, cond, not, List, [], ◌∷◌, filter, length, refl, ap, sym, ◌∙◌, arith, Option, Some, None}
 use Rattle.std.proofs.lemmas.List.{append-nil}
 use Rattle.std.specs.List.{cons_option}
 use Rattle.std.specs.List.Sorted.{IsStrictlySortedBy}
@@ -22,9 +22,9 @@ use Rattle.lib_types.specs.declared.analysis.Analysis.TheVariants.{Lib, Not}
 use Rattle.tree_face.specs.Store.{Contents}
 use Rattle.stamped_files.proofs.Opened.{opened_are}
 use Rattle.stamped_files.proofs.Stamps.{stamped_both, stamped_put, stamped_twice}
-use Rattle.analysed_files.specs.Files.{what_is}
+use Rattle.stamped_files.specs.Files.{what_is}
 use Rattle.stamped_files.specs.Stamped.{AreSame, content_of, id_at, id_in, stamp_at, stamp_by, stamp_for, stamps_at, with_stamps}
-use Rattle.stamped_files.specs.Opened.{opened_keys, opens, unstamped, unstamped_key}
+use Rattle.stamped_files.specs.Opened.{opened_keys, opens, unstamped}
 use Rattle.stamped_files.specs.Reading.{is_stamped, opened_by}
 
 -- ---- a file with a stamp

@@ -28,9 +28,9 @@ use Rattle.tree_face.specs.StoreUse.{Ending, Complete, ReadsFiles}
 use Rattle.stamped_files.proofs.KeptAnalyses.{not_behind, still_read, unread_others}
 use Rattle.stamped_files.proofs.Opened.{one_opened, opened_alike, opened_append, opened_are, opened_then}
 use Rattle.stamped_files.proofs.Opens.{opened_count}
-use Rattle.analysed_files.specs.Files.{AreRight, unread_key}
+use Rattle.stamped_files.specs.Files.{AreRight, unread_key}
 use Rattle.stamped_files.specs.Opened.{ReadsOpenedBy, opened_keys, opens}
-use Rattle.stamped_files.specs.Reading.{HasOpened, HasRead, IsHonest, ReadsOne, is_in, is_stamped, keys_opened, opened_by}
+use Rattle.stamped_files.specs.Reading.{HasOpened, HasRead, ReadsOne, is_in, is_stamped, keys_opened, opened_by}
 use Rattle.stamped_files.specs.Stamped.{AreSame, AreTrue, IfHonest, stamp_for, stamps_at, with_stamps}
 use Rattle.stamped_files.specs.declared.files.Files.{Files}
 

@@ -23,8 +23,8 @@ use Rattle.tree_face.specs.Store.{Contents}
 use Rattle.stamped_files.proofs.KeptAnalyses.{analysis_other, had_none, kept_with, key_there, new_in, read_then, right_with}
 use Rattle.stamped_files.proofs.Opened.{one_opened}
 use Rattle.stamped_files.proofs.Stamps.{stamp_by_id, stamp_by_says, stamped_more, stamped_twice}
-use Rattle.analysed_files.specs.Files.{unread_key, what_is}
-use Rattle.stamped_files.specs.Stamped.{AreSame, AreTrue, content_of, id_at, id_in, of_stamp, stamp_at, stamp_by, stamp_for, stamps_at, with_stamps}
+use Rattle.stamped_files.specs.Files.{unread_key, what_is}
+use Rattle.stamped_files.specs.Stamped.{AreSame, AreTrue, content_of, id_at, id_in, of_stamp, stamp_by, stamp_for, stamps_at, with_stamps}
 use Rattle.stamped_files.specs.Reading.{HasOpened, IsFoundBy, IsHonest, ReadsOne, is_stamped, keys_opened, key_opened, opened_by}
 use Rattle.stamped_files.specs.declared.files.Files.{Files}
 

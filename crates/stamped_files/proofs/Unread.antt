@@ -8,7 +8,7 @@ use Rattle.found_files.proofs.Members.{kept_in}
 use Rattle.found_files.specs.Analyses.{Analyses, KeepsAnalyses, unread}
 use Rattle.image_tree.specs.Tree.{Nodes}
 use Rattle.stamped_files.proofs.KeptAnalyses.{still_read}
-use Rattle.analysed_files.specs.Files.{AreRead}
+use Rattle.stamped_files.specs.Files.{AreRead}
 
 pub unread_twice : (what : Analyses) (paths : List (List ℕ)) → unread what (unread what paths) ≡ unread what paths
 unread_twice what [] = refl

@@ -1,7 +1,7 @@
 -- What private functions say of the reading of files, one by one.
 use Rattle.std.specs.Prelude.{◌≡◌, ◌≤◌, ◌+◌, ◌∷◌, ◌++◌, ◌||◌, ℕ, Bool, true, false, List, [], length, Option, Some, None, is_none, is_some, if◌then◌else◌}
 use Rattle.std.specs.Cmp.Lexicographic.{slice_cmp}
-use Rattle.std.specs.List.{cons_option, filter_map, list_any}
+use Rattle.std.specs.List.{cons_option, list_any}
 use Rattle.std.specs.List.Sorted.{IsStrictlySortedBy}
 use Rattle.std.specs.Map.{keys_of}
 use Rattle.std.specs.Ordering.{nat_cmp}
@@ -20,7 +20,7 @@ use Rattle.tree_face.specs.Known.{IfKnown}
 use Rattle.tree_face.specs.Store.{Contents, StoreState}
 use Rattle.tree_face.specs.StoreUse.{Complete}
 use Rattle.stamped_files.specs.declared.files.Files.{Files}
-use Rattle.analysed_files.specs.Files.{AreRight, unread_key}
+use Rattle.stamped_files.specs.Files.{AreRight, unread_key}
 use Rattle.stamped_files.specs.Opened.{unstamped_key}
 use Rattle.stamped_files.specs.Stamped.{AreSame, AreTrue, of_stamp, stamps_at, with_stamps}
 

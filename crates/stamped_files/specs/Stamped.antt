@@ -13,7 +13,7 @@ use Rattle.lib_types.specs.declared.analysis.Analysis.{Analysis}
 use Rattle.lib_types.specs.declared.analysis.Analysis.TheVariants.{Lib, Not}
 use Rattle.tree_face.specs.Known.{IfKnown}
 use Rattle.tree_face.specs.Store.{Contents}
-use Rattle.analysed_files.specs.Files.{what_is}
+use Rattle.stamped_files.specs.Files.{what_is}
 
 -- ---- contents and identities
 

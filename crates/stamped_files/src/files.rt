@@ -14,7 +14,7 @@ ghost use Rattle.found_files.specs.Analyses.{KeepsAnalyses, has_name};
 ghost use Rattle.found_files.specs.Table.{analysis_at, with_analysis};
 ghost use Rattle.lib_types.specs.Counts.{raised};
 ghost use Rattle.tree_face.specs.Known.{IfKnown};
-ghost use Rattle.analysed_files.specs.Files.{AreRead, AreRight, unread_key};
+ghost use Rattle.stamped_files.specs.Files.{AreRead, AreRight, unread_key};
 ghost use Rattle.stamped_files.specs.Opened.{ReadsOpened, opened_keys, opens};
 ghost use Rattle.stamped_files.specs.Reading.{IsFoundBy, ReadsOne, key_opened, keys_opened};
 ghost use Rattle.stamped_files.specs.State.{stamps_there, unread_paths};

@@ -17,6 +17,13 @@ use Rattle.update_report.specs.declared.kinds.Skipped.{Skipped}
 abbrev pub line : List ℕ → List ℕ
 line text = text ++ 10 ∷ []
 
+-- ---- the auxiliary cache
+
+-- of the place at which it was damaged when it was loaded, if it was
+abbrev pub damaged_line : Option ℕ → List ℕ
+damaged_line None = []
+damaged_line (Some at) = line (codes "aux: Damaged " ++ decimal at)
+
 -- ---- the conf file
 
 abbrev pub conf_name : ConfKind → List ℕ

@@ -1,17 +1,19 @@
 -- The report of an update: a line for each finding, kind by kind, and one of numbers.
-use Rattle.std.specs.Prelude.{ℕ, List, ◌++◌, drop, flat_map, length, map}
+use Rattle.std.specs.Prelude.{ℕ, List, Option, ◌++◌, drop, flat_map, length, map}
 use Rattle.std.specs.List.{zip}
 use Rattle.hwcap_dirs.specs.declared.kinds.Place.{Place}
 use Rattle.ldso_conf.specs.declared.kinds.ConfReport.{ConfReport}
 use Rattle.lib_types.specs.declared.entry.Entry.{Entry}
 use Rattle.soname_links.specs.declared.kinds.Mark.{Mark}
 use Rattle.soname_links.specs.declared.kinds.Planned.{Planned}
-use Rattle.update_report.specs.Lines.{absent_line, blocked_line, conf_line, dangling_line, last_line, line_of_twins, link_line, mixed_line, skip_line}
+use Rattle.update_report.specs.Lines.{absent_line, blocked_line, conf_line, damaged_line, dangling_line, last_line, line_of_twins, link_line, mixed_line, skip_line}
 use Rattle.update_report.specs.declared.kinds.Findings.{Findings}
 use Rattle.update_report.specs.declared.kinds.Skipped.{Skipped}
 
 -- what is said of an image
 pub record Said : Type 0 where
+  -- the place at which the auxiliary cache was damaged when it was loaded
+  pub damaged : Option ℕ
   pub conf : List ConfReport
   pub places : List Place
   -- the conf file's directories that lead to none
@@ -27,6 +29,7 @@ pub record Said : Type 0 where
 
 abbrev pub findings_of : Findings → Said
 findings_of findings = record {
+  damaged = findings.damaged;
   conf = findings.conf.now;
   places = findings.dirs.now.places;
   absent = findings.dirs.now.absent;
@@ -51,7 +54,8 @@ twin_lines sonames = flat_map line_of_twins (neighbours sonames)
 
 unfoldable pub report_text : Said → List ℕ
 report_text said =
-    flat_map conf_line said.conf
+    damaged_line said.damaged
+    ++ flat_map conf_line said.conf
     ++ flat_map absent_line said.absent
     ++ flat_map (link_line said.places) said.plan
     ++ flat_map (blocked_line said.places) said.blocked

@@ -18,6 +18,8 @@ pub type Skips = Seq<Skipped>;
 /// What an update has found, of which its report speaks.
 #[derive(Drop)]
 pub struct Findings<'a> {
+    /// The place at which the auxiliary cache was damaged when it was loaded, if no report has said so yet.
+    pub damaged: Option<u64>,
     /// What can't be used of the conf file.
     pub conf: &'a ConfReports,
     /// The places, whose numbers the plan and the marks have, and the conf file's directories that lead to none.

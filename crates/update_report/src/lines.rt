@@ -2,7 +2,7 @@
 ghost use Rattle.std.specs.Prelude.{◌≡◌, ◌++◌, OnOk, option_map};
 ghost use Rattle.image_tree.specs.Paths.{join};
 ghost use Rattle.update_report.specs.Defects.{number_text};
-ghost use Rattle.update_report.specs.Lines.{absent_line, blocked_line, conf_line, conf_name, dangling_line, last_line, link_line, mixed_line, skip_line, spelled_at, twin_line};
+ghost use Rattle.update_report.specs.Lines.{absent_line, blocked_line, conf_line, conf_name, damaged_line, dangling_line, last_line, link_line, mixed_line, skip_line, spelled_at, twin_line};
 ghost use Rattle.update_report.specs.Twins.{twin_after};
 
 use crate::defects::{defect_name, defect_number};
@@ -14,6 +14,23 @@ use name_order::compare_tokens;
 use soname_links::{Mark, Planned};
 use std::alloc::Global;
 use std::cmp::Ordering;
+
+// ---- the auxiliary cache
+
+/// Adds the line of the place at which the auxiliary cache was damaged, if it was.
+pub(crate) fn put_damaged_line(
+    alloc: Global,
+    out: &mut Vec<u8>,
+    damaged: Option<u64>,
+) -> Result<(), NoMemory>
+    ensures { OnOk result (out.new.items ≡ out.old.items ++ damaged_line damaged) }
+{
+    if let Some(at) = damaged {
+        let line = format!(in alloc; "aux: Damaged {at}\n")?;
+        out.extend_from_slice(line.as_bytes())?;
+    }
+    Ok(())
+}
 
 // ---- the conf file
 

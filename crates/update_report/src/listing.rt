@@ -5,8 +5,8 @@ ghost use Rattle.update_report.specs.Report.{findings_of, report_text, sonames_o
 
 use crate::kinds::{Findings, Skipped};
 use crate::lines::{
-    put_absent_line, put_blocked_line, put_conf_line, put_dangling_line, put_last_line,
-    put_link_line, put_mixed_line, put_skip_line, put_twin,
+    put_absent_line, put_blocked_line, put_conf_line, put_damaged_line, put_dangling_line,
+    put_last_line, put_link_line, put_mixed_line, put_skip_line, put_twin,
 };
 use hwcap_dirs::Places;
 use ldso_conf::ConfReport;
@@ -96,6 +96,7 @@ pub fn report(alloc: Global, findings: &Findings<'_>) -> Result<Text, NoMemory>
 {
     let places = &findings.dirs.places;
     let mut out = Vec::new(alloc);
+    put_damaged_line(alloc, &mut out, findings.damaged)?;
     put_conf_lines(&mut out, findings.conf.as_slice())?;
     put_absent_lines(&mut out, findings.dirs.absent.as_slice())?;
     put_link_lines(&mut out, places, findings.plan.as_slice())?;

@@ -116,9 +116,10 @@ impl Kept {
     }
 }
 
-/// The report of these findings, after so many library files were begun.
+/// The report of these findings, after the auxiliary cache was damaged at a place and so many library files were begun.
 pub(crate) fn report_of(
     alloc: Global,
+    damaged: Option<u64>,
     findings: &[Found<'_>],
     opened: usize,
 ) -> Result<Text, Fail> {
@@ -129,6 +130,7 @@ pub(crate) fn report_of(
     let text = report(
         alloc,
         &Findings {
+            damaged,
             conf: &kept.conf,
             dirs: &kept.dirs,
             plan: &kept.plan,

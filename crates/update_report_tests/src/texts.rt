@@ -60,6 +60,11 @@ const EACH_LINE: &[Found<'_>] = &[
 const LINES: &str =
     "conf: rel: Relative\nconf: /opt/lib: Absent\nlink: /libl.so.1 -> libl.so.1.2\nlink: /usr/lib/libl.so.1 -> libl.so.1.3\nblocked: /usr/lib/libb.so.1\nblocked: /libb.so.2\nmixed: / libm.so.1\nskip: /usr/lib/libs.so: NotElf\ndangling: /usr/lib/libd.so\ntwin: libx.so.1 libx.so.01\n2 libs, 2 links, 7 files opened\n";
 
+const TWO_LINES: &[Found<'_>] = &[
+    Found::Dangling("/usr/lib/libd.so"),
+    Found::Absent("/opt/lib"),
+];
+
 // Several entries of one soname neither hide a twin nor repeat it, and three sonames in a row are two pairs.
 const TWINS: &[Found<'_>] = &[
     Found::Entry("libx.so.2"),
@@ -76,29 +81,40 @@ const TWINS: &[Found<'_>] = &[
 const TWIN_LINES: &str =
     "twin: libx.so.1 libx.so.01\ntwin: libx.so.01 libx.so.001\n9 libs, 0 links, 9 files opened\n";
 
-// Findings, how many files were begun, and the report.
-const REPORTS: &[(&[Found<'_>], usize, &str)] = &[
-    (&[], 0, "0 libs, 0 links, 0 files opened\n"),
-    (CONF_KINDS, 1, CONF_LINES),
-    (DEFECTS, 13, DEFECT_LINES),
-    (EACH_LINE, 7, LINES),
-    (TWINS, 9, TWIN_LINES),
+const FIRST_DAMAGED: &str =
+    "aux: Damaged 0\nconf: /opt/lib: Absent\ndangling: /usr/lib/libd.so\n0 libs, 0 links, 3 files opened\n";
+
+const LAST_DAMAGED: &str = "aux: Damaged 18446744073709551615\n0 libs, 0 links, 0 files opened\n";
+
+// The place of the auxiliary cache's damage, findings, how many files were begun, and the report.
+const REPORTS: &[(Option<u64>, &[Found<'_>], usize, &str)] = &[
+    (None, &[], 0, "0 libs, 0 links, 0 files opened\n"),
+    (None, CONF_KINDS, 1, CONF_LINES),
+    (None, DEFECTS, 13, DEFECT_LINES),
+    (None, EACH_LINE, 7, LINES),
+    (None, TWINS, 9, TWIN_LINES),
+    (Some(0), TWO_LINES, 3, FIRST_DAMAGED),
+    (Some(u64::MAX), &[], 0, LAST_DAMAGED),
 ];
 
 fn is_report(
     alloc: Global,
+    damaged: Option<u64>,
     findings: &[Found<'_>],
     opened: usize,
     want: &str,
 ) -> Result<bool, Fail> {
-    let text = report_of(alloc, findings, opened)?;
+    let text = report_of(alloc, damaged, findings, opened)?;
     Ok(text.as_bytes() == want.as_bytes())
 }
 
 #[test]
 fn reports(rt: HostRuntime) -> Result<(), Fail> {
-    for (findings, opened, want) in REPORTS {
-        assert!(rt; is_report(rt.alloc(), *findings, *opened, want)?, "{want}");
+    for (damaged, findings, opened, want) in REPORTS {
+        assert!(rt;
+            is_report(rt.alloc(), *damaged, *findings, *opened, want)?,
+            "{want}"
+        );
     }
     Ok(())
 }

@@ -3,7 +3,7 @@ use Rattle.tree_face.specs.Follows.{IsFollowedBy}
 use Rattle.tree_face.specs.Known.{Relates}
 use Rattle.cache_lookup.specs.Scan.{scan}
 use Rattle.command_runs.specs.Lookup.{answer_text}
-use Rattle.command_runs.proofs.Saying.{succeeded}
+use Rattle.command_status.proofs.Saying.{succeeded}
 use Rattle.command_runs.proofs.lookup.answer.Goals as goal
 
 pub returns-in-Some : goal.returns-in-Some

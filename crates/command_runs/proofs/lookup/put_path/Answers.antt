@@ -1,6 +1,6 @@
 use Rattle.std.proofs.Common.{rules, ◌≡◌, Err}
 use Rattle.std.specs.Prelude.{codes}
-use Rattle.command_runs.proofs.Saying.{takes_on, takes_part}
+use Rattle.command_status.proofs.Saying.{takes_on, takes_part}
 use Rattle.command_runs.proofs.lookup.put_path.Goals as goal
 
 pub returns-in_err-put_all : goal.returns-in_err-put_all

@@ -1,4 +1,4 @@
-use Rattle.winning_entries.proofs.Fit.{caps_fit, few_fit, no_nul_fits, paths_fit}
+use Rattle.winning_entries.proofs.Fit.{caps_fit, few_fit, no_nul_fits, paths_fit, sonames_fit}
 use Rattle.ldconfig_core.proofs.prepare.make.Goals as goal
 
 pub write-requires-clause-few : goal.write-requires-clause-few
@@ -12,3 +12,6 @@ write-requires-clause-paths c = paths_fit c.in_ok-entries.entries (c.in_ok-entri
 
 pub write-requires-clause-no_nul : goal.write-requires-clause-no_nul
 write-requires-clause-no_nul c = no_nul_fits c.in_ok-entries.entries (c.in_ok-entries.ensures.fit c.requires.spelled)
+
+pub write-requires-clause-sonames : goal.write-requires-clause-sonames
+write-requires-clause-sonames c = sonames_fit c.in_ok-entries.entries (c.in_ok-entries.ensures.fit c.requires.spelled)

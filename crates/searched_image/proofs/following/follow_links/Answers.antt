@@ -1,24 +1,22 @@
-use Rattle.std.proofs.Common.{rules, ◌≡◌, ◌+◌, ◌||◌, ℕ, Bool, true, false, List, length, Result, Err, nat_cmp, ap, sym, subst, ◌∙◌}
+use Rattle.std.proofs.Common.{rules, ◌≡◌, ◌||◌, ℕ, Bool, true, false, List, Err, nat_cmp, sym, subst}
 use Rattle.std.specs.Cmp.Lexicographic.{slice_cmp}
 use Rattle.std.specs.List.{list_any}
 use Rattle.std.specs.List.Sorted.{IsStrictlySortedBy}
 use Rattle.std.specs.Map.{keys_of}
 use Rattle.std.specs.Str.{bytes_eq}
-use Rattle.analysed_files.proofs.Unread.{all_read, among_all, same_keys}
-use Rattle.analysed_files.specs.Files.{unread_keys}
 use Rattle.found_files.proofs.Unread.{unread_sorted}
 use Rattle.found_files.specs.Analyses.{Analyses, unread}
 use Rattle.found_files.specs.Search.{reached}
 use Rattle.found_files.specs.Table.{analysis_at}
+use Rattle.stamped_files.proofs.Unread.{all_read, among_all, unread_twice}
 use Rattle.tree_face.proofs.StoreUse.{reads_all}
-use Rattle.image_tree.specs.Tree.{Nodes}
 use Rattle.searched_image.proofs.FilesAgree.{reached_sorted}
 use Rattle.searched_image.specs.declared.fault.FindFault.TheVariants as finding
 use Rattle.searched_image.proofs.following.follow_links.Goals as goal
 
--- the keys of the files without an analysis are those of all
-keys : (t : Nodes) (what : Analyses) (paths files : List (List ℕ)) → paths ≡ unread what files → unread_keys t what paths ≡ unread_keys t what files
-keys t what paths files is = ap (unread_keys t what) is ∙ same_keys t what files
+-- the files of these that have no analysis are those of all
+those : (what : Analyses) (paths files : List (List ℕ)) → paths ≡ unread what files → unread what paths ≡ unread what files
+those what paths files is = rw is (unread_twice what files)
 
 either : (a b c : Bool) → (b ≡ true → c ≡ true) → (a || b) ≡ true → (a || c) ≡ true
 either true b c h e = e
@@ -28,18 +26,17 @@ pub read_files-requires : goal.read_files-requires
 read_files-requires g c = record {
   sorted = subst (λ (paths : List (List ℕ)). IsStrictlySortedBy (slice_cmp nat_cmp) paths) (sym (c.in_ok-paths.ensures c.args.tree.now c.args.dirs.now.places c.in_ok-links.ensures))
       (unread_sorted (analysis_at c.args.files.now.table) (reached c.args.tree.now c.args.dirs.now.places) (reached_sorted c.args.tree.now c.args.dirs.now.places));
+  names = c.requires.names;
 }
 
 pub returns-in_err-read_files-clause-reads : goal.returns-in_err-read_files-clause-reads
 returns-in_err-read_files-clause-reads g c =
-    let t = c.args.tree.now in
-    let is = keys t (analysis_at c.args.files.now.table) _ _ (c.in_ok-paths.ensures t c.args.dirs.now.places c.in_ok-links.ensures) in
+    let is = those (analysis_at c.args.files.now.table) _ _ (c.in_ok-paths.ensures c.args.tree.now c.args.dirs.now.places c.in_ok-links.ensures) in
     search (rules, rw is at c.read_files.ensures.reads)
 
 pub returns-in_err-dangling-clause-reads : goal.returns-in_err-dangling-clause-reads
 returns-in_err-dangling-clause-reads g c =
-    let t = c.args.tree.now in
-    let is = keys t (analysis_at c.args.files.now.table) _ _ (c.in_ok-paths.ensures t c.args.dirs.now.places c.in_ok-links.ensures) in
+    let is = those (analysis_at c.args.files.now.table) _ _ (c.in_ok-paths.ensures c.args.tree.now c.args.dirs.now.places c.in_ok-links.ensures) in
     let same : c.from_residual-in_err-dangling.result ≡ Err finding.NoMemory = search rules in
     rw same (reads_all _ _ _ _ _ (rw is at c.in_ok-read_files.ensures.reads))
 
@@ -55,20 +52,22 @@ returns-clause-only g c path there =
     either (list_any (bytes_eq path) (keys_of c.args.files.now.table)) (list_any (bytes_eq path) (unread (analysis_at c.args.files.now.table) files)) (list_any (bytes_eq path) files)
     (among_all (analysis_at c.args.files.now.table) files path) (rw is at c.in_ok-read_files.ensures.only path there)
 
+pub returns-clause-stamps : goal.returns-clause-stamps
+returns-clause-stamps g c =
+    let is = those (analysis_at c.args.files.now.table) _ _ (c.in_ok-paths.ensures c.args.tree.now c.args.dirs.now.places c.in_ok-links.ensures) in
+    rw is at c.in_ok-read_files.ensures.stamps
+
 pub returns-clause-begun : goal.returns-clause-begun
 returns-clause-begun g c =
-    let t = c.args.tree.now in
-    let is = keys t (analysis_at c.args.files.now.table) _ _ (c.in_ok-paths.ensures t c.args.dirs.now.places c.in_ok-links.ensures) in
-    c.in_ok-read_files.ensures.begun ∙ ap (λ ks. c.args.files.now.begun + length ks) is
+    let is = those (analysis_at c.args.files.now.table) _ _ (c.in_ok-paths.ensures c.args.tree.now c.args.dirs.now.places c.in_ok-links.ensures) in
+    rw is at c.in_ok-read_files.ensures.begun
 
 pub returns-clause-none_lacks : goal.returns-clause-none_lacks
 returns-clause-none_lacks g c =
-    let t = c.args.tree.now in
-    let is = keys t (analysis_at c.args.files.now.table) _ _ (c.in_ok-paths.ensures t c.args.dirs.now.places c.in_ok-links.ensures) in
+    let is = those (analysis_at c.args.files.now.table) _ _ (c.in_ok-paths.ensures c.args.tree.now c.args.dirs.now.places c.in_ok-links.ensures) in
     rw is at c.in_ok-read_files.ensures.none_lacks
 
 pub returns-clause-reads : goal.returns-clause-reads
 returns-clause-reads g c =
-    let t = c.args.tree.now in
-    let is = keys t (analysis_at c.args.files.now.table) _ _ (c.in_ok-paths.ensures t c.args.dirs.now.places c.in_ok-links.ensures) in
+    let is = those (analysis_at c.args.files.now.table) _ _ (c.in_ok-paths.ensures c.args.tree.now c.args.dirs.now.places c.in_ok-links.ensures) in
     rw is at c.in_ok-read_files.ensures.reads

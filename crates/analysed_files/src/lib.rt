@@ -1,6 +1,0 @@
-//! What the files of an image are, each read once.
-#![tactic(auto)]
-
-mod files;
-
-pub use files::{Files, read_files};

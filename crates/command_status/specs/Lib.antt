@@ -1,0 +1,4 @@
+pub mod CacheFault
+pub mod FaultLine
+pub mod ProgramFault
+pub mod Status

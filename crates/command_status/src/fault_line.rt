@@ -1,0 +1,162 @@
+//! Fault lines, which take no memory.
+ghost use Rattle.std.specs.Prelude.{◌≡◌, ◌++◌, codes, Some};
+ghost use Rattle.std.specs.Fmt.{decimal};
+ghost use Rattle.tree_face.specs.Stream.{TakesAll};
+ghost use Rattle.command_status.specs.CacheFault.{cache_fault};
+ghost use Rattle.command_status.specs.FaultLine.{line_bytes, number_digits};
+ghost use Rattle.command_status.specs.ProgramFault.{program_fault};
+ghost use Rattle.command_status.specs.Status.{kind_text, manifest_text, script_kind_text, script_text};
+
+use crate::status::ScriptKind;
+use cache_reader::CacheDefect;
+use lib_types::{Defect, Failed};
+use mtree_manifest::{LineKind, ManifestFault};
+use tree_face::{Sink, put_all};
+
+/// A line with a number in it, or without one.
+#[derive(Clone, Copy)]
+pub(crate) struct FaultLine {
+    front: &'static [u8],
+    number: Option<u64>,
+    back: &'static [u8],
+}
+
+/// A line without a number.
+pub(crate) fn whole(text: &'static [u8]) -> FaultLine
+    ensures { line_bytes result ≡ text.now }
+{
+    FaultLine {
+        front: text,
+        number: None,
+        back: b"",
+    }
+}
+
+/// A line with a number in it.
+pub(crate) fn numbered(front: &'static [u8], number: u64, back: &'static [u8]) -> FaultLine
+    ensures { line_bytes result ≡ front.now ++ decimal number ++ back.now }
+{
+    FaultLine {
+        front,
+        number: Some(number),
+        back,
+    }
+}
+
+// What stands behind the number of a manifest's line.
+fn kind_text(kind: LineKind) -> &'static [u8]
+    ensures { result.now ≡ codes ": " ++ kind_text kind ++ codes "\n" }
+{
+    match kind {
+        LineKind::BadLine => b": BadLine\n",
+        LineKind::BadEscape => b": BadEscape\n",
+        LineKind::BadNumber => b": BadNumber\n",
+        LineKind::BadType => b": BadType\n",
+        LineKind::NoTarget => b": NoTarget\n",
+    }
+}
+
+/// The fault line of a manifest without a tree.
+pub(crate) fn manifest_line(fault: ManifestFault) -> FaultLine
+    ensures { line_bytes result ≡ manifest_text fault }
+{
+    let front = b"fault: BadManifest line ";
+    match fault {
+        ManifestFault::TooLong { .. } => whole(b"fault: BadManifest: TooLong\n"),
+        ManifestFault::Bad { line, kind } => numbered(front, line, kind_text(kind)),
+        ManifestFault::Clash { line } => numbered(front, line, b": Clash\n"),
+        ManifestFault::TooMany { line } => numbered(front, line, b": TooMany\n"),
+        ManifestFault::NoMemory => whole(b""),
+    }
+}
+
+// What stands behind the number of a script's line.
+fn script_kind_text(kind: ScriptKind) -> &'static [u8]
+    ensures { result.now ≡ codes ": " ++ script_kind_text kind ++ codes "\n" }
+{
+    match kind {
+        ScriptKind::Bad(kind) => kind_text(kind),
+        ScriptKind::Clash => b": Clash\n",
+        ScriptKind::NotThere => b": NotThere\n",
+        ScriptKind::Full => b": Full\n",
+    }
+}
+
+/// The fault line of a script whose line isn't taken.
+pub(crate) fn script_line(line: u64, kind: ScriptKind) -> FaultLine
+    ensures { line_bytes result ≡ script_text line kind }
+{
+    numbered(b"fault: BadScript line ", line, script_kind_text(kind))
+}
+
+/// The fault line of a cache that has a defect.
+#[tactic(auto, unfolding(crate::specs::CacheFault::cache_fault))]
+pub(crate) fn cache_line(defect: CacheDefect) -> FaultLine
+    ensures { line_bytes result ≡ cache_fault defect }
+{
+    match defect {
+        CacheDefect::OldFormat => whole(b"fault: BadCache: OldFormat\n"),
+        CacheDefect::Short { len } => numbered(b"fault: BadCache: Short ", len, b"\n"),
+        CacheDefect::BadMagic => whole(b"fault: BadCache: BadMagic\n"),
+        CacheDefect::BadEndian { flags } => numbered(b"fault: BadCache: BadEndian ", flags, b"\n"),
+        CacheDefect::EntriesOutside { nlibs } => numbered(
+            b"fault: BadCache: EntriesOutside ",
+            nlibs,
+            b"\n",
+        ),
+        CacheDefect::StringOutside { entry } => numbered(
+            b"fault: BadCache: StringOutside ",
+            entry,
+            b"\n",
+        ),
+        CacheDefect::NoNul { entry } => numbered(b"fault: BadCache: NoNul ", entry, b"\n"),
+        CacheDefect::BadExtension { offset } => numbered(
+            b"fault: BadCache: BadExtension ",
+            offset,
+            b"\n",
+        ),
+        CacheDefect::BadHwcap { entry } => numbered(b"fault: BadCache: BadHwcap ", entry, b"\n"),
+        CacheDefect::Unsorted { entry } => numbered(b"fault: BadCache: Unsorted ", entry, b"\n"),
+    }
+}
+
+/// The fault line of a program whose file has a defect.
+#[tactic(auto, unfolding(crate::specs::ProgramFault::program_fault))]
+pub(crate) fn program_line(defect: Defect) -> FaultLine
+    ensures { line_bytes result ≡ program_fault defect }
+{
+    match defect {
+        Defect::NotElf => whole(b"fault: BadProgram: NotElf\n"),
+        Defect::TooShort { length } => numbered(b"fault: BadProgram: TooShort ", length, b"\n"),
+        Defect::BadClass { value } => numbered(b"fault: BadProgram: BadClass ", value, b"\n"),
+        Defect::BadData { value } => numbered(b"fault: BadProgram: BadData ", value, b"\n"),
+        Defect::BadMachine { number } => numbered(b"fault: BadProgram: BadMachine ", number, b"\n"),
+        Defect::NotShared { etype } => numbered(b"fault: BadProgram: NotShared ", etype, b"\n"),
+        Defect::BadPhdrs => whole(b"fault: BadProgram: BadPhdrs\n"),
+        Defect::NoDynamic => whole(b"fault: BadProgram: NoDynamic\n"),
+        Defect::DynOutside => whole(b"fault: BadProgram: DynOutside\n"),
+        Defect::NoStrtab => whole(b"fault: BadProgram: NoStrtab\n"),
+        Defect::OutsideLoad => whole(b"fault: BadProgram: OutsideLoad\n"),
+        Defect::BadString { tag } => numbered(b"fault: BadProgram: BadString ", tag, b"\n"),
+        Defect::BadSoname => whole(b"fault: BadProgram: BadSoname\n"),
+    }
+}
+
+// Writes the digits of a number, if there is one.
+fn put_number<O: Sink>(out: &mut O, number: Option<u64>) -> Result<(), Failed>
+    ensures { TakesAll (O.state out.old) (O.state out.new) (number_digits number) result }
+{
+    match number {
+        Some(number) => put_all(out, itoa::Buffer::new().format(number).as_bytes()),
+        None => Ok(()),
+    }
+}
+
+/// Writes a line. After an error a prefix of it was written.
+pub(crate) fn put_line<O: Sink>(out: &mut O, line: &FaultLine) -> Result<(), Failed>
+    ensures { TakesAll (O.state out.old) (O.state out.new) (line_bytes line.now) result }
+{
+    put_all(out, line.front)?;
+    put_number(out, line.number)?;
+    put_all(out, line.back)
+}

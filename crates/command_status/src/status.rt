@@ -1,0 +1,160 @@
+//! How a command ends.
+ghost use Rattle.std.specs.Prelude.{◌≡◌};
+ghost use Rattle.std.specs.Option.{option_map};
+ghost use Rattle.command_status.specs.FaultLine.{line_bytes};
+ghost use Rattle.command_status.specs.Status.{code_of, fault_line, of_load, of_resolve, of_update};
+
+use crate::fault_line::{
+    FaultLine, cache_line, manifest_line, numbered, program_line, script_line, whole,
+};
+use cache_reader::CacheDefect;
+use ldconfig_core::UpdateFault;
+use ldd_resolve::ResolveFault;
+use lib_types::Defect;
+use loaded_image::LoadFault;
+use mtree_manifest::{LineKind, ManifestFault};
+
+/// Why a line of a script isn't taken.
+#[derive(Clone, Copy, Debug, PartialEq, Eq)]
+pub enum ScriptKind {
+    /// It is no line of a script.
+    Bad(LineKind),
+    /// A file or a link would have something below it.
+    Clash,
+    /// There is no node to be removed.
+    NotThere,
+    /// The tree has as many nodes as a tree may have.
+    Full,
+}
+
+/// How a command ended.
+#[derive(Clone, Copy, Debug, PartialEq, Eq)]
+pub enum Status {
+    /// All was done.
+    Done,
+    /// The cache has no path for the name, or a library that the program needs isn't found.
+    Missing,
+    /// The arguments are those of no command.
+    Usage,
+    /// The manifest has no tree. This fault is never NoMemory.
+    BadManifest(ManifestFault),
+    /// This line of the script, counted from 1, isn't taken. Those before it were.
+    BadScript { line: u64, kind: ScriptKind },
+    /// The Cache slot holds nothing.
+    NoCache,
+    /// The first defect of the cache.
+    BadCache(CacheDefect),
+    /// The program's path leads to no file.
+    NoProgram,
+    /// The first defect of the program's file.
+    BadProgram(Defect),
+    /// More entries than a cache may have.
+    TooMany { count: u64 },
+    /// The store has failed, or doesn't hold a file that had to be read.
+    StoreFault,
+    /// The disk has failed.
+    DiskFault,
+    /// The source has failed.
+    InputFault,
+    /// The sink has failed.
+    OutputFault,
+    /// Out of memory.
+    NoMemory,
+    /// The input has more bytes than a script may have; so many were taken.
+    TooLong { taken: u64 },
+    /// The disk has no manifest.
+    NoManifest,
+    /// The tree with the planned links has more nodes than a tree may have, or its manifest more bytes than a manifest may have.
+    TooLarge { nodes: u64, bytes: u64 },
+}
+
+impl Status {
+    /// The program's exit status.
+    pub fn code(self) -> u8
+        ensures { result ≡ code_of self }
+    {
+        match self {
+            Status::Done => 0,
+            Status::Missing => 1,
+            Status::Usage => 2,
+            Status::BadManifest(_) => 3,
+            Status::BadScript { .. } => 4,
+            Status::NoCache => 5,
+            Status::BadCache(_) => 6,
+            Status::NoProgram => 7,
+            Status::BadProgram(_) => 8,
+            Status::TooMany { .. } => 9,
+            Status::StoreFault => 10,
+            Status::DiskFault => 11,
+            Status::InputFault => 12,
+            Status::OutputFault => 13,
+            Status::NoMemory => 14,
+            Status::TooLong { .. } => 15,
+            Status::NoManifest => 16,
+            Status::TooLarge { .. } => 17,
+        }
+    }
+
+    /// The fault line, if the status has one.
+    pub(crate) fn fault_line(self) -> Option<FaultLine>
+        ensures { option_map line_bytes result ≡ fault_line self }
+    {
+        match self {
+            Status::Done | Status::Missing | Status::OutputFault | Status::NoMemory => None,
+            Status::Usage => Some(whole(b"fault: Usage\n")),
+            Status::BadManifest(fault) => Some(manifest_line(fault)),
+            Status::BadScript { line, kind } => Some(script_line(line, kind)),
+            Status::NoCache => Some(whole(b"fault: NoCache\n")),
+            Status::BadCache(defect) => Some(cache_line(defect)),
+            Status::NoProgram => Some(whole(b"fault: NoProgram\n")),
+            Status::BadProgram(defect) => Some(program_line(defect)),
+            Status::TooMany { count } => Some(numbered(b"fault: TooMany ", count, b"\n")),
+            Status::StoreFault => Some(whole(b"fault: StoreFault\n")),
+            Status::DiskFault => Some(whole(b"fault: DiskFault\n")),
+            Status::InputFault => Some(whole(b"fault: InputFault\n")),
+            Status::TooLong { .. } => Some(whole(b"fault: TooLong\n")),
+            Status::NoManifest => Some(whole(b"fault: NoManifest\n")),
+            Status::TooLarge { .. } => Some(whole(b"fault: TooLarge\n")),
+        }
+    }
+}
+
+impl From<LoadFault> for Status {
+    ghost from_gives = { λ fault status. status ≡ of_load fault };
+
+    fn from(fault: LoadFault) -> Self {
+        match fault {
+            LoadFault::DiskFailed { .. } => Status::DiskFault,
+            LoadFault::NoManifest => Status::NoManifest,
+            LoadFault::BadManifest(fault) => Status::BadManifest(fault),
+            LoadFault::NoMemory => Status::NoMemory,
+        }
+    }
+}
+
+impl From<UpdateFault> for Status {
+    ghost from_gives = { λ fault status. status ≡ of_update fault };
+
+    fn from(fault: UpdateFault) -> Self {
+        match fault {
+            UpdateFault::StoreFault => Status::StoreFault,
+            UpdateFault::TooLarge { nodes, bytes } => Status::TooLarge { nodes, bytes },
+            UpdateFault::TooMany { count } => Status::TooMany { count },
+            UpdateFault::DiskFault(_) => Status::DiskFault,
+            UpdateFault::NoMemory => Status::NoMemory,
+        }
+    }
+}
+
+impl From<ResolveFault> for Status {
+    ghost from_gives = { λ fault status. status ≡ of_resolve fault };
+
+    fn from(fault: ResolveFault) -> Self {
+        match fault {
+            ResolveFault::NoProgram => Status::NoProgram,
+            ResolveFault::BadProgram(defect) => Status::BadProgram(defect),
+            ResolveFault::StoreFault => Status::StoreFault,
+            ResolveFault::NoMemory => Status::NoMemory,
+        }
+    }
+}

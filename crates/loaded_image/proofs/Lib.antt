@@ -1,0 +1,3 @@
+mod Loading
+pub mod ReadSlots
+mod Removing

@@ -1,0 +1,32 @@
+-- What the files of an image are, and which of them are read for its cache (ldconfig(8)).
+use Rattle.std.specs.Prelude.{◌≡◌, ℕ, true, List, if◌then◌else◌, Option, Some, None, is_none, is_some}
+use Rattle.std.specs.List.{list_any}
+use Rattle.std.specs.Option.{option_map, option_and_then}
+use Rattle.std.specs.Str.{bytes_eq}
+use Rattle.elf_dynamic.specs.Analysis.{analysis}
+use Rattle.elf_dynamic.specs.Begun.{key_in}
+use Rattle.found_files.specs.Analyses.{Analyses}
+use Rattle.tree_face.specs.Store.{Contents}
+use Rattle.image_tree.specs.Tree.{Nodes, node_at}
+
+-- ---- what a file is
+
+-- what the file at a path is, by its content; nothing, if no file is there or its content isn't held
+abbrev pub what_is : Contents → Nodes → Analyses
+what_is held t path = option_map analysis (option_and_then held (key_in (node_at t path)))
+
+-- what is said of files is what they are
+abbrev pub AreRight : Contents → Nodes → Analyses → Type 0
+AreRight held t what = (path : List ℕ) → is_some (what path) ≡ true → what path ≡ what_is held t path
+
+-- ---- the keys that are begun
+
+-- the key of a file that has no analysis yet
+abbrev pub unread_key : Nodes → Analyses → List ℕ → Option (List ℕ)
+unread_key t what path = if is_none (what path) then key_in (node_at t path) else None
+
+-- ---- what is left when files were read
+
+-- no file at these paths is without an analysis
+abbrev pub AreRead : Nodes → Analyses → List (List ℕ) → Type 0
+AreRead t what paths = (path : List ℕ) → list_any (bytes_eq path) paths ≡ true → unread_key t what path ≡ None

@@ -1,0 +1,4 @@
+mod CrashedRun
+pub mod NotUsage
+mod RepairedRun
+pub mod SettledSlots

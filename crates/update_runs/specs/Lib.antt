@@ -1,0 +1,4 @@
+pub mod Crash
+pub mod Devices
+pub mod Update
+pub mod UpdateCommand
