@@ -6,12 +6,14 @@ use Rattle.update_runs.specs.Devices.{Devices}
 use Rattle.command_runs.specs.Lookup.{LookupRun}
 use Rattle.command_runs.specs.Print.{PrintRun}
 use Rattle.command_runs.specs.Resolve.{ResolveRun}
+use Rattle.command_runs.specs.Sample.{SampleRun}
 use Rattle.script_runs.specs.Batch.{BatchRun}
 use Rattle.update_runs.specs.UpdateCommand.{UpdateRun}
 
 abbrev pub RunsCommand : Command → Status → Devices → Devices → Type 0
 RunsCommand (commands.Update tag) status old new = UpdateRun tag old new status
 RunsCommand (commands.Batch tag) status old new = BatchRun tag old new status
+RunsCommand (commands.Sample n) status old new = SampleRun n old new status
 RunsCommand commands.Print status old new = PrintRun old new status
 RunsCommand (commands.Lookup asked) status old new = LookupRun asked old new status
 RunsCommand (commands.Resolve asked) status old new = ResolveRun asked old new status

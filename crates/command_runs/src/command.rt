@@ -14,6 +14,7 @@ use crate::print::print;
 use crate::resolve::resolve;
 use command_status::{Status, put_fault_line};
 use commands::{Command, Lookup, Resolve};
+use sample_runs::run_sample;
 use script_runs::run_batch;
 use std::alloc::Global;
 use tree_face::{Disk, Sink, Source, Store};
@@ -77,7 +78,7 @@ pub fn refuse_arguments<O: Sink>(out: &mut O) -> Status
 /// of updates from the input.
 /// `print` writes the entries of the cache as text, and `lookup` the path that the loader takes from it for a name. `resolve` lists the
 /// libraries that a program of the manifest's tree loads. Every other status than Done and Missing but OutputFault and NoMemory writes
-/// its fault line. Only `batch` reads the input.
+/// its fault line. Only `batch` reads the input. `sample` makes updates of images of made libraries on devices in memory of its own.
 pub fn run_command<S: Store, D: Disk, I: Source, O: Sink>(
     alloc: Global,
     command: Command,
@@ -94,6 +95,7 @@ pub fn run_command<S: Store, D: Disk, I: Source, O: Sink>(
     match command {
         Command::Update { tag } => run_update(alloc, store, disk, out, tag),
         Command::Batch { tag } => run_batch(alloc, store, disk, input, out, tag),
+        Command::Sample { n } => run_sample(alloc, n, out),
         Command::Print => run_print(alloc, disk, out),
         Command::Lookup(lookup) => run_lookup(alloc, disk, out, &lookup),
         Command::Resolve(asked) => run_resolve(alloc, store, disk, out, asked),

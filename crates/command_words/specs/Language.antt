@@ -4,7 +4,7 @@ use Rattle.std.specs.Str.{bytes_eq}
 use Rattle.clap.specs.declared.builder.action.ArgAction.TheVariants.{SetTrue}
 use Rattle.clap.specs.Words.{App, Rule, new_app, new_rule, with_rule}
 use Rattle.command_words.specs.declared.verb.Verb.{Verb}
-use Rattle.command_words.specs.declared.verb.Verb.TheVariants.{Update, Batch, Print, Lookup, Resolve}
+use Rattle.command_words.specs.declared.verb.Verb.TheVariants.{Update, Batch, Sample, Print, Lookup, Resolve}
 
 -- ---- the first argument
 
@@ -12,6 +12,7 @@ abbrev pub verb_of : List ℕ → Option Verb
 verb_of word =
     if bytes_eq word (codes "update") then Some Update
     else if bytes_eq word (codes "batch") then Some Batch
+    else if bytes_eq word (codes "sample") then Some Sample
     else if bytes_eq word (codes "print") || bytes_eq word (codes "-p") then Some Print
     else if bytes_eq word (codes "lookup") then Some Lookup
     else if bytes_eq word (codes "resolve") then Some Resolve
@@ -54,6 +55,7 @@ searched = with_rule (with_rule without_requests (word_rule (codes "PATH"))) (op
 unfoldable pub app : Verb → App
 app Update = tagged
 app Batch = tagged
+app Sample = with_rule without_requests (word_rule (codes "N"))
 app Print = without_requests
 app Lookup = with_rule (with_rule (with_rule without_requests (word_rule (codes "NAME"))) (option_rule (codes "abi"))) (option_rule (codes "caps"))
 app Resolve = with_rule (with_rule (with_rule searched (option_rule (codes "library-path"))) (option_rule (codes "platform"))) (flag_rule (codes "secure"))

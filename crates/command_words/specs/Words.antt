@@ -1,5 +1,5 @@
 -- The command of arguments.
-use Rattle.std.specs.Prelude.{◌≡◌, ◌==◌, ⊤, ℕ, Bool, false, not, List, [], codes, length, Option, Some, None, Result, Ok, Err, option_map, option_and_then, unwrap_or, if◌then◌else◌}
+use Rattle.std.specs.Prelude.{◌≡◌, ◌==◌, ◌&&◌, nat_le, ⊤, ℕ, Bool, false, not, List, [], codes, length, Option, Some, None, Result, Ok, Err, option_map, option_and_then, unwrap_or, if◌then◌else◌}
 use Rattle.std.specs.Option.{option_map_or}
 use Rattle.clap.specs.Words.{Row, fault_of, first_of, matches_of, takes}
 use Rattle.lib_types.specs.Abi.{abi_of_word}
@@ -28,6 +28,14 @@ value_by id other found =
 abbrev pub tag_by : List Row → Option Tag
 tag_by found = option_map (λ number. record { 0 = number }) (option_and_then number_in (value_by (codes "tag") (codes "0") found))
 
+-- how many libraries a sample may have
+abbrev pub is_sample_size : ℕ → Bool
+is_sample_size n = nat_le 1 n && nat_le n 20000
+
+-- how many libraries a sample has
+abbrev pub size_by : List Row → Option ℕ
+size_by found = option_and_then (λ n. if is_sample_size n then Some n else None) (option_and_then number_in (value_by (codes "N") [] found))
+
 abbrev pub abi_by : List Row → Option Abi
 abi_by found = option_and_then abi_of_word (value_by (codes "abi") (codes "x86-64") found)
 
@@ -51,6 +59,7 @@ resolve_by found = option_and_then (λ path. option_and_then (λ caps. option_an
 abbrev pub command_by : Verb → List Row → Option Command
 command_by verbs.Update found = option_map commands.Update (tag_by found)
 command_by verbs.Batch found = option_map commands.Batch (tag_by found)
+command_by verbs.Sample found = option_map commands.Sample (size_by found)
 command_by verbs.Print found = Some commands.Print
 command_by verbs.Lookup found = option_map commands.Lookup (lookup_by found)
 command_by verbs.Resolve found = option_map commands.Resolve (resolve_by found)

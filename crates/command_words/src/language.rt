@@ -56,6 +56,13 @@ fn tagged<'a>(alloc: Global) -> Result<Command<'a>, AllocError>
 }
 
 #[tactic(auto, unfolding(crate::specs::Language::app))]
+fn sample<'a>(alloc: Global) -> Result<Command<'a>, AllocError>
+    ensures { IfOk result (λ c. app_of c ≡ app Verb.Sample) }
+{
+    with(bare(alloc), word(alloc, "N"))
+}
+
+#[tactic(auto, unfolding(crate::specs::Language::app))]
 fn lookup<'a>(alloc: Global) -> Result<Command<'a>, AllocError>
     ensures { IfOk result (λ c. app_of c ≡ app Verb.Lookup) }
 {
@@ -88,6 +95,7 @@ pub(crate) fn arguments_of<'a>(alloc: Global, verb: Verb) -> Result<Command<'a>,
 {
     match verb {
         Verb::Update | Verb::Batch => tagged(alloc),
+        Verb::Sample => sample(alloc),
         Verb::Print => Ok(bare(alloc)),
         Verb::Lookup => lookup(alloc),
         Verb::Resolve => resolve(alloc),

@@ -3,7 +3,7 @@ ghost use Rattle.std.specs.Prelude.{◌≡◌, true, Err, None, [], map, option_
 ghost use Rattle.std.specs.String.{string_bytes};
 ghost use Rattle.clap.specs.Words.{app_of, fault_of, first_of, found_of, matches_of, rows_of, takes};
 ghost use Rattle.command_words.specs.Language.{app, verb_in};
-ghost use Rattle.command_words.specs.Words.{Gives, abi_by, are_taken, caps_by, command_by, command_in, lookup_by, resolve_by, secure_by, tag_by, value_by, values_in};
+ghost use Rattle.command_words.specs.Words.{Gives, abi_by, are_taken, caps_by, command_by, command_in, lookup_by, resolve_by, secure_by, size_by, tag_by, value_by, values_in};
 ghost use Rattle.command_words.specs.declared.fault.WordsFault.TheVariants as faults;
 
 use crate::fault::WordsFault;
@@ -16,6 +16,9 @@ use commands::{Command, Lookup, Resolve};
 use lib_types::{Abi, Text, Texts};
 use std::alloc::Global;
 use tree_face::Tag;
+
+/// The most libraries of a sample.
+const SAMPLE_MAX: u16 = 20_000;
 
 // What `clap` finds in the arguments of this command.
 fn parse<'a>(
@@ -61,6 +64,16 @@ fn tag_by(found: &ArgMatches<'_>) -> Result<Tag, WordsFault>
     match value_by(found, "tag", "0").and_then(number) {
         Some(tag) => Ok(Tag(tag)),
         None => Err(WordsFault::Usage),
+    }
+}
+
+// How many libraries a sample has.
+fn size_by(found: &ArgMatches<'_>) -> Result<u16, WordsFault>
+    ensures { Gives (size_by (rows_of (found_of found.now))) result }
+{
+    match value_by(found, "N", "").and_then(number) {
+        Some(n) if 1 <= n && n <= SAMPLE_MAX => Ok(n),
+        _ => Err(WordsFault::Usage),
     }
 }
 
@@ -136,6 +149,7 @@ fn command_by(alloc: Global, verb: Verb, found: &ArgMatches<'_>) -> Result<Comma
     match verb {
         Verb::Update => tag_by(found).map(|tag| Command::Update { tag }),
         Verb::Batch => tag_by(found).map(|tag| Command::Batch { tag }),
+        Verb::Sample => size_by(found).map(|n| Command::Sample { n }),
         Verb::Print => Ok(Command::Print),
         Verb::Lookup => Ok(Command::Lookup(lookup_by(alloc, found)?)),
         Verb::Resolve => Ok(Command::Resolve(resolve_by(alloc, found)?)),

@@ -9,6 +9,7 @@ ghost use Rattle.command_words.specs.Language.{verb_in, verb_of};
 pub(crate) enum Verb {
     Update,
     Batch,
+    Sample,
     Print,
     Lookup,
     Resolve,
@@ -28,6 +29,8 @@ fn verb_of(word: &str) -> Option<Verb>
         Some(Verb::Update)
     } else if is_word(word, "batch") {
         Some(Verb::Batch)
+    } else if is_word(word, "sample") {
+        Some(Verb::Sample)
     } else if is_word(word, "print") || is_word(word, "-p") {
         Some(Verb::Print)
     } else if is_word(word, "lookup") {

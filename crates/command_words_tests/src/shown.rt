@@ -61,6 +61,10 @@ fn put_command(alloc: Global, text: &mut Vec<u8>, command: &Command) -> Result<(
             put_line(text, b"batch", b"")?;
             put_tag(alloc, text, tag)
         }
+        Command::Sample { n } => {
+            put_line(text, b"sample", b"")?;
+            put_number(alloc, text, b"n=", i32::from(*n))
+        }
         Command::Print => put_line(text, b"print", b""),
         Command::Lookup(lookup) => {
             put_line(text, b"lookup", b"")?;

@@ -33,6 +33,8 @@ pub enum Command {
     Update { tag: Tag },
     /// To take the script of edits and updates on the input, by way of the temporary files of this tag.
     Batch { tag: Tag },
+    /// To update images of so many made libraries, on devices in memory.
+    Sample { n: u16 },
     /// To print the cache.
     Print,
     /// To look up a name in the cache.

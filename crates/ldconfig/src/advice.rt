@@ -11,6 +11,7 @@ pub const USAGE: &str =
     "ldconfig for images, release version 1 (made with the Rattle kit, logic dac8208d650f15bf)
 usage: ldconfig update [--tag N]: plans the links of the libraries in image.mtree, in the folder of an image, and makes etc/ld.so.cache; the same without arguments
 usage: ldconfig batch [--tag N]: takes a script from the input: lines put LINE, with a line of a manifest, and drop PATH edit image.mtree, and each line update does what ldconfig update does; edits behind the last one aren't written
+usage: ldconfig sample N: updates images of N made libraries, 1 to 20000, in memory, and prints what was done; no file is read or written
 usage: ldconfig print, or -p: prints etc/ld.so.cache
 usage: ldconfig lookup NAME [--abi ABI] [--caps LIST]: the path that the loader takes from etc/ld.so.cache; LIST: hwcaps names between colons, as in ldconfig lookup libz.so.1 --caps x86-64-v3:x86-64-v2
 usage: ldconfig resolve PATH [--caps LIST] [--library-path LIST] [--platform TEXT] [--secure]: the libraries that the program or library PATH of the image loads, and from where, as ldd lists them

@@ -123,10 +123,12 @@ none_of : (status : Status) (known : Option Contents) (stamps : List Stamp) (cou
 none_of status None stamps course none = tt
 none_of status (Some held) stamps course none = λ honest. none held
 
-settled_texts : (s : Loaded) (texts : UpdateTexts) (known : Option Contents) → AreUpdateTexts s known texts → IfHonestly known s (λ held. AreSettledTexts held s texts)
-settled_texts s texts None are = tt
-settled_texts s texts (Some held) are = λ are_true same.
+settled_texts : (s : Loaded) (texts : UpdateTexts) (known : Option Contents) → AreUpdateTexts s known texts → IfHonestly known s (λ held. update_outcome held s ≡ Writes)
+    → IfHonestly known s (λ held. AreSettledTexts held s texts)
+settled_texts s texts None are writes = tt
+settled_texts s texts (Some held) are writes = λ are_true same.
     record {
+      made = writes are_true same;
       are = are.are_of are_true same;
       finds = are.finds are_true same;
       settled = are.settles are_true same;
@@ -139,16 +141,16 @@ module _ (status : Status) (s : Loaded) (more : Contents → Loaded → Course) 
   abbrev IsBehind : Contents → Type 0
   IsBehind held = AreHonest held (planned_image held s).stamps (more held (planned_image held s)).asked → AreOfFirst held status (more held (planned_image held s)).updates updates
 
-  update_of : (known : Option Contents) → IfHonestly known s (λ held. AreSettledTexts held s texts) → IfHonestly known s (λ held. update_outcome held s ≡ Writes)
-      → IfHonestly known s IsBehind → AreOfCourse known s.stamps status (λ held. course_of_update held s (update_outcome held s) (more held)) (texts ∷ updates)
-  update_of None are writes behind = tt
-  update_of (Some held) are writes behind = λ honest.
+  update_of : (known : Option Contents) → IfHonestly known s (λ held. AreSettledTexts held s texts) → IfHonestly known s IsBehind
+      → AreOfCourse known s.stamps status (λ held. course_of_update held s (update_outcome held s) (more held)) (texts ∷ updates)
+  update_of None are behind = tt
+  update_of (Some held) are behind = λ honest.
       let here : IsHonest held s = asked_is held s (update_outcome held s) (more held) honest in
-      let writes_here = writes here.0 here.1 in
+      let settled = are here.0 here.1 in
       let next = next_is held s (more held (planned_image held s)).asked
-      (subst (λ (outcome : Outcome). AreHonest held s.stamps (course_of_update held s outcome (more held)).asked) writes_here honest) in
-      subst (λ (outcome : Outcome). AreOfFirst held status (course_of_update held s outcome (more held)).updates (texts ∷ updates)) (sym writes_here)
-      (are here.0 here.1, behind here.0 here.1 next)
+      (subst (λ (outcome : Outcome). AreHonest held s.stamps (course_of_update held s outcome (more held)).asked) settled.made honest) in
+      subst (λ (outcome : Outcome). AreOfFirst held status (course_of_update held s outcome (more held)).updates (texts ∷ updates)) (sym settled.made)
+      (settled, behind here.0 here.1 next)
 
   -- the updates of the image with the planned links
   behind_of : (image : Loaded) (known between : Option Contents) → between ≡ known → IfHonestly known s (λ held. image ≡ planned_image held s)
@@ -210,28 +212,27 @@ module _ (tag : Tag) where
           let left = u.written in
           subst (λ (s : States). HasWritten OfUpdate status old.disk s.disk) (sym same)
           (part_written OfUpdate left.texts left.are.are status old.disk between.disk is
-          (update_of status s more left.texts [] old.store.held (settled_texts s left.texts old.store.held left.are) u.answers
+          (update_of status s more left.texts [] old.store.held (settled_texts s left.texts old.store.held left.are u.answers)
           (last_of status s more left.texts old.store.held (not_done (updating.DiskFault fault) is))) left.written.leaves)
       failed updating.StoreFault u is same = unwritten (not_done updating.StoreFault is) u.written same
       failed (updating.TooLarge nodes bytes) u is same = unwritten (not_done (updating.TooLarge nodes bytes) is) u.written same
       failed (updating.TooMany count) u is same = unwritten (not_done (updating.TooMany count) is) u.written same
       failed updating.NoMemory u is same = unwritten (not_done updating.NoMemory is) u.written same
 
-      updated_by : (to : Result Loaded Status) (result : Result (Loaded × Report) UpdateFault) → IsRun result → Reports result (status_of to) old.output between.output → IsUpdatedTo to result → (IsErrOf to Done → ⊥)
-          → GoesBy between to
-          → HasWritten OfUpdate status old.disk new.disk
+      updated_by : (to : Result Loaded Status) (result : Result (Loaded × Report) UpdateFault) → IsRun result → Reports result (status_of to) old.output between.output → IsUpdatedTo to result
+          → (IsErrOf to Done → ⊥) → GoesBy between to → HasWritten OfUpdate status old.disk new.disk
       updated_by (Ok image) (Ok updated) u reports same made runs =
           let left = u.written in
           then_written left.texts left.are.are status old.disk between.disk new.disk left.written.leaves OfUpdate
           (AreOfCourse between.store.held image.stamps status (λ held. more held image)) left.written.settled
-          (λ updates rest. update_of status s more left.texts updates old.store.held (settled_texts s left.texts old.store.held left.are) u.answers
+          (λ updates rest. update_of status s more left.texts updates old.store.held (settled_texts s left.texts old.store.held left.are u.answers)
           (behind_of status s more left.texts updates image old.store.held between.store.held u.reads.any.held (planned_of old.store.held s image updated same u.updated) rest))
           (are (1 + number) image status between new runs)
       updated_by (Err ended) (Ok updated) u reports same made (e, end) =
           let left = u.written in
           then_written left.texts left.are.are status old.disk between.disk new.disk left.written.leaves OfUpdate (λ updates. updates ≡ []) left.written.settled
           (λ updates none. subst (λ (updates : List UpdateTexts). OfUpdate (left.texts ∷ updates)) (sym none)
-          (update_of status s more left.texts [] old.store.held (settled_texts s left.texts old.store.held left.are) u.answers
+          (update_of status s more left.texts [] old.store.held (settled_texts s left.texts old.store.held left.are u.answers)
           (last_of status s more left.texts old.store.held (λ done. made (ap (λ (status : Status). Err status) (sym e ∙ done))))))
           (nothing_written (λ updates. updates ≡ []) status between.disk new.disk refl (ap (λ (d : States). d.disk) end))
       updated_by (Ok image) (Err fault) u reports same made runs = absurd same

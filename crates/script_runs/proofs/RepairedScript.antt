@@ -1,5 +1,5 @@
 -- What a crash of a script has left is honest, and what an update of it writes is what one of the old image or of the course writes.
-use Rattle.std.proofs.Common.{◌≡◌, ◌⊎◌, ◌+◌, ◌++◌, ℕ, List, [], ◌∷◌, All, flat_map, Option, Some, None, Result, Ok, Err, IfOk, refl, ap, sym, subst, ◌∙◌, inl, inr}
+use Rattle.std.proofs.Common.{◌≡◌, ◌⊎◌, ◌+◌, ◌++◌, ℕ, Bool, false, List, [], ◌∷◌, All, flat_map, Option, Some, None, Result, Ok, Err, IfOk, refl, ap, sym, subst, ◌∙◌, inl, inr}
 use Rattle.std.specs.List.{Contains}
 use Rattle.std.proofs.lemmas.List.Elements.{All-cons, All-contains, All-contains_itself, All-head, All-nil, All-tail, All-weaker, Contains-append_right}
 use Rattle.atomic_replace.specs.Replace.{Write}
@@ -7,7 +7,7 @@ use Rattle.aux_cache.specs.declared.stamps.Stamp.{Stamp}
 use Rattle.image_tree.specs.Tree.{Nodes}
 use Rattle.ldconfig_core.proofs.OneText.{again, one_written}
 use Rattle.ldconfig_core.proofs.Repaired.{manifest_written, one_image}
-use Rattle.ldconfig_core.specs.Outcome.{Lacking, Outcome, TooLarge, TooMany, Writes, update_outcome}
+use Rattle.ldconfig_core.specs.Outcome.{Lacking, Outcome, TooLarge, TooMany, Writes, new_manifest, update_outcome}
 use Rattle.ldconfig_core.specs.Repair.{IsImageIn}
 use Rattle.ldconfig_core.specs.Settled.{AreCachesAgain, AreSettled, IfReads, planned_image}
 use Rattle.ldconfig_core.specs.Texts.{AreAlike, AreTextsOf, UpdateTexts, of_manifest, writes_of}
@@ -118,6 +118,14 @@ module _ (held : Contents) (slot : Slot) (b : Content) where
         record { image = rest.image; among = contains_later u images rest.image rest.among; texts = rest.texts; are = rest.are; there = rest.there }
   ]
 
+-- images of one tree, both edited or both not, come to the same, whatever stamps they have
+one_outcome : (held : Contents) (s new : Loaded) → new.tree ≡ s.tree → new.edited ≡ s.edited → update_outcome held new ≡ update_outcome held s
+unfolding update_outcome new_manifest
+one_outcome held s new tree edited = ap (λ t. outcome_of t new.edited) tree ∙ ap (outcome_of s.tree) edited
+  where
+    outcome_of : Nodes → Bool → Outcome
+    outcome_of t edited = update_outcome held (record { tree = t; stamps = []; edited = edited; damaged = None })
+
 -- ---- an image of which each slot is old, or written by an update of the course
 
 module _ (held : Contents) (slots : Slots) (s : Loaded) (in_slots : IsImageIn slots s) (c : Course) (within : AreAsked c) (honest : AreHonest held s.stamps (s ∷ c.asked))
@@ -154,6 +162,9 @@ module _ (held : Contents) (slots : Slots) (s : Loaded) (in_slots : IsImageIn sl
         subst (λ (x : List Stamp). All (λ (u : Loaded). AreTrue held u.tree x) asked) (sym is) (made_true w.image (among_asked w.image w.among))
   ]
 
+  not_edited : false ≡ s.edited
+  not_edited = sym (ap (λ (l : Loaded). l.edited) in_slots.is)
+
   -- the old tree, with the stamps that are left
   of_old : image.manifest ≡ slots.manifest → IsRepairable held s c.updates slots image
   of_old old = record {
@@ -165,12 +176,13 @@ module _ (held : Contents) (slots : Slots) (s : Loaded) (in_slots : IsImageIn sl
     };
     writes = inl (record {
       manifest = old;
-      again = λ texts again are is. one_written held s (image_with s.tree image.aux) texts again refl (sym (ap (λ (l : Loaded). l.edited) in_slots.is)) are is;
+      outcome = one_outcome held s (image_with s.tree image.aux) refl not_edited;
+      again = λ texts again are is. one_written held s (image_with s.tree image.aux) texts again refl not_edited are is;
     });
   }
 
   -- the planned tree of an update
-  module _ (u : Loaded) (among : Contains c.updates u) (settled : AreSettled held u (planned_image held u)) where
+  module _ (u : Loaded) (among : Contains c.updates u) (made : update_outcome held u ≡ Writes) (settled : AreSettled held u (planned_image held u)) where
     abbrev left : Loaded
     left = image_with (planned_in held u.tree) image.aux
 
@@ -188,7 +200,7 @@ module _ (held : Contents) (slots : Slots) (s : Loaded) (in_slots : IsImageIn sl
         are_true = settled.true_too stamps (All-contains IsTrue asked u all_true (among_asked u among));
         same = settled.same;
       };
-      writes = inr (u, (among, record { manifest = reads; again = written_again }));
+      writes = inr (u, (among, record { manifest = reads; made = one_outcome held (planned_image held u) left refl refl ∙ settled.outcome made; again = written_again }));
     }
 
   reads_planned : (u : Loaded) (texts : UpdateTexts) → IfReads texts.manifest (planned_image held u) → IsOfWrites (writes_of texts) Manifest image.manifest
@@ -200,7 +212,7 @@ module _ (held : Contents) (slots : Slots) (s : Loaded) (in_slots : IsImageIn sl
   repairable : IsRepairable held s c.updates slots image
   repairable = elim (each Manifest) [
     | inl old ↦ of_old old
-    | inr w ↦ of_planned w.image w.among w.are.settled (reads_planned w.image w.texts w.are.manifest_read w.there)
+    | inr w ↦ of_planned w.image w.among w.are.made w.are.settled (reads_planned w.image w.texts w.are.manifest_read w.there)
   ]
 
 -- ---- a crash of a script

@@ -3,6 +3,7 @@ use Rattle.std.specs.Prelude.{◌≡◌, ◌⊎◌, ◌++◌, ℕ, true, List, [
 use Rattle.std.specs.List.{All, Contains}
 use Rattle.aux_cache.specs.declared.stamps.Stamp.{Stamp}
 use Rattle.ldconfig_core.specs.Lookup.{FindsAsSearched}
+use Rattle.ldconfig_core.specs.Outcome.{Writes, update_outcome}
 use Rattle.ldconfig_core.specs.Repair.{IsImageIn, LeavesOnly, MightBeLeft}
 use Rattle.ldconfig_core.specs.Settled.{AreCachesAgain, AreSettled, IfReads, planned_image}
 use Rattle.ldconfig_core.specs.Texts.{AreAlike, AreTexts, AreTextsOf, UpdateTexts, writes_of}
@@ -28,6 +29,7 @@ LeavesLast updates new = (front : List UpdateTexts) (last : UpdateTexts) → upd
 
 -- the texts of an update of the image, which is settled with them: a manifest reads as the image with the planned links, the auxiliary cache as its stamps
 pub record AreSettledTexts (held : Contents) (u : Loaded) (texts : UpdateTexts) : Type 0 where
+  pub made : update_outcome held u ≡ Writes
   pub are : AreTextsOf held u texts
   pub finds : FindsAsSearched held u.tree texts.cache
   pub settled : AreSettled held u (planned_image held u)
@@ -68,14 +70,16 @@ pub record LeavesWhole (known : Option Contents) (text : List ℕ) (status : Sta
 
 -- ---- a further update
 
--- the manifest is the old one, and an update writes what one of the old image writes
+-- the manifest is the old one, and an update comes to what one of the old image comes to, and writes the same
 pub record IsOfOldImage (held : Contents) (s : Loaded) (slots image : Slots) (left : Loaded) : Type 0 where
   pub manifest : image.manifest ≡ slots.manifest
+  pub outcome : update_outcome held left ≡ update_outcome held s
   pub again : (texts again : UpdateTexts) → AreTextsOf held s texts → AreTextsOf held left again → AreAlike texts again
 
--- the manifest reads as the planned tree of an update of the image u, and a further update writes no manifest and the very caches of that update
+-- the manifest reads as the planned tree of an update of the image u, and a further update is made, writes no manifest, and the very caches of that one
 pub record IsOfUpdate (held : Contents) (u : Loaded) (image : Slots) (left : Loaded) : Type 0 where
   pub manifest : manifest_of image.manifest ≡ HasTree (planned_in held u.tree)
+  pub made : update_outcome held left ≡ Writes
   pub again : (texts again : UpdateTexts) → AreTextsOf held u texts → AreTextsOf held left again → AreCachesAgain texts again
 
 abbrev pub IsOfOneUpdate : Contents → List Loaded → Slots → Loaded → Type 0

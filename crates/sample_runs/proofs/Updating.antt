@@ -1,0 +1,105 @@
+-- One update of a sample, and both one after the other.
+use Rattle.std.proofs.Common.{◌≡◌, ◌≤◌, ℕ, List, Option, Some, None, Result, Ok, Err, sym, ap, subst, ◌∙◌, arith}
+use Rattle.command_status.specs.declared.status.Status.{Status}
+use Rattle.command_status.specs.declared.status.Status.TheVariants as statuses
+use Rattle.ldconfig_core.proofs.Repaired.{slots_are, written_slots}
+use Rattle.ldconfig_core.specs.declared.fault.UpdateFault.{UpdateFault}
+use Rattle.ldconfig_core.specs.declared.fault.UpdateFault.TheVariants as faults
+use Rattle.ldconfig_core.specs.declared.report.Report.{Report}
+use Rattle.ldconfig_core.specs.Repair.{slots_after}
+use Rattle.ldconfig_core.specs.Texts.{AreTextsOf, UpdateTexts, writes_of}
+use Rattle.ldconfig_core.specs.Update.{IfHonestly, IsUpdated, Updates}
+use Rattle.lib_types.specs.Counts.{HasRisen}
+use Rattle.loaded_image.specs.Session.{Loaded}
+use Rattle.replaced_slots.specs.Replaced.{calls_of}
+use Rattle.tree_face.proofs.Known.{relates_by}
+use Rattle.tree_face.specs.Disk.{DiskContent, DiskState, KeepsAll}
+use Rattle.tree_face.specs.Follows.{IsFollowedBy}
+use Rattle.tree_face.specs.Known.{IfKnown, Relates}
+use Rattle.tree_face.specs.Store.{Contents, StoreState}
+use Rattle.tree_face.specs.declared.disk.DoneCall.{DoneCall}
+use Rattle.sample_runs.specs.declared.updates.SampleUpdate.{SampleUpdate}
+use Rattle.sample_runs.specs.Updates.{Goes, IsHonest, IsUpdateOf, ReadFails, UpdateFails, UpdatesTo, sample_tag, status_of}
+
+-- ---- counts
+
+pub risen_since : (a b c : ℕ) → a ≤ b → HasRisen b c → HasRisen a c
+risen_since a b c before risen = omega (arith, before, risen)
+
+-- ---- one update
+
+-- the slots hold what the texts' writes leave
+abbrev pub Leaves : UpdateTexts → DiskContent → DiskContent → Type 0
+Leaves texts a b = b.now ≡ slots_after (writes_of texts) a.now
+
+cache_is : (texts : UpdateTexts) (cache : List ℕ) (a b : Option DiskContent) → Relates (Leaves texts) a b → IfKnown b (λ known. known.now.cache ≡ Some cache) → IfKnown a (λ _. cache ≡ texts.cache)
+cache_is texts cache None b leaves is = tt
+cache_is texts cache (Some a) None leaves is = absurd leaves
+cache_is texts cache (Some a) (Some b) leaves is =
+    let same : Some cache ≡ Some texts.cache = sym is ∙ ap (λ s. s.cache) (leaves ∙ written_slots texts a.now) in cc
+
+module _ (s : Loaded) (store after_store : StoreState) (disk middle after_disk : DiskState) where
+  module _ (updated : Loaded) (report : Report) (u : Updates sample_tag s (Ok (updated, report)) store after_store disk middle) (keeps : KeepsAll middle after_disk)
+      (cache : List ℕ) (read : IfKnown middle.contents (λ known. known.now.cache ≡ Some cache)) where
+    abbrev numbers : SampleUpdate
+    numbers = record { libs = report.libs; links = report.links; opened = report.opened; cache = cache }
+
+    abbrev texts : UpdateTexts
+    texts = u.written.texts
+
+    leaves : Relates (Leaves texts) disk.contents middle.contents
+    leaves = relates_by _ _ (slots_are 0 (writes_of texts)) _ _ u.written.written.contents
+
+    by_held : (known : Option Contents) → IfHonestly known s (λ held. AreTextsOf held s texts) → IfHonestly known s (λ held. IsUpdated held s (updated, report))
+        → IfKnown known (λ held. IsHonest held s → IsUpdateOf held s texts (updated, numbers))
+    by_held None are is = tt
+    by_held (Some held) are is = λ honest.
+        let made = is honest.are_true honest.same in
+        record {
+          texts_are = are honest.are_true honest.same;
+          image_is = made.planned;
+          numbers = record { libs = made.report.libs; links = made.report.links; opened = made.report.opened };
+        }
+
+    -- the update is made, and then the cache is read
+    pub is_updated : UpdatesTo s (updated, numbers) store disk after_disk
+    is_updated = record {
+      texts = texts;
+      slots = subst (λ (c : Option DiskContent). Relates (Leaves texts) disk.contents c) (sym keeps.contents) leaves;
+      calls = subst (λ (c : Option (List DoneCall)). Relates (IsFollowedBy (calls_of sample_tag (writes_of texts))) disk.calls c) (sym keeps.calls) u.written.written.calls;
+      cache = cache_is texts cache disk.contents middle.contents leaves read;
+      honest = by_held store.held u.written.are.are_of u.updated;
+    }
+
+  -- the update isn't made
+  pub is_failed : (fault : UpdateFault) → Updates sample_tag s (Err fault) store after_store disk middle → UpdateFails s (status_of fault) store after_store disk middle
+  is_failed faults.StoreFault u = u.reads.any.cause
+  is_failed (faults.DiskFault fault) u = u.written.written.faults
+  is_failed (faults.TooLarge nodes bytes) u = tt
+  is_failed (faults.TooMany count) u = tt
+  is_failed faults.NoMemory u = tt
+
+  -- the cache isn't read
+  pub is_unread : (status : Status) → disk.faults ≤ middle.faults → ReadFails status middle after_disk → UpdateFails s status store after_store disk after_disk
+  is_unread statuses.DiskFault before failed = risen_since disk.faults middle.faults after_disk.faults before failed
+  is_unread statuses.NoMemory before failed = tt
+  is_unread statuses.Done before failed = absurd failed
+  is_unread statuses.OutputFault before failed = absurd failed
+  is_unread statuses.Missing before failed = absurd failed
+  is_unread statuses.Usage before failed = absurd failed
+  is_unread (statuses.BadManifest fault) before failed = absurd failed
+  is_unread (statuses.BadScript line kind) before failed = absurd failed
+  is_unread statuses.InputFault before failed = absurd failed
+  is_unread (statuses.TooLong taken) before failed = absurd failed
+  is_unread statuses.NoCache before failed = absurd failed
+  is_unread (statuses.BadCache defect) before failed = absurd failed
+  is_unread statuses.NoProgram before failed = absurd failed
+  is_unread (statuses.BadProgram defect) before failed = absurd failed
+  is_unread (statuses.TooMany count) before failed = absurd failed
+  is_unread statuses.StoreFault before failed = absurd failed
+  is_unread statuses.NoManifest before failed = absurd failed
+  is_unread (statuses.TooLarge nodes bytes) before failed = absurd failed
+
+  -- the store holds what it held, and no count falls
+  pub goes_on : (result : Result (Loaded × Report) UpdateFault) → Updates sample_tag s result store after_store disk middle → middle.faults ≤ after_disk.faults → Goes store after_store disk after_disk
+  goes_on result u read = record { held = u.reads.any.held; store_faults = u.reads.any.faults; disk_faults = omega (arith, u.disk_faults, read) }

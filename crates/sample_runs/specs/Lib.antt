@@ -1,0 +1,6 @@
+pub mod Files
+pub mod Images
+pub mod Run
+pub mod Sample
+pub mod Text
+pub mod Updates

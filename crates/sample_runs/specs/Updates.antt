@@ -1,0 +1,117 @@
+-- The updates of a sample, step by step.
+use Rattle.std.specs.Prelude.{◌≡◌, ◌⊎◌, ◌≤◌, ◌<◌, ℕ, true, length, Option, IsSomeAnd, ⊤, ◌++◌}
+use Rattle.command_status.specs.declared.status.Status.{Status}
+use Rattle.command_status.specs.declared.status.Status.TheVariants.{StoreFault, DiskFault, NoMemory}
+use Rattle.ldconfig_core.specs.declared.fault.UpdateFault.{UpdateFault}
+use Rattle.ldconfig_core.specs.declared.fault.UpdateFault.TheVariants as faults
+use Rattle.ldconfig_core.specs.Repair.{slots_after}
+use Rattle.ldconfig_core.specs.Settled.{planned_image}
+use Rattle.ldconfig_core.specs.Texts.{AreTextsOf, UpdateTexts, update_slots, writes_of}
+use Rattle.lib_types.specs.Counts.{HasRisen}
+use Rattle.loaded_image.specs.Session.{Loaded}
+use Rattle.replaced_slots.specs.Replaced.{calls_of, slots_of}
+use Rattle.searched_image.specs.Begun.{lacks_some, opened_in}
+use Rattle.searched_image.specs.Ldconfig.{entries_in, links_in}
+use Rattle.stamped_files.specs.Stamped.{AreSame, AreTrue}
+use Rattle.tree_face.specs.declared.disk.Tag.{Tag}
+use Rattle.tree_face.specs.Disk.{DiskContent, DiskState}
+use Rattle.tree_face.specs.Follows.{IsFollowedBy}
+use Rattle.tree_face.specs.Known.{IfKnown, Relates}
+use Rattle.tree_face.specs.Store.{Contents, StoreState}
+use Rattle.sample_runs.specs.declared.updates.SampleUpdate.{SampleUpdate}
+use Rattle.sample_runs.specs.Images.{first_image, second_image}
+
+abbrev pub sample_tag : Tag
+sample_tag = record { 0 = 0 }
+
+-- the stamps of an image are true, and its files of equal identity have equal content
+pub record IsHonest (held : Contents) (s : Loaded) : Type 0 where
+  pub are_true : AreTrue held s.tree s.stamps
+  pub same : AreSame held s.tree s.tree
+
+-- ---- one update
+
+-- the status of a fault; an image that is too large is taken for want of memory
+abbrev pub status_of : UpdateFault → Status
+status_of faults.StoreFault = StoreFault
+status_of (faults.DiskFault fault) = DiskFault
+status_of _ = NoMemory
+
+-- the store holds what it held, and no count of faults falls
+pub record Goes (store after_store : StoreState) (disk after_disk : DiskState) : Type 0 where
+  pub held : after_store.held ≡ store.held
+  pub store_faults : store.faults ≤ after_store.faults
+  pub disk_faults : disk.faults ≤ after_disk.faults
+
+-- the numbers are those of the update of this image
+pub record AreNumbers (held : Contents) (s : Loaded) (numbers : SampleUpdate) : Type 0 where
+  pub libs : numbers.libs ≡ length (entries_in held s.tree)
+  pub links : numbers.links ≡ length (links_in held s.tree)
+  pub opened : numbers.opened ≡ opened_in held s.tree s.stamps
+
+-- of an honest image: the texts, the numbers and the updated image are those of its update
+pub record IsUpdateOf (held : Contents) (s : Loaded) (texts : UpdateTexts) (updated : Loaded × SampleUpdate) : Type 0 where
+  pub texts_are : AreTextsOf held s texts
+  pub image_is : updated.0 ≡ planned_image held s
+  pub numbers : AreNumbers held s updated.1
+
+-- the writes of the texts are made, and the cache is then read
+pub record UpdatesTo (s : Loaded) (updated : Loaded × SampleUpdate) (store : StoreState) (disk after_disk : DiskState) : Type 0 where
+  pub texts : UpdateTexts
+  pub slots : Relates (λ (a b : DiskContent). b.now ≡ slots_after (writes_of texts) a.now) disk.contents after_disk.contents
+  pub calls : Relates (IsFollowedBy (calls_of sample_tag (writes_of texts))) disk.calls after_disk.calls
+  pub cache : IfKnown disk.contents (λ _. updated.1.cache ≡ texts.cache)
+  pub honest : IfKnown store.held (λ held. IsHonest held s → IsUpdateOf held s texts updated)
+
+-- a file of the image isn't held
+abbrev pub Lacks : Option Contents → Loaded → Type 0
+Lacks known s = IsSomeAnd known (λ held. lacks_some held s.tree ≡ true)
+
+-- the count of the device rose, or the store doesn't hold a file of the image
+abbrev pub UpdateFails : Loaded → Status → StoreState → StoreState → DiskState → DiskState → Type 0
+UpdateFails s StoreFault store after_store disk after_disk = HasRisen store.faults after_store.faults ⊎ Lacks store.held s
+UpdateFails s DiskFault store after_store disk after_disk = HasRisen disk.faults after_disk.faults
+UpdateFails s NoMemory store after_store disk after_disk = ⊤
+UpdateFails s _ store after_store disk after_disk = ⊥
+
+-- why the cache isn't read
+abbrev pub ReadFails : Status → DiskState → DiskState → Type 0
+ReadFails DiskFault disk after_disk = HasRisen disk.faults after_disk.faults
+ReadFails NoMemory disk after_disk = ⊤
+ReadFails _ disk after_disk = ⊥
+
+-- ---- both updates
+
+-- the slots hold what these updates write, and the writing calls are theirs
+pub record AreWritten (first second : UpdateTexts) (old new : DiskState) : Type 0 where
+  pub slots : Relates (λ (a b : DiskContent). b.now ≡ slots_after (writes_of second) (slots_after (writes_of first) a.now)) old.contents new.contents
+  pub calls : Relates (IsFollowedBy (calls_of sample_tag (writes_of first) ++ calls_of sample_tag (writes_of second))) old.calls new.calls
+
+-- of honest images: the texts and the numbers are those of their updates, each of which writes all three slots if there are libraries
+pub record AreUpdatesOf (held : Contents) (n : ℕ) (first second : UpdateTexts) (numbers : SampleUpdate × SampleUpdate) : Type 0 where
+  pub first_are : AreTextsOf held (first_image n) first
+  pub second_are : AreTextsOf held (second_image held n) second
+  pub first_all : 0 < n → slots_of (writes_of first) ≡ update_slots
+  pub second_all : 0 < n → slots_of (writes_of second) ≡ update_slots
+  pub first_numbers : AreNumbers held (first_image n) numbers.0
+  pub second_numbers : AreNumbers held (second_image held n) numbers.1
+
+pub record UpdatesTwice (n : ℕ) (numbers : SampleUpdate × SampleUpdate) (store : StoreState) (disk after_disk : DiskState) : Type 0 where
+  pub first : UpdateTexts
+  pub second : UpdateTexts
+  pub written : AreWritten first second disk after_disk
+  pub first_cache : IfKnown disk.contents (λ _. numbers.0.cache ≡ first.cache)
+  pub second_cache : IfKnown disk.contents (λ _. numbers.1.cache ≡ second.cache)
+  pub honest : IfKnown store.held (λ held. IsHonest held (first_image n) → IsHonest held (second_image held n) → AreUpdatesOf held n first second numbers)
+
+-- a file of one of the two images isn't held, if the first is honest, so that the second is what its update leads to
+abbrev pub LacksFile : ℕ → Option Contents → Type 0
+LacksFile n known = IsSomeAnd known (λ held. IsHonest held (first_image n)
+    → (lacks_some held (first_image n).tree ≡ true) ⊎ (lacks_some held (second_image held n).tree ≡ true))
+
+-- the count of the device rose, or the store doesn't hold a file of the images
+abbrev pub SampleFails : ℕ → Status → StoreState → StoreState → DiskState → DiskState → Type 0
+SampleFails n StoreFault store after_store disk after_disk = HasRisen store.faults after_store.faults ⊎ LacksFile n store.held
+SampleFails n DiskFault store after_store disk after_disk = HasRisen disk.faults after_disk.faults
+SampleFails n NoMemory store after_store disk after_disk = ⊤
+SampleFails n _ store after_store disk after_disk = ⊥

@@ -1,0 +1,5 @@
+//! Tests of the command `sample`.
+#![tactic(auto)]
+
+#[cfg(test)]
+mod samples;
