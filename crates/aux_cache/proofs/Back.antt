@@ -22,7 +22,8 @@ use Rattle.string_pool.proofs.Pooled.{place_of_le}
 use Rattle.image_tree.specs.Node.{has_no_nul}
 use Rattle.aux_cache.proofs.Adding.{own_there, strings_small}
 use Rattle.aux_cache.proofs.Damage.{before_next, none_damaged, AreRecords}
-use Rattle.aux_cache.proofs.Standing.{behind, part_there, length_parts, string_read, last_nul}
+use Rattle.aux_cache.proofs.Standing.{string_read, last_nul}
+use Rattle.lib_types.proofs.OneSize.{behind, part_there, length_parts}
 use Rattle.aux_cache.specs.AuxFile as read
 use Rattle.aux_cache.specs.AuxLayout.{magic, header_fields, record_fields, record_place}
 use Rattle.aux_cache.specs.AuxText.{aux_text, header, record_bytes, soname_of, strings, strings_bytes}

@@ -14,7 +14,8 @@ use Rattle.cache_reader.proofs.Ranges.{first-append}
 use Rattle.cache_reader.proofs.Sound.{last_part}
 use Rattle.cache_writer.specs.CacheText.{cache_text, header, directory, section_count, names_start, hwcap_of, hwcaps_names, strings_bytes, pool, extension_start, name_bytes, generator}
 use Rattle.cache_writer.proofs.Bounds.{few_names}
-use Rattle.cache_writer.proofs.Standing.{text_ends, text_inside, length_parts}
+use Rattle.cache_writer.proofs.Standing.{text_ends, text_inside}
+use Rattle.lib_types.proofs.OneSize.{length_parts}
 use Rattle.cache_writer.proofs.Back.{IsLaidOut, front, behind_header, text_is, header_back, nlibs_back, entry_back, string_back}
 use Rattle.cache_writer.proofs.Sections.{count, body, offsets, by_body, length_body, length_directory, length_generator, length_name, is_extended, extension_back, directory_back, sections_back, second_section, number_at, names_are, listed, offset_back, first_section}
 use Rattle.cache_writer.proofs.ReadBack.{with_bit, cap_known}

@@ -15,7 +15,8 @@ use Rattle.cache_reader.specs.Cache as read
 use Rattle.cache_writer.specs.CacheText.{cache_text, header, entry_bytes, hwcap_of, hwcaps_names, strings, strings_bytes, strings_end, pool, padding, extension_start, directory, name_bytes, generator}
 use Rattle.cache_writer.specs.Parts.{HasOwn, AreAmong}
 use Rattle.cache_writer.proofs.Bounds.{few_names}
-use Rattle.cache_writer.proofs.Standing.{behind, part_there, length_parts, HasText, string_there}
+use Rattle.cache_writer.proofs.Standing.{HasText, string_there}
+use Rattle.lib_types.proofs.OneSize.{behind, part_there, length_parts}
 
 -- what writing knows of the entries and their strings
 pub record IsLaidOut (es : List Entry) : Type 0 where

@@ -15,7 +15,7 @@ use Rattle.cache_reader.specs.Cache as read
 use Rattle.cache_reader.specs.declared.extension.Section.{Section}
 use Rattle.cache_writer.specs.CacheText.{cache_text, entry_bytes, hwcaps_names, strings_bytes, strings_end, pool, padding, extension_start, directory, section, section_count, names_start, generator_start, name_bytes, generator}
 use Rattle.cache_writer.proofs.Bounds.{few_names}
-use Rattle.cache_writer.proofs.Standing.{behind, part_there, length_parts}
+use Rattle.lib_types.proofs.OneSize.{behind, part_there, length_parts}
 use Rattle.cache_writer.proofs.Back.{IsLaidOut, front, table, text_is, length_front, size_of_entry, start_small, header_back, place_small}
 
 abbrev pub count : List Entry → ℕ

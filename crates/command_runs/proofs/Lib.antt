@@ -1,5 +1,4 @@
 mod ByCommand
 mod NotUsage
-mod ReadSlots
 mod ResolveListed
 mod ResolveRead

@@ -16,7 +16,7 @@ use Rattle.command_status.specs.declared.status.Status.{Status}
 use Rattle.command_status.specs.declared.status.Status.TheVariants.{BadScript, InputFault, TooLong, Done, Missing, Usage, BadManifest, NoCache, BadCache, NoProgram, BadProgram, TooMany, StoreFault, DiskFault, OutputFault, NoMemory, NoManifest, TooLarge}
 use Rattle.command_runs.specs.Print.{IsInSlot, slot_ending}
 use Rattle.command_runs.specs.Resolve.{HoldsSlot, IsCacheOf, IsRead, IsUnreadable, ListedBy, ListsOrRefuses, ResolvedBy, bytes_in, env_of, slots_read}
-use Rattle.command_runs.proofs.ReadSlots.{gave_up, reads_next}
+use Rattle.loaded_image.proofs.ReadSlots.{gave_up, reads_next}
 
 -- ---- the slots
 

@@ -1,7 +1,9 @@
 pub mod Analysed
 pub mod Children
 pub mod Counted
+pub mod EachOnce
 pub mod Either
+pub mod FolderRows
 mod Folders
 pub mod Gathered
 pub mod InOrder

@@ -10,11 +10,13 @@ use Rattle.std.specs.Ordering.{nat_cmp}
 use Rattle.hwcap_dirs.specs.declared.kinds.Place.{Place}
 use Rattle.lib_types.proofs.SortedPairs.{by_test}
 use Rattle.image_tree.specs.Tree.{Nodes}
+use Rattle.found_files.proofs.EachOnce.{ascending_alike}
 use Rattle.found_files.proofs.InOrder.{ascending_sorted, in_ascending}
 use Rattle.found_files.proofs.Members.{kept_in, same_members}
 use Rattle.found_files.specs.Analyses.{Analyses, unread}
 use Rattle.found_files.specs.Order.{ascending}
 use Rattle.found_files.specs.Search.{files_of, followed, reached}
+use Rattle.found_files.specs.Shared.{HaveSame}
 use Rattle.found_files.specs.Table.{analysis_at}
 use Rattle.found_files.specs.Unread.{unread_file, unread_of}
 use Rattle.found_files.specs.declared.links.FollowedLink.{FollowedLink}
@@ -44,10 +46,15 @@ module _ (what : Analyses) where
       ∙ ap (λ first. first ++ unread what (flat_map files_of folders)) (in_folder folder.links)
       ∙ sym (filter-append (λ path. is_none (what path)) (files_of folder) (flat_map files_of folders))
 
-  pub unread_links : (t : Nodes) (places : List Place) (links : List FolderLinks) → links ≡ followed t places
+  all_unread : (t : Nodes) (places : List Place) (links : List FolderLinks) → links ≡ followed t places
       → ascending (flat_map (unread_of what) links) ≡ unread what (reached t places)
   unfolding reached
-  unread_links t places links e = rw e (ap ascending (in_folders (followed t places)) ∙ ascending_left (λ path. is_none (what path)) (flat_map files_of (followed t places)))
+  all_unread t places links e = rw e (ap ascending (in_folders (followed t places)) ∙ ascending_left (λ path. is_none (what path)) (flat_map files_of (followed t places)))
+
+  -- those of each folder are enough
+  pub unread_links : (t : Nodes) (places : List Place) (links each : List FolderLinks) → links ≡ followed t places → HaveSame each links
+      → ascending (flat_map (unread_of what) each) ≡ unread what (reached t places)
+  unread_links t places links each e same = ascending_alike (unread_of what) each links same ∙ all_unread t places links e
 
 -- of an empty table none has an analysis
 pub none_read : (paths : List (List ℕ)) → unread (analysis_at []) paths ≡ paths

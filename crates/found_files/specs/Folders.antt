@@ -1,5 +1,5 @@
 -- What private functions say of the links that lead to no file, by their folders.
-use Rattle.std.specs.Prelude.{ℕ, List, [], fold}
+use Rattle.std.specs.Prelude.{ℕ, List, [], flat_map, fold, map}
 use Rattle.std.specs.BTreeMap.{insert_entry}
 use Rattle.std.specs.Cmp.Lexicographic.{slice_cmp}
 use Rattle.std.specs.List.{filter_map}
@@ -20,3 +20,7 @@ with_folder found folder = insert_entry (slice_cmp nat_cmp) found folder.folder 
 
 abbrev pub by_folder : List FolderLinks → DanglingLinks
 by_folder followed = fold with_folder [] followed
+
+-- these paths, in the order of the folders
+abbrev pub dangling_in_order : List FolderLinks → List (List ℕ)
+dangling_in_order followed = flat_map (λ paths. paths) (map (λ e. e.1) (by_folder followed))

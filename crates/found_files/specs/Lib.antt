@@ -7,7 +7,9 @@ pub mod Library
 pub mod Order
 pub mod Pick
 pub mod Places
+pub mod RealFolders
 pub mod Search
+pub mod Shared
 pub mod Sonames
 pub mod Table
 pub mod Unread

@@ -28,6 +28,9 @@ last_name path = fold (λ _ part. part) [] (slice_split is_slash path)
 abbrev pub library_in : Analyses → Nodes → List ℕ → List ℕ → Option Library
 library_in what t folder name = option_and_then (λ path. library_at what path name name) (file_in t folder name)
 
--- the files with library names in a place that are libraries
+-- the files with library names in a folder that are libraries
+abbrev pub libraries_at : Analyses → Nodes → List ℕ → List Library
+libraries_at what t folder = filter_map (library_in what t folder) (children_of t folder)
+
 abbrev pub libraries_in : Analyses → Nodes → Place → List Library
-libraries_in what t place = filter_map (library_in what t place.real) (children_of t place.real)
+libraries_in what t place = libraries_at what t place.real

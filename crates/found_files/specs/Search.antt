@@ -29,8 +29,11 @@ link_in t folder name = if is_library_name name && is_link (kind_at t (join fold
 
 -- ---- the files with library names
 
+abbrev pub files_at : Nodes → List ℕ → List (List ℕ)
+files_at t folder = filter_map (file_in t folder) (children_of t folder)
+
 abbrev pub files_in : Nodes → Place → List (List ℕ)
-files_in t place = filter_map (file_in t place.real) (children_of t place.real)
+files_in t place = files_at t place.real
 
 -- The files with library names in these places, by their paths.
 unfoldable pub wanted : Nodes → List Place → List (List ℕ)
@@ -45,9 +48,12 @@ followed_by t folder name = option_map (λ path. record { name = name; file = fi
 abbrev pub followed_in : Nodes → List ℕ → List FollowedLink
 followed_in t folder = filter_map (followed_by t folder) (children_of t folder)
 
+abbrev pub links_at : Nodes → List ℕ → FolderLinks
+links_at t folder = record { folder = folder; links = followed_in t folder }
+
 -- those of each place
 abbrev pub folder_links : Nodes → Place → FolderLinks
-folder_links t place = record { folder = place.real; links = followed_in t place.real }
+folder_links t place = links_at t place.real
 
 unfoldable pub followed : Nodes → List Place → List FolderLinks
 followed t places = map (folder_links t) places

@@ -3,6 +3,7 @@ ghost use Rattle.std.specs.Prelude.{◌≡◌, IfOk, unwrap_or};
 ghost use Rattle.found_files.specs.Best.{is_own, is_preferred};
 
 use crate::libraries::{Library, soname_or};
+use crate::shared::Shared;
 use lib_types::{Abi, NoMemory, Seq, Text, are_same};
 use name_order::compare;
 use std::alloc::Global;
@@ -19,7 +20,7 @@ pub struct BestLibrary {
 }
 
 /// The best library of each soname of each place, by the bytes of the sonames, in the order of the places.
-pub type PlaceBests = Seq<Seq<BestLibrary>>;
+pub type PlaceBests = Shared<Seq<BestLibrary>>;
 
 impl Model for BestLibrary {
     ghost use Rattle.std.specs.Prelude.{unwrap_or};

@@ -6,17 +6,21 @@ mod libraries;
 mod links;
 mod order;
 mod places;
+mod reals;
 mod search;
+mod shared;
 mod sonames;
 mod table;
 
 pub use best::{BestLibrary, PlaceBests, is_own, is_preferred};
-pub use libraries::{Library, libraries_in};
+pub use libraries::{Library, libraries_at};
 pub use links::{
     FolderLinks, FollowedLink, PlaceLinks, dangling, dangling_among, follow, reached, unread_behind,
 };
 pub use order::ascending;
 pub use places::{is_plain, links_to};
+pub use reals::{RealFolders, real_folders};
 pub use search::wanted;
+pub use shared::{Items, Shared, over};
 pub use sonames::{BySoname, Gather, gather_by_soname};
 pub use table::Table;

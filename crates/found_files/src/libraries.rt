@@ -2,11 +2,10 @@
 ghost use Rattle.std.specs.Prelude.{◌≡◌, IfOk, unwrap_or};
 ghost use Rattle.std.specs.Option.{option_copied};
 ghost use Rattle.found_files.specs.Children.{is_file_node, library_of};
-ghost use Rattle.found_files.specs.Libraries.{libraries_in, library_at, library_by};
+ghost use Rattle.found_files.specs.Libraries.{libraries_at, library_at, library_by};
 ghost use Rattle.found_files.specs.Table.{analysis_at};
 
 use crate::table::Table;
-use hwcap_dirs::Place;
 use lib_types::{Abi, Analysis, NoMemory, Text};
 use name_order::is_library_name;
 use path_walk::join_into;
@@ -104,19 +103,18 @@ fn library_of<'a>(
     Ok(library_at(table, path, name, name))
 }
 
-/// The files with library names in a place that are libraries.
+/// The files with library names in a folder that are libraries.
 #[tactic(auto, using(crate::proofs::Children::libraries_listed))]
-pub fn libraries_in<'a>(
+pub fn libraries_at<'a>(
     alloc: Global,
     tree: &'a Tree,
     table: &'a Table,
-    place: &Place,
+    folder: &[u8],
 ) -> Result<Vec<Library<'a>>, NoMemory>
-    ensures { IfOk result (λ libraries. libraries.items ≡ libraries_in (analysis_at table.now) tree.now place.now) }
+    ensures { IfOk result (λ libraries. libraries.items ≡ libraries_at (analysis_at table.now) tree.now folder.now) }
 {
     let mut libraries = Vec::new(alloc);
     let mut path = Vec::new(alloc);
-    let folder = place.real.as_bytes();
     for (name, node) in tree.listing(folder) {
         if let Some(library) = library_of(table, folder, name, node, &mut path)? {
             libraries.push(library)?;

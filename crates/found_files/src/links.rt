@@ -1,18 +1,20 @@
 //! The links with library names in the searched places, each followed once.
 ghost use Rattle.std.specs.Option.{option_copied, option_map};
-ghost use Rattle.std.specs.Prelude.{◌≡◌, ◌++◌, IfOk, List, OnOk, flat_map};
+ghost use Rattle.std.specs.Prelude.{◌≡◌, ◌++◌, IfOk, List, OnOk, flat_map, map};
 ghost use Rattle.hwcap_dirs.specs.declared.kinds.Place.{Place};
 ghost use Rattle.path_walk.specs.Files.{file_at};
 ghost use Rattle.image_tree.specs.Tree.{Nodes};
 ghost use Rattle.found_files.specs.Children.{IsChild};
-ghost use Rattle.found_files.specs.Folders.{by_folder, dangling_of};
+ghost use Rattle.found_files.specs.Folders.{by_folder, dangling_in_order, dangling_of};
 ghost use Rattle.found_files.specs.Order.{ascending};
 ghost use Rattle.found_files.specs.Analyses.{unread};
-ghost use Rattle.found_files.specs.Search.{dangling, followed, followed_by, followed_in, link_in, reached};
+ghost use Rattle.found_files.specs.Search.{dangling, followed, followed_by, followed_in, link_in, links_at, reached};
 ghost use Rattle.found_files.specs.Table.{analysis_at};
 ghost use Rattle.found_files.specs.Unread.{unread_file, unread_of};
 
 use crate::order::ascending;
+use crate::reals::real_folders;
+use crate::shared::Shared;
 use crate::table::Table;
 use hwcap_dirs::Dirs;
 use lib_types::{NoMemory, Seq, Text, Texts};
@@ -39,7 +41,7 @@ pub struct FolderLinks {
 }
 
 /// The links with library names of each place, in the order of the places.
-pub type PlaceLinks = Seq<FolderLinks>;
+pub type PlaceLinks = Shared<FolderLinks>;
 
 // Where the link that a child with this node is leads, if it has a library name: to a file, or to none.
 #[tactic(auto, using(crate::proofs::Children::link_same))]
@@ -97,19 +99,29 @@ fn followed_in(alloc: Global, tree: &Tree, folder: &[u8]) -> Result<Seq<Followed
     Ok(Seq::from_vec(links))
 }
 
-/// The links with library names in the places, each with the file to which it leads.
-#[tactic(auto, unfolding(crate::specs::Search::followed))]
-pub fn follow(alloc: Global, tree: &Tree, dirs: &Dirs) -> Result<PlaceLinks, NoMemory>
-    ensures { IfOk result (λ links. links ≡ followed tree.now dirs.now.places) }
+// The links with library names in each of these folders.
+fn followed_each(alloc: Global, tree: &Tree, folders: &[Text]) -> Result<Vec<FolderLinks>, NoMemory>
+    ensures { IfOk result (λ links. links.items ≡ map (links_at tree.now) folders.now) }
 {
-    let mut followed = Seq::new(alloc);
-    for place in dirs.places.as_slice() {
+    let mut followed = Vec::with_capacity(alloc, folders.len())?;
+    for folder in folders {
         followed.push(FolderLinks {
-            folder: Text::copy_of(alloc, place.real.as_bytes())?,
-            links: followed_in(alloc, tree, place.real.as_bytes())?,
+            folder: Text::copy_of(alloc, folder.as_bytes())?,
+            links: followed_in(alloc, tree, folder.as_bytes())?,
         })?;
     }
     Ok(followed)
+}
+
+/// The links with library names in the places, each with the file to which it leads. A folder that is many places is looked through
+/// once.
+#[tactic(auto, using(crate::proofs::FolderRows::links_once))]
+pub fn follow(alloc: Global, tree: &Tree, dirs: &Dirs) -> Result<PlaceLinks, NoMemory>
+    ensures { IfOk result (λ links. links ≡ followed tree.now dirs.now.places) }
+{
+    let folders = real_folders(alloc, dirs)?;
+    let links = followed_each(alloc, tree, folders.paths.as_slice())?;
+    Ok(Shared::new(links, folders.rows))
 }
 
 // ---- where they lead
@@ -143,11 +155,11 @@ fn add_unread(
 }
 
 // They of all folders, by their bytes, each once.
-fn unread_in(alloc: Global, links: &PlaceLinks, table: &Table) -> Result<Texts, NoMemory>
-    ensures { IfOk result (λ paths. paths ≡ ascending (flat_map (unread_of (analysis_at table.now)) links.now)) }
+fn unread_in(alloc: Global, folders: &[FolderLinks], table: &Table) -> Result<Texts, NoMemory>
+    ensures { IfOk result (λ paths. paths ≡ ascending (flat_map (unread_of (analysis_at table.now)) folders.now)) }
 {
     let mut paths = Vec::new(alloc);
-    for folder in links.as_slice() {
+    for folder in folders {
         add_unread(alloc, folder, table, &mut paths)?;
     }
     ascending(paths)
@@ -155,11 +167,10 @@ fn unread_in(alloc: Global, links: &PlaceLinks, table: &Table) -> Result<Texts, 
 
 /// Those of the files to which the links of the places lead that have no analysis: their paths without links, by their bytes, each
 /// once. Most links lead to files that were read before, so few paths are copied and sorted.
-#[tactic(auto, using(crate::proofs::Unread::unread_links))]
 pub fn unread_behind(alloc: Global, links: &PlaceLinks, table: &Table) -> Result<Texts, NoMemory>
     ensures { (t : Nodes) (places : List Place) → links.now ≡ followed t places → IfOk result (λ paths. paths ≡ unread (analysis_at table.now) (reached t places)) }
 {
-    let paths = unread_in(alloc, links, table)?;
+    let paths = unread_in(alloc, links.each_once(), table)?;
     Ok(paths)
 }
 
@@ -185,12 +196,12 @@ fn dangling_of(alloc: Global, folder: &FolderLinks) -> Result<Texts, NoMemory>
     Ok(paths)
 }
 
-// They by their folders: places may share one.
-fn by_folder(alloc: Global, links: &PlaceLinks) -> Result<BTreeMap<Text, Texts>, NoMemory>
-    ensures { IfOk result (λ found. found.entries ≡ by_folder links.now) }
+// They by their folders.
+fn by_folder(alloc: Global, folders: &[FolderLinks]) -> Result<BTreeMap<Text, Texts>, NoMemory>
+    ensures { IfOk result (λ found. found.entries ≡ by_folder folders.now) }
 {
     let mut found = BTreeMap::new(alloc);
-    for folder in links.as_slice() {
+    for folder in folders {
         let path = Text::copy_of(alloc, folder.folder.as_bytes())?;
         found.insert(path, dangling_of(alloc, folder)?)?;
     }
@@ -207,15 +218,23 @@ fn append(all: &mut Texts, texts: Texts) -> Result<(), NoMemory>
     Ok(())
 }
 
+// They of all folders, in the order of the folders' bytes.
+fn dangling_in_order(alloc: Global, folders: &[FolderLinks]) -> Result<Texts, NoMemory>
+    ensures { IfOk result (λ paths. paths ≡ dangling_in_order folders.now) }
+{
+    let mut paths = Seq::new(alloc);
+    for found in by_folder(alloc, folders)?.into_values() {
+        append(&mut paths, found)?;
+    }
+    Ok(paths)
+}
+
 /// Those of the links with library names in the places that lead to no file: their paths without links, by the bytes of the place's
 /// path and then of the name, each once.
 pub fn dangling_among(alloc: Global, links: &PlaceLinks) -> Result<Texts, NoMemory>
     ensures { (t : Nodes) (places : List Place) → links.now ≡ followed t places → IfOk result (λ paths. paths ≡ dangling t places) }
 {
-    let mut paths = Seq::new(alloc);
-    for found in by_folder(alloc, links)?.into_values() {
-        append(&mut paths, found)?;
-    }
+    let paths = dangling_in_order(alloc, links.each_once())?;
     Ok(paths)
 }
 

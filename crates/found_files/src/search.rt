@@ -1,12 +1,13 @@
 //! The files of the searched places that are looked at.
 ghost use Rattle.std.specs.Option.{option_copied};
-ghost use Rattle.std.specs.Prelude.{◌≡◌, ◌++◌, IfOk, OnOk};
+ghost use Rattle.std.specs.Prelude.{◌≡◌, ◌++◌, IfOk, OnOk, flat_map};
 ghost use Rattle.found_files.specs.Order.{ascending};
 ghost use Rattle.found_files.specs.Children.{file_of};
-ghost use Rattle.found_files.specs.Search.{files_in, wanted};
+ghost use Rattle.found_files.specs.Search.{files_at, wanted};
 
 use crate::order::ascending;
-use hwcap_dirs::{Dirs, Place};
+use crate::reals::real_folders;
+use hwcap_dirs::Dirs;
 use lib_types::{NoMemory, Text, Texts};
 use name_order::is_library_name;
 use path_walk::join;
@@ -28,17 +29,16 @@ pub(crate) fn file_of(
     }
 }
 
-// Adds the files with library names in a place.
+// Adds the files with library names in a folder.
 #[tactic(auto, using(crate::proofs::Children::files_listed))]
 fn add_files(
     alloc: Global,
     tree: &Tree,
-    place: &Place,
+    folder: &[u8],
     paths: &mut Vec<Text>,
 ) -> Result<(), NoMemory>
-    ensures { OnOk result (paths.new.items ≡ paths.old.items ++ files_in tree.now place.now) }
+    ensures { OnOk result (paths.new.items ≡ paths.old.items ++ files_at tree.now folder.now) }
 {
-    let folder = place.real.as_bytes();
     for (name, node) in tree.listing(folder) {
         if let Some(path) = file_of(alloc, folder, name, node)? {
             paths.push(path)?;
@@ -47,14 +47,23 @@ fn add_files(
     Ok(())
 }
 
+// The files with library names in these folders.
+fn files_of(alloc: Global, tree: &Tree, folders: &[Text]) -> Result<Vec<Text>, NoMemory>
+    ensures { IfOk result (λ paths. paths.items ≡ flat_map (files_at tree.now) folders.now) }
+{
+    let mut paths = Vec::new(alloc);
+    for folder in folders {
+        add_files(alloc, tree, folder.as_bytes(), &mut paths)?;
+    }
+    Ok(paths)
+}
+
 /// The files with library names in the places: their paths without links, by their bytes, each once.
-#[tactic(auto, unfolding(crate::specs::Search::wanted))]
+#[tactic(auto, using(crate::proofs::FolderRows::files_once), unfolding(crate::specs::Search::wanted))]
 pub fn wanted(alloc: Global, tree: &Tree, dirs: &Dirs) -> Result<Texts, NoMemory>
     ensures { IfOk result (λ paths. paths ≡ wanted tree.now dirs.now.places) }
 {
-    let mut paths = Vec::new(alloc);
-    for place in dirs.places.as_slice() {
-        add_files(alloc, tree, place, &mut paths)?;
-    }
+    let folders = real_folders(alloc, dirs)?;
+    let paths = files_of(alloc, tree, folders.paths.as_slice())?;
     ascending(paths)
 }

@@ -8,7 +8,7 @@ use Rattle.std.specs.Str.{bytes_eq}
 use Rattle.lib_types.proofs.Parting.{cut_at, cut_nowhere}
 use Rattle.lib_types.proofs.SortedPairs.{by_test}
 use Rattle.lib_types.specs.Name.{is_name, slash}
-use Rattle.path_walk.proofs.Joining.{parts_joined}
+use Rattle.image_tree.proofs.Prefixes.{parts_joined}
 use Rattle.image_tree.proofs.Names.{before_none, before_some}
 use Rattle.tree_face.proofs.Pairs.{position_within}
 use Rattle.image_tree.proofs.Rising.{below_rest}

@@ -21,7 +21,7 @@ use Rattle.std.specs.List.{list_all, list_any}
 use Rattle.image_tree.specs.Tree.{Nodes, IsTree, has_below, node_at, is_entry, clash_with, clashes}
 use Rattle.image_tree.proofs.Below.{exact, below_is, below_from, comes_before, between}
 
-path_of_entry : (t : Nodes) (k : ℕ) (d : List ℕ × Node) → list_all is_entry t ≡ true → k < length t → is_path (get_or t k d).0 ≡ true
+pub path_of_entry : (t : Nodes) (k : ℕ) (d : List ℕ × Node) → list_all is_entry t ≡ true → k < length t → is_path (get_or t k d).0 ≡ true
 path_of_entry t k d all h = (and_parts _ _ (AllPass-from_list_all is_entry t all k d h)).0
 
 module _ (test : List ℕ × Node → Bool) (t : Nodes) (q : List ℕ) (node : Node) (at : node_at t q ≡ Some node) where

@@ -1,6 +1,6 @@
 -- What lies below a path comes directly behind it.
-use Rattle.std.proofs.Common.{◌≡◌, ◌≢◌, ℕ, ◌+◌, ◌<◌, ◌≤◌, Bool, true, false, cond, ◌&&◌, nat_eq, List, [], ◌∷◌, ◌++◌, length, get_or, drop, refl, sym, ap, subst, ◌∙◌, ⊎_elim, arith, append_assoc, Ordering}
-use Rattle.std.proofs.lemmas.Bool.{cases_lt, eqb-true, eq-eqb}
+use Rattle.std.proofs.Common.{◌≡◌, ℕ, ◌+◌, ◌<◌, ◌≤◌, true, false, cond, nat_eq, List, [], ◌∷◌, ◌++◌, length, get_or, drop, refl, sym, ap, subst, ◌∙◌, ⊎_elim, arith, append_assoc, Ordering}
+use Rattle.std.proofs.lemmas.Bool.{cases_lt, eqb-true}
 use Rattle.std.proofs.lemmas.Bool.Decides.{Decides-eqb, nat_tests}
 use Rattle.std.proofs.lemmas.Cmp.{nat_cmp_total}
 use Rattle.std.proofs.lemmas.List.Folds.{list_any_none, list_any_at}
@@ -12,7 +12,7 @@ use Rattle.std.specs.Str.{bytes_eq}
 use Rattle.std.specs.declared.cmp.Ordering.TheVariants.{Less, Equal, Greater}
 use Rattle.image_tree.proofs.Order.{path_total}
 use Rattle.lib_types.proofs.SortedPairs.{by_ordering, by_test, flipped, below_later, before_index}
-use Rattle.image_tree.specs.Paths.{path_cmp, path_rank, is_path, root, stem, folder, is_below}
+use Rattle.image_tree.specs.Paths.{path_cmp, path_rank, is_path, root, folder, is_below}
 use Rattle.image_tree.specs.declared.node.Node.{Node}
 use Rattle.image_tree.specs.Index.{IsIndexOf, IsGapFor, IsBehind}
 use Rattle.image_tree.specs.Tree.{Nodes, IsPathSorted, has_below}
@@ -62,19 +62,6 @@ not_root p h = by_test (bytes_eq p root)
 
 folder_is : (p : List ℕ) → is_path p ≡ true → folder p ≡ p ++ root
 folder_is p h = ap (λ b. cond b [] p ++ root) (not_root p h)
-
-starts_behind : (p rest : List ℕ) → starts_with nat_eq (p ++ rest) (p ++ root) ≡ starts_with nat_eq rest root
-starts_behind [] rest = refl
-starts_behind (x ∷ p) rest = ap (λ b. b && starts_with nat_eq (p ++ rest) (p ++ root)) (eq-eqb x x refl) ∙ starts_behind p rest
-
--- what `strip_prefix` leaves shows whether the path lies below
-pub below_stripped : (path q rest : List ℕ) (b : Bool) → q ≡ stem path ++ rest → b ≡ starts_with nat_eq rest root → b ≡ is_below path q
-below_stripped path q rest b e h = h ∙ sym (starts_behind (stem path) rest) ∙ ap (λ z. starts_with nat_eq z (folder path)) (sym e)
-
-pub not_below_unstripped : (path q : List ℕ) → ((rest : List ℕ) → q ≢ stem path ++ rest) → false ≡ is_below path q
-not_below_unstripped path q none = by_test (is_below path q)
-    (λ e. absurd (none _ ((starts_is Decides-eqb q (folder path) (is_below path q) refl).0 e ∙ append_assoc (stem path) root _)))
-    (λ e. sym e)
 
 -- q lies below p exactly if it is p with a slash and more behind it
 pub below_is : (p q : List ℕ) → is_path p ≡ true → is_below p q ≡ true → (s : List ℕ) × (q ≡ p ++ 47 ∷ s)

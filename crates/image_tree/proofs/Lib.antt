@@ -8,5 +8,6 @@ pub mod KindAt
 pub mod Listed
 pub mod Names
 pub mod Order
+pub mod Prefixes
 pub mod Rising
 pub mod Runs

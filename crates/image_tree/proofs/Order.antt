@@ -1,5 +1,5 @@
 -- The order of paths.
-use Rattle.std.proofs.Common.{◌≡◌, ℕ, suc, zero, ◌+◌, ◌<◌, ◌≤◌, List, [], ◌∷◌, length, drop, slice_index, arith, Ordering, refl, sym, ap, subst, ◌∙◌}
+use Rattle.std.proofs.Common.{◌≡◌, ℕ, suc, zero, ◌+◌, ◌<◌, ◌≤◌, List, [], ◌∷◌, length, take, get_or, arith, Ordering, refl, sym, ap, subst, ◌∙◌}
 use Rattle.std.proofs.lemmas.Bool.Decides.{nat_tests}
 use Rattle.std.proofs.lemmas.Cmp.{ranked}
 use Rattle.std.specs.declared.cmp.Ordering.TheVariants.{Less, Equal, Greater}
@@ -8,7 +8,6 @@ use Rattle.std.specs.Cmp.{IsTotalOrder, nat_cmp_is}
 use Rattle.std.specs.Cmp.Lexicographic.{on_texts}
 use Rattle.std.specs.Prelude.{map}
 use Rattle.std.specs.Ordering.{ordering_then}
-use Rattle.byteorder.specs.Endian.{little_from}
 use Rattle.image_tree.specs.Paths.{path_rank, path_cmp}
 
 pub path_total : IsTotalOrder path_cmp
@@ -43,43 +42,48 @@ one_more a b Greater h = nat_cmp_is (a + 1) (b + 1) Greater (omega arith)
 pub others_alike : (a b : ℕ) → (a ≡ 47 → ⊥) → (b ≡ 47 → ⊥) → nat_cmp a b ≡ nat_cmp (path_rank a) (path_rank b)
 others_alike a b first second = rw (rank_other a first, rank_other b second) (one_more a b (nat_cmp a b) (ranked a b _ refl))
 
-longer_by_one : (r : Ordering) (m n : ℕ) → MatchOrdering r (m < n) (m ≡ n) (n < m) → MatchOrdering r (suc m < suc n) (suc m ≡ suc n) (suc n < suc m)
-longer_by_one Less m n h = omega arith
-longer_by_one Equal m n h = omega arith
-longer_by_one Greater m n h = omega arith
-
-by_length : (a b : List ℕ) (i : ℕ) → i ≤ length a → i ≤ length b → (i < length a → i < length b → ⊥)
-    → MatchOrdering (path_cmp (drop i a) (drop i b)) (length a < length b) (length a ≡ length b) (length b < length a)
-by_length [] [] zero h k e = refl
-by_length [] (y ∷ b) zero h k e = omega arith
-by_length (x ∷ a) [] zero h k e = omega arith
-by_length (x ∷ a) (y ∷ b) zero h k e = absurd (e (omega arith) (omega arith))
-by_length [] b (suc i) h k e = absurd (omega arith)
-by_length (x ∷ a) [] (suc i) h k e = absurd (omega arith)
-by_length (x ∷ a) (y ∷ b) (suc i) h k e = longer_by_one _ _ _ (by_length a b i (omega arith) (omega arith) (λ p q. e (omega arith) (omega arith)))
-
--- if one path is at its end, the lengths decide
-pub path_cmp-by_length : (a b : List ℕ) (i : ℕ) → i ≤ length a → i ≤ length b → (i < length a → i < length b → ⊥)
-    → path_cmp (drop i a) (drop i b) ≡ nat_cmp (length a) (length b)
-path_cmp-by_length a b i h k e = nat_cmp_is _ _ _ (by_length a b i h k e)
-
 -- ---- equal bytes don't decide
 
-pub byte_passed : (a b : List ℕ) (i : ℕ) → i < length a → i < length b → slice_index a i ≡ slice_index b i → path_cmp (drop (suc i) a) (drop (suc i) b) ≡ path_cmp (drop i a) (drop i b)
-byte_passed [] b i h k e = absurd (omega arith)
-byte_passed (x ∷ a) [] i h k e = absurd (omega arith)
-byte_passed (x ∷ a) (y ∷ b) zero h k e =
-    let same : Equal ≡ nat_cmp (path_rank x) (path_rank y) = nat_cmp_is _ _ _ (ap path_rank e) in
-    ap (λ r. ordering_then r (path_cmp a b)) same
-byte_passed (x ∷ a) (y ∷ b) (suc i) h k e = byte_passed a b i (omega arith) (omega arith) e
+ranks_apart : (x y : ℕ) → nat_cmp (path_rank x) (path_rank y) ≡ Equal → x ≡ y
+ranks_apart x y e = grind (arith, nat_tests)
 
--- bytes with equal numbers are equal
-module _ (a b : List ℕ) (p : (k : ℕ) → slice_index a k < 256) (q : (k : ℕ) → slice_index b k < 256) where
-  pub words_passed : (n i : ℕ) → i + n ≤ length a → i + n ≤ length b → little_from i n a ≡ little_from i n b → path_cmp (drop (i + n) a) (drop (i + n) b) ≡ path_cmp (drop i a) (drop i b)
-  words_passed zero i h k e = let none : i ≡ i + zero = omega arith in subst (λ j. path_cmp (drop j a) (drop j b) ≡ path_cmp (drop i a) (drop i b)) none refl
-  words_passed (suc n) i h k e =
-      let first : slice_index a i ≡ slice_index b i = let x = p i in let y = q i in omega arith in
-      let rest : little_from (suc i) n a ≡ little_from (suc i) n b = let x = p i in let y = q i in omega arith in
-      let next : suc i + n ≡ i + suc n = omega arith in
-      subst (λ j. path_cmp (drop j a) (drop j b) ≡ path_cmp (drop i a) (drop i b)) next
-      (words_passed n (suc i) (omega arith) (omega arith) rest ∙ byte_passed a b i (omega arith) (omega arith) first)
+-- the first bytes that differ decide
+pub byte_decides : (a b : List ℕ) (n : ℕ) → n < length a → n < length b → take n a ≡ take n b → (get_or a n 0 ≡ get_or b n 0 → ⊥)
+    → nat_cmp (path_rank (get_or a n 0)) (path_rank (get_or b n 0)) ≡ path_cmp a b
+byte_decides [] b n h k same other = absurd (omega arith)
+byte_decides (x ∷ a) [] n h k same other = absurd (omega arith)
+byte_decides (x ∷ a) (y ∷ b) zero h k same other = by (nat_cmp (path_rank x) (path_rank y)) refl
+  where
+    by : (r : Ordering) → nat_cmp (path_rank x) (path_rank y) ≡ r → nat_cmp (path_rank x) (path_rank y) ≡ ordering_then (nat_cmp (path_rank x) (path_rank y)) (path_cmp a b)
+    by Less e = rw e refl
+    by Equal e = absurd (other (ranks_apart x y e))
+    by Greater e = rw e refl
+byte_decides (x ∷ a) (y ∷ b) (suc n) h k same other =
+    let first : x ≡ y = cc in
+    let rest : take n a ≡ take n b = cc in
+    let tied : Equal ≡ nat_cmp (path_rank x) (path_rank y) = nat_cmp_is _ _ _ (ap path_rank first) in
+    byte_decides a b n (omega arith) (omega arith) rest other ∙ ap (λ r. ordering_then r (path_cmp a b)) tied
+
+-- if one path is the front of the other, the lengths decide
+pub lengths_decide : (a b : List ℕ) (n : ℕ) → n ≤ length a → n ≤ length b → take n a ≡ take n b → (n < length a → n < length b → ⊥) → nat_cmp (length a) (length b) ≡ path_cmp a b
+lengths_decide a b n h k same ended = sym (nat_cmp_is _ _ _ (by_length a b n h k same ended))
+  where
+    longer_by_one : (r : Ordering) (m n : ℕ) → MatchOrdering r (m < n) (m ≡ n) (n < m) → MatchOrdering r (suc m < suc n) (suc m ≡ suc n) (suc n < suc m)
+    longer_by_one Less m n h = omega arith
+    longer_by_one Equal m n h = omega arith
+    longer_by_one Greater m n h = omega arith
+
+    by_length : (a b : List ℕ) (n : ℕ) → n ≤ length a → n ≤ length b → take n a ≡ take n b → (n < length a → n < length b → ⊥)
+        → MatchOrdering (path_cmp a b) (length a < length b) (length a ≡ length b) (length b < length a)
+    by_length [] [] zero h k same e = refl
+    by_length [] (y ∷ b) zero h k same e = omega arith
+    by_length (x ∷ a) [] zero h k same e = omega arith
+    by_length (x ∷ a) (y ∷ b) zero h k same e = absurd (e (omega arith) (omega arith))
+    by_length [] b (suc n) h k same e = absurd (omega arith)
+    by_length (x ∷ a) [] (suc n) h k same e = absurd (omega arith)
+    by_length (x ∷ a) (y ∷ b) (suc n) h k same e =
+        let first : x ≡ y = cc in
+        let rest : take n a ≡ take n b = cc in
+        let tied : Equal ≡ nat_cmp (path_rank x) (path_rank y) = nat_cmp_is _ _ _ (ap path_rank first) in
+        subst (λ r. MatchOrdering (ordering_then r (path_cmp a b)) (length (x ∷ a) < length (y ∷ b)) (length (x ∷ a) ≡ length (y ∷ b)) (length (y ∷ b) < length (x ∷ a))) tied
+        (longer_by_one _ _ _ (by_length a b n (omega arith) (omega arith) rest (λ p q. e (omega arith) (omega arith))))

@@ -54,6 +54,10 @@ join place name = folder place ++ name
 abbrev pub is_below : List ℕ → List ℕ → Bool
 is_below p q = starts_with nat_eq q (folder p)
 
+-- the text begins a path before a slash of it, and isn't empty
+abbrev pub is_above : List ℕ → List ℕ → Bool
+is_above text path = not (length text == 0) && is_below text path
+
 -- the name at the offset n of a path
 abbrev pub name_behind : ℕ → List ℕ → List ℕ
 name_behind n path = before_first is_slash (drop n path)

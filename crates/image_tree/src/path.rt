@@ -1,12 +1,10 @@
 //! Paths of a tree and their order.
 ghost use Rattle.std.specs.Prelude.{◌≡◌, ◌≢◌, ℕ, ◌+◌, ◌==◌, ◌^◌, ◌<◌, ◌≤◌, IfSome, IsTrue, length, drop, nat_eq};
-ghost use Rattle.byteorder.specs.Endian.{little_from};
-ghost use Rattle.image_tree.specs.Paths.{is_path, is_kept, is_slash, are_names, path_cmp, path_rank, stem, folder, is_below, name_behind};
+ghost use Rattle.image_tree.specs.Paths.{is_path, is_kept, is_slash, are_names, path_cmp, path_rank, stem, folder, is_below, is_above, name_behind};
 ghost use Rattle.std.specs.List.{before_first, position, starts_with};
 ghost use Rattle.std.specs.Ordering.{nat_cmp};
 
-use byteorder::{ByteOrder, LittleEndian};
-use lib_types::{are_same, is_name};
+use lib_types::{are_same, equal_len, is_name};
 use std::cmp::Ordering;
 
 /// The most bytes of a path.
@@ -48,83 +46,14 @@ fn compare_bytes(a: u8, b: u8) -> Ordering
     a.cmp(&b)
 }
 
-// The eight bytes at an offset as one number.
-fn word_at(bytes: &[u8], at: usize) -> u64
-    requires { at + 8 ≤ length bytes.now }
-    ensures { result ≡ little_from at 8 bytes.now }
-{
-    LittleEndian::read_u64(&bytes[at..])
-}
-
-// The four bytes at an offset as one number.
-fn half_at(bytes: &[u8], at: usize) -> u32
-    requires { at + 4 ≤ length bytes.now }
-    ensures { result ≡ little_from at 4 bytes.now }
-{
-    LittleEndian::read_u32(&bytes[at..])
-}
-
-// The two bytes at an offset as one number.
-fn pair_at(bytes: &[u8], at: usize) -> u16
-    requires { at + 2 ≤ length bytes.now }
-    ensures { result ≡ little_from at 2 bytes.now }
-{
-    LittleEndian::read_u16(&bytes[at..])
-}
-
-// The offset up to which two paths are equal behind an offset, given that they differ in the next eight bytes.
-#[tactic(auto, using(crate::proofs::Order::words_passed, crate::proofs::Order::byte_passed))]
-fn equal_in_word(a: &[u8], b: &[u8], at: usize) -> usize
-    requires first { at + 8 ≤ length a.now }
-    requires second { at + 8 ≤ length b.now }
-    ensures within { result ≤ at + 8 }
-    ensures rest { path_cmp (drop result a.now) (drop result b.now) ≡ path_cmp (drop at a.now) (drop at b.now) }
-{
-    let mut i = at;
-    if half_at(a, i) == half_at(b, i) {
-        i += 4;
-    }
-    if pair_at(a, i) == pair_at(b, i) {
-        i += 2;
-    }
-    if a[i] == b[i] {
-        i += 1;
-    }
-    i
-}
-
-// An offset up to which two paths are equal, eight bytes at a time: paths that a search compares have long prefixes in common.
-#[tactic(auto, using(crate::proofs::Order::words_passed))]
-fn equal_words(a: &[u8], b: &[u8]) -> usize
-    ensures within { (result ≤ length a.now) × (result ≤ length b.now) }
-    ensures rest { path_cmp (drop result a.now) (drop result b.now) ≡ path_cmp a.now b.now }
-{
-    let shorter = a.len().min(b.len());
-    if shorter < 8 {
-        return 0;
-    }
-    let last = shorter - 8;
-    let mut i = 0;
-    while i <= last && word_at(a, i) == word_at(b, i) {
-        i += 8;
-    }
-    if i > last {
-        return i;
-    }
-    equal_in_word(a, b, i)
-}
-
 /// The order of the tree.
+#[tactic(auto, using(crate::proofs::Order::byte_decides, crate::proofs::Order::lengths_decide))]
 pub(crate) fn compare(a: &[u8], b: &[u8]) -> Ordering
     ensures { result ≡ path_cmp a.now b.now }
 {
-    let shorter = a.len().min(b.len());
-    let mut i = equal_words(a, b);
-    while i < shorter {
-        if a[i] != b[i] {
-            return compare_bytes(a[i], b[i]);
-        }
-        i += 1;
+    let same = equal_len(a, b);
+    if same < a.len() && same < b.len() {
+        return compare_bytes(a[same], b[same]);
     }
     a.len().cmp(&b.len())
 }
@@ -147,14 +76,23 @@ pub(crate) fn begins_with(path: &[u8], front: &[u8]) -> bool
     are_same(front, &path[..front.len()])
 }
 
-/// Whether the other path lies below this one.
+/// Whether the other path lies below this one, which one byte shows of most that don't.
+#[tactic(auto, using(crate::proofs::Fronts::below_laws))]
 pub(crate) fn is_below(path: &[u8], other: &[u8]) -> bool
     ensures { result ≡ is_below path.now other.now }
 {
-    match other.strip_prefix(stem(path)) {
-        Some(rest) => rest.starts_with(b"/"),
-        None => false,
+    let front = stem(path);
+    if other.len() <= front.len() || other[front.len()] != b'/' {
+        return false;
     }
+    begins_with(other, front)
+}
+
+/// Whether the text is above the path: each path begins with a slash, and none lies below the empty text.
+pub(crate) fn is_above(text: &[u8], path: &[u8]) -> bool
+    ensures { result ≡ is_above text.now path.now }
+{
+    !text.is_empty() && is_below(text, path)
 }
 
 /// The offset, in each path below this one, of the name directly below.

@@ -1,5 +1,5 @@
 //! The tree of an image.
-ghost use Rattle.std.specs.Prelude.{◌≡◌, ◌↔◌, false, [], OnOk, OnErr, IsSome, IsTrue, length, map};
+ghost use Rattle.std.specs.Prelude.{◌≡◌, ◌↔◌, false, [], IfErr, IfOk, IsOk, None, OnOk, OnErr, IsSome, IsTrue, Some, length, map};
 ghost use Rattle.std.specs.Option.{option_copied, is_some};
 
 use crate::node::Node;
@@ -114,6 +114,21 @@ impl Tree {
         let place = entries::place_of(&self.runs, self.near.get(), path)?;
         self.near.set(place);
         Some(entries::node(&self.runs, place, path))
+    }
+
+    /// The node of the path, or else what is there without one, by the same search.
+    pub fn node_or_kind(&self, path: &[u8]) -> Result<&Node, Kind>
+        ensures node { IfOk result (λ node. node_at self.now path.now ≡ Some node.now) }
+        ensures at_paths { IsOk result → IsTrue (is_path path.now) }
+        ensures none { IfErr result (λ kind. (node_at self.now path.now ≡ None) × (kind ≡ kind_at self.now path.now)) }
+    {
+        match entries::find_at(&self.runs, self.near.get(), path) {
+            Ok(place) => {
+                self.near.set(place);
+                Ok(entries::node(&self.runs, place, path))
+            }
+            Err(place) => Err(entries::kind_in_gap(&self.runs, path, place)),
+        }
     }
 
     /// What is at the path. The root is a directory; a text that is neither the root nor a path is absent.

@@ -1,5 +1,5 @@
 -- An update of the image that a crash of an update has left.
-use Rattle.std.proofs.Common.{◌≡◌, ◌⊎◌, ℕ, false, List, [], ◌∷◌, Option, Some, None, refl, sym, ap, subst, ◌∙◌, inl, inr}
+use Rattle.std.proofs.Common.{◌≡◌, ◌⊎◌, ℕ, false, List, [], ◌∷◌, ◌++◌, Option, Some, None, refl, sym, ap, subst, ◌∙◌, inl, inr}
 use Rattle.std.specs.Option.{option_or}
 use Rattle.atomic_replace.specs.Replace.{Write}
 use Rattle.tree_face.specs.declared.disk.Slot.TheVariants.{Manifest, Cache, Aux}
@@ -16,7 +16,7 @@ use Rattle.stamped_files.specs.Stamped.{AreSame, AreTrue}
 use Rattle.ldconfig_core.proofs.OneText.{again, one_written}
 use Rattle.ldconfig_core.specs.Repair.{IsImageIn, OldOrNew, slots_after}
 use Rattle.ldconfig_core.specs.Settled.{AreSettled, IfReads, planned_image}
-use Rattle.ldconfig_core.specs.Texts.{AreAlike, AreTextsOf, UpdateTexts, writes_of}
+use Rattle.ldconfig_core.specs.Texts.{AreAlike, AreTextsOf, UpdateTexts, of_manifest, writes_of}
 
 -- ---- the slots
 
@@ -53,14 +53,15 @@ manifest_written texts b there = by texts.manifest there
     by (Some text) (inl is) = (text, (refl, is.1))
     by (Some text) (inr there) = absurd (only_caches texts.cache texts.aux b there)
 
-aux_written : (m : Option (List ℕ)) (texts : UpdateTexts) (b : Content) → IsOfWrites (writes_of (texts_with m texts.cache texts.aux texts.report)) Aux b → b ≡ Some texts.aux
-aux_written None texts b (inl (e, is)) = absurd (cc)
-aux_written None texts b (inr (inl (e, is))) = is
-aux_written None texts b (inr (inr none)) = absurd none
-aux_written (Some text) texts b (inl (e, is)) = absurd (cc)
-aux_written (Some text) texts b (inr (inl (e, is))) = absurd (cc)
-aux_written (Some text) texts b (inr (inr (inl (e, is)))) = is
-aux_written (Some text) texts b (inr (inr (inr none))) = absurd none
+-- what may be in the Aux slot is the text that was written
+pub aux_written : (manifest : Option (List ℕ)) (cache aux : List ℕ) (b : Content) → IsOfWrites (of_manifest manifest ++ (Cache, cache) ∷ (Aux, aux) ∷ []) Aux b → b ≡ Some aux
+aux_written None cache aux b (inl (e, is)) = absurd (cc)
+aux_written None cache aux b (inr (inl (e, is))) = is
+aux_written None cache aux b (inr (inr none)) = absurd none
+aux_written (Some text) cache aux b (inl (e, is)) = absurd (cc)
+aux_written (Some text) cache aux b (inr (inl (e, is))) = absurd (cc)
+aux_written (Some text) cache aux b (inr (inr (inl (e, is)))) = is
+aux_written (Some text) cache aux b (inr (inr (inr none))) = absurd none
 
 -- ---- the image of slots
 
@@ -139,7 +140,7 @@ module _ (held : Contents) (s : Loaded) (texts : UpdateTexts) (are : AreTextsOf 
         stamps_are : IsOneOf
         stamps_are = elim (each Aux) [
           | inl old ↦ inl (ap (λ (l : Loaded). l.stamps) left.is ∙ ap stamps_of_slot old ∙ ap (λ (l : Loaded). l.stamps) (sym in_slots.is))
-          | inr there ↦ inr (ap (λ (l : Loaded). l.stamps) left.is ∙ ap stamps_of_slot (aux_written texts.manifest texts image.aux there) ∙ aux_read)
+          | inr there ↦ inr (ap (λ (l : Loaded). l.stamps) left.is ∙ ap stamps_of_slot (aux_written texts.manifest texts.cache texts.aux image.aux there) ∙ aux_read)
         ]
 
         tree_is : (new.tree ≡ s.tree) ⊎ (new.tree ≡ (planned_image held s).tree)

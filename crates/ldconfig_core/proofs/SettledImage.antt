@@ -20,11 +20,12 @@ use Rattle.soname_links.specs.declared.kinds.Planned.{Planned}
 use Rattle.soname_links.specs.Plan.{links, with_links}
 use Rattle.soname_links.specs.Settled.{IsSettled}
 use Rattle.stamped_files.proofs.Truth.{same_in, same_over, true_in, true_made}
-use Rattle.stamped_files.specs.Stamped.{AreSame, AreTrue, content_of, id_at, stamp_at, stamp_by, stamps_of, with_stamps}
+use Rattle.stamped_files.specs.Stamped.{AreSame, AreTrue, content_of, id_at, stamps_of, with_stamps}
 use Rattle.image_tree.specs.declared.tree.TheConstants.{NODES_MAX}
 use Rattle.tree_face.specs.Store.{Contents}
 use Rattle.image_tree.specs.Tree.{Nodes, IsTree, node_at}
 use Rattle.searched_image.proofs.FilesAgree.{content_same, id_same, key_same, what_same}
+use Rattle.searched_image.proofs.StampsAgree.{stamp_same}
 use Rattle.ldconfig_core.proofs.OneText.{one_entries}
 use Rattle.searched_image.proofs.Limits.{within}
 use Rattle.searched_image.specs.Begun.{has_too_many_nodes}
@@ -117,13 +118,10 @@ module _ (held : Contents) (s : Loaded) (new : Nodes) (alike : IsSearchedAlike s
   contents : (path : List ℕ) → content_of held new path ≡ content_of held t path
   contents path = content_same held t new alike path
 
-  same_stamp : (path : List ℕ) → stamp_at held new path ≡ stamp_at held t path
-  same_stamp path = ap (λ i. stamp_by i (what_is held new path)) (ids path) ∙ ap (stamp_by (id_at t path)) (what_same held t new alike path)
-
   same_stamps : stamps_in held new ≡ stamps_in held t
   unfolding stamps_in
   same_stamps =
-      ap (λ f. with_stamps [] (filter_map f (library_paths held new))) (agree (stamp_at held new) (stamp_at held t) same_stamp)
+      ap (λ f. with_stamps [] (filter_map f (library_paths held new))) (stamp_same held t new alike)
       ∙ ap (λ paths. stamps_of held t (paths ++ behind_in held new)) same_wanted
       ∙ ap (λ paths. stamps_of held t (wanted_in held t ++ paths)) same_behind
 

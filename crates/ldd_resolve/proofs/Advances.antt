@@ -3,7 +3,7 @@ use Rattle.std.proofs.Common.{◌≡◌, ◌+◌, ℕ, false, List, [], ◌++◌
 use Rattle.std.proofs.lemmas.List.{append-nil}
 use Rattle.elf_dynamic.proofs.BegunKeys.{keys_early, keys_then, none_lacks}
 use Rattle.elf_dynamic.specs.Begun.{lacks_one}
-use Rattle.tree_face.proofs.StoreUse.{reads_all, reads_none, reads_then}
+use Rattle.tree_face.proofs.StoreUse.{reads_all, reads_none, reads_then, unread}
 use Rattle.tree_face.specs.Store.{Contents, StoreState}
 use Rattle.tree_face.specs.StoreUse.{Ending, Complete, DeviceFailed, GaveUp, ReadsFiles}
 use Rattle.ldd_resolve.proofs.Records.{record_more, record_none}
@@ -12,19 +12,6 @@ use Rattle.ldd_resolve.specs.Loading.{Advances, GoesBy}
 use Rattle.ldd_resolve.specs.Searching.{AreHeld, Begins, BeginsHeld}
 
 -- ---- nothing is read
-
--- whatever is known of it
-pub unread : (s : StoreState) → ReadsFiles ⊥ None None Complete s s
-unread s = record {
-  held = refl;
-  begins = tt;
-  begun = tt;
-  begun_before = omega arith;
-  taken = tt;
-  taken_before = omega arith;
-  faults = omega arith;
-  cause = refl;
-}
 
 pub unread_held : (held : Contents) (s : StoreState) → BeginsHeld held [] Complete s s
 unread_held held s = record { reads = reads_none _ _ s; none_lacks = refl }

@@ -20,7 +20,8 @@ use Rattle.ldd_resolve.specs.Loading.{Advances, GoesBy, HasOutcome, IsSoundAnswe
 use Rattle.ldd_resolve.specs.Requests.{BeginsPaths, FindsBy, IsAt, paths_by, requests_by, scope_by}
 use Rattle.ldd_resolve.specs.Resolving.{IfComplete}
 use Rattle.ldd_resolve.specs.Searching.{Finds, IsNew}
-use Rattle.ldd_resolve.proofs.Advances.{unread, unread_held}
+use Rattle.tree_face.proofs.StoreUse.{unread}
+use Rattle.ldd_resolve.proofs.Advances.{unread_held}
 use Rattle.ldd_resolve.proofs.Outcomes.{chain_kept, known_stands, outcome}
 use Rattle.ldd_resolve.proofs.Objects.{failing}
 use Rattle.ldd_resolve.proofs.Tried.{is_one}

@@ -15,7 +15,7 @@ use Rattle.path_walk.specs.Files.{file_at, file_by, is_file}
 use Rattle.path_walk.specs.Walk.{resolution}
 use Rattle.path_walk.specs.declared.walk.Mode.TheVariants.{Full}
 use Rattle.path_walk.specs.declared.walk.WalkFault.{WalkFault}
-use Rattle.tree_face.proofs.StoreUse.{IsPartial, reads_all, reads_none, reads_then}
+use Rattle.tree_face.proofs.StoreUse.{IsPartial, reads_all, reads_fewer, reads_none, reads_then, unread}
 use Rattle.cache_reader.specs.Cache.{CachedEntry}
 use Rattle.elf_dynamic.proofs.BegunKeys.{keys_early, keys_then}
 use Rattle.elf_dynamic.specs.Begun.{ReadsBy, file_keys, key_in, lacks_one}
@@ -35,7 +35,6 @@ use Rattle.ldd_resolve.specs.Loading.{Advances}
 use Rattle.ldd_resolve.specs.Requests.{IsListed, record_with}
 use Rattle.ldd_resolve.specs.Resolving.{BeginsBy, BeginsFor, BeginsRecord, IfBadProgram, IfComplete, IsBadProgram, IsListing, IsNoProgram, ReadsListing, first_record, object_at, program_at, record_of, resolve_ending, scope_of, with_abi}
 use Rattle.ldd_resolve.proofs.Records.{record_none}
-use Rattle.ldd_resolve.proofs.Advances.{unread}
 
 -- ---- the file of the program
 
@@ -72,19 +71,6 @@ key_has_node (Some n) key = refl
 
 -- ---- the keys that are begun
 
--- the keys aren't known if contents aren't
-forget : (keys : List (List ℕ)) (e : Ending) (a b : StoreState) → ReadsFiles ⊥ (Some keys) None e a b → ReadsFiles ⊥ None None e a b
-forget keys e a b reads = record {
-  held = reads.held;
-  begins = tt;
-  begun = tt;
-  begun_before = reads.begun_before;
-  taken = tt;
-  taken_before = reads.taken_before;
-  faults = reads.faults;
-  cause = reads.cause;
-}
-
 if_partial : (e : Ending) (P : Type 0) → IsPartial e → IfComplete e P
 if_partial Complete P partial = absurd partial
 if_partial DeviceFailed P partial = tt
@@ -107,13 +93,13 @@ module _ (t : Nodes) (cache : Option (List CachedEntry)) (word : List ℕ) (env 
     -- the program's file has a defect
     pub defect_read : (known : Option Contents) (d : Defect) (a b : StoreState) → IfKnown known (λ held. object_at held t real ≡ Some (Err d)) → ReadsBy known key Complete a b →
         ReadsListing known t cache word env Complete a b
-    defect_read None d a b says reads = forget key Complete a b reads
+    defect_read None d a b says reads = reads_fewer ⊥ ⊥ (Some key) None Complete a b (λ l. l) reads
     defect_read (Some held) d a b says reads =
         held_by held Complete a b (subst (λ (o : Option (Result Object Defect)). BeginsBy o (record_of t cache word env held real) key held Complete a b) (sym says) reads)
 
     -- the call ends while the program's file is read
     pub program_fails : (known : Option Contents) (e : Ending) (a b : StoreState) → IsPartial e → ReadsBy known key e a b → ReadsListing known t cache word env e a b
-    program_fails None e a b partial reads = forget key e a b reads
+    program_fails None e a b partial reads = reads_fewer ⊥ ⊥ (Some key) None e a b (λ l. l) reads
     program_fails (Some held) e a b partial reads = held_by held e a b (by (object_at held t real))
       where
         none_yet : (o : Object) → BeginsRecord (record_of t cache word env held real o) held e a b
@@ -157,7 +143,7 @@ module _ (t : Nodes) (cache : Option (List CachedEntry)) (word : List ℕ) (env 
       pub listing_read : (known : Option Contents) → IfKnown known (λ held. object_at held t p.real ≡ Some (Ok p.object)) →
           IfKnown known (λ held. lacks_one held (file_keys t (p.real ∷ [])) ≡ false) → ReadsBy known (file_keys t (p.real ∷ [])) Complete a b →
           Advances known scope first e P b c → ((r : Record) → P r → IfComplete e (left r ≡ [])) → ReadsListing known t cache word env e a c
-      listing_read None says none reads so_far all = reads_then e a b c ⊥ ⊥ ⊥ None None None None (λ l. l) (forget (key p.real leads) Complete a b reads) so_far.reads
+      listing_read None says none reads so_far all = reads_then e a b c ⊥ ⊥ ⊥ None None None None (λ l. l) (reads_fewer ⊥ ⊥ (Some (key p.real leads)) None Complete a b (λ l. l) reads) so_far.reads
       listing_read (Some held) says none reads so_far all =
           let n = so_far.requests in
           let same = same_after held n in

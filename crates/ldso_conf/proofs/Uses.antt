@@ -13,7 +13,7 @@ use Rattle.tree_face.specs.Follows.{IsFollowedBy, IsFollowedByPart}
 use Rattle.tree_face.specs.Known.{IfKnown, Relates}
 use Rattle.tree_face.specs.Store.{Contents, StoreState}
 use Rattle.tree_face.specs.StoreUse.{Ending, Complete, DeviceFailed, GaveUp, HasCause, ReadsFiles}
-use Rattle.tree_face.proofs.StoreUse.{IsPartial, reads_on, reads_part}
+use Rattle.tree_face.proofs.StoreUse.{IsPartial, reads_on, reads_part, unread}
 use Rattle.conf_patterns.specs.Patterns.{Found}
 use Rattle.ldso_conf.specs.Endings.{ending_by}
 use Rattle.ldso_conf.specs.Reading.{Item, Reports, asked, asked_by, begun, bytes_taken, is_missing, key_begun, named, place_in, until_missing}
@@ -111,18 +111,6 @@ reads_none l keys most s = record {
   cause = refl;
 }
 
-pub none_unknown : (s : StoreState) → ReadsFiles ⊥ None None Complete s s
-none_unknown s = record {
-  held = refl;
-  begins = tt;
-  begun = tt;
-  begun_before = omega arith;
-  taken = tt;
-  taken_before = omega arith;
-  faults = omega arith;
-  cause = refl;
-}
-
 -- ---- the items of a file
 
 module _ (start now : Progress) (a b c : StoreState) where
@@ -211,18 +199,18 @@ module _ (whole : Contents → List Item) where
   -- the file is reported and not begun
   pub all_reported : (known : Option Contents) (report : ConfReport) (r new : Progress) (s : StoreState) → ((held : Contents) → whole held ≡ Reports report ∷ []) → new ≡ with_report r report →
       IfKnown known (λ held. HasTaken (whole held) r new) × ReadsItems whole known Complete s s
-  all_reported None report r new s alone e = (tt, none_unknown s)
+  all_reported None report r new s alone e = (tt, unread s)
   all_reported (Some held) report r new s alone e = rw (alone held) (take_report r new report e, reads_all ⊥ _ _ _ s s (reads_nothing s))
 
   module _ (f : Found) (key : List ℕ) (rest : Contents → List Item) (a b : StoreState) where
     pub file_stops : (known : Option Contents) (e : Ending) → ((held : Contents) → whole held ≡ begun f key (held key) ∷ rest held) → IsPartial e → ReadsFile key known e a b →
         ReadsItems whole known e a b
-    file_stops None e first is_partial reads = reads_unknown ⊥ ⊥ (Some (key ∷ [])) None e a a b (λ l. l) (none_unknown a) reads
+    file_stops None e first is_partial reads = reads_unknown ⊥ ⊥ (Some (key ∷ [])) None e a a b (λ l. l) (unread a) reads
     file_stops (Some held) e first is_partial reads = first_stops f key (whole held) (rest held) (held key) (held key ≡ None) a b (first held) e (λ l. l) is_partial reads
 
     pub file_done : (known : Option Contents) (r new : Progress) → IfKnown known (λ held. whole held ≡ begun f key (held key) ∷ rest held) → IfKnown known (λ held. HasTaken (begun f key (held key) ∷ []) r new) →
         ReadsFile key known Complete a b → IsDoneIn known whole rest r new a b
-    file_done None r new first taken reads = reads_unknown ⊥ ⊥ (Some (key ∷ [])) None Complete a a b (λ l. l) (none_unknown a) reads
+    file_done None r new first taken reads = reads_unknown ⊥ ⊥ (Some (key ∷ [])) None Complete a a b (λ l. l) (unread a) reads
     file_done (Some held) r new first taken reads = first_done f key (whole held) (rest held) (held key) (held key ≡ None) a b first r new taken reads
 
   module _ (part rest : Contents → List Item) (start now : Progress) (a b c : StoreState) where
@@ -263,7 +251,7 @@ module _ (known : Option Contents) (r new : Progress) (s : StoreState) where
   alone_taken item taken = if_all known (λ held. taken)
 
   alone_reads : (k : Option Contents) (item : Item) → key_begun item ≡ [] → is_missing item ≡ false → ReadsItems (λ held. item ∷ []) k Complete s s
-  alone_reads None item none held = none_unknown s
+  alone_reads None item none held = unread s
   alone_reads (Some c) item none held = rw (held, none) (reads_no_key _ (sum_by bytes_taken (item ∷ [])) s)
 
   pub report_taken : (report : ConfReport) → new ≡ with_report r report → IfKnown known (λ held. HasTaken (Reports report ∷ []) r new) × ReadsItems (λ held. Reports report ∷ []) known Complete s s

@@ -13,7 +13,8 @@ use Rattle.ldso_conf.specs.Visits.{Progress, HasTaken, IsConfFrom, ReadsItems, n
 use Rattle.ldso_conf.specs.declared.kinds.Conf.{Conf}
 use Rattle.ldso_conf.specs.declared.reading.TheConstants.{DEPTH_MAX}
 use Rattle.ldso_conf.proofs.Items.{until_whole}
-use Rattle.ldso_conf.proofs.Uses.{none_unknown, reads_all, reads_none, reads_nothing}
+use Rattle.tree_face.proofs.StoreUse.{unread}
+use Rattle.ldso_conf.proofs.Uses.{reads_all, reads_none, reads_nothing}
 
 module _ (t : Nodes) where
   abbrev all_items : Contents → List Item
@@ -56,7 +57,7 @@ module _ (t : Nodes) where
   pub no_reads : (s : StoreState) → place_at t conf_path ≡ None → ReadsConf t Complete s s
   no_reads s e = as_reads Complete s s s.held (at s.held) where
     at : (known : Option Contents) → ReadsItems all_items known Complete s s
-    at None = none_unknown s
+    at None = unread s
     at (Some held) = rw (no_items e held) (reads_all ⊥ _ _ _ s s (reads_nothing s))
 
   pub gave_up : (s : StoreState) → ReadsConf t GaveUp s s

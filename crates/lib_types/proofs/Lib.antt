@@ -1,6 +1,8 @@
 pub mod Bools
+pub mod EqualFront
 pub mod Fields
 pub mod FirstByte
+pub mod OneSize
 pub mod Parting
 pub mod Plain
 pub mod Prefixes

@@ -12,27 +12,11 @@ use Rattle.lib_types.specs.Name.{is_name, is_plain, have_no_slash}
 use Rattle.lib_types.proofs.Bools.{not_true}
 use Rattle.lib_types.proofs.Plain.{plain_bytes}
 use Rattle.lib_types.proofs.SortedPairs.{by_test}
+use Rattle.image_tree.proofs.Prefixes.{parts_joined}
 use Rattle.image_tree.specs.Paths.{is_slash, is_path, are_names, root}
 use Rattle.manifest_words.specs.Escape.{backslash}
 use Rattle.manifest_words.specs.Plain.{is_own, is_short, is_plain_path, IsKnown, IsAbove}
 use Rattle.manifest_words.proofs.FullWords.{path_first, path_names}
-
--- ---- the names between slashes
-
-onto_front : (x : ℕ) (a b : List (List ℕ)) → 0 < length a → onto_first x (a ++ b) ≡ onto_first x a ++ b
-onto_front x [] b h = absurd (omega arith)
-onto_front x (part ∷ a) b h = refl
-
-parts_joined : (xs ys : List ℕ) → slice_split is_slash (xs ++ 47 ∷ ys) ≡ slice_split is_slash xs ++ slice_split is_slash ys
-parts_joined [] ys = slice_split-cons_yes is_slash 47 ys refl
-parts_joined (x ∷ xs) ys = by_test (is_slash x)
-    (λ e.
-    slice_split-cons_yes is_slash x (xs ++ 47 ∷ ys) e ∙ ap (λ parts. [] ∷ parts) (parts_joined xs ys)
-    ∙ ap (λ parts. parts ++ slice_split is_slash ys) (sym (slice_split-cons_yes is_slash x xs e)))
-    (λ e.
-    slice_split-cons_no is_slash x (xs ++ 47 ∷ ys) e ∙ ap (onto_first x) (parts_joined xs ys)
-    ∙ onto_front x (slice_split is_slash xs) (slice_split is_slash ys) (omega (arith, length-slice_split is_slash xs))
-    ∙ ap (λ parts. parts ++ slice_split is_slash ys) (sym (slice_split-cons_no is_slash x xs e)))
 
 -- nothing, or a slash and then names with a slash between each two, without a backslash
 record IsNamed (p : List ℕ) : Type 0 where

@@ -1,5 +1,5 @@
 -- Names that begin with numbers compare as these do, if they differ.
-use Rattle.std.proofs.Common.{◌≡◌, ℕ, zero, suc, ◌⊎◌, inl, inr, ⊎_elim, ◌+◌, ◌*◌, Some, ◌<◌, ◌≤◌, Bool, true, false, get_or, ◌-◌, List, [], ◌∷◌, None, length, take, drop, refl, ap, sym, subst, ◌∙◌, one-add, arith}
+use Rattle.std.proofs.Common.{◌≡◌, ℕ, zero, suc, ◌⊎◌, inl, inr, ⊎_elim, Some, ◌<◌, ◌≤◌, Bool, true, false, get_or, List, [], ◌∷◌, None, length, drop, refl, ap, sym, subst, ◌∙◌, one-add, arith}
 use Rattle.std.specs.declared.cmp.Ordering.{Ordering}
 use Rattle.std.specs.declared.cmp.Ordering.TheVariants.{Less, Equal, Greater}
 use Rattle.std.specs.Ordering.{MatchOrdering, nat_cmp, ordering_then}
@@ -9,27 +9,17 @@ use Rattle.std.proofs.lemmas.Cmp.{ranked}
 use Rattle.std.specs.Char.{IsAsciiDigit, is_ascii_digit}
 use Rattle.std.specs.List.{fold, prefix_len}
 use Rattle.std.proofs.lemmas.Bool.Decides.{nat_tests}
-use Rattle.name_order.specs.Order.{Number, token_cmp, token_order, tokens, tokens_after, with_digit}
+use Rattle.name_order.specs.Order.{token_cmp, token_order, tokens, tokens_after, with_digit}
 use Rattle.name_order.specs.Digits.{AreDigits, AreEqualDigits, BeginsByNumber}
+use Rattle.name_order.specs.Numbers.{GoOnWithNumbers}
 use Rattle.name_order.proofs.Numbers.{stays_above}
 use Rattle.name_order.proofs.Runs.{AreDigits-run, behind, goes_on, run}
 
-known_digit : (x : ℕ) → is_ascii_digit x ≡ true → IsAsciiDigit x
+pub known_digit : (x : ℕ) → is_ascii_digit x ≡ true → IsAsciiDigit x
 known_digit x e = grind (arith, nat_tests)
 
 digit_known : (x : ℕ) → IsAsciiDigit x → is_ascii_digit x ≡ true
 digit_known x d = grind (arith, nat_tests)
-
--- one more equal digit
-pub digit_equal : (n : ℕ) (a b : List ℕ) → AreEqualDigits n a b → n < length a → n < length b → get_or a n 0 ≡ get_or b n 0 → is_ascii_digit (get_or a n 0) ≡ true → AreEqualDigits (n + 1) a b
-digit_equal zero [] b p h k e d = absurd (omega arith)
-digit_equal zero (x ∷ a) [] p h k e d = absurd (omega arith)
-digit_equal zero (x ∷ a) (y ∷ b) p h k e d = (e, known_digit x d, tt)
-digit_equal (suc n) [] b p h k e d = absurd (omega arith)
-digit_equal (suc n) (x ∷ a) [] p h k e d = absurd (omega arith)
-digit_equal (suc n) (x ∷ a) (y ∷ b) p h k e d =
-    let next : suc n + 1 ≡ suc (n + 1) = omega arith in
-    rw next (p.0, p.1, digit_equal n a b p.2 (omega arith) (omega arith) e d)
 
 -- ---- runs of digits
 
@@ -140,10 +130,6 @@ passed (suc k) n (x ∷ a) (y ∷ b) p e =
     let r = passed k (with_digit n x) a b (omega (arith, p)) e.2 in
     (r.0, r.1, rw (dx, dy) (ap (λ z. slice_cmp token_cmp (tokens_after (Some (with_digit n x)) a) (tokens_after (Some (with_digit n z)) b)) (sym e.0) ∙ r.2))
 
--- the number that is begun, or that both begin behind
-abbrev AreBegun : ℕ → List ℕ → List ℕ → Type 0
-AreBegun n a b = 0 < n ⊎ ((48 < get_or (run a) 0 0) × (48 < get_or (run b) 0 0))
-
 -- a number at the front has a digit
 some_digit : (xs : List ℕ) → BeginsByNumber xs → 0 < prefix_len is_ascii_digit xs
 some_digit [] p = absurd (omega (arith, p.0))
@@ -153,31 +139,38 @@ some_digit (x ∷ xs) p = let d : is_ascii_digit x ≡ true = grind (arith, nat_
     by true e d = rw e (omega arith)
     by false e d = absurd (cc)
 
-behind_equal : (k : ℕ) (a b : List ℕ) → AreEqualDigits k a b → BeginsByNumber a → BeginsByNumber b → (m : ℕ) × AreBegun m (drop k a) (drop k b) × Behind k m a b (token_order a b)
+first_above : (xs : List ℕ) → BeginsByNumber xs → 48 < get_or (run xs) 0 0
+first_above xs p = let x = first-run xs (some_digit xs p) in omega (arith, x.0, p.0)
+
+-- names that begin with numbers go on with them behind their equal digits
+pub behind_equal : (k : ℕ) (a b : List ℕ) → AreEqualDigits k a b → BeginsByNumber a → BeginsByNumber b → GoOnWithNumbers k a b
 unfolding tokens
-behind_equal zero a b e first second =
-    let s = some_digit a first in
-    let t = some_digit b second in
-    let x = first-run a s in
-    let y = first-run b t in
-    (0, inr (omega (arith, x.0, first.0), omega (arith, y.0, second.0)), rw (from_nothing a s, from_nothing b t) refl)
+behind_equal zero a b e first second = record {
+  number = 0;
+  begun = inr (first, second);
+  order = rw (from_nothing a (some_digit a first), from_nothing b (some_digit b second)) refl;
+}
 behind_equal (suc k) [] b e first second = absurd e
 behind_equal (suc k) (x ∷ a) [] e first second = absurd e
 behind_equal (suc k) (x ∷ a) (y ∷ b) e first second =
     let dx : is_ascii_digit x ≡ true = digit_known x e.1 in
     let dy : is_ascii_digit y ≡ true = subst (λ z. is_ascii_digit z ≡ true) e.0 dx in
     let r = passed k (with_digit 0 x) a b (omega (arith, first.0)) e.2 in
-    (r.0, inl r.1, rw (dx, dy) (ap (λ z. slice_cmp token_cmp (tokens_after (Some (with_digit 0 x)) a) (tokens_after (Some (with_digit 0 z)) b)) (sym e.0) ∙ r.2))
+    record {
+      number = r.0;
+      begun = inl r.1;
+      order = rw (dx, dy) (ap (λ z. slice_cmp token_cmp (tokens_after (Some (with_digit 0 x)) a) (tokens_after (Some (with_digit 0 z)) b)) (sym e.0) ∙ r.2);
+    }
 
-module _ (k : ℕ) (a b : List ℕ) (e : AreEqualDigits k a b) (first : BeginsByNumber a) (second : BeginsByNumber b) where
+module _ (k : ℕ) (a b : List ℕ) (e : GoOnWithNumbers k a b) where
   pub more_digits : (prefix_len is_ascii_digit (drop k a) ≡ prefix_len is_ascii_digit (drop k b) → ⊥)
       → nat_cmp (prefix_len is_ascii_digit (drop k a)) (prefix_len is_ascii_digit (drop k b)) ≡ token_order a b
-  more_digits other = let r = behind_equal k a b e first second in counts_decide r.0 (drop k a) (drop k b) r.1 other ∙ sym r.2
+  more_digits other =
+      counts_decide e.number (drop k a) (drop k b) (⊎_elim inl (λ f. inr (first_above (drop k a) f.0, first_above (drop k b) f.1)) e.begun) other ∙ sym e.order
 
   pub other_digit : prefix_len is_ascii_digit (drop k a) ≡ prefix_len is_ascii_digit (drop k b) → 0 < prefix_len is_ascii_digit (drop k a) → (get_or a k 0 ≡ get_or b k 0 → ⊥)
       → nat_cmp (get_or a k 0) (get_or b k 0) ≡ token_order a b
   other_digit long more other =
-      let r = behind_equal k a b e first second in
       let x = at_front k a in
       let y = at_front k b in
-      (λ i. nat_cmp (x i) (y i)) ∙ first_decides r.0 (drop k a) (drop k b) long more (λ same. other (x ∙ same ∙ sym y)) ∙ sym r.2
+      (λ i. nat_cmp (x i) (y i)) ∙ first_decides e.number (drop k a) (drop k b) long more (λ same. other (x ∙ same ∙ sym y)) ∙ sym e.order

@@ -1,3 +1,5 @@
+mod Alike
+mod Contained
 pub mod Numbers
 pub mod Runs
 pub mod Fronts

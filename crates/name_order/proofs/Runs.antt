@@ -1,9 +1,9 @@
 -- A run of digits at the front of a name is its first token.
-use Rattle.std.proofs.Common.{◌≡◌, ℕ, zero, suc, ◌+◌, ◌<◌, Bool, true, false, get_or, ◌-◌, List, [], ◌∷◌, Some, None, length, take, drop, refl, ap, sym, one-add, arith}
+use Rattle.std.proofs.Common.{◌≡◌, ℕ, ◌+◌, ◌<◌, Bool, true, false, get_or, ◌-◌, List, [], ◌∷◌, Some, None, length, take, drop, refl, one-add, arith}
 use Rattle.std.specs.declared.cmp.Ordering.{Ordering}
 use Rattle.std.specs.declared.cmp.Ordering.TheVariants.{Less, Equal, Greater}
 use Rattle.std.specs.Ordering.{MatchOrdering, nat_cmp, ordering_then}
-use Rattle.std.proofs.lemmas.Cmp.{nat_cmp_total, ranked, tied_itself}
+use Rattle.std.proofs.lemmas.Cmp.{ranked}
 use Rattle.std.specs.Char.{IsAsciiDigit, is_ascii_digit}
 use Rattle.std.specs.List.{fold, prefix_len}
 use Rattle.std.specs.Cmp.Lexicographic.{slice_cmp}
@@ -71,20 +71,6 @@ end_below (x ∷ xs) some = by (is_ascii_digit x) refl
     by : (b : Bool) → is_ascii_digit x ≡ b → slice_cmp token_cmp [] (tokens_after None (x ∷ xs)) ≡ Less
     by true e = rw (e, goes_on (with_digit 0 x) xs) refl
     by false e = rw e refl
-
--- equal bytes at the front that are no digits decide nothing
-pub byte_passed : (a b : List ℕ) (i : ℕ) → i < length a → i < length b → get_or a i 0 ≡ get_or b i 0 → is_ascii_digit (get_or a i 0) ≡ false
-    → token_order (drop (i + 1) a) (drop (i + 1) b) ≡ token_order (drop i a) (drop i b)
-unfolding tokens
-byte_passed [] b i h k e none = absurd (omega arith)
-byte_passed (x ∷ a) [] i h k e none = absurd (omega arith)
-byte_passed (x ∷ a) (y ∷ b) zero h k e none =
-    let other : is_ascii_digit y ≡ false = rw e at none in
-    rw (none, other, e) (sym (by_equal y (slice_cmp token_cmp (tokens_after None a) (tokens_after None b))))
-  where
-    by_equal : (n : ℕ) (rest : Ordering) → ordering_then (nat_cmp n n) rest ≡ rest
-    by_equal n rest = ap (λ o. ordering_then o rest) (tied_itself nat_cmp_total n)
-byte_passed (x ∷ a) (y ∷ b) (suc i) h k e none = let next : suc i + 1 ≡ suc (i + 1) = omega arith in rw next (byte_passed a b i (omega arith) (omega arith) e none)
 
 -- first bytes that differ and are no digits decide
 pub first_decides : (a b : List ℕ) → 0 < length a → 0 < length b → (get_or a 0 0 ≡ get_or b 0 0 → ⊥) → is_ascii_digit (get_or a 0 0) ≡ false → is_ascii_digit (get_or b 0 0) ≡ false

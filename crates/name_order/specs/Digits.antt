@@ -1,8 +1,8 @@
 -- What private functions say of runs of digits.
-use Rattle.std.specs.Prelude.{◌≡◌, ◌<◌, ◌≤◌, slice_index_or, ℕ, zero, suc, List, [], ◌∷◌, drop, ◌==◌}
+use Rattle.std.specs.Prelude.{◌≡◌, ◌<◌, ◌≤◌, false, slice_index_or, ℕ, zero, suc, List, [], ◌∷◌, drop, ◌==◌}
 use Rattle.std.specs.Bool.{⊤}
 use Rattle.std.specs.List.{AllByRecursion, prefix_len}
-use Rattle.std.specs.Char.{IsAsciiDigit}
+use Rattle.std.specs.Char.{IsAsciiDigit, is_ascii_digit}
 use Rattle.std.specs.Str.{byte}
 
 abbrev pub AreDigits : List ℕ → Type 0
@@ -22,3 +22,17 @@ AreEqualDigits (suc n) (x ∷ a) (y ∷ b) = (x ≡ y) × IsAsciiDigit x × AreE
 -- a number is at the front, and its first digit isn't zero
 abbrev pub BeginsByNumber : List ℕ → Type 0
 BeginsByNumber name = (byte "0" < slice_index_or name 0 0) × (slice_index_or name 0 0 ≤ byte "9")
+
+-- digits stand at all offsets between these
+abbrev pub AreDigitsWithin : List ℕ → ℕ → ℕ → Type 0
+AreDigitsWithin name begin end = (k : ℕ) → begin ≤ k → k < end → IsAsciiDigit (slice_index_or name k 0)
+
+-- no digit stands directly before this offset
+abbrev pub IsFree : ℕ → List ℕ → Type 0
+IsFree zero name = ⊤
+IsFree (suc n) name = is_ascii_digit (slice_index_or name n 0) ≡ false
+
+-- a digit that isn't zero stands directly before this offset
+abbrev pub EndsInNumber : ℕ → List ℕ → Type 0
+EndsInNumber zero name = ⊥
+EndsInNumber (suc n) name = (byte "0" < slice_index_or name n 0) × (slice_index_or name n 0 ≤ byte "9")

@@ -1,33 +1,22 @@
 //! The order in which the loader sorts library names, and which names are library names.
 #![tactic(auto)]
 
-ghost use Rattle.std.specs.Prelude.{◌≡◌, ◌+◌, ◌≤◌, ◌↔◌, ◌<◌, IfSome, IsTrue, codes, drop, length, nat_eq};
+ghost use Rattle.std.specs.Prelude.{◌≡◌, ◌+◌, ◌≤◌, ◌↔◌, ◌<◌, IfSome, IsTrue, codes, drop, length, nat_eq, take};
 ghost use Rattle.std.specs.Char.{is_ascii_digit};
-ghost use Rattle.std.specs.List.{ends_with, prefix_len};
+ghost use Rattle.std.specs.List.{ends_with, prefix_len, starts_with};
 ghost use Rattle.std.specs.Cmp.{IsTotalOrder};
 ghost use Rattle.name_order.specs.Order.{name_order, token_order};
 ghost use Rattle.name_order.specs.Digits.{AreEqualDigits, BeginsByNumber};
+ghost use Rattle.name_order.specs.Numbers.{GoOnWithNumbers};
 ghost use Rattle.name_order.specs.LibraryName.{contains, has_library_prefix, has_temporary_suffix, is_library_name};
 
+mod front;
 mod part;
 
+use front::{ends_in_number, passed_len};
+use lib_types::equal_len;
 use part::{compare_parts, digits_len, next_part};
 use std::cmp::Ordering;
-
-// How many bytes both names begin with that are equal and no digits, up to the first that isn't: names that are compared are long and
-// mostly differ behind the first few, and a number may have begun before the byte at which they differ.
-#[tactic(auto, using(crate::proofs::Runs::byte_passed))]
-fn equal_front(a: &[u8], b: &[u8]) -> usize
-    ensures within { (result ≤ length a.now) × (result ≤ length b.now) }
-    ensures rest { token_order (drop result a.now) (drop result b.now) ≡ token_order a.now b.now }
-{
-    let shorter = a.len().min(b.len());
-    let mut i = 0;
-    while i < shorter && a[i] == b[i] && !a[i].is_ascii_digit() {
-        i += 1;
-    }
-    i
-}
 
 // The order of names whose first bytes differ, if neither is a digit: nothing behind these bytes counts.
 #[tactic(auto, using(crate::proofs::Runs::first_decides))]
@@ -42,20 +31,6 @@ fn compare_first(a: &[u8], b: &[u8]) -> Option<Ordering>
         return None;
     }
     Some(x.cmp(&y))
-}
-
-// How many equal digits both names begin with.
-#[tactic(auto, using(crate::proofs::Fronts::digit_equal))]
-fn equal_digits(a: &[u8], b: &[u8]) -> usize
-    ensures within { (result ≤ length a.now) × (result ≤ length b.now) }
-    ensures equal { AreEqualDigits result a.now b.now }
-{
-    let shorter = a.len().min(b.len());
-    let mut i = 0;
-    while i < shorter && a[i] == b[i] && a[i].is_ascii_digit() {
-        i += 1;
-    }
-    i
 }
 
 // How many digits a name goes on with behind so many bytes.
@@ -75,14 +50,13 @@ fn begins_by_number(name: &[u8]) -> bool
     !name.is_empty() && name[0] > b'0' && name[0] <= b'9'
 }
 
-// The order of names that begin with such numbers, if these differ: more digits behind the equal ones are the greater number, and of
-// as many the first that differs decides.
-fn compare_numbers_first(a: &[u8], b: &[u8]) -> Option<Ordering>
-    requires first { BeginsByNumber a.now }
-    requires second { BeginsByNumber b.now }
+// The order of names that go on with numbers behind so many bytes, if the numbers differ: more digits are the greater number, and of as
+// many the first that differs decides.
+fn compare_digits(a: &[u8], b: &[u8], count: usize) -> Option<Ordering>
+    requires within { (count ≤ length a.now) × (count ≤ length b.now) }
+    requires numbers { GoOnWithNumbers count a.now b.now }
     ensures { IfSome result (λ order. order ≡ token_order a.now b.now) }
 {
-    let count = equal_digits(a, b);
     let (m, n) = (digits_behind(a, count), digits_behind(b, count));
     if m != n {
         return Some(m.cmp(&n));
@@ -93,12 +67,15 @@ fn compare_numbers_first(a: &[u8], b: &[u8]) -> Option<Ordering>
     Some(a[count].cmp(&b[count]))
 }
 
-// The order of names whose first parts differ and show it soon.
-fn compare_fronts(a: &[u8], b: &[u8]) -> Option<Ordering>
+// The order of names whose first parts differ and show it soon, and that begin with so many equal digits.
+#[tactic(auto, using(crate::proofs::Fronts::behind_equal))]
+fn compare_fronts(a: &[u8], b: &[u8], count: usize) -> Option<Ordering>
+    requires within { (count ≤ length a.now) × (count ≤ length b.now) }
+    requires equal { AreEqualDigits count a.now b.now }
     ensures { IfSome result (λ order. order ≡ token_order a.now b.now) }
 {
     if begins_by_number(a) && begins_by_number(b) {
-        return compare_numbers_first(a, b);
+        return compare_digits(a, b, count);
     }
     compare_first(a, b)
 }
@@ -128,15 +105,42 @@ fn compare_by_parts(a: &[u8], b: &[u8]) -> Ordering
     }
 }
 
+// The order of names by the numbers that the bytes in common end in, if they do and the numbers differ: of most names that a sort compares.
+#[tactic(auto, using(crate::proofs::Alike::in_numbers))]
+fn compare_in_numbers(a: &[u8], b: &[u8], same: usize) -> Option<Ordering>
+    requires within { (same ≤ length a.now) × (same ≤ length b.now) }
+    requires same { take same a.now ≡ take same b.now }
+    ensures { IfSome result (λ order. order ≡ token_order a.now b.now) }
+{
+    if ends_in_number(a, same) {
+        compare_digits(a, b, same)
+    } else {
+        None
+    }
+}
+
+// The order of names that begin with so many equal bytes, from the part on in which the next ones are.
+fn compare_behind(a: &[u8], b: &[u8], same: usize) -> Ordering
+    requires within { (same ≤ length a.now) × (same ≤ length b.now) }
+    requires same { take same a.now ≡ take same b.now }
+    ensures { result ≡ token_order a.now b.now }
+{
+    let passed = passed_len(a, b, same);
+    let (left, right) = (&a[passed..], &b[passed..]);
+    match compare_fronts(left, right, same - passed) {
+        Some(order) => order,
+        None => compare_by_parts(left, right),
+    }
+}
+
 /// The loader's order of two names. Names that differ only in the zeros before a number are equal in it.
 pub fn compare_tokens(a: &[u8], b: &[u8]) -> Ordering
     ensures { result ≡ token_order a.now b.now }
 {
-    let front = equal_front(a, b);
-    let (left, right) = (&a[front..], &b[front..]);
-    match compare_fronts(left, right) {
+    let same = equal_len(a, b);
+    match compare_in_numbers(a, b, same) {
         Some(order) => order,
-        None => compare_by_parts(left, right),
+        None => compare_behind(a, b, same),
     }
 }
 
@@ -189,15 +193,29 @@ fn ends_with(name: &[u8], suffix: &[u8]) -> bool
     name.ends_with(suffix)
 }
 
+// Whether `.so` begins at this offset, which the first byte shows of most offsets where it doesn't.
+#[tactic(auto, using(crate::proofs::Contained::other_first))]
+fn has_so_at(name: &[u8], at: usize) -> bool
+    requires { at < length name.now }
+    ensures { result ≡ starts_with nat_eq (drop at name.now) (codes ".so") }
+{
+    if name[at] != b'.' {
+        return false;
+    }
+    name[at..].starts_with(b".so")
+}
+
+// Whether the name has `.so` in it, which is looked for from the end: mostly a version is behind it, and a longer text before it.
+#[tactic(auto, using(crate::proofs::Contained::so_laws))]
 fn contains_so(name: &[u8]) -> bool
     ensures { result ≡ contains (codes ".so") name.now }
 {
-    let mut rest = name;
-    while !rest.is_empty() {
-        if rest.starts_with(b".so") {
+    let mut i = name.len();
+    while i > 0 {
+        i -= 1;
+        if has_so_at(name, i) {
             return true;
         }
-        rest = &rest[1..];
     }
     false
 }

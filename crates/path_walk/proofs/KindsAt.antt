@@ -1,27 +1,24 @@
 -- What stands at the paths of a tree: only directories above a directory.
-use Rattle.std.proofs.Common.{◌≡◌, ◌+◌, ℕ, true, false, cond, ◌||◌, not, nat_eq, nat_le, List, [], ◌∷◌, ◌++◌, append_assoc, length, length-append, refl, ap, sym, subst, ◌∙◌, Option, Some, None, unwrap_or, Result, Ok, Err, arith}
+use Rattle.std.proofs.Common.{◌≡◌, ℕ, true, false, cond, ◌||◌, not, nat_eq, List, [], ◌∷◌, ◌++◌, append_assoc, refl, ap, sym, subst, ◌∙◌, Option, Some, None, unwrap_or, Result, Ok, Err, arith}
 use Rattle.std.proofs.Math.Bool.{or-true}
-use Rattle.std.proofs.lemmas.Bool.{and_from, and_parts}
 use Rattle.std.proofs.lemmas.Bool.Decides.{nat_tests}
-use Rattle.std.proofs.lemmas.List.Folds.{list_all-append}
 use Rattle.std.proofs.lemmas.Slice.Eq.{bytes_eq-Decides}
 use Rattle.std.specs.Result.{IfOk, MatchResult}
-use Rattle.std.specs.List.{list_all, slice_split, starts_with}
+use Rattle.std.specs.List.{starts_with}
 use Rattle.std.specs.Str.{bytes_eq}
 use Rattle.lib_types.proofs.Bools.{not_true}
 use Rattle.lib_types.proofs.SortedPairs.{by_test}
-use Rattle.lib_types.specs.Name.{is_name, slash}
+use Rattle.lib_types.specs.Name.{slash}
 use Rattle.image_tree.proofs.Above.{clash_above, clash_below, found_any, found_passes}
 use Rattle.image_tree.proofs.Below.{below_from, below_is, not_root}
+use Rattle.image_tree.proofs.Prefixes.{path_above}
 use Rattle.image_tree.specs.Index.{has_file_above}
 use Rattle.image_tree.specs.Node.{is_dir}
 use Rattle.image_tree.specs.Paths.{is_below, is_path, is_slash, root}
 use Rattle.image_tree.specs.Tree.{Nodes, IsTree, clashes, has_below, kind_at, kind_of, kind_there, node_at}
 use Rattle.image_tree.specs.declared.node.Node.{Node}
 use Rattle.image_tree.specs.declared.node.Node.TheVariants as node
-use Rattle.image_tree.specs.declared.path.TheConstants.{PATH_MAX}
 use Rattle.image_tree.specs.declared.tree.Kind.TheVariants.{Absent, Dir}
-use Rattle.path_walk.proofs.Joining.{parts_joined}
 use Rattle.path_walk.specs.Names.{before_last, more_before, parent, unless_empty}
 use Rattle.path_walk.specs.Stops.{EndsAt, HaltsAt, KeepsDir, LinkIsLeft}
 use Rattle.path_walk.specs.Walk.{start_of}
@@ -106,20 +103,6 @@ module _ (t : Nodes) (tree : IsTree t) where
           (λ b. let z : Absent ≡ Dir = sym (ap (kind_there None) b) ∙ d in absurd (cc))
 
 -- ---- the path of a directory above
-
--- a path without its last names is a path
-pub path_above : (p rest : List ℕ) → (p ≡ [] → ⊥) → is_path (p ++ slash ∷ rest) ≡ true → is_path p ≡ true
-path_above [] rest some h = absurd (some refl)
-path_above (x ∷ p) rest some h =
-    let parts = and_parts _ _ h in
-    let first = and_parts (nat_le (length ((x ∷ p) ++ slash ∷ rest)) PATH_MAX) _ parts.0 in
-    let size = length-append (x ∷ p) (slash ∷ rest) in
-    let short : nat_le (length (x ∷ p)) PATH_MAX ≡ true = shorter (length (x ∷ p)) (length (slash ∷ rest)) (sym (ap (λ n. nat_le n PATH_MAX) size) ∙ first.0) in
-    let split = sym (list_all-append is_name (slice_split is_slash p) (slice_split is_slash rest)) ∙ sym (ap (list_all is_name) (parts_joined p rest)) ∙ parts.1 in
-    and_from _ _ (and_from _ _ short first.1) (and_parts _ _ split).0
-  where
-    shorter : (a b : ℕ) → nat_le (a + b) PATH_MAX ≡ true → nat_le a PATH_MAX ≡ true
-    shorter a b h = grind (arith, nat_tests)
 
 cut_last : (xs front : List ℕ) → before_last xs ≡ Some front → (n : List ℕ) × (xs ≡ front ++ slash ∷ n)
 cut_last [] front e = absurd (cc)

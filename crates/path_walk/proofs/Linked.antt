@@ -13,6 +13,7 @@ use Rattle.lib_types.proofs.SortedPairs.{by_test}
 use Rattle.lib_types.specs.Name.{are_dots, have_no_slash, is_name, slash}
 use Rattle.image_tree.proofs.Above.{found_entry}
 use Rattle.image_tree.proofs.Below.{below_from, not_root}
+use Rattle.image_tree.proofs.Prefixes.{path_above}
 use Rattle.image_tree.specs.Paths.{are_names, components, folder, is_kept, is_path, is_slash, root, stem, join}
 use Rattle.image_tree.specs.Tree.{Nodes, IsTree, kind_at, kind_of, node_at}
 use Rattle.image_tree.specs.declared.node.Id.{Id}
@@ -21,7 +22,7 @@ use Rattle.image_tree.specs.declared.node.Node.TheVariants as node
 use Rattle.image_tree.specs.declared.path.TheConstants.{PATH_MAX}
 use Rattle.image_tree.specs.declared.tree.Kind.TheVariants as kinds
 use Rattle.path_walk.proofs.Joining.{names_joined}
-use Rattle.path_walk.proofs.KindsAt.{at_none, dir_above, kind_of_node, path_above}
+use Rattle.path_walk.proofs.KindsAt.{at_none, dir_above, kind_of_node}
 use Rattle.path_walk.specs.Names.{parent}
 use Rattle.path_walk.specs.Walk.{Ends, Follows, at_child, at_file, at_link, resolution, start_of, steps, target_at, target_in, walk}
 use Rattle.path_walk.specs.declared.walk.Mode.{Mode}

@@ -81,28 +81,29 @@ enum Child<'t> {
     Link(&'t [u8]),
 }
 
-// What stands at a place without a node: a directory if something lies below it.
+// What stands at a place without a node, which is of this kind: a directory if something lies below it.
 #[tactic(auto, using(crate::proofs::KindsAt::absent_else))]
-fn dir_at<'t>(tree: &'t Tree, place: &[u8]) -> Option<Child<'t>>
-    requires { node_at tree.now place.now ≡ None }
+fn child_by<'t>(tree: &'t Tree, place: &[u8], kind: Kind) -> Option<Child<'t>>
+    requires none { node_at tree.now place.now ≡ None }
+    requires kind { kind ≡ kind_at tree.now place.now }
     ensures { MatchOption result (kind_at tree.now place.now ≡ kinds.Absent) (IsAt tree.now place.now) }
 {
-    match tree.kind(place) {
+    match kind {
         Kind::Dir => Some(Child::Dir),
         _ => None,
     }
 }
 
-// What stands at a place, by one search if a node does.
+// What stands at a place, by one search.
 #[tactic(auto, using(crate::proofs::KindsAt::kind_of_node))]
 fn child_at<'t>(tree: &'t Tree, place: &[u8]) -> Option<Child<'t>>
     ensures { MatchOption result (kind_at tree.now place.now ≡ kinds.Absent) (IsAt tree.now place.now) }
 {
-    match tree.node(place) {
-        Some(Node::Dir) => Some(Child::Dir),
-        Some(Node::File { .. }) => Some(Child::File),
-        Some(Node::Link { target }) => Some(Child::Link(target.as_bytes())),
-        None => dir_at(tree, place),
+    match tree.node_or_kind(place) {
+        Ok(Node::Dir) => Some(Child::Dir),
+        Ok(Node::File { .. }) => Some(Child::File),
+        Ok(Node::Link { target }) => Some(Child::Link(target.as_bytes())),
+        Err(kind) => child_by(tree, place, kind),
     }
 }
 

@@ -8,21 +8,17 @@ use Rattle.tree_face.specs.Follows.{IsFollowedBy, IsFollowedByPart}
 use Rattle.tree_face.specs.Known.{IfKnown}
 use Rattle.tree_face.specs.Store.{Contents, StoreState}
 use Rattle.tree_face.specs.Stream.{SinkState}
-use Rattle.sample_runs.specs.Images.{first_image, second_image}
 use Rattle.sample_runs.specs.Run.{RunEnds, WritesText, own_status, sample_contents}
 use Rattle.sample_runs.specs.Sample.{IsTextOf, SampleEnds, Writes}
-use Rattle.sample_runs.specs.Updates.{IsHonest}
 
 module _ (n : ℕ) (store after_store : StoreState) (disk after_disk : DiskState) (out after : SinkState) (content : DiskContent)
     (held : store.held ≡ Some (sample_contents n)) (known : disk.contents ≡ Some content) where
-  abbrev IsText : List ℕ → UpdateTexts → UpdateTexts → Contents → Type 0
-  IsText text first second held = IsHonest held (first_image n) → IsHonest held (second_image held n) → IsTextOf held n text first second
-
-  text_is : (text : List ℕ) (first second : UpdateTexts) → IfKnown store.held (λ held. IfKnown disk.contents (λ _. IsText text first second held)) → IsText text first second (sample_contents n)
+  text_is : (text : List ℕ) (first second : UpdateTexts) → IfKnown store.held (λ held. IfKnown disk.contents (λ _. IsTextOf held n text first second))
+      → IsTextOf (sample_contents n) n text first second
   text_is text first second is =
-      let there : IfKnown disk.contents (λ _. IsText text first second (sample_contents n)) =
-      subst (λ (k : Option Contents). IfKnown k (λ held. IfKnown disk.contents (λ _. IsText text first second held))) held is in
-      subst (λ (c : Option DiskContent). IfKnown c (λ _. IsText text first second (sample_contents n))) known there
+      let there : IfKnown disk.contents (λ _. IsTextOf (sample_contents n) n text first second) =
+      subst (λ (k : Option Contents). IfKnown k (λ held. IfKnown disk.contents (λ _. IsTextOf held n text first second))) held is in
+      subst (λ (c : Option DiskContent). IfKnown c (λ _. IsTextOf (sample_contents n) n text first second)) known there
 
   writes : (P : List ℕ → List ℕ → List ℕ → Type 0) → Writes P n store.held disk after_disk out after → WritesText P n out after
   writes P w = record { text = w.text; first = w.is.first; second = w.is.second; is = text_is w.text w.is.first w.is.second w.is.is; written = w.written }

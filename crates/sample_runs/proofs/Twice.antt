@@ -14,6 +14,7 @@ use Rattle.tree_face.specs.Disk.{DiskContent, DiskState}
 use Rattle.tree_face.specs.Known.{IfKnown, Relates}
 use Rattle.tree_face.specs.Store.{Contents, StoreState}
 use Rattle.sample_runs.proofs.Edited.{first_edited, replaced_edited, writes_all}
+use Rattle.sample_runs.proofs.Honest.{first_honest, second_honest}
 use Rattle.sample_runs.proofs.Updating.{Leaves, risen_since}
 use Rattle.sample_runs.specs.declared.updates.SampleUpdate.{SampleUpdate}
 use Rattle.sample_runs.specs.Images.{all_replaced, first_image, second_image}
@@ -39,12 +40,11 @@ module _ (n : ℕ) (updated image : Loaded) (first second : SampleUpdate) (store
   }
 
   made : (held : Contents) → (IsHonest held (first_image n) → IsUpdateOf held (first_image n) one.texts (updated, first))
-      → (IsHonest held (all_replaced n updated) → IsUpdateOf held (all_replaced n updated) two.texts (image, second))
-      → IsHonest held (first_image n) → IsHonest held (second_image held n) → AreUpdatesOf held n one.texts two.texts (first, second)
-  made held first_update second_update first_honest second_honest =
-      let before = first_update first_honest in
+      → (IsHonest held (all_replaced n updated) → IsUpdateOf held (all_replaced n updated) two.texts (image, second)) → AreUpdatesOf held n one.texts two.texts (first, second)
+  made held first_update second_update =
+      let before = first_update (first_honest held n) in
       let same : all_replaced n updated ≡ second_image held n = second_is held n updated before.image_is in
-      let after = second_update (subst (λ (s : Loaded). IsHonest held s) (sym same) second_honest) in
+      let after = second_update (subst (λ (s : Loaded). IsHonest held s) (sym same) (second_honest held n)) in
       let again = subst (λ (s : Loaded). IsUpdateOf held s two.texts (image, second)) same after in
       record {
         first_are = before.texts_are;
@@ -55,11 +55,11 @@ module _ (n : ℕ) (updated image : Loaded) (first second : SampleUpdate) (store
         second_numbers = again.numbers;
       }
 
-  honest : (known : Option Contents) → IfKnown known (λ held. IsHonest held (first_image n) → IsUpdateOf held (first_image n) one.texts (updated, first))
+  are : (known : Option Contents) → IfKnown known (λ held. IsHonest held (first_image n) → IsUpdateOf held (first_image n) one.texts (updated, first))
       → IfKnown known (λ held. IsHonest held (all_replaced n updated) → IsUpdateOf held (all_replaced n updated) two.texts (image, second))
-      → IfKnown known (λ held. IsHonest held (first_image n) → IsHonest held (second_image held n) → AreUpdatesOf held n one.texts two.texts (first, second))
-  honest None first_update second_update = tt
-  honest (Some held) first_update second_update = made held first_update second_update
+      → IfKnown known (λ held. AreUpdatesOf held n one.texts two.texts (first, second))
+  are None first_update second_update = tt
+  are (Some held) first_update second_update = made held first_update second_update
 
   pub both : UpdatesTwice n (first, second) store disk after_disk
   both = record {
@@ -68,7 +68,7 @@ module _ (n : ℕ) (updated image : Loaded) (first second : SampleUpdate) (store
     written = written;
     first_cache = one.cache;
     second_cache = later (second.cache ≡ two.texts.cache) one.texts disk.contents middle.contents one.slots two.cache;
-    honest = honest store.held one.honest
+    are = are store.held one.honest
         (subst (λ (known : Option Contents). IfKnown known (λ held. IsHonest held (all_replaced n updated) → IsUpdateOf held (all_replaced n updated) two.texts (image, second))) goes.held two.honest);
   }
 
@@ -77,14 +77,14 @@ module _ (n : ℕ) (updated image : Loaded) (first second : SampleUpdate) (store
 -- the first update fails
 lacks_first : (n : ℕ) (known : Option Contents) → Lacks known (first_image n) → LacksFile n known
 lacks_first n None lacks = absurd lacks
-lacks_first n (Some held) lacks = λ honest. inl lacks
+lacks_first n (Some held) lacks = inl lacks
 
 -- the second update fails
 lacks_second : (n : ℕ) (updated : Loaded) (first : SampleUpdate) (texts : UpdateTexts) (known : Option Contents)
     → IfKnown known (λ held. IsHonest held (first_image n) → IsUpdateOf held (first_image n) texts (updated, first)) → Lacks known (all_replaced n updated) → LacksFile n known
 lacks_second n updated first texts None is lacks = absurd lacks
-lacks_second n updated first texts (Some held) is lacks = λ honest.
-    inr (subst (λ (s : Loaded). lacks_some held s.tree ≡ true) (second_is held n updated (is honest).image_is) lacks)
+lacks_second n updated first texts (Some held) is lacks =
+    inr (subst (λ (s : Loaded). lacks_some held s.tree ≡ true) (second_is held n updated (is (first_honest held n)).image_is) lacks)
 
 module _ (n : ℕ) (store after_store : StoreState) (disk after_disk : DiskState) where
   pub first_fails : (status : Status) → UpdateFails (first_image n) status store after_store disk after_disk → SampleFails n status store after_store disk after_disk

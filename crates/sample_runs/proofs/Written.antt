@@ -4,10 +4,9 @@ use Rattle.tree_face.specs.Disk.{DiskContent, DiskState}
 use Rattle.tree_face.specs.Known.{IfKnown}
 use Rattle.tree_face.specs.Store.{Contents, StoreState}
 use Rattle.sample_runs.specs.declared.updates.SampleUpdate.{SampleUpdate}
-use Rattle.sample_runs.specs.Images.{first_image, second_image}
 use Rattle.sample_runs.specs.Sample.{IsSample, IsTextOf}
 use Rattle.sample_runs.specs.Text.{sample_text, text_with}
-use Rattle.sample_runs.specs.Updates.{AreUpdatesOf, IsHonest, UpdatesTwice}
+use Rattle.sample_runs.specs.Updates.{AreUpdatesOf, UpdatesTwice}
 
 module _ (n : ℕ) (first second : SampleUpdate) (store : StoreState) (disk after_disk : DiskState) (u : UpdatesTwice n (first, second) store disk after_disk) where
   same_text : (held : Contents) → AreUpdatesOf held n u.first u.second (first, second) → first.cache ≡ u.first.cache → second.cache ≡ u.second.cache
@@ -19,24 +18,21 @@ module _ (n : ℕ) (first second : SampleUpdate) (store : StoreState) (disk afte
       rw (a.libs, a.links, a.opened, b.libs, b.links, b.opened, one, two) refl
 
   by : (known : Option Contents) (content : Option DiskContent) → IfKnown content (λ _. first.cache ≡ u.first.cache) → IfKnown content (λ _. second.cache ≡ u.second.cache)
-      → IfKnown known (λ held. IsHonest held (first_image n) → IsHonest held (second_image held n) → AreUpdatesOf held n u.first u.second (first, second))
-      → IfKnown known (λ held. IfKnown content (λ _. IsHonest held (first_image n) → IsHonest held (second_image held n) → IsTextOf held n (text_with n first second) u.first u.second))
+      → IfKnown known (λ held. AreUpdatesOf held n u.first u.second (first, second)) → IfKnown known (λ held. IfKnown content (λ _. IsTextOf held n (text_with n first second) u.first u.second))
   by None content one two made = tt
   by (Some held) None one two made = tt
-  by (Some held) (Some c) one two made = λ first_honest second_honest.
-      let are = made first_honest second_honest in
-      record {
-        first_are = are.first_are;
-        second_are = are.second_are;
-        first_all = are.first_all;
-        second_all = are.second_all;
-        text_is = same_text held are one two;
-      }
+  by (Some held) (Some c) one two made = record {
+    first_are = made.first_are;
+    second_are = made.second_are;
+    first_all = made.first_all;
+    second_all = made.second_all;
+    text_is = same_text held made one two;
+  }
 
   pub is_sample : IsSample n (text_with n first second) store.held disk after_disk
   is_sample = record {
     first = u.first;
     second = u.second;
     written = u.written;
-    is = by store.held disk.contents u.first_cache u.second_cache u.honest;
+    is = by store.held disk.contents u.first_cache u.second_cache u.are;
   }

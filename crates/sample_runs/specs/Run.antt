@@ -11,9 +11,7 @@ use Rattle.tree_face.specs.Store.{Contents}
 use Rattle.tree_face.specs.Stream.{SinkState}
 use Rattle.sample_runs.specs.declared.files.SampleFile.{SampleFile}
 use Rattle.sample_runs.specs.Files.{content, key, sample_files}
-use Rattle.sample_runs.specs.Images.{first_image, second_image}
 use Rattle.sample_runs.specs.Sample.{IsTextOf}
-use Rattle.sample_runs.specs.Updates.{IsHonest}
 
 abbrev pub pair_of : SampleFile → Pair
 pair_of file = (key file, content file)
@@ -22,12 +20,12 @@ pair_of file = (key file, content file)
 unfoldable pub sample_contents : ℕ → Contents
 sample_contents n = held_in (map pair_of (sample_files n))
 
--- the text of the sample of these contents, if both images are honest, follows what was written, in full or as this relation says
+-- the text of the sample of these contents follows what was written, in full or as this relation says
 pub record WritesText (P : List ℕ → List ℕ → List ℕ → Type 0) (n : ℕ) (out after : SinkState) : Type 0 where
   pub text : List ℕ
   pub first : UpdateTexts
   pub second : UpdateTexts
-  pub is : IsHonest (sample_contents n) (first_image n) → IsHonest (sample_contents n) (second_image (sample_contents n) n) → IsTextOf (sample_contents n) n text first second
+  pub is : IsTextOf (sample_contents n) n text first second
   pub written : Relates (P text) out.written after.written
 
 -- a failure of the store or of the disk is want of memory

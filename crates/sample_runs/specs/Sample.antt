@@ -12,7 +12,7 @@ use Rattle.tree_face.specs.Store.{Contents, StoreState}
 use Rattle.tree_face.specs.Stream.{SinkState}
 use Rattle.sample_runs.specs.Images.{first_image, second_image}
 use Rattle.sample_runs.specs.Text.{sample_text}
-use Rattle.sample_runs.specs.Updates.{AreWritten, IsHonest, SampleFails}
+use Rattle.sample_runs.specs.Updates.{AreWritten, SampleFails}
 
 -- the texts are those of the two updates, each of which writes all three slots if there are libraries, and the text of the sample has their numbers
 pub record IsTextOf (held : Contents) (n : ℕ) (text : List ℕ) (first second : UpdateTexts) : Type 0 where
@@ -22,13 +22,12 @@ pub record IsTextOf (held : Contents) (n : ℕ) (text : List ℕ) (first second 
   pub second_all : 0 < n → slots_of (writes_of second) ≡ update_slots
   pub text_is : text ≡ sample_text held n first.cache second.cache
 
--- two updates are made, and this is the text: that of the sample, where contents are known and both images are honest
+-- two updates are made, and this is the text: that of the sample, where contents are known
 pub record IsSample (n : ℕ) (text : List ℕ) (held : Option Contents) (old new : DiskState) : Type 0 where
   pub first : UpdateTexts
   pub second : UpdateTexts
   pub written : AreWritten first second old new
-  pub is : IfKnown held (λ held. IfKnown old.contents (λ _.
-      IsHonest held (first_image n) → IsHonest held (second_image held n) → IsTextOf held n text first second))
+  pub is : IfKnown held (λ held. IfKnown old.contents (λ _. IsTextOf held n text first second))
 
 -- ---- the statuses, one row for each
 

@@ -87,7 +87,7 @@ pub record AreWritten (first second : UpdateTexts) (old new : DiskState) : Type 
   pub slots : Relates (λ (a b : DiskContent). b.now ≡ slots_after (writes_of second) (slots_after (writes_of first) a.now)) old.contents new.contents
   pub calls : Relates (IsFollowedBy (calls_of sample_tag (writes_of first) ++ calls_of sample_tag (writes_of second))) old.calls new.calls
 
--- of honest images: the texts and the numbers are those of their updates, each of which writes all three slots if there are libraries
+-- the texts and the numbers are those of the updates of both images, each of which writes all three slots if there are libraries
 pub record AreUpdatesOf (held : Contents) (n : ℕ) (first second : UpdateTexts) (numbers : SampleUpdate × SampleUpdate) : Type 0 where
   pub first_are : AreTextsOf held (first_image n) first
   pub second_are : AreTextsOf held (second_image held n) second
@@ -102,12 +102,11 @@ pub record UpdatesTwice (n : ℕ) (numbers : SampleUpdate × SampleUpdate) (stor
   pub written : AreWritten first second disk after_disk
   pub first_cache : IfKnown disk.contents (λ _. numbers.0.cache ≡ first.cache)
   pub second_cache : IfKnown disk.contents (λ _. numbers.1.cache ≡ second.cache)
-  pub honest : IfKnown store.held (λ held. IsHonest held (first_image n) → IsHonest held (second_image held n) → AreUpdatesOf held n first second numbers)
+  pub are : IfKnown store.held (λ held. AreUpdatesOf held n first second numbers)
 
--- a file of one of the two images isn't held, if the first is honest, so that the second is what its update leads to
+-- a file of one of the two images isn't held
 abbrev pub LacksFile : ℕ → Option Contents → Type 0
-LacksFile n known = IsSomeAnd known (λ held. IsHonest held (first_image n)
-    → (lacks_some held (first_image n).tree ≡ true) ⊎ (lacks_some held (second_image held n).tree ≡ true))
+LacksFile n known = IsSomeAnd known (λ held. (lacks_some held (first_image n).tree ≡ true) ⊎ (lacks_some held (second_image held n).tree ≡ true))
 
 -- the count of the device rose, or the store doesn't hold a file of the images
 abbrev pub SampleFails : ℕ → Status → StoreState → StoreState → DiskState → DiskState → Type 0

@@ -67,7 +67,6 @@ fn text_of(
 }
 
 // The updates, and the text.
-#[tactic(auto, using(crate::proofs::Written::is_sample))]
 fn sample<S: Store, D: Disk>(
     alloc: Global,
     n: u16,

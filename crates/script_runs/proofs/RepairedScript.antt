@@ -6,7 +6,7 @@ use Rattle.atomic_replace.specs.Replace.{Write}
 use Rattle.aux_cache.specs.declared.stamps.Stamp.{Stamp}
 use Rattle.image_tree.specs.Tree.{Nodes}
 use Rattle.ldconfig_core.proofs.OneText.{again, one_written}
-use Rattle.ldconfig_core.proofs.Repaired.{manifest_written, one_image}
+use Rattle.ldconfig_core.proofs.Repaired.{aux_written, manifest_written, one_image}
 use Rattle.ldconfig_core.specs.Outcome.{Lacking, Outcome, TooLarge, TooMany, Writes, new_manifest, update_outcome}
 use Rattle.ldconfig_core.specs.Repair.{IsImageIn}
 use Rattle.ldconfig_core.specs.Settled.{AreCachesAgain, AreSettled, IfReads, planned_image}
@@ -87,16 +87,6 @@ either_writes : (xs ys : List Write) (slot : Slot) (b : Content) → IsOfWrites 
 either_writes [] ys slot b is = inr is
 either_writes (x ∷ xs) ys slot b (inl is) = inl (inl is)
 either_writes (x ∷ xs) ys slot b (inr is) = elim (either_writes xs ys slot b is) [ inl first ↦ inl (inr first) | inr second ↦ inr second ]
-
--- what may be in the Aux slot is the text that was written
-aux_written : (manifest : Option (List ℕ)) (cache aux : List ℕ) (b : Content) → IsOfWrites (of_manifest manifest ++ (Cache, cache) ∷ (Aux, aux) ∷ []) Aux b → b ≡ Some aux
-aux_written None cache aux b (inl (e, is)) = absurd (cc)
-aux_written None cache aux b (inr (inl (e, is))) = is
-aux_written None cache aux b (inr (inr none)) = absurd none
-aux_written (Some text) cache aux b (inl (e, is)) = absurd (cc)
-aux_written (Some text) cache aux b (inr (inl (e, is))) = absurd (cc)
-aux_written (Some text) cache aux b (inr (inr (inl (e, is)))) = is
-aux_written (Some text) cache aux b (inr (inr (inr none))) = absurd none
 
 module _ (held : Contents) (slot : Slot) (b : Content) where
   -- an update of one of these images writes it

@@ -14,7 +14,7 @@ use Rattle.lib_types.proofs.SortedPairs.{by_test}
 use Rattle.settled_links.specs.Search.{IsSearchedAlike}
 use Rattle.stamped_files.specs.Opened.{ReadsOpenedBy, opened_keys, stamps_before, unstamped_key}
 use Rattle.stamped_files.specs.Stamped.{stamp_for}
-use Rattle.tree_face.proofs.StoreUse.{reads_as, reads_then}
+use Rattle.tree_face.proofs.StoreUse.{reads_fewer, reads_then}
 use Rattle.tree_face.specs.Store.{Contents, StoreState}
 use Rattle.tree_face.specs.StoreUse.{Ending, Complete, ReadsFiles}
 use Rattle.searched_image.proofs.FilesAgree.{key_same}
@@ -77,19 +77,6 @@ module _ (held : Contents) (t : Nodes) where
 
 -- ---- the reading
 
--- less is said of the keys
-fewer : (l1 l : Type 0) (k : Option (List (List ℕ))) (m : Option ℕ) (e : Ending) (a b : StoreState) → (l1 → l) → ReadsFiles l1 k m e a b → ReadsFiles l None None e a b
-fewer l1 l k m e a b f reads = reads_as None None a b l1 l e f (record {
-  held = reads.held;
-  begins = tt;
-  begun = tt;
-  begun_before = reads.begun_before;
-  taken = tt;
-  taken_before = reads.taken_before;
-  faults = reads.faults;
-  cause = reads.cause;
-})
-
 -- the reading in a store that holds this
 abbrev pub AnyBy : Nodes → Option Contents → Ending → StoreState → StoreState → Type 0
 AnyBy t known e a b = ReadsFiles (IsSomeAnd known (λ held. lacks_some held t ≡ true)) None None e a b
@@ -97,12 +84,12 @@ AnyBy t known e a b = ReadsFiles (IsSomeAnd known (λ held. lacks_some held t �
 module _ (t : Nodes) (loaded : List Stamp) (e : Ending) where
   pub search_any : (known : Option Contents) (a b : StoreState) → SearchBy t loaded known e a b → AnyBy t known e a b
   search_any None a b reads = reads
-  search_any (Some held) a b reads = fewer _ _ _ _ e a b (wanted_some held t loaded) reads
+  search_any (Some held) a b reads = reads_fewer _ _ _ _ e a b (wanted_some held t loaded) reads
 
   behind_any : (known : Option Contents) (new : Nodes) (stamps : List Stamp) (paths : List (List ℕ)) (b c : StoreState) → IsSearchedAlike t new
       → ReadsOpenedBy known (λ held. opened_keys held new stamps paths) e b c → AnyBy t known e b c
   behind_any None new stamps paths b c alike reads = reads
-  behind_any (Some held) new stamps paths b c alike reads = fewer _ _ _ _ e b c (opened_some held t new stamps paths (key_same held t new alike)) reads
+  behind_any (Some held) new stamps paths b c alike reads = reads_fewer _ _ _ _ e b c (opened_some held t new stamps paths (key_same held t new alike)) reads
 
 pub update_any : (t : Nodes) (loaded : List Stamp) (e : Ending) (known : Option Contents) (new : Nodes) (stamps : List Stamp) (paths : List (List ℕ)) (a b c : StoreState) → IsSearchedAlike t new
     → SearchBy t loaded known Complete a b → ReadsOpenedBy known (λ held. opened_keys held new stamps paths) e b c → AnyBy t known e a c

@@ -7,4 +7,4 @@ mod KeysBegun
 mod KnownParts
 pub mod Limits
 mod SearchParts
-mod StampsAgree
+pub mod StampsAgree

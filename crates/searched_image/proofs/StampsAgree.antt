@@ -31,7 +31,7 @@ module _ (held : Contents) (t new : Nodes) (alike : IsSearchedAlike t new) where
   pub true_new : (stamps : List Stamp) → AreTrue held t stamps → AreTrue held new stamps
   true_new = true_in held t new (id_same held t new alike) (content_same held t new alike)
 
-  stamp_same : stamp_at held new ≡ stamp_at held t
+  pub stamp_same : stamp_at held new ≡ stamp_at held t
   stamp_same = agree (stamp_at held new) (stamp_at held t)
       (λ path. ap (λ i. stamp_by i (what_is held new path)) (id_same held t new alike path) ∙ ap (λ w. stamp_by (id_at t path) w) (what_same held t new alike path))
 

@@ -16,11 +16,12 @@ use Rattle.std.specs.Str.{bytes_eq}
 use Rattle.lib_types.proofs.Bools.{not_true}
 use Rattle.lib_types.proofs.SortedPairs.{by_test}
 use Rattle.lib_types.specs.Name.{have_no_slash, is_name, slash}
-use Rattle.path_walk.proofs.KindsAt.{at_none, at_path, at_root, path_above}
+use Rattle.path_walk.proofs.KindsAt.{at_none, at_path, at_root}
 use Rattle.path_walk.proofs.Linked.{name_alone, some_join}
 use Rattle.image_tree.proofs.Above.{found_any}
 use Rattle.image_tree.proofs.Below.{below_from, below_is}
 use Rattle.image_tree.proofs.Order.{path_total}
+use Rattle.image_tree.proofs.Prefixes.{path_above}
 use Rattle.image_tree.proofs.Rising.{below_rest, first_name, name_ended, name_goes_on}
 use Rattle.image_tree.specs.Paths.{folder, is_below, is_path, is_slash, join, name_behind, path_cmp, root, stem}
 use Rattle.image_tree.specs.Tree.{Nodes, children_of, has_below, is_entry, kind_at, kind_there, names_below, node_at, of_dir}

@@ -15,8 +15,8 @@ use Rattle.found_files.proofs.InOrder.{ascending_sorted, in_ascending}
 use Rattle.soname_links.proofs.Grouped.{best_grouped}
 use Rattle.found_files.proofs.Members.{is_in, kept_in, same_members}
 use Rattle.found_files.specs.Best.{best, has_soname, is_preferred, sonames}
-use Rattle.soname_links.specs.Marks.{is_odd, mark, mixed_among, odd_soname}
-use Rattle.soname_links.specs.Survey.{group_at, group_with, groups, grown, mixed_of, with_library}
+use Rattle.soname_links.specs.Marks.{is_odd, mixed_among, odd_soname}
+use Rattle.soname_links.specs.Survey.{group_at, group_with, groups, grown, mixed_soname, with_library}
 use Rattle.soname_links.specs.declared.groups.Group.{Group}
 use Rattle.found_files.specs.Library.{Library}
 
@@ -146,31 +146,29 @@ module _ (z : List ℕ) where
         ]))
 
 module _ (libraries : List Library) where
-  abbrev mixed_at : List ℕ → Bool
-  mixed_at soname = is_mixed (group_at libraries soname)
+  abbrev is_mixed_at : List ℕ → Bool
+  is_mixed_at soname = is_mixed (group_at libraries soname)
 
-  those_mixed : filter mixed_at (sonames libraries) ≡ mixed_among libraries
-  those_mixed = same_members (filter mixed_at (sonames libraries)) (mixed_among libraries)
-      (IsStrictlySortedBy-filter (slice_cmp nat_cmp) mixed_at (sonames libraries) (ascending_sorted (map (λ library. library.soname) libraries)))
+  those_mixed : filter is_mixed_at (sonames libraries) ≡ mixed_among libraries
+  those_mixed = same_members (filter is_mixed_at (sonames libraries)) (mixed_among libraries)
+      (IsStrictlySortedBy-filter (slice_cmp nat_cmp) is_mixed_at (sonames libraries) (ascending_sorted (map (λ library. library.soname) libraries)))
       (ascending_sorted (filter_map (λ library. odd_soname (best libraries library.soname) library) libraries))
       (λ z.
-      kept_in mixed_at z (sonames libraries) ∙ ap (λ b. mixed_at z && b) (in_ascending (map (λ library. library.soname) libraries) z ∙ soname_there z libraries)
+      kept_in is_mixed_at z (sonames libraries) ∙ ap (λ b. is_mixed_at z && b) (in_ascending (map (λ library. library.soname) libraries) z ∙ soname_there z libraries)
       ∙ group_mixed (filter (has_soname z) libraries)
       ∙ ap (λ o. list_any (is_odd o) (filter (has_soname z) libraries)) (sym (best_grouped libraries z))
       ∙ sym (in_ascending (filter_map (λ library. odd_soname (best libraries library.soname) library) libraries) z ∙ odd_there z (best libraries) libraries))
 
-  module _ (number : ℕ) where
-    marks_of : (names : List (List ℕ))
-        → filter_map (mixed_of number) (filter_map (group_with libraries) names) ≡ map (mark number) (filter mixed_at names)
-    marks_of [] = refl
-    marks_of (soname ∷ names) = elim (group_at libraries soname) as (λ o.
-        filter_map (mixed_of number) (cons_option (option_map (λ group. (soname, group)) o) (filter_map (group_with libraries) names))
-        ≡ map (mark number) (cond (is_mixed o) (soname ∷ filter mixed_at names) (filter mixed_at names))) [
-          | None ↦ marks_of names
-          | Some group ↦ elim group.mixed as (λ b.
-              cons_option (cond b (Some (mark number soname)) None) (filter_map (mixed_of number) (filter_map (group_with libraries) names))
-              ≡ map (mark number) (cond b (soname ∷ filter mixed_at names) (filter mixed_at names))) [ true ↦ ap (λ ms. mark number soname ∷ ms) (marks_of names) | false ↦ marks_of names ]
-        ]
+  sonames_of : (names : List (List ℕ)) → filter_map mixed_soname (filter_map (group_with libraries) names) ≡ filter is_mixed_at names
+  sonames_of [] = refl
+  sonames_of (soname ∷ names) = elim (group_at libraries soname) as (λ o.
+      filter_map mixed_soname (cons_option (option_map (λ group. (soname, group)) o) (filter_map (group_with libraries) names))
+      ≡ cond (is_mixed o) (soname ∷ filter is_mixed_at names) (filter is_mixed_at names)) [
+        | None ↦ sonames_of names
+        | Some group ↦ elim group.mixed as (λ b.
+            cons_option (cond b (Some soname) None) (filter_map mixed_soname (filter_map (group_with libraries) names))
+            ≡ cond b (soname ∷ filter is_mixed_at names) (filter is_mixed_at names)) [ true ↦ ap (λ rest. soname ∷ rest) (sonames_of names) | false ↦ sonames_of names ]
+      ]
 
-    pub mixed_given : filter_map (mixed_of number) (groups libraries) ≡ map (mark number) (mixed_among libraries)
-    mixed_given = marks_of (sonames libraries) ∙ ap (map (mark number)) those_mixed
+  pub mixed_given : filter_map mixed_soname (groups libraries) ≡ mixed_among libraries
+  mixed_given = sonames_of (sonames libraries) ∙ those_mixed

@@ -4,7 +4,7 @@ use Rattle.std.proofs.lemmas.List.Splits.{slice_split-cons_no, slice_split-cons_
 use Rattle.std.specs.List.{AllByRecursion, onto_first, slice_split}
 use Rattle.lib_types.proofs.SortedPairs.{by_test}
 use Rattle.image_tree.specs.Paths.{components, is_kept, is_slash, join, root, stem}
-use Rattle.path_walk.proofs.Joining.{parts_joined}
+use Rattle.image_tree.proofs.Prefixes.{parts_joined}
 use Rattle.found_files.specs.Libraries.{last_name}
 
 -- the text has no slash

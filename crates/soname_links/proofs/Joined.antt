@@ -6,7 +6,7 @@ use Rattle.std.specs.List.{list_all, slice_split, starts_with}
 use Rattle.std.specs.Str.{bytes_eq}
 use Rattle.lib_types.proofs.Bools.{and_false}
 use Rattle.lib_types.specs.Name.{have_no_slash, is_name, slash}
-use Rattle.path_walk.proofs.Joining.{parts_joined}
+use Rattle.image_tree.proofs.Prefixes.{parts_joined}
 use Rattle.path_walk.proofs.Linked.{IsFolder, join_below, name_alone}
 use Rattle.image_tree.specs.Paths.{are_names, is_path, is_slash, join, root, stem}
 use Rattle.image_tree.specs.declared.path.TheConstants.{PATH_MAX}

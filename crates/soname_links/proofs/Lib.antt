@@ -16,4 +16,5 @@ pub mod Rooms
 mod Settled
 mod Spots
 mod Stays
+mod Summed
 mod Targets

@@ -1,5 +1,5 @@
 -- What private functions say of a place's libraries by their sonames, and of what each soname gives.
-use Rattle.std.specs.Prelude.{ℕ, false, List, ◌||◌, if◌then◌else◌, filter, fold, map, Option, Some, None}
+use Rattle.std.specs.Prelude.{ℕ, false, List, [], ◌||◌, if◌then◌else◌, filter, fold, map, Option, Some, None}
 use Rattle.std.specs.List.{filter_map}
 use Rattle.std.specs.Option.{option_map}
 use Rattle.std.specs.Str.{bytes_eq}
@@ -7,8 +7,10 @@ use Rattle.hwcap_dirs.specs.declared.kinds.Place.{Place}
 use Rattle.image_tree.specs.Tree.{Nodes}
 use Rattle.image_tree.specs.declared.node.Node.{Node}
 use Rattle.image_tree.specs.declared.node.Node.TheVariants as nodes
-use Rattle.found_files.specs.Best.{has_soname, is_preferred, sonames}
-use Rattle.soname_links.specs.Marks.{blocked_for, is_odd, mark}
+use Rattle.found_files.specs.Best.{bests, has_soname, is_preferred, sonames}
+use Rattle.found_files.specs.Analyses.{Analyses}
+use Rattle.found_files.specs.Libraries.{libraries_at}
+use Rattle.soname_links.specs.Marks.{blocked_for, is_odd, mixed_among}
 use Rattle.soname_links.specs.Plan.{is_blocked, link_for}
 use Rattle.found_files.specs.Places.{is_plain, links_to}
 use Rattle.soname_links.specs.declared.groups.Group.{Group}
@@ -57,11 +59,25 @@ spot_by file (nodes.Link target) = if bytes_eq target file then Linked else Free
 spot_by file nodes.Dir = Blocked
 spot_by file (nodes.File key id) = Blocked
 
-abbrev pub planned_of : Nodes → ℕ → Place → List ℕ × Group → Option Planned
-planned_of t number place e = if is_plain place then link_for t number place e.1.best else None
+-- the links of a place, given the best libraries of its folder
+abbrev pub links_by : Nodes → ℕ → Place → List Library → List Planned
+links_by t number place bests = if is_plain place then filter_map (link_for t number place) bests else []
 
-abbrev pub blocked_of : Nodes → ℕ → Place → List ℕ × Group → Option Mark
-blocked_of t number place e = if is_plain place then blocked_for t number place e.1.best else None
+abbrev pub blocked_by : Nodes → ℕ → Place → List Library → List Mark
+blocked_by t number place bests = if is_plain place then filter_map (blocked_for t number place) bests else []
 
-abbrev pub mixed_of : ℕ → List ℕ × Group → Option Mark
-mixed_of number e = if e.1.mixed then Some (mark number e.0) else None
+abbrev pub mixed_soname : List ℕ × Group → Option (List ℕ)
+mixed_soname e = if e.1.mixed then Some e.0 else None
+
+-- ---- what folders give
+
+-- the best libraries of a folder, and the mixed sonames there
+abbrev pub bests_at : Analyses → Nodes → List ℕ → List Library
+bests_at what t folder = bests (libraries_at what t folder)
+
+abbrev pub mixed_at : Analyses → Nodes → List ℕ → List (List ℕ)
+mixed_at what t folder = mixed_among (libraries_at what t folder)
+
+-- the mixed sonames of a place
+abbrev pub mixed_sonames : Analyses → Nodes → Place → List (List ℕ)
+mixed_sonames what t place = mixed_at what t place.real

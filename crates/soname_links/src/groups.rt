@@ -1,12 +1,11 @@
-//! The libraries of a place by their sonames.
+//! The libraries of a folder by their sonames.
 ghost use Rattle.std.specs.Prelude.{◌≡◌, Some, IfOk};
-ghost use Rattle.found_files.specs.Libraries.{libraries_in};
+ghost use Rattle.found_files.specs.Libraries.{libraries_at};
 ghost use Rattle.soname_links.specs.Marks.{is_odd};
 ghost use Rattle.soname_links.specs.Survey.{groups, keyed, with_library};
 ghost use Rattle.found_files.specs.Table.{analysis_at};
 
-use found_files::{BySoname, Gather, Library, Table, gather_by_soname, is_preferred, libraries_in};
-use hwcap_dirs::Place;
+use found_files::{BySoname, Gather, Library, Table, gather_by_soname, is_preferred, libraries_at};
 use lib_types::NoMemory;
 use std::alloc::Global;
 use tree_face::Tree;
@@ -64,16 +63,16 @@ fn by_sonames<'a>(
     Ok(items)
 }
 
-/// The libraries of a place by their sonames.
+/// The libraries of a folder by their sonames.
 pub(crate) fn groups_in<'a>(
     alloc: Global,
     tree: &'a Tree,
     table: &'a Table,
-    place: &Place,
+    folder: &[u8],
 ) -> Result<Groups<'a>, NoMemory>
-    ensures { IfOk result (λ found. found.items ≡ groups (libraries_in (analysis_at table.now) tree.now place.now)) }
+    ensures { IfOk result (λ found. found.items ≡ groups (libraries_at (analysis_at table.now) tree.now folder.now)) }
 {
-    let libraries = libraries_in(alloc, tree, table, place)?;
+    let libraries = libraries_at(alloc, tree, table, folder)?;
     let items = by_sonames(alloc, libraries)?;
     let groups = gather_by_soname(alloc, items)?;
     Ok(groups)

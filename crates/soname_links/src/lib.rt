@@ -7,6 +7,7 @@ mod groups;
 pub mod kinds;
 mod marks;
 mod planning;
+mod summary;
 mod surveying;
 mod winners;
 

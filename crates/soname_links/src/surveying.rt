@@ -1,18 +1,18 @@
 //! What is planned and what is reported of the places.
-ghost use Rattle.std.specs.Prelude.{◌≡◌, ◌∷◌, ◌++◌, [], IfOk, IsTrue, OnOk};
+ghost use Rattle.std.specs.Prelude.{◌≡◌, ◌∷◌, ◌++◌, [], IfOk, IsTrue, OnOk, map};
 ghost use Rattle.std.specs.List.{filter_map};
 ghost use Rattle.hwcap_dirs.specs.Places.{are_dirs};
 ghost use Rattle.soname_links.specs.Apply.{are_clear, is_plan};
-ghost use Rattle.soname_links.specs.Marks.{blocked, blocked_for, blocked_in, mark, mixed, mixed_in};
-ghost use Rattle.soname_links.specs.Plan.{is_regarded, is_taken, link_for, links, links_in};
-ghost use Rattle.soname_links.specs.Survey.{blocked_of, mixed_of, planned_of, spot_at, spot_by};
-ghost use Rattle.found_files.specs.Best.{bests_in, bests_of};
+ghost use Rattle.soname_links.specs.Marks.{blocked, blocked_for, mark, mixed};
+ghost use Rattle.soname_links.specs.Plan.{is_regarded, is_taken, link_for, links};
+ghost use Rattle.soname_links.specs.Survey.{blocked_by, links_by, spot_at, spot_by};
+ghost use Rattle.found_files.specs.Best.{bests_of};
 ghost use Rattle.found_files.specs.Analyses.{HaveNames};
 ghost use Rattle.found_files.specs.Table.{analysis_at};
 
-use crate::groups::{Group, groups_in};
-use crate::kinds::{Mark, Planned, Survey};
-use found_files::{BestLibrary, BySoname, Library, Table, is_own, is_plain};
+use crate::kinds::{Mark, Marks, Plan, Planned, Survey};
+use crate::summary::summaries_of;
+use found_files::{BestLibrary, Library, Shared, Table, is_own, is_plain, over, real_folders};
 use hwcap_dirs::{Dirs, Place};
 use lib_types::{NoMemory, Seq, Text};
 use name_order::is_library_name;
@@ -29,6 +29,14 @@ enum Spot {
     Linked,
     /// Nothing is there, or a link with another text.
     Free,
+}
+
+// What is planned for places, and what is reported of them.
+#[derive(Drop)]
+struct Marked {
+    plan: Plan,
+    blocked: Marks,
+    mixed: Marks,
 }
 
 // Whether the best library of its soname wants a link.
@@ -113,107 +121,121 @@ fn add_wanted(
     place: &Place,
     best: &Library<'_>,
     path: &mut Vec<u8>,
-    survey: &mut Survey,
+    found: &mut Marked,
 ) -> Result<(), NoMemory>
-    ensures plan { OnOk result (survey.new.plan ≡ survey.old.plan ++ filter_map (link_for tree.now number place.now) (best.now ∷ [])) }
-    ensures blocked { OnOk result (survey.new.blocked ≡ survey.old.blocked ++ filter_map (blocked_for tree.now number place.now) (best.now ∷ [])) }
-    ensures mixed { OnOk result (survey.new.mixed ≡ survey.old.mixed) }
-    ensures bests { OnOk result (survey.new.bests ≡ survey.old.bests) }
+    ensures plan { OnOk result (found.new.plan ≡ found.old.plan ++ filter_map (link_for tree.now number place.now) (best.now ∷ [])) }
+    ensures blocked { OnOk result (found.new.blocked ≡ found.old.blocked ++ filter_map (blocked_for tree.now number place.now) (best.now ∷ [])) }
+    ensures mixed { OnOk result (found.new.mixed ≡ found.old.mixed) }
 {
     if !is_regarded(best) {
         return Ok(());
     }
     join_into(path, place.real.as_bytes(), best.soname)?;
     match spot_at(tree, path, best.name) {
-        Spot::Blocked => survey.blocked.push(mark(alloc, number, best.soname)?)?,
+        Spot::Blocked => found.blocked.push(mark(alloc, number, best.soname)?)?,
         Spot::Linked => {}
-        Spot::Free => survey.plan.push(planned(alloc, number, best, path)?)?,
+        Spot::Free => found.plan.push(planned(alloc, number, best, path)?)?,
     }
     Ok(())
 }
 
-// Adds what the libraries of a soname give. The path is room for that of a link.
-fn add_group(
+// Adds the links and the marks for the best libraries of a place, by their sonames.
+fn add_links(
     alloc: Global,
     tree: &Tree,
     number: u32,
     place: &Place,
-    group: &BySoname<'_, Group<'_>>,
-    path: &mut Vec<u8>,
-    survey: &mut Survey,
+    bests: &[BestLibrary],
+    found: &mut Marked,
 ) -> Result<(), NoMemory>
-    ensures plan { OnOk result (survey.new.plan ≡ survey.old.plan ++ filter_map (planned_of tree.now number place.now) (group.now ∷ [])) }
-    ensures blocked { OnOk result (survey.new.blocked ≡ survey.old.blocked ++ filter_map (blocked_of tree.now number place.now) (group.now ∷ [])) }
-    ensures mixed { OnOk result (survey.new.mixed ≡ survey.old.mixed ++ filter_map (mixed_of number) (group.now ∷ [])) }
-    ensures bests { OnOk result (survey.new.bests ≡ survey.old.bests) }
+    ensures plan { OnOk result (found.new.plan ≡ found.old.plan ++ filter_map (link_for tree.now number place.now) bests.now) }
+    ensures blocked { OnOk result (found.new.blocked ≡ found.old.blocked ++ filter_map (blocked_for tree.now number place.now) bests.now) }
+    ensures mixed { OnOk result (found.new.mixed ≡ found.old.mixed) }
 {
-    let libraries = group.item();
-    if libraries.mixed {
-        survey.mixed.push(mark(alloc, number, group.soname())?)?;
-    }
-    if is_plain(place) {
-        add_wanted(alloc, tree, number, place, &libraries.best, path, survey)?;
+    let mut path = Vec::new(alloc);
+    for best in bests {
+        add_wanted(
+            alloc,
+            tree,
+            number,
+            place,
+            &best.library(),
+            &mut path,
+            found,
+        )?;
     }
     Ok(())
 }
 
-fn add_best(alloc: Global, best: &Library<'_>, bests: &mut Vec<BestLibrary>) -> Result<(), NoMemory>
-    ensures { OnOk result (bests.new.items ≡ bests.old.items ++ best.now ∷ []) }
+// Adds a mark for each of these sonames.
+fn add_marks(
+    alloc: Global,
+    number: u32,
+    sonames: &[Text],
+    marks: &mut Marks,
+) -> Result<(), NoMemory>
+    ensures { OnOk result (marks.new ≡ marks.old ++ map (mark number) sonames.now) }
 {
-    bests.push(BestLibrary::copy_of(alloc, best)?)?;
+    for soname in sonames {
+        marks.push(mark(alloc, number, soname.as_bytes())?)?;
+    }
     Ok(())
 }
 
-// Adds what a place gives.
-#[tactic(auto, using(crate::proofs::Grouped::links_given, crate::proofs::Grouped::blocked_given, crate::proofs::Grouped::bests_given, crate::proofs::Abis::mixed_given))]
+// Adds what a place gives, by the best libraries of its folder and the mixed sonames there.
 fn add_place(
     alloc: Global,
     tree: &Tree,
-    table: &Table,
     number: u32,
     place: &Place,
-    survey: &mut Survey,
+    bests: &[BestLibrary],
+    mixed: &[Text],
+    found: &mut Marked,
 ) -> Result<(), NoMemory>
-    ensures plan { OnOk result (survey.new.plan ≡ survey.old.plan ++ links_in (analysis_at table.now) tree.now number place.now) }
-    ensures blocked { OnOk result (survey.new.blocked ≡ survey.old.blocked ++ blocked_in (analysis_at table.now) tree.now number place.now) }
-    ensures mixed { OnOk result (survey.new.mixed ≡ survey.old.mixed ++ mixed_in (analysis_at table.now) tree.now number place.now) }
-    ensures bests { OnOk result (survey.new.bests ≡ survey.old.bests ++ bests_in (analysis_at table.now) tree.now place.now ∷ []) }
+    ensures plan { OnOk result (found.new.plan ≡ found.old.plan ++ links_by tree.now number place.now bests.now) }
+    ensures blocked { OnOk result (found.new.blocked ≡ found.old.blocked ++ blocked_by tree.now number place.now bests.now) }
+    ensures mixed { OnOk result (found.new.mixed ≡ found.old.mixed ++ map (mark number) mixed.now) }
 {
-    let mut path = Vec::new(alloc);
-    let groups = groups_in(alloc, tree, table, place)?;
-    let mut bests = Vec::with_capacity(alloc, groups.len())?;
-    for group in groups {
-        add_group(alloc, tree, number, place, &group, &mut path, survey)?;
-        add_best(alloc, &group.item().best, &mut bests)?;
+    if is_plain(place) {
+        add_links(alloc, tree, number, place, bests, found)?;
     }
-    survey.bests.push(Seq::from_vec(bests))?;
+    add_marks(alloc, number, mixed, &mut found.mixed)?;
     Ok(())
 }
 
 // What one place after the other gives.
-#[tactic(auto, unfolding(crate::specs::Plan::links, crate::specs::Marks::blocked, crate::specs::Marks::mixed, found_files::specs::Best::bests_of))]
+#[tactic(auto, using(crate::proofs::Summed::bests_once, crate::proofs::Summed::bests_rows, crate::proofs::Summed::mixed_once, crate::proofs::Summed::mixed_rows), unfolding(crate::specs::Plan::links, crate::specs::Marks::blocked, crate::specs::Marks::mixed, found_files::specs::Best::bests_of))]
 fn surveyed(alloc: Global, tree: &Tree, dirs: &Dirs, table: &Table) -> Result<Survey, NoMemory>
     ensures plan { IfOk result (λ survey. survey.plan ≡ links (analysis_at table.now) tree.now dirs.now.places) }
     ensures blocked { IfOk result (λ survey. survey.blocked ≡ blocked (analysis_at table.now) tree.now dirs.now.places) }
     ensures mixed { IfOk result (λ survey. survey.mixed ≡ mixed (analysis_at table.now) tree.now dirs.now.places) }
     ensures bests { IfOk result (λ survey. survey.bests ≡ bests_of (analysis_at table.now) tree.now dirs.now.places) }
 {
-    let mut survey = Survey {
+    let folders = real_folders(alloc, dirs)?;
+    let summed = summaries_of(alloc, tree, table, folders.paths.as_slice())?;
+    let mut found = Marked {
         plan: Seq::new(alloc),
         blocked: Seq::new(alloc),
         mixed: Seq::new(alloc),
-        bests: Seq::new(alloc),
     };
     let mut number: u32 = 0;
-    for place in dirs.places.as_slice() {
-        add_place(alloc, tree, table, number, place, &mut survey)?;
+    let rows = folders.rows.as_slice();
+    let there = over(summed.bests.as_slice(), rows).zip(over(summed.mixed.as_slice(), rows));
+    for (place, (bests, mixed)) in dirs.places.as_slice().iter().zip(there) {
+        let (bests, mixed) = (bests.as_slice(), mixed.as_slice());
+        add_place(alloc, tree, number, place, bests, mixed, &mut found)?;
         number = number.checked_add(1).ok_or(NoMemory)?;
     }
-    Ok(survey)
+    Ok(Survey {
+        plan: found.plan,
+        blocked: found.blocked,
+        mixed: found.mixed,
+        bests: Shared::new(summed.bests, folders.rows),
+    })
 }
 
-/// What is planned and what is reported of the places, in one pass over each. The links can be put into the tree one after
-/// another if the places are directories of it: none of them clashes.
+/// What is planned and what is reported of the places. A folder that is many places is looked through once. The links can be put into
+/// the tree one after another if the places are directories of it: none of them clashes.
 #[tactic(auto, using(crate::proofs::Named::links_named, crate::proofs::Clear::links_clear))]
 pub fn survey(alloc: Global, tree: &Tree, dirs: &Dirs, table: &Table) -> Result<Survey, NoMemory>
     ensures plan { IfOk result (λ survey. survey.plan ≡ links (analysis_at table.now) tree.now dirs.now.places) }

@@ -21,7 +21,7 @@ use Rattle.found_files.specs.Analyses.{Analyses, KeepsAnalyses, unread}
 use Rattle.found_files.specs.Table.{analysis_at}
 use Rattle.image_tree.specs.Tree.{Nodes, node_at}
 use Rattle.image_tree.specs.declared.node.Id.{Id}
-use Rattle.tree_face.proofs.StoreUse.{IsPartial, raised-mono, reads_none}
+use Rattle.tree_face.proofs.StoreUse.{IsPartial, raised-mono, reads_fewer, reads_none}
 use Rattle.tree_face.specs.Known.{IfKnown}
 use Rattle.tree_face.specs.Store.{Contents, StoreState}
 use Rattle.tree_face.specs.StoreUse.{Ending, Complete, ReadsFiles}
@@ -36,19 +36,6 @@ use Rattle.stamped_files.specs.declared.files.Files.{Files}
 
 keeps_on : (table now new : List ℕ → Option _) → KeepsAnalyses table now → KeepsAnalyses now new → KeepsAnalyses table new
 keeps_on table now new first second q there = second q (ap is_some (first q there) ∙ there) ∙ first q there
-
--- less is said, if contents aren't known
-unknown_keys : (keys : List (List ℕ)) (e : Ending) (old new : StoreState) → ReadsFiles ⊥ (Some keys) None e old new → ReadsFiles ⊥ None None e old new
-unknown_keys keys e old new reads = record {
-  held = reads.held;
-  begins = tt;
-  begun = tt;
-  begun_before = reads.begun_before;
-  taken = tt;
-  taken_before = reads.taken_before;
-  faults = reads.faults;
-  cause = reads.cause;
-}
 
 -- ---- at most so many files
 
@@ -177,7 +164,7 @@ module _ (t : Nodes) (loaded : List Stamp) (known : Option Contents) (all : List
 
       last_by : (k : Option Contents) (e : Ending) (after : StoreState) → IsPartial e → IfKnown k (λ held. HasOpened held t loaded so_far.ahead so_far.keys old now)
           → ReadsBy k (so_far.keys ++ one) e before after → ReadsOpenedBy k (λ held. opened_keys held t (loaded ++ old.stamps) (unread (analysis_at old.table) all)) e before after
-      last_by None e after partial opened reads = unknown_keys _ e before after reads
+      last_by None e after partial opened reads = reads_fewer ⊥ ⊥ _ None e before after (λ l. l) reads
       last_by (Some held) e after partial opened reads =
           subst (λ keys. ReadsBy (Some held) keys e before after) (sym (keys_are held opened)) (keys_early (Some held) (so_far.keys ++ one) (behind held) e before after partial reads)
 
@@ -250,7 +237,7 @@ module _ (t : Nodes) (loaded : List Stamp) (known : Option Contents) (all : List
       where
         by : (k : Option Contents) → IfKnown k (λ held. HasOpened held t loaded so_far.ahead so_far.keys old new) → ReadsBy k so_far.keys Complete before after
             → ReadsOpenedBy k (λ held. opened_keys held t first todo) Complete before after
-        by None opened reads = unknown_keys so_far.keys Complete before after reads
+        by None opened reads = reads_fewer ⊥ ⊥ (Some so_far.keys) None Complete before after (λ l. l) reads
         by (Some held) opened reads = subst (λ keys. ReadsBy (Some held) keys Complete before after) (keys_all held opened) reads
 
   -- no file is read yet

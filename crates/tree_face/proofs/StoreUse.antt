@@ -206,3 +206,31 @@ module _ (k : Option (List (List ℕ))) (m : Option ℕ) (a b : StoreState) wher
     faults = reads.faults;
     cause = reads.cause;
   }
+
+-- ---- of keys that aren't known
+
+-- a call that reads nothing
+pub unread : (s : StoreState) → ReadsFiles ⊥ None None Complete s s
+unread s = record {
+  held = refl;
+  begins = tt;
+  begun = tt;
+  begun_before = omega arith;
+  taken = tt;
+  taken_before = omega arith;
+  faults = omega arith;
+  cause = refl;
+}
+
+-- less is said of the keys
+pub reads_fewer : (l1 l : Type 0) (k : Option (List (List ℕ))) (m : Option ℕ) (e : Ending) (a b : StoreState) → (l1 → l) → ReadsFiles l1 k m e a b → ReadsFiles l None None e a b
+reads_fewer l1 l k m e a b f reads = record {
+  held = reads.held;
+  begins = tt;
+  begun = tt;
+  begun_before = reads.begun_before;
+  taken = tt;
+  taken_before = reads.taken_before;
+  faults = reads.faults;
+  cause = cause_part [] [] l1 l e _ _ f reads.cause;
+}

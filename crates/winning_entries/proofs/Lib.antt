@@ -1,5 +1,6 @@
 mod Bests
 pub mod Fit
+mod FolderCounts
 pub mod InOneOrder
 pub mod Led
 pub mod NoOtherFiles

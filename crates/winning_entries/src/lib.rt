@@ -1,6 +1,7 @@
 //! The entries of a cache: the library that wins a soname in a place, and where it is looked up.
 #![tactic(auto)]
 
+mod counts;
 mod fault;
 mod listing;
 mod winner;

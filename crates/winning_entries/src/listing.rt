@@ -9,8 +9,10 @@ ghost use Rattle.found_files.specs.Search.{folder_links, followed};
 ghost use Rattle.winning_entries.specs.Entries.{cap_of, entries_in, entry_of, entry_order, found, is_by_soname, is_fit, AreEntriesOf, IsEntryFault, IsOnlyListOf};
 ghost use Rattle.winning_entries.specs.Led.{LeadAsSearched};
 ghost use Rattle.found_files.specs.Table.{analysis_at};
+ghost use Rattle.winning_entries.specs.Counts.{AreCounts};
 ghost use Rattle.winning_entries.specs.Parts.{IsCountFault};
 
+use crate::counts::count_in;
 use crate::fault::EntryFault;
 use crate::winner::winners_in;
 use cache_writer::ENTRIES_MAX;
@@ -18,6 +20,7 @@ use found_files::{
     BestLibrary, FolderLinks, Library, PlaceBests, PlaceLinks, Table, is_own, is_plain, links_to,
 };
 use hwcap_dirs::{Dirs, Place};
+use indexmap::IndexMap;
 use lib_types::{Entries, Entry, NoMemory, Seq, Text};
 use name_order::compare;
 use path_walk::{join, join_into};
@@ -120,11 +123,13 @@ fn entry_of(
     })
 }
 
-/// What is found: the entries, and how many they are. Past the limit they are counted and not kept.
+/// What is found: the entries, and how many they are. Past the limit they are counted and not kept, with the numbers of winners of the
+/// folders.
 #[derive(Drop)]
 struct Counted {
     entries: Vec<Entry>,
     count: usize,
+    winners: IndexMap<Text, usize>,
 }
 
 // Adds the entries of a place's winners.
@@ -162,6 +167,7 @@ fn add_place(
     ensures count { OnOk result (found.new.count ≡ found.old.count + length (entries_in (analysis_at table.now) tree.now number place.now)) }
     ensures kept { OnOk result (found.new.count ≤ ENTRIES_MAX
         → found.new.entries.items ≡ found.old.entries.items ++ entries_in (analysis_at table.now) tree.now number place.now) }
+    ensures winners { OnOk result (found.new.winners ≡ found.old.winners) }
 {
     let winners = winners_in(alloc, table, files, links)?;
     found.count = found.count.checked_add(winners.len()).ok_or(NoMemory)?;
@@ -175,6 +181,33 @@ fn add_place(
             &mut found.entries,
         )?;
     }
+    Ok(())
+}
+
+// Adds the entries of a place, or counts them past the limit.
+fn take_place(
+    alloc: Global,
+    tree: &Tree,
+    table: &Table,
+    number: u32,
+    place: &Place,
+    files: &[BestLibrary],
+    links: &FolderLinks,
+    found: &mut Counted,
+) -> Result<(), NoMemory>
+    requires files { files.now ≡ bests_in (analysis_at table.now) tree.now place.now }
+    requires links { links.now ≡ folder_links tree.now place.now }
+    requires winners { AreCounts (analysis_at table.now) tree.now found.old.winners.entries }
+    ensures count { OnOk result (found.new.count ≡ found.old.count + length (entries_in (analysis_at table.now) tree.now number place.now)) }
+    ensures kept { OnOk result (found.new.count ≤ ENTRIES_MAX
+        → found.new.entries.items ≡ found.old.entries.items ++ entries_in (analysis_at table.now) tree.now number place.now) }
+    ensures winners { OnOk result (AreCounts (analysis_at table.now) tree.now found.new.winners.entries) }
+{
+    if found.count <= ENTRIES_MAX {
+        return add_place(alloc, tree, table, number, place, files, links, found);
+    }
+    let count = count_in(alloc, table, files, links, &mut found.winners)?;
+    found.count = found.count.checked_add(count).ok_or(NoMemory)?;
     Ok(())
 }
 
@@ -196,11 +229,12 @@ fn found(
     let mut found = Counted {
         entries: Vec::new(alloc),
         count: 0,
+        winners: IndexMap::new(alloc),
     };
     let mut number: u32 = 0;
-    let there = bests.as_slice().iter().zip(links.as_slice());
+    let there = bests.iter().zip(links.iter());
     for (place, (bests, links)) in dirs.places.as_slice().iter().zip(there) {
-        add_place(
+        take_place(
             alloc,
             tree,
             table,

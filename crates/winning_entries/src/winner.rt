@@ -1,15 +1,12 @@
 //! The winners of a place.
-ghost use Rattle.std.specs.Prelude.{◌≡◌, ◌<◌, ◌∷◌, ◌++◌, length, map, position, unwrap_or, IfOk, IfSome, OnOk};
-ghost use Rattle.std.specs.List.{filter_map, slice_split};
-ghost use Rattle.std.specs.Option.{option_copied};
+ghost use Rattle.std.specs.Prelude.{◌≡◌, ◌<◌, ◌++◌, map, unwrap_or, IfOk, OnOk};
+ghost use Rattle.std.specs.List.{filter_map};
 ghost use Rattle.hwcap_dirs.specs.declared.kinds.Place.{Place};
-ghost use Rattle.image_tree.specs.Paths.{is_slash};
 ghost use Rattle.image_tree.specs.Tree.{Nodes};
 ghost use Rattle.found_files.specs.Best.{bests_in};
 ghost use Rattle.found_files.specs.Libraries.{last_name, library_at};
 ghost use Rattle.found_files.specs.Pick.{better_by};
 ghost use Rattle.found_files.specs.Search.{folder_links};
-ghost use Rattle.winning_entries.specs.Parts.{parts_of};
 ghost use Rattle.winning_entries.specs.Ranked.{by_sonames, is_before, libraries_of, rank_of, ranked_file, ranked_link, soname_of};
 ghost use Rattle.winning_entries.specs.Winner.{has_own_name, is_dev_name, linked, winners_among, winners_in};
 ghost use Rattle.found_files.specs.Table.{analysis_at};
@@ -19,28 +16,10 @@ use found_files::{
     is_own, is_preferred,
 };
 use lib_types::{Analysis, NoMemory, Text};
+use path_walk::cut;
 use std::alloc::Global;
 
 // ---- links to libraries
-
-fn first_slash(bytes: &[u8]) -> Option<usize>
-    ensures index { result ≡ position is_slash bytes.now }
-    ensures within { IfSome result (λ n. n < length bytes.now) }
-{
-    bytes.iter().position(|&b| b == b'/')
-}
-
-// The first part, and what is behind the slash that ends it.
-#[tactic(auto, using(lib_types::proofs::Parting::cut_at, lib_types::proofs::Parting::cut_nowhere))]
-fn cut(bytes: &[u8]) -> (&[u8], Option<&[u8]>)
-    ensures parts { slice_split is_slash bytes.now ≡ result.0.now ∷ parts_of (option_copied result.1) }
-    ensures shorter { IfSome result.1 (λ rest. length rest.now < length bytes.now) }
-{
-    match first_slash(bytes) {
-        Some(n) => (&bytes[..n], Some(&bytes[n + 1..])),
-        None => (bytes, None),
-    }
-}
 
 // The last name of a path.
 fn last_name(path: &[u8]) -> &[u8]

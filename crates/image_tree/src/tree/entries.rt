@@ -1,5 +1,5 @@
 //! What a tree has at a path, and how that changes.
-ghost use Rattle.std.specs.Prelude.{◌≡◌, ◌≢◌, ◌<◌, ◌≤◌, ◌^◌, IfOk, IfErr, OnOk, OnErr, ◌↔◌, ◌+◌, IsTrue, None, Some, false, true, MatchResult, MatchOption, length, slice_index_or};
+ghost use Rattle.std.specs.Prelude.{◌≡◌, ◌≢◌, ◌<◌, ◌≤◌, ◌^◌, IfOk, IfErr, OnOk, OnErr, ◌↔◌, ◌+◌, ◌&&◌, IsTrue, None, Some, false, true, MatchResult, MatchOption, length, slice_index_or};
 ghost use Rattle.std.specs.Str.{bytes_eq};
 ghost use Rattle.std.specs.Option.{option_copied, is_some};
 ghost use Rattle.image_tree.specs.Paths.{root, is_path};
@@ -13,7 +13,7 @@ use super::run::{PathEntry, Run};
 use super::runs::{Place, entry_at, entry_before, entry_from, find, find_near, search};
 use super::{Kind, NODES_MAX, TreeFault, runs as places};
 use crate::node::{Node, is_dir};
-use crate::path::{is_below, is_path};
+use crate::path::{is_above, is_below};
 use lib_types::{NoMemory, Text};
 use std::alloc::Global;
 
@@ -25,16 +25,25 @@ fn node_of(runs: &Vec<Run>, place: Place) -> &Node
     entry_at(runs, place).node()
 }
 
+/// The place of the path's entry, looked for first from a place on, or that of its gap.
+pub(super) fn find_at(runs: &Vec<Run>, near: Place, path: &[u8]) -> Result<Place, Place>
+    requires runs { IsTrue (are_runs runs.now.items) }
+    requires sorted { IsPathSorted (joined runs.now.items) }
+    ensures { MatchResult result (IsPlaceOf runs.now.items path.now) (IsGapAt runs.now.items path.now) }
+{
+    match find_near(runs, near, path) {
+        Some(place) => Ok(place),
+        None => search(runs, path),
+    }
+}
+
 /// The place of the path's entry, if it has one, looked for first from a place on.
 pub(super) fn place_of(runs: &Vec<Run>, near: Place, path: &[u8]) -> Option<Place>
     requires runs { IsTrue (are_runs runs.now.items) }
     requires sorted { IsPathSorted (joined runs.now.items) }
     ensures { MatchOption result (node_at (joined runs.now.items) path.now ≡ None) (IsPlaceOf runs.now.items path.now) }
 {
-    if let Some(place) = find_near(runs, near, path) {
-        return Some(place);
-    }
-    match search(runs, path) {
+    match find_at(runs, near, path) {
         Ok(place) => Some(place),
         Err(_) => None,
     }
@@ -80,17 +89,17 @@ pub(super) fn remove(runs: &mut Vec<Run>, path: &[u8]) -> bool
     }
 }
 
-// Whether something lies below the path, given that the entries from this place on are those behind it.
+// Whether something lies below the path, given that the entries from this place on are those behind it. A text above the path of an entry
+// is a path, so it isn't tested byte by byte whether it is one.
 fn has_below(runs: &Vec<Run>, path: &[u8], behind: Place) -> bool
-    requires runs { IsTrue (are_runs runs.now.items) }
-    requires sorted { IsPathSorted (joined runs.now.items) }
-    requires path { IsTrue (is_path path.now) }
+    requires runs { AreRuns runs.now.items }
+    requires path { bytes_eq path.now root ≡ false }
     requires place { IsPlace runs.now.items behind }
     requires behind { IsBehind (joined runs.now.items) path.now (index_of runs.now.items behind) }
-    ensures { result ≡ has_below (joined runs.now.items) path.now }
+    ensures { result ≡ (is_path path.now && has_below (joined runs.now.items) path.now) }
 {
     match entry_from(runs, behind) {
-        Some(next) => is_below(path, next.path()),
+        Some(next) => is_above(path, next.path()),
         None => false,
     }
 }
@@ -105,7 +114,7 @@ fn kind_of(node: &Node) -> Kind
     }
 }
 
-// What is at the path, which isn't the root. A text that is no path has no node, so only one without a node is tested.
+// What is at the path, which isn't the root. A text that is no path has no node, and nothing lies below it.
 fn kind_found(runs: &Vec<Run>, path: &[u8], found: Result<Place, Place>) -> Kind
     requires runs { AreRuns runs.now.items }
     requires path { bytes_eq path.now root ≡ false }
@@ -115,13 +124,26 @@ fn kind_found(runs: &Vec<Run>, path: &[u8], found: Result<Place, Place>) -> Kind
     match found {
         Ok(place) => kind_of(node_of(runs, place)),
         Err(place) => {
-            if is_path(path) && has_below(runs, path, place) {
+            if has_below(runs, path, place) {
                 Kind::Dir
             } else {
                 Kind::Absent
             }
         }
     }
+}
+
+/// What is at a path without a node, which is to be inserted at this place.
+pub(super) fn kind_in_gap(runs: &Vec<Run>, path: &[u8], gap: Place) -> Kind
+    requires runs { AreRuns runs.now.items }
+    requires gap { IsGapAt runs.now.items path.now gap }
+    ensures none { node_at (joined runs.now.items) path.now ≡ None }
+    ensures kind { result ≡ kind_at (joined runs.now.items) path.now }
+{
+    if path == b"/".as_slice() {
+        return Kind::Dir;
+    }
+    kind_found(runs, path, Err(gap))
 }
 
 /// What is at the path.

@@ -1,10 +1,11 @@
-use Rattle.std.proofs.Common.{◌≡◌, length}
+use Rattle.std.proofs.Common.{◌≡◌, ◌≤◌, false, length, drop}
 use Rattle.std.specs.Prelude.{codes}
 use Rattle.name_order.specs.LibraryName.{contains}
 use Rattle.name_order.proofs.contains_so.Given as goal
 
-abbrev pub invariant-loop-rest : goal.invariant-loop-rest
-invariant-loop-rest l = contains (codes ".so") l.rest ≡ contains (codes ".so") l.fn.name
+-- it isn't in what was gone over
+abbrev pub invariant-loop-i : goal.invariant-loop-i
+invariant-loop-i l = (l.i ≤ length l.name) × (contains (codes ".so") (drop l.i l.name) ≡ false)
 
-abbrev pub decreases-loop-rest : goal.decreases-loop-rest
-decreases-loop-rest l = length l.rest
+abbrev pub decreases-loop-i : goal.decreases-loop-i
+decreases-loop-i l = l.i

@@ -5,4 +5,4 @@ use Rattle.found_files.proofs.links.by_folder.Given as goal
 
 -- the folders that are left give the rest
 abbrev pub invariant-loop-folder : goal.invariant-loop-folder
-invariant-loop-folder l = fold with_folder l.found.entries (drop l.folder-index l.links) ≡ by_folder l.links
+invariant-loop-folder l = fold with_folder l.found.entries (drop l.folder-index l.folders) ≡ by_folder l.folders

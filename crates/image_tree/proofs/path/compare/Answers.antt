@@ -1,9 +1,11 @@
-use Rattle.std.proofs.Common.{◌<◌, length, sym, ◌∙◌, arith}
-use Rattle.image_tree.proofs.Order.{path_cmp-by_length}
+use Rattle.std.proofs.Common.{◌<◌, length, ◌∙◌, arith}
+use Rattle.image_tree.proofs.Order.{lengths_decide}
 use Rattle.image_tree.proofs.path.compare.Goals as goal
 
 pub returns : goal.returns
 returns c =
-    let ended : c.loop-i.i < length c.args.a.now → c.loop-i.i < length c.args.b.now → ⊥
+    let n = c.equal_len-same.result in
+    let front = c.equal_len-same.ensures in
+    let ended : n < length c.args.a.now → n < length c.args.b.now → ⊥
     = λ p q. omega arith in
-    c.cmp.ensures ∙ sym (path_cmp-by_length c.args.a.now c.args.b.now c.loop-i.i (omega arith) (omega arith) ended) ∙ c.loop-i.invariant.3
+    c.cmp.ensures ∙ lengths_decide c.args.a.now c.args.b.now n front.within.0 front.within.1 front.same ended

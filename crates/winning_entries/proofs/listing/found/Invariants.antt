@@ -1,5 +1,6 @@
 use Rattle.std.proofs.Common.{◌≡◌, ◌≤◌, ◌+◌, ◌++◌, length, map}
 use Rattle.cache_writer.specs.declared.writer.TheConstants.{ENTRIES_MAX}
+use Rattle.winning_entries.specs.Counts.{AreCounts}
 use Rattle.winning_entries.specs.Entries.{entries_in}
 use Rattle.found_files.specs.Best.{bests_in}
 use Rattle.found_files.specs.Places.{by_place}
@@ -12,6 +13,7 @@ abbrev pub invariant-loop-place : goal.invariant-loop-place
 invariant-loop-place l = record {
   counted : l.found.count + length (by_place (entries_in (analysis_at l.table) l.tree) l.number l.place-iterator.a.rest.now) ≡ length (by_place (entries_in (analysis_at l.table) l.tree) 0 l.dirs.places);
   kept : l.found.count ≤ ENTRIES_MAX → l.found.entries.items ++ by_place (entries_in (analysis_at l.table) l.tree) l.number l.place-iterator.a.rest.now ≡ by_place (entries_in (analysis_at l.table) l.tree) 0 l.dirs.places;
-  bests : l.place-iterator.b.a.rest.now ≡ map (bests_in (analysis_at l.table) l.tree) l.place-iterator.a.rest.now;
-  links : l.place-iterator.b.b.rest.now ≡ map (folder_links l.tree) l.place-iterator.a.rest.now;
+  winners : AreCounts (analysis_at l.table) l.tree l.found.winners.entries;
+  bests : l.place-iterator.b.a ≡ map (bests_in (analysis_at l.table) l.tree) l.place-iterator.a.rest.now;
+  links : l.place-iterator.b.b ≡ map (folder_links l.tree) l.place-iterator.a.rest.now;
 }

@@ -1,7 +1,8 @@
 use Rattle.std.proofs.Common.{◌≡◌}
 use Rattle.std.specs.List.{fold}
 use Rattle.std.specs.Option.{option_copied}
-use Rattle.winning_entries.specs.Parts.{parts_of, size_of}
+use Rattle.path_walk.specs.Rest.{parts_of}
+use Rattle.path_walk.specs.Stops.{size_of}
 use Rattle.found_files.specs.Libraries.{last_name}
 use Rattle.winning_entries.proofs.winner.last_name.Given as goal
 

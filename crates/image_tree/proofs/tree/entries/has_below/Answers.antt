@@ -1,7 +1,7 @@
 use Rattle.std.proofs.Common.{ℕ, [], List, ap, sym, ◌∙◌}
-use Rattle.image_tree.proofs.Below.{none_below_end, none_below_next, some_below_next}
+use Rattle.image_tree.proofs.KindAt.{nothing_above, nothing_at_end, something_above}
 use Rattle.lib_types.proofs.SortedPairs.{by_test}
-use Rattle.image_tree.specs.Paths.{is_below}
+use Rattle.image_tree.specs.Paths.{is_above}
 use Rattle.image_tree.specs.Runs.{joined, index_of}
 use Rattle.image_tree.specs.declared.node.Node.{Node}
 use Rattle.image_tree.specs.declared.node.Node.TheVariants.{Dir}
@@ -13,10 +13,10 @@ returns-in-Some c =
     let path = c.args.path.now in
     let at = index_of c.args.runs.now.items c.args.behind in
     let there = c.in-Some.ensures in
-    let next = λ (d : List ℕ × Node). ap (λ (e : List ℕ × Node). is_below path e.0) (there.same d) ∙ sym (c.is_below.ensures ∙ ap (is_below path) c.path.ensures) in
-    by_test c.is_below.result
-    (λ e. e ∙ sym (some_below_next t path at c.requires.path c.requires.behind ([], Dir) there.within (next ([], Dir) ∙ e)))
-    (λ e. e ∙ sym (none_below_next t path at c.requires.path c.requires.behind c.requires.sorted there.within (λ d. next d ∙ e)))
+    let next = λ (d : List ℕ × Node). ap (λ (e : List ℕ × Node). is_above path e.0) (there.same d) ∙ sym (c.is_above.ensures ∙ ap (is_above path) c.path.ensures) in
+    by_test c.is_above.result
+    (λ e. e ∙ sym (something_above t path c.requires.path at c.requires.behind c.requires.runs.tree ([], Dir) there.within (next ([], Dir) ∙ e)))
+    (λ e. e ∙ sym (nothing_above t path c.requires.path at c.requires.behind c.requires.runs.tree there.within (λ d. next d ∙ e)))
 
 pub returns-in-None : goal.returns-in-None
-returns-in-None c = none_below_end (joined c.args.runs.now.items) c.args.path.now (index_of c.args.runs.now.items c.args.behind) c.requires.path c.requires.behind c.in-None.ensures
+returns-in-None c = nothing_at_end (joined c.args.runs.now.items) c.args.path.now c.requires.path (index_of c.args.runs.now.items c.args.behind) c.requires.behind c.in-None.ensures

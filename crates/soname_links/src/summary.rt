@@ -1,0 +1,89 @@
+//! What the libraries of folders come to.
+ghost use Rattle.std.specs.Prelude.{◌≡◌, ◌∷◌, [], ◌++◌, IfOk, OnOk, map};
+ghost use Rattle.std.specs.List.{filter_map};
+ghost use Rattle.found_files.specs.Table.{analysis_at};
+ghost use Rattle.soname_links.specs.Survey.{bests_at, mixed_at, mixed_soname};
+
+use crate::groups::{Group, groups_in};
+use found_files::{BestLibrary, BySoname, Library, Table};
+use lib_types::{NoMemory, Seq, Text, Texts};
+use std::alloc::Global;
+use tree_face::Tree;
+
+// The libraries of a folder, by the bytes of their sonames.
+#[derive(Drop)]
+struct Summary {
+    /// The best library of each soname.
+    bests: Seq<BestLibrary>,
+    /// The sonames whose libraries have different ABIs.
+    mixed: Texts,
+}
+
+/// The libraries of each of some folders.
+#[derive(Drop)]
+pub(crate) struct Summaries {
+    pub(crate) bests: Vec<Seq<BestLibrary>>,
+    pub(crate) mixed: Vec<Texts>,
+}
+
+fn add_best(alloc: Global, best: &Library<'_>, bests: &mut Vec<BestLibrary>) -> Result<(), NoMemory>
+    ensures { OnOk result (bests.new.items ≡ bests.old.items ++ best.now ∷ []) }
+{
+    bests.push(BestLibrary::copy_of(alloc, best)?)?;
+    Ok(())
+}
+
+// Adds a soname if its libraries have different ABIs.
+fn add_mixed(
+    alloc: Global,
+    group: &BySoname<'_, Group<'_>>,
+    mixed: &mut Texts,
+) -> Result<(), NoMemory>
+    ensures { OnOk result (mixed.new ≡ mixed.old ++ filter_map mixed_soname (group.now ∷ [])) }
+{
+    if group.item().mixed {
+        mixed.push(Text::copy_of(alloc, group.soname())?)?;
+    }
+    Ok(())
+}
+
+// What the libraries of a folder come to.
+#[tactic(auto, using(crate::proofs::Grouped::bests_given, crate::proofs::Abis::mixed_given))]
+fn summary_of(alloc: Global, tree: &Tree, table: &Table, folder: &[u8]) -> Result<Summary, NoMemory>
+    ensures bests { IfOk result (λ found. found.bests ≡ bests_at (analysis_at table.now) tree.now folder.now) }
+    ensures mixed { IfOk result (λ found. found.mixed ≡ mixed_at (analysis_at table.now) tree.now folder.now) }
+{
+    let groups = groups_in(alloc, tree, table, folder)?;
+    let mut bests = Vec::with_capacity(alloc, groups.len())?;
+    let mut mixed = Texts::new(alloc);
+    for group in groups {
+        add_mixed(alloc, &group, &mut mixed)?;
+        add_best(alloc, &group.item().best, &mut bests)?;
+    }
+    Ok(Summary {
+        bests: Seq::from_vec(bests),
+        mixed,
+    })
+}
+
+/// What the libraries of each of these folders come to.
+pub(crate) fn summaries_of(
+    alloc: Global,
+    tree: &Tree,
+    table: &Table,
+    folders: &[Text],
+) -> Result<Summaries, NoMemory>
+    ensures bests { IfOk result (λ found. found.bests.items ≡ map (bests_at (analysis_at table.now) tree.now) folders.now) }
+    ensures mixed { IfOk result (λ found. found.mixed.items ≡ map (mixed_at (analysis_at table.now) tree.now) folders.now) }
+{
+    let mut found = Summaries {
+        bests: Vec::with_capacity(alloc, folders.len())?,
+        mixed: Vec::with_capacity(alloc, folders.len())?,
+    };
+    for folder in folders {
+        let Summary { bests, mixed } = summary_of(alloc, tree, table, folder.as_bytes())?;
+        found.bests.push(bests)?;
+        found.mixed.push(mixed)?;
+    }
+    Ok(found)
+}
