@@ -4,7 +4,9 @@ ghost use Rattle.std.specs.Cmp.{eq_by_cmp_equiv, partial_equiv_from_equiv, parti
 ghost use Rattle.std.specs.Cmp.Lexicographic.{on_texts};
 ghost use Rattle.std.specs.Ordering.{as_partial_cmp, eq_by_cmp};
 ghost use Rattle.std.specs.Option.{option_copied};
-ghost use Rattle.std.specs.Prelude.{◌≡◌, [], IfOk, IfSome, OnErr, OnOk};
+ghost use Rattle.std.specs.BTreeMap.{is_at};
+ghost use Rattle.std.specs.Map.{lookup};
+ghost use Rattle.std.specs.Prelude.{◌≡◌, [], IfOk, IfSome, None, OnErr, OnOk, true};
 ghost use Rattle.aux_cache.specs.Ids.{id_cmp, parts_of};
 ghost use Rattle.aux_cache.specs.Stamps.{HasName, HaveNames, put, stamp_of};
 
@@ -69,6 +71,17 @@ impl Ord for Key {
     }
 }
 
+// Whether an identity comes after all of these, so that there is no need to search. Files that were made one after another
+// mostly have ascending inodes.
+fn is_behind(stamps: &BTreeMap<Key, Stamp>, key: &Key) -> bool
+    ensures { result ≡ true → lookup (is_at (id_cmp key.now)) stamps.now.entries ≡ None }
+{
+    match stamps.last_key_value() {
+        Some((last, _)) => last.cmp(key).is_lt(),
+        None => false,
+    }
+}
+
 /// Stamps with different identities, put in any order, in which each soname is a name. Contracts see the list of the stamps in the
 /// order of their identities.
 ///
@@ -106,7 +119,11 @@ impl GatheredStamps {
         ensures stamp { option_copied result ≡ stamp_of self.now id }
         ensures name { IfSome result (λ stamp. HasName stamp.now) }
     {
-        self.stamps.get(&Key { id })
+        let key = Key { id };
+        if is_behind(&self.stamps, &key) {
+            return None;
+        }
+        self.stamps.get(&key)
     }
 
     /// Puts the stamp in the place of the one with its identity, or among the others.

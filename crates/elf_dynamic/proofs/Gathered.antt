@@ -178,7 +178,7 @@ rests_first keep (Some bytes) table rest all d first e same = ap (λ d. kept_of 
 -- the fault of an entry is that of the whole
 pub fault_on : (keep : Keep) (known mid : Option (List ℕ)) (table : List ℕ → List ℕ) (rest next : List ℕ → List DynamicEntry) (all : List ℕ → Result Dynamic Defect) (d : Dynamic) (e : DynamicEntry) (fault : ObjectFault) → mid ≡ known →
     IfKnown known (λ bytes. rest bytes ≡ e ∷ next bytes) → IfKnown known (λ bytes. kept_of keep (gathered (table bytes) d (rest bytes)) ≡ kept_of keep (all bytes)) →
-    IfBad {X = Unit {0}} (Err fault) (λ x. IfKnown mid (λ bytes. add_one (table bytes) d e ≡ Err x)) → IfBad {X = Dynamic} (Err fault) (λ x. IfKnown known (λ bytes. all bytes ≡ Err x))
+    IfBad {X = Unit {0}} (Err fault) (λ x. IfKnown mid (λ bytes. add_one (table bytes) d e ≡ Err x)) → IfBad {X = Unit {0}} (Err fault) (λ x. IfKnown known (λ bytes. all bytes ≡ Err x))
 fault_on keep known mid table rest next all d e (faults.Bad x) same on whole bad =
     rests_bad keep known table rest next all d x e on (subst (λ o. IfKnown o (λ bytes. add_one (table bytes) d e ≡ Err x)) same bad) whole
 fault_on keep known mid table rest next all d e faults.StoreFault same on whole bad = tt

@@ -14,7 +14,7 @@ use Rattle.elf_headers.specs.Reading.{known_content, OfKnown, OnlyReads}
 use Rattle.elf_headers.specs.declared.kinds.Head.{Head}
 use Rattle.elf_dynamic.specs.declared.entries.Entries.{Entries}
 use Rattle.elf_dynamic.specs.declared.window.Window.{Window}
-use Rattle.elf_dynamic.specs.Entries.{entries_in, live_entries, rest_of, IsIn, unread_in}
+use Rattle.elf_dynamic.specs.Entries.{entries_in, live_entries, rest_of, IsIn, IsHeld, unread_in}
 use Rattle.elf_dynamic.proofs.Known.{before, with}
 
 -- ---- how many entries are left
@@ -99,7 +99,7 @@ ended_at known c n front e long enough taken nul next =
     (λ bytes next. live_end c.wide bytes (c.end - c.left) c.left long (ap (λ e. e.tag) (sym (here c n front bytes e enough taken next)) ∙ nul))
 
 pub next_at : (known : Option (List ℕ)) (c new : Entries) (n : ℕ) (front : List ℕ) (e : DynamicEntry) → 2 * word_size c.wide ≤ c.left → c.left ≤ c.end → 2 * word_size c.wide ≤ n →
-    e ≡ entry_at (word_size c.wide) front 0 → (e.tag == 0) ≡ false → new ≡ record c { left = c.left - 2 * word_size c.wide } →
+    e ≡ entry_at (word_size c.wide) front 0 → (e.tag == 0) ≡ false → new ≡ record c { left = c.left - 2 * word_size c.wide; held = new.held } →
     IfKnown known (Next c n front) → IfKnown known (λ bytes. rest_of c bytes ≡ e ∷ rest_of new bytes)
 next_at known c new n front e long within enough taken live is next =
     with {P = Next c n front} {Q = λ bytes. rest_of c bytes ≡ e ∷ rest_of new bytes} known next
@@ -126,7 +126,7 @@ window_on n r f at buf bytes h e = sym (part_on n r f buf h) ∙ ap (drop n) e �
 -- ---- a new reader
 
 abbrev Begun : Head → Segment → Entries → Type 0
-Begun h d c = c ≡ record { wide = h.wide; end = d.offset + d.filesz; left = d.filesz }
+Begun h d c = c ≡ record { wide = h.wide; end = d.offset + d.filesz; left = d.filesz; held = 0 }
 
 pub opened : (h : Head) (d : Segment) (c : Entries) → Begun h d c → d.offset + d.filesz ≤ h.length → IsIn h c
 opened h d c new inside =
@@ -137,6 +137,12 @@ opened h d c new inside =
       within = omega arith;
       in_file = omega arith;
     }
+
+-- the window holds nothing that a new reader knows of
+pub begun_held : (h : Head) (d : Segment) (c : Entries) (w : Window) → Begun h d c → IsHeld w c
+begun_held h d c w new =
+    let none : c.held ≡ 0 = ap (λ x. x.held) new in
+    record { within = omega arith; ready = omega (arith, none) }
 
 pub begun : (known : Option (List ℕ)) (h : Head) (d : Segment) (c : Entries) → Begun h d c → IfKnown known (λ bytes. rest_of c bytes ≡ dynamic_entries (word_size h.wide) bytes d)
 begun known h d c new =

@@ -1,14 +1,14 @@
 -- The bytes before the first NUL, piece by piece.
-use Rattle.std.proofs.Common.{◌≡◌, Result, Ok, Err, IfOk, ◌⊎◌, inl, inr, ◌&&◌, length-take, length-drop, ℕ, suc, ◌+◌, ◌-◌, ◌<◌, ◌≤◌, min, Bool, true, false, cond, not, nat_lt, ◌||◌, List, [], ◌∷◌, ◌++◌, length, take, drop, Option, Some, None, is_some, option_map, refl, ap, sym, ◌∙◌, arith, append_assoc, append-nil}
+use Rattle.std.proofs.Common.{◌≡◌, position, is_some, Result, Ok, Err, IfOk, ◌⊎◌, inl, inr, ◌&&◌, length-take, length-drop, ℕ, ◌+◌, ◌-◌, ◌<◌, ◌≤◌, min, Bool, true, false, cond, not, nat_lt, ◌||◌, List, [], ◌∷◌, ◌++◌, length, take, drop, Option, Some, None, option_map, refl, ap, sym, ◌∙◌, arith, append_assoc}
 use Rattle.std.proofs.lemmas.Bool.{cases_lt}
 use Rattle.std.proofs.lemmas.Bool.Decides.{nat_tests}
 use Rattle.std.proofs.lemmas.List.{take-append-drop, take-take, take_all, take_min}
 use Rattle.std.proofs.lemmas.List.Folds.{list_any-append}
-use Rattle.std.specs.List.{list_any, position, prefix_len, take_while}
+use Rattle.std.specs.List.{list_any, take_while}
+use Rattle.lib_types.proofs.FirstByte.{is_some_position}
 use Rattle.tree_face.specs.Known.{IfKnown}
 use Rattle.elf_dynamic.specs.declared.table.Table.{Table}
-use Rattle.elf_dynamic.specs.Kept.{kept_text}
-use Rattle.elf_dynamic.specs.Section.{is_nul, near}
+use Rattle.elf_dynamic.specs.Section.{is_nul, near, has_text_at}
 use Rattle.elf_dynamic.specs.Texts.{before_nul, bytes_of, text_found}
 use Rattle.elf_dynamic.proofs.Known.{with, both}
 use Rattle.elf_dynamic.proofs.Live.{while_true, while_false, part_on}
@@ -57,42 +57,71 @@ cut count left at bytes h =
     let rest = part_on count left at bytes h in
     sym (take-append-drop count (take left (drop at bytes))) ∙ rw (front, rest) refl
 
-abbrev some_of : List ℕ → Option (List ℕ)
-some_of xs = Some xs
+map_map : (xs ys : List ℕ) (o : Option (List ℕ)) → option_map (λ r. (xs ++ ys) ++ r) o ≡ option_map (λ r. xs ++ r) (option_map (λ r. ys ++ r) o)
+map_map xs ys None = refl
+map_map xs ys (Some zs) = rw append_assoc refl
 
-map_map : (k : Bool) (xs ys : List ℕ) (o : Option (List ℕ)) → option_map (λ r. (xs ++ kept_text k ys) ++ kept_text k r) o ≡ option_map (λ r. xs ++ kept_text k r) (option_map (λ r. ys ++ r) o)
-map_map k xs ys None = refl
-map_map true xs ys (Some zs) = rw append_assoc refl
-map_map false xs ys (Some zs) = ap some_of (append-nil (xs ++ []))
+abbrev Is : List ℕ → ℕ → ℕ → (List ℕ → Option (List ℕ)) → List ℕ → Type 0
+Is found at left all bytes = option_map (λ r. found ++ r) (before_nul (take left (drop at bytes))) ≡ all bytes
 
-abbrev Is : Bool → List ℕ → ℕ → ℕ → (List ℕ → Option (List ℕ)) → List ℕ → Type 0
-Is k found at left all bytes = option_map (λ r. found ++ kept_text k r) (before_nul (take left (drop at bytes))) ≡ all bytes
-
-pub ended_here : (k : Bool) (known : Option (List ℕ)) (found piece new : List ℕ) (at count left : ℕ) (all : List ℕ → Option (List ℕ)) → count ≤ left → list_any is_nul piece ≡ true → new ≡ found ++ kept_text k (take_while live piece) →
-    IfKnown known (λ bytes. piece ≡ take count (drop at bytes)) → IfKnown known (Is k found at left all) → IfKnown known (λ bytes. Some new ≡ all bytes)
-ended_here k known found piece new at count left all h nul more read whole =
-    both {P = λ bytes. piece ≡ take count (drop at bytes)} {Q = Is k found at left all} {R = λ bytes. Some new ≡ all bytes} known read whole
+pub ended_here : (known : Option (List ℕ)) (found piece new : List ℕ) (at count left : ℕ) (all : List ℕ → Option (List ℕ)) → count ≤ left → list_any is_nul piece ≡ true → new ≡ found ++ take_while live piece →
+    IfKnown known (λ bytes. piece ≡ take count (drop at bytes)) → IfKnown known (Is found at left all) → IfKnown known (λ bytes. Some new ≡ all bytes)
+ended_here known found piece new at count left all h nul more read whole =
+    both {P = λ bytes. piece ≡ take count (drop at bytes)} {Q = Is found at left all} {R = λ bytes. Some new ≡ all bytes} known read whole
     (λ bytes read whole.
     let rest = take (left - count) (drop (at + count) bytes) in
     let split : take left (drop at bytes) ≡ piece ++ rest = cut count left at bytes h ∙ ap (λ xs. xs ++ rest) (sym read) in
     let here : before_nul (take left (drop at bytes)) ≡ Some (take_while live piece) = ap before_nul split ∙ nul_there piece rest nul in
-    ap Some more ∙ sym (ap (option_map (λ r. found ++ kept_text k r)) here) ∙ whole)
+    ap Some more ∙ sym (ap (option_map (λ r. found ++ r)) here) ∙ whole)
 
-pub goes_on : (k : Bool) (known : Option (List ℕ)) (found piece new : List ℕ) (at count left : ℕ) (all : List ℕ → Option (List ℕ)) → count ≤ left → list_any is_nul piece ≡ false → new ≡ found ++ kept_text k (take_while live piece) →
-    IfKnown known (λ bytes. piece ≡ take count (drop at bytes)) → IfKnown known (Is k found at left all) → IfKnown known (Is k new (at + count) (left - count) all)
-goes_on k known found piece new at count left all h none more read whole =
-    both {P = λ bytes. piece ≡ take count (drop at bytes)} {Q = Is k found at left all} {R = Is k new (at + count) (left - count) all} known read whole
+pub goes_on : (known : Option (List ℕ)) (found piece new : List ℕ) (at count left : ℕ) (all : List ℕ → Option (List ℕ)) → count ≤ left → list_any is_nul piece ≡ false → new ≡ found ++ take_while live piece →
+    IfKnown known (λ bytes. piece ≡ take count (drop at bytes)) → IfKnown known (Is found at left all) → IfKnown known (Is new (at + count) (left - count) all)
+goes_on known found piece new at count left all h none more read whole =
+    both {P = λ bytes. piece ≡ take count (drop at bytes)} {Q = Is found at left all} {R = Is new (at + count) (left - count) all} known read whole
     (λ bytes read whole.
     let rest = take (left - count) (drop (at + count) bytes) in
     let split : take left (drop at bytes) ≡ piece ++ rest = cut count left at bytes h ∙ ap (λ xs. xs ++ rest) (sym read) in
     let behind : before_nul (take left (drop at bytes)) ≡ option_map (λ r. piece ++ r) (before_nul rest) = ap before_nul split ∙ nul_behind piece rest none in
-    let all_of_it : new ≡ found ++ kept_text k piece = more ∙ ap (λ xs. found ++ kept_text k xs) (while_none piece none) in
-    ap (λ xs. option_map (λ r. xs ++ kept_text k r) (before_nul rest)) all_of_it ∙ map_map k found piece (before_nul rest) ∙ sym (ap (option_map (λ r. found ++ kept_text k r)) behind) ∙ whole)
+    let all_of_it : new ≡ found ++ piece = more ∙ ap (λ xs. found ++ xs) (while_none piece none) in
+    ap (λ xs. option_map (λ r. xs ++ r) (before_nul rest)) all_of_it ∙ map_map found piece (before_nul rest) ∙ sym (ap (option_map (λ r. found ++ r)) behind) ∙ whole)
 
-pub ended_nowhere : (k : Bool) (known : Option (List ℕ)) (found : List ℕ) (at left : ℕ) (all : List ℕ → Option (List ℕ)) → left ≡ 0 → IfKnown known (Is k found at left all) → IfKnown known (λ bytes. None ≡ all bytes)
-ended_nowhere k known found at left all h whole =
-    with {P = Is k found at left all} {Q = λ bytes. None ≡ all bytes} known whole
-    (λ bytes whole. sym (ap (λ n. option_map (λ r. found ++ kept_text k r) (before_nul (take n (drop at bytes)))) h) ∙ whole)
+pub ended_nowhere : (known : Option (List ℕ)) (found : List ℕ) (at left : ℕ) (all : List ℕ → Option (List ℕ)) → left ≡ 0 → IfKnown known (Is found at left all) → IfKnown known (λ bytes. None ≡ all bytes)
+ended_nowhere known found at left all h whole =
+    with {P = Is found at left all} {Q = λ bytes. None ≡ all bytes} known whole
+    (λ bytes whole. sym (ap (λ n. option_map (λ r. found ++ r) (before_nul (take n (drop at bytes)))) h) ∙ whole)
+
+-- ---- whether there is a NUL, piece by piece
+
+abbrev Has : ℕ → ℕ → (List ℕ → Bool) → List ℕ → Type 0
+Has at end all bytes = list_any is_nul (take (end - at) (drop at bytes)) ≡ all bytes
+
+pub some_nul : (piece : List ℕ) (o : Option ℕ) (b : Bool) → o ≡ position is_nul piece → b ≡ is_some o → list_any is_nul piece ≡ b
+some_nul piece o b e f = sym (f ∙ ap is_some e ∙ is_some_position is_nul piece)
+
+split_nul : (piece : List ℕ) (at count end : ℕ) (bytes : List ℕ) → count ≤ end - at → piece ≡ take count (drop at bytes) →
+    list_any is_nul (take (end - at) (drop at bytes)) ≡ (list_any is_nul piece || list_any is_nul (take (end - at - count) (drop (at + count) bytes)))
+split_nul piece at count end bytes h read =
+    let rest = take (end - at - count) (drop (at + count) bytes) in
+    ap (list_any is_nul) (cut count (end - at) at bytes h ∙ ap (λ xs. xs ++ rest) (sym read)) ∙ list_any-append is_nul piece rest
+
+pub nul_here : (known : Option (List ℕ)) (piece : List ℕ) (at count end : ℕ) (all : List ℕ → Bool) → count ≤ end - at → list_any is_nul piece ≡ true →
+    IfKnown known (λ bytes. piece ≡ take count (drop at bytes)) → IfKnown known (Has at end all) → IfKnown known (λ bytes. true ≡ all bytes)
+nul_here known piece at count end all h nul read whole =
+    both {P = λ bytes. piece ≡ take count (drop at bytes)} {Q = Has at end all} {R = λ bytes. true ≡ all bytes} known read whole
+    (λ bytes read whole. sym (split_nul piece at count end bytes h read ∙ rw nul refl) ∙ whole)
+
+pub nul_on : (known : Option (List ℕ)) (piece : List ℕ) (at count end : ℕ) (all : List ℕ → Bool) → count ≤ end - at → list_any is_nul piece ≡ false →
+    IfKnown known (λ bytes. piece ≡ take count (drop at bytes)) → IfKnown known (Has at end all) → IfKnown known (Has (at + count) end all)
+nul_on known piece at count end all h none read whole =
+    both {P = λ bytes. piece ≡ take count (drop at bytes)} {Q = Has at end all} {R = Has (at + count) end all} known read whole
+    (λ bytes read whole.
+    let left : end - (at + count) ≡ end - at - count = omega arith in
+    ap (λ n. list_any is_nul (take n (drop (at + count) bytes))) left ∙ sym (split_nul piece at count end bytes h read ∙ rw none refl) ∙ whole)
+
+pub nul_nowhere : (known : Option (List ℕ)) (at end : ℕ) (all : List ℕ → Bool) → end ≤ at → IfKnown known (Has at end all) → IfKnown known (λ bytes. false ≡ all bytes)
+nul_nowhere known at end all h whole =
+    with {P = Has at end all} {Q = λ bytes. false ≡ all bytes} known whole
+    (λ bytes whole. let none : end - at ≡ 0 = omega arith in sym (ap (λ n. list_any is_nul (take n (drop at bytes))) none) ∙ whole)
 
 -- ---- the text at an offset of a table
 
@@ -108,25 +137,44 @@ near_is most offset at size bytes h e =
     ] in
     ap (take 65536) part ∙ by (cases_lt n 65536)
 
+within_table : (offset : ℕ) (t : Table) (bytes : List ℕ) → offset < t.size → t.at + t.size ≤ length bytes → nat_lt offset (length (bytes_of t bytes)) ≡ true
+within_table offset t bytes h inside =
+    let size : length (take t.size (drop t.at bytes)) ≡ t.size = length-take t.size (drop t.at bytes) ∙ ap (min t.size) (length-drop t.at bytes) ∙ omega arith in
+    ap (nat_lt offset) size ∙ grind (arith, nat_tests)
+
 text_by : (a : Bool) (b : Bool) (o : Option (List ℕ)) → a ≡ true → cond b o None ≡ cond (a && b) o None
 text_by a b o h = rw h refl
 
-pub text_is : (most offset : ℕ) (t : Table) (bytes : List ℕ) → offset < t.size → t.at + t.size ≤ length bytes → most ≡ min (t.size - offset) 65536 →
+text_is : (most offset : ℕ) (t : Table) (bytes : List ℕ) → offset < t.size → t.at + t.size ≤ length bytes → most ≡ min (t.size - offset) 65536 →
     before_nul (take most (drop (t.at + offset) bytes)) ≡ text_found (bytes_of t bytes) offset
 unfolding near
 text_is most offset t bytes h inside e =
-    let near_here = near_is most offset t.at t.size bytes h e in
-    let size : length (take t.size (drop t.at bytes)) ≡ t.size = length-take t.size (drop t.at bytes) ∙ ap (min t.size) (length-drop t.at bytes) ∙ omega arith in
-    let within : nat_lt offset (length (take t.size (drop t.at bytes))) ≡ true = ap (nat_lt offset) size ∙ grind (arith, nat_tests) in
-    ap before_nul (sym near_here) ∙ text_by (nat_lt offset (length (bytes_of t bytes))) _ _ within
+    ap before_nul (sym (near_is most offset t.at t.size bytes h e)) ∙ text_by (nat_lt offset (length (bytes_of t bytes))) _ _ (within_table offset t bytes h inside)
 
-pub text_known : {F : Type 0} (k : Bool) (known : Option (List ℕ)) (most offset : ℕ) (t : Table) (size : ℕ) (r : Result (Option (List ℕ)) F) → offset < t.size → t.at + t.size ≤ size → most ≡ min (t.size - offset) 65536 →
-    IfKnown known (λ bytes. length bytes ≡ size) → IfOk r (λ o. IfKnown known (λ bytes. o ≡ option_map (kept_text k) (before_nul (take most (drop (t.at + offset) bytes))))) →
-    IfOk r (λ o. IfKnown known (λ bytes. o ≡ option_map (kept_text k) (text_found (bytes_of t bytes) offset)))
-text_known k known most offset t size (Err f) h inside e same read = tt
-text_known k known most offset t size (Ok o) h inside e same read =
-    both {P = λ bytes. length bytes ≡ size} {Q = λ bytes. o ≡ option_map (kept_text k) (before_nul (take most (drop (t.at + offset) bytes)))} {R = λ bytes. o ≡ option_map (kept_text k) (text_found (bytes_of t bytes) offset)} known same read
-    (λ bytes same read. read ∙ ap (option_map (kept_text k)) (text_is most offset t bytes h (omega arith) e))
+has_by : (a b : Bool) → a ≡ true → b ≡ (a && b)
+has_by a b h = rw h refl
+
+has_is : (most offset : ℕ) (t : Table) (bytes : List ℕ) → offset < t.size → t.at + t.size ≤ length bytes → most ≡ min (t.size - offset) 65536 →
+    list_any is_nul (take most (drop (t.at + offset) bytes)) ≡ has_text_at (bytes_of t bytes) offset
+unfolding near
+has_is most offset t bytes h inside e =
+    ap (list_any is_nul) (sym (near_is most offset t.at t.size bytes h e)) ∙ has_by (nat_lt offset (length (bytes_of t bytes))) _ (within_table offset t bytes h inside)
+
+pub text_known : {F : Type 0} (known : Option (List ℕ)) (most offset : ℕ) (t : Table) (size : ℕ) (r : Result (Option (List ℕ)) F) → offset < t.size → t.at + t.size ≤ size → most ≡ min (t.size - offset) 65536 →
+    IfKnown known (λ bytes. length bytes ≡ size) → IfOk r (λ o. IfKnown known (λ bytes. o ≡ before_nul (take most (drop (t.at + offset) bytes)))) →
+    IfOk r (λ o. IfKnown known (λ bytes. o ≡ text_found (bytes_of t bytes) offset))
+text_known known most offset t size (Err f) h inside e same read = tt
+text_known known most offset t size (Ok o) h inside e same read =
+    both {P = λ bytes. length bytes ≡ size} {Q = λ bytes. o ≡ before_nul (take most (drop (t.at + offset) bytes))} {R = λ bytes. o ≡ text_found (bytes_of t bytes) offset} known same read
+    (λ bytes same read. read ∙ text_is most offset t bytes h (omega arith) e)
+
+pub nul_known : {F : Type 0} (known : Option (List ℕ)) (most offset : ℕ) (t : Table) (size : ℕ) (r : Result Bool F) → offset < t.size → t.at + t.size ≤ size → most ≡ min (t.size - offset) 65536 →
+    IfKnown known (λ bytes. length bytes ≡ size) → IfOk r (λ b. IfKnown known (λ bytes. b ≡ list_any is_nul (take most (drop (t.at + offset) bytes)))) →
+    IfOk r (λ b. IfKnown known (λ bytes. b ≡ has_text_at (bytes_of t bytes) offset))
+nul_known known most offset t size (Err f) h inside e same read = tt
+nul_known known most offset t size (Ok b) h inside e same read =
+    both {P = λ bytes. length bytes ≡ size} {Q = λ bytes. b ≡ list_any is_nul (take most (drop (t.at + offset) bytes))} {R = λ bytes. b ≡ has_text_at (bytes_of t bytes) offset} known same read
+    (λ bytes same read. read ∙ has_is most offset t bytes h (omega arith) e)
 
 take_take_min : (n r : ℕ) (xs : List ℕ) → take n (take r xs) ≡ take (min n r) xs
 take_take_min n r xs = elim (cases_lt r n) as (λ _. take n (take r xs) ≡ take (min n r) xs) [

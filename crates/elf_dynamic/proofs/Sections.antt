@@ -189,21 +189,22 @@ strings_there w bytes (Some a) (Some n) t es ea en e = by (table_at bytes (segme
 
 -- ---- the bytes that were taken
 
-pub known_taken : (known : Option (List ℕ)) (a b c n m w : ℕ) (s : Segment) (f : Bool) (table : List ℕ → List ℕ) → b ≤ raised a n →
-    IfKnown known (λ bytes. c ≤ raised b (m + 65536 * counted (table bytes) (no_texts f) (dynamic_entries w bytes s))) → IfKnown known (λ bytes. c ≤ raised a (n + m + 65536 * counting_in w bytes s))
+pub known_taken : (known : Option (List ℕ)) (a b c n m w : ℕ) (s : Segment) (f : Bool) (first : Dynamic) (table : List ℕ → List ℕ) → first ≡ no_texts f → b ≤ raised a n →
+    IfKnown known (λ bytes. c ≤ raised b (m + 65536 * counted (table bytes) first (dynamic_entries w bytes s))) → IfKnown known (λ bytes. c ≤ raised a (n + m + 65536 * counting_in w bytes s))
 unfolding counting_in
-known_taken None a b c n m w s f table h k = tt
-known_taken (Some bytes) a b c n m w s f table h k =
-    let count = counted_all (table bytes) f (dynamic_entries w bytes s) in
-    raised-mono a c (n + (m + 65536 * counted (table bytes) (no_texts f) (dynamic_entries w bytes s))) (n + m + 65536 * length (counting_entries (dynamic_entries w bytes s))) (omega (arith, count))
-    (raised-add a b c n (m + 65536 * counted (table bytes) (no_texts f) (dynamic_entries w bytes s)) h k)
+known_taken None a b c n m w s f first table new h k = tt
+known_taken (Some bytes) a b c n m w s f first table new h k =
+    let count : counted (table bytes) first (dynamic_entries w bytes s) ≡ length (counting_entries (dynamic_entries w bytes s)) =
+    ap (λ d. counted (table bytes) d (dynamic_entries w bytes s)) new ∙ counted_all (table bytes) f (dynamic_entries w bytes s) in
+    raised-mono a c (n + (m + 65536 * counted (table bytes) first (dynamic_entries w bytes s))) (n + m + 65536 * length (counting_entries (dynamic_entries w bytes s))) (omega (arith, count))
+    (raised-add a b c n (m + 65536 * counted (table bytes) first (dynamic_entries w bytes s)) h k)
 
 -- the same of a store, with the table before the texts
-pub texts_taken_by : {e : Ending} (s t u : StoreState) (n m w : ℕ) (d : Segment) (f : Bool) (table : Table) → OnlyReads e s t → TakesAtMost n s t →
-    OfKnown t (λ bytes. TakesAtMost (m + 65536 * counted (bytes_of table bytes) (no_texts f) (dynamic_entries w bytes d)) t u) → OfKnown s (λ bytes. TakesAtMost (n + m + 65536 * counting_in w bytes d) s u)
-texts_taken_by s t u n m w d f table reads first taken =
-    known_taken (known_content s) s.taken t.taken u.taken n m w d f (bytes_of table) first
-    (before (λ bytes. TakesAtMost (m + 65536 * counted (bytes_of table bytes) (no_texts f) (dynamic_entries w bytes d)) t u) s t reads taken)
+pub texts_taken_by : {e : Ending} (s t u : StoreState) (n m w : ℕ) (d : Segment) (f : Bool) (first : Dynamic) (table : Table) → first ≡ no_texts f → OnlyReads e s t → TakesAtMost n s t →
+    OfKnown t (λ bytes. TakesAtMost (m + 65536 * counted (bytes_of table bytes) first (dynamic_entries w bytes d)) t u) → OfKnown s (λ bytes. TakesAtMost (n + m + 65536 * counting_in w bytes d) s u)
+texts_taken_by s t u n m w d f first table new reads before_texts taken =
+    known_taken (known_content s) s.taken t.taken u.taken n m w d f first (bytes_of table) new before_texts
+    (before (λ bytes. TakesAtMost (m + 65536 * counted (bytes_of table bytes) first (dynamic_entries w bytes d)) t u) s t reads taken)
 
 -- ---- the section in known content
 
@@ -266,24 +267,24 @@ module _ (keep : Keep) (known : Option (List ℕ)) (w : ℕ) (s : Segment) (v : 
 -- ---- the faults of other calls
 
 pub table_fault : (keep : Keep) (known : Option (List ℕ)) (w : ℕ) (s : Segment) (v : Values) (fault : ObjectFault) → IfKnown known (λ bytes. v ≡ values_of (dynamic_entries w bytes s)) → 0 < v.texts →
-    IfBad {X = Table} (Err fault) (λ d. IfKnown known (λ bytes. table_by w bytes v.strtab v.strsz ≡ Err d)) → IfBad {X = Dynamic} (Err fault) (λ d. IfKnown known (λ bytes. section_in w bytes s ≡ Err d))
+    IfBad {X = Table} (Err fault) (λ d. IfKnown known (λ bytes. table_by w bytes v.strtab v.strsz ≡ Err d)) → IfBad {X = Unit {0}} (Err fault) (λ d. IfKnown known (λ bytes. section_in w bytes s ≡ Err d))
 table_fault keep known w s v (faults.Bad d) is h bad = known_bad_table keep known w s v is d h bad
 table_fault keep known w s v faults.StoreFault is h bad = tt
 table_fault keep known w s v faults.NoMemory is h bad = tt
 
-pub text_fault : (keep : Keep) (known mid : Option (List ℕ)) (w : ℕ) (s : Segment) (v : Values) (t : List ℕ → List ℕ) (f : Bool) (fault : ObjectFault) → mid ≡ known → f ≡ option_map_or has_nodeflib v.flags_1 false →
+pub text_fault : (keep : Keep) (known mid : Option (List ℕ)) (w : ℕ) (s : Segment) (v : Values) (t : List ℕ → List ℕ) (first : Dynamic) (fault : ObjectFault) → mid ≡ known → first ≡ no_texts (option_map_or has_nodeflib v.flags_1 false) →
     IfKnown known (λ bytes. v ≡ values_of (dynamic_entries w bytes s)) → 0 < v.texts → IfKnown known (λ bytes. table_by w bytes v.strtab v.strsz ≡ Ok (t bytes)) →
-    IfBad {X = Dynamic} (Err fault) (λ d. IfKnown mid (λ bytes. gathered (t bytes) (no_texts f) (dynamic_entries w bytes s) ≡ Err d)) → IfBad {X = Dynamic} (Err fault) (λ d. IfKnown known (λ bytes. section_in w bytes s ≡ Err d))
-text_fault keep known mid w s v t f (faults.Bad d) same flags is h there bad =
+    IfBad {X = Unit {0}} (Err fault) (λ d. IfKnown mid (λ bytes. gathered (t bytes) first (dynamic_entries w bytes s) ≡ Err d)) → IfBad {X = Unit {0}} (Err fault) (λ d. IfKnown known (λ bytes. section_in w bytes s ≡ Err d))
+text_fault keep known mid w s v t first (faults.Bad d) same new is h there bad =
     known_bad_text keep known w s v is t d h there
-    (subst (λ f. IfKnown known (λ bytes. gathered (t bytes) (no_texts f) (dynamic_entries w bytes s) ≡ Err d)) flags
-    (subst (λ o. IfKnown o (λ bytes. gathered (t bytes) (no_texts f) (dynamic_entries w bytes s) ≡ Err d)) same bad))
-text_fault keep known mid w s v t f faults.StoreFault same flags is h there bad = tt
-text_fault keep known mid w s v t f faults.NoMemory same flags is h there bad = tt
+    (subst (λ x. IfKnown known (λ bytes. gathered (t bytes) x (dynamic_entries w bytes s) ≡ Err d)) new
+    (subst (λ o. IfKnown o (λ bytes. gathered (t bytes) first (dynamic_entries w bytes s) ≡ Err d)) same bad))
+text_fault keep known mid w s v t first faults.StoreFault same new is h there bad = tt
+text_fault keep known mid w s v t first faults.NoMemory same new is h there bad = tt
 
-pub flagged : (keep : Keep) (known : Option (List ℕ)) (w : ℕ) (s : Segment) (t : List ℕ → List ℕ) (f : Bool) (v : Values) (d : Dynamic) → f ≡ option_map_or has_nodeflib v.flags_1 false →
-    IfKnown known (λ bytes. kept_of keep (gathered (t bytes) (no_texts f) (dynamic_entries w bytes s)) ≡ Ok (kept keep d)) → IfKnown known (λ bytes. kept_of keep (gathered (t bytes) (no_texts (option_map_or has_nodeflib v.flags_1 false)) (dynamic_entries w bytes s)) ≡ Ok (kept keep d))
-flagged keep known w s t f v d e h = subst (λ f. IfKnown known (λ bytes. kept_of keep (gathered (t bytes) (no_texts f) (dynamic_entries w bytes s)) ≡ Ok (kept keep d))) e h
+pub flagged : (keep : Keep) (known : Option (List ℕ)) (w : ℕ) (s : Segment) (t : List ℕ → List ℕ) (first : Dynamic) (v : Values) (d : Dynamic) → first ≡ no_texts (option_map_or has_nodeflib v.flags_1 false) →
+    IfKnown known (λ bytes. kept_of keep (gathered (t bytes) first (dynamic_entries w bytes s)) ≡ Ok (kept keep d)) → IfKnown known (λ bytes. kept_of keep (gathered (t bytes) (no_texts (option_map_or has_nodeflib v.flags_1 false)) (dynamic_entries w bytes s)) ≡ Ok (kept keep d))
+flagged keep known w s t first v d e h = subst (λ x. IfKnown known (λ bytes. kept_of keep (gathered (t bytes) x (dynamic_entries w bytes s)) ≡ Ok (kept keep d))) e h
 
 -- the values as they were read
 pub values_after : {e : Ending} (s t : StoreState) (w : ℕ) (d : Segment) (v : Values) → OnlyReads e s t → IfKnown (known_content s) (λ bytes. v ≡ values_of (dynamic_entries w bytes d)) → IfKnown (known_content t) (λ bytes. v ≡ values_of (dynamic_entries w bytes d))

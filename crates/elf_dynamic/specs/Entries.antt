@@ -6,7 +6,7 @@ use Rattle.elf_dynamic.specs.declared.kinds.DynamicEntry.{DynamicEntry}
 use Rattle.elf_dynamic.specs.declared.entries.Entries.{Entries}
 use Rattle.elf_dynamic.specs.declared.window.Window.{Window}
 use Rattle.elf_dynamic.specs.Section.{entry_at}
-use Rattle.elf_dynamic.specs.Windows.{unread}
+use Rattle.elf_dynamic.specs.Windows.{ready, unread}
 
 -- so many entries from an offset on
 abbrev pub entries_in : ℕ → List ℕ → ℕ → ℕ → List DynamicEntry
@@ -27,6 +27,15 @@ pub record IsIn (h : Head) (c : Entries) : Type 0 where
   pub within : c.left ≤ c.end
   pub in_file : c.end ≤ h.length
 
+-- the window holds as many of the bytes that are left as the reader knows of
+pub record IsHeld (w : Window) (c : Entries) : Type 0 where
+  pub within : c.held ≤ c.left
+  pub ready : c.held ≤ ready w (c.end - c.left)
+
 -- at most so many bytes are still read
 abbrev pub unread_in : Window → Entries → ℕ
 unread_in w c = unread w c.end (c.end - c.left)
+
+-- the same after the next entry
+abbrev pub unread_after : Window → Entries → ℕ
+unread_after w c = unread w c.end (c.end - c.left + 2 * word_size c.wide)

@@ -4,9 +4,10 @@ use Rattle.std.specs.Option.{option_map_or}
 use Rattle.lib_types.specs.declared.analysis.Defect.{Defect}
 use Rattle.tree_face.specs.Store.{Contents}
 use Rattle.elf_headers.specs.declared.kinds.Segment.{Segment}
+use Rattle.elf_dynamic.specs.declared.kinds.Dynamic.{Dynamic}
 use Rattle.elf_headers.specs.Layout.{is_wide, word_size, phnum}
 use Rattle.elf_headers.specs.Header.{first_defect, header_sentences}
-use Rattle.elf_dynamic.specs.Texts.{counted, no_texts}
+use Rattle.elf_dynamic.specs.Texts.{counted}
 use Rattle.elf_dynamic.specs.Section.{dynamic_segment, is_outside, dynamic_entries, counting_entries}
 
 -- the PT_DYNAMIC, if it is read
@@ -22,9 +23,9 @@ readable_section w bytes =
 abbrev pub section_reading : ℕ → List ℕ → Option Segment → ℕ
 section_reading w bytes s = option_map_or (λ s. 8 * s.filesz + 131072 * length (counting_entries (dynamic_entries w bytes s))) s 0
 
--- For the texts of a section its bytes are read twice, and one text for each entry that counts.
-abbrev pub most_gathered : List ℕ → Bool → ℕ → List ℕ → Segment → ℕ
-most_gathered texts nodeflib w bytes s = 2 * s.filesz + 65536 * counted texts (no_texts nodeflib) (dynamic_entries w bytes s)
+-- For further texts of a section its bytes are read twice, and one text for each entry that counts.
+abbrev pub most_gathered : List ℕ → Dynamic → ℕ → List ℕ → Segment → ℕ
+most_gathered texts found w bytes s = 2 * s.filesz + 65536 * counted texts found (dynamic_entries w bytes s)
 
 -- and for each program header
 abbrev pub reading_after : Option Defect → ℕ → List ℕ → ℕ

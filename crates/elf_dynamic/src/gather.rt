@@ -1,5 +1,5 @@
 //! The texts that the entries name.
-ghost use Rattle.std.specs.Prelude.{◌≡◌, ◌⊎◌, ◌≤◌, ◌+◌, ◌-◌, ◌*◌, ◌∷◌, [], ℕ, List, length, Ok, Err, IfOk, OnOk, IfErr, IsErrOf, if◌then◌else◌};
+ghost use Rattle.std.specs.Prelude.{◌≡◌, ◌⊎◌, ◌≤◌, ◌+◌, ◌-◌, ◌*◌, ◌==◌, false, ◌∷◌, [], ℕ, List, length, Ok, Err, IfOk, OnOk, IfErr, IsErrOf, if◌then◌else◌};
 ghost use Rattle.elf_headers.specs.Layout.{word_size};
 ghost use Rattle.elf_headers.specs.Reading.{OfKnown, TakesAtMost, OnlyReads, IsHeadOf};
 ghost use Rattle.elf_dynamic.specs.declared.kinds.DynamicEntry.{DynamicEntry};
@@ -16,7 +16,7 @@ use crate::entries::Entries;
 use crate::kinds::{Dynamic, DynamicEntry};
 use crate::table::Table;
 use crate::tags::tag;
-use crate::text::text_at;
+use crate::text::{has_text_at, text_at};
 use crate::values::is_text;
 use crate::window::Window;
 use elf_headers::kinds::{Head, Segment};
@@ -64,14 +64,12 @@ fn counts(found: &Dynamic, tag: u64) -> bool
         || tag == tag!(RUNPATH) && found.runpath.is_none()
 }
 
-// Puts the text of an entry that counts in its place. One that isn't kept is empty, and only tells that there is one.
-fn put(keep: Keep, found: &mut Dynamic, tag: u64, text: Text) -> Result<(), NoMemory>
-    ensures { OnOk result (kept keep found.new ≡ kept keep (with_text tag text found.old)) }
+// Puts the text of an entry that counts in its place.
+fn put(found: &mut Dynamic, tag: u64, text: Text) -> Result<(), NoMemory>
+    ensures { OnOk result (found.new ≡ with_text tag text found.old) }
 {
     if tag == tag!(NEEDED) {
-        if keeps(keep, tag) {
-            found.needed.push(text)?;
-        }
+        found.needed.push(text)?;
     } else if tag == tag!(SONAME) {
         found.soname = Some(text);
     } else if tag == tag!(RPATH) {
@@ -80,6 +78,21 @@ fn put(keep: Keep, found: &mut Dynamic, tag: u64, text: Text) -> Result<(), NoMe
         found.runpath = Some(text);
     }
     Ok(())
+}
+
+// Notes the text of an entry that counts, if it isn't kept: that there is one, as an empty text. A DT_NEEDED needs no note.
+fn note(alloc: Global, found: &mut Dynamic, tag: u64)
+    ensures { (text : List ℕ) → (tag == 14) ≡ false → kept Keep.Soname found.new ≡ kept Keep.Soname (with_text tag text found.old) }
+{
+    if tag == tag!(NEEDED) {
+        return;
+    }
+    let empty = Text::from_vec(Vec::new(alloc));
+    if tag == tag!(RPATH) {
+        found.rpath = Some(empty);
+    } else {
+        found.runpath = Some(empty);
+    }
 }
 
 // Adds the text of one entry more.
@@ -108,11 +121,17 @@ fn add<S: Store>(
     if !counts(found, entry.tag) {
         return Ok(());
     }
-    let kept = keeps(keep, entry.tag);
-    let Some(text) = text_at(alloc, store, head, table, entry.value, kept, window)? else {
+    if !keeps(keep, entry.tag) {
+        if !has_text_at(store, head, table, entry.value, window)? {
+            return Err(ObjectFault::Bad(Defect::BadString { tag: entry.tag }));
+        }
+        note(alloc, found, entry.tag);
+        return Ok(());
+    }
+    let Some(text) = text_at(alloc, store, head, table, entry.value, window)? else {
         return Err(ObjectFault::Bad(Defect::BadString { tag: entry.tag }));
     };
-    put(keep, found, entry.tag, text)?;
+    put(found, entry.tag, text)?;
     Ok(())
 }
 
@@ -127,8 +146,8 @@ fn left_after(left: u64, entry: DynamicEntry) -> u64
     }
 }
 
-/// The texts that the entries of a segment name, up to the first entry that counts and has none. Entries behind the last of
-/// those that have texts, which mostly are the first of a section, aren't read.
+/// Adds the texts that the entries of a segment name, up to the first entry that counts and has none. Entries behind the last
+/// of those that have texts, which mostly are the first of a section, aren't read.
 pub fn gather<S: Store>(
     alloc: Global,
     keep: Keep,
@@ -137,38 +156,37 @@ pub fn gather<S: Store>(
     dynamic: Segment,
     texts: u64,
     table: Table,
-    nodeflib: bool,
+    found: &mut Dynamic,
     section: &mut Window,
     window: &mut Window,
-) -> Result<Dynamic, ObjectFault>
+) -> Result<(), ObjectFault>
     requires head { IsHeadOf (S.state store.old) head.now }
     requires inside { dynamic.offset + dynamic.filesz ≤ head.now.length }
     requires texts { OfKnown (S.state store.old) (λ bytes. texts ≡ texts_in (dynamic_entries (word_size head.now.wide) bytes dynamic)) }
     requires within { table.at + table.size ≤ head.now.length }
     requires section { IsWindowOf (S.state store.old) head.now section.old }
     requires window { IsWindowOf (S.state store.old) head.now window.old }
-    ensures gathered { IfOk result (λ d. OfKnown (S.state store.old) (λ bytes.
-        kept_of keep (gathered (bytes_of table bytes) (no_texts nodeflib) (dynamic_entries (word_size head.now.wide) bytes dynamic)) ≡ Ok (kept keep d))) }
+    ensures gathered { OnOk result (OfKnown (S.state store.old) (λ bytes.
+        kept_of keep (gathered (bytes_of table bytes) found.old (dynamic_entries (word_size head.now.wide) bytes dynamic)) ≡ Ok (kept keep found.new))) }
     ensures bad { IfBad result (λ d. OfKnown (S.state store.old) (λ bytes.
-        gathered (bytes_of table bytes) (no_texts nodeflib) (dynamic_entries (word_size head.now.wide) bytes dynamic) ≡ Err d)) }
+        gathered (bytes_of table bytes) found.old (dynamic_entries (word_size head.now.wide) bytes dynamic) ≡ Err d)) }
     ensures range { IfBad result IsBadString }
     ensures begun_head { IsHeadOf (S.state store.new) head.now }
     ensures reads { OnlyReads (object_ending result) (S.state store.old) (S.state store.new) }
     ensures taken { OfKnown (S.state store.old) (λ bytes. TakesAtMost
-        (most_gathered (bytes_of table bytes) nodeflib (word_size head.now.wide) bytes dynamic) (S.state store.old) (S.state store.new)) }
+        (most_gathered (bytes_of table bytes) found.old (word_size head.now.wide) bytes dynamic) (S.state store.old) (S.state store.new)) }
 {
-    let mut found = no_texts(alloc, nodeflib);
     let mut entries = Entries::new(head.wide, dynamic);
     let mut left = texts;
     while let Some(entry) = entries.next(store, head, section)? {
-        match add(alloc, keep, store, head, table, &mut found, entry, window) {
+        match add(alloc, keep, store, head, table, found, entry, window) {
             Ok(()) => {}
             Err(fault) => return Err(fault),
         }
         left = left_after(left, entry);
         if left == 0 {
-            return Ok(found);
+            return Ok(());
         }
     }
-    Ok(found)
+    Ok(())
 }

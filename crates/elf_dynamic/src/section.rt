@@ -13,7 +13,7 @@ ghost use Rattle.elf_dynamic.specs.Object.{has_nodeflib};
 ghost use Rattle.elf_dynamic.specs.Section.{dynamic_entries};
 ghost use Rattle.elf_dynamic.specs.Sections.{section_in, sections_in, counting_in, table_by, name_of, has_good_name};
 ghost use Rattle.elf_dynamic.specs.Taken.{section_reading, readable_section};
-ghost use Rattle.elf_dynamic.specs.Texts.{bytes_of};
+ghost use Rattle.elf_dynamic.specs.Texts.{bytes_of, no_texts};
 ghost use Rattle.elf_dynamic.specs.Values.{values_of};
 ghost use Rattle.elf_dynamic.specs.Windows.{IsWindowOf};
 
@@ -25,7 +25,7 @@ use crate::table::{Table, find_table};
 use crate::values::{Values, read_values};
 use crate::window::Window;
 use elf_headers::kinds::{Head, Segment};
-use lib_types::{Defect, Failed, Text, is_name};
+use lib_types::{Defect, Failed, is_name};
 use std::alloc::Global;
 use tree_face::Store;
 
@@ -41,51 +41,25 @@ fn has_nodeflib(flags: Option<u64>) -> bool
     }
 }
 
-// A DT_SONAME that isn't empty, if it is a name.
-fn name_of(soname: Option<Text>) -> Result<Option<Text>, Defect>
-    ensures name { IfOk result (λ name. name ≡ name_of soname) }
-    ensures good { IfOk result (λ name. has_good_name soname ≡ true) }
-    ensures is_name { IfOk result (λ name. IfSome name (λ name. is_name name ≡ true)) }
+// Names the library by its DT_SONAME, if this isn't empty and is a name.
+fn name(found: &mut Dynamic) -> Result<(), Defect>
+    ensures named { OnOk result (found.new ≡ record found.old { soname = name_of found.old.soname }) }
+    ensures good { OnOk result (has_good_name found.old.soname ≡ true) }
+    ensures name { OnOk result (HasSoname found.new) }
     ensures bad { IfErr result (λ d. d ≡ BadSoname) }
-    ensures bad_name { OnErr result (has_good_name soname ≡ false) }
+    ensures bad_name { OnErr result (has_good_name found.old.soname ≡ false) }
 {
-    let Some(text) = soname else {
-        return Ok(None);
+    let Some(text) = &found.soname else {
+        return Ok(());
     };
     if text.as_bytes().is_empty() {
-        return Ok(None);
+        found.soname = None;
+        return Ok(());
     }
     if !is_name(text.as_bytes()) {
         return Err(Defect::BadSoname);
     }
-    Ok(Some(text))
-}
-
-// The texts with the name of the library.
-fn named(found: Dynamic) -> Result<Dynamic, Defect>
-    ensures named { IfOk result (λ d. d ≡ record found { soname = name_of found.soname }) }
-    ensures good { IfOk result (λ d. has_good_name found.soname ≡ true) }
-    ensures name { IfOk result HasSoname }
-    ensures bad { IfErr result (λ d. d ≡ BadSoname) }
-    ensures bad_name { OnErr result (has_good_name found.soname ≡ false) }
-{
-    let Dynamic {
-        soname,
-        needed,
-        rpath,
-        runpath,
-        nodeflib,
-    } = found;
-    match name_of(soname) {
-        Ok(soname) => Ok(Dynamic {
-            soname,
-            needed,
-            rpath,
-            runpath,
-            nodeflib,
-        }),
-        Err(defect) => Err(defect),
-    }
+    Ok(())
 }
 
 // The string table with the address and the size that the entries give.
@@ -120,7 +94,7 @@ fn find_strings<S: Store>(
     }
 }
 
-// What a section says whose entries have texts.
+// Adds what a section says whose entries have texts.
 fn read_texts<S: Store>(
     alloc: Global,
     keep: Keep,
@@ -128,19 +102,21 @@ fn read_texts<S: Store>(
     head: &Head,
     dynamic: Segment,
     values: Values,
+    found: &mut Dynamic,
     section: &mut Window,
     window: &mut Window,
-) -> Result<Dynamic, ObjectFault>
+) -> Result<(), ObjectFault>
     requires head { IsHeadOf (S.state store.old) head.now }
     requires inside { dynamic.offset + dynamic.filesz ≤ head.now.length }
     requires section { IsWindowOf (S.state store.old) head.now section.old }
     requires window { IsWindowOf (S.state store.old) head.now window.old }
     requires values { OfKnown (S.state store.old) (λ bytes. values ≡ values_of (dynamic_entries (word_size head.now.wide) bytes dynamic)) }
     requires texts { 0 < values.texts }
-    ensures section { IfOk result (λ d. OfKnown (S.state store.old) (λ bytes.
-        kept_of keep (section_in (word_size head.now.wide) bytes dynamic) ≡ Ok (kept keep d))) }
+    requires first { found.old ≡ no_texts (option_map_or has_nodeflib values.flags_1 false) }
+    ensures section { OnOk result (OfKnown (S.state store.old) (λ bytes.
+        kept_of keep (section_in (word_size head.now.wide) bytes dynamic) ≡ Ok (kept keep found.new))) }
     ensures bad { IfBad result (λ d. OfKnown (S.state store.old) (λ bytes. section_in (word_size head.now.wide) bytes dynamic ≡ Err d)) }
-    ensures name { IfOk result HasSoname }
+    ensures name { OnOk result (HasSoname found.new) }
     ensures range { IfBad result IsInRange }
     ensures no_memory { IsErrOf result ObjectFault.NoMemory → OfKnown (S.state store.old) (λ bytes. IfErr (section_in (word_size head.now.wide) bytes dynamic) IsBehindTexts) }
     ensures begun_head { IsHeadOf (S.state store.new) head.now }
@@ -152,8 +128,7 @@ fn read_texts<S: Store>(
         Ok(table) => table,
         Err(fault) => return Err(fault),
     };
-    let nodeflib = has_nodeflib(values.flags_1);
-    let found = match gather(
+    match gather(
         alloc,
         keep,
         store,
@@ -161,15 +136,15 @@ fn read_texts<S: Store>(
         dynamic,
         values.texts,
         table,
-        nodeflib,
+        found,
         section,
         window,
     ) {
-        Ok(found) => found,
+        Ok(()) => {}
         Err(fault) => return Err(fault),
-    };
-    match named(found) {
-        Ok(dynamic) => Ok(dynamic),
+    }
+    match name(found) {
+        Ok(()) => Ok(()),
         Err(defect) => Err(ObjectFault::Bad(defect)),
     }
 }
@@ -199,19 +174,24 @@ fn read_section<S: Store>(
 {
     let mut section = Window::new();
     let values = read_values(store, head, dynamic, &mut section)?;
+    let mut found = no_texts(alloc, has_nodeflib(values.flags_1));
     if values.texts == 0 {
-        return Ok(no_texts(alloc, has_nodeflib(values.flags_1)));
+        return Ok(found);
     }
-    read_texts(
+    match read_texts(
         alloc,
         keep,
         store,
         head,
         dynamic,
         values,
+        &mut found,
         &mut section,
         window,
-    )
+    ) {
+        Ok(()) => Ok(found),
+        Err(fault) => Err(fault),
+    }
 }
 
 fn is_outside(head: &Head, s: Segment) -> bool

@@ -48,9 +48,9 @@ impl Window {
         }
     }
 
-    // How many bytes it holds from an offset on.
+    /// How many bytes it holds from an offset on.
     #[tactic(auto, unfolding(crate::specs::Windows::ready))]
-    fn ready(&self, at: u64) -> u64
+    pub fn ready(&self, at: u64) -> u64
         ensures { result ≡ ready self.now at }
     {
         if at < self.at {

@@ -16,6 +16,7 @@ use Rattle.lib_types.proofs.SortedPairs.{by_test}
 use Rattle.image_tree.specs.Tree.{Nodes}
 use Rattle.indexmap.specs.IndexSet.{insert_key}
 use Rattle.found_files.proofs.EachOnce.{ascending_alike, each_alike, taken_made}
+use Rattle.found_files.proofs.InOrder.{any_ascending}
 use Rattle.found_files.specs.Order.{ascending}
 use Rattle.found_files.specs.RealFolders.{HaveRows, IsRowOf}
 use Rattle.found_files.specs.Search.{files_at, files_in, followed, links_at}
@@ -148,11 +149,12 @@ module _ {Y : Type 0} (f : List ℕ → Y) where
 
 -- ---- the files of each
 
+-- whatever the order of the folders
 pub files_once : (t : Nodes) (places : List Place) (folders : List (List ℕ)) (rows : List ℕ) → HaveRows (reals places) folders rows
-    → ascending (flat_map (files_at t) folders) ≡ ascending (flat_map (files_in t) places)
+    → ascending (flat_map (files_at t) (ascending folders)) ≡ ascending (flat_map (files_in t) places)
 files_once t places folders rows have =
-    let same : HaveSame folders (reals places) = λ test. each_alike folders rows have.rows test ∙ ap (list_any test) have.are in
-    ascending_alike (files_at t) folders (reals places) same ∙ ap ascending (flat_map-map (files_at t) (λ (place : Place). place.real) places)
+    let same : HaveSame (ascending folders) (reals places) = λ test. any_ascending test folders ∙ each_alike folders rows have.rows test ∙ ap (list_any test) have.are in
+    ascending_alike (files_at t) (ascending folders) (reals places) same ∙ ap ascending (flat_map-map (files_at t) (λ (place : Place). place.real) places)
 
 pub links_once : (t : Nodes) (places : List Place) (folders : List (List ℕ)) (rows : List ℕ) (links : List FolderLinks) → HaveRows (reals places) folders rows
     → links ≡ map (links_at t) folders → taken links rows ≡ followed t places

@@ -1,5 +1,5 @@
 -- What items come to by their sonames, if they come in the order of these: each soname's items follow one another.
-use Rattle.std.proofs.Common.{◌≡◌, inl, inr, ◌<◌, ◌+◌, ℕ, suc, Bool, true, false, cond, not, ◌&&◌, ◌||◌, List, [], ◌∷◌, ◌++◌, append_assoc, get_or, length, map, refl, ap, sym, subst, ◌∙◌, Option, Some, None, Ordering, arith}
+use Rattle.std.proofs.Common.{◌≡◌, inl, inr, ◌<◌, ◌+◌, ◌-◌, ℕ, suc, zero, Bool, true, false, cond, not, ◌&&◌, ◌||◌, List, [], ◌∷◌, ◌++◌, append_assoc, get_or, length, map, refl, ap, sym, subst, ◌∙◌, Option, Some, None, Ordering, arith}
 use Rattle.std.proofs.lemmas.Cmp.{nat_list_cmp_total, tied_itself}
 use Rattle.std.proofs.lemmas.List.Elements.{filter_agree}
 use Rattle.std.proofs.lemmas.List.Sorted.{length_permutation, list_any-IsPermutation, ranks_by, sorted_far}
@@ -8,10 +8,10 @@ use Rattle.std.proofs.lemmas.Slice.Eq.{bytes_eq-Decides}
 use Rattle.std.specs.BTreeMap.{is_at}
 use Rattle.std.specs.Cmp.{IsStrictWeakOrder}
 use Rattle.std.specs.Cmp.Lexicographic.{slice_cmp, texts_ties}
-use Rattle.std.specs.List.{AllByRecursion, filter, fold, list_any}
+use Rattle.std.specs.List.{AllByRecursion, filter, fold, list_any, slice_get}
 use Rattle.std.specs.List.Sorted.{IsPermutation, IsSorted, IsSortedBy, IsStable, IsStrictlySortedBy, ties}
 use Rattle.std.specs.Map.{keys_of}
-use Rattle.std.specs.Option.{is_some}
+use Rattle.std.specs.Option.{is_some, option_map, unwrap_or}
 use Rattle.std.specs.Ordering.{is_eq, is_lt, match_ordering, nat_cmp}
 use Rattle.std.specs.Str.{bytes_eq}
 use Rattle.std.specs.declared.cmp.Ordering.TheVariants.{Less, Equal, Greater}
@@ -20,7 +20,7 @@ use Rattle.found_files.proofs.InOrder.{ascending_sorted, in_ascending, same_text
 use Rattle.found_files.proofs.Members.{is_in, itself, same_members}
 use Rattle.found_files.proofs.Ordered.{keys_stay}
 use Rattle.found_files.specs.Order.{AreAscending, ascending, with_text}
-use Rattle.found_files.specs.Sonames.{AreBySoname, AreGathered, AreOrdered, IsGathered, found_at, gathered_at, of_soname, soname_order, soname_order-total}
+use Rattle.found_files.specs.Sonames.{AreBySoname, AreGathered, AreOrdered, IsGathered, found_at, gathered_at, is_last, of_soname, soname_order, soname_order-total}
 
 abbrev cmp : List ℕ → List ℕ → Ordering
 cmp = slice_cmp nat_cmp
@@ -191,17 +191,37 @@ module _ {G : Type 0} where
         let there : bytes_eq x k ≡ true = (bytes_eq-Decides x k).1 (sym (same_text k x a)) in absurd (cc))
         (λ a. flipped nat_list_cmp_total k x Greater a)
 
-    -- the others are below a key that isn't below them, if the last of them is another
-    pub all_less : (front : List (List ℕ × G)) (last : List ℕ × G) → AreOrdered (front ++ last ∷ []) → AllByRecursion (λ x. is_lt (cmp k x) ≡ false) (keys_of (front ++ last ∷ []))
-        → bytes_eq last.0 k ≡ false → AllByRecursion (λ x. cmp x k ≡ Less) (keys_of (front ++ last ∷ []))
-    all_less [] last s a other = (less_from last.0 a.0 other, tt)
-    all_less (e ∷ front) last s a other =
-        let rest = all_less front last (sorted_tail cmp e.0 (keys_of (front ++ last ∷ [])) s) a.1 other in
-        (below front (sorted_head cmp e.0 (keys_of (front ++ last ∷ [])) s) rest, rest)
-      where
-        below : (front : List (List ℕ × G)) → AllByRecursion (λ y. cmp e.0 y ≡ Less) (keys_of (front ++ last ∷ [])) → AllByRecursion (λ x. cmp x k ≡ Less) (keys_of (front ++ last ∷ [])) → cmp e.0 k ≡ Less
-        below [] a b = nat_list_cmp_total.trans e.0 last.0 k a.0 b.0
-        below (f ∷ front) a b = below front a.1 b.1
+    -- all are below a key that is below none of them, if the last of them is another
+    pub all_less : (es : List (List ℕ × G)) → AreOrdered es → AllByRecursion (λ x. is_lt (cmp k x) ≡ false) (keys_of es) → is_last k es ≡ false
+        → AllByRecursion (λ x. cmp x k ≡ Less) (keys_of es)
+    all_less [] s a other = tt
+    all_less (e ∷ []) s a other = (less_from e.0 a.0 other, tt)
+    all_less (e ∷ f ∷ es) s a other =
+        let rest = all_less (f ∷ es) (sorted_tail cmp e.0 (keys_of (f ∷ es)) s) a.1 other in
+        (nat_list_cmp_total.trans e.0 f.0 k (sorted_head cmp e.0 (keys_of (f ∷ es)) s).0 rest.0, rest)
+
+module _ {G : Type 0} (soname : List ℕ) where
+  last_at : (es : List (List ℕ × G)) (at : ℕ) → at ≡ length es - 1 → is_last soname es ≡ unwrap_or (option_map (λ e. bytes_eq e.0 soname) (slice_get es at)) false
+  last_at [] zero h = refl
+  last_at [] (suc at) h = refl
+  last_at (e ∷ []) zero h = refl
+  last_at (e ∷ []) (suc at) h = absurd (omega arith)
+  last_at (e ∷ f ∷ es) zero h = absurd (omega arith)
+  last_at (e ∷ f ∷ es) (suc at) h = last_at (f ∷ es) at (omega arith)
+
+  -- the last one, if there is one
+  pub last_is : (es : List (List ℕ × G)) (o : Option (List ℕ × G)) → o ≡ slice_get es (length es - 1) → is_last soname es ≡ unwrap_or (option_map (λ e. bytes_eq e.0 soname) o) false
+  last_is es o e = last_at es (length es - 1) refl ∙ ap (λ p. unwrap_or (option_map (λ e. bytes_eq e.0 soname) p) false) (sym e)
+
+  ends : (front : List (List ℕ × G)) (last : List ℕ × G) → is_last soname (front ++ last ∷ []) ≡ bytes_eq last.0 soname
+  ends [] last = refl
+  ends (e ∷ []) last = refl
+  ends (e ∷ f ∷ front) last = ends (f ∷ front) last
+
+  pub last_has : (es front : List (List ℕ × G)) (last : List ℕ × G) → es ≡ front ++ last ∷ [] → is_last soname es ≡ true → es ≡ front ++ (soname, last.1) ∷ []
+  last_has es front last e h =
+      let same : last.0 ≡ soname = (bytes_eq-Decides last.0 soname).0 (sym (ends front last) ∙ sym (ap (is_last soname) e) ∙ h) in
+      e ∙ ap (λ q. front ++ (q, last.1) ∷ []) same
 
 -- ---- one item more
 
@@ -210,24 +230,23 @@ module _ {X G : Type 0} (step : Option G → X → Option G) (soname : List ℕ)
   there_last front last s = found_again soname last last front s soname ∙ ap (λ b. cond b (Some last) (found_at (front ++ (soname, last) ∷ []) soname)) (itself soname)
 
   -- it comes to the last one, which has its soname
-  pub gathered_last : (es front : List (List ℕ × G)) (last : List ℕ × G) (g : G) (new : List (List ℕ × G)) → es ≡ front ++ last ∷ [] → last.0 ≡ soname → AreOrdered es
-      → Some g ≡ step (Some last.1) item → new ≡ front ++ (soname, g) ∷ [] → IsGathered step es soname item new
-  gathered_last es front last g new is same s steps made =
-      let there : es ≡ front ++ (soname, last.1) ∷ [] = is ∙ ap (λ k. front ++ (k, last.1) ∷ []) same in
-      subst (λ xs. IsGathered step xs soname item new) (sym there) (subst (λ ys. IsGathered step (front ++ (soname, last.1) ∷ []) soname item ys) (sym made) (made_of (subst AreOrdered there s)))
+  pub gathered_last : (es front : List (List ℕ × G)) (last g : G) (new : List (List ℕ × G)) → es ≡ front ++ (soname, last) ∷ [] → AreOrdered es
+      → Some g ≡ step (Some last) item → new ≡ front ++ (soname, g) ∷ [] → IsGathered step es soname item new
+  gathered_last es front last g new is s steps made =
+      subst (λ xs. IsGathered step xs soname item new) (sym is) (subst (λ ys. IsGathered step (front ++ (soname, last) ∷ []) soname item ys) (sym made) (made_of (subst AreOrdered is s)))
     where
-      made_of : AreOrdered (front ++ (soname, last.1) ∷ []) → IsGathered step (front ++ (soname, last.1) ∷ []) soname item (front ++ (soname, g) ∷ [])
+      made_of : AreOrdered (front ++ (soname, last) ∷ []) → IsGathered step (front ++ (soname, last) ∷ []) soname item (front ++ (soname, g) ∷ [])
       made_of o = record {
-        keys = keys_again soname g last.1 front o;
-        found = λ q. found_again soname g last.1 front o q ∙ by_test (bytes_eq soname q)
+        keys = keys_again soname g last front o;
+        found = λ q. found_again soname g last front o q ∙ by_test (bytes_eq soname q)
             (λ e.
             let here : soname ≡ q = (bytes_eq-Decides soname q).0 e in
-            let was : found_at (front ++ (soname, last.1) ∷ []) q ≡ Some last.1 =
-            subst (λ (p : List ℕ). found_at (front ++ (soname, last.1) ∷ []) p ≡ Some last.1) here (there_last front last.1 o) in
+            let was : found_at (front ++ (soname, last) ∷ []) q ≡ Some last =
+            subst (λ (p : List ℕ). found_at (front ++ (soname, last) ∷ []) p ≡ Some last) here (there_last front last o) in
             rw (e, was) steps)
             (λ e. rw e refl);
-        ordered = ordered_again soname g last.1 front o;
-        same_or_more = inl (same_keys soname g last.1 front);
+        ordered = ordered_again soname g last front o;
+        same_or_more = inl (same_keys soname g last front);
       }
 
   -- it is the first of its soname

@@ -6,7 +6,7 @@ use Rattle.std.proofs.lemmas.List.Kept.{IsStrictlySortedBy-dedup}
 use Rattle.std.proofs.lemmas.List.Sorted.{list_any-IsPermutation}
 use Rattle.std.proofs.lemmas.Slice.Eq.{bytes_eq-Decides}
 use Rattle.std.specs.Cmp.Lexicographic.{slice_cmp, texts_ties}
-use Rattle.std.specs.List.{AllByRecursion, dedup, filter, fold}
+use Rattle.std.specs.List.{AllByRecursion, dedup, filter, fold, list_any}
 use Rattle.std.specs.List.Retain.{DiffersFromLast, IsFiltered}
 use Rattle.std.specs.List.Sorted.{IsPermutation, IsSorted, IsStrictlySortedBy}
 use Rattle.std.specs.Ordering.{is_eq, match_ordering, nat_cmp}
@@ -40,16 +40,16 @@ sorted_with (x ∷ ks) k s = by_ordering (cmp k x)
 pub same_text : (k x : List ℕ) → cmp k x ≡ Equal → k ≡ x
 same_text k x a = (bytes_eq-Decides k x).0 (texts_ties k x ∙ ap is_eq a)
 
-in_with : (ks : List (List ℕ)) (k z : List ℕ) → is_in (with_text ks k) z ≡ (bytes_eq z k || is_in ks z)
-in_with [] k z = refl
-in_with (x ∷ ks) k z = by_ordering (cmp k x)
-    (λ a. ap (λ xs. is_in xs z) (text_put k x ks Less a))
+any_with : (test : List ℕ → Bool) (ks : List (List ℕ)) (k : List ℕ) → list_any test (with_text ks k) ≡ (test k || list_any test ks)
+any_with test [] k = refl
+any_with test (x ∷ ks) k = by_ordering (cmp k x)
+    (λ a. ap (list_any test) (text_put k x ks Less a))
     (λ a.
-    let whole : is_in (x ∷ ks) z ≡ (bytes_eq z k || is_in (x ∷ ks) z) =
-    subst (λ (q : List ℕ). is_in (x ∷ ks) z ≡ (bytes_eq z q || is_in (x ∷ ks) z)) (sym (same_text k x a)) (twice (bytes_eq z x) (is_in ks z)) in
-    ap (λ xs. is_in xs z) (text_put k x ks Equal a) ∙ whole)
+    let whole : list_any test (x ∷ ks) ≡ (test k || list_any test (x ∷ ks)) =
+    subst (λ (q : List ℕ). list_any test (x ∷ ks) ≡ (test q || list_any test (x ∷ ks))) (sym (same_text k x a)) (twice (test x) (list_any test ks)) in
+    ap (list_any test) (text_put k x ks Equal a) ∙ whole)
     (λ a.
-    ap (λ xs. is_in xs z) (text_put k x ks Greater a) ∙ ap (λ b. bytes_eq z x || b) (in_with ks k z) ∙ swapped (bytes_eq z x) (bytes_eq z k) (is_in ks z))
+    ap (list_any test) (text_put k x ks Greater a) ∙ ap (λ b. test x || b) (any_with test ks k) ∙ swapped (test x) (test k) (list_any test ks))
 
 length_with : (ks : List (List ℕ)) (k : List ℕ) → is_in ks k ≡ false → length (with_text ks k) ≡ length ks + 1
 length_with [] k h = refl
@@ -74,21 +74,25 @@ moved true true c = refl
 moved true false c = refl
 moved false b c = refl
 
-in_fold : (xs ks : List (List ℕ)) (z : List ℕ) → is_in (fold with_text ks xs) z ≡ (is_in ks z || is_in xs z)
-in_fold [] ks z = or_false (is_in ks z)
+any_fold : (test : List ℕ → Bool) (xs ks : List (List ℕ)) → list_any test (fold with_text ks xs) ≡ (list_any test ks || list_any test xs)
+any_fold test [] ks = or_false (list_any test ks)
   where
     or_false : (a : Bool) → a ≡ (a || false)
     or_false true = refl
     or_false false = refl
-in_fold (x ∷ xs) ks z = in_fold xs (with_text ks x) z ∙ ap (λ b. b || is_in xs z) (in_with ks x z) ∙ moved (bytes_eq z x) (is_in ks z) (is_in xs z)
+any_fold test (x ∷ xs) ks = any_fold test xs (with_text ks x) ∙ ap (λ b. b || list_any test xs) (any_with test ks x) ∙ moved (test x) (list_any test ks) (list_any test xs)
 
 pub ascending_sorted : (xs : List (List ℕ)) → AreSorted (ascending xs)
 unfolding ascending IsStrictlySortedBy
 ascending_sorted xs = sorted_fold xs [] tt
 
-pub in_ascending : (xs : List (List ℕ)) (z : List ℕ) → is_in (ascending xs) z ≡ is_in xs z
+-- the same texts, for each test
+pub any_ascending : (test : List ℕ → Bool) (xs : List (List ℕ)) → list_any test (ascending xs) ≡ list_any test xs
 unfolding ascending
-in_ascending xs z = in_fold xs [] z
+any_ascending test xs = any_fold test xs []
+
+pub in_ascending : (xs : List (List ℕ)) (z : List ℕ) → is_in (ascending xs) z ≡ is_in xs z
+in_ascending xs z = any_ascending (bytes_eq z) xs
 
 -- a text more, and those that are others
 module _ (x : List ℕ) (xs : List (List ℕ)) where
@@ -103,7 +107,7 @@ module _ (x : List ℕ) (xs : List (List ℕ)) where
       (sorted_with (ascending (filter differs xs)) x (ascending_sorted (filter differs xs)))
       (λ z.
       in_ascending (x ∷ xs) z ∙ one_or_other z
-      ∙ sym (in_with (ascending (filter differs xs)) x z ∙ ap (λ b. bytes_eq z x || b) (in_ascending (filter differs xs) z ∙ kept_in differs z xs)))
+      ∙ sym (any_with (bytes_eq z) (ascending (filter differs xs)) x ∙ ap (λ b. bytes_eq z x || b) (in_ascending (filter differs xs) z ∙ kept_in differs z xs)))
 
   not_there : is_in (ascending (filter differs xs)) x ≡ false
   not_there = in_ascending (filter differs xs) x ∙ kept_in differs x xs ∙ ap (λ b. not b && is_in xs x) (itself x)

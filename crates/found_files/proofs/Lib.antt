@@ -10,6 +10,8 @@ pub mod InOrder
 pub mod Members
 pub mod Named
 pub mod NoOtherFiles
+mod OneLink
+mod OneText
 pub mod Ordered
 mod Rows
 pub mod Unread

@@ -19,7 +19,7 @@ use Rattle.found_files.specs.Search.{files_of, followed, reached}
 use Rattle.found_files.specs.Shared.{HaveSame}
 use Rattle.found_files.specs.Table.{analysis_at}
 use Rattle.found_files.specs.Unread.{unread_file, unread_of}
-use Rattle.found_files.specs.declared.links.FollowedLink.{FollowedLink}
+use Rattle.found_files.specs.Link.{FollowedLink}
 use Rattle.found_files.specs.declared.links.FolderLinks.{FolderLinks}
 
 -- texts that are left out may be left out before

@@ -4,6 +4,8 @@ pub mod Children
 pub mod Folders
 pub mod Libraries
 pub mod Library
+pub mod Link
+pub mod OneText
 pub mod Order
 pub mod Pick
 pub mod Places

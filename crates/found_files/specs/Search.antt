@@ -10,7 +10,7 @@ use Rattle.image_tree.specs.Tree.{Nodes, kind_at, children_of}
 use Rattle.image_tree.specs.declared.tree.Kind.{Kind}
 use Rattle.image_tree.specs.declared.tree.Kind.TheVariants as kinds
 use Rattle.found_files.specs.Order.{ascending}
-use Rattle.found_files.specs.declared.links.FollowedLink.{FollowedLink}
+use Rattle.found_files.specs.Link.{FollowedLink}
 use Rattle.found_files.specs.declared.links.FolderLinks.{FolderLinks}
 
 abbrev pub is_link : Kind → Bool

@@ -1,5 +1,5 @@
 -- Items in the order of their sonames.
-use Rattle.std.specs.Prelude.{◌≡◌, ◌⊎◌, ℕ, List, [], ◌∷◌, ◌++◌, if◌then◌else◌, filter, fold, Option, None}
+use Rattle.std.specs.Prelude.{◌≡◌, ◌⊎◌, ℕ, Bool, false, List, [], ◌∷◌, ◌++◌, if◌then◌else◌, filter, fold, Option, None}
 use Rattle.std.specs.Cmp.{IsTotalOrder, on_total}
 use Rattle.std.specs.Cmp.Lexicographic.{nat_list_cmp_total, slice_cmp}
 use Rattle.std.specs.BTreeMap.{is_at}
@@ -33,6 +33,12 @@ found_at es soname = lookup (is_at (slice_cmp nat_cmp soname)) es
 
 abbrev pub AreOrdered : {G : Type 0} → List (List ℕ × G) → Type 0
 AreOrdered es = IsStrictlySortedBy (slice_cmp nat_cmp) (keys_of es)
+
+-- the last one has this soname
+abbrev pub is_last : {G : Type 0} → List ℕ → List (List ℕ × G) → Bool
+is_last soname [] = false
+is_last soname (e ∷ []) = bytes_eq e.0 soname
+is_last soname (e ∷ f ∷ es) = is_last soname (f ∷ es)
 
 -- what the items with a soname come to, one after another
 abbrev pub gathered_at : {X G : Type 0} → (Option G → X → Option G) → List (List ℕ × X) → List ℕ → Option G

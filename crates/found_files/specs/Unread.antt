@@ -3,7 +3,7 @@ use Rattle.std.specs.Prelude.{ℕ, List, if◌then◌else◌, Option, Some, None
 use Rattle.std.specs.List.{filter_map}
 use Rattle.std.specs.Option.{is_none, option_and_then}
 use Rattle.found_files.specs.Analyses.{Analyses}
-use Rattle.found_files.specs.declared.links.FollowedLink.{FollowedLink}
+use Rattle.found_files.specs.Link.{FollowedLink}
 use Rattle.found_files.specs.declared.links.FolderLinks.{FolderLinks}
 
 -- the file to which a link leads, if it has no analysis

@@ -1,68 +1,187 @@
-//! Which of two libraries of one soname is better.
-ghost use Rattle.std.specs.Prelude.{◌≡◌, IfOk, unwrap_or};
+//! The best libraries of sonames, and which of two is better.
+ghost use Rattle.std.specs.Prelude.{◌≡◌, ◌∷◌, ◌++◌, [], IfOk, OnErr, OnOk, length};
 ghost use Rattle.found_files.specs.Best.{is_own, is_preferred};
+ghost use Rattle.found_files.specs.Library.{Library};
+ghost use Rattle.found_files.specs.OneText.{library_in, part_of, AreWithin, IsLonger, IsRowWithin, IsWithin};
 
-use crate::libraries::{Library, soname_or};
+use crate::libraries::Library;
 use crate::shared::Shared;
-use lib_types::{Abi, NoMemory, Seq, Text, are_same};
+use lib_types::{Abi, NoMemory, are_same};
 use name_order::compare;
 use std::alloc::Global;
 use std::cmp::Ordering;
 use std::marker::Model;
 
-/// The best library of a soname in a place.
-#[derive(Drop)]
-pub struct BestLibrary {
-    name: Text,
-    // none if it is the name
-    soname: Option<Text>,
+// How many bytes a library's name and soname take, more or less: room for so many is taken at once.
+const NAMES_LEN: usize = 24;
+
+// Where a name is in a text.
+#[derive(Clone, Copy)]
+struct Part {
+    from: usize,
+    to: usize,
+}
+
+// Where a library's name and soname are in a text.
+#[derive(Clone, Copy)]
+struct Row {
+    name: Part,
+    soname: Part,
     abi: Abi,
 }
 
-/// The best library of each soname of each place, by the bytes of the sonames, in the order of the places.
-pub type PlaceBests = Shared<Seq<BestLibrary>>;
-
-impl Model for BestLibrary {
-    ghost use Rattle.std.specs.Prelude.{unwrap_or};
-    ghost use Rattle.found_files.specs.Library.{Library};
-
-    ghost Value = { Library };
-
-    ghost view = { λ l. record { name = l.name; soname = unwrap_or l.soname l.name; abi = l.abi } };
+/// The best library of each soname of a folder, by the bytes of the sonames. Their names and sonames are kept in one text. Contracts see
+/// it as the list of the libraries.
+#[derive(Drop)]
+pub struct BestLibraries {
+    text: Vec<u8>,
+    rows: Vec<Row>,
 }
 
-impl BestLibrary {
-    /// A copy of this library.
-    pub fn copy_of(alloc: Global, library: &Library<'_>) -> Result<BestLibrary, NoMemory>
-        ensures { IfOk result (λ copy. copy ≡ library.now) }
-    {
-        Ok(BestLibrary {
-            name: Text::copy_of(alloc, library.name)?,
-            soname: soname_beside(alloc, library)?,
+/// The best library of each soname of each place, in the order of the places.
+pub type PlaceBests = Shared<BestLibraries>;
+
+impl Model for BestLibraries {
+    ghost use Rattle.std.specs.Prelude.{List, length, map};
+    ghost use Rattle.found_files.specs.Library.{Library};
+    ghost use Rattle.found_files.specs.OneText.{library_in, AreWithin};
+
+    ghost Value = { List Library };
+
+    ghost view = { λ l. map (library_in l.text.items) l.rows.items };
+
+    ghost invariant = { λ l. AreWithin (length l.text.items) l.rows.items };
+}
+
+// The bytes of a part.
+fn bytes_of<'a>(text: &'a [u8], part: Part) -> &'a [u8]
+    requires { IsWithin (length text.now) part }
+    ensures { result.now ≡ part_of text.now part }
+{
+    &text[part.from..part.to]
+}
+
+// The library of a row.
+fn library_in<'a>(text: &'a [u8], row: &Row) -> Library<'a>
+    requires { IsRowWithin (length text.now) row.now }
+    ensures { result ≡ library_in text.now row.now }
+{
+    Library {
+        name: bytes_of(text, row.name),
+        soname: bytes_of(text, row.soname),
+        abi: row.abi,
+    }
+}
+
+// Adds bytes to a text.
+#[tactic(auto, using(crate::proofs::OneText::added_is, crate::proofs::OneText::added_within))]
+fn add_bytes(text: &mut Vec<u8>, bytes: &[u8]) -> Result<Part, NoMemory>
+    ensures added { OnOk result (text.new.items ≡ text.old.items ++ bytes.now) }
+    ensures within { IfOk result (IsWithin (length text.new.items)) }
+    ensures part { IfOk result (λ part. part_of text.new.items part ≡ bytes.now) }
+    ensures refused { OnErr result (text.new.items ≡ text.old.items) }
+{
+    let from = text.len();
+    text.extend_from_slice(bytes)?;
+    Ok(Part {
+        from,
+        to: text.len(),
+    })
+}
+
+// Adds the name of a library to a text, and its soname if it is another.
+fn add_names(text: &mut Vec<u8>, library: &Library<'_>) -> Result<Row, NoMemory>
+    ensures longer { IsLonger text.old.items text.new.items }
+    ensures within { IfOk result (IsRowWithin (length text.new.items)) }
+    ensures row { IfOk result (λ row. library_in text.new.items row ≡ library.now) }
+{
+    let name = add_bytes(text, library.name)?;
+    if is_own(library) {
+        return Ok(Row {
+            name,
+            soname: name,
             abi: library.abi,
+        });
+    }
+    let soname = add_bytes(text, library.soname)?;
+    Ok(Row {
+        name,
+        soname,
+        abi: library.abi,
+    })
+}
+
+impl BestLibraries {
+    /// No libraries, with room for so many.
+    pub fn with_capacity(alloc: Global, count: usize) -> Result<BestLibraries, NoMemory>
+        ensures { IfOk result (λ libraries. libraries ≡ []) }
+    {
+        Ok(BestLibraries {
+            text: Vec::with_capacity(alloc, count.saturating_mul(NAMES_LEN))?,
+            rows: Vec::with_capacity(alloc, count)?,
         })
     }
 
-    /// The library, borrowed.
-    pub fn library(&self) -> Library<'_>
+    /// How many they are.
+    pub fn len(&self) -> usize
+        ensures { result ≡ length self.now }
+    {
+        self.rows.len()
+    }
+
+    /// Adds a copy of a library.
+    pub fn push(&mut self, library: &Library<'_>) -> Result<(), NoMemory>
+        ensures { OnOk result (self.new ≡ self.old ++ library.now ∷ []) }
+    {
+        let row = add_names(&mut self.text, library)?;
+        self.rows.push(row)?;
+        Ok(())
+    }
+
+    /// The libraries, borrowed.
+    pub fn iter(&self) -> BestIter<'_>
         ensures { result ≡ self.now }
     {
-        Library {
-            name: self.name.as_bytes(),
-            soname: soname_or(&self.soname, self.name.as_bytes()),
-            abi: self.abi,
+        BestIter {
+            text: self.text.as_slice(),
+            rows: self.rows.as_slice(),
         }
     }
 }
 
-// A copy of the soname, if it isn't the name.
-fn soname_beside(alloc: Global, library: &Library<'_>) -> Result<Option<Text>, NoMemory>
-    ensures { IfOk result (λ copy. unwrap_or copy library.now.name ≡ library.now.soname) }
-{
-    if is_own(library) {
-        return Ok(None);
+/// Libraries of a list, one after another. Contracts see it as the list of those that are left.
+#[derive(Drop)]
+pub struct BestIter<'a> {
+    text: &'a [u8],
+    rows: &'a [Row],
+}
+
+impl<'a> Model for BestIter<'a> {
+    ghost use Rattle.std.specs.Prelude.{List, length, map};
+    ghost use Rattle.found_files.specs.Library.{Library};
+    ghost use Rattle.found_files.specs.OneText.{library_in, AreWithin};
+
+    ghost Value = { List Library };
+
+    ghost view = { λ l. map (library_in l.text.now) l.rows.now };
+
+    ghost invariant = { λ l. AreWithin (length l.text.now) l.rows.now };
+}
+
+impl<'a> Iterator for BestIter<'a> {
+    ghost use Rattle.std.specs.Iterator.{YieldsFirstBy, item_count};
+
+    type Item = Library<'a>;
+
+    ghost next_gives = { YieldsFirstBy (λ x. x) (λ s. s) };
+
+    ghost remaining = { item_count (λ s. s) };
+
+    fn next(&mut self) -> Option<Library<'a>> {
+        let (row, rest) = self.rows.split_first()?;
+        self.rows = rest;
+        Some(library_in(self.text, row))
     }
-    Ok(Some(Text::copy_of(alloc, library.soname)?))
 }
 
 /// Whether the library's name is its soname.

@@ -2,6 +2,7 @@
 #![tactic(auto)]
 
 mod best;
+mod followed;
 mod libraries;
 mod links;
 mod order;
@@ -12,10 +13,11 @@ mod shared;
 mod sonames;
 mod table;
 
-pub use best::{BestLibrary, PlaceBests, is_own, is_preferred};
+pub use best::{BestIter, BestLibraries, PlaceBests, is_own, is_preferred};
+pub use followed::FollowedLink;
 pub use libraries::{Library, libraries_at};
 pub use links::{
-    FolderLinks, FollowedLink, PlaceLinks, dangling, dangling_among, follow, reached, unread_behind,
+    FolderLinks, PlaceLinks, dangling, dangling_among, follow, reached, unread_behind,
 };
 pub use order::ascending;
 pub use places::{is_plain, links_to};

@@ -39,8 +39,8 @@ impl<'a> Library<'a> {
     }
 }
 
-/// The soname, or this name if there is none.
-pub(crate) fn soname_or<'a>(soname: &'a Option<Text>, own: &'a [u8]) -> &'a [u8]
+// The soname, or this name if there is none.
+fn soname_or<'a>(soname: &'a Option<Text>, own: &'a [u8]) -> &'a [u8]
     ensures { result.now ≡ unwrap_or soname.now own.now }
 {
     match soname {

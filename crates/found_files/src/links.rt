@@ -12,6 +12,7 @@ ghost use Rattle.found_files.specs.Search.{dangling, followed, followed_by, foll
 ghost use Rattle.found_files.specs.Table.{analysis_at};
 ghost use Rattle.found_files.specs.Unread.{unread_file, unread_of};
 
+use crate::followed::FollowedLink;
 use crate::order::ascending;
 use crate::reals::real_folders;
 use crate::shared::Shared;
@@ -23,14 +24,6 @@ use path_walk::{join, linked_file};
 use std::alloc::Global;
 use std::collections::BTreeMap;
 use tree_face::{Node, Tree};
-
-/// A link with a library name.
-#[derive(Drop)]
-pub struct FollowedLink {
-    pub name: Text,
-    /// The path, without links, of the file to which it leads; None if it leads to no file.
-    pub file: Option<Text>,
-}
 
 /// The links with library names in a folder, by the bytes of their names.
 #[derive(Drop)]
@@ -76,10 +69,7 @@ fn followed_by(
     ensures { IfOk result (λ link. link ≡ followed_by tree.now folder.now name.now) }
 {
     match led_by(alloc, tree, folder, name, node)? {
-        Some(file) => Ok(Some(FollowedLink {
-            name: Text::copy_of(alloc, name)?,
-            file,
-        })),
+        Some(file) => Ok(Some(FollowedLink::new(alloc, name, file)?)),
         None => Ok(None),
     }
 }
@@ -130,11 +120,11 @@ pub fn follow(alloc: Global, tree: &Tree, dirs: &Dirs) -> Result<PlaceLinks, NoM
 fn unread_file<'a>(table: &Table, link: &'a FollowedLink) -> Option<&'a [u8]>
     ensures { option_copied result ≡ unread_file (analysis_at table.now) link.now }
 {
-    let file = link.file.as_ref()?;
-    if table.get(file.as_bytes()).is_some() {
+    let file = link.file()?;
+    if table.get(file).is_some() {
         return None;
     }
-    Some(file.as_bytes())
+    Some(file)
 }
 
 // Adds those of the files to which these links lead that have no analysis.
@@ -189,8 +179,8 @@ fn dangling_of(alloc: Global, folder: &FolderLinks) -> Result<Texts, NoMemory>
 {
     let mut paths = Seq::new(alloc);
     for link in folder.links.as_slice() {
-        if link.file.is_none() {
-            paths.push(join(alloc, folder.folder.as_bytes(), link.name.as_bytes())?)?;
+        if link.file().is_none() {
+            paths.push(join(alloc, folder.folder.as_bytes(), link.name())?)?;
         }
     }
     Ok(paths)

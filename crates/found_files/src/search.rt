@@ -58,12 +58,13 @@ fn files_of(alloc: Global, tree: &Tree, folders: &[Text]) -> Result<Vec<Text>, N
     Ok(paths)
 }
 
-/// The files with library names in the places: their paths without links, by their bytes, each once.
+/// The files with library names in the places: their paths without links, by their bytes, each once. The folders are gone through by
+/// their bytes as well, so that little is left to sort: a folder's files come by their names.
 #[tactic(auto, using(crate::proofs::FolderRows::files_once), unfolding(crate::specs::Search::wanted))]
 pub fn wanted(alloc: Global, tree: &Tree, dirs: &Dirs) -> Result<Texts, NoMemory>
     ensures { IfOk result (λ paths. paths ≡ wanted tree.now dirs.now.places) }
 {
-    let folders = real_folders(alloc, dirs)?;
-    let paths = files_of(alloc, tree, folders.paths.as_slice())?;
+    let folders = ascending(real_folders(alloc, dirs)?.paths.into_vec())?;
+    let paths = files_of(alloc, tree, folders.as_slice())?;
     ascending(paths)
 }

@@ -5,11 +5,11 @@ ghost use Rattle.std.specs.Ordering.{as_partial_cmp, eq_by_cmp, is_lt, nat_cmp};
 ghost use Rattle.std.specs.Cmp.Lexicographic.{slice_cmp};
 ghost use Rattle.std.specs.List.{AllByRecursion};
 ghost use Rattle.std.specs.Map.{keys_of};
-ghost use Rattle.std.specs.Prelude.{◌≡◌, Some, None, false, IfOk, OnOk, Option};
+ghost use Rattle.std.specs.Prelude.{◌≡◌, ◌∷◌, ◌++◌, [], Some, None, false, IfOk, MatchOption, OnOk, Option};
 ghost use Rattle.found_files.specs.Order.{AreAscending};
-ghost use Rattle.found_files.specs.Sonames.{soname_order, soname_order-total, AreBySoname, AreGathered, AreOrdered, IsGathered};
+ghost use Rattle.found_files.specs.Sonames.{soname_order, soname_order-total, is_last, AreBySoname, AreGathered, AreOrdered, IsGathered};
 
-use lib_types::NoMemory;
+use lib_types::{NoMemory, compare_bytes};
 use std::alloc::Global;
 use std::cmp::Ordering;
 use std::marker::Model;
@@ -93,7 +93,7 @@ impl<'a, T> Ord for BySoname<'a, T> {
     ghost matches_eq = { λ a b. refl };
 
     fn cmp(&self, other: &Self) -> Ordering {
-        self.soname.cmp(other.soname)
+        compare_bytes(self.soname, other.soname)
     }
 }
 
@@ -119,6 +119,29 @@ pub trait Gather<X> {
         ensures { Some result ≡ step (Some self) item };
 }
 
+// Whether the last one has this soname.
+#[tactic(auto, using(crate::proofs::Gathered::last_is))]
+fn is_last<'a, G>(found: &[BySoname<'a, G>], soname: &[u8]) -> bool
+    ensures { result ≡ is_last soname.now found.now }
+{
+    match found.last() {
+        Some(last) => last.soname() == soname,
+        None => false,
+    }
+}
+
+// Takes out what the items of this soname came to, which is the last one if there are any.
+fn take_last<'a, G: Drop>(found: &mut Vec<BySoname<'a, G>>, soname: &[u8]) -> Option<G>
+    ensures { MatchOption result ((found.new.items ≡ found.old.items) × (is_last soname.now found.old.items ≡ false))
+        (λ last. found.old.items ≡ found.new.items ++ (soname.now, last) ∷ []) }
+{
+    if !is_last(found.as_slice(), soname) {
+        return None;
+    }
+    let last = found.pop()?;
+    Some(last.into_item())
+}
+
 // Adds an item whose soname is below none of those that are there.
 fn add<'a, X: Drop, G: Gather<X> + Drop>(
     found: &mut Vec<BySoname<'a, G>>,
@@ -129,15 +152,11 @@ fn add<'a, X: Drop, G: Gather<X> + Drop>(
     requires behind { AllByRecursion (λ key. is_lt (slice_cmp nat_cmp soname.now key) ≡ false) (keys_of found.old.items) }
     ensures { OnOk result (IsGathered G.step found.old.items soname.now item found.new.items) }
 {
-    if let Some(last) = found.pop() {
-        if last.soname() == soname {
-            let more = last.into_item().with(item);
-            found.push(BySoname::new(soname, more))?;
-            return Ok(());
-        }
-        found.push(last)?;
-    }
-    found.push(BySoname::new(soname, G::first(item)))?;
+    let more = match take_last(found, soname) {
+        Some(last) => last.with(item),
+        None => G::first(item),
+    };
+    found.push(BySoname::new(soname, more))?;
     Ok(())
 }
 
@@ -150,7 +169,7 @@ fn gather_sorted<'a, X: Drop, G: Gather<X> + Drop>(
     requires { AreAscending (keys_of items.items) }
     ensures { IfOk result (λ found. AreGathered G.step items.entry.items found.items) }
 {
-    let mut found = Vec::new(alloc);
+    let mut found = Vec::with_capacity(alloc, items.len())?;
     for item in items {
         let soname = item.soname();
         add(&mut found, soname, item.into_item())?;

@@ -1,4 +1,5 @@
 pub mod Above
+mod AllOfChild
 pub mod Below
 pub mod Clear
 mod Fronts

@@ -58,21 +58,21 @@ module _ (runs : List Nodes) (i at : ℕ) (h : i < length runs) (k : at < length
   pub entry_is : (d : List ℕ × Node) → get_or (joined runs) (start_of runs i + at) d ≡ get_or (get_or runs i []) at d
   entry_is d = get_or-flat_map (λ (run : Nodes). run) runs i at [] d h k
 
-pub run_bounds : (r : Nodes) → is_run r ≡ true → (1 ≤ length r) × (length r ≤ 128)
+pub run_bounds : (r : Nodes) → is_run r ≡ true → (1 ≤ length r) × (length r ≤ 64)
 run_bounds r h =
     let low : nat_le 1 (length r) ≡ true = (and_parts _ _ h).0 in
-    let high : nat_le (length r) 128 ≡ true = (and_parts _ _ h).1 in
+    let high : nat_le (length r) 64 ≡ true = (and_parts _ _ h).1 in
     let above : 1 ≤ length r = grind (arith, nat_tests, low) in
-    let below : length r ≤ 128 = grind (arith, nat_tests, high) in
+    let below : length r ≤ 64 = grind (arith, nat_tests, high) in
     (above, below)
 
-pub is_run_from : (r : Nodes) → 1 ≤ length r → length r ≤ 128 → is_run r ≡ true
+pub is_run_from : (r : Nodes) → 1 ≤ length r → length r ≤ 64 → is_run r ≡ true
 is_run_from r low high =
     let a : nat_le 1 (length r) ≡ true = grind (arith, nat_tests) in
-    let b : nat_le (length r) 128 ≡ true = grind (arith, nat_tests) in
+    let b : nat_le (length r) 64 ≡ true = grind (arith, nat_tests) in
     and_from _ _ a b
 
-pub run_bounds_at : (runs : List Nodes) (i : ℕ) → are_runs runs ≡ true → i < length runs → (1 ≤ length (get_or runs i [])) × (length (get_or runs i []) ≤ 128)
+pub run_bounds_at : (runs : List Nodes) (i : ℕ) → are_runs runs ≡ true → i < length runs → (1 ≤ length (get_or runs i [])) × (length (get_or runs i []) ≤ 64)
 run_bounds_at runs i all h = run_bounds _ (AllPass-from_list_all is_run runs all i [] h)
 
 -- ---- runs of a sorted list
@@ -225,7 +225,7 @@ module _ (runs : List Nodes) (place : Place) where
           run : Nodes
           run = get_or runs place.run []
 
-          bounds : (1 ≤ length run) × (length run ≤ 128)
+          bounds : (1 ≤ length run) × (length run ≤ 64)
           bounds = run_bounds_at runs place.run all h
 
           before_it : (i : ℕ) (d : List ℕ × Node) → index_of runs place ≡ i + 1 → path_cmp (get_or (joined runs) i d).0 path ≡ Less
@@ -256,6 +256,12 @@ module _ (runs : List Nodes) (place : Place) where
               (cases_lt place.at (length run))
 
 -- ---- a change of one run
+
+pub inserted_at_end : {X : Type 0} (xs : List X) (i : ℕ) (e : X) → i ≡ length xs → insert xs i e ≡ xs ++ e ∷ []
+inserted_at_end [] zero e h = refl
+inserted_at_end [] (suc i) e h = absurd (omega arith)
+inserted_at_end (x ∷ xs) zero e h = absurd (omega arith)
+inserted_at_end (x ∷ xs) (suc i) e h = ap (λ l. x ∷ l) (inserted_at_end xs i e (omega arith))
 
 module _ {X : Type 0} (a r b : List X) (k : ℕ) where
   back_in : length a + k - length a ≡ k
@@ -341,7 +347,7 @@ joined_tidied runs i h = by_test (run_length runs i == 0)
     ap (λ b. joined (cond b (remove runs i) runs)) e ∙ joined_without runs i h none)
     (λ e. ap (λ b. joined (cond b (remove runs i) runs)) e)
 
-pub runs_tidied : (runs : List Nodes) (i : ℕ) (x : Nodes) → are_runs runs ≡ true → i < length runs → length x ≤ 128
+pub runs_tidied : (runs : List Nodes) (i : ℕ) (x : Nodes) → are_runs runs ≡ true → i < length runs → length x ≤ 64
     → are_runs (if run_length (set runs i x) i == 0 then remove (set runs i x) i else set runs i x) ≡ true
 runs_tidied runs i x all h l = by_test (run_length (set runs i x) i == 0)
     (λ e. ap (λ b. are_runs (cond b (remove (set runs i x) i) (set runs i x))) e ∙ all_set_removed is_run runs i x all h)
@@ -358,58 +364,58 @@ take_divided [] i x y h = absurd (omega arith)
 take_divided (r ∷ rs) zero x y h = refl
 take_divided (r ∷ rs) (suc i) x y h = ap (λ z. r ∷ z) (take_divided rs i x y (omega arith))
 
-module _ (runs : List Nodes) (i j : ℕ) (next : j ≡ i + 1) (h : i < length runs) (all : are_runs runs ≡ true) (full : length (get_or runs i []) ≡ 128) where
+module _ (runs : List Nodes) (i j : ℕ) (next : j ≡ i + 1) (h : i < length runs) (all : are_runs runs ≡ true) (full : length (get_or runs i []) ≡ 64) where
   abbrev pub halved : List Nodes
-  halved = insert (set runs i (take 64 (get_or runs i []))) j (drop 64 (get_or runs i []))
+  halved = insert (set runs i (take 32 (get_or runs i []))) j (drop 32 (get_or runs i []))
 
-  front_length : length (take 64 (get_or runs i [])) ≡ 64
-  front_length = length-take-le 64 (get_or runs i []) (omega arith)
+  front_length : length (take 32 (get_or runs i [])) ≡ 32
+  front_length = length-take-le 32 (get_or runs i []) (omega arith)
 
-  back_length : length (drop 64 (get_or runs i [])) ≡ 64
-  back_length = let e = length-drop 64 (get_or runs i []) in omega arith
+  back_length : length (drop 32 (get_or runs i [])) ≡ 32
+  back_length = let e = length-drop 32 (get_or runs i []) in omega arith
 
-  there : j ≤ length (set runs i (take 64 (get_or runs i [])))
-  there = let e = length-set runs i (take 64 (get_or runs i [])) in omega arith
+  there : j ≤ length (set runs i (take 32 (get_or runs i [])))
+  there = let e = length-set runs i (take 32 (get_or runs i [])) in omega arith
 
   pub runs_halved : are_runs halved ≡ true
   runs_halved =
       let f = front_length in let b = back_length in
-      all_inserted is_run (set runs i (take 64 (get_or runs i []))) j (drop 64 (get_or runs i []))
-      (all_set is_run runs i (take 64 (get_or runs i [])) all (is_run_from (take 64 (get_or runs i [])) (omega arith) (omega arith)))
-      (is_run_from (drop 64 (get_or runs i [])) (omega arith) (omega arith))
+      all_inserted is_run (set runs i (take 32 (get_or runs i []))) j (drop 32 (get_or runs i []))
+      (all_set is_run runs i (take 32 (get_or runs i [])) all (is_run_from (take 32 (get_or runs i [])) (omega arith) (omega arith)))
+      (is_run_from (drop 32 (get_or runs i [])) (omega arith) (omega arith))
 
   count_halved : length halved ≡ length runs + 1
-  count_halved = length-insert (set runs i (take 64 (get_or runs i []))) j (drop 64 (get_or runs i [])) there ∙ ap (λ n. n + 1) (length-set runs i (take 64 (get_or runs i [])))
+  count_halved = length-insert (set runs i (take 32 (get_or runs i []))) j (drop 32 (get_or runs i [])) there ∙ ap (λ n. n + 1) (length-set runs i (take 32 (get_or runs i [])))
 
-  front_is : get_or halved i [] ≡ take 64 (get_or runs i [])
-  front_is = get_or-insert_below (set runs i (take 64 (get_or runs i []))) j (drop 64 (get_or runs i [])) [] i (omega arith) there ∙ get_or-set_at runs i i (take 64 (get_or runs i [])) [] refl h
+  front_is : get_or halved i [] ≡ take 32 (get_or runs i [])
+  front_is = get_or-insert_below (set runs i (take 32 (get_or runs i []))) j (drop 32 (get_or runs i [])) [] i (omega arith) there ∙ get_or-set_at runs i i (take 32 (get_or runs i [])) [] refl h
 
-  back_is : get_or halved j [] ≡ drop 64 (get_or runs i [])
-  back_is = get_or-insert_at (set runs i (take 64 (get_or runs i []))) j (drop 64 (get_or runs i [])) [] there
+  back_is : get_or halved j [] ≡ drop 32 (get_or runs i [])
+  back_is = get_or-insert_at (set runs i (take 32 (get_or runs i []))) j (drop 32 (get_or runs i [])) [] there
 
-  pub room_in_front : (place : Place) → place.run ≡ i → place.at ≤ 64 → HasRoomAt halved place
+  pub room_in_front : (place : Place) → place.run ≡ i → place.at ≤ 32 → HasRoomAt halved place
   room_in_front place e l =
       let f = ap length front_is ∙ front_length in
       let c = count_halved in
-      let at : length (get_or halved place.run []) ≡ 64 = ap (λ n. length (get_or halved n [])) e ∙ f in
+      let at : length (get_or halved place.run []) ≡ 32 = ap (λ n. length (get_or halved n [])) e ∙ f in
       record { run = omega arith; at = omega arith; room = omega arith }
 
-  pub room_in_back : (place : Place) → place.run ≡ j → place.at ≤ 64 → HasRoomAt halved place
+  pub room_in_back : (place : Place) → place.run ≡ j → place.at ≤ 32 → HasRoomAt halved place
   room_in_back place e l =
       let f = ap length back_is ∙ back_length in
       let c = count_halved in
-      let at : length (get_or halved place.run []) ≡ 64 = ap (λ n. length (get_or halved n [])) e ∙ f in
+      let at : length (get_or halved place.run []) ≡ 32 = ap (λ n. length (get_or halved n [])) e ∙ f in
       record { run = omega arith; at = omega arith; room = omega arith }
 
   pub start_front : start_of halved i ≡ start_of runs i
   start_front =
       let f : suc i ≡ j = omega arith in
-      subst (λ n. start_of (insert (set runs i (take 64 (get_or runs i []))) n (drop 64 (get_or runs i []))) i ≡ start_of runs i) f (ap joined_length (take_divided runs i (take 64 (get_or runs i [])) (drop 64 (get_or runs i [])) h))
+      subst (λ n. start_of (insert (set runs i (take 32 (get_or runs i []))) n (drop 32 (get_or runs i []))) i ≡ start_of runs i) f (ap joined_length (take_divided runs i (take 32 (get_or runs i [])) (drop 32 (get_or runs i [])) h))
     where
       joined_length : List Nodes → ℕ
       joined_length rs = length (joined rs)
 
-  pub start_back : start_of halved j ≡ start_of runs i + 64
+  pub start_back : start_of halved j ≡ start_of runs i + 32
   start_back =
       let c = count_halved in
       let s = start_next halved i j next (omega arith) in

@@ -1,3 +1,4 @@
+pub mod Behind
 pub mod Index
 pub mod Node
 pub mod Paths

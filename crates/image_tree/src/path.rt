@@ -33,7 +33,7 @@ pub fn is_kept(component: &[u8]) -> bool
 
 // The order of two different bytes: the slash is the least.
 #[tactic(auto, using(crate::proofs::Order::slash_below, crate::proofs::Order::slash_above, crate::proofs::Order::others_alike))]
-fn compare_bytes(a: u8, b: u8) -> Ordering
+fn compare_ranks(a: u8, b: u8) -> Ordering
     requires { a ≢ b }
     ensures { result ≡ nat_cmp (path_rank a) (path_rank b) }
 {
@@ -53,7 +53,7 @@ pub(crate) fn compare(a: &[u8], b: &[u8]) -> Ordering
 {
     let same = equal_len(a, b);
     if same < a.len() && same < b.len() {
-        return compare_bytes(a[same], b[same]);
+        return compare_ranks(a[same], b[same]);
     }
     a.len().cmp(&b.len())
 }

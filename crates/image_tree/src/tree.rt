@@ -62,7 +62,7 @@ pub struct Tree {
     runs: Vec<Run>,
     // the number of nodes
     count: usize,
-    // where the last node was found, from which the next one is looked for first
+    // where the last node was found or put, from which the next one is looked for first
     near: Cell<Place>,
 }
 
@@ -149,7 +149,8 @@ impl Tree {
         ensures clash { (result ≡ Err TreeFault.Clash) ↔ IsTrue (clashes self.old path.now node) }
         ensures full { (result ≡ Err TreeFault.Full) ↔ IsFullFor self.old path.now node }
     {
-        let found = entries::find_for(&self.runs, self.count, path, &node)?;
+        let found = entries::find_for(&self.runs, self.near.get(), self.count, path, &node)?;
+        self.near.set(found.unwrap_or_else(|gap| gap));
         self.count = entries::put_at(self.alloc, &mut self.runs, self.count, found, path, node)?;
         Ok(())
     }

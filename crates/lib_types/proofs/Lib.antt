@@ -1,4 +1,5 @@
 pub mod Bools
+pub mod ByteOrder
 pub mod EqualFront
 pub mod Fields
 pub mod FirstByte

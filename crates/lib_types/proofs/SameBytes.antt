@@ -1,71 +1,42 @@
--- Bytes that are compared several at a time.
-use Rattle.std.proofs.Common.{◌≡◌, ℕ, suc, zero, ◌+◌, ◌<◌, ◌≤◌, Bool, true, false, ◌&&◌, nat_eq, List, [], ◌∷◌, length, drop, slice_index, arith, refl, sym, ap, subst, ◌∙◌}
-use Rattle.std.proofs.lemmas.Bool.Decides.{nat_tests}
+-- Bytes that are compared eight at a time, from the front.
+use Rattle.std.proofs.Common.{◌≡◌, ℕ, suc, zero, ◌+◌, ◌<◌, ◌≤◌, Bool, true, false, nat_eq, List, [], ◌∷◌, length, take, slice_index, arith, refl, sym, ap, ◌∙◌}
+use Rattle.std.proofs.Math.Seq.{take-length}
+use Rattle.std.proofs.lemmas.Slice.Eq.{bytes_eq-Decides}
 use Rattle.std.specs.Cmp.Lexicographic.{pointwise}
 use Rattle.byteorder.specs.Endian.{little_from}
+use Rattle.lib_types.proofs.EqualFront.{words_equal}
 
-same_byte : (x y : ℕ) → x ≡ y → nat_eq x y ≡ true
-same_byte x y e = grind (arith, nat_tests)
-
-other_byte : (x y : ℕ) → (x ≡ y → ⊥) → nat_eq x y ≡ false
-other_byte x y other = grind (arith, nat_tests)
-
-known_byte : (x y : ℕ) → nat_eq x y ≡ true → x ≡ y
-known_byte x y e = grind (arith, nat_tests)
-
--- two bytes are the same or not
-by_bytes : (x y : ℕ) {X : Type 0} → (x ≡ y → X) → ((x ≡ y → ⊥) → X) → X
-by_bytes x y {X = X} same other = by (nat_eq x y) refl
+-- what differs in anything is not the same
+others : (a b : List ℕ) → (a ≡ b → ⊥) → false ≡ pointwise nat_eq a b
+others a b other = by (pointwise nat_eq a b) refl
   where
-    by : (t : Bool) → nat_eq x y ≡ t → X
-    by true e = same (known_byte x y e)
-    by false e = other (λ f. let t = same_byte x y f in let no : true ≡ false = sym t ∙ e in absurd (cc))
+    by : (t : Bool) → pointwise nat_eq a b ≡ t → false ≡ t
+    by true e = absurd (other ((bytes_eq-Decides a b).0 e))
+    by false e = refl
 
--- equal bytes decide nothing
-pub byte_passed : (a b : List ℕ) (i : ℕ) → i < length a → i < length b → slice_index a i ≡ slice_index b i
-    → pointwise nat_eq (drop (suc i) a) (drop (suc i) b) ≡ pointwise nat_eq (drop i a) (drop i b)
-byte_passed [] b i h k e = absurd (omega arith)
-byte_passed (x ∷ a) [] i h k e = absurd (omega arith)
-byte_passed (x ∷ a) (y ∷ b) zero h k e = ap (λ t. t && pointwise nat_eq a b) (sym (same_byte x y e))
-byte_passed (x ∷ a) (y ∷ b) (suc i) h k e = byte_passed a b i (omega arith) (omega arith) e
+pub other_word : (a b : List ℕ) (at : ℕ) → (little_from at 8 a ≡ little_from at 8 b → ⊥) → false ≡ pointwise nat_eq a b
+other_word a b at other = others a b (λ e. other (ap (little_from at 8) e))
 
--- other bytes decide
-pub byte_decides : (a b : List ℕ) (i : ℕ) → i < length a → i < length b → (slice_index a i ≡ slice_index b i → ⊥)
-    → false ≡ pointwise nat_eq (drop i a) (drop i b)
-byte_decides [] b i h k other = absurd (omega arith)
-byte_decides (x ∷ a) [] i h k other = absurd (omega arith)
-byte_decides (x ∷ a) (y ∷ b) zero h k other = ap (λ t. t && pointwise nat_eq a b) (sym (other_byte x y other))
-byte_decides (x ∷ a) (y ∷ b) (suc i) h k other = byte_decides a b i (omega arith) (omega arith) other
+-- fewer are equal as well
+fewer_equal : (a b : List ℕ) (i j : ℕ) → j ≤ i → take i a ≡ take i b → take j a ≡ take j b
+fewer_equal a b i zero h e = refl
+fewer_equal a b zero (suc j) h e = absurd (omega arith)
+fewer_equal [] [] (suc i) (suc j) h e = refl
+fewer_equal [] (y ∷ b) (suc i) (suc j) h e = absurd (cc)
+fewer_equal (x ∷ a) [] (suc i) (suc j) h e = absurd (cc)
+fewer_equal (x ∷ a) (y ∷ b) (suc i) (suc j) h e =
+    let first : x ≡ y = cc in
+    let rest : take i a ≡ take i b = cc in
+    let fewer = fewer_equal a b i j (omega arith) rest in
+    (λ k. first k ∷ fewer k)
 
--- bytes with equal numbers are equal
-module _ (a b : List ℕ) (p : (k : ℕ) → slice_index a k < 256) (q : (k : ℕ) → slice_index b k < 256) where
-  pub words_passed : (n i : ℕ) → i + n ≤ length a → i + n ≤ length b → little_from i n a ≡ little_from i n b
-      → pointwise nat_eq (drop (i + n) a) (drop (i + n) b) ≡ pointwise nat_eq (drop i a) (drop i b)
-  words_passed zero i h k e = let none : i ≡ i + zero = omega arith in subst (λ j. pointwise nat_eq (drop j a) (drop j b) ≡ pointwise nat_eq (drop i a) (drop i b)) none refl
-  words_passed (suc n) i h k e =
-      let first : slice_index a i ≡ slice_index b i = let x = p i in let y = q i in omega arith in
-      let rest : little_from (suc i) n a ≡ little_from (suc i) n b = let x = p i in let y = q i in omega arith in
-      let next : suc i + n ≡ i + suc n = omega arith in
-      subst (λ j. pointwise nat_eq (drop j a) (drop j b) ≡ pointwise nat_eq (drop i a) (drop i b)) next
-      (words_passed n (suc i) (omega arith) (omega arith) rest ∙ byte_passed a b i (omega arith) (omega arith) first)
+-- a word that begins within what is equal, or behind it
+pub word_equal : (a b : List ℕ) → ((k : ℕ) → slice_index a k < 256) → ((k : ℕ) → slice_index b k < 256) → (i at : ℕ) → at ≤ i → at + 8 ≤ length a → at + 8 ≤ length b
+    → little_from at 8 a ≡ little_from at 8 b → take i a ≡ take i b → take (at + 8) a ≡ take (at + 8) b
+word_equal a b p q i at le h k e same = words_equal a b p q 8 at h k e (fewer_equal a b i at le same)
 
--- bytes with other numbers differ
-pub words_decide : (a b : List ℕ) (n i : ℕ) → i + n ≤ length a → i + n ≤ length b → (little_from i n a ≡ little_from i n b → ⊥)
-    → false ≡ pointwise nat_eq (drop i a) (drop i b)
-words_decide a b zero i h k other = absurd (other refl)
-words_decide a b (suc n) i h k other =
-    by_bytes (slice_index a i) (slice_index b i)
-    (λ first. words_decide a b n (suc i) (omega arith) (omega arith) (λ rest. other (omega (arith, first, rest))) ∙ byte_passed a b i (omega arith) (omega arith) first)
-    (byte_decides a b i (omega arith) (omega arith))
-
--- nothing is left to differ
-pub end_same : (a b : List ℕ) (i : ℕ) → length a ≤ i → length a ≡ length b → true ≡ pointwise nat_eq (drop i a) (drop i b)
-end_same [] [] i h e = ends i
-  where
-    ends : (i : ℕ) → true ≡ pointwise nat_eq (drop i []) (drop i [])
-    ends zero = refl
-    ends (suc i) = refl
-end_same [] (y ∷ b) i h e = absurd (omega arith)
-end_same (x ∷ a) [] i h e = absurd (omega arith)
-end_same (x ∷ a) (y ∷ b) zero h e = absurd (omega arith)
-end_same (x ∷ a) (y ∷ b) (suc i) h e = end_same a b i (omega arith) (omega arith)
+pub all_equal : (a b : List ℕ) (i : ℕ) → i ≤ length a → length a ≤ i → length a ≡ length b → take i a ≡ take i b → true ≡ pointwise nat_eq a b
+all_equal a b i h k e same =
+    let all : i ≡ length a = omega arith in
+    let whole : a ≡ b = sym (take-length a) ∙ ap (λ n. take n a) (sym all) ∙ same ∙ ap (λ n. take n b) (all ∙ e) ∙ take-length b in
+    sym ((bytes_eq-Decides a b).1 whole)

@@ -19,7 +19,7 @@ pub use entry::{Entries, Entry};
 pub use fault::{Failed, NoMemory};
 pub use find::{find_byte, find_either, has_byte};
 pub use name::{NAME_MAX, is_name, is_utf8};
-pub use same::{are_same, equal_len};
+pub use same::{are_same, compare_bytes, equal_len};
 pub use seq::{Seq, Texts};
 pub use steps::Steps;
 pub use text::Text;

@@ -1,11 +1,13 @@
-//! Whether bytes are the same, and how many of the first are.
+//! Whether bytes are the same, how many of the first are, and the order of bytes.
 ghost use Rattle.byteorder.specs.Endian.{little_from};
 ghost use Rattle.lib_types.specs.Words.{AreZeroBytes};
-ghost use Rattle.std.specs.Cmp.Lexicographic.{pointwise};
+ghost use Rattle.std.specs.Cmp.Lexicographic.{pointwise, slice_cmp};
 ghost use Rattle.std.specs.Int.{abs_diff};
+ghost use Rattle.std.specs.Ordering.{nat_cmp};
 ghost use Rattle.std.specs.Prelude.{◌≡◌, ◌≢◌, ◌≤◌, ◌<◌, ◌+◌, nat_eq, length, slice_index_or, take};
 
 use byteorder::{ByteOrder, LittleEndian};
+use std::cmp::Ordering;
 
 // The eight bytes at an offset as one number.
 fn word_at(bytes: &[u8], at: usize) -> u64
@@ -15,29 +17,38 @@ fn word_at(bytes: &[u8], at: usize) -> u64
     LittleEndian::read_u64(&bytes[at..])
 }
 
-/// Whether both have the same bytes, compared eight at a time: paths and names that are compared have long parts in common.
-#[tactic(auto, using(crate::proofs::SameBytes::words_passed, crate::proofs::SameBytes::words_decide, crate::proofs::SameBytes::byte_passed, crate::proofs::SameBytes::byte_decides, crate::proofs::SameBytes::end_same))]
+// Whether two texts of one length have the same bytes, compared eight at a time. The last eight overlap those before them, unless
+// the length is a multiple of eight.
+#[tactic(auto, using(crate::proofs::SameBytes::word_equal, crate::proofs::SameBytes::other_word, crate::proofs::SameBytes::all_equal))]
+fn are_same_long(a: &[u8], b: &[u8]) -> bool
+    requires one_length { length a.now ≡ length b.now }
+    requires long { 8 ≤ length a.now }
+    ensures { result ≡ pointwise nat_eq a.now b.now }
+{
+    let last = a.len() - 8;
+    let mut i = 0;
+    while i < a.len() {
+        let at = i.min(last);
+        if word_at(a, at) != word_at(b, at) {
+            return false;
+        }
+        i = at + 8;
+    }
+    true
+}
+
+/// Whether both have the same bytes: paths and names that are compared have long parts in common.
 pub fn are_same(a: &[u8], b: &[u8]) -> bool
     ensures { result ≡ pointwise nat_eq a.now b.now }
 {
     if a.len() != b.len() {
         return false;
     }
-    let mut i = 0;
-    while i < a.len() {
-        if a.len() - i >= 8 {
-            if word_at(a, i) != word_at(b, i) {
-                return false;
-            }
-            i += 8;
-        } else {
-            if a[i] != b[i] {
-                return false;
-            }
-            i += 1;
-        }
+    if a.len() < 8 {
+        a == b
+    } else {
+        are_same_long(a, b)
     }
-    true
 }
 
 // How many of the lowest bytes of two words are equal, up to the first that differs.
@@ -84,4 +95,16 @@ pub fn equal_len(a: &[u8], b: &[u8]) -> usize
         i += 1;
     }
     i
+}
+
+/// The order of two texts by their bytes, of which equal ones are compared eight at a time.
+#[tactic(auto, using(crate::proofs::ByteOrder::byte_decides_order))]
+pub fn compare_bytes(a: &[u8], b: &[u8]) -> Ordering
+    ensures { result ≡ slice_cmp nat_cmp a.now b.now }
+{
+    let same = equal_len(a, b);
+    if same < a.len() && same < b.len() {
+        return a[same].cmp(&b[same]);
+    }
+    a.len().cmp(&b.len())
 }

@@ -6,7 +6,7 @@ ghost use Rattle.std.specs.Ordering.{as_partial_cmp, nat_cmp};
 ghost use Rattle.std.specs.Prelude.{nat_eq, ◌≡◌, ◌∷◌, [], ℕ, List, IfOk};
 
 use crate::NoMemory;
-use crate::same::are_same;
+use crate::same::{are_same, compare_bytes};
 use std::alloc::Global;
 use std::cmp::Ordering;
 use std::hash::{Hash, Hasher};
@@ -90,7 +90,7 @@ impl Ord for Text {
     ghost matches_eq = { texts_ties };
 
     fn cmp(&self, other: &Self) -> Ordering {
-        self.as_bytes().cmp(other.as_bytes())
+        compare_bytes(self.as_bytes(), other.as_bytes())
     }
 }
 

@@ -7,7 +7,7 @@ use Rattle.std.specs.declared.cmp.Ordering.{Ordering}
 use Rattle.std.specs.Char.{IsAsciiDigit, is_ascii_digit}
 use Rattle.std.specs.Cmp.Lexicographic.{slice_cmp}
 use Rattle.std.specs.Ordering.{ordering_then}
-use Rattle.name_order.specs.Digits.{AreDigitsWithin, AreEqualDigits, EndsInNumber, IsFree}
+use Rattle.name_order.specs.Digits.{AreDigitsWithin, AreEqualDigits, EndsInNumber, HaveNoDigit, IsFree}
 use Rattle.name_order.specs.Numbers.{GoOnWithNumbers}
 use Rattle.name_order.specs.Order.{Byte, Number, Token, number_token, token_cmp, token_order, tokens, tokens_after, with_digit}
 use Rattle.name_order.proofs.Fronts.{known_digit}
@@ -94,6 +94,16 @@ pub passed_to_byte : (a b : List ℕ) (n : ℕ) → n ≤ length a → n ≤ len
     → token_order (drop n a) (drop n b) ≡ token_order a b
 unfolding tokens
 passed_to_byte a b n h k same x y = sym (passed n None a b h k same (inr (x, y)))
+
+-- nor what they are, if what is behind them has no digit at its front
+pub in_bytes : (a b : List ℕ) (n : ℕ) → n ≤ length a → n ≤ length b → take n a ≡ take n b → HaveNoDigit 0 (drop n a) (drop n b)
+    → token_order (drop n a) (drop n b) ≡ token_order a b
+in_bytes a b n h k same free = passed_to_byte a b n h k same (at n a free.0) (at n b free.1)
+  where
+    at : (n : ℕ) (xs : List ℕ) → is_ascii_digit (get_or (drop n xs) 0 0) ≡ false → is_ascii_digit (get_or xs n 0) ≡ false
+    at zero xs f = f
+    at (suc n) [] f = f
+    at (suc n) (x ∷ xs) f = at n xs f
 
 -- nor if no digit stands before their end
 pub passed_to_number : (a b : List ℕ) (m n : ℕ) → m ≤ n → n ≤ length a → n ≤ length b → take n a ≡ take n b → IsFree m a

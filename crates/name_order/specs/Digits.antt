@@ -32,6 +32,10 @@ abbrev pub IsFree : ℕ → List ℕ → Type 0
 IsFree zero name = ⊤
 IsFree (suc n) name = is_ascii_digit (slice_index_or name n 0) ≡ false
 
+-- neither name has a digit at this offset
+abbrev pub HaveNoDigit : ℕ → List ℕ → List ℕ → Type 0
+HaveNoDigit n a b = (is_ascii_digit (slice_index_or a n 0) ≡ false) × (is_ascii_digit (slice_index_or b n 0) ≡ false)
+
 -- a digit that isn't zero stands directly before this offset
 abbrev pub EndsInNumber : ℕ → List ℕ → Type 0
 EndsInNumber zero name = ⊥

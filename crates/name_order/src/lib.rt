@@ -6,7 +6,7 @@ ghost use Rattle.std.specs.Char.{is_ascii_digit};
 ghost use Rattle.std.specs.List.{ends_with, prefix_len, starts_with};
 ghost use Rattle.std.specs.Cmp.{IsTotalOrder};
 ghost use Rattle.name_order.specs.Order.{name_order, token_order};
-ghost use Rattle.name_order.specs.Digits.{AreEqualDigits, BeginsByNumber};
+ghost use Rattle.name_order.specs.Digits.{AreEqualDigits, BeginsByNumber, HaveNoDigit};
 ghost use Rattle.name_order.specs.Numbers.{GoOnWithNumbers};
 ghost use Rattle.name_order.specs.LibraryName.{contains, has_library_prefix, has_temporary_suffix, is_library_name};
 
@@ -21,7 +21,8 @@ use std::cmp::Ordering;
 // The order of names whose first bytes differ, if neither is a digit: nothing behind these bytes counts.
 #[tactic(auto, using(crate::proofs::Runs::first_decides))]
 fn compare_first(a: &[u8], b: &[u8]) -> Option<Ordering>
-    ensures { IfSome result (λ order. order ≡ token_order a.now b.now) }
+    ensures order { IfSome result (λ order. order ≡ token_order a.now b.now) }
+    ensures digits { IfSome result (λ order. HaveNoDigit 0 a.now b.now) }
 {
     if a.is_empty() || b.is_empty() {
         return None;
@@ -105,6 +106,16 @@ fn compare_by_parts(a: &[u8], b: &[u8]) -> Ordering
     }
 }
 
+// The order of names by the bytes behind those in common, if both have one there and neither is a digit: of most names that aren't
+// versions of one library.
+fn compare_in_bytes(a: &[u8], b: &[u8], same: usize) -> Option<Ordering>
+    requires within { (same ≤ length a.now) × (same ≤ length b.now) }
+    requires same { take same a.now ≡ take same b.now }
+    ensures { IfSome result (λ order. order ≡ token_order a.now b.now) }
+{
+    compare_first(&a[same..], &b[same..])
+}
+
 // The order of names by the numbers that the bytes in common end in, if they do and the numbers differ: of most names that a sort compares.
 #[tactic(auto, using(crate::proofs::Alike::in_numbers))]
 fn compare_in_numbers(a: &[u8], b: &[u8], same: usize) -> Option<Ordering>
@@ -138,6 +149,9 @@ pub fn compare_tokens(a: &[u8], b: &[u8]) -> Ordering
     ensures { result ≡ token_order a.now b.now }
 {
     let same = equal_len(a, b);
+    if let Some(order) = compare_in_bytes(a, b, same) {
+        return order;
+    }
     match compare_in_numbers(a, b, same) {
         Some(order) => order,
         None => compare_behind(a, b, same),

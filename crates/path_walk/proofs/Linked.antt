@@ -4,16 +4,17 @@ use Rattle.std.proofs.lemmas.Bool.{and_from, and_parts, or_parts}
 use Rattle.std.proofs.lemmas.Bool.Decides.{nat_tests}
 use Rattle.std.proofs.lemmas.List.{append-nil}
 use Rattle.std.proofs.lemmas.List.Elements.{All-cons, All-nil}
+use Rattle.std.proofs.lemmas.List.Folds.{list_all-append}
 use Rattle.std.proofs.lemmas.List.Splits.{join_with_byte-slice_split, length-slice_split, slice_split-cons_yes, slice_split_none}
 use Rattle.std.proofs.lemmas.Slice.Eq.{bytes_eq-Decides}
-use Rattle.std.specs.List.{All, join_with_byte, list_all, slice_split, starts_with}
+use Rattle.std.specs.List.{All, join_with_byte, list_all, list_any, slice_split, starts_with}
 use Rattle.std.specs.Str.{bytes_eq}
 use Rattle.lib_types.proofs.Bools.{not_true}
 use Rattle.lib_types.proofs.SortedPairs.{by_test}
 use Rattle.lib_types.specs.Name.{are_dots, have_no_slash, is_name, slash}
 use Rattle.image_tree.proofs.Above.{found_entry}
 use Rattle.image_tree.proofs.Below.{below_from, not_root}
-use Rattle.image_tree.proofs.Prefixes.{path_above}
+use Rattle.image_tree.proofs.Prefixes.{parts_joined, path_above}
 use Rattle.image_tree.specs.Paths.{are_names, components, folder, is_kept, is_path, is_slash, root, stem, join}
 use Rattle.image_tree.specs.Tree.{Nodes, IsTree, kind_at, kind_of, node_at}
 use Rattle.image_tree.specs.declared.node.Id.{Id}
@@ -161,7 +162,24 @@ not_rooted (b ∷ name) h =
     let parts = and_parts (not (b == slash) && not (b == 0)) (have_no_slash name) (and_parts _ _ (and_parts _ _ h).0).1 in
     ap (λ c. c && starts_with nat_eq name []) (turned b (not_true (b == slash) (and_parts _ _ parts.0).0))
 
-module _ (t : Nodes) (p name : List ℕ) (named : is_name name ≡ true) (proper : is_path (join p name) ≡ true) where
+none_is_slash : (name : List ℕ) → list_any is_slash name ≡ false → All (λ b. is_slash b ≡ false) name
+none_is_slash [] h = All-nil (λ b. is_slash b ≡ false)
+none_is_slash (b ∷ name) h =
+    let parts = or_parts (is_slash b) (list_any is_slash name) h in
+    All-cons (λ b. is_slash b ≡ false) b name parts.0 (none_is_slash name parts.1)
+
+-- what is behind the last slash of a path is a name
+last_name : (s name : List ℕ) → slice_split is_slash name ≡ name ∷ [] → is_path ((s ++ root) ++ name) ≡ true → is_name name ≡ true
+last_name [] name alone h = (and_parts _ _ (sym (ap (list_all is_name) alone) ∙ (and_parts _ _ h).1)).0
+last_name (x ∷ s) name alone h =
+    let names = sym (ap (list_all is_name) (ap (slice_split is_slash) (append_assoc s root name) ∙ parts_joined s name)) ∙ (and_parts _ _ h).1 in
+    let both = and_parts _ _ (sym (list_all-append is_name (slice_split is_slash s) (slice_split is_slash name)) ∙ names) in
+    (and_parts _ _ (sym (ap (list_all is_name) alone) ∙ both.1)).0
+
+module _ (t : Nodes) (p name : List ℕ) (free : list_any is_slash name ≡ false) (proper : is_path (join p name) ≡ true) where
+  named : is_name name ≡ true
+  named = last_name (stem p) name (slice_split_none is_slash name (none_is_slash name free)) proper
+
   -- the walk by one name
   one_name : (n : Node) → node_at t (join p name) ≡ Some n
       → steps t Full (components name) (start_of name p) ≡ at_child (kind_of n) (Follows (components (target_in (Some n))) (start_of (target_in (Some n)) p)) (Ends (Ok (join p name))) (Ends (Ok (join p name)))

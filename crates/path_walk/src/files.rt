@@ -8,7 +8,7 @@ ghost use Rattle.path_walk.specs.Walk.{start_of};
 
 use crate::names::join;
 use crate::walk::{End, LINKS_MAX, Mode, WalkFault, follow, restart};
-use lib_types::{NoMemory, Text, is_name};
+use lib_types::{NoMemory, Text};
 use std::alloc::Global;
 use tree_face::{Node, Tree};
 
@@ -66,11 +66,12 @@ enum Beside<'t> {
     File(Text),
     /// A link with this target.
     Link(&'t [u8]),
-    /// Something else, or the target is no name.
+    /// Something else, or nothing.
     Other,
 }
 
-// What a link's target names beside the link, by one search.
+// What a link's target names beside the link, by one search: the paths of a tree have names alone, so that a target without a slash
+// is a name if there is a node.
 #[tactic(auto, using(crate::proofs::Linked::file_beside, crate::proofs::Linked::link_beside))]
 fn find_beside<'t>(
     alloc: Global,
@@ -80,7 +81,7 @@ fn find_beside<'t>(
 ) -> Result<Beside<'t>, NoMemory>
     ensures { IfOk result (IsBeside tree.now folder.now target.now) }
 {
-    if !is_name(target) {
+    if target.contains(&b'/') {
         return Ok(Beside::Other);
     }
     let path = join(alloc, folder, target)?;

@@ -28,7 +28,7 @@ pub record WritesText (P : List ℕ → List ℕ → List ℕ → Type 0) (n : �
   pub is : IsTextOf (sample_contents n) n text first second
   pub written : Relates (P text) out.written after.written
 
--- a failure of the store or of the disk is want of memory
+-- a failure of the store or of the disk means out of memory
 abbrev pub own_status : Status → Status
 own_status StoreFault = NoMemory
 own_status DiskFault = NoMemory

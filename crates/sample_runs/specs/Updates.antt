@@ -31,7 +31,7 @@ pub record IsHonest (held : Contents) (s : Loaded) : Type 0 where
 
 -- ---- one update
 
--- the status of a fault; an image that is too large is taken for want of memory
+-- the status of a fault; an image that is too large means out of memory
 abbrev pub status_of : UpdateFault → Status
 status_of faults.StoreFault = StoreFault
 status_of (faults.DiskFault fault) = DiskFault

@@ -36,7 +36,7 @@ fn contents(alloc: Global, n: u16) -> Result<Vec<(Text, Text)>, NoMemory>
     pairs_of(alloc, &files)
 }
 
-// A failure of the store or of the disk in memory is want of memory.
+// A failure of the store or of the disk in memory means out of memory.
 fn own_status(status: Status) -> Status
     ensures { result ≡ own_status status }
 {

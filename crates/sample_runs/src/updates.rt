@@ -20,7 +20,7 @@ pub struct SampleUpdate {
     pub cache: Text,
 }
 
-// The status of a fault. No image of a sample is too large, so that this is want of memory.
+// The status of a fault. No image of a sample is too large, so that one for its size means out of memory.
 fn status_of(fault: UpdateFault) -> Status
     ensures { result ≡ status_of fault }
 {

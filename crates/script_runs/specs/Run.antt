@@ -58,9 +58,13 @@ abbrev pub DoesLine : Tag → ℕ → Result ScriptLine LineKind → Loaded → 
 DoesLine tag number (Ok asking.Update) s to old new = UpdatesTo tag s to old.store new.store old.disk new.disk old.output new.output
 DoesLine tag number asked s to old new = (to ≡ after_line number asked s) × (new ≡ old)
 
+-- that, or memory is out before anything is done
+abbrev pub DoesLineOrNothing : Tag → ℕ → Result ScriptLine LineKind → Loaded → Result Loaded Status → States → States → Type 0
+DoesLineOrNothing tag number asked s to old new = DoesLine tag number asked s to old new ⊎ ((to ≡ Err NoMemory) × (new ≡ old))
+
 -- the line is taken, or memory is out before anything is done
 abbrev pub TakesLine : Tag → ℕ → List ℕ → Loaded → Result Loaded Status → States → States → Type 0
-TakesLine tag number line s to old new = DoesLine tag number (line_of line) s to old new ⊎ ((to ≡ Err NoMemory) × (new ≡ old))
+TakesLine tag number line s to old new = DoesLineOrNothing tag number (line_of line) s to old new
 
 -- ---- all lines
 

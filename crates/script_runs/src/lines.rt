@@ -3,7 +3,7 @@ ghost use Rattle.std.specs.Prelude.{◌≡◌, ◌⊎◌, Err, IsErrOf, Ok};
 ghost use Rattle.image_tree.specs.Node.{is_node};
 ghost use Rattle.image_tree.specs.Paths.{is_path};
 ghost use Rattle.script_lines.specs.Script.{IsProper, line_of};
-ghost use Rattle.script_runs.specs.Run.{DoesLine, RunsLines, TakesLine, edited, lines_of, of_edit, states};
+ghost use Rattle.script_runs.specs.Run.{DoesLineOrNothing, RunsLines, TakesLine, edited, lines_of, of_edit, states};
 ghost use Rattle.loaded_image.specs.Edit.{drop_result, put_entry_result};
 
 use command_status::{ScriptKind, Status};
@@ -67,9 +67,8 @@ fn do_line<S: Store, D: Disk, O: Sink>(
     tag: Tag,
 ) -> Result<Session, Status>
     requires { IsProper asked }
-    ensures { DoesLine tag number (Ok asked) session result
-        (states (S.state store.old) (D.state disk.old) (O.state out.old)) (states (S.state store.new) (D.state disk.new) (O.state out.new))
-        ⊎ ((result ≡ Err Status.NoMemory) × (states (S.state store.new) (D.state disk.new) (O.state out.new) ≡ states (S.state store.old) (D.state disk.old) (O.state out.old))) }
+    ensures { DoesLineOrNothing tag number (Ok asked) session result
+        (states (S.state store.old) (D.state disk.old) (O.state out.old)) (states (S.state store.new) (D.state disk.new) (O.state out.new)) }
 {
     match asked {
         ScriptLine::Ignored => Ok(session),

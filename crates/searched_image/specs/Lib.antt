@@ -1,3 +1,4 @@
+pub mod Behind
 pub mod Begun
 pub mod Faults
 pub mod Found

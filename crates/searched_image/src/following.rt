@@ -9,10 +9,11 @@ ghost use Rattle.elf_dynamic.specs.Begun.{lacks_one};
 ghost use Rattle.found_files.specs.Analyses.{KeepsAnalyses};
 ghost use Rattle.found_files.specs.Search.{dangling, followed, reached};
 ghost use Rattle.found_files.specs.Table.{analysis_at};
-ghost use Rattle.stamped_files.specs.Opened.{ReadsOpened, opened_keys};
+ghost use Rattle.stamped_files.specs.Opened.{ReadsOpened};
 ghost use Rattle.stamped_files.specs.Stamped.{IfHonest, stamps_at, with_stamps};
-ghost use Rattle.stamped_files.specs.State.{stamps_there, unread_paths};
+ghost use Rattle.stamped_files.specs.State.{stamps_there};
 ghost use Rattle.tree_face.specs.Known.{IfKnown};
+ghost use Rattle.searched_image.specs.Behind.{opened_behind, unread_behind};
 ghost use Rattle.searched_image.specs.Faults.{find_ending, is_store_fault};
 
 use crate::fault::FindFault;
@@ -53,13 +54,11 @@ pub fn follow_links<S: Store>(
     ensures only { OnOk result ((path : List ℕ) → list_any (bytes_eq path) (keys_of files.new.table) ≡ true →
         (list_any (bytes_eq path) (keys_of files.old.table) || list_any (bytes_eq path) (reached tree.now dirs.now.places)) ≡ true) }
     ensures stamps { OnOk result (IfHonest (S.state store.old).held tree.now (stamps_there loaded.now files.old)
-        (λ held. files.new.stamps ≡ with_stamps files.old.stamps (stamps_at held tree.now (unread_paths files.old (reached tree.now dirs.now.places))))) }
+        (λ held. files.new.stamps ≡ with_stamps files.old.stamps (stamps_at held tree.now (unread_behind files.old tree.now dirs.now)))) }
     ensures begun { OnOk result (IfKnown (S.state store.old).held (λ held. files.new.begun ≡ files.old.begun
-        + length (opened_keys held tree.now (stamps_there loaded.now files.old) (unread_paths files.old (reached tree.now dirs.now.places))))) }
-    ensures none_lacks { OnOk result (IfKnown (S.state store.old).held (λ held.
-        lacks_one held (opened_keys held tree.now (stamps_there loaded.now files.old) (unread_paths files.old (reached tree.now dirs.now.places))) ≡ false)) }
-    ensures reads { ReadsOpened (λ held. opened_keys held tree.now (stamps_there loaded.now files.old) (unread_paths files.old (reached tree.now dirs.now.places)))
-        (find_ending result) (S.state store.old) (S.state store.new) }
+        + length (opened_behind held loaded.now files.old tree.now dirs.now))) }
+    ensures none_lacks { OnOk result (IfKnown (S.state store.old).held (λ held. lacks_one held (opened_behind held loaded.now files.old tree.now dirs.now) ≡ false)) }
+    ensures reads { ReadsOpened (λ held. opened_behind held loaded.now files.old tree.now dirs.now) (find_ending result) (S.state store.old) (S.state store.new) }
     ensures others { IfErr result (λ fault. is_store_fault fault ≡ true) }
 {
     let links = follow(alloc, tree, dirs)?;

@@ -5,8 +5,8 @@ ghost use Rattle.found_files.specs.Table.{analysis_at};
 ghost use Rattle.soname_links.specs.Survey.{bests_at, mixed_at, mixed_soname};
 
 use crate::groups::{Group, groups_in};
-use found_files::{BestLibrary, BySoname, Library, Table};
-use lib_types::{NoMemory, Seq, Text, Texts};
+use found_files::{BestLibraries, BySoname, Table};
+use lib_types::{NoMemory, Text, Texts};
 use std::alloc::Global;
 use tree_face::Tree;
 
@@ -14,7 +14,7 @@ use tree_face::Tree;
 #[derive(Drop)]
 struct Summary {
     /// The best library of each soname.
-    bests: Seq<BestLibrary>,
+    bests: BestLibraries,
     /// The sonames whose libraries have different ABIs.
     mixed: Texts,
 }
@@ -22,15 +22,8 @@ struct Summary {
 /// The libraries of each of some folders.
 #[derive(Drop)]
 pub(crate) struct Summaries {
-    pub(crate) bests: Vec<Seq<BestLibrary>>,
+    pub(crate) bests: Vec<BestLibraries>,
     pub(crate) mixed: Vec<Texts>,
-}
-
-fn add_best(alloc: Global, best: &Library<'_>, bests: &mut Vec<BestLibrary>) -> Result<(), NoMemory>
-    ensures { OnOk result (bests.new.items ≡ bests.old.items ++ best.now ∷ []) }
-{
-    bests.push(BestLibrary::copy_of(alloc, best)?)?;
-    Ok(())
 }
 
 // Adds a soname if its libraries have different ABIs.
@@ -54,16 +47,13 @@ fn summary_of(alloc: Global, tree: &Tree, table: &Table, folder: &[u8]) -> Resul
     ensures mixed { IfOk result (λ found. found.mixed ≡ mixed_at (analysis_at table.now) tree.now folder.now) }
 {
     let groups = groups_in(alloc, tree, table, folder)?;
-    let mut bests = Vec::with_capacity(alloc, groups.len())?;
+    let mut bests = BestLibraries::with_capacity(alloc, groups.len())?;
     let mut mixed = Texts::new(alloc);
     for group in groups {
         add_mixed(alloc, &group, &mut mixed)?;
-        add_best(alloc, &group.item().best, &mut bests)?;
+        bests.push(&group.item().best)?;
     }
-    Ok(Summary {
-        bests: Seq::from_vec(bests),
-        mixed,
-    })
+    Ok(Summary { bests, mixed })
 }
 
 /// What the libraries of each of these folders come to.

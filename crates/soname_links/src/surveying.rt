@@ -12,7 +12,7 @@ ghost use Rattle.found_files.specs.Table.{analysis_at};
 
 use crate::kinds::{Mark, Marks, Plan, Planned, Survey};
 use crate::summary::summaries_of;
-use found_files::{BestLibrary, Library, Shared, Table, is_own, is_plain, over, real_folders};
+use found_files::{BestLibraries, Library, Shared, Table, is_own, is_plain, over, real_folders};
 use hwcap_dirs::{Dirs, Place};
 use lib_types::{NoMemory, Seq, Text};
 use name_order::is_library_name;
@@ -43,7 +43,7 @@ struct Marked {
 fn is_regarded(best: &Library<'_>) -> bool
     ensures { result ≡ is_regarded best.now }
 {
-    is_library_name(best.soname) && !is_own(best)
+    !is_own(best) && is_library_name(best.soname)
 }
 
 fn is_taken(kind: Kind) -> bool
@@ -145,7 +145,7 @@ fn add_links(
     tree: &Tree,
     number: u32,
     place: &Place,
-    bests: &[BestLibrary],
+    bests: &BestLibraries,
     found: &mut Marked,
 ) -> Result<(), NoMemory>
     ensures plan { OnOk result (found.new.plan ≡ found.old.plan ++ filter_map (link_for tree.now number place.now) bests.now) }
@@ -153,16 +153,8 @@ fn add_links(
     ensures mixed { OnOk result (found.new.mixed ≡ found.old.mixed) }
 {
     let mut path = Vec::new(alloc);
-    for best in bests {
-        add_wanted(
-            alloc,
-            tree,
-            number,
-            place,
-            &best.library(),
-            &mut path,
-            found,
-        )?;
+    for best in bests.iter() {
+        add_wanted(alloc, tree, number, place, &best, &mut path, found)?;
     }
     Ok(())
 }
@@ -188,7 +180,7 @@ fn add_place(
     tree: &Tree,
     number: u32,
     place: &Place,
-    bests: &[BestLibrary],
+    bests: &BestLibraries,
     mixed: &[Text],
     found: &mut Marked,
 ) -> Result<(), NoMemory>
@@ -222,7 +214,7 @@ fn surveyed(alloc: Global, tree: &Tree, dirs: &Dirs, table: &Table) -> Result<Su
     let rows = folders.rows.as_slice();
     let there = over(summed.bests.as_slice(), rows).zip(over(summed.mixed.as_slice(), rows));
     for (place, (bests, mixed)) in dirs.places.as_slice().iter().zip(there) {
-        let (bests, mixed) = (bests.as_slice(), mixed.as_slice());
+        let mixed = mixed.as_slice();
         add_place(alloc, tree, number, place, bests, mixed, &mut found)?;
         number = number.checked_add(1).ok_or(NoMemory)?;
     }

@@ -8,6 +8,7 @@ ghost use Rattle.update_runs.specs.UpdateCommand.{UpdateRun};
 use command_status::{Status, put_fault_line};
 use loaded_image::Session;
 use std::alloc::Global;
+use std::mem::forget;
 use tree_face::{Disk, Sink, Store, Tag, put_all};
 
 /// Updates an image once, and writes its report but no fault line.
@@ -46,7 +47,11 @@ fn update<S: Store, D: Disk, O: Sink>(
         Err(fault) => return Status::from(fault),
     };
     match update_once(alloc, session, store, disk, out, tag) {
-        Ok(_) => Status::Done,
+        Ok(updated) => {
+            // The process ends with the command, and the system takes all its memory at once.
+            forget(updated);
+            Status::Done
+        }
         Err(status) => status,
     }
 }

@@ -35,7 +35,7 @@ use Rattle.found_files.specs.Libraries.{libraries_in}
 use Rattle.found_files.specs.Places.{by_place}
 use Rattle.path_walk.specs.Files.{file_at, file_by, is_file}
 use Rattle.found_files.specs.Search.{followed_by, followed_in, link_in}
-use Rattle.found_files.specs.declared.links.FollowedLink.{FollowedLink}
+use Rattle.found_files.specs.Link.{FollowedLink}
 use Rattle.found_files.specs.Analyses.{Analyses, HaveNames}
 use Rattle.winning_entries.specs.Winner.{has_own_name, library_behind, linked, links_to_libraries, named, named_links, or_else, other_links, unnamed, winner, winners_in}
 use Rattle.found_files.specs.Libraries.{last_name}

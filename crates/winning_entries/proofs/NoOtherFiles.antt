@@ -11,7 +11,7 @@ use Rattle.found_files.proofs.NoOtherFiles.{agree_first, agree_in_order, agree_l
 use Rattle.found_files.specs.Analyses.{Analyses, AgreeOn}
 use Rattle.found_files.specs.Libraries.{last_name, libraries_in, library_by}
 use Rattle.found_files.specs.Search.{files_of, folder_links, followed, followed_in, reached, wanted}
-use Rattle.found_files.specs.declared.links.FollowedLink.{FollowedLink}
+use Rattle.found_files.specs.Link.{FollowedLink}
 use Rattle.winning_entries.specs.Entries.{entry_of, found}
 use Rattle.winning_entries.specs.Winner.{library_behind, linked, links_to_libraries, winners_among, winners_in}
 

@@ -4,9 +4,11 @@ use Rattle.std.specs.List.{AllByRecursion, filter_map}
 use Rattle.hwcap_dirs.specs.declared.kinds.Place.{Place}
 use Rattle.image_tree.specs.Tree.{Nodes}
 use Rattle.found_files.specs.Analyses.{Analyses}
+use Rattle.found_files.specs.Best.{bests_in}
 use Rattle.found_files.specs.Libraries.{libraries_at}
 use Rattle.found_files.specs.Library.{Library}
-use Rattle.found_files.specs.Search.{followed_in}
+use Rattle.found_files.specs.Search.{folder_links, followed_in}
+use Rattle.found_files.specs.declared.links.FolderLinks.{FolderLinks}
 use Rattle.winning_entries.specs.Winner.{linked, winners_among, winners_in}
 
 -- the winners of the places that are this folder
@@ -21,3 +23,8 @@ AreCounts what t counts = AllByRecursion (λ e. e.1 ≡ length (winners_at what 
 pub record IsCounted (what : Analyses) (t : Nodes) (place : Place) (count : ℕ) (counts : List (List ℕ × ℕ)) : Type 0 where
   pub count_is : count ≡ length (winners_in what t place)
   pub counts_are : AreCounts what t counts
+
+-- the number is that of each place of which these are the best libraries and the links, if what was kept before is right
+abbrev pub CountsEach : Analyses → List Library → FolderLinks → List (List ℕ × ℕ) → ℕ → List (List ℕ × ℕ) → Type 0
+CountsEach what files links before count counts = (t : Nodes) (place : Place) → links ≡ folder_links t place → files ≡ bests_in what t place
+    → AreCounts what t before → IsCounted what t place count counts

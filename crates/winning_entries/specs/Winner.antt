@@ -8,7 +8,7 @@ use Rattle.found_files.specs.Libraries.{last_name, libraries_in, library_at}
 use Rattle.found_files.specs.Search.{followed_in}
 use Rattle.found_files.specs.Analyses.{Analyses}
 use Rattle.found_files.specs.Library.{Library}
-use Rattle.found_files.specs.declared.links.FollowedLink.{FollowedLink}
+use Rattle.found_files.specs.Link.{FollowedLink}
 
 -- ---- links to libraries
 

@@ -1,14 +1,10 @@
 //! How many winners places have.
-ghost use Rattle.std.specs.Prelude.{◌≡◌, IfOk};
-ghost use Rattle.hwcap_dirs.specs.declared.kinds.Place.{Place};
-ghost use Rattle.image_tree.specs.Tree.{Nodes};
-ghost use Rattle.found_files.specs.Best.{bests_in};
-ghost use Rattle.found_files.specs.Search.{folder_links};
+ghost use Rattle.std.specs.Prelude.{IfOk};
 ghost use Rattle.found_files.specs.Table.{analysis_at};
-ghost use Rattle.winning_entries.specs.Counts.{AreCounts, IsCounted};
+ghost use Rattle.winning_entries.specs.Counts.{CountsEach};
 
 use crate::winner::winners_in;
-use found_files::{BestLibrary, FolderLinks, Table};
+use found_files::{BestLibraries, FolderLinks, Table};
 use indexmap::IndexMap;
 use lib_types::{NoMemory, Text, TextRef};
 use std::alloc::Global;
@@ -18,12 +14,11 @@ use std::alloc::Global;
 pub(crate) fn count_in(
     alloc: Global,
     table: &Table,
-    files: &[BestLibrary],
+    files: &BestLibraries,
     links: &FolderLinks,
     counts: &mut IndexMap<Text, usize>,
 ) -> Result<usize, NoMemory>
-    ensures { (t : Nodes) (place : Place) → links.now ≡ folder_links t place → files.now ≡ bests_in (analysis_at table.now) t place
-        → AreCounts (analysis_at table.now) t counts.old.entries → IfOk result (λ count. IsCounted (analysis_at table.now) t place count counts.new.entries) }
+    ensures { IfOk result (λ count. CountsEach (analysis_at table.now) files.now links.now counts.old.entries count counts.new.entries) }
 {
     if let Some(count) = counts.get(TextRef {
         bytes: links.folder.as_bytes(),

@@ -17,7 +17,7 @@ use crate::fault::EntryFault;
 use crate::winner::winners_in;
 use cache_writer::ENTRIES_MAX;
 use found_files::{
-    BestLibrary, FolderLinks, Library, PlaceBests, PlaceLinks, Table, is_own, is_plain, links_to,
+    BestLibraries, FolderLinks, Library, PlaceBests, PlaceLinks, Table, is_own, is_plain, links_to,
 };
 use hwcap_dirs::{Dirs, Place};
 use indexmap::IndexMap;
@@ -158,7 +158,7 @@ fn add_place(
     table: &Table,
     number: u32,
     place: &Place,
-    files: &[BestLibrary],
+    files: &BestLibraries,
     links: &FolderLinks,
     found: &mut Counted,
 ) -> Result<(), NoMemory>
@@ -191,7 +191,7 @@ fn take_place(
     table: &Table,
     number: u32,
     place: &Place,
-    files: &[BestLibrary],
+    files: &BestLibraries,
     links: &FolderLinks,
     found: &mut Counted,
 ) -> Result<(), NoMemory>
@@ -234,16 +234,7 @@ fn found(
     let mut number: u32 = 0;
     let there = bests.iter().zip(links.iter());
     for (place, (bests, links)) in dirs.places.as_slice().iter().zip(there) {
-        take_place(
-            alloc,
-            tree,
-            table,
-            number,
-            place,
-            bests.as_slice(),
-            links,
-            &mut found,
-        )?;
+        take_place(alloc, tree, table, number, place, bests, links, &mut found)?;
         number = number.checked_add(1).ok_or(NoMemory)?;
     }
     Ok(found)

@@ -1,5 +1,5 @@
 //! The winners of a place.
-ghost use Rattle.std.specs.Prelude.{◌≡◌, ◌<◌, ◌++◌, map, unwrap_or, IfOk, OnOk};
+ghost use Rattle.std.specs.Prelude.{◌≡◌, ◌++◌, map, unwrap_or, IfOk, OnOk};
 ghost use Rattle.std.specs.List.{filter_map};
 ghost use Rattle.hwcap_dirs.specs.declared.kinds.Place.{Place};
 ghost use Rattle.image_tree.specs.Tree.{Nodes};
@@ -12,7 +12,7 @@ ghost use Rattle.winning_entries.specs.Winner.{has_own_name, is_dev_name, linked
 ghost use Rattle.found_files.specs.Table.{analysis_at};
 
 use found_files::{
-    BestLibrary, BySoname, FolderLinks, FollowedLink, Gather, Library, Table, gather_by_soname,
+    BestLibraries, BySoname, FolderLinks, FollowedLink, Gather, Library, Table, gather_by_soname,
     is_own, is_preferred,
 };
 use lib_types::{Analysis, NoMemory, Text};
@@ -64,10 +64,7 @@ fn library_behind<'a>(table: &'a Table, name: &'a [u8], file: &'a [u8]) -> Optio
 fn linked<'a>(table: &'a Table, link: &'a FollowedLink) -> Option<Library<'a>>
     ensures { result ≡ linked (analysis_at table.now) link.now }
 {
-    match &link.file {
-        Some(file) => library_behind(table, link.name.as_bytes(), file.as_bytes()),
-        None => None,
-    }
+    library_behind(table, link.name(), link.file()?)
 }
 
 // ---- the classes
@@ -175,11 +172,11 @@ fn by_soname<'a>(ranked: Ranked<'a>) -> BySoname<'a, Ranked<'a>>
     BySoname::new(ranked.library.soname(), ranked)
 }
 
-fn add_files<'a>(candidates: &mut Candidates<'a>, files: &'a [BestLibrary]) -> Result<(), NoMemory>
+fn add_files<'a>(candidates: &mut Candidates<'a>, files: &'a BestLibraries) -> Result<(), NoMemory>
     ensures { OnOk result (candidates.new.items ≡ candidates.old.items ++ by_sonames (map ranked_file files.now)) }
 {
-    for file in files {
-        candidates.push(by_soname(ranked_file(file.library())))?;
+    for file in files.iter() {
+        candidates.push(by_soname(ranked_file(file)))?;
     }
     Ok(())
 }
@@ -204,12 +201,12 @@ fn add_links<'a>(
 fn winners_of<'a>(
     alloc: Global,
     table: &'a Table,
-    files: &'a [BestLibrary],
+    files: &'a BestLibraries,
     links: &'a [FollowedLink],
 ) -> Result<Candidates<'a>, NoMemory>
     ensures { IfOk result (λ winners. libraries_of winners.items ≡ winners_among files.now (filter_map (linked (analysis_at table.now)) links.now)) }
 {
-    let mut candidates = Vec::with_capacity(alloc, files.len())?;
+    let mut candidates = Vec::with_capacity(alloc, files.len().saturating_add(links.len()))?;
     add_files(&mut candidates, files)?;
     add_links(&mut candidates, table, links)?;
     let winners = gather_by_soname(alloc, candidates)?;
@@ -232,7 +229,7 @@ fn listed<'a>(alloc: Global, winners: Candidates<'a>) -> Result<Vec<Library<'a>>
 pub(crate) fn winners_in<'a>(
     alloc: Global,
     table: &'a Table,
-    files: &'a [BestLibrary],
+    files: &'a BestLibraries,
     links: &'a FolderLinks,
 ) -> Result<Vec<Library<'a>>, NoMemory>
     ensures { (t : Nodes) (place : Place) → links.now ≡ folder_links t place → files.now ≡ bests_in (analysis_at table.now) t place

@@ -1,5 +1,5 @@
 //! What a tree has at a path, and how that changes.
-ghost use Rattle.std.specs.Prelude.{◌≡◌, ◌≢◌, ◌<◌, ◌≤◌, ◌^◌, IfOk, IfErr, OnOk, OnErr, ◌↔◌, ◌+◌, ◌&&◌, IsTrue, None, Some, false, true, MatchResult, MatchOption, length, slice_index_or};
+ghost use Rattle.std.specs.Prelude.{◌≡◌, ◌≢◌, ◌<◌, ◌≤◌, ◌^◌, IfOk, IfErr, IfSome, OnOk, OnErr, ◌↔◌, ◌+◌, ◌&&◌, IsTrue, None, Some, false, true, MatchResult, MatchOption, length, slice_index_or};
 ghost use Rattle.std.specs.Str.{bytes_eq};
 ghost use Rattle.std.specs.Option.{option_copied, is_some};
 ghost use Rattle.image_tree.specs.Paths.{root, is_path};
@@ -232,9 +232,10 @@ fn has_no_room(runs: &Vec<Run>, count: usize, path: &[u8], found: Result<Place, 
     }
 }
 
-/// The place of the path's entry or of its gap, or why the node can't be put.
+/// The place of the path's entry or of its gap, looked for first in the run of a place, or why the node can't be put.
 pub(super) fn find_for(
     runs: &Vec<Run>,
+    near: Place,
     count: usize,
     path: &[u8],
     node: &Node,
@@ -249,7 +250,7 @@ pub(super) fn find_for(
     ensures found { IfOk result (λ found. MatchResult found (IsPlaceOf runs.now.items path.now) (IsGapAt runs.now.items path.now)) }
     ensures room { IfOk result (λ found. IfErr found (λ _. length (joined runs.now.items) < NODES_MAX)) }
 {
-    let found = find(runs, path);
+    let found = find(runs, near, path);
     if clashes(runs, path, node, found) {
         return Err(TreeFault::Clash);
     }
@@ -287,7 +288,7 @@ fn insert(
     ensures runs { IsTrue (are_runs runs.new.items) }
 {
     let path = Text::copy_of(alloc, path)?;
-    places::insert(alloc, runs, place, PathEntry::new(alloc, path, node)?)?;
+    places::insert(alloc, runs, place, PathEntry::new(path, node))?;
     Ok(())
 }
 
@@ -325,7 +326,8 @@ pub(super) fn put_at(
 /// Entries whose first are all that lie below the path, if it is a directory.
 pub(super) fn from_dir<'a>(runs: &'a Vec<Run>, path: &[u8]) -> Option<Rest<'a>>
     requires { AreRuns runs.now.items }
-    ensures { MatchOption result (kind_at (joined runs.now.items) path.now ≢ Kind.Dir) (AreFromDir (joined runs.now.items) path.now) }
+    ensures entries { MatchOption result (kind_at (joined runs.now.items) path.now ≢ Kind.Dir) (AreFromDir (joined runs.now.items) path.now) }
+    ensures sorted { IfSome result IsPathSorted }
 {
     if path == b"/".as_slice() {
         return Some(Rest::all(runs));

@@ -1,9 +1,11 @@
 //! What stands directly below a directory of a tree.
-ghost use Rattle.std.specs.Prelude.{◌≡◌, ◌∷◌, [], ◌&&◌, ℕ, List, true, MatchOption, drop, length, nat_eq};
+ghost use Rattle.std.specs.Prelude.{◌≡◌, ◌≤◌, ◌∷◌, [], ◌&&◌, ℕ, List, true, IfSome, MatchOption, drop, length, nat_eq};
 ghost use Rattle.std.specs.List.{dedup_from, starts_with};
 ghost use Rattle.std.specs.Option.{option_copied};
 ghost use Rattle.std.specs.Str.{bytes_eq};
 ghost use Rattle.image_tree.specs.Paths.{name_behind};
+ghost use Rattle.image_tree.specs.Tree.{IsPathSorted};
+ghost use Rattle.image_tree.specs.Behind.{AreSortedBehind};
 ghost use Rattle.image_tree.specs.Runs.{IsPathOfChild, child_at, children_behind, children_in, is_name_end, is_same_child};
 
 use super::rest::Rest;
@@ -23,11 +25,14 @@ pub struct Listing<'a> {
 impl<'a> Model for Listing<'a> {
     ghost use Rattle.std.specs.Prelude.{ℕ, List, Option};
     ghost use Rattle.image_tree.specs.Runs.{children_in};
+    ghost use Rattle.image_tree.specs.Tree.{IsPathSorted};
     ghost use Rattle.image_tree.specs.declared.node.Node.{Node};
 
     ghost Value = { List (List ℕ × Option Node) };
 
     ghost view = { λ s. children_in s.folder.now s.rest };
+
+    ghost invariant = { λ s. IsPathSorted s.rest };
 }
 
 impl<'a> Listing<'a> {
@@ -46,7 +51,8 @@ impl<'a> Listing<'a> {
 
     /// What stands directly below the path, given entries whose first are all that lie below it.
     pub(super) fn of(rest: Rest<'a>, path: &[u8]) -> Listing<'a>
-        requires { length path.now < 2 ^ 32 }
+        requires short { length path.now < 2 ^ 32 }
+        requires sorted { IsPathSorted rest }
         ensures { result ≡ children_in (folder path.now) rest.entry }
     {
         match rest.split_first() {
@@ -154,9 +160,30 @@ fn path_of_child<'a>(path: &'a [u8], folder: &[u8], name: &[u8]) -> &'a [u8]
     &path[..folder.len() + name.len()]
 }
 
-// What follows the entries of one child, given its path.
+// The entries from the last run on that begins with one of the child. What is skipped comes before that one, so it is the child's too.
+fn from_last_run<'a>(entries: Rest<'a>, child: &[u8]) -> Rest<'a>
+    requires { AreSortedBehind child.now entries }
+    ensures sorted { AreSortedBehind child.now result }
+    ensures few { length result ≤ length entries.entry }
+    ensures same { (folder name : List ℕ) (node : _) → IsPathOfChild folder name child.now → dedup_from is_same_child (name, node) (children_behind folder result)
+        ≡ dedup_from is_same_child (name, node) (children_behind folder entries.entry) }
+{
+    let mut rest = entries;
+    while let Some((first, next)) = rest.next_run() {
+        if !is_child(child, first.path()) {
+            break;
+        }
+        rest = next;
+    }
+    rest
+}
+
+// What follows the entries of one child, given its path. Below a directory there can be many.
+#[tactic(auto, using(crate::proofs::AllOfChild::behind_sorted))]
 fn skip_child<'a>(entries: Rest<'a>, child: &[u8]) -> Rest<'a>
-    ensures { (folder name : List ℕ) (node : _) → IsPathOfChild folder name child.now → dedup_from is_same_child (name, node) (children_behind folder entries.entry)
+    requires { AreSortedBehind child.now entries }
+    ensures sorted { IsPathSorted result }
+    ensures children { (folder name : List ℕ) (node : _) → IsPathOfChild folder name child.now → dedup_from is_same_child (name, node) (children_behind folder entries.entry)
         ≡ (name, node) ∷ children_in folder result }
 {
     let mut rest = entries;
@@ -164,7 +191,7 @@ fn skip_child<'a>(entries: Rest<'a>, child: &[u8]) -> Rest<'a>
         if !is_child(child, entry.path()) {
             break;
         }
-        rest = more;
+        rest = from_last_run(more, child);
     }
     rest
 }
@@ -174,7 +201,9 @@ fn first_child<'a>(
     rest: &Rest<'a>,
     folder: &[u8],
 ) -> Option<((&'a [u8], Option<&'a Node>), Rest<'a>)>
-    ensures { MatchOption result (children_in folder.now rest.now ≡ [])
+    requires { IsPathSorted rest.now }
+    ensures sorted { IfSome result (λ r. IsPathSorted r.1) }
+    ensures children { MatchOption result (children_in folder.now rest.now ≡ [])
         (λ r. children_in folder.now rest.now ≡ (r.0.0.now, option_copied r.0.1) ∷ children_in folder.now r.1) }
 {
     let (first, others) = rest.split_first()?;

@@ -1,6 +1,7 @@
 //! The entries of a tree from a place on.
-ghost use Rattle.std.specs.Prelude.{◌≡◌, ◌∷◌, [], ◌<◌, ◌≤◌, ◌+◌, MatchOption, true, length, drop, slice_index_or};
+ghost use Rattle.std.specs.Prelude.{◌≡◌, ◌∷◌, [], ◌<◌, ◌≤◌, ◌+◌, IfSome, MatchOption, true, length, drop, slice_index_or};
 ghost use Rattle.image_tree.specs.Runs.{joined, index_of, are_runs, run_length, IsPlace};
+ghost use Rattle.image_tree.specs.Behind.{EndsWith};
 
 use super::run::{PathEntry, Run};
 use super::runs::{Place, run_of};
@@ -74,6 +75,20 @@ impl<'a> Rest<'a> {
         }
         let (run, others) = self.others.split_first()?;
         let (entry, first) = run.as_slice().split_first()?;
+        Some((entry, Rest { first, others }))
+    }
+
+    /// The first entry of the next run, and the entries from it on, if something is left of the first run.
+    pub(super) fn next_run(&self) -> Option<(&'a PathEntry, Rest<'a>)>
+        ensures last { IfSome result (λ r. EndsWith self.now (r.0.now.0, r.0.now.1) r.1) }
+        ensures fewer { IfSome result (λ r. length r.1 < length self.now) }
+    {
+        if self.first.is_empty() {
+            return None;
+        }
+        let (run, others) = self.others.split_first()?;
+        let first = run.as_slice();
+        let (entry, _) = first.split_first()?;
         Some((entry, Rest { first, others }))
     }
 }

@@ -1,6 +1,7 @@
 //! A run of a tree's entries.
-ghost use Rattle.std.specs.Prelude.{◌≡◌, ◌==◌, ◌<◌, ◌≤◌, [], OnOk, OnErr, IfOk, IfErr, IfSome, length, take, drop, slice_index_or, slice_set};
+ghost use Rattle.std.specs.Prelude.{◌≡◌, ◌==◌, ◌<◌, ◌≤◌, [], OnOk, OnErr, IfOk, IfErr, IfSome, IsTrue, length, take, drop, slice_index_or, slice_set};
 ghost use Rattle.std.specs.List.{insert, remove};
+ghost use Rattle.std.specs.declared.cmp.Ordering.TheVariants.{Equal};
 ghost use Rattle.image_tree.specs.Paths.{path_cmp};
 ghost use Rattle.image_tree.specs.Index.{IsIndexOf, IsGapFor};
 ghost use Rattle.image_tree.specs.Runs.{begins_by};
@@ -8,15 +9,16 @@ ghost use Rattle.image_tree.specs.Tree.{IsPathSorted};
 
 use crate::node::Node;
 use crate::path::compare;
-use lib_types::{NoMemory, Text};
+use lib_types::{NoMemory, Text, are_same};
 use std::alloc::Global;
 use std::cmp::Ordering;
 use std::marker::Model;
 
-/// A path and its node, in a block of memory of their own: within a run an entry moves as one pointer.
+/// A path and its node.
 #[derive(Drop)]
 pub(super) struct PathEntry {
-    entry: Box<(Text, Node)>,
+    path: Text,
+    node: Node,
 }
 
 impl Model for PathEntry {
@@ -25,43 +27,45 @@ impl Model for PathEntry {
 
     ghost Value = { List ℕ × Node };
 
-    ghost view = { λ e. (e.entry.value.0, e.entry.value.1) };
+    ghost view = { λ e. (e.path, e.node) };
 }
 
 impl PathEntry {
     /// The entry of a path and its node.
-    pub(super) fn new(alloc: Global, path: Text, node: Node) -> Result<PathEntry, NoMemory>
-        ensures { IfOk result (λ e. e ≡ (path, node)) }
+    pub(super) fn new(path: Text, node: Node) -> PathEntry
+        ensures { result ≡ (path, node) }
     {
-        let entry = Box::new(alloc, (path, node))?;
-        Ok(PathEntry { entry })
+        PathEntry { path, node }
     }
 
     /// The path.
     pub(super) fn path(&self) -> &[u8]
         ensures { result.now ≡ self.now.0 }
     {
-        self.entry.0.as_bytes()
+        self.path.as_bytes()
     }
 
     /// The node.
     pub(super) fn node(&self) -> &Node
         ensures { result.now ≡ self.now.1 }
     {
-        &self.entry.1
+        &self.node
     }
 
     // Overwrites the node.
     fn set_node(&mut self, node: Node)
         ensures { self.new ≡ (self.old.0, node) }
     {
-        self.entry.1 = node;
+        self.node = node;
     }
 }
 
 /// The most entries of a run. What is put or removed moves no more entries than that: fewer would make more runs, whose
 /// list is moved where a run is divided.
-pub(super) const RUN_MAX: usize = 128;
+pub(super) const RUN_MAX: usize = 64;
+
+// For so many entries more a run makes room at once. With more of it a tree in no order would have much memory that stands empty.
+const ROOM: usize = 16;
 
 /// Entries that stand in one block of memory, which contracts see as their list.
 #[derive(Drop)]
@@ -78,13 +82,12 @@ impl Model for Run {
 }
 
 impl Run {
-    /// A run without entries. It keeps the allocator and takes no memory.
-    pub(super) fn new(alloc: Global) -> Run
-        ensures { result ≡ [] }
+    /// A run without entries, with room for as many as it may have.
+    pub(super) fn new(alloc: Global) -> Result<Run, NoMemory>
+        ensures { IfOk result (λ run. run ≡ []) }
     {
-        Run {
-            entries: Vec::new(alloc),
-        }
+        let entries = Vec::with_capacity(alloc, RUN_MAX)?;
+        Ok(Run { entries })
     }
 
     /// The number of entries.
@@ -143,17 +146,23 @@ impl Run {
         let _ = self.entries.remove(index);
     }
 
-    /// Inserts an entry at this index.
+    /// Inserts an entry at this index. At the end, where the lines of a sorted manifest come, nothing moves.
+    #[tactic(auto, using(crate::proofs::Runs::inserted_at_end))]
     pub(super) fn insert(&mut self, index: usize, entry: PathEntry) -> Result<(), NoMemory>
         requires { index ≤ length self.old }
         ensures done { OnOk result (self.new ≡ insert self.old index entry) }
         ensures refused { OnErr result (self.new ≡ self.old) }
     {
-        self.entries.insert(index, entry)?;
+        make_room(&mut self.entries)?;
+        if index == self.entries.len() {
+            self.entries.push(entry)?;
+        } else {
+            self.entries.insert(index, entry)?;
+        }
         Ok(())
     }
 
-    /// Keeps the entries before this index, and returns the others as a run of their own.
+    /// Keeps the entries before this index, and returns the others as a run of their own. Neither has room for more.
     pub(super) fn split_off(&mut self, index: usize) -> Result<Run, NoMemory>
         requires { index ≤ length self.old }
         ensures front { OnOk result (self.new ≡ take index self.old) }
@@ -161,8 +170,19 @@ impl Run {
         ensures refused { OnErr result (self.new ≡ self.old) }
     {
         let entries = self.entries.split_off(index)?;
+        self.entries.shrink_to_fit();
         Ok(Run { entries })
     }
+}
+
+// Has room for an entry more.
+fn make_room(entries: &mut Vec<PathEntry>) -> Result<(), NoMemory>
+    ensures { entries.new.items ≡ entries.old.items }
+{
+    if entries.len() == entries.capacity() {
+        entries.reserve_exact(ROOM)?;
+    }
+    Ok(())
 }
 
 fn search(entries: &Vec<PathEntry>, path: &[u8]) -> Result<usize, usize>
@@ -177,8 +197,16 @@ fn search(entries: &Vec<PathEntry>, path: &[u8]) -> Result<usize, usize>
     )
 }
 
+// Whether the entry has the path. Most that don't have one of another length, so this takes less than to compare their order.
+#[tactic(auto, using(crate::proofs::Order::same_paths))]
+fn has_path(entry: &PathEntry, path: &[u8]) -> bool
+    ensures { IsTrue result → path_cmp entry.now.0 path.now ≡ Equal }
+{
+    are_same(entry.path(), path)
+}
+
 // How many entries are looked at in their order before all are searched.
-const NEAR: usize = 4;
+const NEAR: usize = 8;
 
 // The index of the path's entry, if it is one of the next few from this index on.
 fn find_near(entries: &Vec<PathEntry>, from: usize, path: &[u8]) -> Option<usize>
@@ -186,10 +214,8 @@ fn find_near(entries: &Vec<PathEntry>, from: usize, path: &[u8]) -> Option<usize
 {
     let end = entries.len().min(from.saturating_add(NEAR));
     for i in from..end {
-        match compare(entries[i].path(), path) {
-            Ordering::Less => {}
-            Ordering::Equal => return Some(i),
-            Ordering::Greater => return None,
+        if has_path(&entries[i], path) {
+            return Some(i);
         }
     }
     None

@@ -93,18 +93,19 @@ pub(super) fn entry_before(runs: &Vec<Run>, place: Place) -> Option<&PathEntry>
     Some(entry_at(runs, Place { run, at }))
 }
 
-// The place behind all entries.
+// The place behind all entries, in a run of its own if the last one is full: so the entries of a sorted manifest fill their runs.
+#[tactic(auto, using(crate::proofs::Runs::start_end))]
 fn end(runs: &Vec<Run>) -> Place
     ensures place { IsPlace runs.now.items result }
     ensures index { index_of runs.now.items result ≡ length (joined runs.now.items) }
 {
-    match runs.len() {
-        0 => Place { run: 0, at: 0 },
-        count => Place {
-            run: count - 1,
-            at: run_of(runs, count - 1).len(),
-        },
+    let count = runs.len();
+    if count == 0 || run_of(runs, count - 1).len() >= RUN_MAX {
+        return Place { run: count, at: 0 };
     }
+    let run = count - 1;
+    let at = run_of(runs, run).len();
+    Place { run, at }
 }
 
 // Whether the path comes after all entries.
@@ -136,6 +137,34 @@ fn runs_by(runs: &Vec<Run>, path: &[u8]) -> usize
     )
 }
 
+// Whether the run at this index begins at the path or before it, and the next one, if there is one, behind it.
+fn is_run_for(runs: &Vec<Run>, index: usize, path: &[u8]) -> bool
+    ensures within { IsTrue result → index < length runs.now.items }
+    ensures before { IsTrue result → begins_by path.now (slice_index_or runs.now.items index []) ≡ true }
+    ensures after { IsTrue result → index + 1 < length runs.now.items → begins_by path.now (slice_index_or runs.now.items (index + 1) []) ≡ false }
+{
+    if index >= runs.len() || !run_of(runs, index).begins_by(path) {
+        return false;
+    }
+    index + 1 == runs.len() || !run_of(runs, index + 1).begins_by(path)
+}
+
+// The same as `search`, given the run.
+fn search_in(runs: &Vec<Run>, run: usize, path: &[u8]) -> Result<Place, Place>
+    requires runs { IsTrue (are_runs runs.now.items) }
+    requires sorted { IsPathSorted (joined runs.now.items) }
+    requires within { run < length runs.now.items }
+    requires before { begins_by path.now (slice_index_or runs.now.items run []) ≡ true }
+    requires after { run + 1 < length runs.now.items → begins_by path.now (slice_index_or runs.now.items (run + 1) []) ≡ false }
+    ensures found { IfOk result (IsPlaceOf runs.now.items path.now) }
+    ensures absent { IfErr result (IsGapAt runs.now.items path.now) }
+{
+    match run_of(runs, run).search(path) {
+        Ok(at) => Ok(Place { run, at }),
+        Err(at) => Err(Place { run, at }),
+    }
+}
+
 /// The place of the path's entry, or that at which it would be inserted.
 pub(super) fn search(runs: &Vec<Run>, path: &[u8]) -> Result<Place, Place>
     requires runs { IsTrue (are_runs runs.now.items) }
@@ -147,11 +176,7 @@ pub(super) fn search(runs: &Vec<Run>, path: &[u8]) -> Result<Place, Place>
     if count == 0 {
         return Err(Place { run: 0, at: 0 });
     }
-    let run = count - 1;
-    match run_of(runs, run).search(path) {
-        Ok(at) => Ok(Place { run, at }),
-        Err(at) => Err(Place { run, at }),
-    }
+    search_in(runs, count - 1, path)
 }
 
 /// The place of the path's entry, if it is one of the next few from this place on, in its run. Any place will do: paths that are
@@ -167,8 +192,8 @@ pub(super) fn find_near(runs: &Vec<Run>, near: Place, path: &[u8]) -> Option<Pla
 }
 
 /// The place at which a path is put: that of its entry, or that of its gap. The lines of a sorted manifest each come after
-/// all others, so that case takes no search.
-pub(super) fn find(runs: &Vec<Run>, path: &[u8]) -> Result<Place, Place>
+/// all others, so that case takes no search. Of others many come into the run of the one before, which is tried first.
+pub(super) fn find(runs: &Vec<Run>, near: Place, path: &[u8]) -> Result<Place, Place>
     requires runs { IsTrue (are_runs runs.now.items) }
     requires sorted { IsPathSorted (joined runs.now.items) }
     ensures found { IfOk result (IsPlaceOf runs.now.items path.now) }
@@ -177,6 +202,9 @@ pub(super) fn find(runs: &Vec<Run>, path: &[u8]) -> Result<Place, Place>
     let end = end(runs);
     if is_after_all(runs, path, end) {
         return Err(end);
+    }
+    if is_run_for(runs, near.run, path) {
+        return search_in(runs, near.run, path);
     }
     search(runs, path)
 }
@@ -326,7 +354,7 @@ fn push_run(alloc: Global, runs: &mut Vec<Run>, entry: PathEntry) -> Result<(), 
     ensures done { OnOk result (runs.new.items ≡ runs.old.items ++ (entry ∷ []) ∷ []) }
     ensures refused { OnErr result (runs.new.items ≡ runs.old.items) }
 {
-    let mut run = Run::new(alloc);
+    let mut run = Run::new(alloc)?;
     run.insert(0, entry)?;
     runs.push(run)?;
     Ok(())

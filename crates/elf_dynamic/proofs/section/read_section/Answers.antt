@@ -12,5 +12,5 @@ pub returns-then-values-eq0-clause-section : goal.returns-then-values-eq0-clause
 returns-then-values-eq0-clause-section g c =
     let known = known_content (g.S.Store.state c.args.store.now) in
     let w = word_size c.args.head.now.wide in
-    subst (λ d. IfKnown known (λ bytes. kept_of c.args.keep (section_in w bytes c.args.dynamic) ≡ Ok (kept c.args.keep d))) (sym (c.no_texts.ensures ∙ ap no_texts c.has_nodeflib.ensures))
+    subst (λ d. IfKnown known (λ bytes. kept_of c.args.keep (section_in w bytes c.args.dynamic) ≡ Ok (kept c.args.keep d))) (sym (c.no_texts-found.ensures ∙ ap no_texts c.has_nodeflib.ensures))
     (known_textless c.args.keep known w c.args.dynamic c.in_ok-values.values c.in_ok-values.ensures.values c.if-values-eq0.true)

@@ -3,7 +3,6 @@ use Rattle.lib_types.specs.Counts.{raised}
 use Rattle.tree_face.specs.Known.{IfKnown}
 use Rattle.tree_face.specs.StoreUse.{Complete}
 use Rattle.elf_headers.specs.Reading.{known_content, OnlyReads, IsHeadOf}
-use Rattle.elf_dynamic.specs.Kept.{kept_text}
 use Rattle.elf_dynamic.specs.Texts.{before_nul}
 use Rattle.elf_dynamic.specs.Windows.{IsWindowOf}
 use Rattle.elf_dynamic.proofs.text.read_text.Given as goal
@@ -19,7 +18,7 @@ invariant-loop-left g l =
       reads : OnlyReads Complete old new;
       within : l.at + l.left ≤ l.head.length;
       less : l.left ≤ l.fn.most;
-      rest : IfKnown (known_content old) (λ bytes. option_map (λ r. l.found.items ++ kept_text l.fn.kept r) (before_nul (take l.left (drop l.at bytes))) ≡ option_map (kept_text l.fn.kept) (before_nul (take l.fn.most (drop l.fn.from bytes))));
+      rest : IfKnown (known_content old) (λ bytes. option_map (λ r. l.found.items ++ r) (before_nul (take l.left (drop l.at bytes))) ≡ before_nul (take l.fn.most (drop l.fn.from bytes)));
       taken : new.taken ≤ raised old.taken (l.fn.most - l.left);
     }
 

@@ -7,7 +7,7 @@ use Rattle.elf_dynamic.specs.Entries.{rest_of, unread_in}
 use Rattle.elf_dynamic.specs.Values.{values_of}
 use Rattle.elf_dynamic.proofs.Known.{at_some}
 use Rattle.elf_dynamic.proofs.Joined.{joined_first, joined_known, one_text}
-use Rattle.elf_dynamic.proofs.Live.{opened, begun, begun_unread, next_before}
+use Rattle.elf_dynamic.proofs.Live.{opened, begun, begun_held, begun_unread, next_before}
 use Rattle.elf_dynamic.proofs.values.read_values.Goals as goal
 
 pub loop-entry-init : goal.loop-entry-init
@@ -21,6 +21,7 @@ loop-entry-init g c =
       is_head = c.requires.head;
       window = c.requires.window;
       inside = opened h d c.new-entries.result new c.requires.within;
+      held = begun_held h d c.new-entries.result c.args.window.now new;
       reads = search rules;
       rest = joined_first (known_content s) c.none-values.result (rest_of c.new-entries.result) (λ bytes. dynamic_entries (word_size h.wide) bytes d) c.none-values.ensures
           (begun (known_content s) h d c.new-entries.result new);
@@ -43,6 +44,7 @@ loop-entry-preserved g c =
       is_head = e.begun_head;
       window = e.window;
       inside = e.inside;
+      held = e.held;
       reads = search rules;
       rest = joined_known (known_content s) c.loop-entry.values c.with-values.result c.in-Some.entry (rest_of c.loop-entry.entries) (rest_of c.next.new.self)
           (λ bytes. values_of (dynamic_entries (word_size h.wide) bytes d)) c.with-values.ensures

@@ -5,7 +5,7 @@ use Rattle.tree_face.specs.StoreUse.{Complete}
 use Rattle.elf_headers.specs.Layout.{word_size}
 use Rattle.elf_headers.specs.Reading.{known_content, OnlyReads, IsHeadOf}
 use Rattle.elf_dynamic.specs.Section.{dynamic_entries}
-use Rattle.elf_dynamic.specs.Entries.{rest_of, IsIn, unread_in}
+use Rattle.elf_dynamic.specs.Entries.{rest_of, IsIn, IsHeld, unread_in}
 use Rattle.elf_dynamic.specs.Windows.{IsWindowOf}
 use Rattle.elf_dynamic.specs.Values.{joined, values_of}
 use Rattle.elf_dynamic.proofs.values.read_values.Given as goal
@@ -19,6 +19,7 @@ invariant-loop-entry g l =
       is_head : IsHeadOf new l.head;
       window : IsWindowOf new l.head l.window;
       inside : IsIn l.head l.entries;
+      held : IsHeld l.window l.entries;
       reads : OnlyReads Complete old new;
       rest : IfKnown (known_content old) (λ bytes. joined l.values (rest_of l.entries bytes) ≡ values_of (dynamic_entries (word_size l.head.wide) bytes l.fn.dynamic));
       few : l.values.texts + l.entries.left ≤ l.fn.dynamic.filesz;

@@ -9,7 +9,7 @@ use Rattle.found_files.proofs.sonames.gather_sorted.Goals as goal
 pub loop-item-init : goal.loop-item-init
 loop-item-init g c =
     let whole : c.into_iter-item-iterator.result.rest.items ≡ c.args.items.items = search rules in
-    subst (λ es. GoesOn g.G.Gather.step c.args.items.items es c.into_iter-item-iterator.result.rest.items) (sym c.new-found.ensures.items)
+    subst (λ es. GoesOn g.G.Gather.step c.args.items.items es c.into_iter-item-iterator.result.rest.items) (sym c.in_ok-found.ensures.items)
     (subst (GoesOn g.G.Gather.step c.args.items.items []) (sym whole) (begins g.G.Gather.step c.args.items.items c.requires))
 
 pub add-requires-clause-behind : goal.add-requires-clause-behind

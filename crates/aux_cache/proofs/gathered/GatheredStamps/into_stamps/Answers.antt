@@ -3,7 +3,6 @@ use Rattle.std.proofs.Common.{rules, ◌≡◌, sym, subst, ◌∙◌}
 use Rattle.aux_cache.proofs.ByIds.{sorted_values}
 use Rattle.aux_cache.proofs.gathered.GatheredStamps.into_stamps.Goals as goal
 use Rattle.aux_cache.specs.Stamps.{IsSortedById}
-use Rattle.aux_cache.specs.declared.stamps.Stamp.{Stamp}
 
 pub from_sorted-requires : goal.from_sorted-requires
 from_sorted-requires c =

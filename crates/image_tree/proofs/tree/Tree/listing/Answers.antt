@@ -11,8 +11,8 @@ pub returns-in-Some-clause-list : goal.returns-in-Some-clause-list
 returns-in-Some-clause-list c =
     let path = c.args.path.now in
     rw (← c.self.view_is)
-    (c.of.ensures ∙ ap (λ (es : Nodes). dedup is_same_child (map (child_at (length (folder path))) es)) c.in-Some.ensures.below
-    ∙ listed (joined c.self.inside.runs.items) path c.self.invariant.0.tree.sorted c.in-Some.ensures.dir)
+    (c.of.ensures ∙ ap (λ (es : Nodes). dedup is_same_child (map (child_at (length (folder path))) es)) c.in-Some.ensures.entries.below
+    ∙ listed (joined c.self.inside.runs.items) path c.self.invariant.0.tree.sorted c.in-Some.ensures.entries.dir)
 
 pub returns-in-Some-clause-sorted : goal.returns-in-Some-clause-sorted
 returns-in-Some-clause-sorted c =
@@ -20,7 +20,7 @@ returns-in-Some-clause-sorted c =
     (children_sorted c.args.self.now c.args.path.now (rw (← c.self.view_is) c.self.invariant.0.tree.sorted))
 
 pub returns-in-None-clause-list : goal.returns-in-None-clause-list
-returns-in-None-clause-list c = rw (← c.self.view_is) (c.none.ensures ∙ none_listed (joined c.self.inside.runs.items) c.args.path.now c.in-None.ensures)
+returns-in-None-clause-list c = rw (← c.self.view_is) (c.none.ensures ∙ none_listed (joined c.self.inside.runs.items) c.args.path.now c.in-None.ensures.entries)
 
 pub returns-in-None-clause-sorted : goal.returns-in-None-clause-sorted
 returns-in-None-clause-sorted c =

@@ -8,7 +8,7 @@ use Rattle.image_tree.proofs.tree.entries.insert.Goals as goal
 pub returns-clause-done : goal.returns-clause-done
 returns-clause-done c =
     c.in_ok-insert.ensures.done
-    ∙ ap (insert (joined c.args.runs.now.items) (index_of c.args.runs.now.items c.args.place)) (c.in_ok-new.ensures ∙ ap (λ (p : List ℕ). (p, c.args.node)) c.in_ok-path.ensures)
+    ∙ ap (insert (joined c.args.runs.now.items) (index_of c.args.runs.now.items c.args.place)) (c.new.ensures ∙ ap (λ (p : List ℕ). (p, c.args.node)) c.in_ok-path.ensures)
     ∙ inserted _ _ _ c.args.node c.requires.gap.gap
 
 pub returns-clause-count : goal.returns-clause-count

@@ -5,7 +5,7 @@ use Rattle.image_tree.specs.Runs.{HasRoomAt, joined, are_runs, start_of}
 use Rattle.image_tree.proofs.tree.runs.divide_at.Goals as goal
 
 pub returns-then-place-le-MIDDLE-clause-same : goal.returns-then-place-le-MIDDLE-clause-same
-returns-then-place-le-MIDDLE-clause-same c = ap joined c.in_ok-divide.ensures.done ∙ joined_divided c.args.runs.now.items c.args.place.run 64 c.requires.run _ refl
+returns-then-place-le-MIDDLE-clause-same c = ap joined c.in_ok-divide.ensures.done ∙ joined_divided c.args.runs.now.items c.args.place.run 32 c.requires.run _ refl
 
 pub returns-then-place-le-MIDDLE-clause-runs : goal.returns-then-place-le-MIDDLE-clause-runs
 returns-then-place-le-MIDDLE-clause-runs c = ap are_runs c.in_ok-divide.ensures.done ∙ runs_halved c.args.runs.now.items c.args.place.run _ refl c.requires.run c.requires.runs c.requires.full
@@ -16,15 +16,15 @@ returns-then-place-le-MIDDLE-clause-place c =
     (room_in_front c.args.runs.now.items c.args.place.run _ refl c.requires.run c.requires.runs c.requires.full c.args.place refl (omega arith))
 
 pub returns-clause-same : goal.returns-clause-same
-returns-clause-same c = ap joined c.in_ok-divide.ensures.done ∙ joined_divided c.args.runs.now.items c.args.place.run 64 c.requires.run _ refl
+returns-clause-same c = ap joined c.in_ok-divide.ensures.done ∙ joined_divided c.args.runs.now.items c.args.place.run 32 c.requires.run _ refl
 
 pub returns-clause-runs : goal.returns-clause-runs
 returns-clause-runs c = ap are_runs c.in_ok-divide.ensures.done ∙ runs_halved c.args.runs.now.items c.args.place.run _ refl c.requires.run c.requires.runs c.requires.full
 
 pub returns-clause-place : goal.returns-clause-place
 returns-clause-place c =
-    let at : c.args.place.at - 64 ≤ 64 = omega (arith, c.requires.at, c.requires.full) in
-    let there : Place = record { run = c.args.place.run + 1; at = c.args.place.at - 64 } in
+    let at : c.args.place.at - 32 ≤ 32 = omega (arith, c.requires.at, c.requires.full) in
+    let there : Place = record { run = c.args.place.run + 1; at = c.args.place.at - 32 } in
     subst (λ rs. HasRoomAt rs there) (sym c.in_ok-divide.ensures.done)
     (room_in_back c.args.runs.now.items c.args.place.run _ refl c.requires.run c.requires.runs c.requires.full there refl at)
 

@@ -1,0 +1,13 @@
+use Rattle.std.proofs.Common.{◌≡◌, ◌+◌, ◌-◌, ◌*◌, arith}
+use Rattle.elf_headers.specs.Layout.{word_size}
+use Rattle.elf_dynamic.specs.Windows.{ready}
+use Rattle.elf_dynamic.proofs.Windows.{ready_on}
+use Rattle.elf_dynamic.proofs.entries.Entries.hold.Goals as goal
+
+pub returns-then-self-each-clause-unread : goal.returns-then-self-each-clause-unread
+returns-then-self-each-clause-unread g c =
+    let o = c.args.self.now in
+    let w = c.args.window.now in
+    let on : ready w (o.end - o.left + 2 * word_size o.wide) ≡ ready w (o.end - o.left) - 2 * word_size o.wide =
+    ready_on w (o.end - o.left) (2 * word_size o.wide) (omega (arith, c.requires.held.ready)) in
+    omega arith
