@@ -7,10 +7,10 @@ pub mod FolderRows
 mod Folders
 pub mod Gathered
 pub mod InOrder
+mod LinkRows
 pub mod Members
 pub mod Named
 pub mod NoOtherFiles
-mod OneLink
 mod OneText
 pub mod Ordered
 mod Rows

@@ -5,6 +5,7 @@ pub mod Folders
 pub mod Libraries
 pub mod Library
 pub mod Link
+pub mod LinkRows
 pub mod OneText
 pub mod Order
 pub mod Pick

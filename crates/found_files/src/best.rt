@@ -1,12 +1,13 @@
 //! The best libraries of sonames, and which of two is better.
-ghost use Rattle.std.specs.Prelude.{◌≡◌, ◌∷◌, ◌++◌, [], IfOk, OnErr, OnOk, length};
+ghost use Rattle.std.specs.Prelude.{◌≡◌, ◌∷◌, ◌++◌, [], IfOk, OnOk, length, slice_get};
 ghost use Rattle.found_files.specs.Best.{is_own, is_preferred};
 ghost use Rattle.found_files.specs.Library.{Library};
-ghost use Rattle.found_files.specs.OneText.{library_in, part_of, AreWithin, IsLonger, IsRowWithin, IsWithin};
+ghost use Rattle.found_files.specs.OneText.{library_in, AreWithin, IsRowWithin};
+ghost use Rattle.lib_types.specs.Part.{IsLonger};
 
 use crate::libraries::Library;
 use crate::shared::Shared;
-use lib_types::{Abi, NoMemory, are_same};
+use lib_types::{Abi, NoMemory, Part, are_same};
 use name_order::compare;
 use std::alloc::Global;
 use std::cmp::Ordering;
@@ -14,13 +15,6 @@ use std::marker::Model;
 
 // How many bytes a library's name and soname take, more or less: room for so many is taken at once.
 const NAMES_LEN: usize = 24;
-
-// Where a name is in a text.
-#[derive(Clone, Copy)]
-struct Part {
-    from: usize,
-    to: usize,
-}
 
 // Where a library's name and soname are in a text.
 #[derive(Clone, Copy)]
@@ -53,40 +47,16 @@ impl Model for BestLibraries {
     ghost invariant = { λ l. AreWithin (length l.text.items) l.rows.items };
 }
 
-// The bytes of a part.
-fn bytes_of<'a>(text: &'a [u8], part: Part) -> &'a [u8]
-    requires { IsWithin (length text.now) part }
-    ensures { result.now ≡ part_of text.now part }
-{
-    &text[part.from..part.to]
-}
-
 // The library of a row.
 fn library_in<'a>(text: &'a [u8], row: &Row) -> Library<'a>
     requires { IsRowWithin (length text.now) row.now }
     ensures { result ≡ library_in text.now row.now }
 {
     Library {
-        name: bytes_of(text, row.name),
-        soname: bytes_of(text, row.soname),
+        name: row.name.bytes_in(text),
+        soname: row.soname.bytes_in(text),
         abi: row.abi,
     }
-}
-
-// Adds bytes to a text.
-#[tactic(auto, using(crate::proofs::OneText::added_is, crate::proofs::OneText::added_within))]
-fn add_bytes(text: &mut Vec<u8>, bytes: &[u8]) -> Result<Part, NoMemory>
-    ensures added { OnOk result (text.new.items ≡ text.old.items ++ bytes.now) }
-    ensures within { IfOk result (IsWithin (length text.new.items)) }
-    ensures part { IfOk result (λ part. part_of text.new.items part ≡ bytes.now) }
-    ensures refused { OnErr result (text.new.items ≡ text.old.items) }
-{
-    let from = text.len();
-    text.extend_from_slice(bytes)?;
-    Ok(Part {
-        from,
-        to: text.len(),
-    })
 }
 
 // Adds the name of a library to a text, and its soname if it is another.
@@ -95,7 +65,7 @@ fn add_names(text: &mut Vec<u8>, library: &Library<'_>) -> Result<Row, NoMemory>
     ensures within { IfOk result (IsRowWithin (length text.new.items)) }
     ensures row { IfOk result (λ row. library_in text.new.items row ≡ library.now) }
 {
-    let name = add_bytes(text, library.name)?;
+    let name = Part::add(text, library.name)?;
     if is_own(library) {
         return Ok(Row {
             name,
@@ -103,7 +73,7 @@ fn add_names(text: &mut Vec<u8>, library: &Library<'_>) -> Result<Row, NoMemory>
             abi: library.abi,
         });
     }
-    let soname = add_bytes(text, library.soname)?;
+    let soname = Part::add(text, library.soname)?;
     Ok(Row {
         name,
         soname,
@@ -166,6 +136,16 @@ impl<'a> Model for BestIter<'a> {
     ghost view = { λ l. map (library_in l.text.now) l.rows.now };
 
     ghost invariant = { λ l. AreWithin (length l.text.now) l.rows.now };
+}
+
+impl<'a> BestIter<'a> {
+    /// The first of those that are left, which stays.
+    pub fn first(&self) -> Option<Library<'a>>
+        ensures { result ≡ slice_get self.now 0 }
+    {
+        let row = self.rows.first()?;
+        Some(library_in(self.text, row))
+    }
 }
 
 impl<'a> Iterator for BestIter<'a> {

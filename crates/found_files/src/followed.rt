@@ -1,80 +1,165 @@
-//! A link with a library name, and where it leads.
+//! Links with library names, and where they lead.
 ghost use Rattle.std.specs.Option.{option_copied};
-ghost use Rattle.std.specs.Prelude.{◌≡◌, ◌++◌, IfOk};
+ghost use Rattle.std.specs.Prelude.{◌≡◌, ◌∷◌, ◌++◌, [], IfOk, OnOk, length};
+ghost use Rattle.found_files.specs.LinkRows.{link_in, AreLinksWithin, IsLinkWithin};
+ghost use Rattle.lib_types.specs.Part.{IsLonger};
 
-use lib_types::{NoMemory, Text};
+use lib_types::{NoMemory, Part};
 use std::alloc::Global;
 use std::marker::Model;
 
-/// A link with a library name, and the path without links of the file to which it leads. Both are kept as one text.
+/// A link with a library name, and the path without links of the file to which it leads; None if it leads to no file.
 #[derive(Drop)]
-pub struct FollowedLink {
-    // the path of the file, and behind it the name; the name alone if it leads to no file
-    text: Text,
-    // where the name begins behind a path
-    name_at: Option<usize>,
+pub struct FollowedLink<'a> {
+    pub name: &'a [u8],
+    pub file: Option<&'a [u8]>,
 }
 
-impl Model for FollowedLink {
-    ghost use Rattle.std.specs.Prelude.{◌≤◌, length};
-    ghost use Rattle.std.specs.Option.{ForSome};
-    ghost use Rattle.found_files.specs.Link.{FollowedLink, file_in, name_in};
+impl<'a> Model for FollowedLink<'a> {
+    ghost use Rattle.std.specs.Option.{option_copied};
+    ghost use Rattle.found_files.specs.Link.{FollowedLink};
 
     ghost Value = { FollowedLink };
 
-    ghost view = { λ l. record { name = name_in l.text l.name_at; file = file_in l.text l.name_at } };
-
-    ghost invariant = { λ l. ForSome l.name_at (λ at. at ≤ length l.text) };
+    ghost view = { λ l. record { name = l.name.now; file = option_copied l.file } };
 }
 
-impl FollowedLink {
-    /// A link that leads to this file, or to none.
-    #[tactic(auto, using(crate::proofs::OneLink::path_before, crate::proofs::OneLink::name_behind))]
-    pub(crate) fn new(
-        alloc: Global,
-        name: &[u8],
-        file: Option<Text>,
-    ) -> Result<FollowedLink, NoMemory>
-        ensures { IfOk result (λ link. link ≡ record { name = name.now; file = file }) }
-    {
-        let Some(path) = file else {
-            return Ok(FollowedLink {
-                text: Text::copy_of(alloc, name)?,
-                name_at: None,
-            });
-        };
-        Ok(FollowedLink {
-            text: text_of_both(alloc, path.as_bytes(), name)?,
-            name_at: Some(path.as_bytes().len()),
-        })
-    }
+// Where a link's name is in a text, and the path of the file to which it leads.
+#[derive(Clone, Copy)]
+struct LinkRow {
+    name: Part,
+    file: Option<Part>,
+}
 
-    /// Its name.
-    pub fn name(&self) -> &[u8]
-        ensures { result.now ≡ self.now.name }
+/// The links with library names of a folder, by the bytes of their names. The names and the files' paths are kept in one text.
+/// Contracts see it as the list of the links.
+#[derive(Drop)]
+pub struct FollowedLinks {
+    text: Vec<u8>,
+    rows: Vec<LinkRow>,
+}
+
+impl Model for FollowedLinks {
+    ghost use Rattle.std.specs.Prelude.{List, length, map};
+    ghost use Rattle.found_files.specs.Link.{FollowedLink};
+    ghost use Rattle.found_files.specs.LinkRows.{link_in, AreLinksWithin};
+
+    ghost Value = { List FollowedLink };
+
+    ghost view = { λ l. map (link_in l.text.items) l.rows.items };
+
+    ghost invariant = { λ l. AreLinksWithin (length l.text.items) l.rows.items };
+}
+
+// The link of a row.
+fn link_in<'a>(text: &'a [u8], row: &LinkRow) -> FollowedLink<'a>
+    requires { IsLinkWithin (length text.now) row.now }
+    ensures { result ≡ link_in text.now row.now }
+{
+    let file = match row.file {
+        Some(part) => Some(part.bytes_in(text)),
+        None => None,
+    };
+    FollowedLink {
+        name: row.name.bytes_in(text),
+        file,
+    }
+}
+
+// Adds the name of a link to a text, and the path of the file to which it leads.
+fn add_parts(text: &mut Vec<u8>, name: &[u8], file: Option<&[u8]>) -> Result<LinkRow, NoMemory>
+    ensures longer { IsLonger text.old.items text.new.items }
+    ensures within { IfOk result (IsLinkWithin (length text.new.items)) }
+    ensures row { IfOk result (λ row. link_in text.new.items row ≡ record { name = name.now; file = option_copied file.entry }) }
+{
+    let name = Part::add(text, name)?;
+    let Some(path) = file else {
+        return Ok(LinkRow { name, file: None });
+    };
+    let file = Part::add(text, path)?;
+    Ok(LinkRow {
+        name,
+        file: Some(file),
+    })
+}
+
+impl FollowedLinks {
+    /// No links.
+    pub(crate) fn new(alloc: Global) -> FollowedLinks
+        ensures { result ≡ [] }
     {
-        let text = self.text.as_bytes();
-        match self.name_at {
-            Some(at) => &text[at..],
-            None => text,
+        FollowedLinks {
+            text: Vec::new(alloc),
+            rows: Vec::new(alloc),
         }
     }
 
-    /// The path, without links, of the file to which it leads; None if it leads to no file.
-    pub fn file(&self) -> Option<&[u8]>
-        ensures { option_copied result ≡ self.now.file }
+    /// How many they are.
+    pub fn len(&self) -> usize
+        ensures { result ≡ length self.now }
     {
-        let at = self.name_at?;
-        Some(&self.text.as_bytes()[..at])
+        self.rows.len()
+    }
+
+    /// Adds a link with this name, which leads to the file with this path, or to none. Both are copied.
+    pub(crate) fn push(&mut self, name: &[u8], file: Option<&[u8]>) -> Result<(), NoMemory>
+        ensures { OnOk result (self.new ≡ self.old ++ record { name = name.now; file = option_copied file.entry } ∷ []) }
+    {
+        let row = add_parts(&mut self.text, name, file)?;
+        self.rows.push(row)?;
+        Ok(())
+    }
+
+    /// Gives back the room for more links.
+    pub(crate) fn shrink_to_fit(&mut self)
+        ensures { self.new ≡ self.old }
+    {
+        self.text.shrink_to_fit();
+        self.rows.shrink_to_fit();
+    }
+
+    /// The links, borrowed.
+    pub fn iter(&self) -> FollowedIter<'_>
+        ensures { result ≡ self.now }
+    {
+        FollowedIter {
+            text: self.text.as_slice(),
+            rows: self.rows.as_slice(),
+        }
     }
 }
 
-// A text of the first bytes and then the second.
-fn text_of_both(alloc: Global, first: &[u8], second: &[u8]) -> Result<Text, NoMemory>
-    ensures { IfOk result (λ text. text ≡ first.now ++ second.now) }
-{
-    let mut text = Vec::with_capacity(alloc, first.len() + second.len())?;
-    text.extend_from_slice(first)?;
-    text.extend_from_slice(second)?;
-    Ok(Text::from_vec(text))
+/// Links of a folder, one after another. Contracts see it as the list of those that are left.
+#[derive(Drop)]
+pub struct FollowedIter<'a> {
+    text: &'a [u8],
+    rows: &'a [LinkRow],
+}
+
+impl<'a> Model for FollowedIter<'a> {
+    ghost use Rattle.std.specs.Prelude.{List, length, map};
+    ghost use Rattle.found_files.specs.Link.{FollowedLink};
+    ghost use Rattle.found_files.specs.LinkRows.{link_in, AreLinksWithin};
+
+    ghost Value = { List FollowedLink };
+
+    ghost view = { λ l. map (link_in l.text.now) l.rows.now };
+
+    ghost invariant = { λ l. AreLinksWithin (length l.text.now) l.rows.now };
+}
+
+impl<'a> Iterator for FollowedIter<'a> {
+    ghost use Rattle.std.specs.Iterator.{YieldsFirstBy, item_count};
+
+    type Item = FollowedLink<'a>;
+
+    ghost next_gives = { YieldsFirstBy (λ x. x) (λ s. s) };
+
+    ghost remaining = { item_count (λ s. s) };
+
+    fn next(&mut self) -> Option<FollowedLink<'a>> {
+        let (row, rest) = self.rows.split_first()?;
+        self.rows = rest;
+        Some(link_in(self.text, row))
+    }
 }

@@ -14,7 +14,7 @@ mod sonames;
 mod table;
 
 pub use best::{BestIter, BestLibraries, PlaceBests, is_own, is_preferred};
-pub use followed::FollowedLink;
+pub use followed::{FollowedIter, FollowedLink, FollowedLinks};
 pub use libraries::{Library, libraries_at};
 pub use links::{
     FolderLinks, PlaceLinks, dangling, dangling_among, follow, reached, unread_behind,

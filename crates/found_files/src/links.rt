@@ -1,18 +1,17 @@
 //! The links with library names in the searched places, each followed once.
 ghost use Rattle.std.specs.Option.{option_copied, option_map};
-ghost use Rattle.std.specs.Prelude.{◌≡◌, ◌++◌, IfOk, List, OnOk, flat_map, map};
+ghost use Rattle.std.specs.Prelude.{◌≡◌, ◌∷◌, ◌++◌, [], IfOk, List, OnOk, flat_map, map};
 ghost use Rattle.hwcap_dirs.specs.declared.kinds.Place.{Place};
-ghost use Rattle.path_walk.specs.Files.{file_at};
 ghost use Rattle.image_tree.specs.Tree.{Nodes};
 ghost use Rattle.found_files.specs.Children.{IsChild};
 ghost use Rattle.found_files.specs.Folders.{by_folder, dangling_in_order, dangling_of};
 ghost use Rattle.found_files.specs.Order.{ascending};
 ghost use Rattle.found_files.specs.Analyses.{unread};
-ghost use Rattle.found_files.specs.Search.{dangling, followed, followed_by, followed_in, link_in, links_at, reached};
+ghost use Rattle.found_files.specs.Search.{dangling, followed, followed_by, followed_in, links_at, reached};
 ghost use Rattle.found_files.specs.Table.{analysis_at};
 ghost use Rattle.found_files.specs.Unread.{unread_file, unread_of};
 
-use crate::followed::FollowedLink;
+use crate::followed::{FollowedLink, FollowedLinks};
 use crate::order::ascending;
 use crate::reals::real_folders;
 use crate::shared::Shared;
@@ -30,7 +29,7 @@ use tree_face::{Node, Tree};
 pub struct FolderLinks {
     /// The folder's path, without links.
     pub folder: Text,
-    pub links: Seq<FollowedLink>,
+    pub links: FollowedLinks,
 }
 
 /// The links with library names of each place, in the order of the places.
@@ -46,7 +45,7 @@ fn led_by(
     node: Option<&Node>,
 ) -> Result<Option<Option<Text>>, NoMemory>
     requires { IsChild tree.now folder.now (name.now, option_copied node) }
-    ensures { IfOk result (λ led. led ≡ option_map (file_at tree.now) (link_in tree.now folder.now name.now)) }
+    ensures { IfOk result (λ led. followed_by tree.now folder.now name.now ≡ option_map (λ file. record { name = name.now; file = file }) led) }
 {
     match node {
         Some(Node::Link { target }) if is_library_name(name) => {
@@ -57,36 +56,29 @@ fn led_by(
     }
 }
 
-// The child with this node, followed, if it is a link with a library name.
-fn followed_by(
-    alloc: Global,
-    tree: &Tree,
-    folder: &[u8],
-    name: &[u8],
-    node: Option<&Node>,
-) -> Result<Option<FollowedLink>, NoMemory>
-    requires { IsChild tree.now folder.now (name.now, option_copied node) }
-    ensures { IfOk result (λ link. link ≡ followed_by tree.now folder.now name.now) }
+// Adds a link with this name, which leads to this file or to none.
+fn add_link(links: &mut FollowedLinks, name: &[u8], file: Option<Text>) -> Result<(), NoMemory>
+    ensures { OnOk result (links.new ≡ links.old ++ record { name = name.now; file = file } ∷ []) }
 {
-    match led_by(alloc, tree, folder, name, node)? {
-        Some(file) => Ok(Some(FollowedLink::new(alloc, name, file)?)),
-        None => Ok(None),
+    match &file {
+        Some(path) => links.push(name, Some(path.as_bytes())),
+        None => links.push(name, None),
     }
 }
 
 // The links with library names in a folder.
 #[tactic(auto, using(crate::proofs::Children::names_listed, crate::proofs::Children::all_children))]
-fn followed_in(alloc: Global, tree: &Tree, folder: &[u8]) -> Result<Seq<FollowedLink>, NoMemory>
+fn followed_in(alloc: Global, tree: &Tree, folder: &[u8]) -> Result<FollowedLinks, NoMemory>
     ensures { IfOk result (λ links. links ≡ followed_in tree.now folder.now) }
 {
-    let mut links = Vec::new(alloc);
+    let mut links = FollowedLinks::new(alloc);
     for (name, node) in tree.listing(folder) {
-        if let Some(link) = followed_by(alloc, tree, folder, name, node)? {
-            links.push(link)?;
+        if let Some(file) = led_by(alloc, tree, folder, name, node)? {
+            add_link(&mut links, name, file)?;
         }
     }
     links.shrink_to_fit();
-    Ok(Seq::from_vec(links))
+    Ok(links)
 }
 
 // The links with library names in each of these folders.
@@ -117,10 +109,10 @@ pub fn follow(alloc: Global, tree: &Tree, dirs: &Dirs) -> Result<PlaceLinks, NoM
 // ---- where they lead
 
 // The file to which a link leads, if it has no analysis.
-fn unread_file<'a>(table: &Table, link: &'a FollowedLink) -> Option<&'a [u8]>
+fn unread_file<'a>(table: &Table, link: &FollowedLink<'a>) -> Option<&'a [u8]>
     ensures { option_copied result ≡ unread_file (analysis_at table.now) link.now }
 {
-    let file = link.file()?;
+    let file = link.file?;
     if table.get(file).is_some() {
         return None;
     }
@@ -136,8 +128,8 @@ fn add_unread(
 ) -> Result<(), NoMemory>
     ensures { OnOk result (paths.new.items ≡ paths.old.items ++ unread_of (analysis_at table.now) folder.now) }
 {
-    for link in folder.links.as_slice() {
-        if let Some(file) = unread_file(table, link) {
+    for link in folder.links.iter() {
+        if let Some(file) = unread_file(table, &link) {
             paths.push(Text::copy_of(alloc, file)?)?;
         }
     }
@@ -178,9 +170,9 @@ fn dangling_of(alloc: Global, folder: &FolderLinks) -> Result<Texts, NoMemory>
     ensures { IfOk result (λ paths. paths ≡ dangling_of folder.now) }
 {
     let mut paths = Seq::new(alloc);
-    for link in folder.links.as_slice() {
-        if link.file().is_none() {
-            paths.push(join(alloc, folder.folder.as_bytes(), link.name())?)?;
+    for link in folder.links.iter() {
+        if link.file.is_none() {
+            paths.push(join(alloc, folder.folder.as_bytes(), link.name)?)?;
         }
     }
     Ok(paths)

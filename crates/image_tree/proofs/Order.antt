@@ -1,5 +1,5 @@
 -- The order of paths.
-use Rattle.std.proofs.Common.{◌≡◌, true, ℕ, suc, zero, ◌+◌, ◌<◌, ◌≤◌, List, [], ◌∷◌, length, take, get_or, arith, Ordering, refl, sym, ap, subst, ◌∙◌}
+use Rattle.std.proofs.Common.{◌≡◌, true, ℕ, ◌+◌, ◌<◌, ◌≤◌, List, length, take, get_or, arith, Ordering, refl, sym, ap, ◌∙◌}
 use Rattle.std.proofs.lemmas.Bool.Decides.{nat_tests}
 use Rattle.std.proofs.lemmas.Cmp.{ranked, tied_itself}
 use Rattle.std.specs.declared.cmp.Ordering.TheVariants.{Less, Equal, Greater}
@@ -7,7 +7,6 @@ use Rattle.std.specs.Ordering.{MatchOrdering, nat_cmp}
 use Rattle.std.specs.Cmp.{IsTotalOrder, nat_cmp_is}
 use Rattle.std.specs.Cmp.Lexicographic.{on_texts, pointwise, same_text}
 use Rattle.std.specs.Prelude.{map, nat_eq}
-use Rattle.std.specs.Ordering.{ordering_then}
 use Rattle.lib_types.proofs.ByteOrder as ranks
 use Rattle.image_tree.specs.Paths.{path_rank, path_cmp}
 

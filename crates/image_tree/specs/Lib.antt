@@ -1,6 +1,7 @@
 pub mod Behind
 pub mod Index
 pub mod Node
+pub mod OneText
 pub mod Paths
 pub mod Runs
 pub mod Tree

@@ -10,7 +10,9 @@ use std::marker::Model;
 
 mod entries;
 mod listing;
+mod paths;
 mod rest;
+mod row;
 mod run;
 mod runs;
 
@@ -233,6 +235,6 @@ impl<'a> Iterator for Nodes<'a> {
     fn next(&mut self) -> Option<(&'a [u8], &'a Node)> {
         let (first, rest) = self.rest.split_first()?;
         self.rest = rest;
-        Some((first.path(), first.node()))
+        Some((first.path, first.node))
     }
 }

@@ -5,6 +5,7 @@ pub mod Fields
 pub mod FirstByte
 pub mod OneSize
 pub mod Parting
+pub mod Parts
 pub mod Plain
 pub mod Prefixes
 pub mod SameBytes

@@ -2,4 +2,6 @@ pub mod Abi
 pub mod Bytes
 pub mod Counts
 pub mod Name
+pub mod Part
+pub mod Text
 pub mod Words

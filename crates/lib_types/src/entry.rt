@@ -5,12 +5,12 @@ use crate::{Abi, Seq, Text};
 #[derive(Drop)]
 pub struct Entry {
     pub soname: Text,
-    pub abi: Abi,
     /// The subdirectory of `glibc-hwcaps` that the library is in, if it is in one.
     pub cap: Option<Text>,
     pub path: Text,
     /// The number of the directory among those that are searched, from 0.
     pub place: u32,
+    pub abi: Abi,
 }
 
 /// A list of entries.

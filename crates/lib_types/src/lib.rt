@@ -1,4 +1,4 @@
-//! The types that every crate of the product uses: texts, lists, ABIs, defects, analyses and entries.
+//! The types that every crate of the product uses: texts and their parts, lists, ABIs, defects, analyses and entries.
 #![tactic(auto)]
 
 mod abi;
@@ -7,6 +7,7 @@ mod entry;
 mod fault;
 mod find;
 mod name;
+mod part;
 mod same;
 mod seq;
 mod steps;
@@ -19,6 +20,7 @@ pub use entry::{Entries, Entry};
 pub use fault::{Failed, NoMemory};
 pub use find::{find_byte, find_either, has_byte};
 pub use name::{NAME_MAX, is_name, is_utf8};
+pub use part::Part;
 pub use same::{are_same, compare_bytes, equal_len};
 pub use seq::{Seq, Texts};
 pub use steps::Steps;

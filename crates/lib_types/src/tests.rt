@@ -5,7 +5,23 @@ use std::test::Fail;
 fn a_text_is_copied(rt: HostRuntime) -> Result<(), Fail> {
     let text = Text::copy_of(rt.alloc(), b"libz.so.1")?;
     assert_eq!(rt; text.as_bytes(), b"libz.so.1".as_slice());
-    assert_eq!(rt; text.into_vec().as_slice(), b"libz.so.1".as_slice());
+    Ok(())
+}
+
+// As many bytes as stand in the text, one more, and more than these.
+#[test]
+fn a_text_of_each_size_is_copied_and_shared(rt: HostRuntime) -> Result<(), Fail> {
+    let alloc = rt.alloc();
+    for len in [0, 1, 29, 30, 31, 32, 255, 4095] {
+        let bytes = Vec::from_elem(alloc, b'a', len)?;
+        let text = Text::copy_of(alloc, bytes.as_slice())?;
+        assert_eq!(rt; text.as_bytes(), bytes.as_slice());
+        let shared = text.into_shared(alloc)?;
+        let copy = shared.copy(alloc)?;
+        drop(shared);
+        assert_eq!(rt; copy.as_bytes(), bytes.as_slice());
+        assert!(rt; Text::from_vec(bytes) == copy);
+    }
     Ok(())
 }
 

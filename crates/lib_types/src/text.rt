@@ -3,7 +3,8 @@ ghost use Rattle.std.proofs.Common.{ap, refl, sym};
 ghost use Rattle.std.specs.Cmp.{partial_equiv_from_equiv};
 ghost use Rattle.std.specs.Cmp.Lexicographic.{nat_list_eq_equiv, nat_list_cmp_total, same_text, texts_po, texts_ties, pointwise, slice_cmp};
 ghost use Rattle.std.specs.Ordering.{as_partial_cmp, nat_cmp};
-ghost use Rattle.std.specs.Prelude.{nat_eq, ◌≡◌, ◌∷◌, [], ℕ, List, IfOk};
+ghost use Rattle.std.specs.Prelude.{nat_eq, ◌≡◌, ◌≤◌, ◌∷◌, [], ℕ, List, IfOk, length};
+ghost use Rattle.lib_types.specs.declared.text.TheConstants.{SHORT_MAX};
 
 use crate::NoMemory;
 use crate::same::{are_same, compare_bytes};
@@ -11,17 +12,60 @@ use std::alloc::Global;
 use std::cmp::Ordering;
 use std::hash::{Hash, Hasher};
 use std::marker::Model;
+use std::rc::Rc;
+
+// The most bytes of a text that takes no block of memory: as many as leave a text at thirty-two bytes. Most sonames and names of files
+// have no more.
+const SHORT_MAX: usize = 30;
+
+// Where the bytes are.
+#[derive(Drop)]
+enum Place {
+    // Here, the first so many of these.
+    Here { len: u8, bytes: [u8; SHORT_MAX] },
+    // In a block of memory.
+    Apart { bytes: Vec<u8> },
+    // In a block of memory that other texts have as well.
+    Shared { bytes: Rc<Vec<u8>> },
+}
 
 /// A text of bytes, which contracts see as the list of these bytes. Texts are ordered by their bytes.
-#[derive(Drop)]
 pub struct Text {
-    bytes: Vec<u8>,
+    place: Place,
+}
+
+// Written out, so that a proof of what drops a text need not follow where the bytes are.
+impl Drop for Text {
+    fn drop(self) {
+        let Text { place } = self;
+        drop(place);
+    }
 }
 
 impl Model for Text {
+    ghost use Rattle.lib_types.specs.Text.{bytes_in, IsFilled};
+    ghost use Rattle.std.specs.Prelude.{ℕ, List};
+
     ghost Value = { List ℕ };
 
-    ghost view = { λ t. t.bytes.items };
+    ghost view = { λ t. bytes_in t.place };
+
+    ghost invariant = { λ t. IsFilled t.place };
+}
+
+// So many bytes, of which there is room for more.
+fn here(bytes: &[u8]) -> Text
+    requires { length bytes.now ≤ SHORT_MAX }
+    ensures { result ≡ bytes.now }
+{
+    let mut room = [0; SHORT_MAX];
+    room[..bytes.len()].copy_from_slice(bytes);
+    Text {
+        place: Place::Here {
+            len: bytes.len() as u8,
+            bytes: room,
+        },
+    }
 }
 
 impl Text {
@@ -29,30 +73,63 @@ impl Text {
     pub fn copy_of(alloc: Global, bytes: &[u8]) -> Result<Text, NoMemory>
         ensures { IfOk result (λ text. text ≡ bytes.now) }
     {
+        if bytes.len() <= SHORT_MAX {
+            return Ok(here(bytes));
+        }
+        let bytes = Vec::from_slice(alloc, bytes)?;
         Ok(Text {
-            bytes: Vec::from_slice(alloc, bytes)?,
+            place: Place::Apart { bytes },
         })
     }
 
-    /// The text of these bytes, without taking memory.
+    /// These bytes, without taking memory.
     pub fn from_vec(bytes: Vec<u8>) -> Text
         ensures { result ≡ bytes.items }
     {
-        Text { bytes }
-    }
-
-    /// The bytes, without taking memory.
-    pub fn into_vec(self) -> Vec<u8>
-        ensures { result.items ≡ self }
-    {
-        self.bytes
+        if bytes.len() <= SHORT_MAX {
+            return here(bytes.as_slice());
+        }
+        Text {
+            place: Place::Apart { bytes },
+        }
     }
 
     /// The bytes, borrowed.
     pub fn as_bytes(&self) -> &[u8]
         ensures { result.now ≡ self.now }
     {
-        self.bytes.as_slice()
+        match &self.place {
+            Place::Here { len, bytes } => &bytes[..*len as usize],
+            Place::Apart { bytes } => bytes.as_slice(),
+            Place::Shared { bytes } => bytes.as_ref().as_slice(),
+        }
+    }
+
+    /// These bytes, in a block that copies of this have as well, unless they are so few that a copy takes none.
+    pub fn into_shared(self, alloc: Global) -> Result<Text, NoMemory>
+        ensures { IfOk result (λ text. text ≡ self) }
+    {
+        let Text { place } = self;
+        let place = match place {
+            Place::Apart { bytes } => Place::Shared {
+                bytes: Rc::new(alloc, bytes)?,
+            },
+            place => place,
+        };
+        Ok(Text { place })
+    }
+
+    /// A copy. It takes no memory if the bytes are shared, or so few that they stand in no block.
+    pub fn copy(&self, alloc: Global) -> Result<Text, NoMemory>
+        ensures { IfOk result (λ text. text ≡ self.now) }
+    {
+        if let Place::Shared { bytes } = &self.place {
+            let bytes = bytes.clone()?;
+            return Ok(Text {
+                place: Place::Shared { bytes },
+            });
+        }
+        Text::copy_of(alloc, self.as_bytes())
     }
 }
 

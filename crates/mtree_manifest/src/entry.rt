@@ -5,16 +5,17 @@ ghost use Rattle.image_tree.specs.Node.{is_node};
 ghost use Rattle.image_tree.specs.Paths.{is_path};
 ghost use Rattle.image_tree.specs.Tree.{IsFullFor};
 ghost use Rattle.mtree_manifest.specs.Ends.{Ends};
-ghost use Rattle.mtree_manifest.specs.Manifest.{text_of, key_of, id_of, node_of, is_dir, is_link, target_fault, with_node};
+ghost use Rattle.mtree_manifest.specs.Manifest.{key_of, id_of, node_of, is_dir, is_link, target_fault, with_node};
 ghost use Rattle.manifest_words.specs.Paths.{names_of, place_fault_of, path_of, base_by};
 ghost use Rattle.manifest_words.specs.Naming.{is_place_behind, place_fault_behind};
 ghost use Rattle.manifest_words.specs.Views.{values_in};
 
 use crate::fault::ManifestFault;
+use crate::value::LastValue;
 use lib_types::{NoMemory, Text};
 use manifest_words::{
-    Keys, KnownPath, LineKind, LineType, append_names, behind_first, decode, fault_unless,
-    is_directive, is_full,
+    Keys, KnownPath, LineKind, LineType, append_names, behind_first, fault_unless, is_directive,
+    is_full,
 };
 use std::alloc::Global;
 use tree_face::{Id, Node, Tree, TreeFault, is_path};
@@ -99,23 +100,16 @@ pub(crate) fn find_place<'a>(
     Ok(place_fault(word, is_place))
 }
 
-// The text that a value stands for. One without escapes is copied once.
-fn text_of(alloc: Global, value: &[u8]) -> Result<Text, NoMemory>
-    ensures { IfOk result (λ text. text ≡ text_of value.now) }
-{
-    let mut bytes = Vec::with_capacity(alloc, value.len())?;
-    if decode(&mut bytes, value)? {
-        Ok(Text::from_vec(bytes))
-    } else {
-        Ok(Text::from_vec(Vec::new(alloc)))
-    }
-}
-
-fn key_of(alloc: Global, contents: Option<&[u8]>, path: &[u8]) -> Result<Text, NoMemory>
+fn key_of<'a>(
+    alloc: Global,
+    last: &mut LastValue<'a>,
+    contents: Option<&'a [u8]>,
+    path: &[u8],
+) -> Result<Text, NoMemory>
     ensures { IfOk result (λ key. key ≡ key_of (option_copied contents.entry) path.now) }
 {
     match contents {
-        Some(value) => text_of(alloc, value),
+        Some(value) => last.text_of(alloc, value),
         None => Text::copy_of(alloc, behind_first(path)),
     }
 }
@@ -136,7 +130,12 @@ fn id_of(keys: &Keys<'_>) -> Option<Id>
 }
 
 /// The node of a path; the root has none.
-pub(crate) fn node_of(alloc: Global, keys: &Keys<'_>, path: &[u8]) -> Result<Option<Node>, NoMemory>
+pub(crate) fn node_of<'a>(
+    alloc: Global,
+    last: &mut LastValue<'a>,
+    keys: &Keys<'a>,
+    path: &[u8],
+) -> Result<Option<Node>, NoMemory>
     ensures { IfOk result (λ node. node ≡ node_of (values_in keys.now) path.now) }
 {
     if path.is_empty() {
@@ -144,7 +143,7 @@ pub(crate) fn node_of(alloc: Global, keys: &Keys<'_>, path: &[u8]) -> Result<Opt
     }
     match keys.kind {
         LineType::File => {
-            let key = key_of(alloc, keys.contents, path)?;
+            let key = key_of(alloc, last, keys.contents, path)?;
             Ok(Some(Node::File {
                 key,
                 id: id_of(keys),
@@ -152,7 +151,7 @@ pub(crate) fn node_of(alloc: Global, keys: &Keys<'_>, path: &[u8]) -> Result<Opt
         }
         LineType::Dir => Ok(Some(Node::Dir)),
         LineType::Link => {
-            let target = text_of(alloc, keys.link)?;
+            let target = last.text_of(alloc, keys.link)?;
             Ok(Some(Node::Link { target }))
         }
         LineType::NoNode | LineType::Unknown => Ok(None),

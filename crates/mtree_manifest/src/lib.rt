@@ -7,6 +7,7 @@ mod fault;
 mod line;
 mod reader;
 mod single;
+mod value;
 mod writer;
 
 pub use fault::{EntryLineFault, ManifestFault, TEXT_MAX};

@@ -17,6 +17,7 @@ use crate::dirs::Dirs;
 use crate::entry::{find_place, is_dir, node_of, put_node, target_fault};
 use crate::fault::{ManifestFault, TEXT_MAX};
 use crate::line::{Head, Line, add_physical, goes_on, start_line};
+use crate::value::LastValue;
 use bstr::ByteSlice;
 use lib_types::NoMemory;
 use manifest_words::{Given, Keys, KnownPath, LineKind, first_fault, is_full, no_keys};
@@ -34,6 +35,7 @@ pub(crate) struct Reader<'a> {
     path: Vec<u8>,
     /// That of the last line that has it as it is. The next one mostly stands in a folder on the way to it.
     known: KnownPath<'a>,
+    last: LastValue<'a>,
 }
 
 // Opens the directory of a relative line, whose path begins with that of the current one.
@@ -60,6 +62,7 @@ impl<'a> Reader<'a> {
             defaults: no_keys(),
             path: Vec::new(alloc),
             known: KnownPath::none(),
+            last: LastValue::none(),
         }
     }
 
@@ -92,7 +95,7 @@ impl<'a> Reader<'a> {
         ensures { Ends result (entry_put line.now.number (state_in self.old) first.now (values_in line.now.given.keys)) (state_in self.new) }
     {
         let keys = &line.given.keys;
-        let node = node_of(self.alloc, keys, self.path.as_slice())?;
+        let node = node_of(self.alloc, &mut self.last, keys, self.path.as_slice())?;
         open_place(&mut self.dirs, keys, first, self.path.as_slice())?;
         match node {
             Some(node) => put_node(&mut self.tree, line.number, self.path.as_slice(), node),

@@ -12,6 +12,7 @@ ghost use Rattle.manifest_words.specs.Views.{given_in, values_in};
 use crate::entry::{find_place, is_dir, node_of, target_fault};
 use crate::fault::EntryLineFault;
 use crate::line::{Head, add_words, goes_on, start_line};
+use crate::value::LastValue;
 use lib_types::{NoMemory, Text};
 use manifest_words::{
     Given, Keys, KnownPath, LineKind, fault_unless, first_fault, is_full, no_keys,
@@ -39,7 +40,7 @@ fn find_path(path: &mut Vec<u8>, is_dir: bool, first: &[u8]) -> Result<Option<Li
 fn put_by(alloc: Global, keys: &Keys<'_>, path: Vec<u8>) -> Result<Option<(Text, Node)>, NoMemory>
     ensures { IfOk result (λ entry. entry ≡ put_by path.items (values_in keys.now)) }
 {
-    match node_of(alloc, keys, path.as_slice())? {
+    match node_of(alloc, &mut LastValue::none(), keys, path.as_slice())? {
         Some(node) => Ok(Some((Text::from_vec(path), node))),
         None => Ok(None),
     }

@@ -1,25 +1,21 @@
--- The winners are those of the best files alone.
+-- A soname has one best library of a place, and one winner.
 use Rattle.std.proofs.Common.{◌≡◌, ℕ, Bool, true, false, cond, ◌||◌, List, [], ◌∷◌, ◌++◌, map, refl, ap, sym, ◌∙◌, Option, Some, None}
-use Rattle.std.specs.List.{cons_option, filter, filter_map, fold}
+use Rattle.std.specs.List.{cons_option, filter, fold}
 use Rattle.std.specs.Option.{is_some}
 use Rattle.std.specs.Str.{bytes_eq}
 use Rattle.lib_types.proofs.SortedPairs.{by_test}
 use Rattle.found_files.proofs.InOrder.{ascending_sorted, in_ascending}
-use Rattle.found_files.proofs.Members.{is_in, itself, same_members}
+use Rattle.found_files.proofs.Members.{is_in}
 use Rattle.found_files.proofs.Named.{best_has}
-use Rattle.found_files.proofs.Ordered.{filtered_same}
 use Rattle.found_files.specs.Best.{best, bests, better, has_soname, is_preferred, sonames}
 use Rattle.found_files.specs.Library.{Library}
 use Rattle.found_files.specs.Pick.{is_better_by}
 use Rattle.winning_entries.proofs.OneEach.{none_left, one_left, turned}
+use Rattle.winning_entries.proofs.Single.{winner_has}
 use Rattle.winning_entries.specs.Winner.{named_links, or_else, other_links, winner, winners_among}
 
 abbrev pub names_of : List Library → List (List ℕ)
 names_of libraries = map (λ library. library.soname) libraries
-
-abbrev in_option : Option Library → List ℕ → Bool
-in_option None z = false
-in_option (Some library) z = bytes_eq z library.soname
 
 -- ---- the best one is there if a library has the soname
 
@@ -47,53 +43,31 @@ in_more (x ∷ xs) more z = ap (λ b. bytes_eq z x.soname || b) (in_more xs more
     grouped true b c = refl
     grouped false b c = refl
 
-module _ (files : List Library) where
-  -- ---- each of the best ones is the only one of its soname
+-- ---- each of the best ones is the only one of its soname
 
-  nothing_best : (soname : List ℕ) → is_in (sonames files) soname ≡ false → None ≡ best files soname
-  nothing_best soname h = sym (none_best files soname (sym (in_ascending (names_of files) soname) ∙ h))
+pub one_best : (files : List Library) (soname : List ℕ) → filter (has_soname soname) (bests files) ≡ cons_option (best files soname) []
+one_best files soname = by_test (is_in (sonames files) soname)
+    (λ h. one_left (best files) (best_has files) soname (sonames files) (ascending_sorted (names_of files)) h)
+    (λ h. none_left (best files) (best_has files) soname (sonames files) h
+    ∙ sym (ap (λ o. cons_option o []) (none_best files soname (sym (in_ascending (names_of files) soname) ∙ h))))
 
-  same_best : (soname : List ℕ) → best (bests files) soname ≡ best files soname
-  same_best soname = by_test (is_in (sonames files) soname)
-      (λ h. ap (fold better None) (one_left (best files) (best_has files) soname (sonames files) (ascending_sorted (names_of files)) h) ∙ alone (best files soname))
-      (λ h. ap (fold better None) (none_left (best files) (best_has files) soname (sonames files) h) ∙ nothing_best soname h)
-    where
-      alone : (o : Option Library) → fold better None (cons_option o []) ≡ o
-      alone None = refl
-      alone (Some library) = refl
+-- ---- a soname has one winner in a place
 
-  -- ---- their sonames
+no_winner : (files links : List Library) (soname : List ℕ) → is_in (names_of (files ++ (named_links links ++ other_links links))) soname ≡ false → winner files links soname ≡ None
+no_winner files links soname h =
+    let both = apart (is_in (names_of files) soname) _ (sym (in_more files (named_links links ++ other_links links) soname) ∙ h) in
+    let each = apart (is_in (names_of (named_links links)) soname) _ (sym (in_more (named_links links) (other_links links) soname) ∙ both.1) in
+    ap (λ o. or_else o (or_else (best (named_links links) soname) (best (other_links links) soname))) (none_best files soname both.0)
+    ∙ ap (λ o. or_else o (best (other_links links) soname)) (none_best (named_links links) soname each.0) ∙ none_best (other_links links) soname each.1
+  where
+    apart : (a b : Bool) → (a || b) ≡ false → (a ≡ false) × (b ≡ false)
+    apart true b h = absurd (cc)
+    apart false b h = (refl, h)
 
-  names_left : (z : List ℕ) (names : List (List ℕ)) → ((name : List ℕ) → is_in names name ≡ true → is_some (best files name) ≡ true) → is_in (names_of (filter_map (best files) names)) z ≡ is_in names z
-  names_left z [] all = refl
-  names_left z (name ∷ names) all =
-      let here : is_some (best files name) ≡ true = all name (ap (λ b. b || is_in names name) (itself name)) in
-      let rest = names_left z names (λ q h. all q (either (bytes_eq q name) (is_in names q) h)) in
-      elim (best files name) as (λ o. best files name ≡ o → is_some o ≡ true → is_in (names_of (cons_option o (filter_map (best files) names))) z ≡ (bytes_eq z name || is_in names z)) [
-        | None ↦ λ f e. absurd (cc)
-        | Some library ↦ λ f e. ap (λ q. bytes_eq z q || is_in (names_of (filter_map (best files) names)) z) (best_has files name library f) ∙ ap (λ b. bytes_eq z name || b) rest
-      ] refl here
-    where
-      either : (a b : Bool) → b ≡ true → (a || b) ≡ true
-      either true b h = refl
-      either false b h = h
-
-  same_name : (z : List ℕ) → is_in (names_of (bests files)) z ≡ is_in (names_of files) z
-  same_name z =
-      names_left z (sonames files) (λ name h. sym (best_there files name) ∙ sym (in_ascending (names_of files) name) ∙ h)
-      ∙ in_ascending (names_of files) z
-
-  same_sonames : (more : List Library) → sonames (bests files ++ more) ≡ sonames (files ++ more)
-  same_sonames more =
-      same_members (sonames (bests files ++ more)) (sonames (files ++ more)) (ascending_sorted (names_of (bests files ++ more))) (ascending_sorted (names_of (files ++ more)))
-      (λ z.
-      in_ascending (names_of (bests files ++ more)) z ∙ in_more (bests files) more z ∙ ap (λ b. b || is_in (names_of more) z) (same_name z)
-      ∙ sym (in_ascending (names_of (files ++ more)) z ∙ in_more files more z))
-
-  -- The winners are those of the best files and the links.
-  pub winners_same : (links : List Library) → winners_among (bests files) links ≡ winners_among files links
-  winners_same links =
-      filtered_same (winner (bests files) links) (winner files links)
-      (λ soname. ap (λ o. or_else o (or_else (best (named_links links) soname) (best (other_links links) soname))) (same_best soname))
-      (sonames (bests files ++ (named_links links ++ other_links links)))
-      ∙ ap (filter_map (winner files links)) (same_sonames (named_links links ++ other_links links))
+pub one_winner : (files links : List Library) (soname : List ℕ) → filter (has_soname soname) (winners_among files links) ≡ cons_option (winner files links soname) []
+one_winner files links soname =
+    let all : List Library = files ++ (named_links links ++ other_links links) in
+    by_test (is_in (sonames all) soname)
+    (λ h. one_left (winner files links) (winner_has files links) soname (sonames all) (ascending_sorted (names_of all)) h)
+    (λ h. none_left (winner files links) (winner_has files links) soname (sonames all) h
+    ∙ sym (ap (λ o. cons_option o []) (no_winner files links soname (sym (in_ascending (names_of all) soname) ∙ h))))

@@ -1,6 +1,6 @@
 -- Sorted entries lead where the search of the directories leads: of the entries of one soname, ABI and hwcaps name that of the first
 -- place comes first, and each place has one at most.
-use Rattle.std.proofs.Common.{◌≡◌, ◌<◌, ◌≤◌, ◌+◌, ℕ, pos, Bool, true, false, cond, nat_eq, nat_lt, ◌&&◌, ◌||◌, List, [], ◌∷◌, ◌++◌, get_or, map, refl, ap, sym, subst, ◌∙◌, Option, Some, None, arith}
+use Rattle.std.proofs.Common.{◌≡◌, ◌<◌, ◌≤◌, ◌+◌, ℕ, pos, Bool, true, false, cond, nat_eq, nat_lt, ◌&&◌, List, [], ◌∷◌, ◌++◌, get_or, map, refl, ap, sym, subst, ◌∙◌, Option, Some, None, arith}
 use Rattle.std.proofs.lemmas.Bool.{and_from, and_parts}
 use Rattle.std.proofs.lemmas.Bool.Decides.{nat_tests}
 use Rattle.std.proofs.lemmas.Cmp.{tied_itself}
@@ -8,7 +8,7 @@ use Rattle.std.proofs.lemmas.List.Elements.{All-filter, filter-append, filter_pa
 use Rattle.std.proofs.lemmas.Slice.Eq.{bytes_eq-Decides}
 use Rattle.std.specs.Cmp.{bool_cmp_total, int_cmp_total}
 use Rattle.std.specs.Cmp.Lexicographic.{nat_list_cmp_total, slice_cmp}
-use Rattle.std.specs.List.{All, cons_option, filter, find, slice_get}
+use Rattle.std.specs.List.{All, cons_option, filter, slice_get}
 use Rattle.std.specs.List.Sorted.{IsSorted}
 use Rattle.std.specs.Option.{is_none, option_and_then, option_map, option_or, unwrap_or}
 use Rattle.std.specs.Ordering.{bool_cmp, int_cmp, is_lt, nat_cmp, ordering_then}
@@ -22,23 +22,21 @@ use Rattle.lib_types.specs.declared.abi.Abi.{Abi}
 use Rattle.lib_types.specs.declared.entry.Entry.{Entry}
 use Rattle.name_order.proofs.Total.{name_order-total}
 use Rattle.name_order.specs.Order.{name_order}
-use Rattle.found_files.proofs.InOrder.{ascending_sorted, in_ascending}
-use Rattle.found_files.proofs.Members.{is_in}
 use Rattle.found_files.specs.Analyses.{Analyses}
-use Rattle.found_files.specs.Best.{best, has_soname, sonames}
+use Rattle.found_files.specs.Best.{has_soname}
 use Rattle.found_files.specs.Libraries.{libraries_in}
 use Rattle.found_files.specs.Library.{Library}
 use Rattle.found_files.specs.Places.{by_place}
 use Rattle.image_tree.specs.Tree.{Nodes}
-use Rattle.winning_entries.proofs.Bests.{in_more, names_of, none_best}
+use Rattle.winning_entries.proofs.Bests.{one_winner}
 use Rattle.winning_entries.proofs.InOneOrder.{one_list_is, sorted_cons}
-use Rattle.winning_entries.proofs.OneEach.{none_left, one_left}
+use Rattle.winning_entries.proofs.OneEach.{find_first}
 use Rattle.winning_entries.proofs.Single.{IsFoundAt, each_found, tied_same, winner_has, winner_in}
 use Rattle.winning_entries.proofs.Sorts.{same_kept}
 use Rattle.winning_entries.specs.Entries.{AreEntriesOf, cap_of, entries_in, entry_of, entry_order, entry_order-total, flags_in, found, has_no_cap}
 use Rattle.winning_entries.specs.Led.{LeadAsSearched, is_entry_of, path_among}
 use Rattle.winning_entries.specs.Walk.{first_value, in_turn, is_same_abi, is_same_cap, path_for, path_in, path_with, walk}
-use Rattle.winning_entries.specs.Winner.{links_to_libraries, named_links, or_else, other_links, winner, winners_among, winners_in}
+use Rattle.winning_entries.specs.Winner.{links_to_libraries, winners_in}
 
 -- ---- filters
 
@@ -58,31 +56,6 @@ filter_map_of p f (x ∷ xs) =
       | true ↦ ap (λ ys. f x ∷ ys) (filter_map_of p f xs)
       | false ↦ filter_map_of p f xs
     ]
-
-find_first : {X : Type 0} (p : X → Bool) (xs : List X) → find p xs ≡ slice_get (filter p xs) 0
-find_first p [] = refl
-find_first p (x ∷ xs) = elim (p x) as (λ b. cond b (Some x) (find p xs) ≡ slice_get (cond b (x ∷ filter p xs) (filter p xs)) 0) [ true ↦ refl | false ↦ find_first p xs ]
-
--- ---- a soname has one winner in a place
-
-no_winner : (files links : List Library) (soname : List ℕ) → is_in (names_of (files ++ (named_links links ++ other_links links))) soname ≡ false → winner files links soname ≡ None
-no_winner files links soname h =
-    let both = apart (is_in (names_of files) soname) _ (sym (in_more files (named_links links ++ other_links links) soname) ∙ h) in
-    let each = apart (is_in (names_of (named_links links)) soname) _ (sym (in_more (named_links links) (other_links links) soname) ∙ both.1) in
-    ap (λ o. or_else o (or_else (best (named_links links) soname) (best (other_links links) soname))) (none_best files soname both.0)
-    ∙ ap (λ o. or_else o (best (other_links links) soname)) (none_best (named_links links) soname each.0) ∙ none_best (other_links links) soname each.1
-  where
-    apart : (a b : Bool) → (a || b) ≡ false → (a ≡ false) × (b ≡ false)
-    apart true b h = absurd (cc)
-    apart false b h = (refl, h)
-
-one_winner : (files links : List Library) (soname : List ℕ) → filter (has_soname soname) (winners_among files links) ≡ cons_option (winner files links soname) []
-one_winner files links soname =
-    let all : List Library = files ++ (named_links links ++ other_links links) in
-    by_test (is_in (sonames all) soname)
-    (λ h. one_left (winner files links) (winner_has files links) soname (sonames all) (ascending_sorted (names_of all)) h)
-    (λ h. none_left (winner files links) (winner_has files links) soname (sonames all) h
-    ∙ sym (ap (λ o. cons_option o []) (no_winner files links soname (sym (in_ascending (names_of all) soname) ∙ h))))
 
 -- ---- entries of one soname, ABI and hwcaps name differ by their places
 

@@ -3,8 +3,10 @@ pub mod Fit
 mod FolderCounts
 pub mod InOneOrder
 pub mod Led
+mod Merged
 pub mod NoOtherFiles
 pub mod OneEach
+mod Others
 mod Ranks
 pub mod Single
 mod Sorts

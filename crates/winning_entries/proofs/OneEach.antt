@@ -1,9 +1,9 @@
 -- Sorted names of which each gives at most one library, which has this soname, give at most one library of a soname.
-use Rattle.std.proofs.Common.{◌≡◌, ℕ, true, false, ◌||◌, List, [], ◌∷◌, refl, ap, sym, subst, ◌∙◌, Option, Some, None}
+use Rattle.std.proofs.Common.{◌≡◌, ℕ, true, false, cond, ◌||◌, List, [], ◌∷◌, Bool, refl, ap, sym, subst, ◌∙◌, Option, Some, None}
 use Rattle.std.proofs.lemmas.Map.Keys.{sorted_head, sorted_tail}
 use Rattle.std.proofs.lemmas.Slice.Eq.{bytes_eq-Decides}
 use Rattle.std.specs.Cmp.Lexicographic.{slice_cmp}
-use Rattle.std.specs.List.{cons_option, filter, filter_map}
+use Rattle.std.specs.List.{cons_option, filter, filter_map, find, slice_get}
 use Rattle.std.specs.Ordering.{nat_cmp}
 use Rattle.std.specs.Str.{bytes_eq}
 use Rattle.lib_types.proofs.SortedPairs.{by_test}
@@ -17,6 +17,11 @@ turned x z = by_test (bytes_eq x z)
     (λ e. by_test (bytes_eq z x)
     (λ f. let same : z ≡ x = (bytes_eq-Decides z x).0 f in let there : bytes_eq x z ≡ true = (bytes_eq-Decides x z).1 (sym same) in absurd (cc))
     (λ f. f ∙ sym e))
+
+-- the first one that passes is the first of those that do
+pub find_first : {X : Type 0} (p : X → Bool) (xs : List X) → find p xs ≡ slice_get (filter p xs) 0
+find_first p [] = refl
+find_first p (x ∷ xs) = elim (p x) as (λ b. cond b (Some x) (find p xs) ≡ slice_get (cond b (x ∷ filter p xs) (filter p xs)) 0) [ true ↦ refl | false ↦ find_first p xs ]
 
 module _ (f : List ℕ → Option Library) (own : (name : List ℕ) (library : Library) → f name ≡ Some library → library.soname ≡ name) (soname : List ℕ) where
   abbrev left : List (List ℕ) → List Library

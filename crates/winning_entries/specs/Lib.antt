@@ -1,6 +1,8 @@
 pub mod Counts
 pub mod Entries
 pub mod Led
+pub mod Merged
+pub mod Others
 pub mod Parts
 pub mod Ranked
 pub mod Walk

@@ -1,18 +1,17 @@
--- What private functions say of the files and links of a place in one list, each with its class.
+-- What private functions say of the links of a place, each with its class.
 use Rattle.std.specs.Prelude.{ℕ, Bool, List, ◌&&◌, ◌||◌, map, nat_eq, nat_lt, if◌then◌else◌}
 use Rattle.std.specs.Map.{values_of}
 use Rattle.found_files.specs.Best.{is_preferred}
 use Rattle.winning_entries.specs.Winner.{has_own_name}
 use Rattle.found_files.specs.Library.{Library}
 use Rattle.winning_entries.specs.declared.winner.Class.{Class}
-use Rattle.winning_entries.specs.declared.winner.Class.TheVariants.{File, Named, Other}
+use Rattle.winning_entries.specs.declared.winner.Class.TheVariants.{Named, Other}
 use Rattle.winning_entries.specs.declared.winner.Ranked.{Ranked}
 
--- files are first, then the links that are looked up by their own names, then the others
+-- the links that are looked up by their own names are first, then the others
 abbrev pub rank_of : Class → ℕ
-rank_of File = 0
-rank_of Named = 1
-rank_of Other = 2
+rank_of Named = 0
+rank_of Other = 1
 
 -- of two of one soname the first is preferred: its class is before the other's, or it is the better one of their class
 abbrev pub is_before : Ranked → Ranked → Bool
@@ -21,9 +20,6 @@ is_before ranked other =
 
 abbrev pub soname_of : Ranked → List ℕ
 soname_of ranked = ranked.library.soname
-
-abbrev pub ranked_file : Library → Ranked
-ranked_file file = record { library = file; class = File }
 
 -- by its own name if it is looked up by that
 abbrev pub ranked_link : Library → Ranked

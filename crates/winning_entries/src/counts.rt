@@ -1,13 +1,24 @@
 //! How many winners places have.
-ghost use Rattle.std.specs.Prelude.{IfOk};
+ghost use Rattle.std.specs.Prelude.{◌≡◌, IfOk, length};
 ghost use Rattle.found_files.specs.Table.{analysis_at};
 ghost use Rattle.winning_entries.specs.Counts.{CountsEach};
 
-use crate::winner::winners_in;
+use crate::winners::{Winners, winners_in};
 use found_files::{BestLibraries, FolderLinks, Table};
 use indexmap::IndexMap;
 use lib_types::{NoMemory, Text, TextRef};
 use std::alloc::Global;
+
+// How many winners these are.
+fn count_of(winners: &Winners<'_>) -> Result<usize, NoMemory>
+    ensures { IfOk result (λ count. count ≡ length winners.now) }
+{
+    let mut count: usize = 0;
+    for _winner in winners.iter() {
+        count = count.checked_add(1).ok_or(NoMemory)?;
+    }
+    Ok(count)
+}
 
 /// The number of winners of a place, given the best library of each soname and the links there. It is found once for each folder, whose
 /// number is kept.
@@ -27,6 +38,7 @@ pub(crate) fn count_in(
     }
     let winners = winners_in(alloc, table, files, links)?;
     let folder = Text::copy_of(alloc, links.folder.as_bytes())?;
-    counts.insert(folder, winners.len())?;
-    Ok(winners.len())
+    let count = count_of(&winners)?;
+    counts.insert(folder, count)?;
+    Ok(count)
 }

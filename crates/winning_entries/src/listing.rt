@@ -14,7 +14,7 @@ ghost use Rattle.winning_entries.specs.Parts.{IsCountFault};
 
 use crate::counts::count_in;
 use crate::fault::EntryFault;
-use crate::winner::winners_in;
+use crate::winners::{Winners, winners_in};
 use cache_writer::ENTRIES_MAX;
 use found_files::{
     BestLibraries, FolderLinks, Library, PlaceBests, PlaceLinks, Table, is_own, is_plain, links_to,
@@ -132,21 +132,28 @@ struct Counted {
     winners: IndexMap<Text, usize>,
 }
 
-// Adds the entries of a place's winners.
+// Adds the entries of a place's winners, which are counted as they come.
 fn add_entries(
     alloc: Global,
     tree: &Tree,
     number: u32,
     place: &Place,
-    winners: &[Library<'_>],
-    entries: &mut Vec<Entry>,
+    winners: &Winners<'_>,
+    found: &mut Counted,
 ) -> Result<(), NoMemory>
-    ensures { OnOk result (entries.new.items ≡ entries.old.items ++ map (entry_of tree.now number place.now) winners.now) }
+    ensures count { OnOk result (found.new.count ≡ found.old.count + length winners.now) }
+    ensures kept { OnOk result (found.new.count ≤ ENTRIES_MAX
+        → found.new.entries.items ≡ found.old.entries.items ++ map (entry_of tree.now number place.now) winners.now) }
+    ensures winners { OnOk result (found.new.winners ≡ found.old.winners) }
 {
     let mut path = Vec::new(alloc);
-    entries.reserve(winners.len())?;
-    for winner in winners {
-        entries.push(entry_of(alloc, tree, number, place, winner, &mut path)?)?;
+    found.entries.reserve(winners.most())?;
+    for winner in winners.iter() {
+        found.count = found.count.checked_add(1).ok_or(NoMemory)?;
+        if found.count <= ENTRIES_MAX {
+            let entry = entry_of(alloc, tree, number, place, &winner, &mut path)?;
+            found.entries.push(entry)?;
+        }
     }
     Ok(())
 }
@@ -170,18 +177,7 @@ fn add_place(
     ensures winners { OnOk result (found.new.winners ≡ found.old.winners) }
 {
     let winners = winners_in(alloc, table, files, links)?;
-    found.count = found.count.checked_add(winners.len()).ok_or(NoMemory)?;
-    if found.count <= ENTRIES_MAX {
-        add_entries(
-            alloc,
-            tree,
-            number,
-            place,
-            winners.as_slice(),
-            &mut found.entries,
-        )?;
-    }
-    Ok(())
+    add_entries(alloc, tree, number, place, &winners, found)
 }
 
 // Adds the entries of a place, or counts them past the limit.

@@ -1,19 +1,15 @@
-//! The winners of a place.
-ghost use Rattle.std.specs.Prelude.{◌≡◌, ◌++◌, map, unwrap_or, IfOk, OnOk};
+//! The links of a place: the libraries to which they lead, and which of them win.
+ghost use Rattle.std.specs.Prelude.{◌≡◌, [], map, unwrap_or, IfOk};
 ghost use Rattle.std.specs.List.{filter_map};
-ghost use Rattle.hwcap_dirs.specs.declared.kinds.Place.{Place};
-ghost use Rattle.image_tree.specs.Tree.{Nodes};
-ghost use Rattle.found_files.specs.Best.{bests_in};
 ghost use Rattle.found_files.specs.Libraries.{last_name, library_at};
 ghost use Rattle.found_files.specs.Pick.{better_by};
-ghost use Rattle.found_files.specs.Search.{folder_links};
-ghost use Rattle.winning_entries.specs.Ranked.{by_sonames, is_before, libraries_of, rank_of, ranked_file, ranked_link, soname_of};
-ghost use Rattle.winning_entries.specs.Winner.{has_own_name, is_dev_name, linked, winners_among, winners_in};
+ghost use Rattle.winning_entries.specs.Ranked.{by_sonames, is_before, libraries_of, rank_of, ranked_link, soname_of};
+ghost use Rattle.winning_entries.specs.Winner.{has_own_name, is_dev_name, linked, winners_among};
 ghost use Rattle.found_files.specs.Table.{analysis_at};
 
 use found_files::{
-    BestLibraries, BySoname, FolderLinks, FollowedLink, Gather, Library, Table, gather_by_soname,
-    is_own, is_preferred,
+    BestLibraries, BySoname, FollowedLink, Gather, Library, Table, gather_by_soname, is_own,
+    is_preferred,
 };
 use lib_types::{Analysis, NoMemory, Text};
 use path_walk::cut;
@@ -60,11 +56,11 @@ fn library_behind<'a>(table: &'a Table, name: &'a [u8], file: &'a [u8]) -> Optio
     }
 }
 
-// The library to which a link leads.
-fn linked<'a>(table: &'a Table, link: &'a FollowedLink) -> Option<Library<'a>>
+/// The library to which a link leads.
+pub(crate) fn linked<'a>(table: &'a Table, link: &FollowedLink<'a>) -> Option<Library<'a>>
     ensures { result ≡ linked (analysis_at table.now) link.now }
 {
-    library_behind(table, link.name(), link.file()?)
+    library_behind(table, link.name, link.file?)
 }
 
 // ---- the classes
@@ -75,17 +71,16 @@ fn is_dev_name(name: &[u8], soname: &[u8]) -> bool
     name.ends_with(b".so") && soname.starts_with(name) && name.len() < soname.len()
 }
 
-// Whether a link is looked up by its own name.
-fn has_own_name(link: &Library<'_>) -> bool
+/// Whether a link is looked up by its own name.
+pub(crate) fn has_own_name(link: &Library<'_>) -> bool
     ensures { result ≡ has_own_name link.now }
 {
     is_own(link) || is_dev_name(link.name, link.soname)
 }
 
-// Files are first, then the links that are looked up by their own names, then the others.
+// The links that are looked up by their own names are first, then the others.
 #[derive(Clone, Copy)]
 enum Class {
-    File,
     Named,
     Other,
 }
@@ -95,27 +90,17 @@ impl Class {
         ensures { result ≡ rank_of self }
     {
         match self {
-            Class::File => 0,
-            Class::Named => 1,
-            Class::Other => 2,
+            Class::Named => 0,
+            Class::Other => 1,
         }
     }
 }
 
-// A library by the soname at which it is looked up, and its class.
+// The library of a link by the soname at which it is looked up, and its class.
 #[derive(Drop)]
 struct Ranked<'a> {
     library: Library<'a>,
     class: Class,
-}
-
-fn ranked_file(file: Library<'_>) -> Ranked<'_>
-    ensures { result ≡ ranked_file file.entry }
-{
-    Ranked {
-        library: file,
-        class: Class::File,
-    }
 }
 
 fn ranked_link(link: Library<'_>) -> Ranked<'_>
@@ -163,7 +148,7 @@ impl<'a> Gather<Ranked<'a>> for Ranked<'a> {
     }
 }
 
-// Files and links by the sonames at which they are looked up.
+// Links by the sonames at which they are looked up.
 type Candidates<'a> = Vec<BySoname<'a, Ranked<'a>>>;
 
 fn by_soname<'a>(ranked: Ranked<'a>) -> BySoname<'a, Ranked<'a>>
@@ -172,69 +157,36 @@ fn by_soname<'a>(ranked: Ranked<'a>) -> BySoname<'a, Ranked<'a>>
     BySoname::new(ranked.library.soname(), ranked)
 }
 
-fn add_files<'a>(candidates: &mut Candidates<'a>, files: &'a BestLibraries) -> Result<(), NoMemory>
-    ensures { OnOk result (candidates.new.items ≡ candidates.old.items ++ by_sonames (map ranked_file files.now)) }
+// Each by the soname at which it is looked up.
+fn candidates<'a>(alloc: Global, links: Vec<Library<'a>>) -> Result<Candidates<'a>, NoMemory>
+    ensures { IfOk result (λ candidates. candidates.items ≡ by_sonames (map ranked_link links.entry.items)) }
 {
-    for file in files.iter() {
-        candidates.push(by_soname(ranked_file(file)))?;
-    }
-    Ok(())
-}
-
-// Adds those of the followed links that lead to libraries.
-fn add_links<'a>(
-    candidates: &mut Candidates<'a>,
-    table: &'a Table,
-    links: &'a [FollowedLink],
-) -> Result<(), NoMemory>
-    ensures { OnOk result (candidates.new.items ≡ candidates.old.items ++ by_sonames (map ranked_link (filter_map (linked (analysis_at table.now)) links.now))) }
-{
+    let mut candidates = Vec::with_capacity(alloc, links.len())?;
     for link in links {
-        if let Some(library) = linked(table, link) {
-            candidates.push(by_soname(ranked_link(library)))?;
-        }
+        candidates.push(by_soname(ranked_link(link)))?;
     }
-    Ok(())
+    Ok(candidates)
 }
 
-// The winners of files and links.
-fn winners_of<'a>(
-    alloc: Global,
-    table: &'a Table,
-    files: &'a BestLibraries,
-    links: &'a [FollowedLink],
-) -> Result<Candidates<'a>, NoMemory>
-    ensures { IfOk result (λ winners. libraries_of winners.items ≡ winners_among files.now (filter_map (linked (analysis_at table.now)) links.now)) }
+fn listed(alloc: Global, winners: Candidates<'_>) -> Result<BestLibraries, NoMemory>
+    ensures { IfOk result (λ libraries. libraries ≡ libraries_of winners.entry.items) }
 {
-    let mut candidates = Vec::with_capacity(alloc, files.len().saturating_add(links.len()))?;
-    add_files(&mut candidates, files)?;
-    add_links(&mut candidates, table, links)?;
-    let winners = gather_by_soname(alloc, candidates)?;
-    Ok(winners)
-}
-
-fn listed<'a>(alloc: Global, winners: Candidates<'a>) -> Result<Vec<Library<'a>>, NoMemory>
-    ensures { IfOk result (λ libraries. libraries.items ≡ libraries_of winners.entry.items) }
-{
-    let mut libraries = Vec::with_capacity(alloc, winners.len())?;
+    let mut libraries = BestLibraries::with_capacity(alloc, winners.len())?;
     for winner in winners {
-        let Ranked { library, .. } = winner.into_item();
-        libraries.push(library)?;
+        libraries.push(&winner.item().library)?;
     }
     Ok(libraries)
 }
 
-/// The winners of a place, by the bytes of their sonames, given the best library of each soname and the links there.
-#[tactic(auto, using(crate::proofs::Bests::winners_same))]
-pub(crate) fn winners_in<'a>(
+/// The winners among links, as if there were no files, by the bytes of their sonames.
+#[tactic(auto, using(crate::proofs::Ranks::link_winners))]
+pub(crate) fn link_winners(
     alloc: Global,
-    table: &'a Table,
-    files: &'a BestLibraries,
-    links: &'a FolderLinks,
-) -> Result<Vec<Library<'a>>, NoMemory>
-    ensures { (t : Nodes) (place : Place) → links.now ≡ folder_links t place → files.now ≡ bests_in (analysis_at table.now) t place
-        → IfOk result (λ winners. winners.items ≡ winners_in (analysis_at table.now) t place) }
+    links: Vec<Library<'_>>,
+) -> Result<BestLibraries, NoMemory>
+    ensures { IfOk result (λ winners. winners ≡ winners_among [] links.entry.items) }
 {
-    let winners = winners_of(alloc, table, files, links.links.as_slice())?;
+    let candidates = candidates(alloc, links)?;
+    let winners = gather_by_soname(alloc, candidates)?;
     listed(alloc, winners)
 }

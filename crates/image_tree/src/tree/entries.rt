@@ -9,12 +9,13 @@ ghost use Rattle.image_tree.specs.declared.tree.TheConstants.{NODES_MAX};
 ghost use Rattle.image_tree.specs.Tree.{IsPathSorted, IsTree, node_at, has_below, clashes, has_no_room, IsFullFor, kind_of, kind_at, put, remove};
 
 use super::rest::Rest;
-use super::run::{PathEntry, Run};
+use super::row::PathEntry;
+use super::run::Run;
 use super::runs::{Place, entry_at, entry_before, entry_from, find, find_near, search};
 use super::{Kind, NODES_MAX, TreeFault, runs as places};
 use crate::node::{Node, is_dir};
 use crate::path::{is_above, is_below};
-use lib_types::{NoMemory, Text};
+use lib_types::NoMemory;
 use std::alloc::Global;
 
 // The node of the entry at this place.
@@ -22,7 +23,7 @@ fn node_of(runs: &Vec<Run>, place: Place) -> &Node
     requires { IsEntryPlace runs.now.items place }
     ensures { (d : _) → result.now ≡ (slice_index_or (joined runs.now.items) (index_of runs.now.items place) d).1 }
 {
-    entry_at(runs, place).node()
+    entry_at(runs, place).node
 }
 
 /// The place of the path's entry, looked for first from a place on, or that of its gap.
@@ -99,7 +100,7 @@ fn has_below(runs: &Vec<Run>, path: &[u8], behind: Place) -> bool
     ensures { result ≡ (is_path path.now && has_below (joined runs.now.items) path.now) }
 {
     match entry_from(runs, behind) {
-        Some(next) => is_above(path, next.path()),
+        Some(next) => is_above(path, next.path),
         None => false,
     }
 }
@@ -159,10 +160,10 @@ pub(super) fn kind(runs: &Vec<Run>, path: &[u8]) -> Kind
 }
 
 // Whether this entry is a file or a link above the path.
-fn is_file_above(entry: &PathEntry, path: &[u8]) -> bool
-    ensures { result ≡ is_file_above path.now (entry.now.0, entry.now.1) }
+fn is_file_above(entry: PathEntry<'_>, path: &[u8]) -> bool
+    ensures { result ≡ is_file_above path.now (entry.entry.path.now, entry.entry.node.now) }
 {
-    is_below(entry.path(), path) && !is_dir(entry.node())
+    is_below(entry.path, path) && !is_dir(entry.node)
 }
 
 // Whether the entry directly before the place is a file or a link above the path.
@@ -287,8 +288,7 @@ fn insert(
     ensures refused { OnErr result (joined runs.new.items ≡ joined runs.old.items) }
     ensures runs { IsTrue (are_runs runs.new.items) }
 {
-    let path = Text::copy_of(alloc, path)?;
-    places::insert(alloc, runs, place, PathEntry::new(path, node))?;
+    places::insert(alloc, runs, place, path, node)?;
     Ok(())
 }
 

@@ -9,7 +9,7 @@ ghost use Rattle.image_tree.specs.Behind.{AreSortedBehind};
 ghost use Rattle.image_tree.specs.Runs.{IsPathOfChild, child_at, children_behind, children_in, is_name_end, is_same_child};
 
 use super::rest::Rest;
-use super::run::PathEntry;
+use super::row::PathEntry;
 use crate::node::Node;
 use crate::path::{begins_with, folder_in, is_below, name_from};
 use std::marker::Model;
@@ -56,8 +56,8 @@ impl<'a> Listing<'a> {
         ensures { result ≡ children_in (folder path.now) rest.entry }
     {
         match rest.split_first() {
-            Some((first, _)) if is_below(path, first.path()) => {
-                let folder = folder_in(path, first.path());
+            Some((first, _)) if is_below(path, first.path) => {
+                let folder = folder_in(path, first.path);
                 Listing { rest, folder }
             }
             _ => Listing::none(),
@@ -122,13 +122,13 @@ impl<'a> Iterator for Children<'a> {
 }
 
 // The name with which the entry's path goes on behind a folder of this length, and the node if the path ends there.
-fn child_at<'a>(entry: &'a PathEntry, start: usize) -> (&'a [u8], Option<&'a Node>)
-    ensures { (result.0.now, option_copied result.1) ≡ child_at start (entry.now.0, entry.now.1) }
+fn child_at<'a>(entry: PathEntry<'a>, start: usize) -> (&'a [u8], Option<&'a Node>)
+    ensures { (result.0.now, option_copied result.1) ≡ child_at start (entry.entry.path.now, entry.entry.node.now) }
 {
-    let path = entry.path();
+    let path = entry.path;
     let name = name_from(path, start);
     if name.len() == path.len().saturating_sub(start) {
-        (name, Some(entry.node()))
+        (name, Some(entry.node))
     } else {
         (name, None)
     }
@@ -170,7 +170,7 @@ fn from_last_run<'a>(entries: Rest<'a>, child: &[u8]) -> Rest<'a>
 {
     let mut rest = entries;
     while let Some((first, next)) = rest.next_run() {
-        if !is_child(child, first.path()) {
+        if !is_child(child, first.path) {
             break;
         }
         rest = next;
@@ -188,7 +188,7 @@ fn skip_child<'a>(entries: Rest<'a>, child: &[u8]) -> Rest<'a>
 {
     let mut rest = entries;
     while let Some((entry, more)) = rest.split_first() {
-        if !is_child(child, entry.path()) {
+        if !is_child(child, entry.path) {
             break;
         }
         rest = from_last_run(more, child);
@@ -207,10 +207,10 @@ fn first_child<'a>(
         (λ r. children_in folder.now rest.now ≡ (r.0.0.now, option_copied r.0.1) ∷ children_in folder.now r.1) }
 {
     let (first, others) = rest.split_first()?;
-    if !begins_with(first.path(), folder) {
+    if !begins_with(first.path, folder) {
         return None;
     }
     let child = child_at(first, folder.len());
-    let path = path_of_child(first.path(), folder, child.0);
+    let path = path_of_child(first.path, folder, child.0);
     Some((child, skip_child(others, path)))
 }

@@ -3,7 +3,8 @@ ghost use Rattle.std.specs.Prelude.{◌≡◌, ◌∷◌, [], ◌<◌, ◌≤◌
 ghost use Rattle.image_tree.specs.Runs.{joined, index_of, are_runs, run_length, IsPlace};
 ghost use Rattle.image_tree.specs.Behind.{EndsWith};
 
-use super::run::{PathEntry, Run};
+use super::row::{PathEntry, Rows};
+use super::run::Run;
 use super::runs::{Place, run_of};
 use std::marker::Model;
 
@@ -11,7 +12,7 @@ use std::marker::Model;
 #[derive(Drop)]
 pub(super) struct Rest<'a> {
     // what is left of the first run
-    first: &'a [PathEntry],
+    first: Rows<'a>,
     // the runs behind it
     others: &'a [Run],
 }
@@ -23,7 +24,7 @@ impl<'a> Model for Rest<'a> {
 
     ghost Value = { Nodes };
 
-    ghost view = { λ s. s.first.now ++ joined s.others.now };
+    ghost view = { λ s. s.first ++ joined s.others.now };
 
     ghost invariant = { λ s. are_runs s.others.now ≡ true };
 }
@@ -34,7 +35,7 @@ impl<'a> Rest<'a> {
         ensures { result ≡ [] }
     {
         Rest {
-            first: &[],
+            first: Rows::none(),
             others: &[],
         }
     }
@@ -45,7 +46,7 @@ impl<'a> Rest<'a> {
         ensures { result ≡ joined runs.now.items }
     {
         Rest {
-            first: &[],
+            first: Rows::none(),
             others: runs.as_slice(),
         }
     }
@@ -66,40 +67,40 @@ impl<'a> Rest<'a> {
     }
 
     /// The first entry and those behind it.
-    pub(super) fn split_first(&self) -> Option<(&'a PathEntry, Rest<'a>)>
-        ensures { MatchOption result (self.now ≡ []) (λ r. self.now ≡ (r.0.now.0, r.0.now.1) ∷ r.1) }
+    pub(super) fn split_first(&self) -> Option<(PathEntry<'a>, Rest<'a>)>
+        ensures { MatchOption result (self.now ≡ []) (λ r. self.now ≡ (r.0.path.now, r.0.node.now) ∷ r.1) }
     {
         if let Some((entry, first)) = self.first.split_first() {
             let others = self.others;
             return Some((entry, Rest { first, others }));
         }
         let (run, others) = self.others.split_first()?;
-        let (entry, first) = run.as_slice().split_first()?;
+        let (entry, first) = run.rows().split_first()?;
         Some((entry, Rest { first, others }))
     }
 
     /// The first entry of the next run, and the entries from it on, if something is left of the first run.
-    pub(super) fn next_run(&self) -> Option<(&'a PathEntry, Rest<'a>)>
-        ensures last { IfSome result (λ r. EndsWith self.now (r.0.now.0, r.0.now.1) r.1) }
+    pub(super) fn next_run(&self) -> Option<(PathEntry<'a>, Rest<'a>)>
+        ensures last { IfSome result (λ r. EndsWith self.now (r.0.path.now, r.0.node.now) r.1) }
         ensures fewer { IfSome result (λ r. length r.1 < length self.now) }
     {
         if self.first.is_empty() {
             return None;
         }
         let (run, others) = self.others.split_first()?;
-        let first = run.as_slice();
+        let first = run.rows();
         let (entry, _) = first.split_first()?;
         Some((entry, Rest { first, others }))
     }
 }
 
 // The entries of the place's run from the place on.
-fn rest_of_run(runs: &Vec<Run>, place: Place) -> &[PathEntry]
+fn rest_of_run(runs: &Vec<Run>, place: Place) -> Rows<'_>
     requires run { place.run < length runs.now.items }
     requires at { place.at ≤ run_length runs.now.items place.run }
-    ensures { result.now ≡ drop place.at (slice_index_or runs.now.items place.run []) }
+    ensures { result ≡ drop place.at (slice_index_or runs.now.items place.run []) }
 {
-    &run_of(runs, place.run).as_slice()[place.at..]
+    run_of(runs, place.run).rows().from(place.at)
 }
 
 // The runs behind this one.

@@ -1,64 +1,19 @@
 //! A run of a tree's entries.
-ghost use Rattle.std.specs.Prelude.{◌≡◌, ◌==◌, ◌<◌, ◌≤◌, [], OnOk, OnErr, IfOk, IfErr, IfSome, IsTrue, length, take, drop, slice_index_or, slice_set};
+ghost use Rattle.std.specs.Prelude.{◌≡◌, ◌<◌, ◌≤◌, [], OnOk, OnErr, IfOk, IfErr, IfSome, length, take, drop, zip, slice_index_or, slice_set};
 ghost use Rattle.std.specs.List.{insert, remove};
-ghost use Rattle.std.specs.declared.cmp.Ordering.TheVariants.{Equal};
-ghost use Rattle.image_tree.specs.Paths.{path_cmp};
+ghost use Rattle.std.specs.Map.{keys_of};
 ghost use Rattle.image_tree.specs.Index.{IsIndexOf, IsGapFor};
+ghost use Rattle.image_tree.specs.OneText.{nodes_of, parts_of};
 ghost use Rattle.image_tree.specs.Runs.{begins_by};
 ghost use Rattle.image_tree.specs.Tree.{IsPathSorted};
 
+use super::paths::Paths;
+use super::row::{Row, Rows};
 use crate::node::Node;
-use crate::path::compare;
-use lib_types::{NoMemory, Text, are_same};
+use crate::path::PATH_MAX;
+use lib_types::{NoMemory, Part};
 use std::alloc::Global;
-use std::cmp::Ordering;
 use std::marker::Model;
-
-/// A path and its node.
-#[derive(Drop)]
-pub(super) struct PathEntry {
-    path: Text,
-    node: Node,
-}
-
-impl Model for PathEntry {
-    ghost use Rattle.std.specs.Prelude.{List, ℕ};
-    ghost use Rattle.image_tree.specs.declared.node.Node.{Node};
-
-    ghost Value = { List ℕ × Node };
-
-    ghost view = { λ e. (e.path, e.node) };
-}
-
-impl PathEntry {
-    /// The entry of a path and its node.
-    pub(super) fn new(path: Text, node: Node) -> PathEntry
-        ensures { result ≡ (path, node) }
-    {
-        PathEntry { path, node }
-    }
-
-    /// The path.
-    pub(super) fn path(&self) -> &[u8]
-        ensures { result.now ≡ self.now.0 }
-    {
-        self.path.as_bytes()
-    }
-
-    /// The node.
-    pub(super) fn node(&self) -> &Node
-        ensures { result.now ≡ self.now.1 }
-    {
-        &self.node
-    }
-
-    // Overwrites the node.
-    fn set_node(&mut self, node: Node)
-        ensures { self.new ≡ (self.old.0, node) }
-    {
-        self.node = node;
-    }
-}
 
 /// The most entries of a run. What is put or removed moves no more entries than that: fewer would make more runs, whose
 /// list is moved where a run is divided.
@@ -67,18 +22,30 @@ pub(super) const RUN_MAX: usize = 64;
 // For so many entries more a run makes room at once. With more of it a tree in no order would have much memory that stands empty.
 const ROOM: usize = 16;
 
-/// Entries that stand in one block of memory, which contracts see as their list.
+// How many bytes a path takes, more or less: a run that is to be filled has room for so many from the start.
+const PATH_LEN: usize = 48;
+
+// A text of more bytes than the paths of a run can have is made anew of those that are there.
+const TEXT_MAX: usize = RUN_MAX * PATH_MAX;
+
+/// Entries that contracts see as their list. Their paths are parts of one text, so that each takes the memory of its bytes and of two
+/// numbers. What is removed leaves its path in the text.
 #[derive(Drop)]
 pub(super) struct Run {
-    entries: Vec<PathEntry>,
+    text: Vec<u8>,
+    rows: Vec<Row>,
 }
 
 impl Model for Run {
+    ghost use Rattle.std.specs.Prelude.{length};
+    ghost use Rattle.image_tree.specs.OneText.{entries_in, parts_of, AreWithin};
     ghost use Rattle.image_tree.specs.Tree.{Nodes};
 
     ghost Value = { Nodes };
 
-    ghost view = { λ r. r.entries.items };
+    ghost view = { λ r. entries_in r.text.items r.rows.items };
+
+    ghost invariant = { λ r. AreWithin (length r.text.items) (parts_of r.rows.items) };
 }
 
 impl Run {
@@ -86,32 +53,34 @@ impl Run {
     pub(super) fn new(alloc: Global) -> Result<Run, NoMemory>
         ensures { IfOk result (λ run. run ≡ []) }
     {
-        let entries = Vec::with_capacity(alloc, RUN_MAX)?;
-        Ok(Run { entries })
+        Ok(Run {
+            text: Vec::with_capacity(alloc, RUN_MAX * PATH_LEN)?,
+            rows: Vec::with_capacity(alloc, RUN_MAX)?,
+        })
     }
 
     /// The number of entries.
     pub(super) fn len(&self) -> usize
         ensures { result ≡ length self.now }
     {
-        self.entries.len()
+        self.rows.len()
     }
 
     /// The entries.
-    pub(super) fn as_slice(&self) -> &[PathEntry]
-        ensures { result.now ≡ self.now }
+    pub(super) fn rows(&self) -> Rows<'_>
+        ensures { result ≡ self.now }
     {
-        self.entries.as_slice()
+        Rows {
+            text: self.text.as_slice(),
+            rows: self.rows.as_slice(),
+        }
     }
 
     /// Whether the run begins at the path or before it.
     pub(super) fn begins_by(&self, path: &[u8]) -> bool
         ensures { result ≡ begins_by path.now self.now }
     {
-        match self.entries.as_slice().split_first() {
-            Some((first, _)) => !compare(first.path(), path).is_gt(),
-            None => true,
-        }
+        self.rows().begin_by(path)
     }
 
     /// The index of the path's entry, or that of its gap.
@@ -120,14 +89,14 @@ impl Run {
         ensures found { IfOk result (IsIndexOf self.now path.now) }
         ensures absent { IfErr result (IsGapFor self.now path.now) }
     {
-        search(&self.entries, path)
+        self.rows().search(path)
     }
 
     /// The index of the path's entry, if it is one of the next few from this index on.
     pub(super) fn find_near(&self, from: usize, path: &[u8]) -> Option<usize>
         ensures { IfSome result (IsIndexOf self.now path.now) }
     {
-        find_near(&self.entries, from, path)
+        self.rows().find_near(from, path)
     }
 
     /// Overwrites the node of the entry at this index.
@@ -135,96 +104,154 @@ impl Run {
         requires { index < length self.old }
         ensures { (d : _) → self.new ≡ slice_set self.old index ((slice_index_or self.old index d).0, node) }
     {
-        set_node(&mut self.entries, index, node);
+        set_node(&mut self.rows, index, node);
     }
 
     /// Removes the entry at this index.
+    #[tactic(auto, using(crate::proofs::OneText::entries_removed))]
     pub(super) fn remove(&mut self, index: usize)
         requires { index < length self.old }
         ensures { self.new ≡ remove self.old index }
     {
-        let _ = self.entries.remove(index);
+        let _ = self.rows.remove(index);
     }
 
-    /// Inserts an entry at this index. At the end, where the lines of a sorted manifest come, nothing moves.
-    #[tactic(auto, using(crate::proofs::Runs::inserted_at_end))]
-    pub(super) fn insert(&mut self, index: usize, entry: PathEntry) -> Result<(), NoMemory>
+    /// Inserts an entry at this index.
+    pub(super) fn insert(
+        &mut self,
+        alloc: Global,
+        index: usize,
+        path: &[u8],
+        node: Node,
+    ) -> Result<(), NoMemory>
         requires { index ≤ length self.old }
-        ensures done { OnOk result (self.new ≡ insert self.old index entry) }
+        ensures done { OnOk result (self.new ≡ insert self.old index (path.now, node)) }
         ensures refused { OnErr result (self.new ≡ self.old) }
     {
-        make_room(&mut self.entries)?;
-        if index == self.entries.len() {
-            self.entries.push(entry)?;
-        } else {
-            self.entries.insert(index, entry)?;
+        self.keep_short(alloc)?;
+        self.add(index, path, node)?;
+        self.shrink_if_full();
+        Ok(())
+    }
+
+    // Inserts an entry, whose path comes to the end of the text.
+    fn add(&mut self, index: usize, path: &[u8], node: Node) -> Result<(), NoMemory>
+        requires { index ≤ length self.old }
+        ensures done { OnOk result (self.new ≡ insert self.old index (path.now, node)) }
+        ensures refused { OnErr result (self.new ≡ self.old) }
+    {
+        let part = Part::add(&mut self.text, path)?;
+        insert_row(&mut self.rows, index, Row { part, node })
+    }
+
+    // Gives back the room that the text has for more, once the run is full: it is divided before another path comes to it.
+    fn shrink_if_full(&mut self)
+        ensures { self.new ≡ self.old }
+    {
+        if self.rows.len() >= RUN_MAX {
+            self.text.shrink_to_fit();
+        }
+    }
+
+    // Makes the text anew if it has more bytes than the paths of a run can have: paths that were removed are still in it.
+    fn keep_short(&mut self, alloc: Global) -> Result<(), NoMemory>
+        ensures { self.new ≡ self.old }
+    {
+        if self.text.len() > TEXT_MAX {
+            let paths = Paths::of(alloc, self.rows())?;
+            self.settle(paths);
         }
         Ok(())
     }
 
-    /// Keeps the entries before this index, and returns the others as a run of their own. Neither has room for more.
-    pub(super) fn split_off(&mut self, index: usize) -> Result<Run, NoMemory>
+    // Takes the text of these paths, which are those of the entries.
+    fn settle(&mut self, paths: Paths)
+        requires { paths ≡ keys_of self.old }
+        ensures { self.new ≡ self.old }
+    {
+        let Paths { text, parts } = paths;
+        set_parts(&mut self.rows, &parts);
+        self.text = text;
+    }
+
+    // The entries of these rows, whose paths are these.
+    fn of(paths: Paths, mut rows: Vec<Row>) -> Run
+        requires { length paths ≡ length rows.items }
+        ensures { result ≡ zip paths (nodes_of rows.items) }
+    {
+        let Paths { text, parts } = paths;
+        set_parts(&mut rows, &parts);
+        Run { text, rows }
+    }
+
+    /// Keeps the entries before this index, and returns the others as a run of their own. Neither has room for more, and the text of
+    /// each has only the paths of its entries.
+    pub(super) fn split_off(&mut self, alloc: Global, index: usize) -> Result<Run, NoMemory>
         requires { index ≤ length self.old }
         ensures front { OnOk result (self.new ≡ take index self.old) }
         ensures back { IfOk result (λ run. run ≡ drop index self.old) }
         ensures refused { OnErr result (self.new ≡ self.old) }
     {
-        let entries = self.entries.split_off(index)?;
-        self.entries.shrink_to_fit();
-        Ok(Run { entries })
+        let front = Paths::of(alloc, self.rows().up_to(index))?;
+        let back = Paths::of(alloc, self.rows().from(index))?;
+        let rows = self.rows.split_off(index)?;
+        self.rows.shrink_to_fit();
+        self.settle(front);
+        Ok(Run::of(back, rows))
     }
 }
 
-// Has room for an entry more.
-fn make_room(entries: &mut Vec<PathEntry>) -> Result<(), NoMemory>
-    ensures { entries.new.items ≡ entries.old.items }
+// Overwrites the node of the row at this index.
+fn set_node(rows: &mut Vec<Row>, index: usize, node: Node)
+    requires { index < length rows.old.items }
+    ensures parts { parts_of rows.new.items ≡ parts_of rows.old.items }
+    ensures nodes { nodes_of rows.new.items ≡ slice_set (nodes_of rows.old.items) index node }
 {
-    if entries.len() == entries.capacity() {
-        entries.reserve_exact(ROOM)?;
+    rows[index].node = node;
+}
+
+// Overwrites the part of the row at this index.
+fn set_part(rows: &mut Vec<Row>, index: usize, part: Part)
+    requires { index < length rows.old.items }
+    ensures parts { parts_of rows.new.items ≡ slice_set (parts_of rows.old.items) index part }
+    ensures nodes { nodes_of rows.new.items ≡ nodes_of rows.old.items }
+{
+    rows[index].part = part;
+}
+
+// Overwrites the part of each row.
+fn set_parts(rows: &mut Vec<Row>, parts: &Vec<Part>)
+    requires { length parts.now.items ≡ length rows.old.items }
+    ensures parts { parts_of rows.new.items ≡ parts.now.items }
+    ensures nodes { nodes_of rows.new.items ≡ nodes_of rows.old.items }
+{
+    for i in 0..parts.len() {
+        set_part(rows, i, parts[i]);
+    }
+}
+
+// Has room for a row more.
+fn make_room(rows: &mut Vec<Row>) -> Result<(), NoMemory>
+    ensures { rows.new.items ≡ rows.old.items }
+{
+    if rows.len() == rows.capacity() {
+        rows.reserve_exact(ROOM)?;
     }
     Ok(())
 }
 
-fn search(entries: &Vec<PathEntry>, path: &[u8]) -> Result<usize, usize>
-    requires { IsPathSorted entries.now.items }
-    ensures found { IfOk result (IsIndexOf entries.now.items path.now) }
-    ensures absent { IfErr result (IsGapFor entries.now.items path.now) }
+// Inserts a row at this index. At the end, where the lines of a sorted manifest come, nothing moves.
+#[tactic(auto, using(crate::proofs::Runs::inserted_at_end))]
+fn insert_row(rows: &mut Vec<Row>, index: usize, row: Row) -> Result<(), NoMemory>
+    requires { index ≤ length rows.old.items }
+    ensures done { OnOk result (rows.new.items ≡ insert rows.old.items index row) }
+    ensures refused { OnErr result (rows.new.items ≡ rows.old.items) }
 {
-    entries.binary_search_by(
-        |entry: &PathEntry| -> Ordering
-            ensures { result ≡ path_cmp entry.now.0 path.entry.now }
-        { compare(entry.path(), path) },
-    )
-}
-
-// Whether the entry has the path. Most that don't have one of another length, so this takes less than to compare their order.
-#[tactic(auto, using(crate::proofs::Order::same_paths))]
-fn has_path(entry: &PathEntry, path: &[u8]) -> bool
-    ensures { IsTrue result → path_cmp entry.now.0 path.now ≡ Equal }
-{
-    are_same(entry.path(), path)
-}
-
-// How many entries are looked at in their order before all are searched.
-const NEAR: usize = 8;
-
-// The index of the path's entry, if it is one of the next few from this index on.
-fn find_near(entries: &Vec<PathEntry>, from: usize, path: &[u8]) -> Option<usize>
-    ensures { IfSome result (IsIndexOf entries.now.items path.now) }
-{
-    let end = entries.len().min(from.saturating_add(NEAR));
-    for i in from..end {
-        if has_path(&entries[i], path) {
-            return Some(i);
-        }
+    make_room(rows)?;
+    if index == rows.len() {
+        rows.push(row)?;
+    } else {
+        rows.insert(index, row)?;
     }
-    None
-}
-
-// Overwrites the node of the entry at this index.
-fn set_node(entries: &mut Vec<PathEntry>, index: usize, node: Node)
-    requires { index < length entries.old.items }
-    ensures { (d : _) → entries.new.items ≡ slice_set entries.old.items index ((slice_index_or entries.old.items index d).0, node) }
-{
-    entries[index].set_node(node);
+    Ok(())
 }

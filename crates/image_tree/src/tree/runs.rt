@@ -7,7 +7,8 @@ ghost use Rattle.image_tree.specs.Runs.{joined, is_run, are_runs, index_of, run_
 ghost use Rattle.image_tree.specs.Tree.{IsPathSorted};
 ghost use Rattle.image_tree.specs.declared.tree.run.TheConstants.{RUN_MAX};
 
-use super::run::{PathEntry, RUN_MAX, Run};
+use super::row::PathEntry;
+use super::run::{RUN_MAX, Run};
 use crate::node::Node;
 use crate::path::compare;
 use lib_types::NoMemory;
@@ -29,27 +30,27 @@ pub(super) fn run_of(runs: &Vec<Run>, index: usize) -> &Run
 }
 
 // The entry at this index of a run.
-fn entry_of(run: &Run, index: usize) -> &PathEntry
+fn entry_of(run: &Run, index: usize) -> PathEntry<'_>
     requires { index < length run.now }
-    ensures { (d : _) → (result.now.0, result.now.1) ≡ slice_index_or run.now index d }
+    ensures { (d : _) → (result.path.now, result.node.now) ≡ slice_index_or run.now index d }
 {
-    &run.as_slice()[index]
+    run.rows().get(index)
 }
 
 /// The entry at the place.
-pub(super) fn entry_at(runs: &Vec<Run>, place: Place) -> &PathEntry
+pub(super) fn entry_at(runs: &Vec<Run>, place: Place) -> PathEntry<'_>
     requires { IsEntryPlace runs.now.items place }
-    ensures { IsEntryAt (joined runs.now.items) (index_of runs.now.items place) (result.now.0, result.now.1) }
+    ensures { IsEntryAt (joined runs.now.items) (index_of runs.now.items place) (result.path.now, result.node.now) }
 {
     entry_of(run_of(runs, place.run), place.at)
 }
 
 /// The first entry from the place on.
-pub(super) fn entry_from(runs: &Vec<Run>, place: Place) -> Option<&PathEntry>
+pub(super) fn entry_from(runs: &Vec<Run>, place: Place) -> Option<PathEntry<'_>>
     requires runs { IsTrue (are_runs runs.now.items) }
     requires place { IsPlace runs.now.items place }
     ensures { MatchOption result (index_of runs.now.items place ≡ length (joined runs.now.items))
-        (λ e. IsEntryAt (joined runs.now.items) (index_of runs.now.items place) (e.now.0, e.now.1)) }
+        (λ e. IsEntryAt (joined runs.now.items) (index_of runs.now.items place) (e.path.now, e.node.now)) }
 {
     if place.run == runs.len() {
         return None;
@@ -70,11 +71,11 @@ pub(super) fn entry_from(runs: &Vec<Run>, place: Place) -> Option<&PathEntry>
 }
 
 /// The entry directly before the place.
-pub(super) fn entry_before(runs: &Vec<Run>, place: Place) -> Option<&PathEntry>
+pub(super) fn entry_before(runs: &Vec<Run>, place: Place) -> Option<PathEntry<'_>>
     requires runs { IsTrue (are_runs runs.now.items) }
     requires place { IsPlace runs.now.items place }
     ensures { MatchOption result (index_of runs.now.items place ≡ 0)
-        (λ e. IsEntryBefore (joined runs.now.items) (index_of runs.now.items place) (e.now.0, e.now.1)) }
+        (λ e. IsEntryBefore (joined runs.now.items) (index_of runs.now.items place) (e.path.now, e.node.now)) }
 {
     if place.at > 0 {
         return Some(entry_at(
@@ -118,7 +119,7 @@ fn is_after_all(runs: &Vec<Run>, path: &[u8], end: Place) -> bool
 {
     match entry_before(runs, end) {
         None => true,
-        Some(last) => compare(last.path(), path).is_lt(),
+        Some(last) => compare(last.path, path).is_lt(),
     }
 }
 
@@ -260,21 +261,23 @@ pub(super) fn remove(runs: &mut Vec<Run>, place: Place)
 
 // Inserts an entry at this index of a run.
 fn insert_in_run(
+    alloc: Global,
     runs: &mut Vec<Run>,
     run: usize,
     at: usize,
-    entry: PathEntry,
+    path: &[u8],
+    node: Node,
 ) -> Result<(), NoMemory>
     requires run { run < length runs.old.items }
     requires at { at ≤ run_length runs.old.items run }
-    ensures done { OnOk result (runs.new.items ≡ slice_set runs.old.items run (insert (slice_index_or runs.old.items run []) at entry)) }
+    ensures done { OnOk result (runs.new.items ≡ slice_set runs.old.items run (insert (slice_index_or runs.old.items run []) at (path.now, node))) }
     ensures refused { OnErr result (runs.new.items ≡ runs.old.items) }
 {
-    runs[run].insert(at, entry)
+    runs[run].insert(alloc, at, path, node)
 }
 
 // Moves the entries of a run from this index on into a run of their own, which the result is.
-fn split_run(runs: &mut Vec<Run>, run: usize, at: usize) -> Result<Run, NoMemory>
+fn split_run(alloc: Global, runs: &mut Vec<Run>, run: usize, at: usize) -> Result<Run, NoMemory>
     requires run { run < length runs.old.items }
     requires at { at ≤ run_length runs.old.items run }
     ensures done { OnOk result (runs.new.items ≡ slice_set runs.old.items run (take at (slice_index_or runs.old.items run []))) }
@@ -283,24 +286,24 @@ fn split_run(runs: &mut Vec<Run>, run: usize, at: usize) -> Result<Run, NoMemory
     ensures len { vec_len runs.new ≡ vec_len runs.old }
     ensures capacity { vec_capacity runs.new ≡ vec_capacity runs.old }
 {
-    runs[run].split_off(at)
+    runs[run].split_off(alloc, at)
 }
 
 // Divides a run at this index into two. All memory is there before an entry moves.
-fn divide(runs: &mut Vec<Run>, run: usize, at: usize) -> Result<(), NoMemory>
+fn divide(alloc: Global, runs: &mut Vec<Run>, run: usize, at: usize) -> Result<(), NoMemory>
     requires run { run < length runs.old.items }
     requires at { at ≤ run_length runs.old.items run }
     ensures done { OnOk result (runs.new.items ≡ divided runs.old.items run at) }
     ensures refused { OnErr result (runs.new.items ≡ runs.old.items) }
 {
     runs.try_reserve(1)?;
-    let back = split_run(runs, run, at)?;
+    let back = split_run(alloc, runs, run, at)?;
     runs.insert(run + 1, back)?;
     Ok(())
 }
 
 // Divides the place's run in the middle, and returns the place of the same index.
-fn divide_at(runs: &mut Vec<Run>, place: Place) -> Result<Place, NoMemory>
+fn divide_at(alloc: Global, runs: &mut Vec<Run>, place: Place) -> Result<Place, NoMemory>
     requires runs { IsTrue (are_runs runs.old.items) }
     requires run { place.run < length runs.old.items }
     requires at { place.at ≤ run_length runs.old.items place.run }
@@ -311,7 +314,7 @@ fn divide_at(runs: &mut Vec<Run>, place: Place) -> Result<Place, NoMemory>
     ensures index { IfOk result (λ there. index_of runs.new.items there ≡ index_of runs.old.items place) }
 {
     const MIDDLE: usize = RUN_MAX / 2;
-    divide(runs, place.run, MIDDLE)?;
+    divide(alloc, runs, place.run, MIDDLE)?;
     if place.at <= MIDDLE {
         return Ok(place);
     }
@@ -322,7 +325,7 @@ fn divide_at(runs: &mut Vec<Run>, place: Place) -> Result<Place, NoMemory>
 }
 
 // The place of the same index in a run that has room for one more entry.
-fn make_room(runs: &mut Vec<Run>, place: Place) -> Result<Place, NoMemory>
+fn make_room(alloc: Global, runs: &mut Vec<Run>, place: Place) -> Result<Place, NoMemory>
     requires runs { IsTrue (are_runs runs.old.items) }
     requires run { place.run < length runs.old.items }
     requires at { place.at ≤ run_length runs.old.items place.run }
@@ -334,28 +337,34 @@ fn make_room(runs: &mut Vec<Run>, place: Place) -> Result<Place, NoMemory>
     if run_of(runs, place.run).len() < RUN_MAX {
         return Ok(place);
     }
-    divide_at(runs, place)
+    divide_at(alloc, runs, place)
 }
 
 // Inserts an entry at a place in a run that has room.
-fn insert_in_room(runs: &mut Vec<Run>, place: Place, entry: PathEntry) -> Result<(), NoMemory>
+fn insert_in_room(
+    alloc: Global,
+    runs: &mut Vec<Run>,
+    place: Place,
+    path: &[u8],
+    node: Node,
+) -> Result<(), NoMemory>
     requires runs { IsTrue (are_runs runs.old.items) }
     requires place { HasRoomAt runs.old.items place }
-    ensures done { OnOk result (joined runs.new.items ≡ insert (joined runs.old.items) (index_of runs.old.items place) entry) }
+    ensures done { OnOk result (joined runs.new.items ≡ insert (joined runs.old.items) (index_of runs.old.items place) (path.now, node)) }
     ensures refused { OnErr result (joined runs.new.items ≡ joined runs.old.items) }
     ensures runs { IsTrue (are_runs runs.new.items) }
 {
-    insert_in_run(runs, place.run, place.at, entry)?;
+    insert_in_run(alloc, runs, place.run, place.at, path, node)?;
     Ok(())
 }
 
 // Puts a run of one entry behind all runs.
-fn push_run(alloc: Global, runs: &mut Vec<Run>, entry: PathEntry) -> Result<(), NoMemory>
-    ensures done { OnOk result (runs.new.items ≡ runs.old.items ++ (entry ∷ []) ∷ []) }
+fn push_run(alloc: Global, runs: &mut Vec<Run>, path: &[u8], node: Node) -> Result<(), NoMemory>
+    ensures done { OnOk result (runs.new.items ≡ runs.old.items ++ ((path.now, node) ∷ []) ∷ []) }
     ensures refused { OnErr result (runs.new.items ≡ runs.old.items) }
 {
     let mut run = Run::new(alloc)?;
-    run.insert(0, entry)?;
+    run.insert(alloc, 0, path, node)?;
     runs.push(run)?;
     Ok(())
 }
@@ -365,18 +374,19 @@ pub(super) fn insert(
     alloc: Global,
     runs: &mut Vec<Run>,
     place: Place,
-    entry: PathEntry,
+    path: &[u8],
+    node: Node,
 ) -> Result<(), NoMemory>
     requires runs { IsTrue (are_runs runs.old.items) }
     requires place { IsPlace runs.old.items place }
-    ensures done { OnOk result (joined runs.new.items ≡ insert (joined runs.old.items) (index_of runs.old.items place) entry) }
+    ensures done { OnOk result (joined runs.new.items ≡ insert (joined runs.old.items) (index_of runs.old.items place) (path.now, node)) }
     ensures refused { OnErr result (joined runs.new.items ≡ joined runs.old.items) }
     ensures runs { IsTrue (are_runs runs.new.items) }
 {
     if place.run == runs.len() {
-        return push_run(alloc, runs, entry);
+        return push_run(alloc, runs, path, node);
     }
-    let place = make_room(runs, place)?;
-    insert_in_room(runs, place, entry)?;
+    let place = make_room(alloc, runs, place)?;
+    insert_in_room(alloc, runs, place, path, node)?;
     Ok(())
 }

@@ -1,4 +1,4 @@
-use Rattle.std.proofs.Common.{◌≡◌, ◌++◌, drop}
+use Rattle.std.proofs.Common.{◌≡◌, ◌++◌}
 use Rattle.std.specs.List.{filter_map}
 use Rattle.found_files.specs.Table.{analysis_at}
 use Rattle.found_files.specs.Unread.{unread_file, unread_of}
@@ -7,4 +7,4 @@ use Rattle.found_files.proofs.links.add_unread.Given as goal
 -- the links that are left give the rest
 abbrev pub invariant-loop-link : goal.invariant-loop-link
 invariant-loop-link l =
-    l.paths.items ++ filter_map (unread_file (analysis_at l.table)) (drop l.link-index l.folder.links) ≡ l.fn.paths.items ++ unread_of (analysis_at l.table) l.folder
+    l.paths.items ++ filter_map (unread_file (analysis_at l.table)) l.link-iterator ≡ l.fn.paths.items ++ unread_of (analysis_at l.table) l.folder

@@ -7,5 +7,5 @@ use Rattle.found_files.proofs.links.followed_in.Given as goal
 -- the children that are left give the rest
 abbrev pub invariant-loop-name : goal.invariant-loop-name
 invariant-loop-name l =
-    (l.links.items ++ filter_map (λ child. followed_by l.tree l.folder child.0) l.name-iterator ≡ followed_in l.tree l.folder)
+    (l.links ++ filter_map (λ child. followed_by l.tree l.folder child.0) l.name-iterator ≡ followed_in l.tree l.folder)
     × AllByRecursion (IsChild l.tree l.folder) l.name-iterator

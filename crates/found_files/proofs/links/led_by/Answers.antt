@@ -1,4 +1,4 @@
-use Rattle.std.proofs.Common.{rules, ◌≡◌, true, cond, Some, None, ap, sym, ◌∙◌}
+use Rattle.std.proofs.Common.{rules, ◌≡◌, ℕ, List, true, cond, Option, Some, None, ap, sym, ◌∙◌}
 use Rattle.std.proofs.lemmas.Bool.{and_from}
 use Rattle.std.specs.Option.{option_copied, option_map}
 use Rattle.name_order.specs.LibraryName.{is_library_name}
@@ -7,6 +7,7 @@ use Rattle.image_tree.specs.Paths.{join}
 use Rattle.image_tree.specs.declared.node.Node.TheVariants as node
 use Rattle.found_files.proofs.Children.{link_same}
 use Rattle.found_files.specs.Children.{is_link_node}
+use Rattle.found_files.specs.Link.{FollowedLink}
 use Rattle.found_files.proofs.links.led_by.Goals as goal
 
 pub returns-in_ok-file-in-Some-Link : goal.returns-in_ok-file-in-Some-Link
@@ -17,4 +18,5 @@ returns-in_ok-file-in-Some-Link c =
     let named : is_library_name c.args.name.now ≡ true = search rules in
     let leads = c.in_ok-file-in-Some-Link.ensures.file c.args.name.now c.requires.dir c.requires.name (sym c.requires.node ∙ link) in
     let is = link_same t c.args.folder.now (c.args.name.now, option_copied c.args.node) c.requires ∙ ap (λ b. cond b (Some path) None) (and_from _ _ named (ap is_link_node link)) in
-    ap Some leads ∙ sym (ap (option_map (file_at t)) is)
+    let link : Option (List ℕ) → FollowedLink = λ file. record { name = c.args.name.now; file = file } in
+    ap (option_map (λ path. link (file_at t path))) is ∙ sym (ap (λ file. Some (link file)) leads)

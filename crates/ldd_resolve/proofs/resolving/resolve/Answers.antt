@@ -17,6 +17,12 @@ returns-in_err-path-clause-reads g c =
     let st = g.S.Store.state c.args.store.now in
     rw same (none_begun c.args.tree.now (option_copied c.args.cache) c.args.program.now c.args.env.now st.held st)
 
+pub returns-in_err-real-clause-reads : goal.returns-in_err-real-clause-reads
+returns-in_err-real-clause-reads g c =
+    let same : c.from_residual-in_err-real.result ≡ Err NoMemory = search rules in
+    let st = g.S.Store.state c.args.store.now in
+    rw same (none_begun c.args.tree.now (option_copied c.args.cache) c.args.program.now c.args.env.now st.held st)
+
 pub returns-in_err-object-clause-no_program : goal.returns-in_err-object-clause-no_program
 returns-in_err-object-clause-no_program g c =
     let t = c.args.tree.now in

@@ -25,14 +25,11 @@ returns c t place links files are =
     let what = analysis_at c.args.table.now in
     let folder = c.in_ok-folder.folder in
     let same : folder ≡ place.real = c.in_ok-folder.ensures ∙ c.as_bytes-2.ensures ∙ ap (λ (l : FolderLinks). l.folder) links in
-    let winners = ap length (c.in_ok-winners.ensures t place links files) in
-    let first : c.len.result ≡ length c.in_ok-winners.winners.items = search rules in
-    let second : c.len-2.result ≡ length c.in_ok-winners.winners.items = search rules in
-    let count : c.len.result ≡ length (winners_in what t place) = first ∙ winners in
-    let put : c.insert.new.self.entries ≡ insert_entry bytes_eq c.args.counts.now.entries folder c.len.result = c.in_ok-insert.ensures.entries in
-    let here : c.insert.new.self.entries ≡ insert_entry bytes_eq c.args.counts.now.entries place.real c.len.result =
-    put ∙ ap (λ (path : List ℕ). insert_entry bytes_eq c.args.counts.now.entries path c.len.result) same in
+    let count : c.in_ok-count.count ≡ length (winners_in what t place) = c.in_ok-count.ensures ∙ ap length (c.in_ok-winners.ensures t place links files) in
+    let put : c.insert.new.self.entries ≡ insert_entry bytes_eq c.args.counts.now.entries folder c.in_ok-count.count = c.in_ok-insert.ensures.entries in
+    let here : c.insert.new.self.entries ≡ insert_entry bytes_eq c.args.counts.now.entries place.real c.in_ok-count.count =
+    put ∙ ap (λ (path : List ℕ). insert_entry bytes_eq c.args.counts.now.entries path c.in_ok-count.count) same in
     record {
-      count_is = second ∙ winners;
-      counts_are = subst (λ counts. AreCounts what t counts) (sym here) (counts_put what t place.real c.args.counts.now.entries c.len.result are count);
+      count_is = count;
+      counts_are = subst (λ counts. AreCounts what t counts) (sym here) (counts_put what t place.real c.args.counts.now.entries c.in_ok-count.count are count);
     }

@@ -1,8 +1,12 @@
-use Rattle.std.proofs.Common.{◌≡◌, ◌++◌, drop, map}
+use Rattle.std.proofs.Common.{◌≡◌, ◌≤◌, ◌+◌, ◌++◌, length, map}
+use Rattle.cache_writer.specs.declared.writer.TheConstants.{ENTRIES_MAX}
 use Rattle.winning_entries.specs.Entries.{entry_of}
 use Rattle.winning_entries.proofs.listing.add_entries.Given as goal
 
 -- the winners that are left give the rest
 abbrev pub invariant-loop-winner : goal.invariant-loop-winner
-invariant-loop-winner l =
-    l.entries.items ++ map (entry_of l.tree l.number l.place) (drop l.winner-index l.winners) ≡ l.fn.entries.items ++ map (entry_of l.tree l.number l.place) l.winners
+invariant-loop-winner l = record {
+  count : l.found.count + length l.winner-iterator ≡ l.fn.found.count + length l.winners;
+  kept : l.found.count ≤ ENTRIES_MAX → l.found.entries.items ++ map (entry_of l.tree l.number l.place) l.winner-iterator ≡ l.fn.found.entries.items ++ map (entry_of l.tree l.number l.place) l.winners;
+  winners : l.found.winners ≡ l.fn.found.winners;
+}

@@ -13,7 +13,7 @@ returns-in-Some c =
     let path = c.args.path.now in
     let at = index_of c.args.runs.now.items c.args.behind in
     let there = c.in-Some.ensures in
-    let next = λ (d : List ℕ × Node). ap (λ (e : List ℕ × Node). is_above path e.0) (there.same d) ∙ sym (c.is_above.ensures ∙ ap (is_above path) c.path.ensures) in
+    let next = λ (d : List ℕ × Node). ap (λ (e : List ℕ × Node). is_above path e.0) (there.same d) ∙ sym c.is_above.ensures in
     by_test c.is_above.result
     (λ e. e ∙ sym (something_above t path c.requires.path at c.requires.behind c.requires.runs.tree ([], Dir) there.within (next ([], Dir) ∙ e)))
     (λ e. e ∙ sym (nothing_above t path c.requires.path at c.requires.behind c.requires.runs.tree there.within (λ d. next d ∙ e)))

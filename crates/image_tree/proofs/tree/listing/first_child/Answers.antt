@@ -11,16 +11,16 @@ use Rattle.image_tree.proofs.tree.listing.first_child.Goals as goal
 pub skip_child-requires : goal.skip_child-requires
 skip_child-requires c =
     let folder = c.args.folder.now in
-    let e : List ℕ × Node = (c.in_ok-first.first.now.0, c.in_ok-first.first.now.1) in
-    let starts : starts_with nat_eq e.0 folder ≡ true = ap (λ p. starts_with nat_eq p folder) (sym c.path.ensures) ∙ sym c.begins_with.ensures ∙ c.if-not-begins_with.false in
+    let e : List ℕ × Node = (c.in_ok-first.first.path.now, c.in_ok-first.first.node.now) in
+    let starts : starts_with nat_eq e.0 folder ≡ true = sym c.begins_with.ensures ∙ c.if-not-begins_with.false in
     behind_child folder _ _ e c.in_ok-first.others c.path_of_child-path.ensures starts (ap (λ (x : List ℕ × Option Node). x.0) c.child_at-child.ensures)
     (subst IsPathSorted c.in_ok-first.ensures c.requires)
 
 pub returns-clause-children : goal.returns-clause-children
 returns-clause-children c =
     let folder = c.args.folder.now in
-    let e : List ℕ × Node = (c.in_ok-first.first.now.0, c.in_ok-first.first.now.1) in
-    let starts : starts_with nat_eq e.0 folder ≡ true = ap (λ p. starts_with nat_eq p folder) (sym c.path.ensures) ∙ sym c.begins_with.ensures ∙ c.if-not-begins_with.false in
+    let e : List ℕ × Node = (c.in_ok-first.first.path.now, c.in_ok-first.first.node.now) in
+    let starts : starts_with nat_eq e.0 folder ≡ true = sym c.begins_with.ensures ∙ c.if-not-begins_with.false in
     let child = c.child_at-child.result in
     let node = option_copied child.1 in
     ap (λ t. dedup is_same_child (children_behind folder t)) c.in_ok-first.ensures

@@ -7,13 +7,13 @@ use Rattle.image_tree.specs.Runs.{children_behind, is_same_child}
 use Rattle.image_tree.proofs.tree.listing.skip_child.Goals as goal
 
 pub from_last_run-rest-requires : goal.from_last_run-rest-requires
-from_last_run-rest-requires c = behind_tail c.args.child.now (c.in-Some.entry.now.0, c.in-Some.entry.now.1) _ (subst (AreSortedBehind c.args.child.now) c.in-Some.ensures c.loop-entry.invariant.sorted)
+from_last_run-rest-requires c = behind_tail c.args.child.now (c.in-Some.entry.path.now, c.in-Some.entry.node.now) _ (subst (AreSortedBehind c.args.child.now) c.in-Some.ensures c.loop-entry.invariant.sorted)
 
 pub loop-entry-preserved : goal.loop-entry-preserved
 loop-entry-preserved c = record {
   sorted = c.from_last_run-rest.ensures.sorted;
   same = λ folder name node whole.
       c.from_last_run-rest.ensures.same folder name node whole
-      ∙ sym (child_skipped folder name node (c.in-Some.entry.now.0, c.in-Some.entry.now.1) c.in-Some.more (search rules))
+      ∙ sym (child_skipped folder name node (c.in-Some.entry.path.now, c.in-Some.entry.node.now) c.in-Some.more (search rules))
       ∙ ap (λ t. dedup_from is_same_child (name, node) (children_behind folder t)) (sym c.in-Some.ensures) ∙ c.loop-entry.invariant.same folder name node whole;
 }

@@ -9,7 +9,7 @@ pub returns-clause-done : goal.returns-clause-done
 returns-clause-done c =
     let p = c.args.place in
     let r = c.requires.place in
-    ap joined c.in_ok-insert_in_run.ensures.done ∙ inserted_in_run c.args.runs.now.items p.run p.at r.run c.args.entry r.at
+    ap joined c.in_ok-insert_in_run.ensures.done ∙ inserted_in_run c.args.runs.now.items p.run p.at r.run (c.args.path.now, c.args.node) r.at
 
 pub returns-clause-runs : goal.returns-clause-runs
 returns-clause-runs c =
@@ -17,6 +17,6 @@ returns-clause-runs c =
     let p = c.args.place in
     let r = c.requires.place in
     let run = get_or runs p.run [] in
-    let l = length-insert run p.at c.args.entry r.at in
+    let l = length-insert run p.at (c.args.path.now, c.args.node) r.at in
     let room = r.room in
-    ap are_runs c.in_ok-insert_in_run.ensures.done ∙ all_set is_run runs p.run _ c.requires.runs (is_run_from (insert run p.at c.args.entry) (omega arith) (omega arith))
+    ap are_runs c.in_ok-insert_in_run.ensures.done ∙ all_set is_run runs p.run _ c.requires.runs (is_run_from (insert run p.at (c.args.path.now, c.args.node)) (omega arith) (omega arith))

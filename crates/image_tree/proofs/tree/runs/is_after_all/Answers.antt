@@ -20,5 +20,5 @@ returns-in-Some c = λ after.
     let b = c.in-Some.ensures in
     let last : path_cmp (get_or t b.i d).0 c.args.path.now ≡ Less =
     ap (λ (e : List ℕ × Node). path_cmp e.0 c.args.path.now) (b.entry.same d)
-    ∙ sym (c.compare.ensures ∙ ap (λ p. path_cmp p c.args.path.now) c.path.ensures) ∙ less c.compare.result (sym c.is_lt.ensures ∙ after) in
+    ∙ sym c.compare.ensures ∙ less c.compare.result (sym c.is_lt.ensures ∙ after) in
     gap_at_end t c.args.path.now (index_of c.args.runs.now.items c.args.end) b.i d c.requires.sorted (sym c.requires.index ∙ b.next) last c.requires.index

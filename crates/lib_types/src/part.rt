@@ -1,0 +1,47 @@
+//! Bytes that are a part of a longer text.
+ghost use Rattle.std.specs.Prelude.{◌≡◌, ◌++◌, IfOk, OnErr, OnOk, length};
+ghost use Rattle.lib_types.specs.Part.{part_of, IsLonger, IsWithin};
+
+use crate::NoMemory;
+
+/// Where some bytes are in a text: many names or paths that are kept in one text take no block of memory each. The offsets have four
+/// bytes, since there are as many parts as names in an image.
+#[derive(Clone, Copy)]
+pub struct Part {
+    pub from: u32,
+    pub to: u32,
+}
+
+// An offset in four bytes. For a text of more bytes than these count there is no memory.
+fn offset(at: usize) -> Result<u32, NoMemory>
+    ensures { IfOk result (λ offset. offset ≡ at) }
+{
+    u32::try_from(at).map_err(|_| NoMemory)
+}
+
+impl Part {
+    /// The bytes, which are in this text.
+    pub fn bytes_in(self, text: &[u8]) -> &[u8]
+        requires { IsWithin (length text.now) self }
+        ensures { result.now ≡ part_of text.now self }
+    {
+        &text[self.from as usize..self.to as usize]
+    }
+
+    /// Adds bytes to a text, at its end, and gives where they are.
+    #[tactic(auto, using(crate::proofs::Parts::added_is, crate::proofs::Parts::added_within, crate::proofs::Parts::not_longer))]
+    pub fn add(text: &mut Vec<u8>, bytes: &[u8]) -> Result<Part, NoMemory>
+        ensures longer { IsLonger text.old.items text.new.items }
+        ensures added { OnOk result (text.new.items ≡ text.old.items ++ bytes.now) }
+        ensures within { IfOk result (IsWithin (length text.new.items)) }
+        ensures part { IfOk result (λ part. part_of text.new.items part ≡ bytes.now) }
+        ensures refused { OnErr result (text.new.items ≡ text.old.items) }
+    {
+        let part = Part {
+            from: offset(text.len())?,
+            to: offset(text.len() + bytes.len())?,
+        };
+        text.extend_from_slice(bytes)?;
+        Ok(part)
+    }
+}
