@@ -2,7 +2,6 @@
 use Rattle.std.proofs.Common.{◌≡◌, ℕ, Bool, true, cond, ◌&&◌, List, [], ◌∷◌, map, refl, ap, sym, ◌∙◌, Option, Some, None}
 use Rattle.std.proofs.lemmas.Bool.{and_parts}
 use Rattle.std.specs.List.{AllByRecursion, cons_option, dedup, filter_map, list_all}
-use Rattle.std.specs.Option.{option_and_then}
 use Rattle.std.specs.Str.{bytes_eq}
 use Rattle.hwcap_dirs.proofs.Children.{children_named}
 use Rattle.lib_types.specs.Name.{is_name}
@@ -16,10 +15,8 @@ use Rattle.image_tree.specs.declared.node.Node.{Node}
 use Rattle.image_tree.specs.declared.node.Node.TheVariants as node
 use Rattle.image_tree.specs.declared.tree.Kind.{Kind}
 use Rattle.image_tree.specs.declared.tree.Kind.TheVariants as kinds
-use Rattle.found_files.specs.Children.{IsChild, file_of, is_file_node, is_link_node, library_of}
-use Rattle.found_files.specs.Libraries.{library_at, library_in}
-use Rattle.found_files.specs.Search.{file_in, is_link, link_in}
-use Rattle.found_files.specs.Analyses.{Analyses}
+use Rattle.found_files.specs.Children.{IsChild, is_file_node, is_link_node}
+use Rattle.found_files.specs.Search.{is_link, link_in}
 
 -- ---- the kind of a path by its node
 
@@ -49,12 +46,6 @@ link_node (node.Link target) = refl
 pub file_there : (t : Nodes) → IsTree t → (path : List ℕ) → is_file (kind_at t path) ≡ is_file_node (node_at t path)
 file_there t tree path = by_node is_file is_file_node refl refl file_node t tree path (node_at t path) refl
 
-module _ (t : Nodes) (tree : IsTree t) (folder name : List ℕ) where
-  file_same : file_of folder (name, node_at t (join folder name)) ≡ file_in t folder name
-  file_same =
-      ap (λ b. cond (is_library_name name && b) (Some (join folder name)) None)
-      (sym (file_there t tree (join folder name)))
-
 -- the link of a child
 pub link_same : (t : Nodes) (folder : List ℕ) (child : List ℕ × Option Node) → IsChild t folder child
     → link_in t folder child.0 ≡ cond (is_library_name child.0 && is_link_node child.1) (Some (join folder child.0)) None
@@ -68,15 +59,6 @@ module _ {Y : Type 0} (t : Nodes) (folder : List ℕ) (f : List ℕ × Option No
   all_same : (names : List (List ℕ)) → filter_map f (map (λ name. (name, node_at t (join folder name))) names) ≡ filter_map g names
   all_same [] = refl
   all_same (name ∷ names) = ap (λ o. cons_option o (filter_map f (map (λ name. (name, node_at t (join folder name))) names))) (same name) ∙ ap (cons_option (g name)) (all_same names)
-
-pub files_listed : (t : Nodes) (folder : List ℕ) → IsTree t → filter_map (file_of folder) (listing_of t folder) ≡ filter_map (file_in t folder) (children_of t folder)
-files_listed t folder tree = all_same t folder (file_of folder) (file_in t folder) (file_same t tree folder) (children_of t folder)
-
-pub libraries_listed : (what : Analyses) (t : Nodes) (folder : List ℕ) → IsTree t
-    → filter_map (library_of what folder) (listing_of t folder) ≡ filter_map (library_in what t folder) (children_of t folder)
-libraries_listed what t folder tree =
-    all_same t folder (library_of what folder) (library_in what t folder)
-    (λ name. ap (option_and_then (λ path. library_at what path name name)) (file_same t tree folder name)) (children_of t folder)
 
 pub names_listed : {Y : Type 0} (t : Nodes) (folder : List ℕ) (g : List ℕ → Option Y) → filter_map (λ child. g child.0) (listing_of t folder) ≡ filter_map g (children_of t folder)
 names_listed t folder g = all_same t folder (λ child. g child.0) g (λ name. refl) (children_of t folder)

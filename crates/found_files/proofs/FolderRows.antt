@@ -1,5 +1,5 @@
 -- The folders that places are: one place more, and what is made of each.
-use Rattle.std.proofs.Common.{◌≡◌, ◌⊎◌, inl, inr, get_or, ◌<◌, ◌≤◌, ◌+◌, ◌||◌, ℕ, zero, suc, Bool, true, false, cond, not, nat_eq, List, [], ◌∷◌, ◌++◌, length, map, take, refl, ap, sym, subst, ◌∙◌, Some, arith}
+use Rattle.std.proofs.Common.{◌≡◌, ◌⊎◌, inl, inr, get_or, ◌<◌, ◌≤◌, ◌+◌, ◌||◌, ℕ, zero, suc, Bool, true, false, cond, not, nat_eq, List, [], ◌∷◌, ◌++◌, length, map, take, refl, ap, sym, subst, ◌∙◌, Option, Some, None, MatchOption, arith}
 use Rattle.std.proofs.lemmas.Bool.{cases_lt, or_left, or_parts, or_right}
 use Rattle.std.proofs.lemmas.Bool.Decides.{nat_tests}
 use Rattle.std.proofs.lemmas.List.{append-nil, length-append, length-map, map-append, take_more}
@@ -10,6 +10,7 @@ use Rattle.std.proofs.lemmas.List.Sums.{fold-append}
 use Rattle.std.proofs.lemmas.Option.{slice_get-get_or, slice_get_within}
 use Rattle.std.proofs.lemmas.Slice.Eq.{bytes_eq-Decides}
 use Rattle.std.specs.List.{cons_option, flat_map, list_any, position, position_or_len, slice_get}
+use Rattle.std.specs.Option.{is_some}
 use Rattle.std.specs.Str.{bytes_eq}
 use Rattle.hwcap_dirs.specs.declared.kinds.Place.{Place}
 use Rattle.lib_types.proofs.SortedPairs.{by_test}
@@ -76,6 +77,12 @@ module _ (old : List (List ℕ)) (path : List ℕ) (row : ℕ) where
         (λ h. inl (keys ∙ ap (λ b. cond b old (old ++ path ∷ [])) h))
         (λ h. inr ((keys ∙ ap (λ b. cond b old (old ++ path ∷ [])) h), (at ∙ row_last (bytes_eq path) old h)));
   }
+
+-- a row that a search gives has the text, and if it gives none the text isn't there
+pub row_or_none : (texts : List (List ℕ)) (text : List ℕ) (o : Option ℕ) → o ≡ position (bytes_eq text) texts → is_some o ≡ list_any (bytes_eq text) texts
+    → MatchOption o (list_any (bytes_eq text) texts ≡ false) (λ row. slice_get texts row ≡ Some text)
+row_or_none texts text None at there = sym there
+row_or_none texts text (Some row) at there = (row_found texts text row (sym at)).stored
 
 -- ---- one path more
 

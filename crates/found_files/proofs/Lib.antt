@@ -1,12 +1,17 @@
+pub mod Among
 pub mod Analysed
 pub mod Children
+mod Copied
 pub mod Counted
 pub mod EachOnce
 pub mod Either
 pub mod FolderRows
 mod Folders
+mod FoundIn
+mod FoundOnce
 pub mod Gathered
 pub mod InOrder
+pub mod Last
 mod LinkRows
 pub mod Members
 pub mod Named
@@ -14,4 +19,5 @@ pub mod NoOtherFiles
 mod OneText
 pub mod Ordered
 mod Rows
+mod Spread
 pub mod Unread

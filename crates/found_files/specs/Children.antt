@@ -1,6 +1,5 @@
 -- A name in a directory by its node.
-use Rattle.std.specs.Prelude.{◌≡◌, ℕ, Bool, true, false, List, ◌&&◌, if◌then◌else◌, Option, Some, None}
-use Rattle.std.specs.Option.{option_and_then}
+use Rattle.std.specs.Prelude.{◌≡◌, ℕ, Bool, true, false, List, if◌then◌else◌, Option, Some, None}
 use Rattle.lib_types.specs.Name.{is_name}
 use Rattle.name_order.specs.LibraryName.{is_library_name}
 use Rattle.image_tree.specs.Paths.{join}
@@ -8,9 +7,7 @@ use Rattle.image_tree.specs.Tree.{Nodes, IsTree, kind_at, node_at}
 use Rattle.image_tree.specs.declared.node.Node.{Node}
 use Rattle.image_tree.specs.declared.node.Node.TheVariants as node
 use Rattle.image_tree.specs.declared.tree.Kind.TheVariants.{Dir}
-use Rattle.found_files.specs.Libraries.{library_at}
-use Rattle.found_files.specs.Analyses.{Analyses}
-use Rattle.found_files.specs.Library.{Library}
+use Rattle.found_files.specs.FoundFile.{FoundFile}
 
 -- the name stands in the directory with this node
 pub record IsChild (t : Nodes) (folder : List ℕ) (child : List ℕ × Option Node) : Type 0 where
@@ -31,10 +28,17 @@ is_link_node (Some (node.File key id)) = false
 is_link_node (Some node.Dir) = false
 is_link_node None = false
 
--- the path of a child, if it is a file with a library name
-abbrev pub file_of : List ℕ → List ℕ × Option Node → Option (List ℕ)
-file_of folder child = if is_library_name child.0 && is_file_node child.1 then Some (join folder child.0) else None
+-- the file at a path with this node, if it is one
+abbrev pub file_with : List ℕ → Option Node → Option FoundFile
+file_with path (Some (node.File key id)) = Some (record { path = path; key = key; id = id })
+file_with path (Some (node.Link target)) = None
+file_with path (Some node.Dir) = None
+file_with path None = None
 
--- the library that a child is
-abbrev pub library_of : Analyses → List ℕ → List ℕ × Option Node → Option Library
-library_of what folder child = option_and_then (λ path. library_at what path child.0 child.0) (file_of folder child)
+-- the file that a child is, if it has a library name
+abbrev pub found_of : List ℕ → List ℕ × Option Node → Option FoundFile
+found_of folder child = if is_library_name child.0 then file_with (join folder child.0) child.1 else None
+
+-- the file at a path, if one is there
+abbrev pub file_there : Nodes → List ℕ → Option FoundFile
+file_there t path = file_with path (node_at t path)

@@ -2,6 +2,7 @@ pub mod Analyses
 pub mod Best
 pub mod Children
 pub mod Folders
+pub mod FoundFile
 pub mod Libraries
 pub mod Library
 pub mod Link
@@ -11,6 +12,7 @@ pub mod Order
 pub mod Pick
 pub mod Places
 pub mod RealFolders
+pub mod Rows
 pub mod Search
 pub mod Shared
 pub mod Sonames

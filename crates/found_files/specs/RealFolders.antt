@@ -17,7 +17,7 @@ pub record HaveRows (paths folders : List (List ℕ)) (indices : List ℕ) : Typ
   pub are : taken folders indices ≡ paths
 
 abbrev pub AreFolders : List (List ℕ) → RealFolders → Type 0
-AreFolders paths found = HaveRows paths found.paths found.rows
+AreFolders paths found = HaveRows paths found.paths.keys found.rows
 
 -- what a private function says: a path's row is where it was, or behind what was there
 pub record IsRowOf (old : List (List ℕ)) (path : List ℕ) (row : ℕ) (new : List (List ℕ)) : Type 0 where

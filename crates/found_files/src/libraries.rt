@@ -1,17 +1,16 @@
-//! The libraries of a place.
-ghost use Rattle.std.specs.Prelude.{◌≡◌, IfOk, unwrap_or};
-ghost use Rattle.std.specs.Option.{option_copied};
-ghost use Rattle.found_files.specs.Children.{is_file_node, library_of};
-ghost use Rattle.found_files.specs.Libraries.{libraries_at, library_at, library_by};
-ghost use Rattle.found_files.specs.Table.{analysis_at};
+//! The libraries of folders.
+ghost use Rattle.std.specs.List.{list_any, slice_get, slice_index_or, slice_set, IsDistinct};
+ghost use Rattle.std.specs.Prelude.{◌≡◌, ◌<◌, [], ◌∷◌, ◌++◌, Some, false, IfOk, MatchOption, OnOk, length, map, unwrap_or};
+ghost use Rattle.std.specs.Str.{bytes_eq};
+ghost use Rattle.found_files.specs.Libraries.{library_by};
+ghost use Rattle.found_files.specs.Rows.{libraries_among, with_row};
 
 use crate::table::Table;
-use lib_types::{Abi, Analysis, NoMemory, Text};
-use name_order::is_library_name;
-use path_walk::join_into;
+use indexmap::IndexSet;
+use lib_types::{Abi, Analysis, NoMemory, Seq, Text, TextRef, are_same};
+use path_walk::parted;
 use std::alloc::Global;
 use std::marker::Model;
-use tree_face::{Node, Tree};
 
 /// A library of a place: the name of its file or of a link to it, and the soname by which it is looked up. Both stay where they
 /// are, in the tree and in the analyses.
@@ -62,63 +61,81 @@ fn library_by<'a>(name: &'a [u8], own: &'a [u8], analysis: &'a Analysis) -> Opti
     }
 }
 
-// What a name is the name of, given the path of the file to which it leads and the file's own name.
-fn library_at<'a>(
-    table: &'a Table,
-    path: &[u8],
-    name: &'a [u8],
-    own: &'a [u8],
-) -> Option<Library<'a>>
-    ensures { result ≡ library_at (analysis_at table.now) path.now name.now own.now }
+// The row of a folder, looked for first in this row: files are gone through folder by folder.
+fn row_of(folders: &IndexSet<Text>, near: usize, folder: &[u8]) -> Option<usize>
+    ensures row { MatchOption result (list_any (bytes_eq folder.now) folders.now.keys ≡ false) (λ row. slice_get folders.now.keys row ≡ Some folder.now) }
+    ensures distinct { IsDistinct bytes_eq folders.now.keys }
 {
-    match table.get(path) {
-        Some(analysis) => library_by(name, own, analysis),
-        None => None,
-    }
-}
-
-fn is_file_node(node: Option<&Node>) -> bool
-    ensures { result ≡ is_file_node (option_copied node.entry) }
-{
-    match node {
-        Some(Node::File { .. }) => true,
-        _ => false,
-    }
-}
-
-// The library that a child with this node is. The path is room for the child's.
-fn library_of<'a>(
-    table: &'a Table,
-    folder: &[u8],
-    name: &'a [u8],
-    node: Option<&Node>,
-    path: &mut Vec<u8>,
-) -> Result<Option<Library<'a>>, NoMemory>
-    ensures { IfOk result (λ library. library ≡ library_of (analysis_at table.now) folder.now (name.now, option_copied node.entry)) }
-{
-    if !is_file_node(node) || !is_library_name(name) {
-        return Ok(None);
-    }
-    join_into(path, folder, name)?;
-    Ok(library_at(table, path, name, name))
-}
-
-/// The files with library names in a folder that are libraries.
-#[tactic(auto, using(crate::proofs::Children::libraries_listed))]
-pub fn libraries_at<'a>(
-    alloc: Global,
-    tree: &'a Tree,
-    table: &'a Table,
-    folder: &[u8],
-) -> Result<Vec<Library<'a>>, NoMemory>
-    ensures { IfOk result (λ libraries. libraries.items ≡ libraries_at (analysis_at table.now) tree.now folder.now) }
-{
-    let mut libraries = Vec::new(alloc);
-    let mut path = Vec::new(alloc);
-    for (name, node) in tree.listing(folder) {
-        if let Some(library) = library_of(table, folder, name, node, &mut path)? {
-            libraries.push(library)?;
+    if near < folders.len() {
+        if let Some(text) = folders.get_index(near) {
+            if are_same(text.as_bytes(), folder) {
+                return Some(near);
+            }
         }
     }
-    Ok(libraries)
+    folders.get_index_of(TextRef { bytes: folder })
+}
+
+// Adds a library behind those in this row.
+fn push_at<'a>(
+    found: &mut Vec<Seq<Library<'a>>>,
+    row: usize,
+    library: Library<'a>,
+) -> Result<(), NoMemory>
+    requires { row < length found.old.items }
+    ensures { OnOk result (found.new.items ≡ slice_set found.old.items row (slice_index_or found.old.items row [] ++ library.entry ∷ [])) }
+{
+    found[row].push(library)
+}
+
+// Adds the library of a table's row to those of its folder, if it is one of these. The number of the folder's row is kept.
+#[tactic(auto, using(crate::proofs::Spread::row_none, crate::proofs::Spread::row_away, crate::proofs::Spread::row_added))]
+fn add_row<'a>(
+    folders: &IndexSet<Text>,
+    near: &mut usize,
+    path: &'a [u8],
+    analysis: &'a Analysis,
+    found: &mut Vec<Seq<Library<'a>>>,
+) -> Result<(), NoMemory>
+    requires { length found.old.items ≡ length folders.now.keys }
+    ensures { OnOk result (found.new.items ≡ with_row (path.now, analysis.now) folders.now.keys found.old.items) }
+{
+    let (folder, name) = parted(path);
+    let Some(library) = library_by(name, name, analysis) else {
+        return Ok(());
+    };
+    let Some(row) = row_of(folders, *near, folder) else {
+        return Ok(());
+    };
+    *near = row;
+    push_at(found, row, library)?;
+    Ok(())
+}
+
+// No libraries for each of these folders.
+fn none_each<'a>(alloc: Global, folders: &[Text]) -> Result<Vec<Seq<Library<'a>>>, NoMemory>
+    ensures { IfOk result (λ found. found.items ≡ map (libraries_among []) folders.now) }
+{
+    let mut found = Vec::with_capacity(alloc, folders.len())?;
+    for _folder in folders {
+        found.push(Seq::new(alloc))?;
+    }
+    Ok(found)
+}
+
+/// The libraries of each of these folders among the files of a table, in the order of its rows.
+#[tactic(auto, using(crate::proofs::Spread::all_rows, crate::proofs::Spread::as_many))]
+pub fn libraries_in<'a>(
+    alloc: Global,
+    folders: &IndexSet<Text>,
+    table: &'a Table,
+) -> Result<Vec<Seq<Library<'a>>>, NoMemory>
+    ensures { IfOk result (λ found. found.items ≡ map (libraries_among table.now) folders.now.keys) }
+{
+    let mut found = none_each(alloc, folders.as_slice())?;
+    let mut near = 0;
+    for (path, analysis) in table.iter() {
+        add_row(folders, &mut near, path.as_bytes(), analysis, &mut found)?;
+    }
+    Ok(found)
 }

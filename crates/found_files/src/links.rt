@@ -4,6 +4,7 @@ ghost use Rattle.std.specs.Prelude.{◌≡◌, ◌∷◌, ◌++◌, [], IfOk, Li
 ghost use Rattle.hwcap_dirs.specs.declared.kinds.Place.{Place};
 ghost use Rattle.image_tree.specs.Tree.{Nodes};
 ghost use Rattle.found_files.specs.Children.{IsChild};
+ghost use Rattle.found_files.specs.FoundFile.{paths_of, AreFilesOf};
 ghost use Rattle.found_files.specs.Folders.{by_folder, dangling_in_order, dangling_of};
 ghost use Rattle.found_files.specs.Order.{ascending};
 ghost use Rattle.found_files.specs.Analyses.{unread};
@@ -12,6 +13,7 @@ ghost use Rattle.found_files.specs.Table.{analysis_at};
 ghost use Rattle.found_files.specs.Unread.{unread_file, unread_of};
 
 use crate::followed::{FollowedLink, FollowedLinks};
+use crate::found::{FoundFile, files_there};
 use crate::order::ascending;
 use crate::reals::real_folders;
 use crate::shared::Shared;
@@ -149,11 +151,30 @@ fn unread_in(alloc: Global, folders: &[FolderLinks], table: &Table) -> Result<Te
 
 /// Those of the files to which the links of the places lead that have no analysis: their paths without links, by their bytes, each
 /// once. Most links lead to files that were read before, so few paths are copied and sorted.
-pub fn unread_behind(alloc: Global, links: &PlaceLinks, table: &Table) -> Result<Texts, NoMemory>
+fn unread_behind(alloc: Global, links: &PlaceLinks, table: &Table) -> Result<Texts, NoMemory>
     ensures { (t : Nodes) (places : List Place) → links.now ≡ followed t places → IfOk result (λ paths. paths ≡ unread (analysis_at table.now) (reached t places)) }
 {
     let paths = unread_in(alloc, links.each_once(), table)?;
     Ok(paths)
+}
+
+/// The same, each with what the tree says of it.
+#[tactic(auto, using(crate::proofs::FoundIn::all_reached))]
+pub fn unread_files<'a>(
+    alloc: Global,
+    tree: &'a Tree,
+    dirs: &Dirs,
+    links: &PlaceLinks,
+    table: &Table,
+) -> Result<Vec<FoundFile<'a>>, NoMemory>
+    requires { links.now ≡ followed tree.now dirs.now.places }
+    ensures paths { IfOk result (λ files. paths_of files.items ≡ unread (analysis_at table.now) (reached tree.now dirs.now.places)) }
+    ensures files { IfOk result (λ files. AreFilesOf tree.now files.items) }
+{
+    tree.know();
+    let paths = unread_behind(alloc, links, table)?;
+    let files = files_there(alloc, tree, paths)?;
+    Ok(files)
 }
 
 /// The files to which links with library names in the places lead: their paths without links, by their bytes, each once.

@@ -11,7 +11,7 @@ use std::alloc::Global;
 #[derive(Drop)]
 pub struct RealFolders {
     /// Their paths without links, each once, in the order of their first places.
-    pub paths: Texts,
+    pub paths: IndexSet<Text>,
     /// The index of each place's folder among them.
     pub rows: Seq<usize>,
 }
@@ -28,8 +28,8 @@ fn row_of(alloc: Global, met: &mut IndexSet<Text>, path: &[u8]) -> Result<usize,
     Ok(row)
 }
 
-// The texts of a set.
-fn texts_of(alloc: Global, met: IndexSet<Text>) -> Result<Texts, NoMemory>
+/// The texts of a set.
+pub(crate) fn texts_of(alloc: Global, met: IndexSet<Text>) -> Result<Texts, NoMemory>
     ensures { IfOk result (λ texts. texts ≡ met.keys) }
 {
     let mut texts = Texts::new(alloc);
@@ -48,6 +48,5 @@ pub fn real_folders(alloc: Global, dirs: &Dirs) -> Result<RealFolders, NoMemory>
     for place in dirs.places.as_slice() {
         rows.push(row_of(alloc, &mut met, place.real.as_bytes())?)?;
     }
-    let paths = texts_of(alloc, met)?;
-    Ok(RealFolders { paths, rows })
+    Ok(RealFolders { paths: met, rows })
 }

@@ -1,21 +1,41 @@
 //! The analyses of files by their paths.
 ghost use Rattle.std.specs.Prelude.{◌≡◌, [], Some, IfOk, IfSome, IsTrue, OnOk, OnErr};
 ghost use Rattle.std.specs.Option.{option_copied, option_map};
-ghost use Rattle.found_files.specs.Analyses.{has_name, HaveNames};
-ghost use Rattle.found_files.specs.Table.{analysis_at, defective, is_defect, with_analysis};
+ghost use Rattle.std.specs.Cmp.Lexicographic.{slice_cmp};
+ghost use Rattle.std.specs.List.{IsDistinct};
+ghost use Rattle.std.specs.List.Sorted.{IsStrictlySortedBy};
+ghost use Rattle.std.specs.Map.{keys_of};
+ghost use Rattle.std.specs.Ordering.{nat_cmp};
+ghost use Rattle.std.specs.Str.{bytes_eq};
+ghost use Rattle.found_files.specs.Analyses.{has_name, AgreeOn, HaveNames};
+ghost use Rattle.found_files.specs.Rows.{analysed};
+ghost use Rattle.found_files.specs.Table.{analysis_at, with_analysis};
 
 use indexmap::IndexMap;
+use indexmap::map::Iter;
 use lib_types::{Analysis, NoMemory, Text, TextRef, are_same};
 use std::alloc::Global;
 use std::cell::Cell;
 use std::marker::Model;
 
-fn is_defect(analysis: &Analysis) -> bool
-    ensures { result ≡ is_defect analysis.now }
+fn copy_of_soname(alloc: Global, soname: &Option<Text>) -> Result<Option<Text>, NoMemory>
+    ensures { IfOk result (λ copy. copy ≡ soname.now) }
+{
+    match soname {
+        Some(soname) => Ok(Some(Text::copy_of(alloc, soname.as_bytes())?)),
+        None => Ok(None),
+    }
+}
+
+fn copy_of(alloc: Global, analysis: &Analysis) -> Result<Analysis, NoMemory>
+    ensures { IfOk result (λ copy. copy ≡ analysis.now) }
 {
     match analysis {
-        Analysis::Not(_) => true,
-        Analysis::Lib { .. } => false,
+        Analysis::Lib { abi, soname } => Ok(Analysis::Lib {
+            abi: *abi,
+            soname: copy_of_soname(alloc, soname)?,
+        }),
+        Analysis::Not(defect) => Ok(Analysis::Not(*defect)),
     }
 }
 
@@ -127,17 +147,29 @@ impl Table {
         Some(analysis)
     }
 
-    /// The paths of the files that are no libraries, in no order.
-    pub fn defective(&self, alloc: Global) -> Result<Vec<Text>, NoMemory>
-        ensures { IfOk result (λ paths. paths.items ≡ defective self.now) }
+    /// The paths and the analyses, in the order in which the paths were put.
+    pub fn iter(&self) -> Iter<'_, Text, Analysis>
+        ensures rows { result ≡ self.now }
+        ensures distinct { IsDistinct bytes_eq (keys_of self.now) }
     {
-        let mut paths = Vec::new(alloc);
-        for (path, analysis) in self.analyses.iter() {
-            if is_defect(analysis) {
-                paths.push(Text::copy_of(alloc, path.as_bytes())?)?;
+        self.analyses.iter()
+    }
+
+    /// A copy of what it says of these paths, in their order.
+    #[tactic(auto, using(crate::proofs::Copied::none_copied))]
+    pub fn copy_of(&self, alloc: Global, paths: &[Text]) -> Result<Table, NoMemory>
+        requires { IsStrictlySortedBy (slice_cmp nat_cmp) paths.now }
+        ensures rows { IfOk result (λ copy. keys_of copy ≡ analysed (analysis_at self.now) paths.now) }
+        ensures same { IfOk result (λ copy. AgreeOn paths.now (analysis_at self.now) (analysis_at copy)) }
+    {
+        self.know();
+        let mut copy = Table::new(alloc);
+        for path in paths {
+            if let Some(analysis) = self.get(path.as_bytes()) {
+                copy.insert(path.copy(alloc)?, copy_of(alloc, analysis)?)?;
             }
         }
-        Ok(paths)
+        Ok(copy)
     }
 
     /// Lets contracts know what each table meets. It does nothing.

@@ -1,9 +1,10 @@
 -- The bytes of a place before its last slash.
-use Rattle.std.proofs.Common.{◌≡◌, ◌≤◌, ◌+◌, ℕ, false, List, [], ◌∷◌, ◌++◌, length, take, get_or, Some, unwrap_or, refl, ap, sym, ◌∙◌, arith}
-use Rattle.std.proofs.lemmas.List.{take_more}
+use Rattle.std.proofs.Common.{◌≡◌, ◌≤◌, ◌+◌, ℕ, zero, suc, false, List, [], ◌∷◌, ◌++◌, drop, length, take, get_or, Some, unwrap_or, refl, ap, sym, ◌∙◌, arith}
+use Rattle.std.proofs.lemmas.List.{length-take-le, take_more}
 use Rattle.lib_types.specs.Name.{slash}
-use Rattle.image_tree.specs.Paths.{is_slash}
-use Rattle.path_walk.specs.Names.{before_last, more_before}
+use Rattle.image_tree.specs.Paths.{is_slash, root}
+use Rattle.path_walk.specs.Names.{before_last, last, more_before, parent, unless_empty}
+use Rattle.path_walk.specs.Rest.{ends_at}
 
 pub last_slash : (xs : List ℕ) → before_last (xs ++ slash ∷ []) ≡ Some xs
 last_slash [] = refl
@@ -23,3 +24,21 @@ module _ (place : List ℕ) (n m : ℕ) (less : n ≡ m + 1) (within : n ≤ len
 
   pub ends_here : get_or place m 0 ≡ slash → before_last (take n place) ≡ before_last place → unwrap_or (before_last place) [] ≡ take m place
   ends_here e h = ap (λ o. unwrap_or o []) (sym h ∙ ap before_last (cut_off ∙ ap (λ b. take m place ++ b ∷ []) e) ∙ last_slash (take m place))
+
+-- ---- the folder of a path by the number of bytes before its last slash
+
+module _ (path : List ℕ) (n : ℕ) (ends : ends_at path n) (within : n ≤ length path) where
+  -- none is before it, or there is no slash
+  pub empty_before : n ≡ 0 → parent path ≡ root
+  empty_before e = ap unless_empty (ends ∙ ap (λ m. take m path) e)
+
+  pub some_before : (n ≡ 0 → ⊥) → parent path ≡ take n path
+  some_before some = ap unless_empty ends ∙ by path n some within
+    where
+      by : (xs : List ℕ) (m : ℕ) → (m ≡ 0 → ⊥) → m ≤ length xs → unless_empty (take m xs) ≡ take m xs
+      by xs zero other le = absurd (other refl)
+      by [] (suc m) other le = absurd (omega arith)
+      by (x ∷ xs) (suc m) other le = refl
+
+  pub last_behind : last path ≡ drop (n + 1) path
+  last_behind = ap (λ front. drop (length front + 1) path) ends ∙ ap (λ m. drop (m + 1) path) (length-take-le n path within)

@@ -1,5 +1,5 @@
 -- The texts of places.
-use Rattle.std.specs.Prelude.{ℕ, List, [], ◌∷◌, if◌then◌else◌, unwrap_or, Option, Some, None}
+use Rattle.std.specs.Prelude.{ℕ, ◌+◌, List, [], ◌∷◌, if◌then◌else◌, drop, length, unwrap_or, Option, Some, None}
 use Rattle.image_tree.specs.Paths.{root, is_slash}
 
 -- the text before the last slash
@@ -18,3 +18,7 @@ unless_empty (b ∷ rest) = b ∷ rest
 
 abbrev pub parent : List ℕ → List ℕ
 parent place = unless_empty (unwrap_or (before_last place) [])
+
+-- what is behind the last slash of a path
+abbrev pub last : List ℕ → List ℕ
+last path = drop (length (unwrap_or (before_last path) []) + 1) path

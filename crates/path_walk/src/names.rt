@@ -1,10 +1,10 @@
 //! The names of a path text, and the texts of places.
-ghost use Rattle.std.specs.Prelude.{◌≡◌, ◌<◌, ◌∷◌, ◌++◌, [], None, length, position, IfSome, MatchOption, OnOk, IfOk, take};
+ghost use Rattle.std.specs.Prelude.{◌≡◌, ◌<◌, ◌≤◌, ◌∷◌, ◌++◌, [], None, length, position, IfSome, MatchOption, OnOk, IfOk, drop, take, ◌+◌};
 ghost use Rattle.std.specs.List.{slice_split};
 ghost use Rattle.std.specs.Option.{option_copied};
 ghost use Rattle.lib_types.specs.Name.{slash};
 ghost use Rattle.image_tree.specs.Paths.{is_slash, components, join};
-ghost use Rattle.path_walk.specs.Names.{parent};
+ghost use Rattle.path_walk.specs.Names.{last, parent};
 ghost use Rattle.path_walk.specs.Rest.{parts_of, names_in, ends_at};
 ghost use Rattle.path_walk.specs.Stops.{size_of};
 
@@ -81,7 +81,8 @@ pub fn enter(place: &mut Vec<u8>, name: &[u8]) -> Result<(), NoMemory>
 // How many bytes of a place are those of its folder, without the slash behind them.
 #[tactic(auto, using(crate::proofs::Folders::goes_on, crate::proofs::Folders::ends_here))]
 fn folder_len(place: &[u8]) -> usize
-    ensures { ends_at place.now result }
+    ensures ends { ends_at place.now result }
+    ensures within { result ≤ length place.now }
 {
     let mut n = place.len();
     while n > 0 {
@@ -91,6 +92,27 @@ fn folder_len(place: &[u8]) -> usize
         }
     }
     0
+}
+
+// What is behind the byte at an offset.
+fn behind(path: &[u8], n: usize) -> &[u8]
+    ensures { result.now ≡ drop (n + 1) path.now }
+{
+    if n < path.len() { &path[n + 1..] } else { b"" }
+}
+
+/// The folder of a path, and its name there: what is behind its last slash.
+#[tactic(auto, using(crate::proofs::Folders::empty_before, crate::proofs::Folders::some_before, crate::proofs::Folders::last_behind))]
+pub fn parted(path: &[u8]) -> (&[u8], &[u8])
+    ensures folder { result.0.now ≡ parent path.now }
+    ensures name { result.1.now ≡ last path.now }
+{
+    let n = folder_len(path);
+    let name = behind(path, n);
+    if n == 0 {
+        return (b"/", name);
+    }
+    (&path[..n], name)
 }
 
 /// Goes to the folder of the place; from the root to the root.

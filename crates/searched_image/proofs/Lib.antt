@@ -6,5 +6,6 @@ mod FoundParts
 mod KeysBegun
 mod KnownParts
 pub mod Limits
+mod Rows
 mod SearchParts
 pub mod StampsAgree

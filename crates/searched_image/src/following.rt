@@ -18,7 +18,7 @@ ghost use Rattle.searched_image.specs.Faults.{find_ending, is_store_fault};
 
 use crate::fault::FindFault;
 use aux_cache::Stamps;
-use found_files::{PlaceLinks, dangling_among, follow, unread_behind};
+use found_files::{PlaceLinks, dangling_among, follow, unread_files};
 use hwcap_dirs::Dirs;
 use lib_types::Texts;
 use stamped_files::{Files, read_files};
@@ -62,8 +62,8 @@ pub fn follow_links<S: Store>(
     ensures others { IfErr result (λ fault. is_store_fault fault ≡ true) }
 {
     let links = follow(alloc, tree, dirs)?;
-    let paths = unread_behind(alloc, &links, &files.table)?;
-    read_files(alloc, tree, store, loaded, paths, files)?;
+    let found = unread_files(alloc, tree, dirs, &links, &files.table)?;
+    read_files(alloc, tree, store, loaded, found, files)?;
     let dangling = dangling_among(alloc, &links)?;
     Ok(Followed { links, dangling })
 }

@@ -7,6 +7,7 @@ ghost use Rattle.stamped_files.specs.Files.{AreRead};
 ghost use Rattle.aux_cache.specs.Stamps.{HaveNames};
 ghost use Rattle.hwcap_dirs.specs.Places.{are_dirs, are_spelled};
 ghost use Rattle.found_files.specs.Analyses.{HaveAnalyses};
+ghost use Rattle.found_files.specs.Rows.{AreOfPlaces};
 ghost use Rattle.found_files.specs.Search.{wanted};
 ghost use Rattle.found_files.specs.Table.{analysis_at};
 ghost use Rattle.stamped_files.specs.Stamped.{IfHonest};
@@ -15,7 +16,7 @@ ghost use Rattle.searched_image.specs.Found.{IsSearched, ReadsSearch};
 
 use crate::fault::FindFault;
 use aux_cache::Stamps;
-use found_files::wanted;
+use found_files::wanted_files;
 use hwcap_dirs::{Dirs, order};
 use ldso_conf::{Conf, read_conf};
 use stamped_files::{Files, read_files};
@@ -48,14 +49,15 @@ pub fn search_image<S: Store>(
     ensures all { IfOk result (λ search. HaveAnalyses (analysis_at search.files.table) (wanted tree.now search.dirs.places)) }
     ensures only { IfOk result (λ search. (path : List ℕ) → list_any (bytes_eq path) (keys_of search.files.table) ≡ true →
         list_any (bytes_eq path) (wanted tree.now search.dirs.places) ≡ true) }
+    ensures rows { IfOk result (λ search. AreOfPlaces tree.now search.dirs.places search.files.table) }
     ensures reads { ReadsSearch tree.now loaded.now (find_ending result) (S.state store.old) (S.state store.new) }
     ensures others { IfErr result (λ fault. is_store_fault fault ≡ true) }
 {
     tree.know();
     let conf = read_conf(alloc, tree, store)?;
     let dirs = order(alloc, tree, &conf.dirs)?;
-    let paths = wanted(alloc, tree, &dirs)?;
-    let mut files = Files::new(alloc, paths.len());
-    read_files(alloc, tree, store, loaded, paths, &mut files)?;
+    let found = wanted_files(alloc, tree, &dirs)?;
+    let mut files = Files::new(alloc, found.len());
+    read_files(alloc, tree, store, loaded, found, &mut files)?;
     Ok(Search { conf, dirs, files })
 }

@@ -2,6 +2,7 @@
 ghost use Rattle.std.specs.Prelude.{◌≡◌, ◌<◌, ◌≤◌, ℕ, IfOk, IsErrOf, IsTrue};
 ghost use Rattle.hwcap_dirs.specs.Places.{are_dirs};
 ghost use Rattle.found_files.specs.Best.{bests_of};
+ghost use Rattle.found_files.specs.Rows.{AreOfPlaces};
 ghost use Rattle.soname_links.specs.Apply.{nodes_with};
 ghost use Rattle.soname_links.specs.Marks.{blocked, mixed};
 ghost use Rattle.soname_links.specs.Plan.{links, with_links};
@@ -27,7 +28,8 @@ pub fn plan_links(
     dirs: &Dirs,
     table: &Table,
 ) -> Result<Survey, ApplyFault>
-    requires { IsTrue (are_dirs tree.old dirs.now.places) }
+    requires dirs { IsTrue (are_dirs tree.old dirs.now.places) }
+    requires rows { AreOfPlaces tree.old dirs.now.places table.now }
     ensures plan { IfOk result (λ found. found.plan ≡ links (analysis_at table.now) tree.old dirs.now.places) }
     ensures tree { IfOk result (λ found. tree.new ≡ with_links tree.old (links (analysis_at table.now) tree.old dirs.now.places)) }
     ensures alike { IfOk result (λ found. IsSearchedAlike tree.old tree.new) }

@@ -18,3 +18,4 @@ mod Spots
 mod Stays
 mod Summed
 mod Targets
+mod WantedRows

@@ -81,3 +81,16 @@ module _ (t : Nodes) where
 
   pub few_paths : (plan : List Planned) → length (new_paths t plan) ≤ length (filter_map (new_path t) plan)
   few_paths plan = count_few (filter_map (new_path t) plan)
+
+  few_new : (plan : List Planned) → length (filter_map (new_path t) plan) ≤ length plan
+  few_new [] = omega arith
+  few_new (planned ∷ plan) =
+      let rest = few_new plan in
+      elim (new_path t planned) as (λ o. length (cons_option o (filter_map (new_path t) plan)) ≤ length (planned ∷ plan)) [
+        | None ↦ omega (arith, rest)
+        | Some path ↦ omega (arith, rest)
+      ]
+
+  -- no more than there are links
+  pub few_links : (plan : List Planned) → length (new_paths t plan) ≤ length plan
+  few_links plan = omega (arith, few_paths plan, few_new plan)

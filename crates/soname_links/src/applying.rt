@@ -96,12 +96,16 @@ fn count_paths(alloc: Global, tree: &Tree, plan: &[Planned]) -> usize
     }
 }
 
-// The number of nodes of the tree with the links, if it is more than a tree may have. Few links need no comparison of their paths.
-#[tactic(auto, using(crate::proofs::NewPaths::few_paths))]
+// The number of nodes of the tree with the links, if it is more than a tree may have. Links for which there is room at any rate need no
+// look at the tree, and few new paths no comparison with one another.
+#[tactic(auto, using(crate::proofs::NewPaths::few_links, crate::proofs::NewPaths::few_paths))]
 fn too_many(alloc: Global, tree: &Tree, plan: &[Planned]) -> Option<u64>
     ensures { result ≡ too_many tree.now plan.now }
 {
     tree.know();
+    if plan.len() <= NODES_MAX - tree.len() {
+        return None;
+    }
     if count_new(tree, plan) <= NODES_MAX - tree.len() {
         return None;
     }

@@ -1,14 +1,11 @@
 //! The libraries of a folder by their sonames.
 ghost use Rattle.std.specs.Prelude.{◌≡◌, Some, IfOk};
-ghost use Rattle.found_files.specs.Libraries.{libraries_at};
 ghost use Rattle.soname_links.specs.Marks.{is_odd};
 ghost use Rattle.soname_links.specs.Survey.{groups, keyed, with_library};
-ghost use Rattle.found_files.specs.Table.{analysis_at};
 
-use found_files::{BySoname, Gather, Library, Table, gather_by_soname, is_preferred, libraries_at};
-use lib_types::NoMemory;
+use found_files::{BySoname, Gather, Library, gather_by_soname, is_preferred};
+use lib_types::{NoMemory, Seq};
 use std::alloc::Global;
-use tree_face::Tree;
 
 /// The libraries of one soname.
 #[derive(Drop)]
@@ -66,14 +63,11 @@ fn by_sonames<'a>(
 /// The libraries of a folder by their sonames.
 pub(crate) fn groups_in<'a>(
     alloc: Global,
-    tree: &'a Tree,
-    table: &'a Table,
-    folder: &[u8],
+    libraries: Seq<Library<'a>>,
 ) -> Result<Groups<'a>, NoMemory>
-    ensures { IfOk result (λ found. found.items ≡ groups (libraries_at (analysis_at table.now) tree.now folder.now)) }
+    ensures { IfOk result (λ found. found.items ≡ groups libraries.entry) }
 {
-    let libraries = libraries_at(alloc, tree, table, folder)?;
-    let items = by_sonames(alloc, libraries)?;
+    let items = by_sonames(alloc, libraries.into_vec())?;
     let groups = gather_by_soname(alloc, items)?;
     Ok(groups)
 }

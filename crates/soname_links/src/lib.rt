@@ -9,6 +9,7 @@ mod marks;
 mod planning;
 mod summary;
 mod surveying;
+mod wanted_table;
 mod winners;
 
 pub use applying::{apply, is_plan};

@@ -5,6 +5,7 @@ ghost use Rattle.found_files.specs.Table.{analysis_at};
 
 use crate::kinds::Marks;
 use crate::surveying::survey;
+use crate::wanted_table::wanted_table;
 use found_files::Table;
 use hwcap_dirs::Dirs;
 use lib_types::NoMemory;
@@ -12,15 +13,19 @@ use std::alloc::Global;
 use tree_face::Tree;
 
 /// The sonames for which a link is wanted where none can be, by place and then by their bytes.
+#[tactic(auto, using(crate::proofs::NoOtherFiles::blocked_agree))]
 pub fn blocked(alloc: Global, tree: &Tree, dirs: &Dirs, table: &Table) -> Result<Marks, NoMemory>
     ensures { IfOk result (λ marks. marks ≡ blocked (analysis_at table.now) tree.now dirs.now.places) }
 {
-    Ok(survey(alloc, tree, dirs, table)?.blocked)
+    let wanted = wanted_table(alloc, tree, dirs, table)?;
+    Ok(survey(alloc, tree, dirs, &wanted)?.blocked)
 }
 
 /// The sonames of which a place has libraries with different ABIs, by place and then by their bytes.
+#[tactic(auto, using(crate::proofs::NoOtherFiles::mixed_agree))]
 pub fn mixed(alloc: Global, tree: &Tree, dirs: &Dirs, table: &Table) -> Result<Marks, NoMemory>
     ensures { IfOk result (λ marks. marks ≡ mixed (analysis_at table.now) tree.now dirs.now.places) }
 {
-    Ok(survey(alloc, tree, dirs, table)?.mixed)
+    let wanted = wanted_table(alloc, tree, dirs, table)?;
+    Ok(survey(alloc, tree, dirs, &wanted)?.mixed)
 }

@@ -8,6 +8,7 @@ ghost use Rattle.found_files.specs.Table.{analysis_at};
 
 use crate::kinds::Plan;
 use crate::surveying::survey;
+use crate::wanted_table::wanted_table;
 use found_files::Table;
 use hwcap_dirs::Dirs;
 use lib_types::NoMemory;
@@ -16,11 +17,14 @@ use tree_face::Tree;
 
 /// The links that are planned, by place and then by the bytes of the sonames. They can be put into the tree one
 /// after another if the places are directories of it: none of them clashes.
+#[tactic(auto, using(crate::proofs::NoOtherFiles::links_agree))]
 pub fn plan(alloc: Global, tree: &Tree, dirs: &Dirs, table: &Table) -> Result<Plan, NoMemory>
     ensures links { IfOk result (λ plan. plan ≡ links (analysis_at table.now) tree.now dirs.now.places) }
     ensures is_plan { IfOk result (λ plan. IsTrue (are_dirs tree.now dirs.now.places) → IsTrue (is_plan plan)) }
     ensures clear { IfOk result (λ plan. IsTrue (are_dirs tree.now dirs.now.places) → IsTrue (are_clear tree.now plan)) }
     ensures names { HaveNames (analysis_at table.now) }
 {
-    Ok(survey(alloc, tree, dirs, table)?.plan)
+    table.know();
+    let wanted = wanted_table(alloc, tree, dirs, table)?;
+    Ok(survey(alloc, tree, dirs, &wanted)?.plan)
 }

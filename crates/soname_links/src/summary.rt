@@ -1,14 +1,14 @@
 //! What the libraries of folders come to.
 ghost use Rattle.std.specs.Prelude.{◌≡◌, ◌∷◌, [], ◌++◌, IfOk, OnOk, map};
 ghost use Rattle.std.specs.List.{filter_map};
-ghost use Rattle.found_files.specs.Table.{analysis_at};
-ghost use Rattle.soname_links.specs.Survey.{bests_at, mixed_at, mixed_soname};
+ghost use Rattle.found_files.specs.Best.{bests};
+ghost use Rattle.soname_links.specs.Marks.{mixed_among};
+ghost use Rattle.soname_links.specs.Survey.{mixed_soname};
 
 use crate::groups::{Group, groups_in};
-use found_files::{BestLibraries, BySoname, Table};
-use lib_types::{NoMemory, Text, Texts};
+use found_files::{BestLibraries, BySoname, Library};
+use lib_types::{NoMemory, Seq, Text, Texts};
 use std::alloc::Global;
-use tree_face::Tree;
 
 // The libraries of a folder, by the bytes of their sonames.
 #[derive(Drop)]
@@ -42,11 +42,11 @@ fn add_mixed(
 
 // What the libraries of a folder come to.
 #[tactic(auto, using(crate::proofs::Grouped::bests_given, crate::proofs::Abis::mixed_given))]
-fn summary_of(alloc: Global, tree: &Tree, table: &Table, folder: &[u8]) -> Result<Summary, NoMemory>
-    ensures bests { IfOk result (λ found. found.bests ≡ bests_at (analysis_at table.now) tree.now folder.now) }
-    ensures mixed { IfOk result (λ found. found.mixed ≡ mixed_at (analysis_at table.now) tree.now folder.now) }
+fn summary_of(alloc: Global, libraries: Seq<Library<'_>>) -> Result<Summary, NoMemory>
+    ensures bests { IfOk result (λ found. found.bests ≡ bests libraries.entry) }
+    ensures mixed { IfOk result (λ found. found.mixed ≡ mixed_among libraries.entry) }
 {
-    let groups = groups_in(alloc, tree, table, folder)?;
+    let groups = groups_in(alloc, libraries)?;
     let mut bests = BestLibraries::with_capacity(alloc, groups.len())?;
     let mut mixed = Texts::new(alloc);
     for group in groups {
@@ -56,22 +56,20 @@ fn summary_of(alloc: Global, tree: &Tree, table: &Table, folder: &[u8]) -> Resul
     Ok(Summary { bests, mixed })
 }
 
-/// What the libraries of each of these folders come to.
+/// What the libraries of each of some folders come to.
 pub(crate) fn summaries_of(
     alloc: Global,
-    tree: &Tree,
-    table: &Table,
-    folders: &[Text],
+    libraries: Vec<Seq<Library<'_>>>,
 ) -> Result<Summaries, NoMemory>
-    ensures bests { IfOk result (λ found. found.bests.items ≡ map (bests_at (analysis_at table.now) tree.now) folders.now) }
-    ensures mixed { IfOk result (λ found. found.mixed.items ≡ map (mixed_at (analysis_at table.now) tree.now) folders.now) }
+    ensures bests { IfOk result (λ found. found.bests.items ≡ map bests libraries.entry.items) }
+    ensures mixed { IfOk result (λ found. found.mixed.items ≡ map mixed_among libraries.entry.items) }
 {
     let mut found = Summaries {
-        bests: Vec::with_capacity(alloc, folders.len())?,
-        mixed: Vec::with_capacity(alloc, folders.len())?,
+        bests: Vec::with_capacity(alloc, libraries.len())?,
+        mixed: Vec::with_capacity(alloc, libraries.len())?,
     };
-    for folder in folders {
-        let Summary { bests, mixed } = summary_of(alloc, tree, table, folder.as_bytes())?;
+    for libraries in libraries {
+        let Summary { bests, mixed } = summary_of(alloc, libraries)?;
         found.bests.push(bests)?;
         found.mixed.push(mixed)?;
     }

@@ -8,11 +8,14 @@ ghost use Rattle.soname_links.specs.Plan.{is_regarded, is_taken, link_for, links
 ghost use Rattle.soname_links.specs.Survey.{blocked_by, links_by, spot_at, spot_by};
 ghost use Rattle.found_files.specs.Best.{bests_of};
 ghost use Rattle.found_files.specs.Analyses.{HaveNames};
+ghost use Rattle.found_files.specs.Rows.{AreOfPlaces};
 ghost use Rattle.found_files.specs.Table.{analysis_at};
 
 use crate::kinds::{Mark, Marks, Plan, Planned, Survey};
 use crate::summary::summaries_of;
-use found_files::{BestLibraries, Library, Shared, Table, is_own, is_plain, over, real_folders};
+use found_files::{
+    BestLibraries, Library, Shared, Table, is_own, is_plain, libraries_in, over, real_folders,
+};
 use hwcap_dirs::{Dirs, Place};
 use lib_types::{NoMemory, Seq, Text};
 use name_order::is_library_name;
@@ -195,16 +198,19 @@ fn add_place(
     Ok(())
 }
 
-// What one place after the other gives.
-#[tactic(auto, using(crate::proofs::Summed::bests_once, crate::proofs::Summed::bests_rows, crate::proofs::Summed::mixed_once, crate::proofs::Summed::mixed_rows), unfolding(crate::specs::Plan::links, crate::specs::Marks::blocked, crate::specs::Marks::mixed, found_files::specs::Best::bests_of))]
+// What one place after the other gives. The table is gone through once for the libraries of all folders.
+#[tactic(auto, using(crate::proofs::Summed::bests_rows, crate::proofs::Summed::mixed_rows), unfolding(crate::specs::Plan::links, crate::specs::Marks::blocked, crate::specs::Marks::mixed, found_files::specs::Best::bests_of))]
 fn surveyed(alloc: Global, tree: &Tree, dirs: &Dirs, table: &Table) -> Result<Survey, NoMemory>
+    requires rows { AreOfPlaces tree.now dirs.now.places table.now }
     ensures plan { IfOk result (λ survey. survey.plan ≡ links (analysis_at table.now) tree.now dirs.now.places) }
     ensures blocked { IfOk result (λ survey. survey.blocked ≡ blocked (analysis_at table.now) tree.now dirs.now.places) }
     ensures mixed { IfOk result (λ survey. survey.mixed ≡ mixed (analysis_at table.now) tree.now dirs.now.places) }
     ensures bests { IfOk result (λ survey. survey.bests ≡ bests_of (analysis_at table.now) tree.now dirs.now.places) }
 {
+    tree.know();
     let folders = real_folders(alloc, dirs)?;
-    let summed = summaries_of(alloc, tree, table, folders.paths.as_slice())?;
+    let libraries = libraries_in(alloc, &folders.paths, table)?;
+    let summed = summaries_of(alloc, libraries)?;
     let mut found = Marked {
         plan: Seq::new(alloc),
         blocked: Seq::new(alloc),
@@ -226,10 +232,12 @@ fn surveyed(alloc: Global, tree: &Tree, dirs: &Dirs, table: &Table) -> Result<Su
     })
 }
 
-/// What is planned and what is reported of the places. A folder that is many places is looked through once. The links can be put into
-/// the tree one after another if the places are directories of it: none of them clashes.
+/// What is planned and what is reported of the places, by a table of the files with library names there and of no others. A folder
+/// that is many places is looked at once. The links can be put into the tree one after another if the places are directories of it:
+/// none of them clashes.
 #[tactic(auto, using(crate::proofs::Named::links_named, crate::proofs::Clear::links_clear))]
 pub fn survey(alloc: Global, tree: &Tree, dirs: &Dirs, table: &Table) -> Result<Survey, NoMemory>
+    requires rows { AreOfPlaces tree.now dirs.now.places table.now }
     ensures plan { IfOk result (λ survey. survey.plan ≡ links (analysis_at table.now) tree.now dirs.now.places) }
     ensures is_plan { IfOk result (λ survey. IsTrue (are_dirs tree.now dirs.now.places) → IsTrue (is_plan survey.plan)) }
     ensures clear { IfOk result (λ survey. IsTrue (are_dirs tree.now dirs.now.places) → IsTrue (are_clear tree.now survey.plan)) }

@@ -6,6 +6,7 @@ ghost use Rattle.hwcap_dirs.specs.Places.{are_spelled};
 ghost use Rattle.found_files.specs.Table.{analysis_at};
 
 use crate::surveying::survey;
+use crate::wanted_table::wanted_table;
 use found_files::{Table, follow};
 use hwcap_dirs::Dirs;
 use lib_types::Entries;
@@ -14,6 +15,7 @@ use tree_face::Tree;
 use winning_entries::{EntryFault, entries_by};
 
 /// The entries of a cache, one for each place and soname with a winner. The tree is one that has all planned links.
+#[tactic(auto, using(found_files::proofs::NoOtherFiles::bests_agree))]
 pub fn entries(
     alloc: Global,
     tree: &Tree,
@@ -26,7 +28,8 @@ pub fn entries(
     ensures few { IfOk result (λ _. length (found (analysis_at table.now) tree.now dirs.now.places) ≤ ENTRIES_MAX) }
     ensures fault { IfErr result (IsEntryFault (found (analysis_at table.now) tree.now dirs.now.places)) }
 {
-    let survey = survey(alloc, tree, dirs, table)?;
+    let wanted = wanted_table(alloc, tree, dirs, table)?;
+    let survey = survey(alloc, tree, dirs, &wanted)?;
     let links = follow(alloc, tree, dirs)?;
     entries_by(alloc, tree, dirs, table, &survey.bests, &links)
 }

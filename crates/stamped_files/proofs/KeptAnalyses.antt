@@ -1,5 +1,5 @@
 -- What is read keeps the analyses that are there, is right, and leaves no file unread.
-use Rattle.std.proofs.Common.{◌≡◌, ◌||◌, ℕ, Bool, true, false, cond, List, [], ◌∷◌, refl, ap, sym, subst, ◌∙◌, Option, Some, None}
+use Rattle.std.proofs.Common.{◌≡◌, ◌++◌, ◌||◌, ℕ, Bool, true, false, cond, List, [], ◌∷◌, refl, ap, sym, subst, ◌∙◌, Option, Some, None}
 use Rattle.std.proofs.lemmas.Slice.Eq.{bytes_eq-Decides}
 use Rattle.std.proofs.lemmas.Cmp.{tied_itself}
 use Rattle.std.specs.Cmp.Lexicographic.{nat_list_cmp_total, slice_cmp}
@@ -15,10 +15,12 @@ use Rattle.lib_types.specs.declared.analysis.Analysis.{Analysis}
 use Rattle.tree_face.specs.Store.{Contents}
 use Rattle.image_tree.specs.Tree.{Nodes, node_at}
 use Rattle.found_files.specs.Analyses.{Analyses, KeepsAnalyses, unread}
+use Rattle.found_files.specs.FoundFile.{FoundFile, IsFileOf}
 use Rattle.found_files.specs.Table.{Rows, analysis_at, with_analysis}
 use Rattle.stamped_files.specs.Files.{AreRight, unread_key, what_is}
 use Rattle.elf_dynamic.specs.Begun.{key_in}
 use Rattle.stamped_files.specs.Reading.{is_in}
+use Rattle.stamped_files.specs.Stamped.{id_at, id_in}
 
 -- ---- one analysis more
 
@@ -62,6 +64,13 @@ new_in (e ∷ rows) path analysis z h = by_test (bytes_eq path e.0)
     first_or : (a b : Bool) → a ≡ true → (a || b) ≡ true
     first_or a b h = ap (λ c. c || b) h
 
+-- and stands behind them
+pub put_last : (rows : Rows) (path : List ℕ) (analysis : Analysis) → analysis_at rows path ≡ None → keys_of (with_analysis rows path analysis) ≡ keys_of rows ++ path ∷ []
+put_last [] path analysis none = refl
+put_last (e ∷ rows) path analysis none = by_test (bytes_eq path e.0)
+    (λ h. let z : Some e.1 ≡ None = rw h at none in absurd (cc))
+    (λ h. rw h (ap (λ l. e.0 ∷ l) (put_last rows path analysis (rw h at none))))
+
 pub right_with : (held : Contents) (t : Nodes) (rows : Rows) (path : List ℕ) (analysis : Analysis) → what_is held t path ≡ Some analysis
     → AreRight held t (analysis_at rows) → AreRight held t (analysis_at (with_analysis rows path analysis))
 right_with held t rows path analysis is right q there = by_test (bytes_eq q path)
@@ -84,6 +93,13 @@ module _ (t : Nodes) where
   pub key_there : (what : Analyses) (path key : List ℕ) → unread_key t what path ≡ Some key → key_in (node_at t path) ≡ Some key
   key_there what path key e = elim (what path) as (λ o. key_by t path o ≡ Some key → key_in (node_at t path) ≡ Some key)
       [ None ↦ λ h. h | Some a ↦ λ h. absurd (cc) ] e
+
+  -- a file of the tree
+  pub file_unread : (what : Analyses) (file : FoundFile) → IsFileOf t file → what file.path ≡ None → unread_key t what file.path ≡ Some file.key
+  file_unread what file is none = ap (key_by t file.path) none ∙ ap key_in is
+
+  pub file_id : (file : FoundFile) → IsFileOf t file → id_at t file.path ≡ file.id
+  file_id file is = ap id_in is
 
   pub read_then : (rows : Rows) (path : List ℕ) (analysis : Analysis) → unread_key t (analysis_at (with_analysis rows path analysis)) path ≡ None
   read_then rows path analysis = ap (key_by t path) (analysis_put rows path analysis)

@@ -24,7 +24,7 @@ use Rattle.image_tree.specs.declared.node.Id.{Id}
 use Rattle.tree_face.proofs.StoreUse.{IsPartial, raised-mono, reads_fewer, reads_none}
 use Rattle.tree_face.specs.Known.{IfKnown}
 use Rattle.tree_face.specs.Store.{Contents, StoreState}
-use Rattle.tree_face.specs.StoreUse.{Ending, Complete, ReadsFiles}
+use Rattle.tree_face.specs.StoreUse.{Ending, Complete}
 use Rattle.stamped_files.proofs.KeptAnalyses.{not_behind, still_read, unread_others}
 use Rattle.stamped_files.proofs.Opened.{one_opened, opened_alike, opened_append, opened_are, opened_then}
 use Rattle.stamped_files.proofs.Opens.{opened_count}
@@ -112,6 +112,7 @@ module _ (t : Nodes) (loaded : List Stamp) (known : Option Contents) (all : List
       only = λ q there. by_test (bytes_eq q path)
           (λ h. second (is_in (keys_of old.table) q) (is_in all q) (so_far.within q (ap (λ b. b || is_in rest q) h)))
           (λ h. so_far.only q (first (is_in (keys_of now.table) q) (bytes_eq q path) (read.only q there) h));
+      rows = read.rows ∙ ap (λ l. l ++ at_turn) so_far.rows ∙ append_assoc (keys_of old.table) so_far.ahead at_turn;
       within = λ q there. so_far.within q (second (bytes_eq q path) (is_in rest q) there);
       sorted = sorted_tail _ path rest so_far.sorted;
     }
@@ -188,6 +189,9 @@ module _ (t : Nodes) (loaded : List Stamp) (known : Option Contents) (all : List
     opened_all : (held : Contents) → HasOpened held t loaded so_far.ahead so_far.keys old new → HasOpened held t loaded todo so_far.keys old new
     opened_all held opened = subst (λ (paths : List (List ℕ)). HasOpened held t loaded paths so_far.keys old new) paths_are opened
 
+    pub all_rows : keys_of new.table ≡ keys_of old.table ++ todo
+    all_rows = so_far.rows ∙ ap (λ l. keys_of old.table ++ l) paths_are
+
     keys_all : (held : Contents) → HasOpened held t loaded so_far.ahead so_far.keys old new → so_far.keys ≡ opened_keys held t first todo
     keys_all held opened =
         (opened_all held opened).keys_are ∙ sym (opened_are held t first todo (IsStrictlySortedBy-filter (slice_cmp nat_cmp) _ all sorted))
@@ -254,6 +258,7 @@ module _ (t : Nodes) (loaded : List Stamp) (known : Option Contents) (all : List
     kept = λ q there. refl;
     read = λ q there behind. absurd (cc);
     only = λ q there. rw there refl;
+    rows = sym (append-nil (keys_of old.table));
     within = λ q there. there;
     sorted = sorted;
   }

@@ -2,6 +2,7 @@
 use Rattle.std.proofs.Common.{◌≡◌, ◌+◌, ◌++◌, ◌||◌, ℕ, Bool, true, false, cond, List, [], ◌∷◌, length, refl, ap, sym, subst, ◌∙◌, arith, Option, Some, None, inl, inr, ⊎_elim}
 use Rattle.std.proofs.lemmas.List.{append-nil}
 use Rattle.std.specs.List.{cons_option}
+use Rattle.std.specs.Map.{keys_of}
 use Rattle.std.specs.Option.{is_none, is_some, option_map, option_and_then}
 use Rattle.std.specs.Prelude.{◌⊎◌, IfSome, IsSomeAnd}
 use Rattle.aux_cache.proofs.Found.{first_of, is_same, same_is, stamp_of_both, stamp_of_put}
@@ -13,18 +14,15 @@ use Rattle.found_files.specs.Analyses.{unread}
 use Rattle.found_files.specs.Table.{analysis_at, with_analysis}
 use Rattle.image_tree.specs.Tree.{Nodes, node_at}
 use Rattle.image_tree.specs.declared.node.Id.{Id}
-use Rattle.image_tree.specs.declared.node.Node.{Node}
-use Rattle.image_tree.specs.declared.node.Node.TheVariants as node
-use Rattle.lib_types.proofs.SortedPairs.{by_test}
 use Rattle.lib_types.specs.declared.analysis.Analysis.{Analysis}
 use Rattle.lib_types.specs.declared.analysis.Analysis.TheVariants.{Lib, Not}
 use Rattle.tree_face.specs.Known.{IfKnown}
 use Rattle.tree_face.specs.Store.{Contents}
-use Rattle.stamped_files.proofs.KeptAnalyses.{analysis_other, had_none, kept_with, key_there, new_in, read_then, right_with}
+use Rattle.stamped_files.proofs.KeptAnalyses.{analysis_other, had_none, kept_with, key_there, new_in, put_last, read_then, right_with}
 use Rattle.stamped_files.proofs.Opened.{one_opened}
 use Rattle.stamped_files.proofs.Stamps.{stamp_by_id, stamp_by_says, stamped_more, stamped_twice}
 use Rattle.stamped_files.specs.Files.{unread_key, what_is}
-use Rattle.stamped_files.specs.Stamped.{AreSame, AreTrue, content_of, id_at, id_in, of_stamp, stamp_by, stamp_for, stamps_at, with_stamps}
+use Rattle.stamped_files.specs.Stamped.{AreSame, AreTrue, content_of, id_at, of_stamp, stamp_by, stamp_for, stamps_at, with_stamps}
 use Rattle.stamped_files.specs.Reading.{HasOpened, IsFoundBy, IsHonest, ReadsOne, is_stamped, keys_opened, key_opened, opened_by}
 use Rattle.stamped_files.specs.declared.files.Files.{Files}
 
@@ -167,38 +165,31 @@ module _ (t : Nodes) (loaded : List Stamp) (path key : List ℕ) (old : Files) (
       here = rw table (read_then t old.table path a);
       others = rw table (λ q h. analysis_other old.table path q a h);
       only = rw table (λ q h. new_in old.table path a q h);
+      rows = ap keys_of table ∙ put_last old.table path a none ∙ ap (λ l. keys_of old.table ++ l) (sym unread_one);
       begun = count known (stamp_for here t path) found ∙ ap (λ l. old.begun + length l) (sym one_key);
       none_lacks = lacks known found;
     }
 
--- ---- a file that was read before, or no file
+-- ---- a file that was read before
 
-module _ (t : Nodes) (loaded : List Stamp) (path : List ℕ) (old : Files) (none_unread : unread_key t (analysis_at old.table) path ≡ None) where
+module _ (t : Nodes) (loaded : List Stamp) (path : List ℕ) (old : Files) (there : is_some (analysis_at old.table path) ≡ true) where
   abbrev at_first : List Stamp
   at_first = loaded ++ old.stamps
 
-  -- a path without a key has no identity
-  no_id : (n : Option Node) → key_in n ≡ None → id_in n ≡ None
-  no_id None e = refl
-  no_id (Some node.Dir) e = refl
-  no_id (Some (node.Link target)) e = refl
-  no_id (Some (node.File key id)) e = absurd (cc)
+  has_one : is_none (analysis_at old.table path) ≡ false
+  has_one = elim (analysis_at old.table path) as (λ o. is_some o ≡ true → is_none o ≡ false) [ None ↦ λ h. absurd (cc) | Some a ↦ λ h. refl ] there
 
-  no_keys : (k : Option (List ℕ)) (b c : Bool) → cond b k None ≡ None → cond b (cond c k None) None ≡ None
-  no_keys k true true e = e
-  no_keys k true false e = refl
-  no_keys k false c e = refl
+  none_unread : unread_key t (analysis_at old.table) path ≡ None
+  none_unread = ap (λ b. cond b (key_in (node_at t path)) None) has_one
+
+  none_left : unread (analysis_at old.table) (path ∷ []) ≡ []
+  none_left = ap (λ b. cond b (path ∷ []) []) has_one
 
   pub none_opened : keys_opened t at_first (analysis_at old.table) path ≡ []
-  none_opened = ap (λ o. cons_option o []) (no_keys (key_in (node_at t path)) (is_none (analysis_at old.table path)) (is_none (stamp_for at_first t path)) none_unread)
+  none_opened = ap (λ b. cons_option (cond b (cond (is_none (stamp_for at_first t path)) (key_in (node_at t path)) None) None) []) has_one
 
   no_stamps : (held : Contents) → stamps_at held t (unread (analysis_at old.table) (path ∷ [])) ≡ []
-  no_stamps held = by_test (is_none (analysis_at old.table path))
-      (λ e.
-      let no_key : key_in (node_at t path) ≡ None = sym (ap (λ b. cond b (key_in (node_at t path)) None) e) ∙ none_unread in
-      ap (λ b. stamps_at held t (cond b (path ∷ []) [])) e
-      ∙ ap (λ i. cons_option (stamp_by i (what_is held t path)) []) (no_id (node_at t path) no_key))
-      (λ e. ap (λ b. stamps_at held t (cond b (path ∷ []) [])) e)
+  no_stamps held = ap (stamps_at held t) none_left
 
   nothing : (held : Contents) → HasOpened held t loaded (unread (analysis_at old.table) (path ∷ [])) (keys_opened t at_first (analysis_at old.table) path) old old
   nothing held =
@@ -227,6 +218,7 @@ module _ (t : Nodes) (loaded : List Stamp) (path : List ℕ) (old : Files) (none
     here = none_unread;
     others = λ q differs. refl;
     only = λ q there. rw there refl;
+    rows = sym (append-nil (keys_of old.table)) ∙ ap (λ l. keys_of old.table ++ l) (sym none_left);
     begun = let none = ap length none_opened in omega (arith, none);
     none_lacks = none_lacking known;
   }

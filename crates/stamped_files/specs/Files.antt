@@ -1,5 +1,5 @@
 -- What the files of an image are, and which of them are read for its cache (ldconfig(8)).
-use Rattle.std.specs.Prelude.{◌≡◌, ℕ, true, List, if◌then◌else◌, Option, Some, None, is_none, is_some}
+use Rattle.std.specs.Prelude.{◌≡◌, ℕ, true, List, if◌then◌else◌, Option, None, is_none, is_some}
 use Rattle.std.specs.List.{list_any}
 use Rattle.std.specs.Option.{option_map, option_and_then}
 use Rattle.std.specs.Str.{bytes_eq}

@@ -72,6 +72,7 @@ pub record ReadsOne (t : Nodes) (loaded : List Stamp) (path : List ℕ) (known :
   pub here : unread_key t (analysis_at new.table) path ≡ None
   pub others : (other : List ℕ) → bytes_eq other path ≡ false → analysis_at new.table other ≡ analysis_at old.table other
   pub only : (other : List ℕ) → is_in (keys_of new.table) other ≡ true → (is_in (keys_of old.table) other || bytes_eq other path) ≡ true
+  pub rows : keys_of new.table ≡ keys_of old.table ++ unread (analysis_at old.table) (path ∷ [])
   pub begun : new.begun ≡ old.begun + length (keys_opened t (loaded ++ old.stamps) (analysis_at old.table) path)
   pub none_lacks : IfKnown known (λ held. lacks_one held (keys_opened t (loaded ++ old.stamps) (analysis_at old.table) path) ≡ false)
 
@@ -89,5 +90,6 @@ pub record HasRead (t : Nodes) (loaded : List Stamp) (known : Option Contents) (
   pub kept : KeepsAnalyses (analysis_at old.table) (analysis_at new.table)
   pub read : (path : List ℕ) → is_in all path ≡ true → is_in rest path ≡ false → unread_key t (analysis_at new.table) path ≡ None
   pub only : (path : List ℕ) → is_in (keys_of new.table) path ≡ true → (is_in (keys_of old.table) path || is_in all path) ≡ true
+  pub rows : keys_of new.table ≡ keys_of old.table ++ ahead
   pub within : (path : List ℕ) → is_in rest path ≡ true → is_in all path ≡ true
   pub sorted : IsStrictlySortedBy (slice_cmp nat_cmp) rest

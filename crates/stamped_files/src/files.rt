@@ -1,5 +1,5 @@
 //! The files that are read.
-ghost use Rattle.std.specs.Prelude.{◌≡◌, ◌≤◌, ◌+◌, ◌∷◌, ◌++◌, ◌||◌, ℕ, List, [], Some, None, true, false, length, option_map, IfOk, IfSome, IsTrue, OnOk};
+ghost use Rattle.std.specs.Prelude.{◌≡◌, ◌≤◌, ◌+◌, ◌++◌, ◌||◌, ℕ, List, [], Some, true, false, length, IfOk, IsTrue, OnOk};
 ghost use Rattle.std.specs.Cmp.Lexicographic.{slice_cmp};
 ghost use Rattle.std.specs.List.{cons_option, list_any};
 ghost use Rattle.std.specs.List.Sorted.{IsStrictlySortedBy};
@@ -11,22 +11,23 @@ ghost use Rattle.aux_cache.specs.Stamps.{HaveNames, stamp_of};
 ghost use Rattle.elf_dynamic.specs.Begun.{ReadsKeys, file_keys, lacks_one};
 ghost use Rattle.elf_dynamic.specs.Faults.{analyse_ending};
 ghost use Rattle.found_files.specs.Analyses.{KeepsAnalyses, has_name};
+ghost use Rattle.found_files.specs.FoundFile.{AreFilesOf, IsFileOf, paths_of};
 ghost use Rattle.found_files.specs.Table.{analysis_at, with_analysis};
 ghost use Rattle.lib_types.specs.Counts.{raised};
 ghost use Rattle.tree_face.specs.Known.{IfKnown};
-ghost use Rattle.stamped_files.specs.Files.{AreRead, AreRight, unread_key};
+ghost use Rattle.stamped_files.specs.Files.{AreRead, AreRight};
 ghost use Rattle.stamped_files.specs.Opened.{ReadsOpened, opened_keys, opens};
 ghost use Rattle.stamped_files.specs.Reading.{IsFoundBy, ReadsOne, key_opened, keys_opened};
-ghost use Rattle.stamped_files.specs.State.{stamps_there, unread_paths};
-ghost use Rattle.stamped_files.specs.Stamped.{AreSame, AreTrue, IfHonest, StampTheSame, id_at, stamp_by, stamps_at, with_stamps};
+ghost use Rattle.stamped_files.specs.State.{stamps_there, unread_in};
+ghost use Rattle.stamped_files.specs.Stamped.{AreSame, AreTrue, IfHonest, StampTheSame, stamp_by, stamps_at, with_stamps};
 
 use crate::stamped::{keep, said};
 use aux_cache::{GatheredStamps, Stamps};
 use elf_dynamic::{AnalyseFault, analyse};
-use found_files::Table;
-use lib_types::{Analysis, NoMemory, Text, Texts};
+use found_files::{FoundFile, Table};
+use lib_types::{Analysis, NoMemory, Text};
 use std::alloc::Global;
-use tree_face::{Id, Node, Store, Tree};
+use tree_face::{Id, Store, Tree};
 
 /// The files that were read, or known by stamps.
 #[derive(Drop)]
@@ -56,44 +57,20 @@ impl Files {
     }
 }
 
-// A file that has no analysis yet.
-#[derive(Drop)]
-struct Unread<'a> {
-    key: &'a [u8],
-    id: Option<Id>,
-}
-
-// The file at a path, if it has no analysis yet.
-fn unread_file<'a>(tree: &'a Tree, table: &Table, path: &Text) -> Option<Unread<'a>>
-    ensures key { option_map (λ file. file.key.now) result ≡ unread_key tree.now (analysis_at table.now) path.now }
-    ensures id { IfSome result (λ file. file.id ≡ id_at tree.now path.now) }
-{
-    if table.get(path.as_bytes()).is_some() {
-        return None;
-    }
-    match tree.node(path.as_bytes()) {
-        Some(Node::File { key, id }) => Some(Unread {
-            key: key.as_bytes(),
-            id: *id,
-        }),
-        _ => None,
-    }
-}
-
 // What a file is, by the stamp of its identity. If there is none, the file is opened.
 fn analysis_of<S: Store>(
     alloc: Global,
     store: &mut S,
     loaded: &Stamps,
     made: &GatheredStamps,
-    file: &Unread<'_>,
+    file: &FoundFile<'_>,
     begun: &mut usize,
 ) -> Result<Analysis, AnalyseFault>
     requires { HaveNames loaded.now }
-    ensures found { IfOk result (λ analysis. IsFoundBy (S.state store.old).held file.now.key.now (option_and_then (stamp_of (loaded.now ++ made.now)) file.now.id)
+    ensures found { IfOk result (λ analysis. IsFoundBy (S.state store.old).held file.now.key (option_and_then (stamp_of (loaded.now ++ made.now)) file.now.id)
         analysis begun.old begun.new) }
     ensures name { IfOk result (λ analysis. IsTrue (has_name analysis)) }
-    ensures reads { ReadsKeys (key_opened (option_and_then (stamp_of (loaded.now ++ made.now)) file.now.id) file.now.key.now) (analyse_ending result)
+    ensures reads { ReadsKeys (key_opened (option_and_then (stamp_of (loaded.now ++ made.now)) file.now.id) file.now.key) (analyse_ending result)
         (S.state store.old) (S.state store.new) }
 {
     match said(alloc, loaded, made, file.id) {
@@ -127,67 +104,72 @@ fn add(
     Ok(())
 }
 
-// Reads a file that has no analysis yet and of which no stamp says what it is.
+// Reads a file that has no analysis yet and of which no stamp says what it is. The tree is there for the contract alone.
 fn read_file<S: Store>(
     alloc: Global,
-    tree: &Tree,
+    _tree: &Tree,
     store: &mut S,
     loaded: &Stamps,
-    path: Text,
+    file: FoundFile<'_>,
     files: &mut Files,
 ) -> Result<(), AnalyseFault>
-    requires { HaveNames loaded.now }
-    ensures one { OnOk result (ReadsOne tree.now loaded.now path (S.state store.old).held files.old files.new) }
-    ensures reads { ReadsKeys (keys_opened tree.now (loaded.now ++ files.old.stamps) (analysis_at files.old.table) path) (analyse_ending result)
+    requires file { IsFileOf _tree.now file }
+    requires names { HaveNames loaded.now }
+    ensures one { OnOk result (ReadsOne _tree.now loaded.now file.entry.path (S.state store.old).held files.old files.new) }
+    ensures reads { ReadsKeys (keys_opened _tree.now (loaded.now ++ files.old.stamps) (analysis_at files.old.table) file.entry.path) (analyse_ending result)
         (S.state store.old) (S.state store.new) }
 {
-    let Some(file) = unread_file(tree, &files.table, &path) else {
+    if files.table.get(file.path.as_bytes()).is_some() {
         return Ok(());
-    };
+    }
     let analysis = analysis_of(alloc, store, loaded, &files.stamps, &file, &mut files.begun)?;
-    match add(alloc, files, path, file.id, analysis) {
+    match add(alloc, files, file.path, file.id, analysis) {
         Ok(()) => Ok(()),
         Err(NoMemory) => Err(AnalyseFault::NoMemory),
     }
 }
 
-/// Reads the files at these paths, in their order, each that has no analysis yet. A file is opened only if it has no identity, or one without a
-/// stamp: neither among those that are loaded, nor of a library that was read before. The paths stand in the order of their bytes, each once.
+/// Reads these files of the tree, in their order, each that has no analysis yet. A file is opened only if it has no identity, or one without a
+/// stamp: neither among those that are loaded, nor of a library that was read before. Their paths stand in the order of their bytes, each once.
+/// In the table those that were read stand in this order, behind what was there. The files carry all that is asked of the tree: it is there for
+/// the contract alone.
 pub fn read_files<S: Store>(
     alloc: Global,
     tree: &Tree,
     store: &mut S,
     loaded: &Stamps,
-    paths: Texts,
+    found: Vec<FoundFile<'_>>,
     files: &mut Files,
 ) -> Result<(), AnalyseFault>
-    requires sorted { IsStrictlySortedBy (slice_cmp nat_cmp) paths }
+    requires sorted { IsStrictlySortedBy (slice_cmp nat_cmp) (paths_of found.items) }
+    requires files { AreFilesOf tree.now found.items }
     requires names { HaveNames loaded.now }
     ensures right { OnOk result (IfHonest (S.state store.old).held tree.now (stamps_there loaded.now files.old)
         (λ held. AreRight held tree.now (analysis_at files.old.table) → AreRight held tree.now (analysis_at files.new.table))) }
     ensures kept { OnOk result (KeepsAnalyses (analysis_at files.old.table) (analysis_at files.new.table)) }
-    ensures all { OnOk result (AreRead tree.now (analysis_at files.new.table) paths) }
+    ensures all { OnOk result (AreRead tree.now (analysis_at files.new.table) (paths_of found.entry.items)) }
     ensures only { OnOk result ((path : List ℕ) → list_any (bytes_eq path) (keys_of files.new.table) ≡ true →
-        (list_any (bytes_eq path) (keys_of files.old.table) || list_any (bytes_eq path) paths) ≡ true) }
+        (list_any (bytes_eq path) (keys_of files.old.table) || list_any (bytes_eq path) (paths_of found.entry.items)) ≡ true) }
+    ensures rows { OnOk result (keys_of files.new.table ≡ keys_of files.old.table ++ unread_in files.old found.entry.items) }
     ensures stamps { OnOk result (IfHonest (S.state store.old).held tree.now (stamps_there loaded.now files.old)
-        (λ held. files.new.stamps ≡ with_stamps files.old.stamps (stamps_at held tree.now (unread_paths files.old paths)))) }
+        (λ held. files.new.stamps ≡ with_stamps files.old.stamps (stamps_at held tree.now (unread_in files.old found.entry.items)))) }
     ensures are_true { OnOk result (IfHonest (S.state store.old).held tree.now (stamps_there loaded.now files.old)
         (λ held. AreTrue held tree.now (stamps_there loaded.now files.new))) }
     ensures stamped { OnOk result (IfKnown (S.state store.old).held (λ held. StampTheSame (stamps_there loaded.now files.new)
-        (stamps_there loaded.now files.old ++ stamps_at held tree.now (unread_paths files.old paths)))) }
+        (stamps_there loaded.now files.old ++ stamps_at held tree.now (unread_in files.old found.entry.items)))) }
     ensures begun { OnOk result (IfKnown (S.state store.old).held (λ held. files.new.begun ≡ files.old.begun
-        + length (opened_keys held tree.now (stamps_there loaded.now files.old) (unread_paths files.old paths)))) }
+        + length (opened_keys held tree.now (stamps_there loaded.now files.old) (unread_in files.old found.entry.items)))) }
     ensures opens { OnOk result (IfKnown (S.state store.old).held (λ held. AreSame held tree.now tree.now → files.new.begun ≡ files.old.begun
-        + opens held tree.now (stamps_there loaded.now files.old) (unread_paths files.old paths))) }
-    ensures few { OnOk result (files.new.begun ≤ files.old.begun + length (file_keys tree.now (unread_paths files.old paths))) }
+        + opens held tree.now (stamps_there loaded.now files.old) (unread_in files.old found.entry.items))) }
+    ensures few { OnOk result (files.new.begun ≤ files.old.begun + length (file_keys tree.now (unread_in files.old found.entry.items))) }
     ensures none_lacks { OnOk result (IfKnown (S.state store.old).held
-        (λ held. lacks_one held (opened_keys held tree.now (stamps_there loaded.now files.old) (unread_paths files.old paths)) ≡ false)) }
-    ensures reads { ReadsOpened (λ held. opened_keys held tree.now (stamps_there loaded.now files.old) (unread_paths files.old paths))
+        (λ held. lacks_one held (opened_keys held tree.now (stamps_there loaded.now files.old) (unread_in files.old found.entry.items)) ≡ false)) }
+    ensures reads { ReadsOpened (λ held. opened_keys held tree.now (stamps_there loaded.now files.old) (unread_in files.old found.entry.items))
         (analyse_ending result) (S.state store.old) (S.state store.new) }
-    ensures most { (S.state store.new).begun ≤ raised (S.state store.old).begun (length (file_keys tree.now (unread_paths files.old paths))) }
+    ensures most { (S.state store.new).begun ≤ raised (S.state store.old).begun (length (file_keys tree.now (unread_in files.old found.entry.items))) }
 {
-    for path in paths.into_vec() {
-        read_file(alloc, tree, store, loaded, path, files)?;
+    for file in found {
+        read_file(alloc, tree, store, loaded, file, files)?;
     }
     Ok(())
 }

@@ -1,3 +1,4 @@
+mod ByPath
 mod Neighbours
 mod Numbers
 pub mod Picked

@@ -8,13 +8,12 @@ use Rattle.std.specs.Map.{keys_of}
 use Rattle.std.specs.Ordering.{nat_cmp}
 use Rattle.std.specs.Str.{bytes_eq}
 use Rattle.lib_types.proofs.SortedPairs.{by_test}
-use Rattle.lib_types.specs.declared.analysis.Analysis.TheVariants.{Lib, Not}
 use Rattle.found_files.proofs.InOrder.{ascending_sorted, in_ascending}
 use Rattle.found_files.proofs.Members.{is_in, kept_in, left_out, same_members}
 use Rattle.found_files.specs.Order.{ascending}
 use Rattle.found_files.specs.Analyses.{Analyses}
-use Rattle.found_files.specs.Table.{Rows, analysis_at, defective}
-use Rattle.update_report.specs.Skips.{is_skipped, skip_at, skip_by}
+use Rattle.found_files.specs.Table.{Rows, analysis_at}
+use Rattle.update_report.specs.Skips.{is_skipped, skip_at}
 use Rattle.update_report.specs.declared.kinds.Skipped.{Skipped}
 
 nothing : (found : Option Skipped) → is_some found ≡ false → found ≡ None
@@ -45,15 +44,3 @@ in_table [] z h = absurd (cc)
 in_table (e ∷ rows) z h = by_test (bytes_eq z e.0)
     (λ f. or_left (bytes_eq z e.0) (is_in (keys_of rows) z) f)
     (λ f. or_right (bytes_eq z e.0) (is_in (keys_of rows) z) (in_table rows z (rw f at h)))
-
-in_defective : (rows : Rows) (z : List ℕ) → is_skipped (analysis_at rows) z ≡ true → is_in (defective rows) z ≡ true
-in_defective [] z h = absurd (cc)
-in_defective ((path, Not defect) ∷ rows) z h = by_test (bytes_eq z path)
-    (λ f. or_left (bytes_eq z path) (is_in (defective rows) z) f)
-    (λ f. or_right (bytes_eq z path) (is_in (defective rows) z) (in_defective rows z (rw f at h)))
-in_defective ((path, Lib abi soname) ∷ rows) z h = by_test (bytes_eq z path)
-    (λ f. let none : is_some (skip_by z (Lib abi soname)) ≡ true = (rw f at h) in absurd (cc))
-    (λ f. in_defective rows z (rw f at h))
-
-pub all_picked : (rows : Rows) → filter_map (skip_at (analysis_at rows)) (ascending (defective rows)) ≡ filter_map (skip_at (analysis_at rows)) (ascending (keys_of rows))
-all_picked rows = same_picked (analysis_at rows) (defective rows) (keys_of rows) (λ z h. in_defective rows z h ∙ sym (in_table rows z h))

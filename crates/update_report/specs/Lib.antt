@@ -1,3 +1,4 @@
+pub mod ByPath
 pub mod Defects
 pub mod Lines
 pub mod Report

@@ -1,15 +1,17 @@
 //! The library files that are no libraries.
-ghost use Rattle.std.specs.Prelude.{◌≡◌, IfOk};
+ghost use Rattle.std.specs.Prelude.{◌≡◌, IfOk, OnOk, map};
 ghost use Rattle.std.specs.List.{filter_map};
 ghost use Rattle.std.specs.Map.{keys_of};
 ghost use Rattle.found_files.specs.Order.{ascending};
+ghost use Rattle.update_report.specs.ByPath.{skip_of, with_row};
 ghost use Rattle.update_report.specs.Skips.{skip_at};
 ghost use Rattle.found_files.specs.Table.{analysis_at};
 
 use crate::kinds::{Skipped, Skips};
-use found_files::{Table, ascending};
-use lib_types::{Analysis, NoMemory, Seq, Text, Texts};
+use found_files::Table;
+use lib_types::{Analysis, Defect, NoMemory, Seq, Text, Texts};
 use std::alloc::Global;
+use std::collections::BTreeMap;
 
 // The file at a path, if its analysis is a defect.
 fn skip_at(alloc: Global, table: &Table, path: &Text) -> Result<Option<Skipped>, NoMemory>
@@ -37,12 +39,47 @@ pub fn skips(alloc: Global, table: &Table, files: &Texts) -> Result<Skips, NoMem
     Ok(skips)
 }
 
+// Adds the defect of a file, if its analysis is one.
+fn add_defect(
+    alloc: Global,
+    path: &Text,
+    analysis: &Analysis,
+    found: &mut BTreeMap<Text, Defect>,
+) -> Result<(), NoMemory>
+    ensures { OnOk result (found.new.entries ≡ with_row found.old.entries (path.now, analysis.now)) }
+{
+    if let Analysis::Not(defect) = analysis {
+        found.insert(Text::copy_of(alloc, path.as_bytes())?, *defect)?;
+    }
+    Ok(())
+}
+
+// The files of a table that are no libraries, each with its defect. Most rows are of libraries, so few paths are copied.
+#[tactic(auto, using(crate::proofs::ByPath::all_in_order))]
+fn by_path(alloc: Global, table: &Table) -> Result<BTreeMap<Text, Defect>, NoMemory>
+    ensures { IfOk result (λ found. map skip_of found.entries ≡ filter_map (skip_at (analysis_at table.now)) (ascending (keys_of table.now))) }
+{
+    let mut found = BTreeMap::new(alloc);
+    for (path, analysis) in table.iter() {
+        add_defect(alloc, path, analysis, &mut found)?;
+    }
+    Ok(found)
+}
+
+// These files as a list, in the order of the bytes of their paths.
+fn listed(alloc: Global, found: BTreeMap<Text, Defect>) -> Result<Skips, NoMemory>
+    ensures { IfOk result (λ skips. skips ≡ map skip_of found.entries) }
+{
+    let mut skips = Seq::new(alloc);
+    for (path, defect) in found {
+        skips.push(Skipped { path, defect })?;
+    }
+    Ok(skips)
+}
+
 /// All files of a table that are no libraries, in the order of the bytes of their paths.
-#[tactic(auto, using(crate::proofs::Picked::all_picked))]
 pub fn skips_in(alloc: Global, table: &Table) -> Result<Skips, NoMemory>
     ensures { IfOk result (λ skips. skips ≡ filter_map (skip_at (analysis_at table.now)) (ascending (keys_of table.now))) }
 {
-    let files = ascending(table.defective(alloc)?)?;
-    let skips = skips(alloc, table, &files)?;
-    Ok(skips)
+    listed(alloc, by_path(alloc, table)?)
 }

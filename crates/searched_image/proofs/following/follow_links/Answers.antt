@@ -24,50 +24,51 @@ either false b c h e = h e
 
 pub read_files-requires : goal.read_files-requires
 read_files-requires g c = record {
-  sorted = subst (λ (paths : List (List ℕ)). IsStrictlySortedBy (slice_cmp nat_cmp) paths) (sym (c.in_ok-paths.ensures c.args.tree.now c.args.dirs.now.places c.in_ok-links.ensures))
+  sorted = subst (λ (paths : List (List ℕ)). IsStrictlySortedBy (slice_cmp nat_cmp) paths) (sym c.in_ok-found.ensures.paths)
       (unread_sorted (analysis_at c.args.files.now.table) (reached c.args.tree.now c.args.dirs.now.places) (reached_sorted c.args.tree.now c.args.dirs.now.places));
+  files = c.in_ok-found.ensures.files;
   names = c.requires.names;
 }
 
 pub returns-in_err-read_files-clause-reads : goal.returns-in_err-read_files-clause-reads
 returns-in_err-read_files-clause-reads g c =
-    let is = those (analysis_at c.args.files.now.table) _ _ (c.in_ok-paths.ensures c.args.tree.now c.args.dirs.now.places c.in_ok-links.ensures) in
+    let is = those (analysis_at c.args.files.now.table) _ _ c.in_ok-found.ensures.paths in
     search (rules, rw is at c.read_files.ensures.reads)
 
 pub returns-in_err-dangling-clause-reads : goal.returns-in_err-dangling-clause-reads
 returns-in_err-dangling-clause-reads g c =
-    let is = those (analysis_at c.args.files.now.table) _ _ (c.in_ok-paths.ensures c.args.tree.now c.args.dirs.now.places c.in_ok-links.ensures) in
+    let is = those (analysis_at c.args.files.now.table) _ _ c.in_ok-found.ensures.paths in
     let same : c.from_residual-in_err-dangling.result ≡ Err finding.NoMemory = search rules in
     rw same (reads_all _ _ _ _ _ (rw is at c.in_ok-read_files.ensures.reads))
 
 pub returns-clause-all : goal.returns-clause-all
 returns-clause-all g c =
-    let is = c.in_ok-paths.ensures c.args.tree.now c.args.dirs.now.places c.in_ok-links.ensures in
+    let is = c.in_ok-found.ensures.paths in
     all_read c.args.tree.now _ _ _ c.in_ok-read_files.ensures.kept (rw is at c.in_ok-read_files.ensures.all)
 
 pub returns-clause-only : goal.returns-clause-only
 returns-clause-only g c path there =
     let files = reached c.args.tree.now c.args.dirs.now.places in
-    let is = c.in_ok-paths.ensures c.args.tree.now c.args.dirs.now.places c.in_ok-links.ensures in
+    let is = c.in_ok-found.ensures.paths in
     either (list_any (bytes_eq path) (keys_of c.args.files.now.table)) (list_any (bytes_eq path) (unread (analysis_at c.args.files.now.table) files)) (list_any (bytes_eq path) files)
     (among_all (analysis_at c.args.files.now.table) files path) (rw is at c.in_ok-read_files.ensures.only path there)
 
 pub returns-clause-stamps : goal.returns-clause-stamps
 returns-clause-stamps g c =
-    let is = those (analysis_at c.args.files.now.table) _ _ (c.in_ok-paths.ensures c.args.tree.now c.args.dirs.now.places c.in_ok-links.ensures) in
+    let is = those (analysis_at c.args.files.now.table) _ _ c.in_ok-found.ensures.paths in
     rw is at c.in_ok-read_files.ensures.stamps
 
 pub returns-clause-begun : goal.returns-clause-begun
 returns-clause-begun g c =
-    let is = those (analysis_at c.args.files.now.table) _ _ (c.in_ok-paths.ensures c.args.tree.now c.args.dirs.now.places c.in_ok-links.ensures) in
+    let is = those (analysis_at c.args.files.now.table) _ _ c.in_ok-found.ensures.paths in
     rw is at c.in_ok-read_files.ensures.begun
 
 pub returns-clause-none_lacks : goal.returns-clause-none_lacks
 returns-clause-none_lacks g c =
-    let is = those (analysis_at c.args.files.now.table) _ _ (c.in_ok-paths.ensures c.args.tree.now c.args.dirs.now.places c.in_ok-links.ensures) in
+    let is = those (analysis_at c.args.files.now.table) _ _ c.in_ok-found.ensures.paths in
     rw is at c.in_ok-read_files.ensures.none_lacks
 
 pub returns-clause-reads : goal.returns-clause-reads
 returns-clause-reads g c =
-    let is = those (analysis_at c.args.files.now.table) _ _ (c.in_ok-paths.ensures c.args.tree.now c.args.dirs.now.places c.in_ok-links.ensures) in
+    let is = those (analysis_at c.args.files.now.table) _ _ c.in_ok-found.ensures.paths in
     rw is at c.in_ok-read_files.ensures.reads

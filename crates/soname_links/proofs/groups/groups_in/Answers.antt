@@ -5,4 +5,4 @@ use Rattle.soname_links.proofs.groups.groups_in.Goals as goal
 
 pub returns : goal.returns
 returns c =
-    groups_gathered c.in_ok-libraries.libraries.items c.in_ok-items.items.items c.in_ok-groups.groups.items c.in_ok-items.ensures c.in_ok-groups.ensures ∙ ap groups c.in_ok-libraries.ensures
+    groups_gathered c.into_vec.result.items c.in_ok-items.items.items c.in_ok-groups.groups.items c.in_ok-items.ensures c.in_ok-groups.ensures ∙ ap groups c.into_vec.ensures

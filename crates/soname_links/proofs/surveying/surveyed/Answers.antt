@@ -8,20 +8,25 @@ use Rattle.found_files.specs.Table.{analysis_at}
 use Rattle.soname_links.proofs.Summed.{bests_once, mixed_once}
 use Rattle.soname_links.specs.Marks.{blocked, blocked_in, mixed, mixed_in}
 use Rattle.soname_links.specs.Plan.{links, links_in}
-use Rattle.soname_links.specs.Survey.{bests_at, mixed_at, mixed_sonames}
+use Rattle.soname_links.specs.Survey.{mixed_sonames}
 use Rattle.soname_links.proofs.surveying.surveyed.Goals as goal
 
 pub loop-place-init : goal.loop-place-init
 loop-place-init c =
-    let what = analysis_at c.args.table.now in
+    let table = c.args.table.now in
+    let what = analysis_at table in
     let t = c.args.tree.now in
     let places = c.args.dirs.now.places in
-    let have : HaveRows (reals places) c.in_ok-folders.folders.paths c.in_ok-folders.folders.rows = c.in_ok-folders.ensures in
-    let firsts = bests_once what t places c.in_ok-folders.folders.paths c.in_ok-folders.folders.rows have c.in_ok-summed.summed.bests.items (c.in_ok-summed.ensures.bests ∙ ap (map (bests_at what t)) c.as_slice.ensures) in
-    let seconds = mixed_once what t places c.in_ok-folders.folders.paths c.in_ok-folders.folders.rows have c.in_ok-summed.summed.mixed.items (c.in_ok-summed.ensures.mixed ∙ ap (map (mixed_at what t)) c.as_slice.ensures) in
+    let folders = c.in_ok-folders.folders in
+    let libraries = c.in_ok-libraries.libraries.items in
+    let have : HaveRows (reals places) folders.paths.keys folders.rows = c.in_ok-folders.ensures in
+    let firsts = bests_once table places folders.paths.keys folders.rows have libraries c.in_ok-libraries.ensures t c.know.ensures c.requires.rows c.in_ok-summed.summed.bests.items c.in_ok-summed.ensures.bests in
+    let seconds = mixed_once table places folders.paths.keys folders.rows have libraries c.in_ok-libraries.ensures t c.know.ensures c.requires.rows c.in_ok-summed.summed.mixed.items c.in_ok-summed.ensures.mixed in
     let whole : c.into_iter-place-iterator.result.a.rest.now ≡ places = search rules in
-    let first : c.into_iter-place-iterator.result.b.a ≡ taken c.in_ok-summed.summed.bests.items c.in_ok-folders.folders.rows = search rules in
-    let second : c.into_iter-place-iterator.result.b.b ≡ taken c.in_ok-summed.summed.mixed.items c.in_ok-folders.folders.rows = search rules in
+    let first : c.into_iter-place-iterator.result.b.a ≡ taken c.in_ok-summed.summed.bests.items folders.rows =
+    cc (c.into_iter-place-iterator.ensures.into_iter_gives, c.zip-place-items.ensures.second, c.zip-there.ensures.first, c.over.ensures, c.as_slice.ensures.value, c.as_slice-rows.ensures) in
+    let second : c.into_iter-place-iterator.result.b.b ≡ taken c.in_ok-summed.summed.mixed.items folders.rows =
+    cc (c.into_iter-place-iterator.ensures.into_iter_gives, c.zip-place-items.ensures.second, c.zip-there.ensures.second, c.over-2.ensures, c.as_slice-2.ensures.value, c.as_slice-rows.ensures) in
     record {
       plan = search rules;
       blocked = search rules;
@@ -63,7 +68,9 @@ returns-clause-mixed c =
 pub returns-clause-bests : goal.returns-clause-bests
 unfolding bests_of
 returns-clause-bests c =
-    let what = analysis_at c.args.table.now in
-    let t = c.args.tree.now in
-    let have : HaveRows (reals c.args.dirs.now.places) c.in_ok-folders.folders.paths c.in_ok-folders.folders.rows = c.in_ok-folders.ensures in
-    c.new-4.ensures ∙ bests_once what t c.args.dirs.now.places c.in_ok-folders.folders.paths c.in_ok-folders.folders.rows have c.in_ok-summed.summed.bests.items (c.in_ok-summed.ensures.bests ∙ ap (map (bests_at what t)) c.as_slice.ensures)
+    let folders = c.in_ok-folders.folders in
+    let places = c.args.dirs.now.places in
+    let have : HaveRows (reals places) folders.paths.keys folders.rows = c.in_ok-folders.ensures in
+    c.new-4.ensures
+    ∙ bests_once c.args.table.now places folders.paths.keys folders.rows have c.in_ok-libraries.libraries.items c.in_ok-libraries.ensures c.args.tree.now c.know.ensures c.requires.rows
+    c.in_ok-summed.summed.bests.items c.in_ok-summed.ensures.bests

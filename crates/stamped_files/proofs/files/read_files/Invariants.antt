@@ -1,7 +1,10 @@
+use Rattle.found_files.specs.FoundFile.{AreFilesOf, paths_of}
 use Rattle.stamped_files.proofs.files.read_files.Given as goal
 use Rattle.stamped_files.specs.Reading.{HasRead}
 
--- the files so far were read
-abbrev pub invariant-loop-path : goal.invariant-loop-path
-invariant-loop-path g l =
-    HasRead l.tree l.loaded (g.S.Store.state l.fn.store).held l.fn.paths l.path-iterator.rest.items l.fn.files l.files (g.S.Store.state l.fn.store) (g.S.Store.state l.store)
+-- the files so far were read, and the tree has the others
+abbrev pub invariant-loop-file : goal.invariant-loop-file
+invariant-loop-file g l = record {
+  rest : AreFilesOf l.tree l.file-iterator.rest.items;
+  read : HasRead l.tree l.loaded (g.S.Store.state l.fn.store).held (paths_of l.fn.found.items) (paths_of l.file-iterator.rest.items) l.fn.files l.files (g.S.Store.state l.fn.store) (g.S.Store.state l.store);
+}

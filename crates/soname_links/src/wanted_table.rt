@@ -1,0 +1,28 @@
+//! What a table says of the files with library names in the places, and of no others.
+ghost use Rattle.std.specs.Prelude.{IfOk};
+ghost use Rattle.found_files.specs.Analyses.{AgreeOn};
+ghost use Rattle.found_files.specs.Rows.{AreOfPlaces};
+ghost use Rattle.found_files.specs.Search.{wanted};
+ghost use Rattle.found_files.specs.Table.{analysis_at};
+
+use found_files::{Table, wanted};
+use hwcap_dirs::Dirs;
+use lib_types::NoMemory;
+use std::alloc::Global;
+use tree_face::Tree;
+
+/// A copy of what a table says of these files: a survey goes through all of its table.
+#[tactic(auto, using(crate::proofs::WantedRows::in_order, crate::proofs::WantedRows::of_places))]
+pub(crate) fn wanted_table(
+    alloc: Global,
+    tree: &Tree,
+    dirs: &Dirs,
+    table: &Table,
+) -> Result<Table, NoMemory>
+    ensures rows { IfOk result (λ copy. AreOfPlaces tree.now dirs.now.places copy) }
+    ensures agree { IfOk result (λ copy. AgreeOn (wanted tree.now dirs.now.places) (analysis_at table.now) (analysis_at copy)) }
+{
+    let paths = wanted(alloc, tree, dirs)?;
+    let copy = table.copy_of(alloc, paths.as_slice())?;
+    Ok(copy)
+}

@@ -1,0 +1,8 @@
+use Rattle.std.proofs.Common.{◌≡◌, []}
+use Rattle.std.specs.List.{fold}
+use Rattle.update_report.specs.ByPath.{with_row}
+use Rattle.update_report.proofs.skipping.by_path.Given as goal
+
+-- the rows that are left give the rest
+abbrev pub invariant-loop-path : goal.invariant-loop-path
+invariant-loop-path l = fold with_row l.found.entries l.path-iterator ≡ fold with_row [] l.table
