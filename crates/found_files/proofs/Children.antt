@@ -1,11 +1,10 @@
 -- The children of a directory by their nodes.
-use Rattle.std.proofs.Common.{◌≡◌, ℕ, Bool, true, cond, ◌&&◌, List, [], ◌∷◌, map, refl, ap, sym, ◌∙◌, Option, Some, None}
+use Rattle.std.proofs.Common.{◌≡◌, ℕ, Bool, true, List, [], ◌∷◌, map, refl, ap, sym, ◌∙◌, Option, Some, None}
 use Rattle.std.proofs.lemmas.Bool.{and_parts}
 use Rattle.std.specs.List.{AllByRecursion, cons_option, dedup, filter_map, list_all}
 use Rattle.std.specs.Str.{bytes_eq}
 use Rattle.hwcap_dirs.proofs.Children.{children_named}
 use Rattle.lib_types.specs.Name.{is_name}
-use Rattle.name_order.specs.LibraryName.{is_library_name}
 use Rattle.path_walk.proofs.KindsAt.{absent_else, kind_of_node}
 use Rattle.path_walk.specs.Files.{is_file}
 use Rattle.image_tree.proofs.Above.{found_entry}
@@ -15,8 +14,7 @@ use Rattle.image_tree.specs.declared.node.Node.{Node}
 use Rattle.image_tree.specs.declared.node.Node.TheVariants as node
 use Rattle.image_tree.specs.declared.tree.Kind.{Kind}
 use Rattle.image_tree.specs.declared.tree.Kind.TheVariants as kinds
-use Rattle.found_files.specs.Children.{IsChild, is_file_node, is_link_node}
-use Rattle.found_files.specs.Search.{is_link, link_in}
+use Rattle.found_files.specs.Children.{IsChild, is_file_node}
 
 -- ---- the kind of a path by its node
 
@@ -37,21 +35,9 @@ file_node node.Dir = refl
 file_node (node.File key id) = refl
 file_node (node.Link target) = refl
 
-link_node : (n : Node) → is_link (kind_of n) ≡ is_link_node (Some n)
-link_node node.Dir = refl
-link_node (node.File key id) = refl
-link_node (node.Link target) = refl
-
 -- a file is at a path whose node is one
 pub file_there : (t : Nodes) → IsTree t → (path : List ℕ) → is_file (kind_at t path) ≡ is_file_node (node_at t path)
 file_there t tree path = by_node is_file is_file_node refl refl file_node t tree path (node_at t path) refl
-
--- the link of a child
-pub link_same : (t : Nodes) (folder : List ℕ) (child : List ℕ × Option Node) → IsChild t folder child
-    → link_in t folder child.0 ≡ cond (is_library_name child.0 && is_link_node child.1) (Some (join folder child.0)) None
-link_same t folder child is =
-    ap (λ b. cond (is_library_name child.0 && b) (Some (join folder child.0)) None)
-    (by_node is_link is_link_node refl refl link_node t is.tree (join folder child.0) (node_at t (join folder child.0)) refl ∙ ap is_link_node (sym is.node))
 
 -- ---- the whole listing
 

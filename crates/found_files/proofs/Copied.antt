@@ -1,7 +1,7 @@
 -- A copy of what a table says of some paths.
 use Rattle.std.proofs.Common.{◌≡◌, ◌<◌, ◌+◌, ◌||◌, ℕ, zero, suc, Bool, true, false, cond, List, [], ◌∷◌, ◌++◌, drop, get_or, length, take, refl, ap, sym, subst, ◌∙◌, Option, Some, None, Ordering, arith}
 use Rattle.std.proofs.lemmas.Cmp.{nat_list_cmp_total, tied_itself}
-use Rattle.std.proofs.lemmas.List.{append-nil, take_more}
+use Rattle.std.proofs.lemmas.List.{append-nil, map-append, take_more}
 use Rattle.std.proofs.lemmas.List.Elements.{filter-append}
 use Rattle.std.proofs.lemmas.List.Folds.{list_any-append}
 use Rattle.std.proofs.lemmas.Slice.Eq.{bytes_eq-Decides}
@@ -49,16 +49,12 @@ not_before (x ∷ xs) k ys s = by_test (bytes_eq k x)
 pub put_last : (rows : Rows) (path : List ℕ) (analysis : Analysis) → analysis_at rows path ≡ None → with_analysis rows path analysis ≡ rows ++ (path, analysis) ∷ []
 put_last [] path analysis none = refl
 put_last (e ∷ rows) path analysis none = by_test (bytes_eq path e.0)
-    (λ h. let z : Some e.1 ≡ None = sym (ap (λ b. cond b (Some e.1) (analysis_at rows path)) h) ∙ none in absurd (cc))
-    (λ h. rw h (ap (λ rs. e ∷ rs) (put_last rows path analysis (sym (ap (λ b. cond b (Some e.1) (analysis_at rows path)) h) ∙ none))))
+    (λ h. let z : Some e.1 ≡ None = rw h at none in absurd (cc))
+    (λ h. rw h (ap (λ rs. e ∷ rs) (put_last rows path analysis (rw h at none))))
 
 at_last : (rows : Rows) (path q : List ℕ) (analysis : Analysis) → analysis_at (rows ++ (path, analysis) ∷ []) q ≡ cond (is_some (analysis_at rows q)) (analysis_at rows q) (cond (bytes_eq q path) (Some analysis) None)
 at_last [] path q analysis = refl
 at_last (e ∷ rows) path q analysis = by_test (bytes_eq q e.0) (λ h. rw h refl) (λ h. rw h (at_last rows path q analysis))
-
-keys_last : (rows : Rows) (path : List ℕ) (analysis : Analysis) → keys_of (rows ++ (path, analysis) ∷ []) ≡ keys_of rows ++ path ∷ []
-keys_last [] path analysis = refl
-keys_last (e ∷ rows) path analysis = ap (λ ks. e.0 ∷ ks) (keys_last rows path analysis)
 
 -- ---- one path more
 
@@ -84,7 +80,7 @@ module _ (what : Analyses) (done : List (List ℕ)) (path : List ℕ) (rest : Li
       let none : analysis_at copy path ≡ None = is.same path ∙ ap (λ b. cond b (what path) None) here in
       let put = put_last copy path analysis none in
       record {
-        keys = ap keys_of put ∙ keys_last copy path analysis ∙ ap (λ ks. ks ++ path ∷ []) is.keys
+        keys = ap keys_of put ∙ map-append (λ (row : List ℕ × Analysis). row.0) copy ((path, analysis) ∷ []) ∙ ap (λ ks. ks ++ path ∷ []) is.keys
             ∙ sym (filter-append (λ p. is_some (what p)) done (path ∷ []) ∙ ap (λ o. analysed what done ++ cond (is_some o) (path ∷ []) []) e);
         same = λ q.
             ap (λ rows. analysis_at rows q) put ∙ at_last copy path q analysis

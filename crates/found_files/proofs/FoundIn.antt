@@ -5,7 +5,7 @@ use Rattle.std.proofs.lemmas.Bool.{and_from, and_parts, or_left, or_right}
 use Rattle.std.proofs.lemmas.List.{map-append}
 use Rattle.std.proofs.lemmas.List.Folds.{list_all-append}
 use Rattle.std.specs.List.{cons_option, filter_map, flat_map, list_all}
-use Rattle.std.specs.Option.{is_none, option_map}
+use Rattle.std.specs.Option.{is_none}
 use Rattle.std.specs.Str.{bytes_eq}
 use Rattle.hwcap_dirs.proofs.Reals.{all_left}
 use Rattle.hwcap_dirs.specs.declared.kinds.Place.{Place}
@@ -29,7 +29,8 @@ use Rattle.found_files.specs.Children.{file_there, file_with, found_of, is_file_
 use Rattle.found_files.specs.FoundFile.{FoundFile, AreFilesOf, IsFileOf, path_of, paths_of}
 use Rattle.found_files.specs.Order.{ascending}
 use Rattle.found_files.specs.RealFolders.{HaveRows}
-use Rattle.found_files.specs.Search.{file_in, files_at, files_of, folder_links, followed, followed_by, link_in, reached, wanted}
+use Rattle.found_files.specs.Link.{FollowedLink}
+use Rattle.found_files.specs.Search.{file_in, files_at, files_of, folder_links, followed, followed_by, link_with, reached, wanted}
 
 -- ---- one path
 
@@ -104,10 +105,10 @@ module _ (t : Nodes) where
 
   -- ---- the files behind links
 
-  abbrev is_there : List ℕ → Bool
+  abbrev pub is_there : List ℕ → Bool
   is_there path = is_file (kind_at t path)
 
-  found_file : (walk : Result (List ℕ) WalkFault) (file : List ℕ) → file_by t walk ≡ Some file → is_there file ≡ true
+  pub found_file : (walk : Result (List ℕ) WalkFault) (file : List ℕ) → file_by t walk ≡ Some file → is_there file ≡ true
   found_file (Err fault) file e = absurd (cc)
   found_file (Ok place) file e = by_test (is_there place)
       (λ h.
@@ -119,13 +120,20 @@ module _ (t : Nodes) where
   all_with None rest one all = all
   all_with (Some file) rest one all = and_from _ _ (one file refl) all
 
+  link_there : (folder name : List ℕ) (n : Option Node) (rest : List FollowedLink) → list_all is_there (filter_map (λ link. link.file) rest) ≡ true
+      → list_all is_there (filter_map (λ link. link.file) (cons_option (link_with t folder name n) rest)) ≡ true
+  link_there folder name None rest all = all
+  link_there folder name (Some node.Dir) rest all = all
+  link_there folder name (Some (node.File key id)) rest all = all
+  link_there folder name (Some (node.Link target)) rest all =
+      let path = join folder name in
+      let link : FollowedLink = record { name = name; target = target; file = file_at t path } in
+      elim (is_library_name name) as (λ b. list_all is_there (filter_map (λ link. link.file) (cons_option (cond b (Some link) None) rest)) ≡ true)
+      [ true ↦ all_with (file_at t path) _ (λ file e. found_file (resolution t path Full) file e) all | false ↦ all ]
+
   links_there : (folder : List ℕ) (names : List (List ℕ)) → list_all is_there (filter_map (λ link. link.file) (filter_map (followed_by t folder) names)) ≡ true
   links_there folder [] = refl
-  links_there folder (name ∷ names) =
-      elim (link_in t folder name) as (λ o. list_all is_there (filter_map (λ link. link.file) (cons_option (option_map (λ path. record { name = name; file = file_at t path }) o) (filter_map (followed_by t folder) names))) ≡ true) [
-        | None ↦ links_there folder names
-        | Some path ↦ all_with (file_at t path) _ (λ file e. found_file (resolution t path Full) file e) (links_there folder names)
-      ]
+  links_there folder (name ∷ names) = link_there folder name (node_at t (join folder name)) (filter_map (followed_by t folder) names) (links_there folder names)
 
   places_there : (places : List Place) → list_all is_there (flat_map files_of (map (folder_links t) places)) ≡ true
   places_there [] = refl

@@ -1,13 +1,13 @@
 pub mod Among
 pub mod Analysed
 pub mod Children
-mod Copied
+pub mod Copied
 pub mod Counted
 pub mod EachOnce
 pub mod Either
 pub mod FolderRows
 mod Folders
-mod FoundIn
+pub mod FoundIn
 mod FoundOnce
 pub mod Gathered
 pub mod InOrder

@@ -22,12 +22,6 @@ is_file_node (Some (node.Link target)) = false
 is_file_node (Some node.Dir) = false
 is_file_node None = false
 
-abbrev pub is_link_node : Option Node → Bool
-is_link_node (Some (node.Link target)) = true
-is_link_node (Some (node.File key id)) = false
-is_link_node (Some node.Dir) = false
-is_link_node None = false
-
 -- the file at a path with this node, if it is one
 abbrev pub file_with : List ℕ → Option Node → Option FoundFile
 file_with path (Some (node.File key id)) = Some (record { path = path; key = key; id = id })

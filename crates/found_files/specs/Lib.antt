@@ -3,6 +3,7 @@ pub mod Best
 pub mod Children
 pub mod Folders
 pub mod FoundFile
+pub mod Led
 pub mod Libraries
 pub mod Library
 pub mod Link

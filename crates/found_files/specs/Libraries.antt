@@ -1,11 +1,10 @@
 -- The libraries of a place, by the analyses of its files (ldconfig(8); gABI: DT_SONAME).
-use Rattle.std.specs.Prelude.{ℕ, List, [], fold, Option, Some, None, unwrap_or}
-use Rattle.std.specs.List.{filter_map, slice_split}
+use Rattle.std.specs.Prelude.{ℕ, List, Option, Some, None, unwrap_or}
+use Rattle.std.specs.List.{filter_map}
 use Rattle.std.specs.Option.{option_and_then}
 use Rattle.hwcap_dirs.specs.declared.kinds.Place.{Place}
 use Rattle.lib_types.specs.declared.analysis.Analysis.{Analysis}
 use Rattle.lib_types.specs.declared.analysis.Analysis.TheVariants.{Lib, Not}
-use Rattle.image_tree.specs.Paths.{is_slash}
 use Rattle.image_tree.specs.Tree.{Nodes, children_of}
 use Rattle.found_files.specs.Search.{file_in}
 use Rattle.found_files.specs.Analyses.{Analyses}
@@ -19,10 +18,6 @@ library_by name own (Not defect) = None
 -- what the name of a file, or of a link to it, is a name of, if the file is a library; a file without an analysis is none
 abbrev pub library_at : Analyses → List ℕ → List ℕ → List ℕ → Option Library
 library_at what path name own = option_and_then (library_by name own) (what path)
-
--- the last name of a path
-abbrev pub last_name : List ℕ → List ℕ
-last_name path = fold (λ _ part. part) [] (slice_split is_slash path)
 
 -- the library of this name in a folder
 abbrev pub library_in : Analyses → Nodes → List ℕ → List ℕ → Option Library

@@ -1,6 +1,7 @@
--- A link with a library name (ldconfig(8)), and the path without links of the file to which it leads, if it leads to one.
+-- A link with a library name (ldconfig(8)), its target, and the path without links of the file to which it leads, if it leads to one.
 use Rattle.std.specs.Prelude.{ℕ, List, Option}
 
 pub record FollowedLink : Type 0 where
   pub name : List ℕ
+  pub target : List ℕ
   pub file : Option (List ℕ)

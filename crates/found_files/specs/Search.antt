@@ -1,31 +1,21 @@
 -- Which files of the searched places are looked at (ldconfig(8): files and links with library names).
-use Rattle.std.specs.Prelude.{ℕ, Bool, true, false, List, ◌&&◌, if◌then◌else◌, flat_map, map, Option, Some, None, option_map}
+use Rattle.std.specs.Prelude.{ℕ, List, ◌&&◌, if◌then◌else◌, flat_map, map, Option, Some, None}
 use Rattle.std.specs.List.{filter_map}
 use Rattle.std.specs.Option.{is_none}
 use Rattle.hwcap_dirs.specs.declared.kinds.Place.{Place}
 use Rattle.name_order.specs.LibraryName.{is_library_name}
 use Rattle.image_tree.specs.Paths.{join}
 use Rattle.path_walk.specs.Files.{file_at, is_file}
-use Rattle.image_tree.specs.Tree.{Nodes, kind_at, children_of}
-use Rattle.image_tree.specs.declared.tree.Kind.{Kind}
-use Rattle.image_tree.specs.declared.tree.Kind.TheVariants as kinds
+use Rattle.image_tree.specs.Tree.{Nodes, kind_at, children_of, node_at}
+use Rattle.image_tree.specs.declared.node.Node.{Node}
+use Rattle.image_tree.specs.declared.node.Node.TheVariants as node
 use Rattle.found_files.specs.Order.{ascending}
 use Rattle.found_files.specs.Link.{FollowedLink}
 use Rattle.found_files.specs.declared.links.FolderLinks.{FolderLinks}
 
-abbrev pub is_link : Kind → Bool
-is_link kinds.Link = true
-is_link kinds.Absent = false
-is_link kinds.Dir = false
-is_link kinds.File = false
-
 -- the path of a name in a folder, if a file with a library name is there
 abbrev pub file_in : Nodes → List ℕ → List ℕ → Option (List ℕ)
 file_in t folder name = if is_library_name name && is_file (kind_at t (join folder name)) then Some (join folder name) else None
-
--- the path of a name in a folder, if a link with a library name is there
-abbrev pub link_in : Nodes → List ℕ → List ℕ → Option (List ℕ)
-link_in t folder name = if is_library_name name && is_link (kind_at t (join folder name)) then Some (join folder name) else None
 
 -- ---- the files with library names
 
@@ -41,9 +31,16 @@ wanted t places = ascending (flat_map (files_in t) places)
 
 -- ---- the links with library names
 
--- a link with a library name in a folder, and the file to which it leads, if it leads to one
+-- the link that a name in a folder is by its node, if it is a library name, and the file to which it leads, if it leads to one
+abbrev pub link_with : Nodes → List ℕ → List ℕ → Option Node → Option FollowedLink
+link_with t folder name (Some (node.Link target)) =
+    if is_library_name name then Some (record { name = name; target = target; file = file_at t (join folder name) }) else None
+link_with t folder name (Some (node.File key id)) = None
+link_with t folder name (Some node.Dir) = None
+link_with t folder name None = None
+
 abbrev pub followed_by : Nodes → List ℕ → List ℕ → Option FollowedLink
-followed_by t folder name = option_map (λ path. record { name = name; file = file_at t path }) (link_in t folder name)
+followed_by t folder name = link_with t folder name (node_at t (join folder name))
 
 abbrev pub followed_in : Nodes → List ℕ → List FollowedLink
 followed_in t folder = filter_map (followed_by t folder) (children_of t folder)

@@ -6,6 +6,7 @@ ghost use Rattle.image_tree.specs.Tree.{Nodes};
 ghost use Rattle.found_files.specs.Children.{IsChild};
 ghost use Rattle.found_files.specs.FoundFile.{paths_of, AreFilesOf};
 ghost use Rattle.found_files.specs.Folders.{by_folder, dangling_in_order, dangling_of};
+ghost use Rattle.found_files.specs.Led.{link_by};
 ghost use Rattle.found_files.specs.Order.{ascending};
 ghost use Rattle.found_files.specs.Analyses.{unread};
 ghost use Rattle.found_files.specs.Search.{dangling, followed, followed_by, followed_in, links_at, reached};
@@ -37,34 +38,41 @@ pub struct FolderLinks {
 /// The links with library names of each place, in the order of the places.
 pub type PlaceLinks = Shared<FolderLinks>;
 
-// Where the link that a child with this node is leads, if it has a library name: to a file, or to none.
-#[tactic(auto, using(crate::proofs::Children::link_same))]
-fn led_by(
+// A link's target, and the file to which it leads, or none.
+#[derive(Drop)]
+struct Led<'a> {
+    target: &'a [u8],
+    file: Option<Text>,
+}
+
+// Where the link that a child with this node is leads, if it has a library name.
+fn led_by<'a>(
     alloc: Global,
     tree: &Tree,
     folder: &[u8],
     name: &[u8],
-    node: Option<&Node>,
-) -> Result<Option<Option<Text>>, NoMemory>
+    node: Option<&'a Node>,
+) -> Result<Option<Led<'a>>, NoMemory>
     requires { IsChild tree.now folder.now (name.now, option_copied node) }
-    ensures { IfOk result (λ led. followed_by tree.now folder.now name.now ≡ option_map (λ file. record { name = name.now; file = file }) led) }
+    ensures { IfOk result (λ led. followed_by tree.now folder.now name.now ≡ option_map (link_by name.now) led) }
 {
     match node {
         Some(Node::Link { target }) if is_library_name(name) => {
-            let file = linked_file(alloc, tree, folder, target.as_bytes())?;
-            Ok(Some(file))
+            let target = target.as_bytes();
+            let file = linked_file(alloc, tree, folder, target)?;
+            Ok(Some(Led { target, file }))
         }
         _ => Ok(None),
     }
 }
 
-// Adds a link with this name, which leads to this file or to none.
-fn add_link(links: &mut FollowedLinks, name: &[u8], file: Option<Text>) -> Result<(), NoMemory>
-    ensures { OnOk result (links.new ≡ links.old ++ record { name = name.now; file = file } ∷ []) }
+// Adds a link with this name, which leads there.
+fn add_link(links: &mut FollowedLinks, name: &[u8], led: Led<'_>) -> Result<(), NoMemory>
+    ensures { OnOk result (links.new ≡ links.old ++ link_by name.now led.entry ∷ []) }
 {
-    match &file {
-        Some(path) => links.push(name, Some(path.as_bytes())),
-        None => links.push(name, None),
+    match &led.file {
+        Some(path) => links.push(name, led.target, Some(path.as_bytes())),
+        None => links.push(name, led.target, None),
     }
 }
 
@@ -75,8 +83,8 @@ fn followed_in(alloc: Global, tree: &Tree, folder: &[u8]) -> Result<FollowedLink
 {
     let mut links = FollowedLinks::new(alloc);
     for (name, node) in tree.listing(folder) {
-        if let Some(file) = led_by(alloc, tree, folder, name, node)? {
-            add_link(&mut links, name, file)?;
+        if let Some(led) = led_by(alloc, tree, folder, name, node)? {
+            add_link(&mut links, name, led)?;
         }
     }
     links.shrink_to_fit();

@@ -18,22 +18,13 @@ use std::alloc::Global;
 use std::cell::Cell;
 use std::marker::Model;
 
-fn copy_of_soname(alloc: Global, soname: &Option<Text>) -> Result<Option<Text>, NoMemory>
-    ensures { IfOk result (λ copy. copy ≡ soname.now) }
-{
-    match soname {
-        Some(soname) => Ok(Some(Text::copy_of(alloc, soname.as_bytes())?)),
-        None => Ok(None),
-    }
-}
-
 fn copy_of(alloc: Global, analysis: &Analysis) -> Result<Analysis, NoMemory>
     ensures { IfOk result (λ copy. copy ≡ analysis.now) }
 {
     match analysis {
         Analysis::Lib { abi, soname } => Ok(Analysis::Lib {
             abi: *abi,
-            soname: copy_of_soname(alloc, soname)?,
+            soname: Text::copy_if_some(alloc, soname)?,
         }),
         Analysis::Not(defect) => Ok(Analysis::Not(*defect)),
     }

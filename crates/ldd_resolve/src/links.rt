@@ -33,22 +33,13 @@ impl Model for Links {
     ghost invariant = { λ s. AreBelow s.links.items };
 }
 
-fn copy_of(alloc: Global, text: &Option<Text>) -> Result<Option<Text>, NoMemory>
-    ensures { IfOk result (λ copy. copy ≡ text.now) }
-{
-    match text {
-        Some(text) => Ok(Some(Text::copy_of(alloc, text.as_bytes())?)),
-        None => Ok(None),
-    }
-}
-
 fn owner_copy(alloc: Global, owner: &Owner) -> Result<Owner, NoMemory>
     ensures { IfOk result (λ copy. copy ≡ owner.now) }
 {
     Ok(Owner {
         origin: Text::copy_of(alloc, owner.origin.as_bytes())?,
-        rpath: copy_of(alloc, &owner.rpath)?,
-        runpath: copy_of(alloc, &owner.runpath)?,
+        rpath: Text::copy_if_some(alloc, &owner.rpath)?,
+        runpath: Text::copy_if_some(alloc, &owner.runpath)?,
         nodeflib: owner.nodeflib,
     })
 }

@@ -1,17 +1,17 @@
 -- Where a text has its bytes, as private functions see it.
 use Rattle.std.specs.Prelude.{ℕ, List, ◌≤◌, take}
 use Rattle.std.specs.Bool.{⊤}
-use Rattle.lib_types.specs.declared.text.Place.{Place}
-use Rattle.lib_types.specs.declared.text.Place.TheVariants.{Here, Apart, Shared}
+use Rattle.lib_types.specs.declared.text.Storage.{Storage}
+use Rattle.lib_types.specs.declared.text.Storage.TheVariants.{Here, Apart, Shared}
 use Rattle.lib_types.specs.declared.text.TheConstants.{SHORT_MAX}
 
-abbrev pub bytes_in : Place → List ℕ
+abbrev pub bytes_in : Storage → List ℕ
 bytes_in (Here len bytes) = take len bytes
 bytes_in (Apart bytes) = bytes.items
 bytes_in (Shared bytes) = bytes.value.items
 
 -- there is room for so many bytes
-abbrev pub IsFilled : Place → Type 0
+abbrev pub IsFilled : Storage → Type 0
 IsFilled (Here len bytes) = len ≤ SHORT_MAX
 IsFilled (Apart bytes) = ⊤
 IsFilled (Shared bytes) = ⊤

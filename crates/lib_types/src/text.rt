@@ -20,7 +20,7 @@ const SHORT_MAX: usize = 30;
 
 // Where the bytes are.
 #[derive(Drop)]
-enum Place {
+enum Storage {
     // Here, the first so many of these.
     Here { len: u8, bytes: [u8; SHORT_MAX] },
     // In a block of memory.
@@ -31,14 +31,14 @@ enum Place {
 
 /// A text of bytes, which contracts see as the list of these bytes. Texts are ordered by their bytes.
 pub struct Text {
-    place: Place,
+    storage: Storage,
 }
 
 // Written out, so that a proof of what drops a text need not follow where the bytes are.
 impl Drop for Text {
     fn drop(self) {
-        let Text { place } = self;
-        drop(place);
+        let Text { storage } = self;
+        drop(storage);
     }
 }
 
@@ -48,9 +48,9 @@ impl Model for Text {
 
     ghost Value = { List ℕ };
 
-    ghost view = { λ t. bytes_in t.place };
+    ghost view = { λ t. bytes_in t.storage };
 
-    ghost invariant = { λ t. IsFilled t.place };
+    ghost invariant = { λ t. IsFilled t.storage };
 }
 
 // So many bytes, of which there is room for more.
@@ -61,7 +61,7 @@ fn here(bytes: &[u8]) -> Text
     let mut room = [0; SHORT_MAX];
     room[..bytes.len()].copy_from_slice(bytes);
     Text {
-        place: Place::Here {
+        storage: Storage::Here {
             len: bytes.len() as u8,
             bytes: room,
         },
@@ -78,7 +78,7 @@ impl Text {
         }
         let bytes = Vec::from_slice(alloc, bytes)?;
         Ok(Text {
-            place: Place::Apart { bytes },
+            storage: Storage::Apart { bytes },
         })
     }
 
@@ -90,7 +90,7 @@ impl Text {
             return here(bytes.as_slice());
         }
         Text {
-            place: Place::Apart { bytes },
+            storage: Storage::Apart { bytes },
         }
     }
 
@@ -98,10 +98,10 @@ impl Text {
     pub fn as_bytes(&self) -> &[u8]
         ensures { result.now ≡ self.now }
     {
-        match &self.place {
-            Place::Here { len, bytes } => &bytes[..*len as usize],
-            Place::Apart { bytes } => bytes.as_slice(),
-            Place::Shared { bytes } => bytes.as_ref().as_slice(),
+        match &self.storage {
+            Storage::Here { len, bytes } => &bytes[..*len as usize],
+            Storage::Apart { bytes } => bytes.as_slice(),
+            Storage::Shared { bytes } => bytes.as_ref().as_slice(),
         }
     }
 
@@ -109,27 +109,37 @@ impl Text {
     pub fn into_shared(self, alloc: Global) -> Result<Text, NoMemory>
         ensures { IfOk result (λ text. text ≡ self) }
     {
-        let Text { place } = self;
-        let place = match place {
-            Place::Apart { bytes } => Place::Shared {
+        let Text { storage } = self;
+        let storage = match storage {
+            Storage::Apart { bytes } => Storage::Shared {
                 bytes: Rc::new(alloc, bytes)?,
             },
-            place => place,
+            storage => storage,
         };
-        Ok(Text { place })
+        Ok(Text { storage })
     }
 
     /// A copy. It takes no memory if the bytes are shared, or so few that they stand in no block.
     pub fn copy(&self, alloc: Global) -> Result<Text, NoMemory>
         ensures { IfOk result (λ text. text ≡ self.now) }
     {
-        if let Place::Shared { bytes } = &self.place {
+        if let Storage::Shared { bytes } = &self.storage {
             let bytes = bytes.clone()?;
             return Ok(Text {
-                place: Place::Shared { bytes },
+                storage: Storage::Shared { bytes },
             });
         }
         Text::copy_of(alloc, self.as_bytes())
+    }
+
+    /// A copy of the text, if there is one.
+    pub fn copy_if_some(alloc: Global, text: &Option<Text>) -> Result<Option<Text>, NoMemory>
+        ensures { IfOk result (λ copy. copy ≡ text.now) }
+    {
+        match text {
+            Some(text) => Ok(Some(text.copy(alloc)?)),
+            None => Ok(None),
+        }
     }
 }
 

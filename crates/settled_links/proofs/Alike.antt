@@ -9,14 +9,14 @@ use Rattle.image_tree.specs.declared.node.Node.{Node}
 use Rattle.image_tree.specs.declared.node.Node.TheVariants as node
 use Rattle.image_tree.specs.declared.tree.Kind.{Kind}
 use Rattle.image_tree.specs.declared.tree.Kind.TheVariants as kinds
+use Rattle.path_walk.specs.Names.{last}
 use Rattle.soname_links.proofs.KindsAt.{is_open}
 use Rattle.soname_links.specs.Plan.{is_taken}
 use Rattle.settled_links.specs.Search.{file_in}
-use Rattle.found_files.specs.Libraries.{last_name}
 
 -- there is a link with a library name at the path, or nothing
 pub record IsSpot (t : Nodes) (path : List ℕ) : Type 0 where
-  pub name : is_library_name (last_name path) ≡ true
+  pub name : is_library_name (last path) ≡ true
   pub kind : is_taken (kind_at t path) ≡ false
   pub node : is_open (node_at t path) ≡ true
 

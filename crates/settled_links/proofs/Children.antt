@@ -13,7 +13,6 @@ use Rattle.hwcap_dirs.proofs.Children.{children_named}
 use Rattle.lib_types.proofs.SortedPairs.{by_test}
 use Rattle.lib_types.specs.Name.{is_name}
 use Rattle.name_order.specs.LibraryName.{is_library_name}
-use Rattle.path_walk.proofs.Linked.{name_alone}
 use Rattle.image_tree.proofs.Rising.{children_sorted}
 use Rattle.image_tree.specs.Paths.{join}
 use Rattle.image_tree.specs.Tree.{Nodes, IsTree, children_of, kind_at, names_below, of_dir}
@@ -21,8 +20,8 @@ use Rattle.image_tree.specs.declared.tree.Kind.{Kind}
 use Rattle.image_tree.specs.declared.tree.Kind.TheVariants as kinds
 use Rattle.settled_links.proofs.Alike.{IsAlike, IsSame, IsSpot, same_dir, turned}
 use Rattle.soname_links.specs.Plan.{is_taken}
-use Rattle.soname_links.proofs.Alone.{last_joined}
 use Rattle.soname_links.proofs.Named.{is_dir_kind}
+use Rattle.found_files.proofs.Last.{last_joined}
 use Rattle.found_files.proofs.Members.{is_in, kept_in, same_members}
 use Rattle.settled_links.proofs.There.{child_there, there_child}
 
@@ -57,7 +56,7 @@ module _ (t new : Nodes) (tree : IsTree t) (after : IsTree new) (d : List ℕ) (
       ∙ and_from _ _ (ap (λ k. not (is_library_name z && is_link k)) same.kind ∙ kept) (there_child new after.entries d still z named (λ a. there (sym same.kind ∙ a)))
   kept_there kept h (inr spots) =
       let named = all_in is_name z (children_of t d) (children_named t d tree.entries) h in
-      let library : is_library_name z ≡ true = sym (ap is_library_name (last_joined d z (name_alone z named))) ∙ spots.0.name in
+      let library : is_library_name z ≡ true = sym (ap is_library_name (last_joined d z named)) ∙ spots.0.name in
       let link = free_there (kind_at t (join d z)) spots.0.kind (child_there t tree.entries d dir z h) in
       let left : is_library_link t d z ≡ true = and_from _ _ library link in
       let gone : is_kept t d z ≡ false = ap not left in

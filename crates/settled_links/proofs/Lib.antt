@@ -1,5 +1,6 @@
 pub mod Agree
 mod Alike
+mod Alone
 mod Children
 mod Ends
 mod Patterns

@@ -17,7 +17,8 @@ use Rattle.lib_types.proofs.Bools.{not_true}
 use Rattle.lib_types.proofs.SortedPairs.{by_test}
 use Rattle.lib_types.specs.Name.{have_no_slash, is_name, slash}
 use Rattle.path_walk.proofs.KindsAt.{at_none, at_path, at_root}
-use Rattle.path_walk.proofs.Linked.{name_alone, some_join}
+use Rattle.path_walk.proofs.Linked.{some_join}
+use Rattle.path_walk.specs.Names.{last}
 use Rattle.image_tree.proofs.Above.{found_any}
 use Rattle.image_tree.proofs.Below.{below_from, below_is}
 use Rattle.image_tree.proofs.Order.{path_total}
@@ -28,9 +29,8 @@ use Rattle.image_tree.specs.Tree.{Nodes, children_of, has_below, is_entry, kind_
 use Rattle.image_tree.specs.declared.node.Node.{Node}
 use Rattle.image_tree.specs.declared.node.Node.TheVariants as node
 use Rattle.image_tree.specs.declared.tree.Kind.TheVariants as kinds
-use Rattle.soname_links.proofs.Alone.{last_joined}
+use Rattle.found_files.proofs.Last.{last_joined}
 use Rattle.found_files.proofs.Members.{is_in}
-use Rattle.found_files.specs.Libraries.{last_name}
 
 -- ---- the first name of a text
 
@@ -143,7 +143,7 @@ module _ (d z : List ℕ) where
 
     not_the_root : bytes_eq (join d z) root ≡ true → ⊥
     not_the_root e =
-        let empty : z ≡ [] = sym (last_joined d z (name_alone z named)) ∙ ap last_name (exact (join d z) root e) in
+        let empty : z ≡ [] = sym (last_joined d z named) ∙ ap last (exact (join d z) root e) in
         let unnamed : is_name z ≡ false = ap is_name empty in
         cc
 

@@ -13,9 +13,10 @@ use Rattle.path_walk.specs.declared.walk.Mode.{Mode}
 use Rattle.path_walk.specs.declared.walk.Mode.TheVariants.{Plain}
 use Rattle.path_walk.specs.declared.walk.TheConstants.{LINKS_MAX}
 use Rattle.path_walk.specs.declared.walk.WalkFault.TheVariants.{Absent}
+use Rattle.found_files.proofs.Last.{last_alone}
 use Rattle.settled_links.proofs.Alike.{IsAlike, IsSame, IsSpot}
+use Rattle.settled_links.proofs.Alone.{AreAlone, IsAlone, both_alone, components_alone}
 use Rattle.soname_links.specs.Plan.{is_taken}
-use Rattle.soname_links.proofs.Alone.{AreAlone, IsAlone, both_alone, components_alone, last_joined}
 
 -- a link with a library name counts as absent
 pub hidden : (name target : List ℕ) (rest : List (List ℕ)) (place : List ℕ) → is_library_name name ≡ true → at_link Plain name target rest place ≡ Ends (Err Absent)
@@ -73,7 +74,7 @@ module _ (t new : Nodes) (alike : IsAlike t new) where
       ∙ ap (at_child (kind_at t path) (at_link Plain name (target_at t path) rest place) (at_file rest path)) e
   child_same name rest place first second alone e (inr spots) =
       let path = join place name in
-      let library : is_library_name name ≡ true = sym (ap is_library_name (last_joined place name alone)) ∙ spots.0.name in
+      let library : is_library_name name ≡ true = sym (ap is_library_name (last_alone place name alone)) ∙ spots.0.name in
       free_absent (kind_at new path) (at_link Plain name (target_at new path) rest place) (at_file rest path) first spots.1.kind (hidden name (target_at new path) rest place library)
       ∙ sym (free_absent (kind_at t path) (at_link Plain name (target_at t path) rest place) (at_file rest path) second spots.0.kind (hidden name (target_at t path) rest place library))
 

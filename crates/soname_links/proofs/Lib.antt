@@ -1,5 +1,4 @@
 mod Abis
-pub mod Alone
 mod Clear
 mod Counted
 mod Grouped

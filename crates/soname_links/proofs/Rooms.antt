@@ -8,10 +8,12 @@ use Rattle.hwcap_dirs.specs.declared.kinds.Place.{Place}
 use Rattle.lib_types.specs.Name.{have_no_slash, is_name, slash}
 use Rattle.name_order.specs.LibraryName.{is_library_name}
 use Rattle.path_walk.proofs.KindsAt.{dir_above}
-use Rattle.path_walk.proofs.Linked.{folder_of_dir, name_alone}
+use Rattle.path_walk.proofs.Linked.{folder_of_dir}
+use Rattle.path_walk.specs.Names.{last}
+use Rattle.found_files.proofs.Last.{last_joined}
 use Rattle.found_files.proofs.Named.{best_named}
 use Rattle.found_files.specs.Best.{best, is_own}
-use Rattle.found_files.specs.Libraries.{last_name, libraries_in}
+use Rattle.found_files.specs.Libraries.{libraries_in}
 use Rattle.found_files.specs.Analyses.{Analyses, HaveNames}
 use Rattle.found_files.specs.Library.{Library}
 use Rattle.image_tree.proofs.Below.{below_from, below_is}
@@ -19,7 +21,6 @@ use Rattle.image_tree.specs.Paths.{is_below, is_path, join, root, stem}
 use Rattle.image_tree.specs.Tree.{Nodes, IsTree, kind_at}
 use Rattle.image_tree.specs.declared.path.TheConstants.{PATH_MAX}
 use Rattle.image_tree.specs.declared.tree.Kind.TheVariants as kinds
-use Rattle.soname_links.proofs.Alone.{last_joined}
 use Rattle.soname_links.proofs.Links.{IsLinkFor, each_link}
 use Rattle.soname_links.proofs.Named.{is_dir_kind, link_named}
 use Rattle.soname_links.specs.Plan.{is_taken, links}
@@ -28,7 +29,7 @@ use Rattle.soname_links.specs.declared.kinds.Planned.{Planned}
 -- a path with a library name where nothing or a link is, and above it directories
 pub record IsRoom (t : Nodes) (path : List ℕ) : Type 0 where
   pub proper : is_path path ≡ true
-  pub name : is_library_name (last_name path) ≡ true
+  pub name : is_library_name (last path) ≡ true
   pub free : is_taken (kind_at t path) ≡ false
   pub above : (q : List ℕ) → is_path q ≡ true → is_below q path ≡ true → kind_at t q ≡ kinds.Dir
 
@@ -88,7 +89,7 @@ room_of : (t : Nodes) (d name : List ℕ) → IsTree t → kind_at t d ≡ kinds
     → is_taken (kind_at t (join d name)) ≡ false → IsRoom t (join d name)
 room_of t d name tree dir named library proper free = record {
   proper = proper;
-  name = ap is_library_name (last_joined d name (name_alone name named)) ∙ library;
+  name = ap is_library_name (last_joined d name named) ∙ library;
   free = free;
   above = dirs_above t tree d name dir (and_parts _ _ (and_parts _ _ named).0).1;
 }

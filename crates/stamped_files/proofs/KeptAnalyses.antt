@@ -1,12 +1,11 @@
 -- What is read keeps the analyses that are there, is right, and leaves no file unread.
-use Rattle.std.proofs.Common.{◌≡◌, ◌++◌, ◌||◌, ℕ, Bool, true, false, cond, List, [], ◌∷◌, refl, ap, sym, subst, ◌∙◌, Option, Some, None}
+use Rattle.std.proofs.Common.{◌≡◌, ◌||◌, ℕ, true, false, cond, List, [], ◌∷◌, refl, ap, sym, subst, ◌∙◌, Option, Some, None}
 use Rattle.std.proofs.lemmas.Slice.Eq.{bytes_eq-Decides}
 use Rattle.std.proofs.lemmas.Cmp.{tied_itself}
 use Rattle.std.specs.Cmp.Lexicographic.{nat_list_cmp_total, slice_cmp}
 use Rattle.std.specs.declared.cmp.Ordering.TheVariants.{Less, Equal}
 use Rattle.std.specs.List.{AllByRecursion}
 use Rattle.std.specs.List.Sorted.{IsStrictlySortedBy}
-use Rattle.std.specs.Map.{keys_of}
 use Rattle.std.specs.Option.{is_none, is_some}
 use Rattle.std.specs.Ordering.{nat_cmp}
 use Rattle.std.specs.Str.{bytes_eq}
@@ -46,30 +45,6 @@ kept_with rows path analysis none q there = by_test (bytes_eq q path)
     let same : q ≡ path = (bytes_eq-Decides q path).0 h in
     let z : false ≡ true = sym (ap is_some (ap (analysis_at rows) same ∙ none)) ∙ there in absurd (cc))
     (λ h. analysis_other rows path q analysis h)
-
--- it is among the paths that have analyses
-pub new_in : (rows : Rows) (path : List ℕ) (analysis : Analysis) (z : List ℕ) → is_in (keys_of (with_analysis rows path analysis)) z ≡ true
-    → (is_in (keys_of rows) z || bytes_eq z path) ≡ true
-new_in [] path analysis z h = only (bytes_eq z path) h
-  where
-    only : (a : Bool) → (a || false) ≡ true → a ≡ true
-    only true h = refl
-    only false h = h
-new_in (e ∷ rows) path analysis z h = by_test (bytes_eq path e.0)
-    (λ same. first_or (bytes_eq z e.0 || is_in (keys_of rows) z) (bytes_eq z path) (rw same at h))
-    (λ other. by_test (bytes_eq z e.0)
-    (λ f. rw f refl)
-    (λ f. rw f (new_in rows path analysis z (rw (other, f) at h))))
-  where
-    first_or : (a b : Bool) → a ≡ true → (a || b) ≡ true
-    first_or a b h = ap (λ c. c || b) h
-
--- and stands behind them
-pub put_last : (rows : Rows) (path : List ℕ) (analysis : Analysis) → analysis_at rows path ≡ None → keys_of (with_analysis rows path analysis) ≡ keys_of rows ++ path ∷ []
-put_last [] path analysis none = refl
-put_last (e ∷ rows) path analysis none = by_test (bytes_eq path e.0)
-    (λ h. let z : Some e.1 ≡ None = rw h at none in absurd (cc))
-    (λ h. rw h (ap (λ l. e.0 ∷ l) (put_last rows path analysis (rw h at none))))
 
 pub right_with : (held : Contents) (t : Nodes) (rows : Rows) (path : List ℕ) (analysis : Analysis) → what_is held t path ≡ Some analysis
     → AreRight held t (analysis_at rows) → AreRight held t (analysis_at (with_analysis rows path analysis))

@@ -28,10 +28,10 @@ use Rattle.tree_face.specs.StoreUse.{Ending, Complete}
 use Rattle.stamped_files.proofs.KeptAnalyses.{not_behind, still_read, unread_others}
 use Rattle.stamped_files.proofs.Opened.{one_opened, opened_alike, opened_append, opened_are, opened_then}
 use Rattle.stamped_files.proofs.Opens.{opened_count}
-use Rattle.stamped_files.specs.Files.{AreRight, unread_key}
+use Rattle.stamped_files.specs.Files.{unread_key}
 use Rattle.stamped_files.specs.Opened.{ReadsOpenedBy, opened_keys, opens}
 use Rattle.stamped_files.specs.Reading.{HasOpened, HasRead, ReadsOne, is_in, is_stamped, keys_opened, opened_by}
-use Rattle.stamped_files.specs.Stamped.{AreSame, AreTrue, IfHonest, stamp_for, stamps_at, with_stamps}
+use Rattle.stamped_files.specs.Stamped.{AreSame, IfHonest, stamp_for, stamps_at, with_stamps}
 use Rattle.stamped_files.specs.declared.files.Files.{Files}
 
 keeps_on : (table now new : List ℕ → Option _) → KeepsAnalyses table now → KeepsAnalyses now new → KeepsAnalyses table new
@@ -109,21 +109,9 @@ module _ (t : Nodes) (loaded : List Stamp) (known : Option Contents) (all : List
       read = λ q there behind. by_test (bytes_eq q path)
           (λ h. subst (λ (p : List ℕ). unread_key t (analysis_at new.table) p ≡ None) (sym ((bytes_eq-Decides q path).0 h)) read.here)
           (λ h. still_read t (analysis_at now.table) (analysis_at new.table) q read.kept (so_far.read q there (ap (λ b. b || is_in rest q) h ∙ behind)));
-      only = λ q there. by_test (bytes_eq q path)
-          (λ h. second (is_in (keys_of old.table) q) (is_in all q) (so_far.within q (ap (λ b. b || is_in rest q) h)))
-          (λ h. so_far.only q (first (is_in (keys_of now.table) q) (bytes_eq q path) (read.only q there) h));
       rows = read.rows ∙ ap (λ l. l ++ at_turn) so_far.rows ∙ append_assoc (keys_of old.table) so_far.ahead at_turn;
-      within = λ q there. so_far.within q (second (bytes_eq q path) (is_in rest q) there);
       sorted = sorted_tail _ path rest so_far.sorted;
     }
-      where
-        second : (a b : _) → b ≡ true → (a || b) ≡ true
-        second true b e = refl
-        second false b e = e
-
-        first : (a b : _) → (a || b) ≡ true → b ≡ false → a ≡ true
-        first true b e f = refl
-        first false b e f = let z : true ≡ false = sym e ∙ f in absurd (cc)
 
     -- ---- the reading ends with this file
 
@@ -213,14 +201,8 @@ module _ (t : Nodes) (loaded : List Stamp) (known : Option Contents) (all : List
         by None opened lacks = tt
         by (Some held) opened lacks = f held opened lacks
 
-    pub all_right : IfHonest known t first (λ held. AreRight held t (analysis_at old.table) → AreRight held t (analysis_at new.table))
-    all_right = with_known _ (λ held opened lacks are same. (opened.honest are same).right)
-
     pub all_stamps : IfHonest known t first (λ held. new.stamps ≡ with_stamps old.stamps (stamps_at held t todo))
     all_stamps = with_known _ (λ held opened lacks are same. ((opened_all held opened).honest are same).stamps)
-
-    pub all_true : IfHonest known t first (λ held. AreTrue held t (loaded ++ new.stamps))
-    all_true = with_known _ (λ held opened lacks are same. (opened.honest are same).are_true)
 
     pub all_stamped : IfKnown known (λ held. (id : Id) → is_stamped (loaded ++ new.stamps) id ≡ is_stamped (first ++ stamps_at held t todo) id)
     all_stamped = with_known _ (λ held opened lacks. (opened_all held opened).stamped)
@@ -257,9 +239,7 @@ module _ (t : Nodes) (loaded : List Stamp) (known : Option Contents) (all : List
     few = omega arith;
     kept = λ q there. refl;
     read = λ q there behind. absurd (cc);
-    only = λ q there. rw there refl;
     rows = sym (append-nil (keys_of old.table));
-    within = λ q there. there;
     sorted = sorted;
   }
     where

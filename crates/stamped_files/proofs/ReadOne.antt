@@ -1,6 +1,6 @@
 -- The reading of one file that has no analysis yet.
 use Rattle.std.proofs.Common.{◌≡◌, ◌+◌, ◌++◌, ◌||◌, ℕ, Bool, true, false, cond, List, [], ◌∷◌, length, refl, ap, sym, subst, ◌∙◌, arith, Option, Some, None, inl, inr, ⊎_elim}
-use Rattle.std.proofs.lemmas.List.{append-nil}
+use Rattle.std.proofs.lemmas.List.{append-nil, map-append}
 use Rattle.std.specs.List.{cons_option}
 use Rattle.std.specs.Map.{keys_of}
 use Rattle.std.specs.Option.{is_none, is_some, option_map, option_and_then}
@@ -10,6 +10,7 @@ use Rattle.aux_cache.specs.Stamps.{put, stamp_of}
 use Rattle.aux_cache.specs.declared.stamps.Stamp.{Stamp}
 use Rattle.elf_dynamic.specs.Analysis.{analysis}
 use Rattle.elf_dynamic.specs.Begun.{key_in, lacks_one}
+use Rattle.found_files.proofs.Copied.{put_last}
 use Rattle.found_files.specs.Analyses.{unread}
 use Rattle.found_files.specs.Table.{analysis_at, with_analysis}
 use Rattle.image_tree.specs.Tree.{Nodes, node_at}
@@ -18,7 +19,7 @@ use Rattle.lib_types.specs.declared.analysis.Analysis.{Analysis}
 use Rattle.lib_types.specs.declared.analysis.Analysis.TheVariants.{Lib, Not}
 use Rattle.tree_face.specs.Known.{IfKnown}
 use Rattle.tree_face.specs.Store.{Contents}
-use Rattle.stamped_files.proofs.KeptAnalyses.{analysis_other, had_none, kept_with, key_there, new_in, put_last, read_then, right_with}
+use Rattle.stamped_files.proofs.KeptAnalyses.{analysis_other, had_none, kept_with, key_there, read_then, right_with}
 use Rattle.stamped_files.proofs.Opened.{one_opened}
 use Rattle.stamped_files.proofs.Stamps.{stamp_by_id, stamp_by_says, stamped_more, stamped_twice}
 use Rattle.stamped_files.specs.Files.{unread_key, what_is}
@@ -164,8 +165,7 @@ module _ (t : Nodes) (loaded : List Stamp) (path key : List ℕ) (old : Files) (
       kept = rw table (kept_with old.table path a none);
       here = rw table (read_then t old.table path a);
       others = rw table (λ q h. analysis_other old.table path q a h);
-      only = rw table (λ q h. new_in old.table path a q h);
-      rows = ap keys_of table ∙ put_last old.table path a none ∙ ap (λ l. keys_of old.table ++ l) (sym unread_one);
+      rows = ap keys_of (table ∙ put_last old.table path a none) ∙ map-append (λ (row : List ℕ × Analysis). row.0) old.table ((path, a) ∷ []) ∙ ap (λ l. keys_of old.table ++ l) (sym unread_one);
       begun = count known (stamp_for here t path) found ∙ ap (λ l. old.begun + length l) (sym one_key);
       none_lacks = lacks known found;
     }
@@ -217,7 +217,6 @@ module _ (t : Nodes) (loaded : List Stamp) (path : List ℕ) (old : Files) (ther
     kept = λ q there. refl;
     here = none_unread;
     others = λ q differs. refl;
-    only = λ q there. rw there refl;
     rows = sym (append-nil (keys_of old.table)) ∙ ap (λ l. keys_of old.table ++ l) (sym none_left);
     begun = let none = ap length none_opened in omega (arith, none);
     none_lacks = none_lacking known;

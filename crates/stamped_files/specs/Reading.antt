@@ -1,5 +1,5 @@
 -- What private functions say of the reading of files, one by one.
-use Rattle.std.specs.Prelude.{◌≡◌, ◌≤◌, ◌+◌, ◌∷◌, ◌++◌, ◌||◌, ℕ, Bool, true, false, List, [], length, Option, Some, None, is_none, is_some, if◌then◌else◌}
+use Rattle.std.specs.Prelude.{◌≡◌, ◌≤◌, ◌+◌, ◌∷◌, ◌++◌, ℕ, Bool, true, false, List, [], length, Option, Some, None, is_none, is_some, if◌then◌else◌}
 use Rattle.std.specs.Cmp.Lexicographic.{slice_cmp}
 use Rattle.std.specs.List.{cons_option, list_any}
 use Rattle.std.specs.List.Sorted.{IsStrictlySortedBy}
@@ -71,7 +71,6 @@ pub record ReadsOne (t : Nodes) (loaded : List Stamp) (path : List ℕ) (known :
   pub kept : KeepsAnalyses (analysis_at old.table) (analysis_at new.table)
   pub here : unread_key t (analysis_at new.table) path ≡ None
   pub others : (other : List ℕ) → bytes_eq other path ≡ false → analysis_at new.table other ≡ analysis_at old.table other
-  pub only : (other : List ℕ) → is_in (keys_of new.table) other ≡ true → (is_in (keys_of old.table) other || bytes_eq other path) ≡ true
   pub rows : keys_of new.table ≡ keys_of old.table ++ unread (analysis_at old.table) (path ∷ [])
   pub begun : new.begun ≡ old.begun + length (keys_opened t (loaded ++ old.stamps) (analysis_at old.table) path)
   pub none_lacks : IfKnown known (λ held. lacks_one held (keys_opened t (loaded ++ old.stamps) (analysis_at old.table) path) ≡ false)
@@ -89,7 +88,5 @@ pub record HasRead (t : Nodes) (loaded : List Stamp) (known : Option Contents) (
   pub few : length keys ≤ length (file_keys t ahead)
   pub kept : KeepsAnalyses (analysis_at old.table) (analysis_at new.table)
   pub read : (path : List ℕ) → is_in all path ≡ true → is_in rest path ≡ false → unread_key t (analysis_at new.table) path ≡ None
-  pub only : (path : List ℕ) → is_in (keys_of new.table) path ≡ true → (is_in (keys_of old.table) path || is_in all path) ≡ true
   pub rows : keys_of new.table ≡ keys_of old.table ++ ahead
-  pub within : (path : List ℕ) → is_in rest path ≡ true → is_in all path ≡ true
   pub sorted : IsStrictlySortedBy (slice_cmp nat_cmp) rest

@@ -1,12 +1,11 @@
 //! The files that are read.
-ghost use Rattle.std.specs.Prelude.{◌≡◌, ◌≤◌, ◌+◌, ◌++◌, ◌||◌, ℕ, List, [], Some, true, false, length, IfOk, IsTrue, OnOk};
+ghost use Rattle.std.specs.Prelude.{◌≡◌, ◌≤◌, ◌+◌, ◌++◌, [], Some, false, length, IfOk, IsTrue, OnOk};
 ghost use Rattle.std.specs.Cmp.Lexicographic.{slice_cmp};
-ghost use Rattle.std.specs.List.{cons_option, list_any};
+ghost use Rattle.std.specs.List.{cons_option};
 ghost use Rattle.std.specs.List.Sorted.{IsStrictlySortedBy};
 ghost use Rattle.std.specs.Map.{keys_of};
 ghost use Rattle.std.specs.Option.{option_and_then};
 ghost use Rattle.std.specs.Ordering.{nat_cmp};
-ghost use Rattle.std.specs.Str.{bytes_eq};
 ghost use Rattle.aux_cache.specs.Stamps.{HaveNames, stamp_of};
 ghost use Rattle.elf_dynamic.specs.Begun.{ReadsKeys, file_keys, lacks_one};
 ghost use Rattle.elf_dynamic.specs.Faults.{analyse_ending};
@@ -148,8 +147,6 @@ pub fn read_files<S: Store>(
         (λ held. AreRight held tree.now (analysis_at files.old.table) → AreRight held tree.now (analysis_at files.new.table))) }
     ensures kept { OnOk result (KeepsAnalyses (analysis_at files.old.table) (analysis_at files.new.table)) }
     ensures all { OnOk result (AreRead tree.now (analysis_at files.new.table) (paths_of found.entry.items)) }
-    ensures only { OnOk result ((path : List ℕ) → list_any (bytes_eq path) (keys_of files.new.table) ≡ true →
-        (list_any (bytes_eq path) (keys_of files.old.table) || list_any (bytes_eq path) (paths_of found.entry.items)) ≡ true) }
     ensures rows { OnOk result (keys_of files.new.table ≡ keys_of files.old.table ++ unread_in files.old found.entry.items) }
     ensures stamps { OnOk result (IfHonest (S.state store.old).held tree.now (stamps_there loaded.now files.old)
         (λ held. files.new.stamps ≡ with_stamps files.old.stamps (stamps_at held tree.now (unread_in files.old found.entry.items)))) }

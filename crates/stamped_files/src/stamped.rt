@@ -24,22 +24,13 @@ fn find<'a>(loaded: &'a Stamps, made: &'a GatheredStamps, id: Id) -> Option<&'a 
     }
 }
 
-fn copy_of(alloc: Global, soname: &Option<Text>) -> Result<Option<Text>, NoMemory>
-    ensures { IfOk result (λ copy. copy ≡ soname.now) }
-{
-    match soname {
-        Some(soname) => Ok(Some(Text::copy_of(alloc, soname.as_bytes())?)),
-        None => Ok(None),
-    }
-}
-
 // What a stamp says that a file is.
 fn analysis_of(alloc: Global, stamp: &Stamp) -> Result<Analysis, NoMemory>
     ensures { IfOk result (λ analysis. analysis ≡ of_stamp stamp.now) }
 {
     Ok(Analysis::Lib {
         abi: stamp.abi,
-        soname: copy_of(alloc, &stamp.soname)?,
+        soname: Text::copy_if_some(alloc, &stamp.soname)?,
     })
 }
 
@@ -73,7 +64,7 @@ fn stamp_with(alloc: Global, id: Id, analysis: &Analysis) -> Result<Option<Stamp
         Analysis::Lib { abi, soname } => Ok(Some(Stamp {
             id,
             abi: *abi,
-            soname: copy_of(alloc, soname)?,
+            soname: Text::copy_if_some(alloc, soname)?,
         })),
         Analysis::Not(_) => Ok(None),
     }

@@ -12,16 +12,6 @@ use lib_types::{NoMemory, Text};
 use std::alloc::Global;
 use tree_face::Tag;
 
-/// A copy of what a slot holds.
-pub(crate) fn copy(alloc: Global, content: &Option<Text>) -> Result<Option<Text>, NoMemory>
-    ensures { IfOk result (λ copy. copy ≡ content.now) }
-{
-    match content {
-        Some(text) => Ok(Some(Text::copy_of(alloc, text.as_bytes())?)),
-        None => Ok(None),
-    }
-}
-
 // The last of these posts.
 fn last_of<'a>(posts: &'a [Post], published: &[u32]) -> Option<&'a Post>
     ensures { option_copied result ≡ last_of posts.now published.now }
@@ -47,7 +37,7 @@ fn load(alloc: Global, machine: &Machine, posts: &[Post]) -> Result<Reading, NoM
     Ok(Reading {
         published: machine.published().len() as u32,
         writer: writer_of(posts, machine.published()),
-        bytes: copy(alloc, machine.cache())?,
+        bytes: Text::copy_if_some(alloc, machine.cache())?,
     })
 }
 
@@ -86,7 +76,7 @@ fn reading(
 {
     let bytes = match last_of(posts, published) {
         Some(post) => Some(Text::copy_of(alloc, post.bytes.as_bytes())?),
-        None => copy(alloc, first)?,
+        None => Text::copy_if_some(alloc, first)?,
     };
     Ok(Reading {
         published: published.len() as u32,

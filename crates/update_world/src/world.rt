@@ -8,7 +8,7 @@ ghost use Rattle.update_world.specs.Worlds.{HasTaken, IsFaultOf, Stands, new_wor
 use crate::fault::WorldFault;
 use crate::machine::Machine;
 use crate::post::{Posts, Reading, Readings, Turn};
-use crate::readings::{copy, readings_from, take_turn};
+use crate::readings::{readings_from, take_turn};
 use crate::tags::repeated_tag;
 use lib_types::{NoMemory, Text};
 use std::alloc::Global;
@@ -41,7 +41,7 @@ fn begin(alloc: Global, first: Option<Text>, posts: Posts) -> Result<World, NoMe
     ensures made { IfOk result (λ world. world ≡ new_world first posts) }
     ensures stands { IfOk result Stands }
 {
-    let machine = Machine::new(alloc, copy(alloc, &first)?, posts.as_slice())?;
+    let machine = Machine::new(alloc, Text::copy_if_some(alloc, &first)?, posts.as_slice())?;
     Ok(World {
         first,
         posts,

@@ -1,14 +1,13 @@
 -- The entries fit a cache: their names are names, and their paths are short and have no NUL.
-use Rattle.std.proofs.Common.{◌≡◌, ◌≤◌, ◌+◌, ◌<◌, ℕ, Bool, true, false, cond, ◌&&◌, nat_eq, nat_le, List, [], ◌∷◌, ◌++◌, length, map, drop, refl, ap, sym, subst, ◌∙◌, Option, Some, None, Result, Ok, Err, arith}
+use Rattle.std.proofs.Common.{◌≡◌, ◌≤◌, ◌+◌, ℕ, Bool, true, false, cond, ◌&&◌, nat_le, List, [], ◌∷◌, ◌++◌, length, map, refl, ap, sym, subst, ◌∙◌, Option, Some, None, arith}
 use Rattle.std.proofs.lemmas.Bool.{and_from, and_parts}
 use Rattle.std.proofs.lemmas.Bool.Decides.{nat_tests}
 use Rattle.std.proofs.lemmas.List.Folds.{list_all-append}
-use Rattle.std.proofs.lemmas.List.Splits.{length-slice_split, slice_split-cons_yes}
 use Rattle.std.proofs.lemmas.List.Elements.{All-cons, All-nil, All-weaker}
 use Rattle.std.proofs.lemmas.List.Sorted.{All-permutation, length_permutation}
 use Rattle.std.specs.Bool.{IsTrue}
-use Rattle.std.specs.List.{All, fold, list_all, slice_split, starts_with}
-use Rattle.std.specs.Option.{IfSome, option_map}
+use Rattle.std.specs.List.{All, list_all}
+use Rattle.std.specs.Option.{IfSome}
 use Rattle.std.specs.Str.{bytes_eq}
 use Rattle.hwcap_dirs.proofs.Reals.{all_given, all_items, any_item}
 use Rattle.hwcap_dirs.proofs.Spelled.{joined_size, name_short}
@@ -18,34 +17,33 @@ use Rattle.hwcap_dirs.specs.declared.kinds.Place.{Place}
 use Rattle.lib_types.proofs.SortedPairs.{by_test}
 use Rattle.lib_types.specs.Name.{is_name}
 use Rattle.lib_types.specs.declared.entry.Entry.{Entry}
+use Rattle.name_order.specs.LibraryName.{is_library_name}
 use Rattle.path_walk.proofs.NoNul.{joined_clean, name_clean}
+use Rattle.path_walk.specs.Names.{last}
 use Rattle.path_walk.specs.Walk.{resolution}
 use Rattle.path_walk.specs.declared.walk.Mode.TheVariants.{Full}
-use Rattle.path_walk.specs.declared.walk.WalkFault.{WalkFault}
 use Rattle.image_tree.specs.Node.{has_no_nul}
-use Rattle.image_tree.specs.Paths.{are_names, is_path, is_slash, join, root}
+use Rattle.image_tree.specs.Paths.{is_path, join, root}
 use Rattle.cache_writer.specs.declared.writer.TheConstants.{ENTRIES_MAX, STRING_MAX}
-use Rattle.image_tree.specs.declared.path.TheConstants.{PATH_MAX}
-use Rattle.image_tree.specs.Tree.{Nodes, IsTree, children_of, kind_at}
+use Rattle.image_tree.specs.Tree.{Nodes, IsTree, children_of, kind_at, node_at}
+use Rattle.image_tree.specs.declared.node.Node.{Node}
+use Rattle.image_tree.specs.declared.node.Node.TheVariants as node
 use Rattle.hwcap_dirs.proofs.Children.{children_named}
+use Rattle.found_files.proofs.FoundIn.{found_file}
+use Rattle.found_files.proofs.Last.{named_last}
 use Rattle.found_files.proofs.Named.{at_named, best_meets, has_names, libraries_named}
 use Rattle.found_files.specs.Best.{best, sonames}
 use Rattle.winning_entries.specs.Entries.{AreEntriesOf, entries_in, entry_name, entry_of, found, is_by_soname, is_fit}
 use Rattle.found_files.specs.Libraries.{libraries_in}
 use Rattle.found_files.specs.Places.{by_place}
-use Rattle.path_walk.specs.Files.{file_at, file_by, is_file}
-use Rattle.found_files.specs.Search.{followed_by, followed_in, link_in}
+use Rattle.path_walk.specs.Files.{file_at, is_file}
+use Rattle.found_files.specs.Search.{followed_by, followed_in, link_with}
 use Rattle.found_files.specs.Link.{FollowedLink}
 use Rattle.found_files.specs.Analyses.{Analyses, HaveNames}
 use Rattle.winning_entries.specs.Winner.{has_own_name, library_behind, linked, links_to_libraries, named, named_links, or_else, other_links, unnamed, winner, winners_in}
-use Rattle.found_files.specs.Libraries.{last_name}
 use Rattle.found_files.specs.Library.{Library}
 
--- ---- the last name of a file's path
-
-last_of : (parts : List (List ℕ)) (name : List ℕ) → is_name name ≡ true → list_all is_name parts ≡ true → is_name (fold (λ _ part. part) name parts) ≡ true
-last_of [] name h all = h
-last_of (part ∷ parts) name h all = last_of parts part (and_parts _ _ all).0 (and_parts _ _ all).1
+-- ---- the libraries behind links
 
 module _ (t : Nodes) where
   -- a file has a path
@@ -54,62 +52,43 @@ module _ (t : Nodes) where
       (λ e. let z : is_file (kind_at t path) ≡ false = rw e refl in absurd (cc))
       (λ e. by_test (is_path path) (λ f. f) (λ f. let z : is_file (kind_at t path) ≡ false = rw (e, f) refl in absurd (cc)))
 
-  last_among : (parts : List (List ℕ)) → 0 < length parts → list_all is_name parts ≡ true → is_name (fold (λ _ part. part) [] parts) ≡ true
-  last_among [] some all = absurd (omega arith)
-  last_among (part ∷ parts) some all = last_of parts part (and_parts _ _ all).0 (and_parts _ _ all).1
-
-  last_named : (path : List ℕ) → is_path path ≡ true → is_name (last_name path) ≡ true
-  last_named [] h = absurd (cc)
-  last_named (x ∷ rest) h =
-      let parts = and_parts (nat_le (length (x ∷ rest)) PATH_MAX && starts_with nat_eq (x ∷ rest) root) (are_names (drop 1 (x ∷ rest))) h in
-      let begins : starts_with nat_eq (x ∷ rest) root ≡ true = (and_parts (nat_le (length (x ∷ rest)) PATH_MAX) (starts_with nat_eq (x ∷ rest) root) parts.0).1 in
-      let starts : nat_eq 47 x ≡ true = (and_parts (nat_eq 47 x) _ begins).0 in
-      let slash : is_slash x ≡ true = grind (arith, nat_tests) in
-      ap (λ names. is_name (fold (λ _ part. part) [] names)) (slice_split-cons_yes is_slash x rest slash)
-      ∙ last_among (slice_split is_slash rest) (omega (arith, length-slice_split is_slash rest)) parts.1
-
-  -- ---- the libraries behind links
-
-  file_found : (walk : Result (List ℕ) WalkFault) (file : List ℕ) → file_by t walk ≡ Some file → is_file (kind_at t file) ≡ true
-  file_found (Err fault) file e = absurd (cc)
-  file_found (Ok place) file e = by_test (is_file (kind_at t place))
-      (λ h.
-      let found : Some place ≡ Some file = sym (ap (λ b. cond b (Some place) None) h) ∙ e in
-      let same : place ≡ file = cc in subst (λ (p : List ℕ). is_file (kind_at t p) ≡ true) same h)
-      (λ h. let none : None ≡ Some file = sym (ap (λ b. cond b (Some place) None) h) ∙ e in absurd (cc))
-
   -- the last name of a file to which a link leads is a name
   abbrev is_led : Option (List ℕ) → Bool
   is_led None = true
-  is_led (Some file) = is_name (last_name file)
+  is_led (Some file) = is_name (last file)
 
   led : (path : List ℕ) (file : Option (List ℕ)) → file_at t path ≡ file → is_led file ≡ true
   led path None e = refl
-  led path (Some file) e = last_named file (path_of_file file (file_found (resolution t path Full) file e))
+  led path (Some file) e = named_last file (path_of_file file (found_file t (resolution t path Full) file e))
 
   abbrev is_named_well : FollowedLink → Bool
   is_named_well link = is_name link.name && is_led link.file
 
-  followed_named : (name : List ℕ) (link : FollowedLink) (path : Option (List ℕ)) → is_name name ≡ true
-      → option_map (λ path. record { name = name; file = file_at t path }) path ≡ Some link → is_named_well link ≡ true
-  followed_named name link None n e = absurd (cc)
-  followed_named name link (Some path) n e =
-      let made : FollowedLink = record { name = name; file = file_at t path } in
-      let found : Some made ≡ Some link = e in
+  followed_named : (folder name : List ℕ) (link : FollowedLink) (n : Option Node) → is_name name ≡ true → link_with t folder name n ≡ Some link → is_named_well link ≡ true
+  followed_named folder name link None n e = absurd (cc)
+  followed_named folder name link (Some node.Dir) n e = absurd (cc)
+  followed_named folder name link (Some (node.File key id)) n e = absurd (cc)
+  followed_named folder name link (Some (node.Link target)) n e =
+      let path = join folder name in
+      let made : FollowedLink = record { name = name; target = target; file = file_at t path } in
+      by_test (is_library_name name)
+      (λ h.
+      let found : Some made ≡ Some link = sym (ap (λ b. cond b (Some made) None) h) ∙ e in
       let same : made ≡ link = cc in
-      subst (λ (l : FollowedLink). is_named_well l ≡ true) same (and_from _ _ n (led path (file_at t path) refl))
+      subst (λ (l : FollowedLink). is_named_well l ≡ true) same (and_from _ _ n (led path (file_at t path) refl)))
+      (λ h. let none : None ≡ Some link = sym (ap (λ b. cond b (Some made) None) h) ∙ e in absurd (cc))
 
   module _ (what : Analyses) (names : HaveNames what) where
     linked_named : (name : List ℕ) (library : Library) (file : Option (List ℕ)) → is_name name ≡ true → is_led file ≡ true
         → library_behind what name file ≡ Some library → has_names library ≡ true
-    linked_named name library None n last e = absurd (cc)
-    linked_named name library (Some file) n last e = at_named what names file name (last_name file) library (what file) n last refl e
+    linked_named name library None n l e = absurd (cc)
+    linked_named name library (Some file) n l e = at_named what names file name (last file) library (what file) n l refl e
 
     pub links_named_well : (tree : IsTree t) (place : Place) → list_all has_names (links_to_libraries what t place) ≡ true
     links_named_well tree place =
         all_given has_names is_named_well (linked what)
         (λ link library named e. let parts = and_parts (is_name link.name) (is_led link.file) named in linked_named link.name library link.file parts.0 parts.1 e) (followed_in t place.real)
-        (all_given is_named_well is_name (followed_by t place.real) (λ name link n e. followed_named name link (link_in t place.real name) n e)
+        (all_given is_named_well is_name (followed_by t place.real) (λ name link n e. followed_named place.real name link (node_at t (join place.real name)) n e)
         (children_of t place.real) (children_named t place.real tree.entries))
 
 -- ---- the winners

@@ -3,6 +3,7 @@ pub mod Fit
 mod FolderCounts
 pub mod InOneOrder
 pub mod Led
+mod LinksOf
 mod Merged
 pub mod NoOtherFiles
 pub mod OneEach

@@ -6,10 +6,11 @@ use Rattle.std.specs.Option.{option_and_then}
 use Rattle.std.specs.Str.{bytes_eq}
 use Rattle.hwcap_dirs.specs.declared.kinds.Place.{Place}
 use Rattle.image_tree.specs.Tree.{Nodes}
+use Rattle.path_walk.specs.Names.{last}
 use Rattle.found_files.proofs.Members.{is_in, itself}
 use Rattle.found_files.proofs.NoOtherFiles.{agree_first, agree_in_order, agree_later, by_place_same, libraries_agree}
 use Rattle.found_files.specs.Analyses.{Analyses, AgreeOn}
-use Rattle.found_files.specs.Libraries.{last_name, libraries_in, library_by}
+use Rattle.found_files.specs.Libraries.{libraries_in, library_by}
 use Rattle.found_files.specs.Search.{files_of, folder_links, followed, followed_in, reached, wanted}
 use Rattle.found_files.specs.Link.{FollowedLink}
 use Rattle.winning_entries.specs.Entries.{entry_of, found}
@@ -26,7 +27,7 @@ module _ (what new : Analyses) where
         | None ↦ λ s. same_links links s
         | Some file ↦ λ s.
             let here : library_behind new link.name (Some file) ≡ library_behind what link.name (Some file) =
-            ap (option_and_then (library_by link.name (last_name file))) (s file (or_left (bytes_eq file file) (is_in (behind links) file) (itself file))) in
+            ap (option_and_then (library_by link.name (last file))) (s file (or_left (bytes_eq file file) (is_in (behind links) file) (itself file))) in
             let rest = same_links links (λ q h. s q (or_right (bytes_eq q file) (is_in (behind links) q) h)) in
             ap (λ o. cons_option o (filter_map (linked new) links)) here ∙ ap (cons_option (library_behind what link.name (Some file))) rest
       ] same

@@ -1,5 +1,5 @@
 -- Links that lose to files may be left out.
-use Rattle.std.proofs.Common.{◌≡◌, ℕ, Bool, true, false, cond, List, [], ◌∷◌, ◌++◌, refl, ap, subst, sym, ◌∙◌, Option, Some, None}
+use Rattle.std.proofs.Common.{◌≡◌, ℕ, true, false, cond, List, [], ◌∷◌, ◌++◌, refl, ap, subst, sym, ◌∙◌, Option, Some, None}
 use Rattle.std.proofs.lemmas.Slice.Eq.{bytes_eq-Decides}
 use Rattle.std.specs.Cmp.Lexicographic.{slice_cmp}
 use Rattle.std.specs.List.{cons_option, filter, filter_map, slice_get}
@@ -11,7 +11,7 @@ use Rattle.found_files.proofs.InOrder.{same_text}
 use Rattle.found_files.specs.Best.{has_soname}
 use Rattle.found_files.specs.Library.{Library}
 use Rattle.winning_entries.specs.Others.{has_file, AreAmong, HaveOthers, IsPassed}
-use Rattle.winning_entries.specs.Winner.{has_own_name, named, named_links, other_links, unnamed}
+use Rattle.winning_entries.specs.Winner.{named, named_links, other_links, unnamed}
 
 pub all_kept : (files links : List Library) → HaveOthers files links links
 all_kept files links = record { own = λ soname h. refl; others = refl }

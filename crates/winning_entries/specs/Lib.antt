@@ -1,6 +1,7 @@
 pub mod Counts
 pub mod Entries
 pub mod Led
+pub mod LinksOf
 pub mod Merged
 pub mod Others
 pub mod Parts

@@ -3,8 +3,9 @@ use Rattle.std.specs.Prelude.{ℕ, Bool, List, ◌++◌, ◌&&◌, ◌||◌, nat
 use Rattle.std.specs.List.{ends_with, filter_map, starts_with}
 use Rattle.hwcap_dirs.specs.declared.kinds.Place.{Place}
 use Rattle.image_tree.specs.Tree.{Nodes}
+use Rattle.path_walk.specs.Names.{last}
 use Rattle.found_files.specs.Best.{best, is_own, sonames}
-use Rattle.found_files.specs.Libraries.{last_name, libraries_in, library_at}
+use Rattle.found_files.specs.Libraries.{libraries_in, library_at}
 use Rattle.found_files.specs.Search.{followed_in}
 use Rattle.found_files.specs.Analyses.{Analyses}
 use Rattle.found_files.specs.Library.{Library}
@@ -14,7 +15,7 @@ use Rattle.found_files.specs.Link.{FollowedLink}
 
 -- the library to which a link leads, by the link's name
 abbrev pub library_behind : Analyses → List ℕ → Option (List ℕ) → Option Library
-library_behind what name (Some file) = library_at what file name (last_name file)
+library_behind what name (Some file) = library_at what file name (last file)
 library_behind what name None = None
 
 abbrev pub linked : Analyses → FollowedLink → Option Library

@@ -4,6 +4,7 @@
 mod contending;
 mod counts;
 mod fault;
+mod links_of;
 mod listing;
 mod winner;
 mod winners;

@@ -2,9 +2,7 @@
 ghost use Rattle.std.specs.Prelude.{◌≡◌, ◌≤◌, ◌+◌, ◌++◌, All, IfErr, IfOk, IsTrue, OnOk, length, map};
 ghost use Rattle.cache_writer.specs.declared.writer.TheConstants.{ENTRIES_MAX};
 ghost use Rattle.hwcap_dirs.specs.Places.{are_spelled};
-ghost use Rattle.image_tree.specs.Paths.{join};
 ghost use Rattle.found_files.specs.Best.{bests_in, bests_of};
-ghost use Rattle.found_files.specs.Places.{links_to};
 ghost use Rattle.found_files.specs.Search.{folder_links, followed};
 ghost use Rattle.winning_entries.specs.Entries.{cap_of, entries_in, entry_of, entry_order, found, is_by_soname, is_fit, AreEntriesOf, IsEntryFault, IsOnlyListOf};
 ghost use Rattle.winning_entries.specs.Led.{LeadAsSearched};
@@ -14,16 +12,17 @@ ghost use Rattle.winning_entries.specs.Parts.{IsCountFault};
 
 use crate::counts::count_in;
 use crate::fault::EntryFault;
+use crate::links_of::LinksOf;
 use crate::winners::{Winners, winners_in};
 use cache_writer::ENTRIES_MAX;
 use found_files::{
-    BestLibraries, FolderLinks, Library, PlaceBests, PlaceLinks, Table, is_own, is_plain, links_to,
+    BestLibraries, FolderLinks, Library, PlaceBests, PlaceLinks, Table, is_own, is_plain,
 };
 use hwcap_dirs::{Dirs, Place};
 use indexmap::IndexMap;
 use lib_types::{Entries, Entry, NoMemory, Seq, Text};
 use name_order::compare;
-use path_walk::{join, join_into};
+use path_walk::join;
 use std::alloc::Global;
 use std::cmp::Ordering;
 use tree_face::Tree;
@@ -56,28 +55,15 @@ fn compare_entries(a: &Entry, b: &Entry) -> Ordering
 
 // ---- the entries of the places
 
-// Whether there is a link of the first name with the second as its text. The path is room for the link's.
-fn has_link(
-    tree: &Tree,
-    folder: &[u8],
-    name: &[u8],
-    text: &[u8],
-    path: &mut Vec<u8>,
-) -> Result<bool, NoMemory>
-    ensures { IfOk result (λ leads. leads ≡ links_to tree.now (join folder.now name.now) text.now) }
-{
-    join_into(path, folder, name)?;
-    Ok(links_to(tree, path, text))
-}
-
-// Whether the soname leads to the winner.
+// Whether the soname leads to the winner, given the links of the place.
 fn is_by_soname(
-    tree: &Tree,
     place: &Place,
     winner: &Library<'_>,
-    path: &mut Vec<u8>,
+    links: &mut LinksOf<'_>,
 ) -> Result<bool, NoMemory>
-    ensures { IfOk result (λ leads. leads ≡ is_by_soname tree.now place.now winner.now) }
+    requires { links.old.path ≡ place.now.real }
+    ensures leads { IfOk result (λ leads. leads ≡ is_by_soname links.old.tree place.now winner.now) }
+    ensures same { links.new ≡ links.old }
 {
     if !is_plain(place) {
         return Ok(false);
@@ -85,31 +71,22 @@ fn is_by_soname(
     if is_own(winner) {
         return Ok(true);
     }
-    let folder = place.real.as_bytes();
-    has_link(tree, folder, winner.soname, winner.name, path)
+    links.has(winner.soname, winner.name)
 }
 
-fn copy_of_cap(alloc: Global, cap: &Option<Text>) -> Result<Option<Text>, NoMemory>
-    ensures { IfOk result (λ copy. copy ≡ cap.now) }
-{
-    match cap {
-        Some(cap) => Ok(Some(Text::copy_of(alloc, cap.as_bytes())?)),
-        None => Ok(None),
-    }
-}
-
-// The entry of a winner. The path is room for that of a link.
+// The entry of a winner, given the links of the place.
 fn entry_of(
     alloc: Global,
-    tree: &Tree,
     number: u32,
     place: &Place,
     winner: &Library<'_>,
-    path: &mut Vec<u8>,
+    links: &mut LinksOf<'_>,
 ) -> Result<Entry, NoMemory>
-    ensures { IfOk result (λ entry. entry ≡ entry_of tree.now number place.now winner.now) }
+    requires { links.old.path ≡ place.now.real }
+    ensures entry { IfOk result (λ entry. entry ≡ entry_of links.old.tree number place.now winner.now) }
+    ensures same { links.new ≡ links.old }
 {
-    let name = if is_by_soname(tree, place, winner, path)? {
+    let name = if is_by_soname(place, winner, links)? {
         winner.soname
     } else {
         winner.name
@@ -117,7 +94,7 @@ fn entry_of(
     Ok(Entry {
         soname: Text::copy_of(alloc, winner.soname)?,
         abi: winner.abi,
-        cap: copy_of_cap(alloc, &place.cap)?,
+        cap: Text::copy_if_some(alloc, &place.cap)?,
         path: join(alloc, place.spelled.as_bytes(), name)?,
         place: number,
     })
@@ -139,19 +116,21 @@ fn add_entries(
     number: u32,
     place: &Place,
     winners: &Winners<'_>,
+    links: &FolderLinks,
     found: &mut Counted,
 ) -> Result<(), NoMemory>
+    requires { links.now ≡ folder_links tree.now place.now }
     ensures count { OnOk result (found.new.count ≡ found.old.count + length winners.now) }
     ensures kept { OnOk result (found.new.count ≤ ENTRIES_MAX
         → found.new.entries.items ≡ found.old.entries.items ++ map (entry_of tree.now number place.now) winners.now) }
     ensures winners { OnOk result (found.new.winners ≡ found.old.winners) }
 {
-    let mut path = Vec::new(alloc);
+    let mut by_name = LinksOf::new(alloc, tree, place, links);
     found.entries.reserve(winners.most())?;
     for winner in winners.iter() {
         found.count = found.count.checked_add(1).ok_or(NoMemory)?;
         if found.count <= ENTRIES_MAX {
-            let entry = entry_of(alloc, tree, number, place, &winner, &mut path)?;
+            let entry = entry_of(alloc, number, place, &winner, &mut by_name)?;
             found.entries.push(entry)?;
         }
     }
@@ -177,7 +156,7 @@ fn add_place(
     ensures winners { OnOk result (found.new.winners ≡ found.old.winners) }
 {
     let winners = winners_in(alloc, table, files, links)?;
-    add_entries(alloc, tree, number, place, &winners, found)
+    add_entries(alloc, tree, number, place, &winners, links, found)
 }
 
 // Adds the entries of a place, or counts them past the limit.

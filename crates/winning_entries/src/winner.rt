@@ -1,50 +1,35 @@
 //! The links of a place: the libraries to which they lead, and which of them win.
 ghost use Rattle.std.specs.Prelude.{◌≡◌, [], map, unwrap_or, IfOk};
-ghost use Rattle.std.specs.List.{filter_map};
-ghost use Rattle.found_files.specs.Libraries.{last_name, library_at};
+ghost use Rattle.found_files.specs.Libraries.{library_at};
 ghost use Rattle.found_files.specs.Pick.{better_by};
 ghost use Rattle.winning_entries.specs.Ranked.{by_sonames, is_before, libraries_of, rank_of, ranked_link, soname_of};
 ghost use Rattle.winning_entries.specs.Winner.{has_own_name, is_dev_name, linked, winners_among};
 ghost use Rattle.found_files.specs.Table.{analysis_at};
+ghost use Rattle.path_walk.specs.Names.{last};
 
 use found_files::{
     BestLibraries, BySoname, FollowedLink, Gather, Library, Table, gather_by_soname, is_own,
     is_preferred,
 };
 use lib_types::{Analysis, NoMemory, Text};
-use path_walk::cut;
+use path_walk::parted;
 use std::alloc::Global;
 
 // ---- links to libraries
 
-// The last name of a path.
-fn last_name(path: &[u8]) -> &[u8]
-    ensures { result.now ≡ last_name path.now }
-{
-    let (first, rest) = cut(path);
-    let mut last = first;
-    let mut left = rest;
-    while let Some(bytes) = left {
-        let (part, more) = cut(bytes);
-        last = part;
-        left = more;
-    }
-    last
-}
-
 // The soname of a file's analysis, or the file's own name if it has none, which is searched for only then.
 fn soname_behind<'a>(soname: &'a Option<Text>, file: &'a [u8]) -> &'a [u8]
-    ensures { result.now ≡ unwrap_or soname.now (last_name file.now) }
+    ensures { result.now ≡ unwrap_or soname.now (last file.now) }
 {
     match soname {
         Some(soname) => soname.as_bytes(),
-        None => last_name(file),
+        None => parted(file).1,
     }
 }
 
 // What a name is the name of, given the path of the file to which it leads.
 fn library_behind<'a>(table: &'a Table, name: &'a [u8], file: &'a [u8]) -> Option<Library<'a>>
-    ensures { result ≡ library_at (analysis_at table.now) file.now name.now (last_name file.now) }
+    ensures { result ≡ library_at (analysis_at table.now) file.now name.now (last file.now) }
 {
     match table.get(file) {
         Some(Analysis::Lib { abi, soname }) => Some(Library {

@@ -1,14 +1,11 @@
-use Rattle.std.proofs.Common.{rules, ◌≡◌, ◌||◌, ℕ, Bool, true, false, List, Err, nat_cmp, sym, subst}
+use Rattle.std.proofs.Common.{rules, ◌≡◌, ℕ, List, Err, nat_cmp, sym, subst}
 use Rattle.std.specs.Cmp.Lexicographic.{slice_cmp}
-use Rattle.std.specs.List.{list_any}
 use Rattle.std.specs.List.Sorted.{IsStrictlySortedBy}
-use Rattle.std.specs.Map.{keys_of}
-use Rattle.std.specs.Str.{bytes_eq}
 use Rattle.found_files.proofs.Unread.{unread_sorted}
 use Rattle.found_files.specs.Analyses.{Analyses, unread}
 use Rattle.found_files.specs.Search.{reached}
 use Rattle.found_files.specs.Table.{analysis_at}
-use Rattle.stamped_files.proofs.Unread.{all_read, among_all, unread_twice}
+use Rattle.stamped_files.proofs.Unread.{all_read, among_both, unread_twice}
 use Rattle.tree_face.proofs.StoreUse.{reads_all}
 use Rattle.searched_image.proofs.FilesAgree.{reached_sorted}
 use Rattle.searched_image.specs.declared.fault.FindFault.TheVariants as finding
@@ -17,10 +14,6 @@ use Rattle.searched_image.proofs.following.follow_links.Goals as goal
 -- the files of these that have no analysis are those of all
 those : (what : Analyses) (paths files : List (List ℕ)) → paths ≡ unread what files → unread what paths ≡ unread what files
 those what paths files is = rw is (unread_twice what files)
-
-either : (a b c : Bool) → (b ≡ true → c ≡ true) → (a || b) ≡ true → (a || c) ≡ true
-either true b c h e = e
-either false b c h e = h e
 
 pub read_files-requires : goal.read_files-requires
 read_files-requires g c = record {
@@ -47,11 +40,9 @@ returns-clause-all g c =
     all_read c.args.tree.now _ _ _ c.in_ok-read_files.ensures.kept (rw is at c.in_ok-read_files.ensures.all)
 
 pub returns-clause-only : goal.returns-clause-only
-returns-clause-only g c path there =
-    let files = reached c.args.tree.now c.args.dirs.now.places in
-    let is = c.in_ok-found.ensures.paths in
-    either (list_any (bytes_eq path) (keys_of c.args.files.now.table)) (list_any (bytes_eq path) (unread (analysis_at c.args.files.now.table) files)) (list_any (bytes_eq path) files)
-    (among_all (analysis_at c.args.files.now.table) files path) (rw is at c.in_ok-read_files.ensures.only path there)
+returns-clause-only g c =
+    let is = those (analysis_at c.args.files.now.table) _ _ c.in_ok-found.ensures.paths in
+    among_both (analysis_at c.args.files.now.table) (reached c.args.tree.now c.args.dirs.now.places) _ _ (rw is at c.in_ok-read_files.ensures.rows)
 
 pub returns-clause-stamps : goal.returns-clause-stamps
 returns-clause-stamps g c =

@@ -5,6 +5,7 @@ use Rattle.found_files.specs.FoundFile.{paths_of}
 use Rattle.found_files.specs.Search.{wanted}
 use Rattle.found_files.specs.Table.{analysis_at}
 use Rattle.ldso_conf.specs.declared.kinds.Conf.{Conf}
+use Rattle.stamped_files.proofs.Unread.{among_both}
 use Rattle.tree_face.proofs.StoreUse.{reads_all}
 use Rattle.tree_face.specs.StoreUse.{Complete, GaveUp}
 use Rattle.searched_image.proofs.Bests.{wanted_read}
@@ -72,6 +73,11 @@ returns-clause-reads g c =
 pub returns-clause-all : goal.returns-clause-all
 returns-clause-all g c =
     wanted_read c.args.tree.now c.know.ensures (analysis_at c.read_files.new.files.table) c.in_ok-dirs.dirs.places (rw c.in_ok-found.ensures.paths at c.in_ok-read_files.ensures.all)
+
+pub returns-clause-only : goal.returns-clause-only
+returns-clause-only g c =
+    let first = c.new-files.result.table in
+    rw c.new-files.ensures.table at (among_both (analysis_at first) (wanted c.args.tree.now c.in_ok-dirs.dirs.places) _ _ (rw c.in_ok-found.ensures.paths at c.in_ok-read_files.ensures.rows))
 
 pub returns-clause-rows : goal.returns-clause-rows
 returns-clause-rows g c =

@@ -9,4 +9,5 @@ invariant-loop-winner l = record {
   count : l.found.count + length l.winner-iterator ≡ l.fn.found.count + length l.winners;
   kept : l.found.count ≤ ENTRIES_MAX → l.found.entries.items ++ map (entry_of l.tree l.number l.place) l.winner-iterator ≡ l.fn.found.entries.items ++ map (entry_of l.tree l.number l.place) l.winners;
   winners : l.found.winners ≡ l.fn.found.winners;
+  links : l.by_name ≡ record { tree = l.tree; path = l.place.real };
 }

@@ -18,7 +18,7 @@ invariant_of-self-2 c =
 
 pub returns : goal.returns
 returns c =
-    let link : FollowedLink = record { name = c.args.name.now; file = option_copied c.args.file } in
+    let link : FollowedLink = record { name = c.args.name.now; target = c.args.target.now; file = option_copied c.args.file } in
     let was : map (link_in c.self.inside.text.items) c.self.inside.rows.items ≡ c.args.self.now = search rules in
     ap (map (link_in c.add_parts.new.text.items)) c.in_ok-push.ensures.items
     ∙ pushed link_in IsLinkWithin row_within link_kept c.self.inside.text.items c.add_parts.new.text.items c.self.inside.rows.items c.in_ok-row.ensures.longer c.self.invariant c.in_ok-row.row link c.in_ok-row.ensures.row

@@ -1,11 +1,9 @@
 -- Texts without a slash: each is one name.
-use Rattle.std.proofs.Common.{◌≡◌, ℕ, false, List, [], ◌∷◌, ◌++◌, append_assoc, filter, fold, refl, ap, ◌∙◌}
+use Rattle.std.proofs.Common.{◌≡◌, ℕ, false, List, [], ◌∷◌, ◌++◌, filter, refl, ap, ◌∙◌}
 use Rattle.std.proofs.lemmas.List.Splits.{slice_split-cons_no, slice_split-cons_yes}
 use Rattle.std.specs.List.{AllByRecursion, onto_first, slice_split}
 use Rattle.lib_types.proofs.SortedPairs.{by_test}
-use Rattle.image_tree.specs.Paths.{components, is_kept, is_slash, join, root, stem}
-use Rattle.image_tree.proofs.Prefixes.{parts_joined}
-use Rattle.found_files.specs.Libraries.{last_name}
+use Rattle.image_tree.specs.Paths.{components, is_kept, is_slash}
 
 -- the text has no slash
 abbrev pub IsAlone : List ℕ → Type 0
@@ -37,15 +35,3 @@ components_alone text = kept_alone (slice_split is_slash text) (parts_alone text
 pub both_alone : (names more : List (List ℕ)) → AreAlone names → AreAlone more → AreAlone (names ++ more)
 both_alone [] more all rest = rest
 both_alone (name ∷ names) more all rest = (all.0, both_alone names more all.1 rest)
-
--- ---- the last name of a path
-
-last_of : (first : List ℕ) (parts : List (List ℕ)) (name : List ℕ) → fold (λ (_ part : List ℕ). part) first (parts ++ name ∷ []) ≡ name
-last_of first [] name = refl
-last_of first (part ∷ parts) name = last_of part parts name
-
-pub last_joined : (place name : List ℕ) → IsAlone name → last_name (join place name) ≡ name
-last_joined place name alone =
-    ap last_name (append_assoc (stem place) root name)
-    ∙ ap (fold (λ (_ part : List ℕ). part) []) (parts_joined (stem place) name ∙ ap (λ parts. slice_split is_slash (stem place) ++ parts) alone)
-    ∙ last_of [] (slice_split is_slash (stem place)) name

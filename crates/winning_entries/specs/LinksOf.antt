@@ -1,0 +1,28 @@
+-- The links of a folder by their names and their targets.
+use Rattle.std.specs.Prelude.{◌≡◌, ℕ, List, Some}
+use Rattle.std.specs.List.{AllByRecursion}
+use Rattle.image_tree.specs.Paths.{join}
+use Rattle.image_tree.specs.Tree.{Nodes, node_at}
+use Rattle.image_tree.specs.declared.node.Node.TheVariants.{Link}
+use Rattle.found_files.specs.Link.{FollowedLink}
+
+-- a folder of a tree
+pub record Folder : Type 0 where
+  pub tree : Nodes
+  pub path : List ℕ
+
+-- a link with this name and this target is there
+abbrev pub IsLinked : Folder → List ℕ → List ℕ → Type 0
+IsLinked folder name target = node_at folder.tree (join folder.path name) ≡ Some (Link target)
+
+-- these links are there
+abbrev pub AreLinked : Folder → List FollowedLink → Type 0
+AreLinked folder links = AllByRecursion (λ link. IsLinked folder link.name link.target) links
+
+-- what is left of these links: what folder they are in, it is in
+abbrev pub AreLeftOf : List FollowedLink → List FollowedLink → Type 0
+AreLeftOf links left = (folder : Folder) → AreLinked folder links → AreLinked folder left
+
+-- a link with this name and this target is in the folder that these links are in
+abbrev pub IsTargetAmong : List FollowedLink → List ℕ → List ℕ → Type 0
+IsTargetAmong links name target = (folder : Folder) → AreLinked folder links → IsLinked folder name target
