@@ -1,8 +1,8 @@
 -- The folders that places are: one place more, and what is made of each.
-use Rattle.std.proofs.Common.{◌≡◌, ◌⊎◌, inl, inr, get_or, ◌<◌, ◌≤◌, ◌+◌, ◌||◌, ℕ, zero, suc, Bool, true, false, cond, not, nat_eq, List, [], ◌∷◌, ◌++◌, length, map, take, refl, ap, sym, subst, ◌∙◌, Option, Some, None, MatchOption, arith}
+use Rattle.std.proofs.Common.{◌≡◌, ◌⊎◌, inl, inr, get_or, ◌<◌, ◌≤◌, ◌+◌, ◌||◌, ℕ, zero, suc, Bool, true, false, cond, not, nat_eq, List, [], ◌∷◌, ◌++◌, length, map, take, refl, ap, sym, ◌∙◌, Option, Some, None, MatchOption, arith}
 use Rattle.std.proofs.lemmas.Bool.{cases_lt, or_left, or_parts, or_right}
 use Rattle.std.proofs.lemmas.Bool.Decides.{nat_tests}
-use Rattle.std.proofs.lemmas.List.{append-nil, length-append, length-map, map-append, take_more}
+use Rattle.std.proofs.lemmas.List.{append-nil, length-append, map-append, take_more}
 use Rattle.std.proofs.lemmas.List.Elements.{filter_map-append}
 use Rattle.std.proofs.lemmas.List.Folds.{flat_map-map, list_any-append, list_any_at}
 use Rattle.std.proofs.lemmas.List.Quantifiers.{position-Some}
@@ -149,10 +149,6 @@ module _ {Y : Type 0} (f : List ℕ → Y) where
       → taken items rows ≡ map (λ place. f place.real) places
   made_shared places folders rows items have e =
       ap (λ ys. taken ys rows) e ∙ taken_made f folders rows ∙ ap (map f) have.are ∙ made_by_place places
-
-  pub made_rows : (places : List Place) (folders : List (List ℕ)) (rows : List ℕ) (items : List Y) → HaveRows (reals places) folders rows → items ≡ map f folders
-      → AreRows (length items) rows
-  made_rows places folders rows items have e = subst (λ (n : ℕ). AreRows n rows) (sym (ap length e ∙ length-map folders f)) have.rows
 
 -- ---- the files of each
 

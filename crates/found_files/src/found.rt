@@ -21,15 +21,16 @@ use tree_face::{Id, Node, Tree};
 pub struct FoundFile<'a> {
     pub path: Text,
     pub key: &'a [u8],
-    pub id: Option<Id>,
+    pub id: Option<&'a Id>,
 }
 
 impl<'a> Model for FoundFile<'a> {
+    ghost use Rattle.std.specs.Option.{option_copied};
     ghost use Rattle.found_files.specs.FoundFile.{FoundFile};
 
     ghost Value = { FoundFile };
 
-    ghost view = { λ f. record { path = f.path; key = f.key.now; id = f.id } };
+    ghost view = { λ f. record { path = f.path; key = f.key.now; id = option_copied f.id } };
 }
 
 impl<'a> PartialEq for FoundFile<'a> {
@@ -78,7 +79,7 @@ pub(crate) fn file_with<'a>(path: Text, node: Option<&'a Node>) -> Option<FoundF
         Some(Node::File { key, id }) => Some(FoundFile {
             path,
             key: key.as_bytes(),
-            id: *id,
+            id: id.as_ref(),
         }),
         _ => None,
     }

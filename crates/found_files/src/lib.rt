@@ -23,6 +23,6 @@ pub use order::ascending;
 pub use places::{is_plain, links_to};
 pub use reals::{RealFolders, real_folders};
 pub use search::{wanted, wanted_files};
-pub use shared::{Items, Shared, over};
+pub use shared::{Items, Shared};
 pub use sonames::{BySoname, Gather, gather_by_soname};
 pub use table::Table;

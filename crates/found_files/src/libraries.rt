@@ -66,11 +66,9 @@ fn row_of(folders: &IndexSet<Text>, near: usize, folder: &[u8]) -> Option<usize>
     ensures row { MatchOption result (list_any (bytes_eq folder.now) folders.now.keys ≡ false) (λ row. slice_get folders.now.keys row ≡ Some folder.now) }
     ensures distinct { IsDistinct bytes_eq folders.now.keys }
 {
-    if near < folders.len() {
-        if let Some(text) = folders.get_index(near) {
-            if are_same(text.as_bytes(), folder) {
-                return Some(near);
-            }
+    if let Some(text) = folders.as_slice().get(near) {
+        if are_same(text.as_bytes(), folder) {
+            return Some(near);
         }
     }
     folders.get_index_of(TextRef { bytes: folder })

@@ -1,6 +1,6 @@
 //! Lists that have one item at many of their indices, and keep it once.
 ghost use Rattle.std.specs.Prelude.{◌≡◌, length};
-ghost use Rattle.found_files.specs.Shared.{taken, AreRows, AreWithin, HaveSame};
+ghost use Rattle.found_files.specs.Shared.{taken, AreRows, HaveSame};
 
 use lib_types::Seq;
 use std::marker::Model;
@@ -45,7 +45,10 @@ impl<T> Shared<T> {
     pub fn iter(&self) -> Items<'_, T>
         ensures { result ≡ self.now }
     {
-        over(self.items.as_slice(), self.rows.as_slice())
+        Items {
+            items: self.items.as_slice(),
+            rows: self.rows.as_slice(),
+        }
     }
 }
 
@@ -81,12 +84,4 @@ impl<'a, T> Iterator for Items<'a, T> {
         self.rows = rest;
         Some(&self.items[*row])
     }
-}
-
-/// The items in these rows, one after another.
-pub fn over<'a, T>(items: &'a [T], rows: &'a [usize]) -> Items<'a, T>
-    requires { AreWithin (length items.now) rows.now }
-    ensures { result ≡ taken items.now rows.now }
-{
-    Items { items, rows }
 }

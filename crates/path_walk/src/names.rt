@@ -1,5 +1,5 @@
 //! The names of a path text, and the texts of places.
-ghost use Rattle.std.specs.Prelude.{◌≡◌, ◌<◌, ◌≤◌, ◌∷◌, ◌++◌, [], None, length, position, IfSome, MatchOption, OnOk, IfOk, drop, take, ◌+◌};
+ghost use Rattle.std.specs.Prelude.{◌≡◌, ◌<◌, ◌≤◌, ◌∷◌, ◌++◌, [], None, length, position, IfSome, MatchOption, OnOk, IfOk, drop, ◌+◌};
 ghost use Rattle.std.specs.List.{slice_split};
 ghost use Rattle.std.specs.Option.{option_copied};
 ghost use Rattle.lib_types.specs.Name.{slash};
@@ -19,9 +19,9 @@ fn first_slash(bytes: &[u8]) -> Option<usize>
     bytes.iter().position(|&b| b == b'/')
 }
 
-/// The first part of a text, and what is behind the slash that ends it.
+// The first part of a text, and what is behind the slash that ends it.
 #[tactic(auto, using(lib_types::proofs::Parting::cut_at, lib_types::proofs::Parting::cut_nowhere))]
-pub fn cut(bytes: &[u8]) -> (&[u8], Option<&[u8]>)
+fn cut(bytes: &[u8]) -> (&[u8], Option<&[u8]>)
     ensures parts { slice_split is_slash bytes.now ≡ result.0.now ∷ parts_of (option_copied result.1) }
     ensures shorter { IfSome result.1 (λ rest. length rest.now < length bytes.now) }
 {

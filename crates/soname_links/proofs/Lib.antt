@@ -2,6 +2,7 @@ mod Abis
 mod Clear
 mod Counted
 mod Grouped
+mod InStep
 mod Joined
 pub mod KindsAt
 mod Linked

@@ -1,15 +1,15 @@
 -- What the libraries of folders come to, for each place.
-use Rattle.std.proofs.Common.{◌≡◌, ℕ, List, [], ◌∷◌, length, map, refl, ap, ◌∙◌}
+use Rattle.std.proofs.Common.{◌≡◌, ℕ, List, [], ◌∷◌, map, refl, ap, ◌∙◌}
 use Rattle.hwcap_dirs.specs.declared.kinds.Place.{Place}
 use Rattle.image_tree.specs.Tree.{Nodes, IsTree}
 use Rattle.found_files.proofs.Among.{all_libraries}
-use Rattle.found_files.proofs.FolderRows.{made_rows, made_shared, reals}
+use Rattle.found_files.proofs.FolderRows.{made_shared, reals}
 use Rattle.found_files.specs.Best.{bests, bests_in}
 use Rattle.found_files.specs.Library.{Library}
 use Rattle.found_files.specs.Libraries.{libraries_at}
 use Rattle.found_files.specs.RealFolders.{HaveRows}
 use Rattle.found_files.specs.Rows.{AreOfPlaces, libraries_among}
-use Rattle.found_files.specs.Shared.{taken, AreRows}
+use Rattle.found_files.specs.Shared.{taken}
 use Rattle.found_files.specs.Table.{Rows, analysis_at}
 use Rattle.soname_links.specs.Marks.{mixed_among}
 use Rattle.soname_links.specs.Survey.{bests_at, mixed_at, mixed_sonames}
@@ -18,27 +18,16 @@ made_twice : {X Y Z : Type 0} (f : Y → Z) (g : X → Y) (xs : List X) → map 
 made_twice f g [] = refl
 made_twice f g (x ∷ xs) = ap (λ zs. f (g x) ∷ zs) (made_twice f g xs)
 
+-- as the table tells of the places' files and of no others
 module _ (table : Rows) (places : List Place) (folders : List (List ℕ)) (rows : List ℕ) (have : HaveRows (reals places) folders rows)
-    (libraries : List (List Library)) (found : libraries ≡ map (libraries_among table) folders) where
-  -- each folder has what its libraries come to
-  each_has : {Y : Type 0} (f : List Library → Y) (items : List Y) → items ≡ map f libraries → AreRows (length items) rows
-  each_has f items e =
-      made_rows (λ folder. f (libraries_among table folder)) places folders rows items have (e ∙ ap (map f) found ∙ made_twice f (libraries_among table) folders)
+    (libraries : List (List Library)) (found : libraries ≡ map (libraries_among table) folders)
+    (t : Nodes) (tree : IsTree t) (are : AreOfPlaces t places table) where
+  each_of : {Y : Type 0} (f : List Library → Y) (items : List Y) → items ≡ map f libraries → items ≡ map (λ folder. f (libraries_at (analysis_at table) t folder)) folders
+  each_of f items e =
+      e ∙ ap (map f) (found ∙ all_libraries t tree places table are folders rows have) ∙ made_twice f (libraries_at (analysis_at table) t) folders
 
-  pub bests_rows : (items : List (List Library)) → items ≡ map bests libraries → AreRows (length items) rows
-  bests_rows items e = each_has bests items e
+  pub bests_once : (items : List (List Library)) → items ≡ map bests libraries → taken items rows ≡ map (bests_in (analysis_at table) t) places
+  bests_once items e = made_shared (bests_at (analysis_at table) t) places folders rows items have (each_of bests items e)
 
-  pub mixed_rows : (items : List (List (List ℕ))) → items ≡ map mixed_among libraries → AreRows (length items) rows
-  mixed_rows items e = each_has mixed_among items e
-
-  module _ (t : Nodes) (tree : IsTree t) (are : AreOfPlaces t places table) where
-    -- as the table tells of the places' files and of no others
-    each_of : {Y : Type 0} (f : List Library → Y) (items : List Y) → items ≡ map f libraries → items ≡ map (λ folder. f (libraries_at (analysis_at table) t folder)) folders
-    each_of f items e =
-        e ∙ ap (map f) (found ∙ all_libraries t tree places table are folders rows have) ∙ made_twice f (libraries_at (analysis_at table) t) folders
-
-    pub bests_once : (items : List (List Library)) → items ≡ map bests libraries → taken items rows ≡ map (bests_in (analysis_at table) t) places
-    bests_once items e = made_shared (bests_at (analysis_at table) t) places folders rows items have (each_of bests items e)
-
-    pub mixed_once : (items : List (List (List ℕ))) → items ≡ map mixed_among libraries → taken items rows ≡ map (mixed_sonames (analysis_at table) t) places
-    mixed_once items e = made_shared (mixed_at (analysis_at table) t) places folders rows items have (each_of mixed_among items e)
+  pub mixed_once : (items : List (List (List ℕ))) → items ≡ map mixed_among libraries → taken items rows ≡ map (mixed_sonames (analysis_at table) t) places
+  mixed_once items e = made_shared (mixed_at (analysis_at table) t) places folders rows items have (each_of mixed_among items e)

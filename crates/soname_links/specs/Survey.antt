@@ -1,5 +1,5 @@
 -- What private functions say of a place's libraries by their sonames, and of what each soname gives.
-use Rattle.std.specs.Prelude.{ℕ, false, List, [], ◌||◌, if◌then◌else◌, filter, fold, map, Option, Some, None}
+use Rattle.std.specs.Prelude.{ℕ, ◌+◌, false, List, [], ◌∷◌, ◌++◌, ◌||◌, if◌then◌else◌, filter, fold, map, Option, Some, None}
 use Rattle.std.specs.List.{filter_map}
 use Rattle.std.specs.Option.{option_map}
 use Rattle.std.specs.Str.{bytes_eq}
@@ -10,7 +10,7 @@ use Rattle.image_tree.specs.declared.node.Node.TheVariants as nodes
 use Rattle.found_files.specs.Best.{bests, has_soname, is_preferred, sonames}
 use Rattle.found_files.specs.Analyses.{Analyses}
 use Rattle.found_files.specs.Libraries.{libraries_at}
-use Rattle.soname_links.specs.Marks.{blocked_for, is_odd, mixed_among}
+use Rattle.soname_links.specs.Marks.{blocked_for, is_odd, mark, mixed_among}
 use Rattle.soname_links.specs.Plan.{is_blocked, link_for}
 use Rattle.found_files.specs.Places.{is_plain, links_to}
 use Rattle.soname_links.specs.declared.groups.Group.{Group}
@@ -81,3 +81,15 @@ mixed_at what t folder = mixed_among (libraries_at what t folder)
 -- the mixed sonames of a place
 abbrev pub mixed_sonames : Analyses → Nodes → Place → List (List ℕ)
 mixed_sonames what t place = mixed_at what t place.real
+
+-- ---- what the places give
+
+-- the marks of a place, given its mixed sonames
+abbrev pub mixed_by : ℕ → Place → List (List ℕ) → List Mark
+mixed_by number place sonames = map (mark number) sonames
+
+-- what each place gives by its number and its item, in their order
+abbrev pub by_place_with : {X A : Type 0} → (ℕ → Place → X → List A) → ℕ → List Place → List X → List A
+by_place_with gives number [] items = []
+by_place_with gives number (place ∷ places) [] = []
+by_place_with gives number (place ∷ places) (item ∷ items) = gives number place item ++ by_place_with gives (number + 1) places items

@@ -1,14 +1,20 @@
 //! What the libraries of folders come to.
 ghost use Rattle.std.specs.Prelude.{◌≡◌, ◌∷◌, [], ◌++◌, IfOk, OnOk, map};
 ghost use Rattle.std.specs.List.{filter_map};
-ghost use Rattle.found_files.specs.Best.{bests};
+ghost use Rattle.found_files.specs.Best.{bests, bests_of};
+ghost use Rattle.found_files.specs.Rows.{AreOfPlaces};
+ghost use Rattle.found_files.specs.Table.{analysis_at};
 ghost use Rattle.soname_links.specs.Marks.{mixed_among};
-ghost use Rattle.soname_links.specs.Survey.{mixed_soname};
+ghost use Rattle.soname_links.specs.Survey.{mixed_soname, mixed_sonames};
 
 use crate::groups::{Group, groups_in};
-use found_files::{BestLibraries, BySoname, Library};
+use found_files::{
+    BestLibraries, BySoname, Library, PlaceBests, Shared, Table, libraries_in, real_folders,
+};
+use hwcap_dirs::Dirs;
 use lib_types::{NoMemory, Seq, Text, Texts};
 use std::alloc::Global;
+use tree_face::Tree;
 
 // The libraries of a folder, by the bytes of their sonames.
 #[derive(Drop)]
@@ -19,11 +25,18 @@ struct Summary {
     mixed: Texts,
 }
 
-/// The libraries of each of some folders.
+// The libraries of each of some folders.
 #[derive(Drop)]
-pub(crate) struct Summaries {
-    pub(crate) bests: Vec<BestLibraries>,
-    pub(crate) mixed: Vec<Texts>,
+struct Summaries {
+    bests: Vec<BestLibraries>,
+    mixed: Vec<Texts>,
+}
+
+/// The libraries of each of the places.
+#[derive(Drop)]
+pub(crate) struct PlaceSummaries {
+    pub(crate) bests: PlaceBests,
+    pub(crate) mixed: Shared<Texts>,
 }
 
 // Adds a soname if its libraries have different ABIs.
@@ -56,11 +69,8 @@ fn summary_of(alloc: Global, libraries: Seq<Library<'_>>) -> Result<Summary, NoM
     Ok(Summary { bests, mixed })
 }
 
-/// What the libraries of each of some folders come to.
-pub(crate) fn summaries_of(
-    alloc: Global,
-    libraries: Vec<Seq<Library<'_>>>,
-) -> Result<Summaries, NoMemory>
+// What the libraries of each of some folders come to.
+fn summaries_of(alloc: Global, libraries: Vec<Seq<Library<'_>>>) -> Result<Summaries, NoMemory>
     ensures bests { IfOk result (λ found. found.bests.items ≡ map bests libraries.entry.items) }
     ensures mixed { IfOk result (λ found. found.mixed.items ≡ map mixed_among libraries.entry.items) }
 {
@@ -74,4 +84,26 @@ pub(crate) fn summaries_of(
         found.mixed.push(mixed)?;
     }
     Ok(found)
+}
+
+/// What the libraries of each of the places come to. The table is gone through once for the libraries of all folders.
+pub(crate) fn place_summaries(
+    alloc: Global,
+    tree: &Tree,
+    dirs: &Dirs,
+    table: &Table,
+) -> Result<PlaceSummaries, NoMemory>
+    requires rows { AreOfPlaces tree.now dirs.now.places table.now }
+    ensures bests { IfOk result (λ found. found.bests ≡ bests_of (analysis_at table.now) tree.now dirs.now.places) }
+    ensures mixed { IfOk result (λ found. found.mixed ≡ map (mixed_sonames (analysis_at table.now) tree.now) dirs.now.places) }
+{
+    tree.know();
+    let folders = real_folders(alloc, dirs)?;
+    let libraries = libraries_in(alloc, &folders.paths, table)?;
+    let found = summaries_of(alloc, libraries)?;
+    let rows = Vec::from_slice(alloc, folders.rows.as_slice())?;
+    Ok(PlaceSummaries {
+        bests: Shared::new(found.bests, folders.rows),
+        mixed: Shared::new(found.mixed, Seq::from_vec(rows)),
+    })
 }

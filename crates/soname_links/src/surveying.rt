@@ -1,23 +1,21 @@
 //! What is planned and what is reported of the places.
-ghost use Rattle.std.specs.Prelude.{◌≡◌, ◌∷◌, ◌++◌, [], IfOk, IsTrue, OnOk, map};
+ghost use Rattle.std.specs.Prelude.{◌≡◌, ◌∷◌, ◌++◌, [], IfOk, IsTrue, OnOk, length, map};
 ghost use Rattle.std.specs.List.{filter_map};
 ghost use Rattle.hwcap_dirs.specs.Places.{are_dirs};
 ghost use Rattle.soname_links.specs.Apply.{are_clear, is_plan};
 ghost use Rattle.soname_links.specs.Marks.{blocked, blocked_for, mark, mixed};
 ghost use Rattle.soname_links.specs.Plan.{is_regarded, is_taken, link_for, links};
-ghost use Rattle.soname_links.specs.Survey.{blocked_by, links_by, spot_at, spot_by};
+ghost use Rattle.soname_links.specs.Survey.{blocked_by, by_place_with, links_by, mixed_by, spot_at, spot_by};
 ghost use Rattle.found_files.specs.Best.{bests_of};
 ghost use Rattle.found_files.specs.Analyses.{HaveNames};
 ghost use Rattle.found_files.specs.Rows.{AreOfPlaces};
 ghost use Rattle.found_files.specs.Table.{analysis_at};
 
 use crate::kinds::{Mark, Marks, Plan, Planned, Survey};
-use crate::summary::summaries_of;
-use found_files::{
-    BestLibraries, Library, Shared, Table, is_own, is_plain, libraries_in, over, real_folders,
-};
+use crate::summary::place_summaries;
+use found_files::{BestLibraries, Library, PlaceBests, Shared, Table, is_own, is_plain};
 use hwcap_dirs::{Dirs, Place};
-use lib_types::{NoMemory, Seq, Text};
+use lib_types::{NoMemory, Seq, Text, Texts};
 use name_order::is_library_name;
 use path_walk::join_into;
 use std::alloc::Global;
@@ -198,8 +196,44 @@ fn add_place(
     Ok(())
 }
 
-// What one place after the other gives. The table is gone through once for the libraries of all folders.
-#[tactic(auto, using(crate::proofs::Summed::bests_rows, crate::proofs::Summed::mixed_rows), unfolding(crate::specs::Plan::links, crate::specs::Marks::blocked, crate::specs::Marks::mixed, found_files::specs::Best::bests_of))]
+// What one place after the other gives, by the best libraries and the mixed sonames of each.
+fn marked_by(
+    alloc: Global,
+    tree: &Tree,
+    dirs: &Dirs,
+    bests: &PlaceBests,
+    mixed: &Shared<Texts>,
+) -> Result<Marked, NoMemory>
+    requires bests { length bests.now ≡ length dirs.now.places }
+    requires mixed { length mixed.now ≡ length dirs.now.places }
+    ensures plan { IfOk result (λ found. found.plan ≡ by_place_with (links_by tree.now) 0 dirs.now.places bests.now) }
+    ensures blocked { IfOk result (λ found. found.blocked ≡ by_place_with (blocked_by tree.now) 0 dirs.now.places bests.now) }
+    ensures mixed { IfOk result (λ found. found.mixed ≡ by_place_with mixed_by 0 dirs.now.places mixed.now) }
+{
+    let mut found = Marked {
+        plan: Seq::new(alloc),
+        blocked: Seq::new(alloc),
+        mixed: Seq::new(alloc),
+    };
+    let mut number: u32 = 0;
+    let there = bests.iter().zip(mixed.iter());
+    for (place, (bests, mixed)) in dirs.places.as_slice().iter().zip(there) {
+        add_place(
+            alloc,
+            tree,
+            number,
+            place,
+            bests,
+            mixed.as_slice(),
+            &mut found,
+        )?;
+        number = number.checked_add(1).ok_or(NoMemory)?;
+    }
+    Ok(found)
+}
+
+// What is planned and what is reported of the places, with their best libraries.
+#[tactic(auto, unfolding(found_files::specs::Best::bests_of))]
 fn surveyed(alloc: Global, tree: &Tree, dirs: &Dirs, table: &Table) -> Result<Survey, NoMemory>
     requires rows { AreOfPlaces tree.now dirs.now.places table.now }
     ensures plan { IfOk result (λ survey. survey.plan ≡ links (analysis_at table.now) tree.now dirs.now.places) }
@@ -207,28 +241,13 @@ fn surveyed(alloc: Global, tree: &Tree, dirs: &Dirs, table: &Table) -> Result<Su
     ensures mixed { IfOk result (λ survey. survey.mixed ≡ mixed (analysis_at table.now) tree.now dirs.now.places) }
     ensures bests { IfOk result (λ survey. survey.bests ≡ bests_of (analysis_at table.now) tree.now dirs.now.places) }
 {
-    tree.know();
-    let folders = real_folders(alloc, dirs)?;
-    let libraries = libraries_in(alloc, &folders.paths, table)?;
-    let summed = summaries_of(alloc, libraries)?;
-    let mut found = Marked {
-        plan: Seq::new(alloc),
-        blocked: Seq::new(alloc),
-        mixed: Seq::new(alloc),
-    };
-    let mut number: u32 = 0;
-    let rows = folders.rows.as_slice();
-    let there = over(summed.bests.as_slice(), rows).zip(over(summed.mixed.as_slice(), rows));
-    for (place, (bests, mixed)) in dirs.places.as_slice().iter().zip(there) {
-        let mixed = mixed.as_slice();
-        add_place(alloc, tree, number, place, bests, mixed, &mut found)?;
-        number = number.checked_add(1).ok_or(NoMemory)?;
-    }
+    let summaries = place_summaries(alloc, tree, dirs, table)?;
+    let found = marked_by(alloc, tree, dirs, &summaries.bests, &summaries.mixed)?;
     Ok(Survey {
         plan: found.plan,
         blocked: found.blocked,
         mixed: found.mixed,
-        bests: Shared::new(summed.bests, folders.rows),
+        bests: summaries.bests,
     })
 }
 

@@ -72,7 +72,7 @@ fn analysis_of<S: Store>(
     ensures reads { ReadsKeys (key_opened (option_and_then (stamp_of (loaded.now ++ made.now)) file.now.id) file.now.key) (analyse_ending result)
         (S.state store.old) (S.state store.new) }
 {
-    match said(alloc, loaded, made, file.id) {
+    match said(alloc, loaded, made, file.id.copied()) {
         Ok(Some(analysis)) => return Ok(analysis),
         Ok(None) => {}
         Err(NoMemory) => return Err(AnalyseFault::NoMemory),
@@ -122,7 +122,7 @@ fn read_file<S: Store>(
         return Ok(());
     }
     let analysis = analysis_of(alloc, store, loaded, &files.stamps, &file, &mut files.begun)?;
-    match add(alloc, files, file.path, file.id, analysis) {
+    match add(alloc, files, file.path, file.id.copied(), analysis) {
         Ok(()) => Ok(()),
         Err(NoMemory) => Err(AnalyseFault::NoMemory),
     }

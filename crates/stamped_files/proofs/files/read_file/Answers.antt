@@ -17,7 +17,7 @@ returns-in-Ok-clause-one g c =
     let none : analysis_at c.args.files.now.table c.args.file.path ≡ None = search rules in
     let path : c.file.inside.path ≡ c.args.file.path = ap path_of c.file.view_is in
     let is : c.args.file.id ≡ id_at c.args._tree.now c.args.file.path = sym (file_id t file c.requires.file) in
-    let id : c.file.inside.id ≡ id_at c.args._tree.now c.args.file.path = ap (λ (f : FoundFile). f.id) c.file.view_is ∙ is in
+    let id : c.copied.result ≡ id_at c.args._tree.now c.args.file.path = c.copied.ensures ∙ ap (λ (f : FoundFile). f.id) c.file.view_is ∙ is in
     reads_one t c.args.loaded.now file.path file.key old c.in_ok-analysis.analysis (file_unread t (analysis_at old.table) file c.requires.file none) c.add.new.files
     (rw path at c.in-Ok.ensures.table) (rw id at c.in-Ok.ensures.stamps) _ (rw (is, ← c.in-Ok.ensures.begun) at c.in_ok-analysis.ensures.found)
 

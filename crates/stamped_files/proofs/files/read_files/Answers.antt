@@ -6,6 +6,8 @@ use Rattle.elf_dynamic.specs.Faults.{analyse_ending}
 use Rattle.found_files.specs.FoundFile.{paths_of}
 use Rattle.tree_face.proofs.StoreUse.{IsPartial}
 use Rattle.stamped_files.proofs.ReadOn.{all_begun, all_few, all_most, all_opens, all_reads, all_rows, all_stamped, all_stamps, most_last, none_lacking, none_read, read_last, read_on}
+use Rattle.stamped_files.specs.Reading.{HasRead}
+use Rattle.stamped_files.proofs.files.read_files.Goals.{In-None}
 use Rattle.stamped_files.proofs.files.read_files.Goals as goal
 
 is_partial : (fault : AnalyseFault) → IsPartial (analyse_ending {X = Unit {0}} (Err fault))
@@ -42,47 +44,36 @@ loop-file-preserved g c = record {
       (rw c.loop-file.invariant.read.reads.held at c.in_ok-read_file.ensures.reads);
 }
 
-pub returns-clause-begun : goal.returns-clause-begun
-returns-clause-begun g c =
+-- no file is left
+all_read : (g : _) (c : In-None g) → HasRead c.args.tree.now c.args.loaded.now (g.S.Store.state c.args.store.now).held (paths_of c.args.found.items) [] c.args.files.now c.loop-file.files
+    (g.S.Store.state c.args.store.now) (g.S.Store.state c.loop-file.store)
+all_read g c =
     let left : c.loop-file.file-iterator.rest.items ≡ [] = nil_from_length _ (search rules) in
-    all_begun c.args.tree.now c.args.loaded.now _ (paths_of c.args.found.items) c.requires.sorted c.args.files.now c.loop-file.files _ _ (rw left at c.loop-file.invariant.read)
+    rw left at c.loop-file.invariant.read
+
+pub returns-clause-begun : goal.returns-clause-begun
+returns-clause-begun g c = all_begun _ _ _ _ c.requires.sorted _ _ _ _ (all_read g (goal.at.returns-clause-begun g c).In-None)
 
 pub returns-clause-opens : goal.returns-clause-opens
-returns-clause-opens g c =
-    let left : c.loop-file.file-iterator.rest.items ≡ [] = nil_from_length _ (search rules) in
-    all_opens c.args.tree.now c.args.loaded.now _ (paths_of c.args.found.items) c.requires.sorted c.args.files.now c.loop-file.files _ _ (rw left at c.loop-file.invariant.read)
+returns-clause-opens g c = all_opens _ _ _ _ c.requires.sorted _ _ _ _ (all_read g (goal.at.returns-clause-opens g c).In-None)
 
 pub returns-clause-none_lacks : goal.returns-clause-none_lacks
-returns-clause-none_lacks g c =
-    let left : c.loop-file.file-iterator.rest.items ≡ [] = nil_from_length _ (search rules) in
-    none_lacking c.args.tree.now c.args.loaded.now _ (paths_of c.args.found.items) c.requires.sorted c.args.files.now c.loop-file.files _ _ (rw left at c.loop-file.invariant.read)
+returns-clause-none_lacks g c = none_lacking _ _ _ _ c.requires.sorted _ _ _ _ (all_read g (goal.at.returns-clause-none_lacks g c).In-None)
 
 pub returns-clause-reads : goal.returns-clause-reads
-returns-clause-reads g c =
-    let left : c.loop-file.file-iterator.rest.items ≡ [] = nil_from_length _ (search rules) in
-    all_reads c.args.tree.now c.args.loaded.now _ (paths_of c.args.found.items) c.requires.sorted c.args.files.now c.loop-file.files _ _ (rw left at c.loop-file.invariant.read)
+returns-clause-reads g c = all_reads _ _ _ _ c.requires.sorted _ _ _ _ (all_read g (goal.at.returns-clause-reads g c).In-None)
 
 pub returns-clause-few : goal.returns-clause-few
-returns-clause-few g c =
-    let left : c.loop-file.file-iterator.rest.items ≡ [] = nil_from_length _ (search rules) in
-    all_few c.args.tree.now c.args.loaded.now _ (paths_of c.args.found.items) c.requires.sorted c.args.files.now c.loop-file.files _ _ (rw left at c.loop-file.invariant.read)
+returns-clause-few g c = all_few _ _ _ _ c.requires.sorted _ _ _ _ (all_read g (goal.at.returns-clause-few g c).In-None)
 
 pub returns-clause-most : goal.returns-clause-most
-returns-clause-most g c =
-    let left : c.loop-file.file-iterator.rest.items ≡ [] = nil_from_length _ (search rules) in
-    all_most c.args.tree.now c.args.loaded.now _ (paths_of c.args.found.items) c.requires.sorted c.args.files.now c.loop-file.files _ _ (rw left at c.loop-file.invariant.read)
+returns-clause-most g c = all_most _ _ _ _ c.requires.sorted _ _ _ _ (all_read g (goal.at.returns-clause-most g c).In-None)
 
 pub returns-clause-stamps : goal.returns-clause-stamps
-returns-clause-stamps g c =
-    let left : c.loop-file.file-iterator.rest.items ≡ [] = nil_from_length _ (search rules) in
-    all_stamps c.args.tree.now c.args.loaded.now _ (paths_of c.args.found.items) c.requires.sorted c.args.files.now c.loop-file.files _ _ (rw left at c.loop-file.invariant.read)
+returns-clause-stamps g c = all_stamps _ _ _ _ c.requires.sorted _ _ _ _ (all_read g (goal.at.returns-clause-stamps g c).In-None)
 
 pub returns-clause-stamped : goal.returns-clause-stamped
-returns-clause-stamped g c =
-    let left : c.loop-file.file-iterator.rest.items ≡ [] = nil_from_length _ (search rules) in
-    all_stamped c.args.tree.now c.args.loaded.now _ (paths_of c.args.found.items) c.requires.sorted c.args.files.now c.loop-file.files _ _ (rw left at c.loop-file.invariant.read)
+returns-clause-stamped g c = all_stamped _ _ _ _ c.requires.sorted _ _ _ _ (all_read g (goal.at.returns-clause-stamped g c).In-None)
 
 pub returns-clause-rows : goal.returns-clause-rows
-returns-clause-rows g c =
-    let left : c.loop-file.file-iterator.rest.items ≡ [] = nil_from_length _ (search rules) in
-    all_rows c.args.tree.now c.args.loaded.now _ (paths_of c.args.found.items) c.requires.sorted c.args.files.now c.loop-file.files _ _ (rw left at c.loop-file.invariant.read)
+returns-clause-rows g c = all_rows _ _ _ _ c.requires.sorted _ _ _ _ (all_read g (goal.at.returns-clause-rows g c).In-None)
