@@ -1,28 +1,27 @@
--- Records that are put while their strings are added.
-use Rattle.std.proofs.Common.{◌≡◌, ℕ, zero, suc, ◌+◌, ◌*◌, ◌<◌, ◌≤◌, true, ◌&&◌, not, nat_le, List, [], ◌∷◌, ◌++◌, length, map, flat_map, fold, take, get_or, Option, Some, None, IfSome, unwrap_or, refl, sym, ap, subst, ◌∙◌, bytes_eq, arith, append_assoc}
+-- The strings of stamps, as they are gathered.
+use Rattle.std.proofs.Common.{◌≡◌, ℕ, zero, suc, ◌+◌, ◌*◌, ◌<◌, ◌≤◌, true, ◌&&◌, not, nat_le, List, [], ◌∷◌, ◌++◌, length, map, fold, take, get_or, Option, Some, None, IfSome, unwrap_or, sym, ap, subst, ◌∙◌, bytes_eq, arith}
 use Rattle.std.proofs.lemmas.Bool.{and_parts}
 use Rattle.std.proofs.lemmas.Bool.Decides.{nat_tests}
-use Rattle.std.proofs.lemmas.List.{append-nil, map-append, length-map, get_or-map, take_more}
-use Rattle.std.proofs.lemmas.List.Concat.{flat_map-append}
+use Rattle.std.proofs.lemmas.List.{map-append, length-map, get_or-map, take_more}
 use Rattle.std.proofs.lemmas.List.Elements.{All-head, All-tail, All-push, All-weaker}
 use Rattle.std.specs.List.{All, list_any}
 use Rattle.std.specs.Str.{is_utf8}
 use Rattle.indexmap.specs.IndexSet.{insert_key}
-use Rattle.cache_layout.specs.Layout.{laid_out}
-use Rattle.lib_types.specs.Abi.{flags_of}
 use Rattle.lib_types.specs.Name.{is_name, are_dots, have_no_slash}
 use Rattle.lib_types.specs.declared.name.TheConstants.{NAME_MAX}
-use Rattle.string_pool.specs.Strings.{Strings, distinct, place_of, table_of}
-use Rattle.string_pool.proofs.Pooled.{among, among_all, offset_more, distinct_append, distinct_push, length_table_insert}
-use Rattle.aux_cache.specs.AuxLayout.{record_fields}
-use Rattle.aux_cache.specs.AuxText.{record_bytes, soname_of, strings}
-use Rattle.aux_cache.specs.Range.{AreNumbers, AreInRange}
+use Rattle.string_pool.specs.Texts.{distinct, number_of}
+use Rattle.string_pool.specs.InOrder.{table_of}
+use Rattle.string_pool.proofs.Numbers.{among, among_more, among_all, number_more, distinct_append, distinct_push, length_distinct}
+use Rattle.string_pool.proofs.InOrder.{length_table_insert}
+use Rattle.aux_cache.specs.AuxText.{soname_of, strings}
+use Rattle.aux_cache.specs.Numbers.{HasNumber}
 use Rattle.aux_cache.specs.Stamps.{HaveNames}
+use Rattle.aux_cache.specs.declared.numbers.NumberedStamp.{NumberedStamp}
 use Rattle.aux_cache.specs.declared.stamps.Stamp.{Stamp}
 
 -- ---- the strings of stamps
 
-pub strings_push : (xs : List Stamp) (x : Stamp) → (strings (xs ++ x ∷ [])).texts ≡ insert_key bytes_eq (strings xs).texts (soname_of x)
+pub strings_push : (xs : List Stamp) (x : Stamp) → strings (xs ++ x ∷ []) ≡ insert_key bytes_eq (strings xs) (soname_of x)
 strings_push xs x =
     ap (λ ts. distinct ([] ∷ ts)) (map-append soname_of xs (x ∷ [])) ∙ distinct_push ([] ∷ map soname_of xs) (soname_of x)
 
@@ -36,7 +35,7 @@ folded : (ts : List (List ℕ)) → distinct ts ≡ fold (insert_key bytes_eq) [
 folded ts = distinct_append [] ts
 
 -- so is each soname among the strings
-pub own_there : (xs : List Stamp) → All (λ x. list_any (bytes_eq (soname_of x)) (strings xs).texts ≡ true) xs
+pub own_there : (xs : List Stamp) → All (λ x. list_any (bytes_eq (soname_of x)) (strings xs) ≡ true) xs
 own_there xs i d h =
     let at : get_or (map soname_of xs) i (soname_of d) ≡ soname_of (get_or xs i d) = get_or-map soname_of xs i d (soname_of d) h in
     let many : length (map soname_of xs) ≡ length xs = length-map xs soname_of in
@@ -70,50 +69,43 @@ table_small ss (x ∷ xs) h =
     let rest = table_small (insert_key bytes_eq ss (soname_of x)) xs (All-tail P x xs h) in
     omega (arith, here, more, rest)
 
-pub strings_small : (xs : List Stamp) → HaveNames xs → length (table_of (strings xs).texts) ≤ 256 * length xs + 1
+pub strings_small : (xs : List Stamp) → HaveNames xs → length (table_of (strings xs)) ≤ 256 * length xs + 1
 strings_small xs names =
     let small : length (table_of (fold (insert_key bytes_eq) ([] ∷ []) (map soname_of xs))) ≤ 1 + 256 * length xs = table_small ([] ∷ []) xs (soname_short xs names) in
-    let same : length (table_of (strings xs).texts) ≡ length (table_of (fold (insert_key bytes_eq) ([] ∷ []) (map soname_of xs))) = ap (λ ts. length (table_of ts)) (folded ([] ∷ map soname_of xs)) in
+    let same : length (table_of (strings xs)) ≡ length (table_of (fold (insert_key bytes_eq) ([] ∷ []) (map soname_of xs))) = ap (λ ts. length (table_of ts)) (folded ([] ∷ map soname_of xs)) in
     subst (λ n. n ≤ 256 * length xs + 1) (sym same) (omega (arith, small))
 
--- ---- records
+-- ---- stamps with the numbers of their sonames
 
-abbrev pub with_text : Strings → List ℕ → Strings
-with_text s t = record { base = s.base; texts = insert_key bytes_eq s.texts t }
+pub numbered : (old new : List (List ℕ)) (n : NumberedStamp) (t : List ℕ) → new ≡ insert_key bytes_eq old t → t ≡ soname_of n.stamp.now → n.soname ≡ number_of new t → HasNumber new n
+numbered old new n t added is number = record {
+  among = rw (added, is) (among old (soname_of n.stamp.now));
+  number = rw (← is) number;
+}
 
-pub pushed : (xs : List Stamp) (x : Stamp) → with_text (strings xs) (soname_of x) ≡ strings (xs ++ x ∷ [])
-pushed xs x = let made : List (List ℕ) → Strings = λ ts. record { base = 0; texts = ts } in ap made (sym (strings_push xs x))
-
-records_kept : (s : Strings) (t : List ℕ) (xs : List Stamp) → All (λ x. list_any (bytes_eq (soname_of x)) s.texts ≡ true) xs → flat_map (record_bytes s) xs ≡ flat_map (record_bytes (with_text s t)) xs
-unfolding record_bytes
-records_kept s t [] all = refl
-records_kept s t (x ∷ xs) all =
-    let P : Stamp → Type 0 = λ x. list_any (bytes_eq (soname_of x)) s.texts ≡ true in
-    let same : place_of (with_text s t) (soname_of x) ≡ place_of s (soname_of x) = ap (λ n. s.base + n) (offset_more s.texts (soname_of x) t (All-head P x xs all)) in
-    rw (same, records_kept s t xs (All-tail P x xs all)) refl
-
--- the fields of a record, one after the other
-pub put_fields : (s : Strings) (x : Stamp) (out : List ℕ) (flags offset : ℕ) → flags ≡ flags_of x.abi → offset ≡ place_of s (soname_of x)
-    → out ++ laid_out record_fields (x.id.inode ∷ x.id.ctime ∷ x.id.size ∷ x.id.dev ∷ flags ∷ offset ∷ 0 ∷ 0 ∷ []) ≡ out ++ record_bytes s x
-unfolding record_bytes
-put_fields s x out flags offset f o = rw (← f, ← o) refl
-
--- one record more
-pub record_step : (start out new : List ℕ) (xs more : List Stamp) (x : Stamp) (p q : Strings) → more ≡ xs ++ x ∷ [] → p ≡ strings xs → q ≡ with_text p (soname_of x)
-    → out ≡ start ++ flat_map (record_bytes (strings xs)) xs → new ≡ out ++ record_bytes q x → new ≡ start ++ flat_map (record_bytes (strings more)) more
-record_step start out new xs more x p q next is added before put =
-    let last : q ≡ strings (xs ++ x ∷ []) = added ∙ ap (λ s. with_text s (soname_of x)) is ∙ pushed xs x in
-    let kept : flat_map (record_bytes (strings xs)) xs ≡ flat_map (record_bytes (strings (xs ++ x ∷ []))) xs =
-    records_kept (strings xs) (soname_of x) xs (own_there xs) ∙ ap (λ s. flat_map (record_bytes s) xs) (pushed xs x) in
-    rw (put, last, before, next, kept, flat_map-append (record_bytes (strings (xs ++ x ∷ []))) xs (x ∷ []), append-nil (record_bytes (strings (xs ++ x ∷ [])) x))
-    (append_assoc start (flat_map (record_bytes (strings (xs ++ x ∷ []))) xs) (record_bytes (strings (xs ++ x ∷ [])) x))
-
-pub strings_step : (xs more : List Stamp) (x : Stamp) (p q : Strings) → more ≡ xs ++ x ∷ [] → p ≡ strings xs → q ≡ with_text p (soname_of x) → q ≡ strings more
-strings_step xs more x p q next is added = rw next (added ∙ ap (λ s. with_text s (soname_of x)) is ∙ pushed xs x)
+-- another text that is added changes no number
+number_kept : (texts : List (List ℕ)) (t : List ℕ) (n : NumberedStamp) → HasNumber texts n → HasNumber (insert_key bytes_eq texts t) n
+number_kept texts t n h = record {
+  among = among_more texts (soname_of n.stamp.now) t h.among;
+  number = h.number ∙ sym (number_more texts (soname_of n.stamp.now) t h.among);
+}
 
 -- a stamp of a list
 pub next_taken : (xs : List Stamp) (i : ℕ) (x : Stamp) → i < length xs → x ≡ get_or xs i x → take (i + 1) xs ≡ take i xs ++ x ∷ []
 next_taken xs i x h is = take_more xs i x h ∙ ap (λ y. take i xs ++ y ∷ []) (sym is)
 
-pub range_more : (xs more : List Stamp) (x : Stamp) → more ≡ xs ++ x ∷ [] → AreInRange xs → AreNumbers x.id.inode x.id.ctime x.id.size x.id.dev → AreInRange more
-range_more xs more x next all last = rw next (All-push (λ (s : Stamp). AreNumbers s.id.inode s.id.ctime s.id.size s.id.dev) xs x all last)
+-- a step of the loop over the stamps
+pub strings_step : (xs more : List Stamp) (x : Stamp) (old new : List (List ℕ)) → more ≡ xs ++ x ∷ [] → old ≡ strings xs → new ≡ insert_key bytes_eq old (soname_of x) → new ≡ strings more
+strings_step xs more x old new next is added = rw (next, added, is) (sym (strings_push xs x))
+
+pub stamps_step : (xs more : List Stamp) (x : Stamp) (ns new : List NumberedStamp) (n : NumberedStamp) → more ≡ xs ++ x ∷ [] → map (λ n. n.stamp.now) ns ≡ xs → n.stamp.now ≡ x → new ≡ ns ++ n ∷ []
+    → map (λ n. n.stamp.now) new ≡ more
+stamps_step xs more x ns new n next are is added = rw (added, next, ← are, ← is) (map-append (λ (n : NumberedStamp). n.stamp.now) ns (n ∷ []))
+
+pub numbers_step : (old new : List (List ℕ)) (t : List ℕ) (ns more : List NumberedStamp) (n : NumberedStamp) → new ≡ insert_key bytes_eq old t → more ≡ ns ++ n ∷ [] → All (HasNumber old) ns → HasNumber new n → All (HasNumber new) more
+numbers_step old new t ns more n added next all last =
+    rw next (All-push (HasNumber new) ns n (rw added (All-weaker (HasNumber old) (HasNumber (insert_key bytes_eq old t)) (λ x h. number_kept old t x h) ns all)) last)
+
+-- each stamp adds a string at most
+pub few_strings : (xs : List Stamp) → length (strings xs) ≤ length xs + 1
+few_strings xs = omega (arith, length_distinct ([] ∷ map soname_of xs), length-map xs soname_of)

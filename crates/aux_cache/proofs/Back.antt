@@ -17,8 +17,8 @@ use Rattle.lib_types.specs.declared.abi.Abi.{Abi}
 use Rattle.lib_types.specs.declared.abi.Abi.TheVariants.{I386, X86_64, X32, Aarch64}
 use Rattle.cache_layout.specs.Layout.{laid_out, number}
 use Rattle.cache_layout.proofs.Fields.{Fit, reads_back}
-use Rattle.string_pool.specs.Strings.{Strings, place_of, table_of, distinct}
-use Rattle.string_pool.proofs.Pooled.{place_of_le}
+use Rattle.string_pool.specs.InOrder.{offset_of}
+use Rattle.string_pool.proofs.InOrder.{place_of_le}
 use Rattle.image_tree.specs.Node.{has_no_nul}
 use Rattle.aux_cache.proofs.Adding.{own_there, strings_small}
 use Rattle.aux_cache.proofs.Damage.{before_next, none_damaged, AreRecords}
@@ -26,7 +26,7 @@ use Rattle.aux_cache.proofs.Standing.{string_read, last_nul}
 use Rattle.lib_types.proofs.OneSize.{behind, part_there, length_parts}
 use Rattle.aux_cache.specs.AuxFile as read
 use Rattle.aux_cache.specs.AuxLayout.{magic, header_fields, record_fields, record_place}
-use Rattle.aux_cache.specs.AuxText.{aux_text, header, record_bytes, soname_of, strings, strings_bytes}
+use Rattle.aux_cache.specs.AuxText.{aux_text, header, record_bytes, soname_of, strings, strings_bytes, place}
 use Rattle.aux_cache.specs.Ids.{id_cmp}
 use Rattle.aux_cache.specs.Range.{AreNumbers, AreInRange}
 use Rattle.aux_cache.specs.Stamps.{HaveNames, IsSortedById}
@@ -45,7 +45,7 @@ abbrev pub front : List Stamp → List ℕ
 front xs = header (length xs) (length (strings_bytes xs))
 
 abbrev pub records : List Stamp → List ℕ
-records xs = flat_map (record_bytes (strings xs)) xs
+records xs = flat_map (record_bytes (place xs)) xs
 
 pub text_is : (xs : List Stamp) → aux_text xs ≡ front xs ++ (records xs ++ strings_bytes xs)
 unfolding aux_text
@@ -55,12 +55,12 @@ length_front : (xs : List Stamp) → length (front xs) ≡ 32
 unfolding header
 length_front xs = refl
 
-size_of_record : (s : Strings) (x : Stamp) → length (record_bytes s x) ≡ 48
+size_of_record : (s : List ℕ → ℕ) (x : Stamp) → length (record_bytes s x) ≡ 48
 unfolding record_bytes
 size_of_record s x = refl
 
 length_records : (xs : List Stamp) → length (records xs) ≡ 48 * length xs
-length_records xs = length_parts (record_bytes (strings xs)) 48 (size_of_record (strings xs)) xs
+length_records xs = length_parts (record_bytes (place xs)) 48 (size_of_record (place xs)) xs
 
 length_text : (xs : List Stamp) → length (aux_text xs) ≡ 32 + 48 * length xs + length (strings_bytes xs)
 length_text xs =
@@ -68,22 +68,8 @@ length_text xs =
     let rest = length-append (records xs) (strings_bytes xs) in
     omega (arith, all, rest, length_front xs, length_records xs)
 
--- the parts joined
-pub joined : (xs : List Stamp) (n : ℕ) (r s : List ℕ) → n ≡ length xs → r ≡ records xs → s ≡ strings_bytes xs → header n (length s) ++ r ++ s ≡ aux_text xs
-unfolding aux_text
-joined xs n r s count parts texts = rw (count, parts, texts) refl
-
--- the parts that are put for a slice are those of the stamps
-pub parts_are : (xs ys : List Stamp) (start table r s : List ℕ) (p : Strings) → ys ≡ xs → start ≡ [] → table ≡ start ++ records ys → r ≡ table → p ≡ strings ys → s ≡ table_of p.texts
-    → (r ≡ records xs) × (s ≡ strings_bytes xs)
-parts_are xs ys start table r s p same none put is texts all =
-    (is ∙ put ∙ ap (λ bytes. bytes ++ records ys) none ∙ ap records same, all ∙ ap (λ q. table_of q.texts) texts ∙ ap strings_bytes same)
-
 pub written : (xs ys : List Stamp) → length xs ≤ 1048576 → HaveNames xs → IsSortedById xs → ys ≡ xs → AreInRange ys → IsWritten xs
 written xs ys few names sorted same range = record { few = few; names = names; sorted = sorted; range = rw same at range }
-
-pub records_fit : (xs : List Stamp) → IsWritten xs → length (records xs) < 2 ^ 32
-records_fit xs w = omega (arith, length_records xs, w.few)
 
 pub strings_fit : (xs : List Stamp) → IsWritten xs → length (strings_bytes xs) < 2 ^ 32
 strings_fit xs w = let small = strings_small xs w.names in omega (arith, small, w.few)
@@ -115,9 +101,9 @@ strings_back xs w =
 -- ---- the fields of a record
 
 abbrev pub fields_of : List Stamp → Stamp → List ℕ
-fields_of xs x = x.id.inode ∷ x.id.ctime ∷ x.id.size ∷ x.id.dev ∷ flags_of x.abi ∷ place_of (strings xs) (soname_of x) ∷ 0 ∷ 0 ∷ []
+fields_of xs x = x.id.inode ∷ x.id.ctime ∷ x.id.size ∷ x.id.dev ∷ flags_of x.abi ∷ place xs (soname_of x) ∷ 0 ∷ 0 ∷ []
 
-fields_there : (xs : List Stamp) (x : Stamp) → record_bytes (strings xs) x ≡ laid_out record_fields (fields_of xs x)
+fields_there : (xs : List Stamp) (x : Stamp) → record_bytes (place xs) x ≡ laid_out record_fields (fields_of xs x)
 unfolding record_bytes
 fields_there xs x = refl
 
@@ -127,8 +113,8 @@ flags_small X86_64 = omega arith
 flags_small X32 = omega arith
 flags_small Aarch64 = omega arith
 
-place_small : (xs : List Stamp) → IsWritten xs → (t : List ℕ) → place_of (strings xs) t < 2 ^ 32
-place_small xs w t = let within = place_of_le (strings xs).texts t in let small = strings_small xs w.names in omega (arith, within, small, w.few)
+place_small : (xs : List Stamp) → IsWritten xs → (t : List ℕ) → place xs t < 2 ^ 32
+place_small xs w t = let within = place_of_le (strings xs) t in let small = strings_small xs w.names in omega (arith, within, small, w.few)
 
 fields_fit : (xs : List Stamp) → IsWritten xs → (x : Stamp) → AreNumbers x.id.inode x.id.ctime x.id.size x.id.dev → Fit record_fields (fields_of xs x)
 fields_fit xs w x r =
@@ -139,11 +125,11 @@ fields_fit xs w x r =
 field_back : (xs : List Stamp) → IsWritten xs → (i : ℕ) (d : Stamp) → i < length xs → (j : ℕ) → j < 8
     → number record_fields j (read.from_record (aux_text xs) i) ≡ slice_index (fields_of xs (get_or xs i d)) j
 field_back xs w i d h j inside =
-    let put = record_bytes (strings xs) in
+    let put = record_bytes (place xs) in
     let x = get_or xs i d in
     let others = flat_map put (drop (suc i) xs) ++ strings_bytes xs in
     let there : drop (32 + 48 * i) (front xs ++ (records xs ++ strings_bytes xs)) ≡ put x ++ others =
-    behind (front xs) (records xs ++ strings_bytes xs) 32 (48 * i) (length_front xs) ∙ part_there put 48 (size_of_record (strings xs)) xs (strings_bytes xs) i d h in
+    behind (front xs) (records xs ++ strings_bytes xs) 32 (48 * i) (length_front xs) ∙ part_there put 48 (size_of_record (place xs)) xs (strings_bytes xs) i d h in
     ap (λ bytes. number record_fields j (drop (32 + 48 * i) bytes)) (text_is xs) ∙ ap (number record_fields j) (there ∙ ap (λ bs. bs ++ others) (fields_there xs x))
     ∙ reads_back record_fields (fields_of xs x) others j (fields_fit xs w x (w.range i d h)) inside
 
@@ -164,7 +150,7 @@ signed_flags Aarch64 = refl
 abi_back : (xs : List Stamp) → IsWritten xs → (i : ℕ) (d : Stamp) → i < length xs → abi_of_flags (read.flags_in (read.from_record (aux_text xs) i)) ≡ Some (get_or xs i d).abi
 abi_back xs w i d h = ap (λ n. abi_of_flags (cast_signed w32 n)) (field_back xs w i d h 4 (omega arith)) ∙ signed_flags (get_or xs i d).abi
 
-offset_back : (xs : List Stamp) → IsWritten xs → (i : ℕ) (d : Stamp) → i < length xs → read.offset_in (read.from_record (aux_text xs) i) ≡ place_of (strings xs) (soname_of (get_or xs i d))
+offset_back : (xs : List Stamp) → IsWritten xs → (i : ℕ) (d : Stamp) → i < length xs → read.offset_in (read.from_record (aux_text xs) i) ≡ place xs (soname_of (get_or xs i d))
 offset_back xs w i d h = field_back xs w i d h 5 (omega arith)
 
 -- ---- the soname
@@ -184,12 +170,12 @@ plain None h = refl
 plain (Some soname) h = name_plain soname h
 
 string_back : (xs : List Stamp) → IsWritten xs → (i : ℕ) (d : Stamp) → i < length xs
-    → read.string_at (read.strings_in (aux_text xs)) (place_of (strings xs) (soname_of (get_or xs i d))) ≡ soname_of (get_or xs i d)
+    → read.string_at (read.strings_in (aux_text xs)) (place xs (soname_of (get_or xs i d))) ≡ soname_of (get_or xs i d)
 string_back xs w i d h =
     let x = get_or xs i d in
-    let texts = (strings xs).texts in
-    let at : place_of (strings xs) (soname_of x) ≡ Rattle.string_pool.specs.Strings.offset_of texts (soname_of x) = omega arith in
-    ap (λ bytes. read.string_at bytes (place_of (strings xs) (soname_of x))) (strings_back xs w) ∙ ap (read.string_at (strings_bytes xs)) at
+    let texts = strings xs in
+    let at : place xs (soname_of x) ≡ offset_of texts (soname_of x) = omega arith in
+    ap (λ bytes. read.string_at bytes (place xs (soname_of x))) (strings_back xs w) ∙ ap (read.string_at (strings_bytes xs)) at
     ∙ string_read texts (soname_of x) (plain x.soname (w.names i d h)) (own_there xs i d h)
 
 -- the place of no soname is 0, and that of a name isn't
@@ -211,8 +197,8 @@ soname_read strings rest (Some t) place begins named none is = by (place == 0) r
 begins_empty : (xs : List Stamp) → (rest : List ℕ) × (strings_bytes xs ≡ 0 ∷ rest)
 begins_empty xs = (_, refl)
 
-none_at_start : (xs : List Stamp) (x : Stamp) → x.soname ≡ None → place_of (strings xs) (soname_of x) ≡ 0
-none_at_start xs x h = ap (λ o. place_of (strings xs) (unwrap_or o [])) h
+none_at_start : (xs : List Stamp) (x : Stamp) → x.soname ≡ None → place xs (soname_of x) ≡ 0
+none_at_start xs x h = ap (λ o. place xs (unwrap_or o [])) h
 
 soname_back : (xs : List Stamp) → IsWritten xs → (i : ℕ) (d : Stamp) → i < length xs
     → (cond (read.offset_in (read.from_record (aux_text xs) i) == 0) None (Some (read.string_at (read.strings_in (aux_text xs)) (read.offset_in (read.from_record (aux_text xs) i)))) ≡ (get_or xs i d).soname)
@@ -221,7 +207,7 @@ soname_back xs w i d h =
     let x = get_or xs i d in
     let begins = begins_empty xs in
     rw (offset_back xs w i d h)
-    (soname_read (read.strings_in (aux_text xs)) begins.0 x.soname (place_of (strings xs) (soname_of x)) (strings_back xs w ∙ begins.1) (w.names i d h) (none_at_start xs x) (string_back xs w i d h))
+    (soname_read (read.strings_in (aux_text xs)) begins.0 x.soname (place xs (soname_of x)) (strings_back xs w ∙ begins.1) (w.names i d h) (none_at_start xs x) (string_back xs w i d h))
 
 -- ---- the stamps
 

@@ -3,5 +3,6 @@ mod Back
 mod ByIds
 mod Damage
 pub mod Found
+mod Joining
 pub mod Sorted
 mod Standing

@@ -5,8 +5,9 @@ use Rattle.std.proofs.lemmas.List.{take-append-drop, append-nil}
 use Rattle.std.specs.List.{list_any, before_first}
 use Rattle.lib_types.proofs.OneSize.{before_nul}
 use Rattle.lib_types.specs.Bytes.{is_byte}
-use Rattle.string_pool.specs.Strings.{table_of, offset_of, with_nul}
-use Rattle.string_pool.proofs.Pooled.{stands}
+use Rattle.string_pool.specs.Texts.{with_nul}
+use Rattle.string_pool.specs.InOrder.{table_of, offset_of}
+use Rattle.string_pool.proofs.InOrder.{stands}
 use Rattle.image_tree.specs.Node.{has_no_nul}
 
 -- a string of a table is read at its offset

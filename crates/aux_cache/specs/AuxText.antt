@@ -2,7 +2,8 @@
 use Rattle.std.specs.Prelude.{ℕ, List, [], ◌∷◌, ◌++◌, length, map, flat_map, unwrap_or}
 use Rattle.lib_types.specs.Abi.{flags_of}
 use Rattle.cache_layout.specs.Layout.{laid_out}
-use Rattle.string_pool.specs.Strings.{Strings, distinct, table_of, place_of}
+use Rattle.string_pool.specs.Texts.{distinct}
+use Rattle.string_pool.specs.InOrder.{table_of, place_of}
 use Rattle.aux_cache.specs.AuxLayout.{magic, header_fields, record_fields}
 use Rattle.aux_cache.specs.declared.stamps.Stamp.{Stamp}
 
@@ -10,26 +11,30 @@ use Rattle.aux_cache.specs.declared.stamps.Stamp.{Stamp}
 abbrev pub soname_of : Stamp → List ℕ
 soname_of stamp = unwrap_or stamp.soname []
 
--- the strings: the empty one, and each soname once, in the order of first use; offsets count from the first of them
-abbrev pub strings : List Stamp → Strings
-strings stamps = record { base = 0; texts = distinct ([] ∷ map soname_of stamps) }
+-- the strings: the empty one, and each soname once, in the order of first use
+abbrev pub strings : List Stamp → List (List ℕ)
+strings stamps = distinct ([] ∷ map soname_of stamps)
 
+-- they are laid out one after the other: their bytes, and the offset of one of them, which counts from the first
 abbrev pub strings_bytes : List Stamp → List ℕ
-strings_bytes stamps = table_of (distinct ([] ∷ map soname_of stamps))
+strings_bytes stamps = table_of (strings stamps)
+
+abbrev pub place : List Stamp → List ℕ → ℕ
+place stamps string = place_of (record { base = 0; texts = strings stamps }) string
 
 -- the header before so many records and strings of this length
 unfoldable pub header : ℕ → ℕ → List ℕ
 header records strings = magic ++ laid_out header_fields (records ∷ strings ∷ [])
 
--- the record of a stamp
-unfoldable pub record_bytes : Strings → Stamp → List ℕ
-record_bytes strings stamp =
+-- the record of a stamp, if `place` gives the offset of a string
+unfoldable pub record_bytes : (List ℕ → ℕ) → Stamp → List ℕ
+record_bytes place stamp =
     laid_out record_fields
-    (stamp.id.inode ∷ stamp.id.ctime ∷ stamp.id.size ∷ stamp.id.dev ∷ flags_of stamp.abi ∷ place_of strings (soname_of stamp) ∷ 0 ∷ 0 ∷ [])
+    (stamp.id.inode ∷ stamp.id.ctime ∷ stamp.id.size ∷ stamp.id.dev ∷ flags_of stamp.abi ∷ place (soname_of stamp) ∷ 0 ∷ 0 ∷ [])
 
 -- the file of these stamps
 unfoldable pub aux_text : List Stamp → List ℕ
 aux_text stamps =
     header (length stamps) (length (strings_bytes stamps))
-    ++ flat_map (record_bytes (strings stamps)) stamps
+    ++ flat_map (record_bytes (place stamps)) stamps
     ++ strings_bytes stamps

@@ -9,5 +9,8 @@ pub record AreNumbers (inode ctime size dev : ℕ) : Type 0 where
   pub size_fits : size < 2 ^ 64
   pub dev_fits : dev < 2 ^ 64
 
+abbrev pub IsInRange : Stamp → Type 0
+IsInRange stamp = AreNumbers stamp.id.inode stamp.id.ctime stamp.id.size stamp.id.dev
+
 abbrev pub AreInRange : List Stamp → Type 0
-AreInRange stamps = All (λ s. AreNumbers s.id.inode s.id.ctime s.id.size s.id.dev) stamps
+AreInRange stamps = All IsInRange stamps

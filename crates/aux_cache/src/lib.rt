@@ -4,6 +4,7 @@
 mod fault;
 mod gathered;
 mod layout;
+mod numbers;
 mod order;
 mod reader;
 mod stamps;

@@ -1,22 +1,23 @@
 //! The file of stamps.
-ghost use Rattle.std.specs.Prelude.{◌≡◌, ◌∷◌, ◌+◌, ◌++◌, ◌^◌, ◌<◌, ◌≤◌, [], length, flat_map, bytes_eq, None, IfOk, OnOk};
+ghost use Rattle.std.specs.Prelude.{◌≡◌, ◌∷◌, ◌++◌, ◌≤◌, [], length, map, flat_map, All, None, IfOk, OnOk};
 ghost use Rattle.cache_layout.specs.Layout.{laid_out};
-ghost use Rattle.indexmap.specs.IndexSet.{insert_key};
 ghost use Rattle.lib_types.specs.Abi.{flags_of};
-ghost use Rattle.string_pool.specs.Strings.{table_of};
+ghost use Rattle.string_pool.specs.InOrder.{place_of};
 ghost use Rattle.aux_cache.specs.AuxFile.{damage, stamps_in};
 ghost use Rattle.aux_cache.specs.AuxLayout.{record_fields};
-ghost use Rattle.aux_cache.specs.AuxText.{aux_text, header, record_bytes, soname_of, strings};
-ghost use Rattle.aux_cache.specs.Range.{AreNumbers, AreInRange};
-ghost use Rattle.aux_cache.specs.Stamps.{HaveNames, IsSortedById};
+ghost use Rattle.aux_cache.specs.AuxText.{aux_text, header, record_bytes};
+ghost use Rattle.aux_cache.specs.Numbers.{HasNumber};
+ghost use Rattle.aux_cache.specs.Range.{AreNumbers, IsInRange, AreInRange};
+ghost use Rattle.aux_cache.specs.Stamps.{HaveNames};
 ghost use Rattle.aux_cache.specs.declared.stamps.TheConstants.{STAMPS_MAX};
 
 use crate::layout::{HEADER_SIZE, MAGIC, RECORD_SIZE};
-use crate::{STAMPS_MAX, Stamp, Stamps};
+use crate::numbers::{NumberedStamp, number_stamps};
+use crate::{STAMPS_MAX, Stamps};
 use byteorder::{ByteOrder, LittleEndian};
 use lib_types::{Abi, NoMemory};
 use std::alloc::Global;
-use string_pool::Pool;
+use string_pool::{Pool, Texts};
 
 /// The bytes of a file of these stamps.
 pub fn write(alloc: Global, stamps: &Stamps) -> Result<Vec<u8>, NoMemory>
@@ -27,57 +28,55 @@ pub fn write(alloc: Global, stamps: &Stamps) -> Result<Vec<u8>, NoMemory>
     ensures read_back { IfOk result (λ bytes. stamps_in bytes.items ≡ stamps.now) }
 {
     let stamps = stamps.as_slice();
-    let mut pool = Pool::with_capacity(alloc, 0, stamps.len() + 1)?;
-    let mut records = Vec::with_capacity(alloc, RECORD_SIZE * stamps.len())?;
-    put_records(&mut records, &mut pool, stamps)?;
-    join(alloc, stamps.len() as u32, &records, pool.bytes())
-}
-
-// The file of these parts, if it has so many records.
-#[tactic(auto, unfolding(crate::specs::AuxText::header))]
-fn join(alloc: Global, count: u32, records: &[u8], strings: &[u8]) -> Result<Vec<u8>, NoMemory>
-    requires records { length records.now < 2 ^ 32 }
-    requires strings { length strings.now < 2 ^ 32 }
-    ensures { IfOk result (λ bytes. bytes.items ≡ header count (length strings.now) ++ records.now ++ strings.now) }
-{
-    let mut out = Vec::with_capacity(alloc, HEADER_SIZE + records.len() + strings.len())?;
-    out.extend_from_slice(MAGIC)?;
-    out.extend_from_slice(&count.to_le_bytes())?;
-    out.extend_from_slice(&(strings.len() as u32).to_le_bytes())?;
-    out.extend_from_slice(records)?;
-    out.extend_from_slice(strings)?;
+    let mut texts = Texts::with_capacity(alloc, stamps.len() + 1)?;
+    let numbered = number_stamps(alloc, &mut texts, stamps)?;
+    let strings = Pool::of(alloc, texts, 0)?;
+    let bytes = strings.bytes();
+    let size = HEADER_SIZE + RECORD_SIZE * stamps.len() + bytes.len();
+    let mut out = Vec::with_capacity(alloc, size)?;
+    put_header(&mut out, stamps.len() as u32, bytes.len() as u32)?;
+    put_records(&mut out, &strings, &numbered)?;
+    out.extend_from_slice(bytes)?;
     Ok(out)
 }
 
-// Adds the empty string and the sonames of all stamps, and puts the records.
-fn put_records<'a>(
-    out: &mut Vec<u8>,
-    pool: &mut Pool<'a>,
-    stamps: &'a [Stamp],
-) -> Result<(), NoMemory>
-    requires pool { pool.old ≡ record { base = 0; texts = [] } }
-    requires few { length stamps.now ≤ STAMPS_MAX }
-    requires names { HaveNames stamps.now }
-    ensures bytes { OnOk result (out.new.items ≡ out.old.items ++ flat_map (record_bytes (strings stamps.now)) stamps.now) }
-    ensures strings { OnOk result (pool.new ≡ strings stamps.now) }
-    ensures range { OnOk result (AreInRange stamps.now) }
+#[tactic(auto, unfolding(crate::specs::AuxText::header))]
+fn put_header(out: &mut Vec<u8>, records: u32, strings: u32) -> Result<(), NoMemory>
+    ensures { OnOk result (out.new.items ≡ out.old.items ++ header records strings) }
 {
-    pool.add(b"")?;
+    out.extend_from_slice(MAGIC)?;
+    out.extend_from_slice(&records.to_le_bytes())?;
+    out.extend_from_slice(&strings.to_le_bytes())?;
+    Ok(())
+}
+
+fn put_records(
+    out: &mut Vec<u8>,
+    strings: &Pool<'_>,
+    stamps: &[NumberedStamp<'_>],
+) -> Result<(), NoMemory>
+    requires { All (HasNumber strings.now.texts) stamps.now }
+    ensures bytes { OnOk result (out.new.items ≡ out.old.items ++ flat_map (λ s. record_bytes (place_of strings.now) s.stamp.now) stamps.now) }
+    ensures range { OnOk result (AreInRange (map (λ s. s.stamp.now) stamps.now)) }
+{
     for stamp in stamps {
-        put_record(out, pool, stamp)?;
+        put_record(out, strings, stamp)?;
     }
     Ok(())
 }
 
-// Adds the soname of a stamp, and puts its record.
 #[tactic(auto, unfolding(crate::specs::AuxText::record_bytes))]
-fn put_record<'a>(out: &mut Vec<u8>, pool: &mut Pool<'a>, stamp: &'a Stamp) -> Result<(), NoMemory>
-    requires { pool.old.base + length (table_of pool.old.texts) + length (soname_of stamp.now) + 1 < 2 ^ 32 }
-    ensures bytes { OnOk result (out.new.items ≡ out.old.items ++ record_bytes pool.new stamp.now) }
-    ensures strings { OnOk result (pool.new ≡ record pool.old { texts = insert_key bytes_eq pool.old.texts (soname_of stamp.now) }) }
-    ensures range { OnOk result (AreNumbers stamp.now.id.inode stamp.now.id.ctime stamp.now.id.size stamp.now.id.dev) }
+fn put_record(
+    out: &mut Vec<u8>,
+    strings: &Pool<'_>,
+    numbered: &NumberedStamp<'_>,
+) -> Result<(), NoMemory>
+    requires { HasNumber strings.now.texts numbered.now }
+    ensures bytes { OnOk result (out.new.items ≡ out.old.items ++ record_bytes (place_of strings.now) numbered.now.stamp.now) }
+    ensures range { OnOk result (IsInRange numbered.now.stamp.now) }
 {
-    let offset = pool.add(soname_of(stamp))?;
+    let stamp = numbered.stamp;
+    let offset = strings.offset(numbered.soname);
     let id = &stamp.id;
     let fields = fields_of(
         id.inode,
@@ -89,16 +88,6 @@ fn put_record<'a>(out: &mut Vec<u8>, pool: &mut Pool<'a>, stamp: &'a Stamp) -> R
     );
     out.extend_from_slice(&fields)?;
     Ok(())
-}
-
-// The soname of a stamp, or the empty string if it has none.
-fn soname_of(stamp: &Stamp) -> &[u8]
-    ensures { result.now ≡ soname_of stamp.now }
-{
-    match &stamp.soname {
-        Some(soname) => soname.as_bytes(),
-        None => b"",
-    }
 }
 
 fn flags(abi: Abi) -> u32

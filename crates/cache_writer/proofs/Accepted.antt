@@ -7,12 +7,11 @@ use Rattle.std.specs.List.{list_any, list_all, starts_with, position_or_len, ran
 use Rattle.std.specs.Option.{option_map_or}
 use Rattle.lib_types.specs.declared.entry.Entry.{Entry}
 use Rattle.cache_layout.specs.Layout.{magic, old_magic, is_named, name_index, directory_fields, number, extension_magic, names_tag}
-use Rattle.string_pool.specs.Strings.{place_of}
 use Rattle.cache_reader.specs.Cache as read
 use Rattle.cache_reader.specs.Cache.{Sentence, first_defect}
 use Rattle.cache_reader.proofs.Ranges.{first-append}
 use Rattle.cache_reader.proofs.Sound.{last_part}
-use Rattle.cache_writer.specs.CacheText.{cache_text, header, directory, section_count, names_start, hwcap_of, hwcaps_names, strings_bytes, pool, extension_start, name_bytes, generator}
+use Rattle.cache_writer.specs.CacheText.{cache_text, header, directory, section_count, names_start, hwcap_of, hwcaps_names, strings_bytes, place, extension_start, name_bytes, generator}
 use Rattle.cache_writer.proofs.Bounds.{few_names}
 use Rattle.cache_writer.proofs.Standing.{text_ends, text_inside}
 use Rattle.lib_types.proofs.OneSize.{length_parts}
@@ -49,7 +48,7 @@ length_text es =
     let all = ap length (by_body es) ∙ length-append (body es) (directory (extension_start es) (count es) ++ (offsets es ++ generator)) in
     let rest = length-append (directory (extension_start es) (count es)) (offsets es ++ generator) in
     let last = length-append (offsets es) generator in
-    let names = length_parts (name_bytes (pool es)) 4 (length_name (pool es)) (hwcaps_names es) in
+    let names = length_parts (name_bytes (place es)) 4 (length_name (place es)) (hwcaps_names es) in
     omega (arith, all, rest, last, names, length_body es, length_directory (extension_start es) (count es), length_generator)
 
 good_magic : (es : List Entry) → first_defect (read.magic_sentences (cache_text es)) ≡ None
@@ -78,11 +77,11 @@ good_entry es l i d h =
     let e = get_or es i d in
     let text = cache_text es in
     let own = l.own i d h in
-    let key : read.key text i ≡ place_of (pool es) e.soname = entry_back es l i d h 1 (omega arith) in
-    let value : read.value text i ≡ place_of (pool es) e.path = entry_back es l i d h 2 (omega arith) in
+    let key : read.key text i ≡ place es e.soname = entry_back es l i d h 1 (omega arith) in
+    let value : read.value text i ≡ place es e.path = entry_back es l i d h 2 (omega arith) in
     let name = string_back es e.soname own.soname in
     let path = string_back es e.path own.path in
-    rw (key, value, not_le _ _ (text_inside text (place_of (pool es) e.soname) e.soname name), not_le _ _ (text_inside text (place_of (pool es) e.path) e.path path), text_ends text (place_of (pool es) e.soname) e.soname name, text_ends text (place_of (pool es) e.path) e.path path) refl
+    rw (key, value, not_le _ _ (text_inside text (place es e.soname) e.soname name), not_le _ _ (text_inside text (place es e.path) e.path path), text_ends text (place es e.soname) e.soname name, text_ends text (place es e.path) e.path path) refl
 
 -- ---- the hwcaps
 
@@ -145,7 +144,7 @@ names_end es l =
     ends i h =
         let name = get_or (hwcaps_names es) i [] in
         let zero_add : 0 + i ≡ i = omega arith in
-        rw (zero_add, offset_back es l i [] h) (text_ends (cache_text es) (place_of (pool es) name) name (string_back es name (l.names i [] h)))
+        rw (zero_add, offset_back es l i [] h) (text_ends (cache_text es) (place es name) name (string_back es name (l.names i [] h)))
 
 good_offsets : (es : List Entry) → IsLaidOut es → read.has_bad_offsets (cache_text es) (second_section (extension_start es) (count es)) ≡ false
 good_offsets es l =

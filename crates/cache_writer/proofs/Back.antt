@@ -9,11 +9,11 @@ use Rattle.lib_types.specs.declared.abi.Abi.TheVariants.{I386, X86_64, X32, Aarc
 use Rattle.lib_types.specs.declared.entry.Entry.{Entry}
 use Rattle.cache_layout.specs.Layout.{laid_out, number, header_fields, entry_fields}
 use Rattle.cache_layout.proofs.Fields.{Fit, reads_back}
-use Rattle.string_pool.specs.Strings.{Strings, place_of, table_of}
-use Rattle.string_pool.proofs.Pooled.{place_of_le}
+use Rattle.string_pool.specs.InOrder.{table_of}
+use Rattle.string_pool.proofs.InOrder.{place_of_le}
 use Rattle.cache_reader.specs.Cache as read
-use Rattle.cache_writer.specs.CacheText.{cache_text, header, entry_bytes, hwcap_of, hwcaps_names, strings, strings_bytes, strings_end, pool, padding, extension_start, directory, name_bytes, generator}
-use Rattle.cache_writer.specs.Parts.{HasOwn, AreAmong}
+use Rattle.cache_writer.specs.CacheText.{cache_text, header, entry_bytes, hwcap_of, hwcaps_names, strings, strings_bytes, strings_end, place, padding, extension_start, directory, name_bytes, generator}
+use Rattle.cache_writer.specs.Numbers.{HasOwn, AreAmong}
 use Rattle.cache_writer.proofs.Bounds.{few_names}
 use Rattle.cache_writer.proofs.Standing.{HasText, string_there}
 use Rattle.lib_types.proofs.OneSize.{behind, part_there, length_parts}
@@ -34,13 +34,13 @@ header_fit n s x hn hs hx = (omega arith, (omega arith, (omega arith, (omega ari
 abbrev pub behind_strings : List Entry → List ℕ
 behind_strings es =
     padding (strings_end es)
-    ++ (directory (extension_start es) (length (hwcaps_names es)) ++ (flat_map (name_bytes (pool es)) (hwcaps_names es) ++ generator))
+    ++ (directory (extension_start es) (length (hwcaps_names es)) ++ (flat_map (name_bytes (place es)) (hwcaps_names es) ++ generator))
 
 abbrev pub behind_entries : List Entry → List ℕ
 behind_entries es = strings_bytes es ++ behind_strings es
 
 abbrev pub table : List Entry → List ℕ
-table es = flat_map (entry_bytes (pool es) (hwcaps_names es)) es
+table es = flat_map (entry_bytes (place es) (hwcaps_names es)) es
 
 abbrev pub behind_header : List Entry → List ℕ
 behind_header es = table es ++ behind_entries es
@@ -82,7 +82,7 @@ nlibs_back es l = header_back es l 0 (omega arith)
 
 -- ---- the entries
 
-pub size_of_entry : (s : Strings) (names : List (List ℕ)) (e : Entry) → length (entry_bytes s names e) ≡ 24
+pub size_of_entry : (s : List ℕ → ℕ) (names : List (List ℕ)) (e : Entry) → length (entry_bytes s names e) ≡ 24
 unfolding entry_bytes
 size_of_entry s names e = refl
 
@@ -96,11 +96,11 @@ hwcap_small : (names : List (List ℕ)) (cap : Option (List ℕ)) → length nam
 hwcap_small names None h = omega arith
 hwcap_small names (Some cap) h = let within : position_or_len (bytes_eq cap) names ≤ length names = prefix_len-le-length _ names in omega (arith, within)
 
-pub place_small : (es : List Entry) → IsLaidOut es → (t : List ℕ) → place_of (pool es) t < 2 ^ 32
+pub place_small : (es : List Entry) → IsLaidOut es → (t : List ℕ) → place es t < 2 ^ 32
 place_small es l t = let within = place_of_le (strings es) t in omega (arith, within, l.few, l.small)
 
 abbrev pub fields_of : List Entry → Entry → List ℕ
-fields_of es e = flags_of e.abi ∷ place_of (pool es) e.soname ∷ place_of (pool es) e.path ∷ 0 ∷ hwcap_of (hwcaps_names es) e.cap ∷ []
+fields_of es e = flags_of e.abi ∷ place es e.soname ∷ place es e.path ∷ 0 ∷ hwcap_of (hwcaps_names es) e.cap ∷ []
 
 entry_fit : (es : List Entry) → IsLaidOut es → (e : Entry) → Fit entry_fields (fields_of es e)
 entry_fit es l e =
@@ -111,26 +111,26 @@ entry_fit es l e =
     let w = hwcap_small (hwcaps_names es) e.cap (omega (arith, few, l.few)) in
     (omega (arith, f), (omega (arith, k), (omega (arith, v), (omega arith, (omega (arith, w), tt)))))
 
-fields_there : (es : List Entry) (e : Entry) → entry_bytes (pool es) (hwcaps_names es) e ≡ laid_out entry_fields (fields_of es e)
+fields_there : (es : List Entry) (e : Entry) → entry_bytes (place es) (hwcaps_names es) e ≡ laid_out entry_fields (fields_of es e)
 unfolding entry_bytes
 fields_there es e = refl
 
 pub entry_back : (es : List Entry) → IsLaidOut es → (i : ℕ) (d : Entry) → i < length es → (j : ℕ) → j < 5
     → number entry_fields j (read.from_entry (cache_text es) i) ≡ slice_index (fields_of es (get_or es i d)) j
 entry_back es l i d h j inside =
-    let write = entry_bytes (pool es) (hwcaps_names es) in
+    let write = entry_bytes (place es) (hwcaps_names es) in
     let e = get_or es i d in
     let others = flat_map write (drop (suc i) es) ++ behind_entries es in
     let there : drop (48 + 24 * i) (front es ++ behind_header es) ≡ write e ++ others =
-    behind (front es) (behind_header es) 48 (24 * i) (length_front es) ∙ part_there write 24 (size_of_entry (pool es) (hwcaps_names es)) es (behind_entries es) i d h in
+    behind (front es) (behind_header es) 48 (24 * i) (length_front es) ∙ part_there write 24 (size_of_entry (place es) (hwcaps_names es)) es (behind_entries es) i d h in
     ap (λ bytes. number entry_fields j (drop (48 + 24 * i) bytes)) (text_is es) ∙ ap (number entry_fields j) (there ∙ ap (λ xs. xs ++ others) (fields_there es e))
     ∙ reads_back entry_fields (fields_of es e) others j (entry_fit es l e) inside
 
 -- ---- the strings
 
-pub string_back : (es : List Entry) (t : List ℕ) → list_any (bytes_eq t) (strings es) ≡ true → HasText (cache_text es) (place_of (pool es) t) t
+pub string_back : (es : List Entry) (t : List ℕ) → list_any (bytes_eq t) (strings es) ≡ true → HasText (cache_text es) (place es t) t
 string_back es t among =
     let size : length (front es ++ table es) ≡ 48 + 24 * length es =
-    length-append (front es) (table es) ∙ ap (λ n. n + length (table es)) (length_front es) ∙ ap (λ n. 48 + n) (length_parts (entry_bytes (pool es) (hwcaps_names es)) 24 (size_of_entry (pool es) (hwcaps_names es)) es) in
+    length-append (front es) (table es) ∙ ap (λ n. n + length (table es)) (length_front es) ∙ ap (λ n. 48 + n) (length_parts (entry_bytes (place es) (hwcaps_names es)) 24 (size_of_entry (place es) (hwcaps_names es)) es) in
     let joined : (front es ++ table es) ++ (table_of (strings es) ++ behind_strings es) ≡ cache_text es = append_assoc (front es) (table es) (behind_entries es) ∙ sym (text_is es) in
     rw (← joined) (string_there (front es ++ table es) (behind_strings es) (strings es) t (48 + 24 * length es) size among)

@@ -1,17 +1,19 @@
 -- The parts of the file, one after the other.
-use Rattle.std.proofs.Common.{◌≡◌, ℕ, ◌+◌, ◌-◌, ◌*◌, ◌%◌, ◌==◌, true, false, List, [], ◌∷◌, ◌++◌, length, replicate, flat_map, fold, bytes_eq, refl, sym, ap, ◌∙◌, arith, append_assoc}
-use Rattle.std.proofs.lemmas.List.{length-replicate}
-use Rattle.std.proofs.lemmas.List.Elements.{All-weaker}
-use Rattle.std.specs.List.{All}
-use Rattle.indexmap.specs.IndexSet.{insert_key}
+use Rattle.std.proofs.Common.{◌≡◌, ℕ, ◌+◌, ◌-◌, ◌*◌, ◌%◌, ◌<◌, ◌==◌, true, false, List, [], ◌∷◌, ◌++◌, length, map, take, replicate, flat_map, bytes_eq, refl, sym, ap, append_assoc}
+use Rattle.std.proofs.lemmas.List.{length-map, length-replicate}
+use Rattle.std.proofs.lemmas.List.Elements.{All-map, All-weaker}
+use Rattle.std.specs.List.{All, list_any}
 use Rattle.byteorder.specs.Endian.{little_bytes}
+use Rattle.lib_types.specs.Abi.{flags_of}
 use Rattle.lib_types.specs.declared.entry.Entry.{Entry}
 use Rattle.cache_layout.specs.Layout.{extension_magic, generator_tag, names_tag}
-use Rattle.string_pool.specs.Strings.{Strings, distinct, table_of}
-use Rattle.string_pool.proofs.Pooled.{distinct_append}
-use Rattle.cache_writer.specs.CacheText.{cache_text, header, directory, section, section_count, generator_start, names_start, generator, strings, pool, hwcaps_names, own_strings, entry_bytes, name_bytes}
-use Rattle.cache_writer.specs.Parts.{HasOwn, joined}
-use Rattle.cache_writer.proofs.Adding.{with_all, entries_kept, own_kept}
+use Rattle.string_pool.specs.Texts.{number_of}
+use Rattle.string_pool.specs.InOrder.{Strings, table_of, place_of}
+use Rattle.string_pool.proofs.Numbers.{number_within}
+use Rattle.cache_writer.specs.CacheText.{cache_text, header, directory, section, section_count, generator_start, names_start, generator, strings, strings_start, hwcaps_names, hwcap_of, entry_bytes, name_bytes}
+use Rattle.cache_writer.specs.Joined.{joined}
+use Rattle.cache_writer.specs.Numbers.{AreAmong}
+use Rattle.cache_writer.specs.declared.numbers.NumberedEntry.{NumberedEntry}
 
 pub with_names : (out : List ℕ) (place names : ℕ) → (names == 0) ≡ false
     → (((out ++ little_bytes 4 extension_magic) ++ little_bytes 4 (section_count names)) ++ section generator_tag (generator_start place names) 42) ++ section names_tag (names_start place names) (4 * names)
@@ -24,42 +26,55 @@ pub without_names : (out : List ℕ) (place names : ℕ) → (names == 0) ≡ tr
 unfolding directory generator
 without_names out place names h = rw h (simp append_assoc)
 
--- the strings of all
-pub pool_is : (es : List Entry) (names : List (List ℕ)) (p q : Strings) → names ≡ hwcaps_names es → p ≡ record { base = 48 + 24 * length es; texts = distinct (flat_map own_strings es) } → q ≡ with_all p names → q ≡ pool es
-pool_is es names p q is first second =
-    let made : List (List ℕ) → Strings = λ ts. record { base = 48 + 24 * length es; texts = ts } in
-    second ∙ rw (first, is) (ap made (sym (distinct_append (flat_map own_strings es) (hwcaps_names es))))
+-- the fields of an entry, one after the other
+pub put_fields : (s : Strings) (names : List (List ℕ)) (e : Entry) (out : List ℕ) (flags soname path hwcap : ℕ) → flags ≡ flags_of e.abi
+    → soname ≡ place_of s e.soname → path ≡ place_of s e.path → hwcap ≡ hwcap_of names e.cap
+    → out ++ (little_bytes 4 flags ++ little_bytes 4 soname ++ little_bytes 4 path ++ little_bytes 4 0 ++ little_bytes 8 hwcap) ≡ out ++ entry_bytes (place_of s) names e
+unfolding entry_bytes
+put_fields s names e out flags soname path hwcap f k v h = rw (← f, ← k, ← v, ← h) refl
 
--- the parts are those of the entries
-whole_of : (es : List Entry) (p q : Strings) (table offsets bytes : List ℕ) → p ≡ record { base = 48 + 24 * length es; texts = distinct (flat_map own_strings es) }
-    → q ≡ with_all p (hwcaps_names es) → All (HasOwn p.texts) es → table ≡ flat_map (entry_bytes p (hwcaps_names es)) es → offsets ≡ flat_map (name_bytes q) (hwcaps_names es) → bytes ≡ table_of q.texts
-    → joined (length es) (length (hwcaps_names es)) table bytes offsets ≡ cache_text es
-unfolding cache_text joined
-whole_of es p q table offsets bytes first second own entries names texts =
-    let last = pool_is es (hwcaps_names es) p q refl first second in
-    let kept : flat_map (entry_bytes p (hwcaps_names es)) es ≡ flat_map (entry_bytes q (hwcaps_names es)) es = entries_kept p (hwcaps_names es) (hwcaps_names es) es own ∙ ap (λ s. flat_map (entry_bytes s (hwcaps_names es)) es) (sym second) in
-    rw (entries, kept, names, texts, last) refl
+-- ---- the parts
 
-pub whole : (es : List Entry) (names : List (List ℕ)) (p q : Strings) (table offsets bytes : List ℕ) → names ≡ hwcaps_names es → p ≡ record { base = 48 + 24 * length es; texts = distinct (flat_map own_strings es) }
-    → q ≡ with_all p names → All (HasOwn p.texts) es → table ≡ flat_map (entry_bytes p names) es → offsets ≡ flat_map (name_bytes q) names → bytes ≡ table_of q.texts
-    → joined (length es) (length names) table bytes offsets ≡ cache_text es
-whole es names p q table offsets bytes is first second own entries offset texts =
-    rw is (whole_of es p q table offsets bytes first (rw is at second) own (rw is at entries) (rw is at offset) texts)
+-- the numbers of names that are there
+pub numbers_within : (texts names : List (List ℕ)) → AreAmong texts names → All (λ number. number < length texts) (map (number_of texts) names)
+numbers_within texts names among =
+    All-map (λ number. number < length texts) (number_of texts) names
+    (All-weaker (λ text. list_any (bytes_eq text) texts ≡ true) (λ text. number_of texts text < length texts) (λ text h. number_within texts text h) names among)
 
--- each offset has four bytes
-pub length_offsets : (s : Strings) (ns : List (List ℕ)) → length (flat_map (name_bytes s) ns) ≡ 4 * length ns
+pub entries_are : (s : Strings) (names : List (List ℕ)) (ns : List NumberedEntry)
+    → flat_map (λ n. entry_bytes (place_of s) names n.entry.now) ns ≡ flat_map (entry_bytes (place_of s) names) (map (λ n. n.entry.now) ns)
+entries_are s names [] = refl
+entries_are s names (n ∷ ns) = ap (λ rest. entry_bytes (place_of s) names n.entry.now ++ rest) (entries_are s names ns)
+
+offset_is : (s : Strings) (n : List ℕ) → little_bytes 4 (s.base + length (table_of (take (number_of s.texts n) s.texts))) ≡ name_bytes (place_of s) n
 unfolding name_bytes
-length_offsets s [] = refl
-length_offsets s (n ∷ ns) = omega (arith, length_offsets s ns)
+offset_is s n = refl
 
-pub parts_joined : (count names : ℕ) (out table strings offsets : List ℕ) (end pad start : ℕ) → out ≡ [] → end ≡ 48 + 24 * count + length strings → pad ≡ (4 - end % 4) % 4 → start ≡ end + pad
-    → (((((((out ++ header count (length strings) start) ++ table) ++ strings) ++ replicate pad 0) ++ directory start names) ++ offsets) ++ generator) ≡ joined count names table strings offsets
+offsets_are : (s : Strings) (names : List (List ℕ))
+    → flat_map (λ number. little_bytes 4 (s.base + length (table_of (take number s.texts)))) (map (number_of s.texts) names) ≡ flat_map (name_bytes (place_of s)) names
+offsets_are s [] = refl
+offsets_are s (n ∷ ns) = rw (← offset_is s n) (ap (λ rest. little_bytes 4 (s.base + length (table_of (take (number_of s.texts n) s.texts))) ++ rest) (offsets_are s ns))
+
+pub offsets_of : (s : Strings) (names : List (List ℕ)) (numbers : List ℕ) → numbers ≡ map (number_of s.texts) names
+    → flat_map (λ number. little_bytes 4 (s.base + length (table_of (take number s.texts)))) numbers ≡ flat_map (name_bytes (place_of s)) names
+offsets_of s names numbers are = rw are (offsets_are s names)
+
+pub count_entries : (ns : List NumberedEntry) → length ns ≡ length (map (λ n. n.entry.now) ns)
+count_entries ns = sym (length-map ns (λ (n : NumberedEntry). n.entry.now))
+
+pub parts_joined : (s : Strings) (names : List (List ℕ)) (es : List Entry) (out table bytes offsets : List ℕ) (count many end pad start : ℕ) → out ≡ [] → count ≡ length es → many ≡ length names
+    → table ≡ flat_map (entry_bytes (place_of s) names) es → bytes ≡ table_of s.texts → offsets ≡ flat_map (name_bytes (place_of s)) names
+    → end ≡ 48 + 24 * count + length bytes → pad ≡ (4 - end % 4) % 4 → start ≡ end + pad
+    → (((((((out ++ header count (length bytes) start) ++ table) ++ bytes) ++ replicate pad 0) ++ directory start many) ++ offsets) ++ generator) ≡ joined s names es
 unfolding joined
-parts_joined count names out table strings offsets end pad start none e p s =
-    rw (none, s, p, e) (simp (append_assoc, length-replicate))
+parts_joined s names es out table bytes offsets count many end pad start none c m t b o e p f =
+    rw (none, f, p, e, c, m, t, b, o) (simp (append_assoc, length-replicate))
 
--- the entries' strings and the hwcaps names are among the strings
-pub own_among : (es : List Entry) (p q : Strings) (names : List (List ℕ)) → q ≡ with_all p names → q ≡ pool es → All (HasOwn p.texts) es → All (HasOwn (strings es)) es
-own_among es p q names second last own =
-    let texts : fold (insert_key bytes_eq) p.texts names ≡ strings es = ap (λ s. s.texts) (sym second ∙ last) in
-    rw (← texts) (All-weaker (HasOwn p.texts) (HasOwn (fold (insert_key bytes_eq) p.texts names)) (λ x h. own_kept p.texts names x h) es own)
+-- the file of the strings of entries is their cache
+is_cache : (es : List Entry) → joined (record { base = strings_start es; texts = strings es }) (hwcaps_names es) es ≡ cache_text es
+unfolding cache_text joined
+is_cache es = refl
+
+pub whole : (s : Strings) (all names : List (List ℕ)) (es : List Entry) (ns : List NumberedEntry) → s ≡ record { base = 48 + 24 * length es; texts = all } → all ≡ strings es
+    → names ≡ hwcaps_names es → map (λ n. n.entry.now) ns ≡ es → joined s names (map (λ n. n.entry.now) ns) ≡ cache_text es
+whole s all names es ns is texts caps entries = rw (is, texts, caps, entries) (is_cache es)

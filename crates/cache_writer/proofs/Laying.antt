@@ -1,35 +1,87 @@
--- What writing knows of the entries and their strings, once all strings are added.
-use Rattle.std.proofs.Common.{◌≡◌, ◌≤◌, ◌<◌, ◌+◌, ◌*◌, ◌^◌, ℕ, List, length, flat_map, arith}
+-- How many bytes the strings of a cache take, and what writing knows of them.
+use Rattle.std.proofs.Common.{◌≡◌, ◌≤◌, ◌<◌, ◌+◌, ◌*◌, ◌^◌, ℕ, List, [], ◌∷◌, ◌++◌, length, flat_map, map, ap, sym, ◌∙◌, bytes_eq, arith, true, IfSome}
+use Rattle.std.proofs.lemmas.List.Elements.{All-head, All-tail, All-map, All-weaker}
+use Rattle.std.proofs.lemmas.List.Sums.{fold-append}
 use Rattle.std.specs.List.{All}
+use Rattle.indexmap.specs.IndexSet.{insert_key}
 use Rattle.lib_types.specs.declared.entry.Entry.{Entry}
-use Rattle.string_pool.specs.Strings.{Strings, distinct, table_of}
-use Rattle.cache_writer.specs.CacheText.{hwcaps_names, own_strings}
-use Rattle.cache_writer.specs.Parts.{HasOwn, AreAmong}
-use Rattle.cache_writer.proofs.Adding.{with_all}
+use Rattle.lib_types.specs.Name.{is_name}
+use Rattle.lib_types.specs.declared.name.TheConstants.{NAME_MAX}
+use Rattle.string_pool.specs.Texts.{distinct}
+use Rattle.string_pool.specs.InOrder.{table_of}
+use Rattle.string_pool.proofs.Numbers.{distinct_append}
+use Rattle.string_pool.proofs.InOrder.{length_table_insert}
+use Rattle.cache_writer.specs.CacheText.{hwcaps_names, own_strings, strings}
+use Rattle.cache_writer.specs.Numbers.{HasOwn, HasNumbers, AreAmong}
+use Rattle.cache_writer.specs.declared.numbers.NumberedEntry.{NumberedEntry}
+use Rattle.cache_writer.proofs.Adding.{with_all, numbers_kept}
 use Rattle.cache_writer.proofs.Back.{IsLaidOut}
-use Rattle.cache_writer.proofs.Bounds.{few_names}
-use Rattle.cache_writer.proofs.Joining.{pool_is, own_among}
+use Rattle.cache_writer.proofs.Bounds.{few_names, short_names, short_sonames}
 
--- the strings of the entries alone, from an offset on
-abbrev pub made : List Entry → ℕ → Strings
-made es base = record { base = base; texts = distinct (flat_map own_strings es) }
+-- ---- their size
 
--- they have less than 2^30 bytes
-pub small_strings : (es : List Entry) (names : List (List ℕ)) (p q : Strings) (bytes : List ℕ) → length es ≤ 131072 → names ≡ hwcaps_names es → length (table_of p.texts) ≤ 4957 * length es
-    → length (table_of q.texts) ≤ length (table_of p.texts) + 256 * length names → bytes ≡ table_of q.texts → length bytes < 2 ^ 30
-small_strings es names p q bytes few is own all texts =
-    let names_few : length names ≤ length es = rw is (few_names es) in
-    rw texts (omega (arith, few, names_few, own, all))
+names_size : (ts ns : List (List ℕ)) → All (λ n. length n ≤ NAME_MAX) ns → length (table_of (with_all ts ns)) ≤ length (table_of ts) + 256 * length ns
+names_size ts [] short = omega arith
+names_size ts (n ∷ ns) short =
+    let P : List ℕ → Type 0 = λ n. length n ≤ NAME_MAX in
+    omega (arith, All-head P n ns short, length_table_insert ts n, names_size (insert_key bytes_eq ts n) ns (All-tail P n ns short))
 
-pub laid_out : (es : List Entry) (names : List (List ℕ)) (p q : Strings) (bytes : List ℕ) → length es ≤ 131072 → names ≡ hwcaps_names es → p ≡ made es (48 + 24 * length es) → q ≡ with_all p names
-    → All (HasOwn p.texts) es → AreAmong q.texts names → length (table_of p.texts) ≤ 4957 * length es → length (table_of q.texts) ≤ length (table_of p.texts) + 256 * length names → bytes ≡ table_of q.texts
-    → IsLaidOut es
-laid_out es names p q bytes few is first second own among size all texts =
-    let last = pool_is es names p q is first second in
-    let small = small_strings es names p q bytes few is size all texts in
-    record {
-      few = few;
-      small = rw (texts, last) at small;
-      own = own_among es p q names second last own;
-      names = rw (last, is) at among;
-    }
+own_size : (ts : List (List ℕ)) (es : List Entry) → All (λ e. length e.soname ≤ NAME_MAX) es → All (λ e. length e.path ≤ 4700) es
+    → length (table_of (with_all ts (flat_map own_strings es))) ≤ length (table_of ts) + 4957 * length es
+own_size ts [] sonames paths = omega arith
+own_size ts (e ∷ es) sonames paths =
+    let P : Entry → Type 0 = λ e. length e.soname ≤ NAME_MAX in
+    let Q : Entry → Type 0 = λ e. length e.path ≤ 4700 in
+    let one = insert_key bytes_eq ts e.soname in
+    let two = insert_key bytes_eq one e.path in
+    omega (arith, All-head P e es sonames, All-head Q e es paths, length_table_insert ts e.soname, length_table_insert one e.path, own_size two es (All-tail P e es sonames) (All-tail Q e es paths))
+
+-- all strings have less than 2^30 bytes
+small_strings : (es : List Entry) → length es ≤ 131072 → All (λ e. length e.soname ≤ NAME_MAX) es → All (λ e. length e.path ≤ 4700) es → All (λ n. length n ≤ NAME_MAX) (hwcaps_names es)
+    → length (table_of (strings es)) < 2 ^ 30
+small_strings es few sonames paths names =
+    let own = flat_map own_strings es in
+    let all : length (table_of (strings es)) ≡ length (table_of (with_all (with_all [] own) (hwcaps_names es))) =
+    ap (λ ts. length (table_of ts)) (distinct_append [] (own ++ hwcaps_names es) ∙ fold-append (insert_key bytes_eq) [] own (hwcaps_names es)) in
+    omega (arith, few, all, few_names es, own_size [] es sonames paths, names_size (with_all [] own) (hwcaps_names es) names)
+
+-- ---- what is known once all are gathered
+
+-- the strings of the entries, and then the names
+all_strings : (es : List Entry) (names own all : List (List ℕ)) → names ≡ hwcaps_names es → own ≡ distinct (flat_map own_strings es) → all ≡ with_all own names → all ≡ strings es
+all_strings es names own all is first second = second ∙ rw (first, is) (sym (distinct_append (flat_map own_strings es) (hwcaps_names es)))
+
+-- each entry has its strings among them
+own_among : (texts : List (List ℕ)) (ns : List NumberedEntry) → All (HasNumbers texts) ns → All (HasOwn texts) (map (λ n. n.entry.now) ns)
+own_among texts ns all = All-map (HasOwn texts) (λ (n : NumberedEntry). n.entry.now) ns (All-weaker (HasNumbers texts) (λ n. HasOwn texts n.entry.now) (λ n h. h.own) ns all)
+
+-- what is given to `write`, and what it gathers
+module _ (es entries : List Entry) (names own all : List (List ℕ)) (ns : List NumberedEntry) (same : es ≡ entries) (many : length entries ≤ 131072)
+    (named : All (λ entry. is_name entry.soname ≡ true) entries) (caps : All (λ entry. IfSome entry.cap (λ cap. is_name cap ≡ true)) entries) (paths : All (λ entry. length entry.path ≤ 4700) entries)
+    (is : names ≡ hwcaps_names es) (first : own ≡ distinct (flat_map own_strings es)) (second : all ≡ with_all own names) where
+  pub few : length es ≤ 131072
+  few = rw same many
+
+  pub few_caps : length names ≤ 131072
+  few_caps = rw is (omega (arith, few_names es, few))
+
+  pub gathered : all ≡ strings es
+  gathered = all_strings es names own all is first second
+
+  pub small : length (table_of all) < 2 ^ 30
+  small = rw gathered (small_strings es few (short_sonames es (rw same named)) (rw same paths) (short_names es (rw same caps)))
+
+  -- the names that are added change no number
+  pub kept : All (HasNumbers own) ns → All (HasNumbers all) ns
+  kept numbers = rw second (All-weaker (HasNumbers own) (HasNumbers (with_all own names)) (λ n h. numbers_kept own names n h) ns numbers)
+
+  pub laid_out : map (λ n. n.entry.now) ns ≡ es → All (HasNumbers own) ns → AreAmong all names → IsLaidOut entries
+  laid_out listed numbers among = rw same at (made)
+    where
+      made : IsLaidOut es
+      made = record {
+        few = few;
+        small = rw gathered at small;
+        own = rw gathered at (rw listed at (own_among all ns (kept numbers)));
+        names = rw (gathered, is) at among;
+      }

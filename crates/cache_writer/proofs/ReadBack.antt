@@ -11,9 +11,8 @@ use Rattle.lib_types.specs.declared.abi.Abi.{Abi}
 use Rattle.lib_types.specs.declared.abi.Abi.TheVariants.{I386, X86_64, X32, Aarch64}
 use Rattle.lib_types.specs.declared.entry.Entry.{Entry}
 use Rattle.cache_layout.specs.Layout.{is_named, name_index}
-use Rattle.string_pool.specs.Strings.{place_of}
 use Rattle.cache_reader.specs.Cache as read
-use Rattle.cache_writer.specs.CacheText.{cache_text, hwcap_of, hwcaps_names, strings, pool}
+use Rattle.cache_writer.specs.CacheText.{cache_text, hwcap_of, hwcaps_names, strings, place}
 use Rattle.image_tree.specs.Node.{has_no_nul}
 use Rattle.cache_writer.specs.ReadBack.{as_read}
 use Rattle.cache_writer.proofs.Bounds.{both_hold, few_names}
@@ -58,9 +57,9 @@ cap_back es l (Some c) plain there =
     let number = number_at es in
     let offsets : read.name_offsets (cache_text es) ≡ map number (range_with_len 0 (count es)) = names_are es l some in
     let item : slice_index (map number (range_with_len 0 (count es))) k ≡ number k = get_or-map-range_with_len number 0 (count es) k k 0 (omega (arith, index.0)) (omega arith) in
-    let place : number k ≡ place_of (pool es) c = offset_back es l k [] index.0 ∙ ap (place_of (pool es)) index.1 in
+    let spot : number k ≡ place es c = offset_back es l k [] index.0 ∙ ap (place es) index.1 in
     let among : list_any (bytes_eq c) (strings es) ≡ true = rw index.1 at (l.names k [] index.0) in
-    rw (bit.0, bit.1, offsets, item, place, text_back (cache_text es) (place_of (pool es) c) c plain (string_back es c among)) refl
+    rw (bit.0, bit.1, offsets, item, spot, text_back (cache_text es) (place es c) c plain (string_back es c among)) refl
 
 -- ---- an entry
 
@@ -85,11 +84,11 @@ entry_read es l plain i d h =
     let own = l.own i d h in
     let good = plain i d h in
     let flags = entry_back es l i d h 0 (omega arith) in
-    let key : read.key text i ≡ place_of (pool es) e.soname = entry_back es l i d h 1 (omega arith) in
-    let value : read.value text i ≡ place_of (pool es) e.path = entry_back es l i d h 2 (omega arith) in
+    let key : read.key text i ≡ place es e.soname = entry_back es l i d h 1 (omega arith) in
+    let value : read.value text i ≡ place es e.path = entry_back es l i d h 2 (omega arith) in
     let hwcap : read.hwcap text i ≡ hwcap_of (hwcaps_names es) e.cap = entry_back es l i d h 4 (omega arith) in
-    let name = text_back text (place_of (pool es) e.soname) e.soname good.soname (string_back es e.soname own.soname) in
-    let path = text_back text (place_of (pool es) e.path) e.path good.path (string_back es e.path own.path) in
+    let name = text_back text (place es e.soname) e.soname good.soname (string_back es e.soname own.soname) in
+    let path = text_back text (place es e.path) e.path good.path (string_back es e.path own.path) in
     let cap = cap_back es l e.cap good.cap (cap_known es i d h) in
     rw (flags, key, value, hwcap, signed_flags e.abi, name, path, cap) refl
 

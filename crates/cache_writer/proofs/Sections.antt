@@ -10,10 +10,9 @@ use Rattle.lib_types.specs.declared.entry.Entry.{Entry}
 use Rattle.cache_layout.specs.Layout.{laid_out, number, directory_fields, section_fields, extension_magic, generator_tag, names_tag}
 use Rattle.cache_layout.proofs.Fields.{Fit, reads_back}
 use Rattle.lib_types.proofs.Fields.{field_drop}
-use Rattle.string_pool.specs.Strings.{Strings, place_of}
 use Rattle.cache_reader.specs.Cache as read
 use Rattle.cache_reader.specs.declared.extension.Section.{Section}
-use Rattle.cache_writer.specs.CacheText.{cache_text, entry_bytes, hwcaps_names, strings_bytes, strings_end, pool, padding, extension_start, directory, section, section_count, names_start, generator_start, name_bytes, generator}
+use Rattle.cache_writer.specs.CacheText.{cache_text, entry_bytes, hwcaps_names, strings_bytes, strings_end, place, padding, extension_start, directory, section, section_count, names_start, generator_start, name_bytes, generator}
 use Rattle.cache_writer.proofs.Bounds.{few_names}
 use Rattle.lib_types.proofs.OneSize.{behind, part_there, length_parts}
 use Rattle.cache_writer.proofs.Back.{IsLaidOut, front, table, text_is, length_front, size_of_entry, start_small, header_back, place_small}
@@ -27,14 +26,14 @@ abbrev pub body : List Entry → List ℕ
 body es = front es ++ (table es ++ (strings_bytes es ++ padding (strings_end es)))
 
 abbrev pub offsets : List Entry → List ℕ
-offsets es = flat_map (name_bytes (pool es)) (hwcaps_names es)
+offsets es = flat_map (name_bytes (place es)) (hwcaps_names es)
 
 pub by_body : (es : List Entry) → cache_text es ≡ body es ++ (directory (extension_start es) (count es) ++ (offsets es ++ generator))
 by_body es = text_is es ∙ simp append_assoc
 
 pub length_body : (es : List Entry) → length (body es) ≡ extension_start es
 length_body es =
-    let parts = length_parts (entry_bytes (pool es) (hwcaps_names es)) 24 (size_of_entry (pool es) (hwcaps_names es)) es in
+    let parts = length_parts (entry_bytes (place es) (hwcaps_names es)) 24 (size_of_entry (place es) (hwcaps_names es)) es in
     let strings = length-append (strings_bytes es) (padding (strings_end es)) in
     let entries = length-append (table es) (strings_bytes es ++ padding (strings_end es)) in
     let all = length-append (front es) (table es ++ (strings_bytes es ++ padding (strings_end es))) in
@@ -158,29 +157,29 @@ names_back es l =
 
 -- ---- the offsets of the hwcaps names
 
-pub length_name : (s : Strings) (n : List ℕ) → length (name_bytes s n) ≡ 4
+pub length_name : (s : List ℕ → ℕ) (n : List ℕ) → length (name_bytes s n) ≡ 4
 unfolding name_bytes
 length_name s n = refl
 
-name_there : (s : Strings) (n : List ℕ) → name_bytes s n ≡ little_bytes 4 (place_of s n)
+name_there : (s : List ℕ → ℕ) (n : List ℕ) → name_bytes s n ≡ little_bytes 4 (s n)
 unfolding name_bytes
 name_there s n = refl
 
-pub offset_back : (es : List Entry) → IsLaidOut es → (i : ℕ) (d : List ℕ) → i < count es → field (cache_text es) (names_start (extension_start es) (count es) + 4 * i) 4 ≡ place_of (pool es) (get_or (hwcaps_names es) i d)
+pub offset_back : (es : List Entry) → IsLaidOut es → (i : ℕ) (d : List ℕ) → i < count es → field (cache_text es) (names_start (extension_start es) (count es) + 4 * i) 4 ≡ place es (get_or (hwcaps_names es) i d)
 offset_back es l i d h =
     let x = extension_start es in
     let m = count es in
     let at = names_start x m + 4 * i in
     let name = get_or (hwcaps_names es) i d in
-    let rest = flat_map (name_bytes (pool es)) (drop (suc i) (hwcaps_names es)) ++ generator in
+    let rest = flat_map (name_bytes (place es)) (drop (suc i) (hwcaps_names es)) ++ generator in
     let size : length (body es ++ directory x m) ≡ names_start x m = length-append (body es) (directory x m) ∙ omega (arith, length_body es, length_directory x m) in
-    let there : drop at (cache_text es) ≡ little_bytes 4 (place_of (pool es) name) ++ rest =
+    let there : drop at (cache_text es) ≡ little_bytes 4 (place es name) ++ rest =
     ap (drop at) (by_body es ∙ sym (append_assoc (body es) (directory x m) (offsets es ++ generator)))
     ∙ behind (body es ++ directory x m) (offsets es ++ generator) (names_start x m) (4 * i) size
-    ∙ part_there (name_bytes (pool es)) 4 (length_name (pool es)) (hwcaps_names es) generator i d h
-    ∙ ap (λ xs. xs ++ rest) (name_there (pool es) name) in
+    ∙ part_there (name_bytes (place es)) 4 (length_name (place es)) (hwcaps_names es) generator i d h
+    ∙ ap (λ xs. xs ++ rest) (name_there (place es) name) in
     let small = place_small es l name in
-    sym (field_drop 4 at (cache_text es)) ∙ ap (λ xs. field xs 0 4) there ∙ little_number-reads_back 4 (place_of (pool es) name) rest (omega (arith, small))
+    sym (field_drop 4 at (cache_text es)) ∙ ap (λ xs. field xs 0 4) there ∙ little_number-reads_back 4 (place es name) rest (omega (arith, small))
 
 abbrev pub number_at : List Entry → ℕ → ℕ
 number_at es i = field (cache_text es) (names_start (extension_start es) (count es) + 4 * i) 4

@@ -3,8 +3,9 @@ use Rattle.std.proofs.Common.{◌≡◌, ℕ, zero, suc, ◌+◌, ◌-◌, ◌<�
 use Rattle.std.proofs.lemmas.List.{length-drop, take-append-drop}
 use Rattle.std.specs.List.{list_any, before_first}
 use Rattle.lib_types.proofs.OneSize.{before_nul, behind}
-use Rattle.string_pool.specs.Strings.{table_of, offset_of, with_nul}
-use Rattle.string_pool.proofs.Pooled.{stands, place_of_le}
+use Rattle.string_pool.specs.Texts.{with_nul}
+use Rattle.string_pool.specs.InOrder.{table_of, offset_of}
+use Rattle.string_pool.proofs.InOrder.{stands, place_of_le}
 use Rattle.cache_reader.specs.Cache.{is_nul, text_at, is_ended}
 use Rattle.image_tree.specs.Node.{has_no_nul}
 

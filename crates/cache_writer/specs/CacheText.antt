@@ -10,7 +10,8 @@ use Rattle.std.specs.Str.{bytes_eq}
 use Rattle.byteorder.specs.Endian.{little_bytes}
 use Rattle.lib_types.specs.declared.entry.Entry.{Entry}
 use Rattle.lib_types.specs.Abi.{flags_of}
-use Rattle.string_pool.specs.Strings.{Strings, distinct, table_of, place_of}
+use Rattle.string_pool.specs.Texts.{distinct}
+use Rattle.string_pool.specs.InOrder.{table_of, place_of}
 use Rattle.cache_layout.specs.Layout.{laid_out, magic, header_fields, header_size, little_endian, entry_fields, entry_size, named_hwcap, extension_magic, directory_fields, directory_size, section_fields, section_size, generator_tag, names_tag}
 
 -- ---- the hwcaps names and the strings
@@ -35,11 +36,12 @@ strings entries = distinct (flat_map own_strings entries ++ hwcaps_names entries
 abbrev pub strings_start : List Entry → ℕ
 strings_start entries = header_size + entry_size * length entries
 
-abbrev pub pool : List Entry → Strings
-pool entries = record { base = strings_start entries; texts = strings entries }
-
+-- they are laid out one after the other: their bytes, and the offset of one of them in the file
 abbrev pub strings_bytes : List Entry → List ℕ
 strings_bytes entries = table_of (strings entries)
+
+abbrev pub place : List Entry → List ℕ → ℕ
+place entries string = place_of (record { base = strings_start entries; texts = strings entries }) string
 
 abbrev pub strings_end : List Entry → ℕ
 strings_end entries = strings_start entries + length (strings_bytes entries)
@@ -56,10 +58,10 @@ abbrev pub hwcap_of : List (List ℕ) → Option (List ℕ) → ℕ
 hwcap_of names None = 0
 hwcap_of names (Some cap) = named_hwcap (position_or_len (bytes_eq cap) names)
 
--- the flags, the offsets of the soname and of the path in the file, an unused number, and the hwcap
-unfoldable pub entry_bytes : Strings → List (List ℕ) → Entry → List ℕ
-entry_bytes strings names entry =
-    laid_out entry_fields (flags_of entry.abi ∷ place_of strings entry.soname ∷ place_of strings entry.path ∷ 0 ∷ hwcap_of names entry.cap ∷ [])
+-- the flags, the offsets of the soname and of the path in the file, an unused number, and the hwcap, if `place` gives the offset of a string
+unfoldable pub entry_bytes : (List ℕ → ℕ) → List (List ℕ) → Entry → List ℕ
+entry_bytes place names entry =
+    laid_out entry_fields (flags_of entry.abi ∷ place entry.soname ∷ place entry.path ∷ 0 ∷ hwcap_of names entry.cap ∷ [])
 
 -- ---- the extension
 
@@ -97,8 +99,8 @@ directory place names =
     ++ (if names == 0 then [] else section names_tag (names_start place names) (4 * names))
 
 -- the offset of a hwcaps name
-unfoldable pub name_bytes : Strings → List ℕ → List ℕ
-name_bytes strings name = little_bytes 4 (place_of strings name)
+unfoldable pub name_bytes : (List ℕ → ℕ) → List ℕ → List ℕ
+name_bytes place name = little_bytes 4 (place name)
 
 -- ---- the file
 
@@ -106,9 +108,9 @@ name_bytes strings name = little_bytes 4 (place_of strings name)
 unfoldable pub cache_text : List Entry → List ℕ
 cache_text entries =
     header (length entries) (length (strings_bytes entries)) (extension_start entries)
-    ++ flat_map (entry_bytes (pool entries) (hwcaps_names entries)) entries
+    ++ flat_map (entry_bytes (place entries) (hwcaps_names entries)) entries
     ++ strings_bytes entries
     ++ padding (strings_end entries)
     ++ directory (extension_start entries) (length (hwcaps_names entries))
-    ++ flat_map (name_bytes (pool entries)) (hwcaps_names entries)
+    ++ flat_map (name_bytes (place entries)) (hwcaps_names entries)
     ++ generator

@@ -1,3 +1,4 @@
 pub mod CacheText
-pub mod Parts
+pub mod Joined
+pub mod Numbers
 pub mod ReadBack

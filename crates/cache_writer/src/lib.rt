@@ -2,6 +2,7 @@
 #![tactic(auto)]
 
 mod names;
+mod numbers;
 mod writer;
 
 pub use writer::{ENTRIES_MAX, STRING_MAX, write};

@@ -1,18 +1,20 @@
 //! The bytes of a cache.
-ghost use Rattle.std.specs.Prelude.{◌≡◌, ◌+◌, ◌*◌, ◌++◌, ◌^◌, ◌<◌, ◌≤◌, ℕ, true, [], length, All, IfOk, IfSome, None, OnOk, map, flat_map, fold, replicate, bytes_eq};
-ghost use Rattle.indexmap.specs.IndexSet.{insert_key};
+ghost use Rattle.std.specs.Prelude.{◌≡◌, ◌+◌, ◌*◌, ◌++◌, ◌^◌, ◌<◌, ◌≤◌, ℕ, true, length, take, All, IfOk, IfSome, None, OnOk, map, flat_map, replicate};
 ghost use Rattle.byteorder.specs.Endian.{little_bytes};
 ghost use Rattle.lib_types.specs.Abi.{flags_of};
 ghost use Rattle.lib_types.specs.Name.{is_name};
-ghost use Rattle.string_pool.specs.Strings.{table_of, distinct};
+ghost use Rattle.string_pool.specs.Texts.{number_of};
+ghost use Rattle.string_pool.specs.InOrder.{table_of, place_of};
 ghost use Rattle.cache_writer.specs.declared.writer.TheConstants.{ENTRIES_MAX, STRING_MAX};
-ghost use Rattle.cache_writer.specs.CacheText.{cache_text, header, hwcap_of, entry_bytes, hwcaps_names, own_strings, directory, section, section_count, name_bytes};
-ghost use Rattle.cache_writer.specs.Parts.{AreAmong, HasOwn, joined};
+ghost use Rattle.cache_writer.specs.CacheText.{cache_text, header, hwcap_of, entry_bytes, hwcaps_names, directory, section, section_count};
+ghost use Rattle.cache_writer.specs.Numbers.{AreAmong, HasNumbers};
+ghost use Rattle.cache_writer.specs.Joined.{joined};
 ghost use Rattle.image_tree.specs.Node.{has_no_nul};
 ghost use Rattle.cache_writer.specs.ReadBack.{as_read};
 ghost use Rattle.cache_reader.specs.Cache.{defect, read};
 
 use crate::names::Names;
+use crate::numbers::{NumberedEntry, number_entries, number_names};
 use byteorder::{ByteOrder, LittleEndian};
 use cache_layout::{
     DIRECTORY_SIZE, ENTRY_SIZE, EXTENSION_MAGIC, GENERATOR_TAG, HEADER_SIZE, LITTLE_ENDIAN, MAGIC,
@@ -20,7 +22,7 @@ use cache_layout::{
 };
 use lib_types::{Abi, Entries, Entry, NAME_MAX, NoMemory};
 use std::alloc::Global;
-use string_pool::Pool;
+use string_pool::{Pool, Texts};
 
 /// The most entries of a cache, as many as a large system has with room for more.
 pub const ENTRIES_MAX: usize = 131072;
@@ -47,90 +49,81 @@ pub fn write(alloc: Global, entries: &Entries) -> Result<Vec<u8>, NoMemory>
 {
     let entries = entries.as_slice();
     let names = Names::of(alloc, entries)?;
+    let mut texts = Texts::with_capacity(alloc, 2 * entries.len())?;
+    let numbered = number_entries(alloc, &mut texts, entries)?;
+    let numbers = number_names(alloc, &mut texts, &names)?;
     let start = HEADER_SIZE + ENTRY_SIZE * entries.len();
-    let mut pool = Pool::with_capacity(alloc, start as u32, 2 * entries.len())?;
-    let mut table = Vec::with_capacity(alloc, ENTRY_SIZE * entries.len())?;
-    put_entries(&mut table, &mut pool, &names, entries)?;
-    let mut offsets = Vec::new(alloc);
-    put_names(&mut offsets, &mut pool, &names)?;
-    join(
-        alloc,
-        entries.len() as u32,
-        names.len() as u32,
-        &table,
-        pool.bytes(),
-        &offsets,
-    )
+    let strings = Pool::of(alloc, texts, start as u32)?;
+    join(alloc, &strings, &names, &numbered, &numbers)
 }
 
-// The file of these parts, if it has so many entries and hwcaps names.
+// The file of these strings, entries and hwcaps names, if these are the numbers of the names.
 #[tactic(auto, unfolding(crate::specs::CacheText::generator))]
 fn join(
     alloc: Global,
-    count: u32,
-    names: u32,
-    table: &[u8],
-    strings: &[u8],
-    offsets: &[u8],
+    strings: &Pool<'_>,
+    names: &Names<'_>,
+    entries: &[NumberedEntry<'_>],
+    numbers: &[u32],
 ) -> Result<Vec<u8>, NoMemory>
-    requires count { count ≤ ENTRIES_MAX }
-    requires names { names ≤ ENTRIES_MAX }
-    requires strings { length strings.now < 2 ^ 30 }
-    requires offsets { length offsets.now < 2 ^ 30 }
-    ensures { IfOk result (λ bytes. bytes.items ≡ joined count names table.now strings.now offsets.now) }
+    requires entries { length entries.now ≤ ENTRIES_MAX }
+    requires names { length names.now ≤ ENTRIES_MAX }
+    requires strings { length (table_of strings.now.texts) < 2 ^ 30 }
+    requires own { All (HasNumbers strings.now.texts) entries.now }
+    requires among { AreAmong strings.now.texts names.now }
+    requires numbers { numbers.now ≡ map (number_of strings.now.texts) names.now }
+    ensures { IfOk result (λ bytes. bytes.items ≡ joined strings.now names.now (map (λ e. e.entry.now) entries.now)) }
 {
-    let end = HEADER_SIZE + ENTRY_SIZE * count as usize + strings.len();
+    let bytes = strings.bytes();
+    let end = HEADER_SIZE + ENTRY_SIZE * entries.len() + bytes.len();
     let padding = (4 - end % 4) % 4;
     let extension = end + padding;
     let front = extension + DIRECTORY_SIZE + 2 * SECTION_SIZE;
-    let mut out = Vec::with_capacity(alloc, front + offsets.len() + GENERATOR.len())?;
-    put_header(&mut out, count, strings.len() as u32, extension as u32)?;
-    out.extend_from_slice(table)?;
-    out.extend_from_slice(strings)?;
+    let mut out = Vec::with_capacity(alloc, front + 4 * numbers.len() + GENERATOR.len())?;
+    put_header(
+        &mut out,
+        entries.len() as u32,
+        bytes.len() as u32,
+        extension as u32,
+    )?;
+    put_entries(&mut out, strings, names, entries)?;
+    out.extend_from_slice(bytes)?;
     put_zeros(&mut out, padding)?;
-    put_directory(&mut out, extension as u32, names)?;
-    out.extend_from_slice(offsets)?;
+    put_directory(&mut out, extension as u32, numbers.len() as u32)?;
+    put_offsets(&mut out, strings, numbers)?;
     out.extend_from_slice(GENERATOR)?;
     Ok(out)
 }
 
-// Adds the strings of all entries, and puts the entries.
-fn put_entries<'a>(
+fn put_entries(
     out: &mut Vec<u8>,
-    pool: &mut Pool<'a>,
+    strings: &Pool<'_>,
     names: &Names<'_>,
-    entries: &'a [Entry],
+    entries: &[NumberedEntry<'_>],
 ) -> Result<(), NoMemory>
-    requires empty { pool.old.texts ≡ [] }
-    requires base { pool.old.base ≤ 48 + 24 * ENTRIES_MAX }
-    requires few { length entries.now ≤ ENTRIES_MAX }
     requires names { length names.now ≤ ENTRIES_MAX }
-    requires sonames { All (λ entry. length entry.soname ≤ NAME_MAX) entries.now }
-    requires paths { All (λ entry. length entry.path ≤ STRING_MAX) entries.now }
-    ensures bytes { OnOk result (out.new.items ≡ out.old.items ++ flat_map (entry_bytes pool.new names.now) entries.now) }
-    ensures strings { OnOk result (pool.new ≡ record pool.old { texts = distinct (flat_map own_strings entries.now) }) }
-    ensures all { OnOk result (All (HasOwn pool.new.texts) entries.now) }
-    ensures size { OnOk result (length (table_of pool.new.texts) ≤ 4957 * length entries.now) }
+    requires own { All (HasNumbers strings.now.texts) entries.now }
+    ensures { OnOk result (out.new.items ≡ out.old.items ++ flat_map (λ e. entry_bytes (place_of strings.now) names.now e.entry.now) entries.now) }
 {
     for entry in entries {
-        put_entry(out, pool, names, entry)?;
+        put_entry(out, strings, names, entry)?;
     }
     Ok(())
 }
 
-fn put_entry<'a>(
+fn put_entry(
     out: &mut Vec<u8>,
-    pool: &mut Pool<'a>,
+    strings: &Pool<'_>,
     names: &Names<'_>,
-    entry: &'a Entry,
+    numbered: &NumberedEntry<'_>,
 ) -> Result<(), NoMemory>
-    requires room { pool.old.base + length (table_of pool.old.texts) + length entry.now.soname + length entry.now.path + 2 < 2 ^ 32 }
     requires names { length names.now ≤ ENTRIES_MAX }
-    ensures bytes { OnOk result (out.new.items ≡ out.old.items ++ entry_bytes pool.new names.now entry.now) }
-    ensures strings { OnOk result (pool.new ≡ record pool.old { texts = fold (insert_key bytes_eq) pool.old.texts (own_strings entry.now) }) }
+    requires own { HasNumbers strings.now.texts numbered.now }
+    ensures { OnOk result (out.new.items ≡ out.old.items ++ entry_bytes (place_of strings.now) names.now numbered.now.entry.now) }
 {
-    let soname = pool.add(entry.soname.as_bytes())?;
-    let path = pool.add(entry.path.as_bytes())?;
+    let entry = numbered.entry;
+    let soname = strings.offset(numbered.soname);
+    let path = strings.offset(numbered.path);
     let fields = fields_of(flags(entry.abi), soname, path, hwcap(names, entry));
     out.extend_from_slice(&fields)?;
     Ok(())
@@ -163,17 +156,13 @@ fn hwcap(names: &Names<'_>, entry: &Entry) -> u64
     }
 }
 
-// Adds the hwcaps names to the strings, and puts their offsets.
-fn put_names<'a>(out: &mut Vec<u8>, pool: &mut Pool<'a>, names: &Names<'a>) -> Result<(), NoMemory>
-    requires room { pool.old.base + length (table_of pool.old.texts) + 256 * length names.now < 2 ^ 32 }
-    requires short { All (λ name. length name ≤ NAME_MAX) names.now }
-    ensures bytes { OnOk result (out.new.items ≡ out.old.items ++ flat_map (name_bytes pool.new) names.now) }
-    ensures strings { OnOk result (pool.new ≡ record pool.old { texts = fold (insert_key bytes_eq) pool.old.texts names.now }) }
-    ensures all { OnOk result (AreAmong pool.new.texts names.now) }
-    ensures size { OnOk result (length (table_of pool.new.texts) ≤ length (table_of pool.old.texts) + 256 * length names.now) }
+// Puts the offsets of the strings with these numbers.
+fn put_offsets(out: &mut Vec<u8>, strings: &Pool<'_>, numbers: &[u32]) -> Result<(), NoMemory>
+    requires { All (λ number. number < length strings.now.texts) numbers.now }
+    ensures { OnOk result (out.new.items ≡ out.old.items ++ flat_map (λ number. little_bytes 4 (strings.now.base + length (table_of (take number strings.now.texts)))) numbers.now) }
 {
-    for name in names.as_slice() {
-        put_u32(out, pool.add(*name)?)?;
+    for number in numbers {
+        put_u32(out, strings.offset(*number))?;
     }
     Ok(())
 }

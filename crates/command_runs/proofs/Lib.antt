@@ -1,4 +1,0 @@
-mod ByCommand
-mod NotUsage
-mod ResolveListed
-mod ResolveRead

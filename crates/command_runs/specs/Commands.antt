@@ -2,15 +2,15 @@
 use Rattle.commands.specs.declared.kinds.Command.{Command}
 use Rattle.commands.specs.declared.kinds.Command.TheVariants as commands
 use Rattle.command_status.specs.declared.status.Status.{Status}
-use Rattle.update_runs.specs.Devices.{Devices}
-use Rattle.command_runs.specs.Lookup.{LookupRun}
-use Rattle.command_runs.specs.Print.{PrintRun}
-use Rattle.command_runs.specs.Resolve.{ResolveRun}
+use Rattle.devices.specs.Devices.{DeviceStates}
+use Rattle.asking_runs.specs.Lookup.{LookupRun}
+use Rattle.asking_runs.specs.Print.{PrintRun}
+use Rattle.asking_runs.specs.Resolve.{ResolveRun}
 use Rattle.command_runs.specs.Sample.{SampleRun}
 use Rattle.script_runs.specs.Batch.{BatchRun}
-use Rattle.update_runs.specs.UpdateCommand.{UpdateRun}
+use Rattle.script_runs.specs.UpdateCommand.{UpdateRun}
 
-abbrev pub RunsCommand : Command → Status → Devices → Devices → Type 0
+abbrev pub RunsCommand : Command → Status → DeviceStates → DeviceStates → Type 0
 RunsCommand (commands.Update tag) status old new = UpdateRun tag old new status
 RunsCommand (commands.Batch tag) status old new = BatchRun tag old new status
 RunsCommand (commands.Sample n) status old new = SampleRun n old new status

@@ -1,66 +1,18 @@
 //! The commands.
 ghost use Rattle.std.specs.Prelude.{◌≡◌};
-ghost use Rattle.tree_face.specs.Store.{StoreState};
+ghost use Rattle.devices.specs.Devices.{states};
 ghost use Rattle.command_runs.specs.Commands.{RunsCommand};
-ghost use Rattle.update_runs.specs.Devices.{devices};
-ghost use Rattle.command_runs.specs.Lookup.{LookupRun};
-ghost use Rattle.command_runs.specs.Print.{PrintRun};
-ghost use Rattle.command_runs.specs.Resolve.{ResolveRun};
 ghost use Rattle.command_status.specs.Status.{EndsWith};
-ghost use Rattle.tree_face.specs.Stream.{SourceState};
 
-use crate::lookup::look_up;
-use crate::print::print;
-use crate::resolve::resolve;
+use asking_runs::{run_lookup, run_print, run_resolve};
 use command_status::{Status, put_fault_line};
-use commands::{Command, Lookup, Resolve};
+use commands::Command;
+use devices::Devices;
 use sample_runs::run_sample;
-use script_runs::run_batch;
+use script_runs::{run_batch, run_update};
 use std::alloc::Global;
 use tree_face::{Disk, Sink, Source, Store};
-use update_runs::run_update;
-
-// The command `print`. The states of the store and the input are any, since nothing is read from them.
-fn run_print<D: Disk, O: Sink>(alloc: Global, disk: &mut D, out: &mut O) -> Status
-    ensures { (store : StoreState) (input : SourceState) → PrintRun
-        (devices store (D.state disk.old) input (O.state out.old))
-        (devices store (D.state disk.new) input (O.state out.new))
-        result }
-{
-    let status = print(alloc, disk, out);
-    put_fault_line(out, status);
-    status
-}
-
-// The command `lookup`. The states of the store and the input are any, since nothing is read from them.
-fn run_lookup<D: Disk, O: Sink>(alloc: Global, disk: &mut D, out: &mut O, lookup: &Lookup) -> Status
-    ensures { (store : StoreState) (input : SourceState) → LookupRun lookup.now
-        (devices store (D.state disk.old) input (O.state out.old))
-        (devices store (D.state disk.new) input (O.state out.new))
-        result }
-{
-    let status = look_up(alloc, disk, out, lookup);
-    put_fault_line(out, status);
-    status
-}
-
-// The command `resolve`. The state of the input is any, since nothing is read from it.
-fn run_resolve<S: Store, D: Disk, O: Sink>(
-    alloc: Global,
-    store: &mut S,
-    disk: &mut D,
-    out: &mut O,
-    asked: Resolve,
-) -> Status
-    ensures { (input : SourceState) → ResolveRun asked
-        (devices (S.state store.old) (D.state disk.old) input (O.state out.old))
-        (devices (S.state store.new) (D.state disk.new) input (O.state out.new))
-        result }
-{
-    let status = resolve(alloc, store, disk, out, asked);
-    put_fault_line(out, status);
-    status
-}
+use update_runs::Updater;
 
 /// Writes the fault line of arguments that are those of no command, and returns that status.
 pub fn refuse_arguments<O: Sink>(out: &mut O) -> Status
@@ -82,22 +34,25 @@ pub fn refuse_arguments<O: Sink>(out: &mut O) -> Status
 pub fn run_command<S: Store, D: Disk, I: Source, O: Sink>(
     alloc: Global,
     command: Command,
-    store: &mut S,
-    disk: &mut D,
-    input: &mut I,
-    out: &mut O,
+    devices: Devices<'_, S, D, I, O>,
 ) -> Status
     ensures runs { RunsCommand command result
-        (devices (S.state store.old) (D.state disk.old) (I.state input.old) (O.state out.old))
-        (devices (S.state store.new) (D.state disk.new) (I.state input.new) (O.state out.new)) }
+        (states (S.state devices.entry.store.now) (D.state devices.entry.disk.now) (I.state devices.entry.source.now) (O.state devices.entry.sink.now))
+        (states (S.state devices.exit.0.now) (D.state devices.exit.1.0.now) (I.state devices.exit.1.1.0.now) (O.state devices.exit.1.1.1.0.now)) }
     ensures no_usage { result ≡ Status.Usage → ⊥ }
 {
+    let Devices {
+        store,
+        disk,
+        source,
+        sink,
+    } = devices;
     match command {
-        Command::Update { tag } => run_update(alloc, store, disk, out, tag),
-        Command::Batch { tag } => run_batch(alloc, store, disk, input, out, tag),
-        Command::Sample { n } => run_sample(alloc, n, out),
-        Command::Print => run_print(alloc, disk, out),
-        Command::Lookup(lookup) => run_lookup(alloc, disk, out, &lookup),
-        Command::Resolve(asked) => run_resolve(alloc, store, disk, out, asked),
+        Command::Update { tag } => run_update(Updater { alloc, tag }, store, disk, sink),
+        Command::Batch { tag } => run_batch(Updater { alloc, tag }, store, disk, source, sink),
+        Command::Sample { n } => run_sample(alloc, n, sink),
+        Command::Print => run_print(alloc, disk, sink),
+        Command::Lookup(asked) => run_lookup(alloc, &asked, disk, sink),
+        Command::Resolve(asked) => run_resolve(alloc, asked, store, disk, sink),
     }
 }

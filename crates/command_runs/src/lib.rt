@@ -2,9 +2,6 @@
 #![tactic(auto)]
 
 mod command;
-mod lookup;
-mod print;
-mod resolve;
 
 pub use command::{refuse_arguments, run_command};
 pub use command_status::Status;

@@ -1,30 +1,40 @@
 -- What a command leaves of the temporary files of another tag than its own.
-use Rattle.std.proofs.Common.{◌≡◌, Result, Ok, Err, refl, ap, ◌∙◌}
+use Rattle.std.proofs.Common.{◌≡◌, [], Result, Ok, Err, refl, ap, ◌∙◌, inl, inr}
+use Rattle.devices.specs.Devices.{DeviceStates}
 use Rattle.tree_face.specs.declared.disk.Slot.{Slot}
 use Rattle.tree_face.specs.declared.disk.Tag.{Tag}
-use Rattle.tree_face.specs.Disk.{DiskState}
-use Rattle.tree_face.specs.Store.{StoreState}
-use Rattle.tree_face.specs.Stream.{SinkState}
 use Rattle.loaded_image.specs.declared.fault.LoadFault.{LoadFault}
-use Rattle.loaded_image.specs.Session.{Loaded, Loads}
+use Rattle.loaded_image.specs.Session.{Loaded}
 use Rattle.command_status.specs.declared.status.Status.{Status}
-use Rattle.update_runs.specs.Devices.{Devices}
-use Rattle.update_runs.specs.Update.{AfterLoad, LoadsAndUpdates}
-use Rattle.update_runs.specs.UpdateCommand.{UpdateRun}
+use Rattle.update_runs.specs.Update.{States}
+use Rattle.script_runs.specs.declared.fault.LineFault.{LineFault}
+use Rattle.script_runs.specs.declared.fault.ScriptFault.{ScriptFault}
+use Rattle.script_runs.specs.Run.{GoesOn, RunsLines}
+use Rattle.script_runs.specs.Stored.{AfterLoad, RunsStored, one_update}
+use Rattle.script_runs.specs.UpdateCommand.{UpdateRun}
 
 -- the tag of an update
 abbrev own : Tag
 own = record { 0 = 0 }
 
-update_keeps : (status : Status) (store after_store : StoreState) (disk after_disk : DiskState) (output after_output : SinkState) (slot : Slot)
-    → LoadsAndUpdates own status store after_store disk after_disk output after_output → after_disk.made 1 slot ≡ disk.made 1 slot
-update_keeps status store after_store disk after_disk output after_output slot u = by u.loaded u.loads u.after ∙ u.loads.reads.keeps.made 1 slot
+-- a script of one update
+lines_keep : (s : Loaded) (to : Result Loaded ScriptFault) (old new : States) (slot : Slot) → RunsLines own 1 one_update s to old new → new.disk.made 1 slot ≡ old.disk.made 1 slot
+lines_keep s to old new slot (one, (between, (takes, goes))) = ended one goes ∙ elim takes [
+  | inl (this, (u, e)) ↦ u.updates.made 1 slot refl
+  | inr out ↦ ap (λ (d : States). d.disk.made 1 slot) out.1
+]
   where
-    by : (loaded : Result Loaded LoadFault) → Loads loaded disk u.between → AfterLoad own loaded status store after_store u.between after_disk output after_output
-        → after_disk.made 1 slot ≡ u.between.made 1 slot
-    by (Err fault) loads after = ap (λ (d : DiskState). d.made 1 slot) after.1.1.0
-    by (Ok s) loads after = after.updates.made 1 slot refl
+    ended : (one : Result Loaded LineFault) → GoesOn 1 one (λ session. RunsLines own 2 [] session to between new) to between new → new.disk.made 1 slot ≡ between.disk.made 1 slot
+    ended (Ok session) goes = ap (λ (d : States). d.disk.made 1 slot) goes.1
+    ended (Err fault) goes = ap (λ (d : States). d.disk.made 1 slot) goes.1
+
+stored_keeps : (status : Status) (old new : States) (slot : Slot) → RunsStored own one_update status old new → new.disk.made 1 slot ≡ old.disk.made 1 slot
+stored_keeps status old new slot run = by run.loaded run.after ∙ run.loads.reads.keeps.made 1 slot
+  where
+    by : (loaded : Result Loaded LoadFault) → AfterLoad own one_update loaded status (record old { disk = run.between }) new → new.disk.made 1 slot ≡ run.between.made 1 slot
+    by (Err fault) (is, same) = ap (λ (d : States). d.disk.made 1 slot) same
+    by (Ok s) (to, (is, runs)) = lines_keep s to (record old { disk = run.between }) new slot runs
 
 -- an update with the tag 0 keeps the temporary files of the tag 1
-pub keeps_other : (status : Status) (old new : Devices) (slot : Slot) → UpdateRun own old new status → new.disk.made 1 slot ≡ old.disk.made 1 slot
-keeps_other status old new slot run = update_keeps status old.store new.store old.disk new.disk old.output run.reported slot run.updates
+pub keeps_other : (status : Status) (old new : DeviceStates) (slot : Slot) → UpdateRun own old new status → new.disk.made 1 slot ≡ old.disk.made 1 slot
+keeps_other status old new slot run = stored_keeps status _ _ slot run.runs

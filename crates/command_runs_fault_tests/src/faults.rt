@@ -354,10 +354,12 @@ fn update_into(alloc: Global, devices: &mut Devices, out: &mut NarrowSink) -> St
     run_command(
         alloc,
         Command::Update { tag: Tag(0) },
-        &mut devices.store,
-        &mut devices.disk,
-        &mut devices.input,
-        out,
+        devices::Devices {
+            store: &mut devices.store,
+            disk: &mut devices.disk,
+            source: &mut devices.input,
+            sink: out,
+        },
     )
 }
 

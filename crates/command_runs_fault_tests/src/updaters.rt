@@ -2,6 +2,7 @@
 use command_runs::{Status, run_command};
 use command_runs_fixture::{LIBZ_MANIFEST, ONE_CACHE, has, image, libz_held, make_devices};
 use commands::Command;
+use devices::Devices;
 use std::alloc::Global;
 use std::test::Fail;
 use tree_face::{Disk, Slot, Tag};
@@ -23,7 +24,16 @@ fn are_both_written(alloc: Global) -> Result<bool, Fail> {
     disk.create(Tag(1), Slot::Cache)?;
     disk.append(Tag(1), Slot::Cache, b"other")?;
     let own = Command::Update { tag: Tag(0) };
-    let status = run_command(alloc, own, &mut store, &mut disk, &mut input, &mut out);
+    let status = run_command(
+        alloc,
+        own,
+        Devices {
+            store: &mut store,
+            disk: &mut disk,
+            source: &mut input,
+            sink: &mut out,
+        },
+    );
     let made = disk.read(alloc, Slot::Cache)?;
     let is_own = is(&made, ONE_CACHE);
     disk.publish(Tag(1), Slot::Cache)?;

@@ -3,15 +3,15 @@
 //! Tests of the command use it in crates of their own, so that no check of them is long.
 #![tactic(auto)]
 
-mod devices;
 mod libraries;
 mod narrow_sink;
 mod samples;
+mod setting;
 
-pub use devices::{
-    Devices, LIBZ_KEY, LIBZ_MANIFEST, LIBZ_REPORT, OLD, Pairs, Setting, Wanted, copy, done, has,
-    image, is_left, make_devices, number, one, refused, replacing_calls, run_script, run_update,
-};
 pub use libraries::{Held, all, library, libz, libz_held, nameless};
 pub use narrow_sink::NarrowSink;
 pub use samples::{EMPTY_CACHE, NO_STAMPS, ONE_CACHE, THREE_CACHE};
+pub use setting::{
+    Devices, LIBZ_KEY, LIBZ_MANIFEST, LIBZ_REPORT, OLD, Pairs, Setting, Wanted, copy, done, has,
+    image, is_left, make_devices, number, one, refused, replacing_calls, run_script, run_update,
+};

@@ -4,7 +4,7 @@ ghost use Rattle.lib_types.specs.declared.abi.Abi.TheVariants.{X86_64};
 ghost use Rattle.elf_maker.specs.Made.{made};
 ghost use Rattle.elf_samples.specs.Samples as samples;
 
-use crate::devices::{LIBZ_KEY, Pairs, one};
+use crate::setting::{LIBZ_KEY, Pairs, one};
 use elf_samples::{SampleFault, file_of, library_file, needing};
 use lib_types::{Abi, NoMemory, Text, Texts};
 use std::alloc::Global;

@@ -1,7 +1,7 @@
 //! A sink that takes few bytes at a call.
 ghost use Rattle.tree_face.specs.SureStream.{failing_sink_state};
 
-use crate::devices::number;
+use crate::setting::number;
 use lib_types::{Failed, NoMemory};
 use std::alloc::Global;
 use tree_face::{MemSink, Sink};

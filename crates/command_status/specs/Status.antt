@@ -1,4 +1,4 @@
--- The exit status of each status, and the fault line on the output.
+-- The statuses: which fault has which, the exit status of each, and the fault line on the output.
 use Rattle.std.specs.Prelude.{◌≡◌, ◌⊎◌, ℕ, List, [], ◌++◌, codes, Option, Some, None}
 use Rattle.std.specs.Fmt.{decimal}
 use Rattle.lib_types.specs.Counts.{HasRisen}
@@ -22,26 +22,6 @@ use Rattle.command_status.specs.declared.status.Status.{Status}
 use Rattle.command_status.specs.declared.status.Status.TheVariants.{Done, Missing, Usage, BadManifest, BadScript, NoCache, BadCache, NoProgram, BadProgram, StoreFault, DiskFault, InputFault, OutputFault, NoMemory, TooLong, NoManifest, TooLarge, TooMany}
 use Rattle.command_status.specs.declared.status.ScriptKind.{ScriptKind}
 use Rattle.command_status.specs.declared.status.ScriptKind.TheVariants as script
-
-abbrev pub code_of : Status → ℕ
-code_of Done = 0
-code_of Missing = 1
-code_of Usage = 2
-code_of (BadManifest fault) = 3
-code_of (BadScript number kind) = 4
-code_of NoCache = 5
-code_of (BadCache defect) = 6
-code_of NoProgram = 7
-code_of (BadProgram defect) = 8
-code_of (TooMany count) = 9
-code_of StoreFault = 10
-code_of DiskFault = 11
-code_of InputFault = 12
-code_of OutputFault = 13
-code_of NoMemory = 14
-code_of (TooLong taken) = 15
-code_of NoManifest = 16
-code_of (TooLarge nodes bytes) = 17
 
 -- the status of a fault
 abbrev pub of_load : LoadFault → Status
@@ -92,32 +72,56 @@ manifest_text manifest_faults.NoMemory = []
 abbrev pub count_text : ℕ → List ℕ
 count_text count = line (codes "fault: TooMany " ++ decimal count)
 
--- the fault line, if the status has one
-abbrev pub fault_line : Status → Option (List ℕ)
-fault_line Done = None
-fault_line Missing = None
-fault_line Usage = Some (line (codes "fault: Usage"))
-fault_line (BadManifest fault) = Some (manifest_text fault)
-fault_line (BadScript number kind) = Some (script_text number kind)
-fault_line NoCache = Some (line (codes "fault: NoCache"))
-fault_line (BadCache defect) = Some (cache_fault defect)
-fault_line NoProgram = Some (line (codes "fault: NoProgram"))
-fault_line (BadProgram defect) = Some (program_fault defect)
-fault_line (TooMany count) = Some (count_text count)
-fault_line StoreFault = Some (line (codes "fault: StoreFault"))
-fault_line DiskFault = Some (line (codes "fault: DiskFault"))
-fault_line InputFault = Some (line (codes "fault: InputFault"))
-fault_line OutputFault = None
-fault_line NoMemory = None
-fault_line (TooLong taken) = Some (line (codes "fault: TooLong"))
-fault_line NoManifest = Some (line (codes "fault: NoManifest"))
-fault_line (TooLarge nodes bytes) = Some (line (codes "fault: TooLarge"))
+-- ---- the table of the statuses: the exit status of each, and the fault line if it has one
 
--- a text is written, or a prefix of it if the sink has failed
+pub record Row : Type 0 where
+  pub code : ℕ
+  pub fault : Option (List ℕ)
+
+abbrev pub silent : ℕ → Row
+silent code = record { code = code; fault = None }
+
+abbrev pub saying : ℕ → List ℕ → Row
+saying code text = record { code = code; fault = Some text }
+
+abbrev pub row_of : Status → Row
+row_of Done = silent 0
+row_of Missing = silent 1
+row_of Usage = saying 2 (line (codes "fault: Usage"))
+row_of (BadManifest fault) = saying 3 (manifest_text fault)
+row_of (BadScript number kind) = saying 4 (script_text number kind)
+row_of NoCache = saying 5 (line (codes "fault: NoCache"))
+row_of (BadCache defect) = saying 6 (cache_fault defect)
+row_of NoProgram = saying 7 (line (codes "fault: NoProgram"))
+row_of (BadProgram defect) = saying 8 (program_fault defect)
+row_of (TooMany count) = saying 9 (count_text count)
+row_of StoreFault = saying 10 (line (codes "fault: StoreFault"))
+row_of DiskFault = saying 11 (line (codes "fault: DiskFault"))
+row_of InputFault = saying 12 (line (codes "fault: InputFault"))
+row_of OutputFault = silent 13
+row_of NoMemory = silent 14
+row_of (TooLong taken) = saying 15 (line (codes "fault: TooLong"))
+row_of NoManifest = saying 16 (line (codes "fault: NoManifest"))
+row_of (TooLarge nodes bytes) = saying 17 (line (codes "fault: TooLarge"))
+
+abbrev pub code_of : Status → ℕ
+code_of status = (row_of status).code
+
+abbrev pub fault_line : Status → Option (List ℕ)
+fault_line status = (row_of status).fault
+
+-- ---- what is written
+
+-- a text is written, and the sink hasn't failed
+abbrev pub IsWritten : List ℕ → SinkState → SinkState → Type 0
+IsWritten text old new = Relates (IsFollowedBy text) old.written new.written × (new.faults ≡ old.faults)
+
+-- a prefix of it is written, since the sink has failed
+abbrev pub IsCut : List ℕ → SinkState → SinkState → Type 0
+IsCut text old new = Relates (IsFollowedByPart text) old.written new.written × HasRisen old.faults new.faults
+
 abbrev pub Says : List ℕ → SinkState → SinkState → Type 0
-Says text old new =
-    (Relates (IsFollowedBy text) old.written new.written × (new.faults ≡ old.faults))
-    ⊎ (Relates (IsFollowedByPart text) old.written new.written × HasRisen old.faults new.faults)
+Says text old new = IsWritten text old new ⊎ IsCut text old new
 
 abbrev pub EndsBy : Option (List ℕ) → SinkState → SinkState → Type 0
 EndsBy None old new = new ≡ old

@@ -1,9 +1,11 @@
 //! How a command ends: its status, and the fault line of that.
 #![tactic(auto)]
 
+mod ending;
 mod fault_line;
 mod output;
 mod status;
 
+pub use ending::{Answer, Fault, end};
 pub use output::put_fault_line;
 pub use status::{ScriptKind, Status};

@@ -2,7 +2,8 @@
 ghost use Rattle.std.specs.Prelude.{◌≡◌};
 ghost use Rattle.std.specs.Option.{option_map};
 ghost use Rattle.command_status.specs.FaultLine.{line_bytes};
-ghost use Rattle.command_status.specs.Status.{code_of, fault_line, of_load, of_resolve, of_update};
+ghost use Rattle.command_status.specs.Row.{row_bytes};
+ghost use Rattle.command_status.specs.Status.{code_of, fault_line, of_load, of_resolve, of_update, row_of, saying, silent};
 
 use crate::fault_line::{
     FaultLine, cache_line, manifest_line, numbered, program_line, script_line, whole,
@@ -68,54 +69,67 @@ pub enum Status {
     TooLarge { nodes: u64, bytes: u64 },
 }
 
+// The exit status, and the fault line if there is one.
+#[derive(Clone, Copy)]
+pub(crate) struct Row {
+    pub code: u8,
+    pub fault: Option<FaultLine>,
+}
+
+fn silent(code: u8) -> Row
+    ensures { row_bytes result ≡ silent code }
+{
+    Row { code, fault: None }
+}
+
+fn saying(code: u8, line: FaultLine) -> Row
+    ensures { row_bytes result ≡ saying code (line_bytes line) }
+{
+    Row {
+        code,
+        fault: Some(line),
+    }
+}
+
 impl Status {
+    // The table of the statuses: a status is a row here, and one of `row_of`.
+    fn row(self) -> Row
+        ensures { row_bytes result ≡ row_of self }
+    {
+        match self {
+            Status::Done => silent(0),
+            Status::Missing => silent(1),
+            Status::Usage => saying(2, whole(b"fault: Usage\n")),
+            Status::BadManifest(fault) => saying(3, manifest_line(fault)),
+            Status::BadScript { line, kind } => saying(4, script_line(line, kind)),
+            Status::NoCache => saying(5, whole(b"fault: NoCache\n")),
+            Status::BadCache(defect) => saying(6, cache_line(defect)),
+            Status::NoProgram => saying(7, whole(b"fault: NoProgram\n")),
+            Status::BadProgram(defect) => saying(8, program_line(defect)),
+            Status::TooMany { count } => saying(9, numbered(b"fault: TooMany ", count, b"\n")),
+            Status::StoreFault => saying(10, whole(b"fault: StoreFault\n")),
+            Status::DiskFault => saying(11, whole(b"fault: DiskFault\n")),
+            Status::InputFault => saying(12, whole(b"fault: InputFault\n")),
+            Status::OutputFault => silent(13),
+            Status::NoMemory => silent(14),
+            Status::TooLong { .. } => saying(15, whole(b"fault: TooLong\n")),
+            Status::NoManifest => saying(16, whole(b"fault: NoManifest\n")),
+            Status::TooLarge { .. } => saying(17, whole(b"fault: TooLarge\n")),
+        }
+    }
+
     /// The program's exit status.
     pub fn code(self) -> u8
         ensures { result ≡ code_of self }
     {
-        match self {
-            Status::Done => 0,
-            Status::Missing => 1,
-            Status::Usage => 2,
-            Status::BadManifest(_) => 3,
-            Status::BadScript { .. } => 4,
-            Status::NoCache => 5,
-            Status::BadCache(_) => 6,
-            Status::NoProgram => 7,
-            Status::BadProgram(_) => 8,
-            Status::TooMany { .. } => 9,
-            Status::StoreFault => 10,
-            Status::DiskFault => 11,
-            Status::InputFault => 12,
-            Status::OutputFault => 13,
-            Status::NoMemory => 14,
-            Status::TooLong { .. } => 15,
-            Status::NoManifest => 16,
-            Status::TooLarge { .. } => 17,
-        }
+        self.row().code
     }
 
     /// The fault line, if the status has one.
     pub(crate) fn fault_line(self) -> Option<FaultLine>
         ensures { option_map line_bytes result ≡ fault_line self }
     {
-        match self {
-            Status::Done | Status::Missing | Status::OutputFault | Status::NoMemory => None,
-            Status::Usage => Some(whole(b"fault: Usage\n")),
-            Status::BadManifest(fault) => Some(manifest_line(fault)),
-            Status::BadScript { line, kind } => Some(script_line(line, kind)),
-            Status::NoCache => Some(whole(b"fault: NoCache\n")),
-            Status::BadCache(defect) => Some(cache_line(defect)),
-            Status::NoProgram => Some(whole(b"fault: NoProgram\n")),
-            Status::BadProgram(defect) => Some(program_line(defect)),
-            Status::TooMany { count } => Some(numbered(b"fault: TooMany ", count, b"\n")),
-            Status::StoreFault => Some(whole(b"fault: StoreFault\n")),
-            Status::DiskFault => Some(whole(b"fault: DiskFault\n")),
-            Status::InputFault => Some(whole(b"fault: InputFault\n")),
-            Status::TooLong { .. } => Some(whole(b"fault: TooLong\n")),
-            Status::NoManifest => Some(whole(b"fault: NoManifest\n")),
-            Status::TooLarge { .. } => Some(whole(b"fault: TooLarge\n")),
-        }
+        self.row().fault
     }
 }
 

@@ -1,5 +1,6 @@
 pub mod Known
 pub mod Found
+pub mod Cursors
 pub mod Live
 pub mod Windows
 pub mod Joined

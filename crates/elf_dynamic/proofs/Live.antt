@@ -13,8 +13,9 @@ use Rattle.tree_face.specs.StoreUse.{Ending}
 use Rattle.elf_headers.specs.Reading.{known_content, OfKnown, OnlyReads}
 use Rattle.elf_headers.specs.declared.kinds.Head.{Head}
 use Rattle.elf_dynamic.specs.declared.entries.Entries.{Entries}
+use Rattle.elf_dynamic.specs.declared.file.Cursor.{Cursor}
 use Rattle.elf_dynamic.specs.declared.window.Window.{Window}
-use Rattle.elf_dynamic.specs.Entries.{entries_in, live_entries, rest_of, IsIn, IsHeld, unread_in}
+use Rattle.elf_dynamic.specs.Entries.{entries_in, live_entries, rest_of, IsReaderOf, unread_in}
 use Rattle.elf_dynamic.proofs.Known.{before, with}
 
 -- ---- how many entries are left
@@ -128,21 +129,19 @@ window_on n r f at buf bytes h e = sym (part_on n r f buf h) ∙ ap (drop n) e �
 abbrev Begun : Head → Segment → Entries → Type 0
 Begun h d c = c ≡ record { wide = h.wide; end = d.offset + d.filesz; left = d.filesz; held = 0 }
 
-pub opened : (h : Head) (d : Segment) (c : Entries) → Begun h d c → d.offset + d.filesz ≤ h.length → IsIn h c
-opened h d c new inside =
+-- it reads in the file, and knows of no byte that the window holds
+pub opened : (f : Cursor) (d : Segment) (c : Entries) → Begun f.head d c → d.offset + d.filesz ≤ f.head.length → IsReaderOf f c
+opened f d c new inside =
     let end_is : c.end ≡ d.offset + d.filesz = ap (λ x. x.end) new in
     let left_is : c.left ≡ d.filesz = ap (λ x. x.left) new in
+    let none : c.held ≡ 0 = ap (λ x. x.held) new in
     record {
       wide = ap (λ x. x.wide) new;
       within = omega arith;
       in_file = omega arith;
+      held = omega arith;
+      ready = omega (arith, none);
     }
-
--- the window holds nothing that a new reader knows of
-pub begun_held : (h : Head) (d : Segment) (c : Entries) (w : Window) → Begun h d c → IsHeld w c
-begun_held h d c w new =
-    let none : c.held ≡ 0 = ap (λ x. x.held) new in
-    record { within = omega arith; ready = omega (arith, none) }
 
 pub begun : (known : Option (List ℕ)) (h : Head) (d : Segment) (c : Entries) → Begun h d c → IfKnown known (λ bytes. rest_of c bytes ≡ dynamic_entries (word_size h.wide) bytes d)
 begun known h d c new =

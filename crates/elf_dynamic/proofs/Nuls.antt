@@ -7,9 +7,9 @@ use Rattle.std.proofs.lemmas.List.Folds.{list_any-append}
 use Rattle.std.specs.List.{list_any, take_while}
 use Rattle.lib_types.proofs.FirstByte.{is_some_position}
 use Rattle.tree_face.specs.Known.{IfKnown}
-use Rattle.elf_dynamic.specs.declared.table.Table.{Table}
-use Rattle.elf_dynamic.specs.Section.{is_nul, near, has_text_at}
-use Rattle.elf_dynamic.specs.Texts.{before_nul, bytes_of, text_found}
+use Rattle.elf_dynamic.specs.declared.kinds.Place.{Place}
+use Rattle.elf_dynamic.specs.Section.{bytes_of, is_nul, near, has_text_at}
+use Rattle.elf_dynamic.specs.Texts.{before_nul, text_found}
 use Rattle.elf_dynamic.proofs.Known.{with, both}
 use Rattle.elf_dynamic.proofs.Live.{while_true, while_false, part_on}
 
@@ -137,7 +137,7 @@ near_is most offset at size bytes h e =
     ] in
     ap (take 65536) part ∙ by (cases_lt n 65536)
 
-within_table : (offset : ℕ) (t : Table) (bytes : List ℕ) → offset < t.size → t.at + t.size ≤ length bytes → nat_lt offset (length (bytes_of t bytes)) ≡ true
+within_table : (offset : ℕ) (t : Place) (bytes : List ℕ) → offset < t.size → t.at + t.size ≤ length bytes → nat_lt offset (length (bytes_of t bytes)) ≡ true
 within_table offset t bytes h inside =
     let size : length (take t.size (drop t.at bytes)) ≡ t.size = length-take t.size (drop t.at bytes) ∙ ap (min t.size) (length-drop t.at bytes) ∙ omega arith in
     ap (nat_lt offset) size ∙ grind (arith, nat_tests)
@@ -145,7 +145,7 @@ within_table offset t bytes h inside =
 text_by : (a : Bool) (b : Bool) (o : Option (List ℕ)) → a ≡ true → cond b o None ≡ cond (a && b) o None
 text_by a b o h = rw h refl
 
-text_is : (most offset : ℕ) (t : Table) (bytes : List ℕ) → offset < t.size → t.at + t.size ≤ length bytes → most ≡ min (t.size - offset) 65536 →
+text_is : (most offset : ℕ) (t : Place) (bytes : List ℕ) → offset < t.size → t.at + t.size ≤ length bytes → most ≡ min (t.size - offset) 65536 →
     before_nul (take most (drop (t.at + offset) bytes)) ≡ text_found (bytes_of t bytes) offset
 unfolding near
 text_is most offset t bytes h inside e =
@@ -154,13 +154,13 @@ text_is most offset t bytes h inside e =
 has_by : (a b : Bool) → a ≡ true → b ≡ (a && b)
 has_by a b h = rw h refl
 
-has_is : (most offset : ℕ) (t : Table) (bytes : List ℕ) → offset < t.size → t.at + t.size ≤ length bytes → most ≡ min (t.size - offset) 65536 →
+has_is : (most offset : ℕ) (t : Place) (bytes : List ℕ) → offset < t.size → t.at + t.size ≤ length bytes → most ≡ min (t.size - offset) 65536 →
     list_any is_nul (take most (drop (t.at + offset) bytes)) ≡ has_text_at (bytes_of t bytes) offset
 unfolding near
 has_is most offset t bytes h inside e =
     ap (list_any is_nul) (sym (near_is most offset t.at t.size bytes h e)) ∙ has_by (nat_lt offset (length (bytes_of t bytes))) _ (within_table offset t bytes h inside)
 
-pub text_known : {F : Type 0} (known : Option (List ℕ)) (most offset : ℕ) (t : Table) (size : ℕ) (r : Result (Option (List ℕ)) F) → offset < t.size → t.at + t.size ≤ size → most ≡ min (t.size - offset) 65536 →
+pub text_known : {F : Type 0} (known : Option (List ℕ)) (most offset : ℕ) (t : Place) (size : ℕ) (r : Result (Option (List ℕ)) F) → offset < t.size → t.at + t.size ≤ size → most ≡ min (t.size - offset) 65536 →
     IfKnown known (λ bytes. length bytes ≡ size) → IfOk r (λ o. IfKnown known (λ bytes. o ≡ before_nul (take most (drop (t.at + offset) bytes)))) →
     IfOk r (λ o. IfKnown known (λ bytes. o ≡ text_found (bytes_of t bytes) offset))
 text_known known most offset t size (Err f) h inside e same read = tt
@@ -168,7 +168,7 @@ text_known known most offset t size (Ok o) h inside e same read =
     both {P = λ bytes. length bytes ≡ size} {Q = λ bytes. o ≡ before_nul (take most (drop (t.at + offset) bytes))} {R = λ bytes. o ≡ text_found (bytes_of t bytes) offset} known same read
     (λ bytes same read. read ∙ text_is most offset t bytes h (omega arith) e)
 
-pub nul_known : {F : Type 0} (known : Option (List ℕ)) (most offset : ℕ) (t : Table) (size : ℕ) (r : Result Bool F) → offset < t.size → t.at + t.size ≤ size → most ≡ min (t.size - offset) 65536 →
+pub nul_known : {F : Type 0} (known : Option (List ℕ)) (most offset : ℕ) (t : Place) (size : ℕ) (r : Result Bool F) → offset < t.size → t.at + t.size ≤ size → most ≡ min (t.size - offset) 65536 →
     IfKnown known (λ bytes. length bytes ≡ size) → IfOk r (λ b. IfKnown known (λ bytes. b ≡ list_any is_nul (take most (drop (t.at + offset) bytes)))) →
     IfOk r (λ b. IfKnown known (λ bytes. b ≡ has_text_at (bytes_of t bytes) offset))
 nul_known known most offset t size (Err f) h inside e same read = tt

@@ -10,12 +10,12 @@ use Rattle.elf_dynamic.specs.declared.kinds.DynamicEntry.{DynamicEntry}
 use Rattle.elf_dynamic.specs.declared.kinds.Dynamic.{Dynamic}
 use Rattle.elf_dynamic.specs.declared.gather.Keep.{Keep}
 use Rattle.elf_dynamic.specs.Kept.{kept, kept_of}
-use Rattle.elf_dynamic.specs.Section.{strtab, strsz, has_tag, value_of, has_text, string_table, table_at, dynamic_segment, is_outside, dynamic_entries, counting_after, counting_entries, has_text_at, text_at}
+use Rattle.elf_dynamic.specs.Section.{bytes_of, strtab, strsz, has_tag, value_of, has_text, string_table, table_at, dynamic_segment, is_outside, dynamic_entries, counting_after, counting_entries, has_text_at, text_at}
 use Rattle.elf_dynamic.specs.Object.{entries, table, section_sentences, dynamic_sentences, bad_entry, text_in, soname_of, needed_of, has_nodeflib, nodeflib_of, dynamic_of}
-use Rattle.elf_dynamic.specs.Texts.{bytes_of, no_texts, gathered, counted}
+use Rattle.elf_dynamic.specs.Texts.{no_texts, gathered, counted}
 use Rattle.elf_dynamic.specs.Sections.{section_of, section_in, sections_in, counting_in, table_by, name_of, has_good_name}
 use Rattle.lib_types.specs.Counts.{raised}
-use Rattle.elf_dynamic.specs.declared.table.Table.{Table}
+use Rattle.elf_dynamic.specs.declared.kinds.Place.{Place}
 use Rattle.elf_dynamic.specs.declared.fault.ObjectFault.{ObjectFault}
 use Rattle.elf_dynamic.specs.declared.fault.ObjectFault.TheVariants as faults
 use Rattle.elf_dynamic.specs.Faults.{IfBad}
@@ -200,7 +200,7 @@ known_taken (Some bytes) a b c n m w s f first table new h k =
     (raised-add a b c n (m + 65536 * counted (table bytes) first (dynamic_entries w bytes s)) h k)
 
 -- the same of a store, with the table before the texts
-pub texts_taken_by : {e : Ending} (s t u : StoreState) (n m w : ℕ) (d : Segment) (f : Bool) (first : Dynamic) (table : Table) → first ≡ no_texts f → OnlyReads e s t → TakesAtMost n s t →
+pub texts_taken_by : {e : Ending} (s t u : StoreState) (n m w : ℕ) (d : Segment) (f : Bool) (first : Dynamic) (table : Place) → first ≡ no_texts f → OnlyReads e s t → TakesAtMost n s t →
     OfKnown t (λ bytes. TakesAtMost (m + 65536 * counted (bytes_of table bytes) first (dynamic_entries w bytes d)) t u) → OfKnown s (λ bytes. TakesAtMost (n + m + 65536 * counting_in w bytes d) s u)
 texts_taken_by s t u n m w d f first table new reads before_texts taken =
     known_taken (known_content s) s.taken t.taken u.taken n m w d f first (bytes_of table) new before_texts
@@ -267,7 +267,7 @@ module _ (keep : Keep) (known : Option (List ℕ)) (w : ℕ) (s : Segment) (v : 
 -- ---- the faults of other calls
 
 pub table_fault : (keep : Keep) (known : Option (List ℕ)) (w : ℕ) (s : Segment) (v : Values) (fault : ObjectFault) → IfKnown known (λ bytes. v ≡ values_of (dynamic_entries w bytes s)) → 0 < v.texts →
-    IfBad {X = Table} (Err fault) (λ d. IfKnown known (λ bytes. table_by w bytes v.strtab v.strsz ≡ Err d)) → IfBad {X = Unit {0}} (Err fault) (λ d. IfKnown known (λ bytes. section_in w bytes s ≡ Err d))
+    IfBad {X = Place} (Err fault) (λ d. IfKnown known (λ bytes. table_by w bytes v.strtab v.strsz ≡ Err d)) → IfBad {X = Unit {0}} (Err fault) (λ d. IfKnown known (λ bytes. section_in w bytes s ≡ Err d))
 table_fault keep known w s v (faults.Bad d) is h bad = known_bad_table keep known w s v is d h bad
 table_fault keep known w s v faults.StoreFault is h bad = tt
 table_fault keep known w s v faults.NoMemory is h bad = tt

@@ -1,12 +1,13 @@
 -- A reader of the entries of a dynamic section, one after another. The clauses of private functions cite these definitions.
-use Rattle.std.specs.Prelude.{◌≡◌, ◌≤◌, ℕ, zero, suc, ◌+◌, ◌-◌, ◌*◌, ◌/◌, ◌==◌, not, List, [], ◌∷◌, take_while}
-use Rattle.elf_headers.specs.declared.kinds.Head.{Head}
+use Rattle.std.specs.Prelude.{◌≡◌, ◌≤◌, ◌<◌, Bool, true, false, ℕ, zero, suc, ◌+◌, ◌-◌, ◌*◌, ◌/◌, ◌==◌, not, List, [], ◌∷◌, take_while}
+use Rattle.tree_face.specs.Store.{StoreState}
 use Rattle.elf_headers.specs.Layout.{word_size}
 use Rattle.elf_dynamic.specs.declared.kinds.DynamicEntry.{DynamicEntry}
 use Rattle.elf_dynamic.specs.declared.entries.Entries.{Entries}
+use Rattle.elf_dynamic.specs.declared.file.Cursor.{Cursor}
 use Rattle.elf_dynamic.specs.declared.window.Window.{Window}
 use Rattle.elf_dynamic.specs.Section.{entry_at}
-use Rattle.elf_dynamic.specs.Windows.{ready, unread}
+use Rattle.elf_dynamic.specs.Windows.{ready, unread, Lessens}
 
 -- so many entries from an offset on
 abbrev pub entries_in : ℕ → List ℕ → ℕ → ℕ → List DynamicEntry
@@ -21,16 +22,13 @@ live_entries w bytes at left = take_while (λ e. not (e.tag == 0)) (entries_in w
 abbrev pub rest_of : Entries → List ℕ → List DynamicEntry
 rest_of c bytes = live_entries (word_size c.wide) bytes (c.end - c.left) c.left
 
--- the reader is in the file
-pub record IsIn (h : Head) (c : Entries) : Type 0 where
-  pub wide : c.wide ≡ h.wide
+-- a reader of entries in the file; the window holds as many of the bytes that are left as the reader knows of
+pub record IsReaderOf (f : Cursor) (c : Entries) : Type 0 where
+  pub wide : c.wide ≡ f.head.wide
   pub within : c.left ≤ c.end
-  pub in_file : c.end ≤ h.length
-
--- the window holds as many of the bytes that are left as the reader knows of
-pub record IsHeld (w : Window) (c : Entries) : Type 0 where
-  pub within : c.held ≤ c.left
-  pub ready : c.held ≤ ready w (c.end - c.left)
+  pub in_file : c.end ≤ f.head.length
+  pub held : c.held ≤ c.left
+  pub ready : c.held ≤ ready f.section (c.end - c.left)
 
 -- at most so many bytes are still read
 abbrev pub unread_in : Window → Entries → ℕ
@@ -39,3 +37,14 @@ unread_in w c = unread w c.end (c.end - c.left)
 -- the same after the next entry
 abbrev pub unread_after : Window → Entries → ℕ
 unread_after w c = unread w c.end (c.end - c.left + 2 * word_size c.wide)
+
+-- the reader is where it was, and knows whether there is a next entry: of this one it has the bytes
+pub record KnowsNext (there : Bool) (before after : Entries) : Type 0 where
+  pub same : after ≡ record before { held = after.held }
+  pub some : there ≡ true → 2 * word_size after.wide ≤ after.held
+  pub none : there ≡ false → before.left < 2 * word_size before.wide
+
+-- the reader is an entry on
+pub record MovesOn (f g : Cursor) (before after : Entries) (old new : StoreState) : Type 0 where
+  pub fewer : after.left < before.left
+  pub left : Lessens (unread_in f.section before) (unread_in g.section after) old new

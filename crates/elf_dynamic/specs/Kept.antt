@@ -1,7 +1,10 @@
 -- What is left of a section if not all of its texts are kept. A text that isn't kept is empty: that it is there still
 -- counts for the entries behind it. The clauses of private functions cite these definitions.
-use Rattle.std.specs.Prelude.{ℕ, Bool, true, false, ◌==◌, List, [], Option, option_map, Result, Ok, Err}
+use Rattle.std.specs.Prelude.{◌≡◌, ℕ, Bool, true, false, ◌==◌, List, [], Option, option_map, IfSome, Result, Ok, Err}
 use Rattle.lib_types.specs.declared.analysis.Defect.{Defect}
+use Rattle.tree_face.specs.Store.{StoreState}
+use Rattle.elf_headers.specs.Reading.{OfKnown}
+use Rattle.elf_dynamic.specs.Faults.{HasSoname}
 use Rattle.elf_dynamic.specs.declared.gather.Keep.{Keep}
 use Rattle.elf_dynamic.specs.declared.gather.Keep.TheVariants.{All, Soname}
 use Rattle.elf_dynamic.specs.declared.kinds.Dynamic.{Dynamic}
@@ -36,3 +39,13 @@ kept_object keep o = record o { dynamic = option_map (kept keep) o.dynamic }
 abbrev pub kept_object_of : Keep → Result Object Defect → Result Object Defect
 kept_object_of keep (Ok o) = Ok (kept_object keep o)
 kept_object_of keep (Err x) = Err x
+
+-- this is what is left of the section, and its soname is a name over every store
+pub record IsKeptSection (keep : Keep) (s : StoreState) (section : List ℕ → Result Dynamic Defect) (d : Dynamic) : Type 0 where
+  pub kept : OfKnown s (λ bytes. kept_of keep (section bytes) ≡ Ok (kept keep d))
+  pub name : HasSoname d
+
+-- the same of a file, which may have no section
+pub record IsKeptInFile (keep : Keep) (s : StoreState) (section : List ℕ → Result (Option Dynamic) Defect) (d : Option Dynamic) : Type 0 where
+  pub kept : OfKnown s (λ bytes. kept_in_file keep (section bytes) ≡ Ok (option_map (kept keep) d))
+  pub name : IfSome d HasSoname

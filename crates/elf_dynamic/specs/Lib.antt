@@ -1,5 +1,6 @@
 pub mod Analysis
 pub mod Begun
+pub mod Cursor
 pub mod Entries
 pub mod Faults
 pub mod Kept

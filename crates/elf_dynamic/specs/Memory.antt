@@ -1,5 +1,11 @@
 -- What a call may not have found when it is out of memory. Only texts take memory: what comes before them is found without it.
-use Rattle.std.specs.Prelude.{◌≡◌, Option, IsSome, Result, MatchResult}
+use Rattle.std.specs.Prelude.{◌≡◌, ℕ, List, Option, IsSome, Result, Err, MatchResult, IfErr, IsErrOf}
+use Rattle.tree_face.specs.Store.{StoreState}
+use Rattle.elf_headers.specs.Range.{IsInRange}
+use Rattle.elf_headers.specs.Reading.{OfKnown}
+use Rattle.elf_dynamic.specs.Faults.{IfBad}
+use Rattle.elf_dynamic.specs.declared.fault.ObjectFault.{ObjectFault}
+use Rattle.elf_dynamic.specs.declared.fault.ObjectFault.TheVariants.{NoMemory}
 use Rattle.lib_types.specs.declared.analysis.Analysis.{Analysis}
 use Rattle.lib_types.specs.declared.analysis.Analysis.TheVariants.{Lib, Not}
 use Rattle.lib_types.specs.declared.analysis.Defect.{Defect}
@@ -24,3 +30,9 @@ ObjectTakesMemory r = MatchResult r (λ o. IsSome o.dynamic) IsBehindTexts
 abbrev pub AnalysisTakesMemory : Analysis → Type 0
 AnalysisTakesMemory (Lib abi soname) = Unit {0}
 AnalysisTakesMemory (Not d) = IsBehindTexts d
+
+-- a call that reads a section fails by the defect of the content, which is in its range; out of memory hides only what is behind texts
+pub record IsFaultOf {X : Type 0} (s : StoreState) (section : List ℕ → Result Dynamic Defect) (result : Result X ObjectFault) : Type 0 where
+  pub bad : IfBad result (λ d. OfKnown s (λ bytes. section bytes ≡ Err d))
+  pub range : IfBad result IsInRange
+  pub no_memory : IsErrOf result NoMemory → OfKnown s (λ bytes. IfErr (section bytes) IsBehindTexts)

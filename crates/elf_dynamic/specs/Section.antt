@@ -1,11 +1,12 @@
 -- The dynamic section of a file, in both classes (gABI, "Dynamic Section"; numbers are ELFDATA2LSB).
 -- `w` is the size of an address: 4 bytes in class 1, 8 bytes in class 2. No number has a bound.
-use Rattle.std.specs.Prelude.{ℕ, ◌+◌, ◌-◌, ◌*◌, ◌/◌, Bool, if◌then◌else◌, ◌==◌, ◌&&◌, ◌||◌, not, nat_le, nat_lt, List, [], ◌∷◌, map, length, take, drop, find, take_while, Option, Some, None, option_map, option_and_then}
+use Rattle.std.specs.Prelude.{ℕ, ◌+◌, ◌-◌, ◌*◌, ◌/◌, Bool, if◌then◌else◌, ◌==◌, ◌&&◌, ◌||◌, not, nat_le, nat_lt, min, List, [], ◌∷◌, map, length, take, drop, find, take_while, Option, Some, None, option_map, option_and_then}
 use Rattle.std.specs.List.{list_any, range_with_len}
 use Rattle.lib_types.specs.Bytes.{field}
 use Rattle.elf_headers.specs.declared.kinds.Segment.{Segment}
 use Rattle.elf_headers.specs.Layout.{segments}
 use Rattle.elf_dynamic.specs.declared.kinds.DynamicEntry.{DynamicEntry}
+use Rattle.elf_dynamic.specs.declared.kinds.Place.{Place}
 
 -- ---- segments: PT_LOAD and PT_DYNAMIC
 
@@ -26,6 +27,30 @@ is_outside bytes s = nat_lt (length bytes) (s.offset + s.filesz)
 -- the address is in the segment's file part
 abbrev pub has_address : ℕ → Segment → Bool
 has_address address s = nat_le s.vaddr address && nat_lt address (s.vaddr + s.filesz)
+
+-- ---- places: parts of the file
+
+abbrev pub bytes_of : Place → List ℕ → List ℕ
+bytes_of p bytes = take p.size (drop p.at bytes)
+
+-- the same of a place that may not be there
+abbrev pub bytes_if : Option Place → List ℕ → Option (List ℕ)
+bytes_if p bytes = option_map (λ p. bytes_of p bytes) p
+
+-- the first `size` bytes of a place, if it has as many
+abbrev pub front_of : ℕ → Place → Option Place
+front_of size p = if nat_le size p.size then Some (record p { size = size }) else None
+
+-- the place of an address that the segment has, in a file of this length: it ends with the segment's file part, or with the file
+abbrev pub place_in : ℕ → ℕ → Segment → Option Place
+place_in length address s =
+    let at = s.offset + (address - s.vaddr) in
+    if nat_le at length then Some (record { at = at; size = min (s.vaddr + s.filesz - address) (length - at) }) else None
+
+-- the place of an address: in the first PT_LOAD that has it
+abbrev pub place_of : List ℕ → List Segment → ℕ → Option Place
+place_of bytes segments address =
+    option_and_then (place_in (length bytes) address) (find (λ s. is_load s && has_address address s) segments)
 
 -- ---- the entries
 
@@ -86,18 +111,9 @@ counting_entries entries = counting_after [] entries
 
 -- ---- the string table: DT_STRTAB is an address, DT_STRSZ the number of bytes
 
--- the bytes of the table whose address is in this segment, if they end neither past its file part nor past the file
-abbrev pub table_in : List ℕ → ℕ → ℕ → Segment → Option (List ℕ)
-table_in bytes address size s =
-    let at = s.offset + (address - s.vaddr) in
-    if nat_le (address + size) (s.vaddr + s.filesz) && nat_le (at + size) (length bytes)
-    then Some (take size (drop at bytes))
-    else None
-
--- the first PT_LOAD with the address has the table
+-- the `size` bytes at an address, if the place of the address has as many
 abbrev pub table_at : List ℕ → List Segment → ℕ → ℕ → Option (List ℕ)
-table_at bytes segments address size =
-    option_and_then (table_in bytes address size) (find (λ s. is_load s && has_address address s) segments)
+table_at bytes segments address size = bytes_if (option_and_then (front_of size) (place_of bytes segments address)) bytes
 
 abbrev pub string_table : List ℕ → List Segment → List DynamicEntry → Option (List ℕ)
 string_table bytes segments entries =

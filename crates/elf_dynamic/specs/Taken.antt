@@ -2,8 +2,9 @@
 use Rattle.std.specs.Prelude.{ℕ, ◌+◌, ◌*◌, Bool, true, false, not, List, length, Option, Some, None, option_map}
 use Rattle.std.specs.Option.{option_map_or}
 use Rattle.lib_types.specs.declared.analysis.Defect.{Defect}
-use Rattle.tree_face.specs.Store.{Contents}
+use Rattle.tree_face.specs.Store.{Contents, StoreState}
 use Rattle.elf_headers.specs.declared.kinds.Segment.{Segment}
+use Rattle.elf_headers.specs.Reading.{OfKnown, TakesAtMost}
 use Rattle.elf_dynamic.specs.declared.kinds.Dynamic.{Dynamic}
 use Rattle.elf_headers.specs.Layout.{is_wide, word_size, phnum}
 use Rattle.elf_headers.specs.Header.{first_defect, header_sentences}
@@ -43,3 +44,7 @@ most_under held key = option_map_or most_taken (held key) 0
 -- the same, if contents are known
 abbrev pub most_known : Option Contents → List ℕ → Option ℕ
 most_known held key = option_map (λ held. most_under held key) held
+
+-- at most `most` of the begun file's content are taken, if the content is known
+abbrev pub TakesBy : (List ℕ → ℕ) → StoreState → StoreState → Type 0
+TakesBy most old new = OfKnown old (λ bytes. TakesAtMost (most bytes) old new)

@@ -1,20 +1,12 @@
--- The string table in the file, and the texts that are gathered from it one entry after another. The clauses of
+-- The texts that are gathered from the string table one entry after another. The clauses of
 -- private functions cite these definitions.
-use Rattle.std.specs.Prelude.{ℕ, ◌+◌, Bool, if◌then◌else◌, ◌==◌, ◌||◌, ◌&&◌, not, List, [], ◌∷◌, ◌++◌, take, drop, take_while, Option, Some, None, is_none, option_map, Result, Ok, Err}
+use Rattle.std.specs.Prelude.{ℕ, ◌+◌, Bool, if◌then◌else◌, ◌==◌, ◌||◌, ◌&&◌, not, List, [], ◌∷◌, ◌++◌, take_while, Option, Some, None, is_none, Result, Ok, Err}
 use Rattle.std.specs.List.{list_any}
 use Rattle.lib_types.specs.declared.analysis.Defect.{Defect}
 use Rattle.lib_types.specs.declared.analysis.Defect.TheVariants.{BadString}
 use Rattle.elf_dynamic.specs.declared.kinds.DynamicEntry.{DynamicEntry}
 use Rattle.elf_dynamic.specs.declared.kinds.Dynamic.{Dynamic}
-use Rattle.elf_dynamic.specs.declared.table.Table.{Table}
 use Rattle.elf_dynamic.specs.Section.{is_nul, has_text_at, text_at}
-
-abbrev pub bytes_of : Table → List ℕ → List ℕ
-bytes_of t bytes = take t.size (drop t.at bytes)
-
--- the same of a table that may not be there
-abbrev pub bytes_if : Option Table → List ℕ → Option (List ℕ)
-bytes_if t bytes = option_map (λ t. bytes_of t bytes) t
 
 -- the bytes before the first NUL, if there is one
 abbrev pub before_nul : List ℕ → Option (List ℕ)

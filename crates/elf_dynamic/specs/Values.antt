@@ -1,8 +1,13 @@
 -- What the entries say beside their texts. The clauses of private functions cite these definitions.
-use Rattle.std.specs.Prelude.{ℕ, ◌+◌, List, filter, length, Option, Some, None}
+use Rattle.std.specs.Prelude.{◌≡◌, ◌≤◌, ◌<◌, ℕ, ◌+◌, List, filter, length, Option, Some, None}
+use Rattle.tree_face.specs.Store.{StoreState}
+use Rattle.elf_headers.specs.declared.kinds.Head.{Head}
+use Rattle.elf_headers.specs.declared.kinds.Segment.{Segment}
+use Rattle.elf_headers.specs.Layout.{word_size}
+use Rattle.elf_headers.specs.Reading.{OfKnown}
 use Rattle.elf_dynamic.specs.declared.kinds.DynamicEntry.{DynamicEntry}
 use Rattle.elf_dynamic.specs.declared.values.Values.{Values}
-use Rattle.elf_dynamic.specs.Section.{strtab, strsz, flags_1, value_of, has_text}
+use Rattle.elf_dynamic.specs.Section.{dynamic_entries, strtab, strsz, flags_1, value_of, has_text}
 
 -- how many entries have a text
 abbrev pub texts_in : List DynamicEntry → ℕ
@@ -28,3 +33,9 @@ values_of es = record {
   strsz = value_of strsz es;
   flags_1 = value_of flags_1 es;
 }
+
+-- these are the values of the entries of a segment in the file, and some of the entries have texts
+pub record HasTexts (s : StoreState) (h : Head) (dynamic : Segment) (v : Values) : Type 0 where
+  pub inside : dynamic.offset + dynamic.filesz ≤ h.length
+  pub values : OfKnown s (λ bytes. v ≡ values_of (dynamic_entries (word_size h.wide) bytes dynamic))
+  pub some : 0 < v.texts

@@ -1,10 +1,11 @@
 -- Windows of a file: bytes that were read and are kept. The clauses of private functions cite these definitions.
-use Rattle.std.specs.Prelude.{◌≡◌, ◌≤◌, ℕ, ◌+◌, ◌-◌, ◌*◌, if◌then◌else◌, nat_lt, List, length, take, drop}
+use Rattle.std.specs.Prelude.{◌≡◌, ◌≤◌, ℕ, ◌+◌, ◌-◌, ◌*◌, if◌then◌else◌, nat_lt, min, List, length, take, drop}
 use Rattle.tree_face.specs.Known.{IfKnown}
 use Rattle.tree_face.specs.Store.{StoreState}
 use Rattle.elf_headers.specs.declared.kinds.Head.{Head}
 use Rattle.elf_headers.specs.Layout.{word_size, program_header_length}
-use Rattle.elf_headers.specs.Reading.{known_content}
+use Rattle.tree_face.specs.StoreUse.{Ending}
+use Rattle.elf_headers.specs.Reading.{known_content, TakesAtMost, OnlyReads, IsHeadOf}
 use Rattle.elf_dynamic.specs.declared.window.TheConstants.{WINDOW}
 use Rattle.elf_dynamic.specs.declared.window.Window.{Window}
 
@@ -34,3 +35,26 @@ pub record IsWindowOf (s : StoreState) (h : Head) (w : Window) : Type 0 where
   pub count : w.count ≤ WINDOW
   pub in_file : w.at + w.count ≤ h.length
   pub bytes : IfKnown (known_content s) (λ bytes. take w.count w.bytes ≡ take w.count (drop w.at bytes))
+
+-- at least `least` bytes from an offset on are asked for, of a part of the file that has this end
+pub record IsAsked (h : Head) (at least end : ℕ) : Type 0 where
+  pub fits : least ≤ WINDOW
+  pub within : at + least ≤ end
+  pub in_file : end ≤ h.length
+
+-- the call reads from the begun file and ends so; the window holds bytes of this file then, also after a failure
+pub record ReadsThrough (ending : Ending) (h : Head) (w : Window) (old new : StoreState) : Type 0 where
+  pub head : IsHeadOf new h
+  pub window : IsWindowOf new h w
+  pub reads : OnlyReads ending old new
+
+-- of the bytes that were still to be read some are left, and at most the others were taken
+pub record Lessens (before after : ℕ) (old new : StoreState) : Type 0 where
+  pub taken : TakesAtMost (before - after) old new
+  pub left : after ≤ before
+
+-- the window holds at least `least` bytes from an offset on
+pub record HoldsFrom (at least end : ℕ) (before after : Window) (old new : StoreState) : Type 0 where
+  pub enough : least ≤ ready after at
+  pub taken : TakesAtMost (min (ready after at) (end - at)) old new
+  pub left : Lessens (unread before end at) (unread after end (at + least)) old new

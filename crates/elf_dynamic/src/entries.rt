@@ -1,20 +1,21 @@
 //! The entries of a dynamic section, one after another.
-ghost use Rattle.std.specs.Prelude.{◌≡◌, ◌⊎◌, ◌≤◌, ◌<◌, ◌+◌, ◌-◌, ◌*◌, ◌∷◌, [], true, false, min, length, take, drop, IfOk, OnOk, OnErr, IfSome, MatchOption, ◌^◌};
+ghost use Rattle.std.specs.Prelude.{◌≡◌, ◌⊎◌, ◌≤◌, ◌<◌, ◌+◌, ◌-◌, ◌*◌, ◌∷◌, [], true, false, min, length, IfOk, OnOk, IfSome, MatchOption, ◌^◌};
 ghost use Rattle.elf_headers.specs.Layout.{word_size};
-ghost use Rattle.elf_headers.specs.Reading.{OfKnown, TakesAtMost, reading_ending, OnlyReads, IsHeadOf};
+ghost use Rattle.elf_headers.specs.Reading.{OfKnown, TakesAtMost, reading_ending};
+ghost use Rattle.elf_dynamic.specs.Cursor.{IsCursorOf, ReadsOn};
 ghost use Rattle.elf_dynamic.specs.Section.{entry_at};
-ghost use Rattle.elf_dynamic.specs.Entries.{rest_of, IsIn, IsHeld, unread_in, unread_after};
-ghost use Rattle.elf_dynamic.specs.Windows.{IsWindowOf};
+ghost use Rattle.elf_dynamic.specs.Entries.{rest_of, IsReaderOf, KnowsNext, MovesOn, unread_in, unread_after};
+ghost use Rattle.elf_dynamic.specs.Windows.{Lessens};
 
+use crate::ElfFile;
 use crate::kinds::DynamicEntry;
 use crate::tags::tag;
-use crate::window::Window;
 use elf_headers::Class;
-use elf_headers::kinds::{Head, Segment};
+use elf_headers::kinds::Segment;
 use lib_types::Failed;
 use tree_face::Store;
 
-/// A reader of the entries. The window that they are read through is its caller's.
+/// A reader of the entries of a section, through the file's window.
 #[derive(Clone, Copy)]
 pub struct Entries {
     wide: bool,
@@ -78,26 +79,15 @@ impl Entries {
     }
 
     // Has the next entry in the window, and returns whether there is one.
-    fn hold<S: Store>(
-        &mut self,
-        store: &mut S,
-        head: &Head,
-        window: &mut Window,
-    ) -> Result<bool, Failed>
-        requires head { IsHeadOf (S.state store.old) head.now }
-        requires window { IsWindowOf (S.state store.old) head.now window.old }
-        requires inside { IsIn head.now self.old }
-        requires held { IsHeld window.old self.old }
-        ensures same { self.new ≡ record self.old { held = self.new.held } }
-        ensures some { IfOk result (λ there. there ≡ true → 2 * word_size self.new.wide ≤ self.new.held) }
-        ensures none { IfOk result (λ there. there ≡ false → self.old.left < 2 * word_size self.old.wide) }
-        ensures held { OnOk result (IsHeld window.new self.new) }
-        ensures window { OnOk result (IsWindowOf (S.state store.new) head.now window.new) }
-        ensures begun_head { IsHeadOf (S.state store.new) head.now }
-        ensures reads { OnlyReads (reading_ending result) (S.state store.old) (S.state store.new) }
-        ensures taken { TakesAtMost (unread_in window.old self.old) (S.state store.old) (S.state store.new) }
-        ensures taken_entry { OnOk result (TakesAtMost (unread_in window.old self.old - unread_after window.new self.old) (S.state store.old) (S.state store.new)) }
-        ensures unread { OnOk result (unread_after window.new self.old ≤ unread_in window.old self.old) }
+    fn hold<S: Store>(&mut self, file: &mut ElfFile<'_, S>) -> Result<bool, Failed>
+        requires cursor { IsCursorOf (S.state file.old.store.now) file.old.cursor }
+        requires reader { IsReaderOf file.old.cursor self.old }
+        ensures same_store { file.new.store.ghost_name ≡ file.old.store.ghost_name }
+        ensures reads { ReadsOn (reading_ending result) (S.state file.old.store.now) (S.state file.new.store.now) file.old.cursor file.new.cursor }
+        ensures taken { TakesAtMost (unread_in file.old.cursor.section self.old) (S.state file.old.store.now) (S.state file.new.store.now) }
+        ensures reader { IsReaderOf file.new.cursor self.new }
+        ensures next { IfOk result (λ there. KnowsNext there self.old self.new) }
+        ensures left { OnOk result (Lessens (unread_in file.old.cursor.section self.old) (unread_after file.new.cursor.section self.old) (S.state file.old.store.now) (S.state file.new.store.now)) }
     {
         let each = entry_length(self.wide);
         if self.held >= each {
@@ -107,39 +97,36 @@ impl Entries {
             return Ok(false);
         }
         let at = self.at();
-        window.hold(store, head, at, each, self.end)?;
-        self.held = window.ready(at).min(self.left);
+        // After a failure the window holds nothing.
+        self.held = 0;
+        let head = &file.cursor.head;
+        file.cursor
+            .section
+            .hold(file.store, head, at, each, self.end)?;
+        self.held = file.cursor.section.ready(at).min(self.left);
         Ok(true)
     }
 
     /// The next entry, or None at the end or at a DT_NULL.
     pub fn next<S: Store>(
         &mut self,
-        store: &mut S,
-        head: &Head,
-        window: &mut Window,
+        file: &mut ElfFile<'_, S>,
     ) -> Result<Option<DynamicEntry>, Failed>
-        requires head { IsHeadOf (S.state store.old) head.now }
-        requires window { IsWindowOf (S.state store.old) head.now window.old }
-        requires inside { IsIn head.now self.old }
-        requires held { IsHeld window.old self.old }
-        ensures entry { IfOk result (λ e. OfKnown (S.state store.old) (λ bytes.
+        requires cursor { IsCursorOf (S.state file.old.store.now) file.old.cursor }
+        requires reader { IsReaderOf file.old.cursor self.old }
+        ensures same_store { file.new.store.ghost_name ≡ file.old.store.ghost_name }
+        ensures reads { ReadsOn (reading_ending result) (S.state file.old.store.now) (S.state file.new.store.now) file.old.cursor file.new.cursor }
+        ensures taken { TakesAtMost (unread_in file.old.cursor.section self.old) (S.state file.old.store.now) (S.state file.new.store.now) }
+        ensures reader { IsReaderOf file.new.cursor self.new }
+        ensures entry { IfOk result (λ e. OfKnown (S.state file.old.store.now) (λ bytes.
             MatchOption e (rest_of self.old bytes ≡ []) (λ e. rest_of self.old bytes ≡ e ∷ rest_of self.new bytes))) }
-        ensures window { OnOk result (IsWindowOf (S.state store.new) head.now window.new) }
-        ensures inside { IsIn head.now self.new }
-        ensures held { OnOk result (IsHeld window.new self.new) }
-        ensures fewer { IfOk result (λ e. IfSome e (λ _. self.new.left < self.old.left)) }
-        ensures begun_head { IsHeadOf (S.state store.new) head.now }
-        ensures reads { OnlyReads (reading_ending result) (S.state store.old) (S.state store.new) }
-        ensures taken { TakesAtMost (unread_in window.old self.old) (S.state store.old) (S.state store.new) }
-        ensures taken_entry { IfOk result (λ e. IfSome e (λ _.
-            TakesAtMost (unread_in window.old self.old - unread_in window.new self.new) (S.state store.old) (S.state store.new))) }
-        ensures unread { IfOk result (λ e. IfSome e (λ _. unread_in window.new self.new ≤ unread_in window.old self.old)) }
+        ensures moves { IfOk result (λ e. IfSome e (λ _.
+            MovesOn file.old.cursor file.new.cursor self.old self.new (S.state file.old.store.now) (S.state file.new.store.now))) }
     {
-        if !self.hold(store, head, window)? {
+        if !self.hold(file)? {
             return Ok(None);
         }
-        let entry = entry(self.wide, window.from(self.at()));
+        let entry = entry(self.wide, file.cursor.section.from(self.at()));
         if entry.tag == tag!(NULL) {
             return Ok(None);
         }

@@ -1,25 +1,21 @@
 //! The texts that the entries name.
-ghost use Rattle.std.specs.Prelude.{◌≡◌, ◌⊎◌, ◌≤◌, ◌+◌, ◌-◌, ◌*◌, ◌==◌, false, ◌∷◌, [], ℕ, List, length, Ok, Err, IfOk, OnOk, IfErr, IsErrOf, if◌then◌else◌};
-ghost use Rattle.elf_headers.specs.Layout.{word_size};
-ghost use Rattle.elf_headers.specs.Reading.{OfKnown, TakesAtMost, OnlyReads, IsHeadOf};
+ghost use Rattle.std.specs.Prelude.{◌≡◌, ◌-◌, ◌==◌, false, ◌∷◌, [], ℕ, List, Ok, Err, OnOk, if◌then◌else◌};
+ghost use Rattle.elf_headers.specs.Reading.{OfKnown, TakesAtMost};
+ghost use Rattle.elf_dynamic.specs.Cursor.{IsCursorOf, ReadsOn, width, strings_of};
 ghost use Rattle.elf_dynamic.specs.declared.kinds.DynamicEntry.{DynamicEntry};
 ghost use Rattle.elf_dynamic.specs.Faults.{IfBad, IsBadString, object_ending};
 ghost use Rattle.elf_dynamic.specs.Kept.{keeps, kept, kept_of};
 ghost use Rattle.elf_dynamic.specs.Section.{dynamic_entries};
-ghost use Rattle.elf_dynamic.specs.Taken.{most_gathered};
-ghost use Rattle.elf_dynamic.specs.Texts.{bytes_of, counts, with_text, no_texts, add_one, gathered};
-ghost use Rattle.elf_dynamic.specs.Values.{texts_in};
-ghost use Rattle.elf_dynamic.specs.Windows.{IsWindowOf};
+ghost use Rattle.elf_dynamic.specs.Taken.{TakesBy, most_gathered};
+ghost use Rattle.elf_dynamic.specs.Texts.{counts, with_text, no_texts, add_one, gathered};
+ghost use Rattle.elf_dynamic.specs.Values.{texts_in, HasTexts};
 
-use crate::ObjectFault;
 use crate::entries::Entries;
 use crate::kinds::{Dynamic, DynamicEntry};
-use crate::table::Table;
 use crate::tags::tag;
-use crate::text::{has_text_at, text_at};
-use crate::values::is_text;
-use crate::window::Window;
-use elf_headers::kinds::{Head, Segment};
+use crate::values::{Values, is_text};
+use crate::{ElfFile, ObjectFault};
+use elf_headers::kinds::Segment;
 use lib_types::{Defect, NoMemory, Seq, Text};
 use std::alloc::Global;
 use tree_face::Store;
@@ -97,38 +93,33 @@ fn note(alloc: Global, found: &mut Dynamic, tag: u64)
 
 // Adds the text of one entry more.
 fn add<S: Store>(
+    file: &mut ElfFile<'_, S>,
     alloc: Global,
     keep: Keep,
-    store: &mut S,
-    head: &Head,
-    table: Table,
     found: &mut Dynamic,
     entry: DynamicEntry,
-    window: &mut Window,
 ) -> Result<(), ObjectFault>
-    requires head { IsHeadOf (S.state store.old) head.now }
-    requires within { table.at + table.size ≤ head.now.length }
-    requires window { IsWindowOf (S.state store.old) head.now window.old }
-    ensures added { OnOk result (OfKnown (S.state store.old) (λ bytes.
-        kept_of keep (add_one (bytes_of table bytes) found.old entry) ≡ Ok (kept keep found.new))) }
-    ensures bad { IfBad result (λ d. OfKnown (S.state store.old) (λ bytes. add_one (bytes_of table bytes) found.old entry ≡ Err d)) }
+    requires cursor { IsCursorOf (S.state file.old.store.now) file.old.cursor }
+    ensures same_store { file.new.store.ghost_name ≡ file.old.store.ghost_name }
+    ensures reads { ReadsOn (object_ending result) (S.state file.old.store.now) (S.state file.new.store.now) file.old.cursor file.new.cursor }
+    ensures section { file.new.cursor.section ≡ file.old.cursor.section }
+    ensures taken { TakesAtMost (if counts found.old entry.tag then 65536 else 0) (S.state file.old.store.now) (S.state file.new.store.now) }
+    ensures added { OnOk result (OfKnown (S.state file.old.store.now) (λ bytes.
+        kept_of keep (add_one (strings_of file.old.cursor bytes) found.old entry) ≡ Ok (kept keep found.new))) }
+    ensures bad { IfBad result (λ d. OfKnown (S.state file.old.store.now) (λ bytes. add_one (strings_of file.old.cursor bytes) found.old entry ≡ Err d)) }
     ensures range { IfBad result IsBadString }
-    ensures window { OnOk result (IsWindowOf (S.state store.new) head.now window.new) }
-    ensures begun_head { IsHeadOf (S.state store.new) head.now }
-    ensures reads { OnlyReads (object_ending result) (S.state store.old) (S.state store.new) }
-    ensures taken { TakesAtMost (if counts found.old entry.tag then 65536 else 0) (S.state store.old) (S.state store.new) }
 {
     if !counts(found, entry.tag) {
         return Ok(());
     }
     if !keeps(keep, entry.tag) {
-        if !has_text_at(store, head, table, entry.value, window)? {
+        if !file.has_text_at(entry.value)? {
             return Err(ObjectFault::Bad(Defect::BadString { tag: entry.tag }));
         }
         note(alloc, found, entry.tag);
         return Ok(());
     }
-    let Some(text) = text_at(alloc, store, head, table, entry.value, window)? else {
+    let Some(text) = file.text_at(alloc, entry.value)? else {
         return Err(ObjectFault::Bad(Defect::BadString { tag: entry.tag }));
     };
     put(found, entry.tag, text)?;
@@ -146,40 +137,34 @@ fn left_after(left: u64, entry: DynamicEntry) -> u64
     }
 }
 
-/// Adds the texts that the entries of a segment name, up to the first entry that counts and has none. Entries behind the last
+/// Adds the texts that the entries of a segment name, up to the first entry that counts and has none. Entries after the last
 /// of those that have texts, which mostly are the first of a section, aren't read.
 pub fn gather<S: Store>(
+    file: &mut ElfFile<'_, S>,
     alloc: Global,
     keep: Keep,
-    store: &mut S,
-    head: &Head,
     dynamic: Segment,
-    texts: u64,
-    table: Table,
+    values: Values,
     found: &mut Dynamic,
-    section: &mut Window,
-    window: &mut Window,
 ) -> Result<(), ObjectFault>
-    requires head { IsHeadOf (S.state store.old) head.now }
-    requires inside { dynamic.offset + dynamic.filesz ≤ head.now.length }
-    requires texts { OfKnown (S.state store.old) (λ bytes. texts ≡ texts_in (dynamic_entries (word_size head.now.wide) bytes dynamic)) }
-    requires within { table.at + table.size ≤ head.now.length }
-    requires section { IsWindowOf (S.state store.old) head.now section.old }
-    requires window { IsWindowOf (S.state store.old) head.now window.old }
-    ensures gathered { OnOk result (OfKnown (S.state store.old) (λ bytes.
-        kept_of keep (gathered (bytes_of table bytes) found.old (dynamic_entries (word_size head.now.wide) bytes dynamic)) ≡ Ok (kept keep found.new))) }
-    ensures bad { IfBad result (λ d. OfKnown (S.state store.old) (λ bytes.
-        gathered (bytes_of table bytes) found.old (dynamic_entries (word_size head.now.wide) bytes dynamic) ≡ Err d)) }
+    requires cursor { IsCursorOf (S.state file.old.store.now) file.old.cursor }
+    requires texts { HasTexts (S.state file.old.store.now) file.old.cursor.head dynamic values }
+    ensures same_store { file.new.store.ghost_name ≡ file.old.store.ghost_name }
+    ensures reads { ReadsOn (object_ending result) (S.state file.old.store.now) (S.state file.new.store.now) file.old.cursor file.new.cursor }
+    ensures taken { TakesBy
+        (λ bytes. most_gathered (strings_of file.old.cursor bytes) found.old (width file.old.cursor) bytes dynamic)
+        (S.state file.old.store.now) (S.state file.new.store.now) }
+    ensures gathered { OnOk result (OfKnown (S.state file.old.store.now) (λ bytes.
+        kept_of keep (gathered (strings_of file.old.cursor bytes) found.old (dynamic_entries (width file.old.cursor) bytes dynamic))
+        ≡ Ok (kept keep found.new))) }
+    ensures bad { IfBad result (λ d. OfKnown (S.state file.old.store.now) (λ bytes.
+        gathered (strings_of file.old.cursor bytes) found.old (dynamic_entries (width file.old.cursor) bytes dynamic) ≡ Err d)) }
     ensures range { IfBad result IsBadString }
-    ensures begun_head { IsHeadOf (S.state store.new) head.now }
-    ensures reads { OnlyReads (object_ending result) (S.state store.old) (S.state store.new) }
-    ensures taken { OfKnown (S.state store.old) (λ bytes. TakesAtMost
-        (most_gathered (bytes_of table bytes) found.old (word_size head.now.wide) bytes dynamic) (S.state store.old) (S.state store.new)) }
 {
-    let mut entries = Entries::new(head.wide, dynamic);
-    let mut left = texts;
-    while let Some(entry) = entries.next(store, head, section)? {
-        match add(alloc, keep, store, head, table, found, entry, window) {
+    let mut entries = Entries::new(file.cursor.head.wide, dynamic);
+    let mut left = values.texts;
+    while let Some(entry) = entries.next(file)? {
+        match add(file, alloc, keep, found, entry) {
             Ok(()) => {}
             Err(fault) => return Err(fault),
         }

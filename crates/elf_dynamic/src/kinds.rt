@@ -1,4 +1,7 @@
 //! What the dynamic section says.
+ghost use Rattle.std.specs.Prelude.{◌≡◌};
+ghost use Rattle.elf_dynamic.specs.Section.{front_of};
+
 use lib_types::{Abi, Text, Texts};
 
 /// An entry of the dynamic section.
@@ -8,6 +11,27 @@ pub struct DynamicEntry {
     pub tag: u64,
     /// `d_val` or `d_ptr`.
     pub value: u64,
+}
+
+/// A part of a file.
+#[derive(Clone, Copy, Debug, PartialEq, Eq)]
+pub struct Place {
+    /// Where it begins in the file.
+    pub at: u64,
+    /// How many bytes it has.
+    pub size: u64,
+}
+
+impl Place {
+    /// The first `size` bytes of the place, if it has as many.
+    pub fn front(self, size: u64) -> Option<Place>
+        ensures { result ≡ front_of size self }
+    {
+        if size > self.size {
+            return None;
+        }
+        Some(Place { at: self.at, size })
+    }
 }
 
 /// What a dynamic section says of the libraries that the loader looks for.

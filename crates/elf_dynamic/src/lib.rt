@@ -3,8 +3,10 @@
 
 mod entries;
 mod fault;
+mod file;
 mod gather;
 pub mod kinds;
+mod numbers;
 mod reader;
 mod section;
 mod segments;
@@ -14,5 +16,7 @@ mod text;
 mod values;
 mod window;
 
+pub use entries::Entries;
 pub use fault::{AnalyseFault, ObjectFault};
+pub use file::ElfFile;
 pub use reader::{analyse, object};

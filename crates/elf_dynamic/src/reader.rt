@@ -1,24 +1,48 @@
 //! Files in a store.
-ghost use Rattle.std.specs.Prelude.{◌≡◌, Ok, Err, IfOk, IsErrOf};
+ghost use Rattle.std.specs.Prelude.{◌≡◌, ◌+◌, ◌*◌, Ok, Err, IfOk, IsErrOf};
+ghost use Rattle.elf_headers.specs.Layout.{word_size};
 ghost use Rattle.elf_headers.specs.Range.{IsInRange};
-ghost use Rattle.elf_headers.specs.Reading.{OfContent, ReadsFile};
+ghost use Rattle.elf_headers.specs.Reading.{IsHeadOf, OfContent, OfKnown, OnlyReads, ReadsFile};
 ghost use Rattle.elf_dynamic.specs.Analysis as analyses;
 ghost use Rattle.elf_dynamic.specs.Faults.{IfBad, HasName, object_ending, analyse_ending};
-ghost use Rattle.elf_dynamic.specs.Kept.{kept_object, kept_object_of};
-ghost use Rattle.elf_dynamic.specs.Memory.{ObjectTakesMemory, AnalysisTakesMemory};
+ghost use Rattle.elf_dynamic.specs.Kept.{kept_object, kept_object_of, IsKeptInFile};
+ghost use Rattle.elf_dynamic.specs.Memory.{SectionTakesMemory, ObjectTakesMemory, AnalysisTakesMemory};
 ghost use Rattle.elf_dynamic.specs.Object as objects;
-ghost use Rattle.elf_dynamic.specs.Taken.{most_known};
+ghost use Rattle.elf_dynamic.specs.Sections.{sections_in};
+ghost use Rattle.elf_dynamic.specs.Taken.{TakesBy, most_known, section_reading, readable_section};
 
 use crate::gather::Keep;
 use crate::kinds::{Dynamic, Object};
 use crate::section::read_dynamic;
-use crate::{AnalyseFault, ObjectFault};
+use crate::{AnalyseFault, ElfFile, ObjectFault};
 use elf_headers::head;
+use elf_headers::kinds::Head;
 use lib_types::{Analysis, Defect};
 use std::alloc::Global;
 use tree_face::Store;
 
 const ET_EXEC: u16 = 2;
+
+// Reads what the dynamic section of the begun file says, if it has one, with the texts that are kept.
+fn read_begun<S: Store>(
+    store: &mut S,
+    head: Head,
+    alloc: Global,
+    keep: Keep,
+) -> Result<Option<Dynamic>, ObjectFault>
+    requires head { IsHeadOf (S.state store.old) head }
+    ensures reads { OnlyReads (object_ending result) (S.state store.old) (S.state store.new) }
+    ensures taken { TakesBy
+        (λ bytes. 448 * head.phnum + section_reading (word_size head.wide) bytes (readable_section (word_size head.wide) bytes))
+        (S.state store.old) (S.state store.new) }
+    ensures dynamic { IfOk result (IsKeptInFile keep (S.state store.old) (λ bytes. sections_in (word_size head.wide) bytes)) }
+    ensures bad { IfBad result (λ d. OfKnown (S.state store.old) (λ bytes. sections_in (word_size head.wide) bytes ≡ Err d)) }
+    ensures range { IfBad result IsInRange }
+    ensures no_memory { IsErrOf result ObjectFault.NoMemory → OfKnown (S.state store.old) (λ bytes. SectionTakesMemory (sections_in (word_size head.wide) bytes)) }
+{
+    let mut file = ElfFile::new(store, head);
+    read_dynamic(&mut file, alloc, keep)
+}
 
 // Begins a key and reads what the file says of itself, with the texts that are kept.
 fn read<S: Store>(
@@ -39,7 +63,7 @@ fn read<S: Store>(
         Ok(head) => head,
         Err(fault) => return Err(ObjectFault::from(fault)),
     };
-    match read_dynamic(alloc, keep, store, &head) {
+    match read_begun(store, head, alloc, keep) {
         Ok(dynamic) => Ok(Object {
             abi: head.abi,
             etype: head.etype,

@@ -1,11 +1,12 @@
 //! The segments that are looked for.
-ghost use Rattle.std.specs.Prelude.{◌≡◌, ◌⊎◌, ◌≤◌, ◌<◌, ◌+◌, ◌-◌, ◌*◌, ◌^◌, true, find, length, IfOk, IfSome, OnOk, OnErr};
+ghost use Rattle.std.specs.Prelude.{◌≡◌, ◌⊎◌, ◌≤◌, ◌<◌, ◌+◌, ◌-◌, ◌*◌, ◌^◌, true, find, length, IfOk, IfSome, OnOk};
 ghost use Rattle.elf_headers.specs.Layout.{word_size, program_header_length, segment_at, segment, segments};
-ghost use Rattle.elf_headers.specs.Reading.{OfKnown, TakesAtMost, reading_ending, OnlyReads, IsHeadOf};
+ghost use Rattle.elf_headers.specs.Reading.{OfKnown, TakesAtMost, reading_ending};
+ghost use Rattle.elf_dynamic.specs.Cursor.{IsCursorOf, ReadsOn, width};
 ghost use Rattle.elf_dynamic.specs.Wanted.{is_wanted};
-ghost use Rattle.elf_dynamic.specs.Windows.{IsWindowOf, header_at, unread_from};
+ghost use Rattle.elf_dynamic.specs.Windows.{Lessens, header_at, unread_from};
 
-use crate::window::Window;
+use crate::ElfFile;
 use elf_headers::Class;
 use elf_headers::kinds::{Head, Segment};
 use lib_types::Failed;
@@ -65,52 +66,44 @@ fn header_at(head: &Head, index: u16) -> u64
     head.phoff + u64::from(index) * each
 }
 
-// The segment of the program header with this index.
-fn read_segment<S: Store>(
-    store: &mut S,
-    head: &Head,
-    window: &mut Window,
-    index: u16,
-) -> Result<Segment, Failed>
-    requires head { IsHeadOf (S.state store.old) head.now }
-    requires window { IsWindowOf (S.state store.old) head.now window.old }
-    requires index { index < head.now.phnum }
-    ensures segment { IfOk result (λ s. OfKnown (S.state store.old) (λ bytes. s ≡ segment (word_size head.now.wide) bytes index)) }
-    ensures window { OnOk result (IsWindowOf (S.state store.new) head.now window.new) }
-    ensures begun_head { IsHeadOf (S.state store.new) head.now }
-    ensures reads { OnlyReads (reading_ending result) (S.state store.old) (S.state store.new) }
-    ensures taken { TakesAtMost (unread_from window.old head.now index) (S.state store.old) (S.state store.new) }
-    ensures taken_segment { OnOk result (TakesAtMost
-        (unread_from window.old head.now index - unread_from window.new head.now (index + 1)) (S.state store.old) (S.state store.new)) }
-    ensures unread { OnOk result (unread_from window.new head.now (index + 1) ≤ unread_from window.old head.now index) }
-{
-    let at = header_at(head, index);
-    let end = header_at(head, head.phnum);
-    window.hold(store, head, at, header_length(head.wide), end)?;
-    Ok(segment_of(head.wide, window.from(at)))
-}
-
-/// The first segment that is wanted.
-pub fn find_segment<S: Store>(
-    store: &mut S,
-    head: &Head,
-    window: &mut Window,
-    wanted: Wanted,
-) -> Result<Option<Segment>, Failed>
-    requires head { IsHeadOf (S.state store.old) head.now }
-    requires window { IsWindowOf (S.state store.old) head.now window.old }
-    ensures found { IfOk result (λ s. OfKnown (S.state store.old) (λ bytes. s ≡ find (is_wanted wanted) (segments (word_size head.now.wide) bytes))) }
-    ensures wanted { IfOk result (λ s. IfSome s (λ s. is_wanted wanted s ≡ true)) }
-    ensures window { OnOk result (IsWindowOf (S.state store.new) head.now window.new) }
-    ensures begun_head { IsHeadOf (S.state store.new) head.now }
-    ensures reads { OnlyReads (reading_ending result) (S.state store.old) (S.state store.new) }
-    ensures taken { TakesAtMost (112 * head.now.phnum) (S.state store.old) (S.state store.new) }
-{
-    for index in 0..head.phnum {
-        let s = read_segment(store, head, window, index)?;
-        if is_wanted(wanted, s) {
-            return Ok(Some(s));
-        }
+impl<'s, S: Store> ElfFile<'s, S> {
+    // The segment of the program header with this index.
+    fn read_segment(&mut self, index: u16) -> Result<Segment, Failed>
+        requires cursor { IsCursorOf (S.state self.old.store.now) self.old.cursor }
+        requires index { index < self.old.cursor.head.phnum }
+        ensures same_store { self.new.store.ghost_name ≡ self.old.store.ghost_name }
+        ensures reads { ReadsOn (reading_ending result) (S.state self.old.store.now) (S.state self.new.store.now) self.old.cursor self.new.cursor }
+        ensures section { self.new.cursor.section ≡ self.old.cursor.section }
+        ensures taken { TakesAtMost (unread_from self.old.cursor.headers self.old.cursor.head index) (S.state self.old.store.now) (S.state self.new.store.now) }
+        ensures segment { IfOk result (λ s. OfKnown (S.state self.old.store.now) (λ bytes. s ≡ segment (width self.old.cursor) bytes index)) }
+        ensures left { OnOk result (Lessens
+            (unread_from self.old.cursor.headers self.old.cursor.head index) (unread_from self.new.cursor.headers self.old.cursor.head (index + 1))
+            (S.state self.old.store.now) (S.state self.new.store.now)) }
+    {
+        let head = &self.cursor.head;
+        let at = header_at(head, index);
+        let end = header_at(head, head.phnum);
+        let each = header_length(head.wide);
+        self.cursor.headers.hold(self.store, head, at, each, end)?;
+        Ok(segment_of(head.wide, self.cursor.headers.from(at)))
     }
-    Ok(None)
+
+    /// The first segment that is wanted.
+    pub(crate) fn find_segment(&mut self, wanted: Wanted) -> Result<Option<Segment>, Failed>
+        requires cursor { IsCursorOf (S.state self.old.store.now) self.old.cursor }
+        ensures same_store { self.new.store.ghost_name ≡ self.old.store.ghost_name }
+        ensures reads { ReadsOn (reading_ending result) (S.state self.old.store.now) (S.state self.new.store.now) self.old.cursor self.new.cursor }
+        ensures section { self.new.cursor.section ≡ self.old.cursor.section }
+        ensures taken { TakesAtMost (112 * self.old.cursor.head.phnum) (S.state self.old.store.now) (S.state self.new.store.now) }
+        ensures found { IfOk result (λ s. OfKnown (S.state self.old.store.now) (λ bytes. s ≡ find (is_wanted wanted) (segments (width self.old.cursor) bytes))) }
+        ensures wanted { IfOk result (λ s. IfSome s (λ s. is_wanted wanted s ≡ true)) }
+    {
+        for index in 0..self.cursor.head.phnum {
+            let s = self.read_segment(index)?;
+            if is_wanted(wanted, s) {
+                return Ok(Some(s));
+            }
+        }
+        Ok(None)
+    }
 }

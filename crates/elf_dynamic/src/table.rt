@@ -1,61 +1,64 @@
-//! The string table.
-ghost use Rattle.std.specs.Prelude.{◌≡◌, ◌≤◌, ◌+◌, ◌*◌, ℕ, List, length, IfOk, IfSome, OnOk, OnErr};
-ghost use Rattle.elf_headers.specs.Layout.{word_size, segments};
-ghost use Rattle.elf_headers.specs.Reading.{OfKnown, TakesAtMost, reading_ending, OnlyReads, IsHeadOf};
-ghost use Rattle.elf_dynamic.specs.Section.{table_in, table_at};
-ghost use Rattle.elf_dynamic.specs.Texts.{bytes_if};
-ghost use Rattle.elf_dynamic.specs.Windows.{IsWindowOf};
+//! Addresses of the file: where the PT_LOAD segments have them.
+ghost use Rattle.std.specs.Prelude.{◌≡◌, ◌≤◌, ◌<◌, ◌+◌, ◌*◌, IfOk, IfSome};
+ghost use Rattle.elf_headers.specs.Layout.{segments};
+ghost use Rattle.elf_headers.specs.Reading.{OfKnown, TakesAtMost, reading_ending};
+ghost use Rattle.elf_dynamic.specs.Cursor.{IsCursorOf, ReadsOn, IsInFile, width};
+ghost use Rattle.elf_dynamic.specs.Section.{bytes_if, place_in, place_of, table_at};
 
-use crate::segments::{Wanted, find_segment};
-use crate::window::Window;
-use elf_headers::kinds::{Head, Segment};
+use crate::ElfFile;
+use crate::kinds::Place;
+use crate::segments::Wanted;
+use elf_headers::kinds::Segment;
 use lib_types::Failed;
 use tree_face::Store;
 
-/// Where the string table is in the file.
-#[derive(Clone, Copy)]
-pub struct Table {
-    pub at: u64,
-    pub size: u64,
-}
-
-// The table with this address and size, if it ends neither past the segment's file part nor past the file.
-fn table_in(load: Segment, address: u64, size: u64, end: u64) -> Option<Table>
-    requires { load.vaddr ≤ address }
-    ensures within { IfSome result (λ t. t.at + t.size ≤ end) }
-    ensures same { (bytes : List ℕ) → length bytes ≡ end → bytes_if result bytes ≡ table_in bytes address size load }
+// The place of an address in a segment of a file of this length.
+fn place_in(length: u64, address: u64, load: Segment) -> Option<Place>
+    requires begins { load.vaddr ≤ address }
+    requires ends { address < load.vaddr + load.filesz }
+    ensures place { result ≡ place_in length address load }
+    ensures within { IfSome result (λ p. p.at + p.size ≤ length) }
 {
     let from = address - load.vaddr;
-    if from.checked_add(size)? > load.filesz {
-        return None;
-    }
     let at = load.offset.checked_add(from)?;
-    if at.checked_add(size)? > end {
-        return None;
-    }
-    Some(Table { at, size })
+    let left = length.checked_sub(at)?;
+    Some(Place {
+        at,
+        size: (load.filesz - from).min(left),
+    })
 }
 
-/// The table with this address and size, in the first segment that has the address.
-pub fn find_table<S: Store>(
-    store: &mut S,
-    head: &Head,
-    window: &mut Window,
-    address: u64,
-    size: u64,
-) -> Result<Option<Table>, Failed>
-    requires head { IsHeadOf (S.state store.old) head.now }
-    requires window { IsWindowOf (S.state store.old) head.now window.old }
-    ensures found { IfOk result (λ t. OfKnown (S.state store.old) (λ bytes.
-        bytes_if t bytes ≡ table_at bytes (segments (word_size head.now.wide) bytes) address size)) }
-    ensures within { IfOk result (λ t. IfSome t (λ t. t.at + t.size ≤ head.now.length)) }
-    ensures window { OnOk result (IsWindowOf (S.state store.new) head.now window.new) }
-    ensures begun_head { IsHeadOf (S.state store.new) head.now }
-    ensures reads { OnlyReads (reading_ending result) (S.state store.old) (S.state store.new) }
-    ensures taken { TakesAtMost (112 * head.now.phnum) (S.state store.old) (S.state store.new) }
-{
-    match find_segment(store, head, window, Wanted::LoadAt(address))? {
-        Some(load) => Ok(table_in(load, address, size, head.length)),
-        None => Ok(None),
+impl<'s, S: Store> ElfFile<'s, S> {
+    /// The place of an address in the first PT_LOAD that has it. It ends with the segment's file part, or with the file.
+    pub fn place_of(&mut self, address: u64) -> Result<Option<Place>, Failed>
+        requires cursor { IsCursorOf (S.state self.old.store.now) self.old.cursor }
+        ensures same_store { self.new.store.ghost_name ≡ self.old.store.ghost_name }
+        ensures reads { ReadsOn (reading_ending result) (S.state self.old.store.now) (S.state self.new.store.now) self.old.cursor self.new.cursor }
+        ensures section { self.new.cursor.section ≡ self.old.cursor.section }
+        ensures taken { TakesAtMost (112 * self.old.cursor.head.phnum) (S.state self.old.store.now) (S.state self.new.store.now) }
+        ensures place { IfOk result (λ p. OfKnown (S.state self.old.store.now) (λ bytes. p ≡ place_of bytes (segments (width self.old.cursor) bytes) address)) }
+        ensures within { IfOk result (λ p. IfSome p (IsInFile self.old.cursor.head)) }
+    {
+        match self.find_segment(Wanted::LoadAt(address))? {
+            Some(load) => Ok(place_in(self.cursor.head.length, address, load)),
+            None => Ok(None),
+        }
+    }
+
+    /// The place of `size` bytes at an address.
+    pub fn table_at(&mut self, address: u64, size: u64) -> Result<Option<Place>, Failed>
+        requires cursor { IsCursorOf (S.state self.old.store.now) self.old.cursor }
+        ensures same_store { self.new.store.ghost_name ≡ self.old.store.ghost_name }
+        ensures reads { ReadsOn (reading_ending result) (S.state self.old.store.now) (S.state self.new.store.now) self.old.cursor self.new.cursor }
+        ensures section { self.new.cursor.section ≡ self.old.cursor.section }
+        ensures taken { TakesAtMost (112 * self.old.cursor.head.phnum) (S.state self.old.store.now) (S.state self.new.store.now) }
+        ensures table { IfOk result (λ t. OfKnown (S.state self.old.store.now) (λ bytes.
+            bytes_if t bytes ≡ table_at bytes (segments (width self.old.cursor) bytes) address size)) }
+        ensures within { IfOk result (λ t. IfSome t (IsInFile self.old.cursor.head)) }
+    {
+        match self.place_of(address)? {
+            Some(place) => Ok(place.front(size)),
+            None => Ok(None),
+        }
     }
 }

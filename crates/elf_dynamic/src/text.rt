@@ -1,16 +1,14 @@
 //! The texts of a string table.
-ghost use Rattle.std.specs.Prelude.{◌≡◌, ◌⊎◌, ◌≤◌, ◌<◌, ◌+◌, ◌-◌, ◌++◌, not, min, length, take, drop, position, take_while, Ok, Err, IfOk, OnOk, IsErrOf};
+ghost use Rattle.std.specs.Prelude.{◌≡◌, ◌<◌, ◌+◌, ◌-◌, ◌++◌, not, min, take, position, take_while, Ok, IfOk};
 ghost use Rattle.std.specs.List.{list_any};
-ghost use Rattle.elf_headers.specs.Reading.{OfKnown, TakesAtMost, reading_ending, OnlyReads, IsHeadOf};
+ghost use Rattle.elf_headers.specs.Reading.{OfKnown, TakesAtMost, reading_ending};
+ghost use Rattle.elf_dynamic.specs.Cursor.{IsCursorOf, ReadsOn, IsInFile, strings_of};
 ghost use Rattle.elf_dynamic.specs.Faults.{analyse_ending};
-ghost use Rattle.elf_dynamic.specs.Section.{is_nul, has_text_at};
-ghost use Rattle.elf_dynamic.specs.Texts.{bytes_of, before_nul, text_found};
-ghost use Rattle.elf_dynamic.specs.Windows.{IsWindowOf};
+ghost use Rattle.elf_dynamic.specs.Section.{bytes_of, is_nul, has_text_at};
+ghost use Rattle.elf_dynamic.specs.Texts.{before_nul, text_found};
 
-use crate::AnalyseFault;
-use crate::table::Table;
-use crate::window::Window;
-use elf_headers::kinds::Head;
+use crate::kinds::Place;
+use crate::{AnalyseFault, ElfFile};
 use lib_types::{Failed, Text, find_byte};
 use std::alloc::{AllocError, Global};
 use tree_face::Store;
@@ -52,123 +50,101 @@ fn front(bytes: &[u8], most: u64) -> &[u8]
     }
 }
 
-// The bytes before the first NUL in a part of the file, if there is one.
-fn read_text<S: Store>(
-    alloc: Global,
-    store: &mut S,
-    head: &Head,
-    from: u64,
-    most: u64,
-    window: &mut Window,
-) -> Result<Option<Text>, AnalyseFault>
-    requires head { IsHeadOf (S.state store.old) head.now }
-    requires within { from + most ≤ head.now.length }
-    requires window { IsWindowOf (S.state store.old) head.now window.old }
-    ensures text { IfOk result (λ t. OfKnown (S.state store.old) (λ bytes. t ≡ before_nul (take most (drop from bytes)))) }
-    ensures window { OnOk result (IsWindowOf (S.state store.new) head.now window.new) }
-    ensures begun_head { IsHeadOf (S.state store.new) head.now }
-    ensures reads { OnlyReads (analyse_ending result) (S.state store.old) (S.state store.new) }
-    ensures taken { TakesAtMost most (S.state store.old) (S.state store.new) }
-{
-    let mut found = Vec::new(alloc);
-    let mut at = from;
-    let mut left = most;
-    while left > 0 {
-        window.hold(store, head, at, 1, at + left)?;
-        let piece = front(window.from(at), left);
-        if add_text(&mut found, piece)? {
-            return Ok(Some(Text::from_vec(found)));
-        }
-        let count = piece.len() as u64;
-        at += count;
-        left -= count;
-    }
-    Ok(None)
-}
-
-// Whether there is a NUL in a part of the file.
-fn has_nul<S: Store>(
-    store: &mut S,
-    head: &Head,
-    from: u64,
-    end: u64,
-    window: &mut Window,
-) -> Result<bool, Failed>
-    requires head { IsHeadOf (S.state store.old) head.now }
-    requires within { (from ≤ end) × (end ≤ head.now.length) }
-    requires window { IsWindowOf (S.state store.old) head.now window.old }
-    ensures nul { IfOk result (λ b. OfKnown (S.state store.old) (λ bytes. b ≡ list_any is_nul (take (end - from) (drop from bytes)))) }
-    ensures window { OnOk result (IsWindowOf (S.state store.new) head.now window.new) }
-    ensures begun_head { IsHeadOf (S.state store.new) head.now }
-    ensures reads { OnlyReads (reading_ending result) (S.state store.old) (S.state store.new) }
-    ensures taken { TakesAtMost (end - from) (S.state store.old) (S.state store.new) }
-{
-    let mut at = from;
-    while at < end {
-        window.hold(store, head, at, 1, end)?;
-        let piece = front(window.from(at), end - at);
-        if first_nul(piece).is_some() {
-            return Ok(true);
-        }
-        at += piece.len() as u64;
-    }
-    Ok(false)
-}
-
 // How many bytes are looked at for the text at an offset of the table.
-fn most_at(table: Table, offset: u64) -> u64
+fn most_at(table: Place, offset: u64) -> u64
     requires { offset < table.size }
     ensures { result ≡ min (table.size - offset) 65536 }
 {
     (table.size - offset).min(TEXT_LIMIT)
 }
 
-/// The text at an offset of the table, if a NUL ends it.
-pub fn text_at<S: Store>(
-    alloc: Global,
-    store: &mut S,
-    head: &Head,
-    table: Table,
-    offset: u64,
-    window: &mut Window,
-) -> Result<Option<Text>, AnalyseFault>
-    requires head { IsHeadOf (S.state store.old) head.now }
-    requires within { table.at + table.size ≤ head.now.length }
-    requires window { IsWindowOf (S.state store.old) head.now window.old }
-    ensures text { IfOk result (λ t. OfKnown (S.state store.old) (λ bytes. t ≡ text_found (bytes_of table bytes) offset)) }
-    ensures window { OnOk result (IsWindowOf (S.state store.new) head.now window.new) }
-    ensures begun_head { IsHeadOf (S.state store.new) head.now }
-    ensures reads { OnlyReads (analyse_ending result) (S.state store.old) (S.state store.new) }
-    ensures taken { TakesAtMost 65536 (S.state store.old) (S.state store.new) }
-{
-    if offset >= table.size {
-        return Ok(None);
+impl<'s, S: Store> ElfFile<'s, S> {
+    // The bytes before the first NUL in a place, if there is one.
+    fn read_text(&mut self, alloc: Global, place: Place) -> Result<Option<Text>, AnalyseFault>
+        requires cursor { IsCursorOf (S.state self.old.store.now) self.old.cursor }
+        requires within { IsInFile self.old.cursor.head place }
+        ensures same_store { self.new.store.ghost_name ≡ self.old.store.ghost_name }
+        ensures reads { ReadsOn (analyse_ending result) (S.state self.old.store.now) (S.state self.new.store.now) self.old.cursor self.new.cursor }
+        ensures section { self.new.cursor.section ≡ self.old.cursor.section }
+        ensures taken { TakesAtMost place.size (S.state self.old.store.now) (S.state self.new.store.now) }
+        ensures text { IfOk result (λ t. OfKnown (S.state self.old.store.now) (λ bytes. t ≡ before_nul (bytes_of place bytes))) }
+    {
+        let mut found = Vec::new(alloc);
+        let mut at = place.at;
+        let mut left = place.size;
+        while left > 0 {
+            let head = &self.cursor.head;
+            self.cursor
+                .headers
+                .hold(self.store, head, at, 1, at + left)?;
+            let piece = front(self.cursor.headers.from(at), left);
+            if add_text(&mut found, piece)? {
+                return Ok(Some(Text::from_vec(found)));
+            }
+            let count = piece.len() as u64;
+            at += count;
+            left -= count;
+        }
+        Ok(None)
     }
-    let most = most_at(table, offset);
-    read_text(alloc, store, head, table.at + offset, most, window)
-}
 
-/// Whether a NUL ends the text at an offset of the table.
-pub fn has_text_at<S: Store>(
-    store: &mut S,
-    head: &Head,
-    table: Table,
-    offset: u64,
-    window: &mut Window,
-) -> Result<bool, Failed>
-    requires head { IsHeadOf (S.state store.old) head.now }
-    requires within { table.at + table.size ≤ head.now.length }
-    requires window { IsWindowOf (S.state store.old) head.now window.old }
-    ensures text { IfOk result (λ b. OfKnown (S.state store.old) (λ bytes. b ≡ has_text_at (bytes_of table bytes) offset)) }
-    ensures window { OnOk result (IsWindowOf (S.state store.new) head.now window.new) }
-    ensures begun_head { IsHeadOf (S.state store.new) head.now }
-    ensures reads { OnlyReads (reading_ending result) (S.state store.old) (S.state store.new) }
-    ensures taken { TakesAtMost 65536 (S.state store.old) (S.state store.new) }
-{
-    if offset >= table.size {
-        return Ok(false);
+    // Whether there is a NUL in a place.
+    fn has_nul(&mut self, place: Place) -> Result<bool, Failed>
+        requires cursor { IsCursorOf (S.state self.old.store.now) self.old.cursor }
+        requires within { IsInFile self.old.cursor.head place }
+        ensures same_store { self.new.store.ghost_name ≡ self.old.store.ghost_name }
+        ensures reads { ReadsOn (reading_ending result) (S.state self.old.store.now) (S.state self.new.store.now) self.old.cursor self.new.cursor }
+        ensures section { self.new.cursor.section ≡ self.old.cursor.section }
+        ensures taken { TakesAtMost place.size (S.state self.old.store.now) (S.state self.new.store.now) }
+        ensures nul { IfOk result (λ b. OfKnown (S.state self.old.store.now) (λ bytes. b ≡ list_any is_nul (bytes_of place bytes))) }
+    {
+        let end = place.at + place.size;
+        let mut at = place.at;
+        while at < end {
+            let head = &self.cursor.head;
+            self.cursor.headers.hold(self.store, head, at, 1, end)?;
+            let piece = front(self.cursor.headers.from(at), end - at);
+            if first_nul(piece).is_some() {
+                return Ok(true);
+            }
+            at += piece.len() as u64;
+        }
+        Ok(false)
     }
-    let from = table.at + offset;
-    let most = most_at(table, offset);
-    has_nul(store, head, from, from + most, window)
+
+    /// The text at an offset of the string table, if a NUL ends it.
+    pub fn text_at(&mut self, alloc: Global, offset: u64) -> Result<Option<Text>, AnalyseFault>
+        requires cursor { IsCursorOf (S.state self.old.store.now) self.old.cursor }
+        ensures same_store { self.new.store.ghost_name ≡ self.old.store.ghost_name }
+        ensures reads { ReadsOn (analyse_ending result) (S.state self.old.store.now) (S.state self.new.store.now) self.old.cursor self.new.cursor }
+        ensures section { self.new.cursor.section ≡ self.old.cursor.section }
+        ensures taken { TakesAtMost 65536 (S.state self.old.store.now) (S.state self.new.store.now) }
+        ensures text { IfOk result (λ t. OfKnown (S.state self.old.store.now) (λ bytes. t ≡ text_found (strings_of self.old.cursor bytes) offset)) }
+    {
+        let strings = self.cursor.strings;
+        if offset >= strings.size {
+            return Ok(None);
+        }
+        let size = most_at(strings, offset);
+        let at = strings.at + offset;
+        self.read_text(alloc, Place { at, size })
+    }
+
+    /// Whether a NUL ends the text at an offset of the string table.
+    pub fn has_text_at(&mut self, offset: u64) -> Result<bool, Failed>
+        requires cursor { IsCursorOf (S.state self.old.store.now) self.old.cursor }
+        ensures same_store { self.new.store.ghost_name ≡ self.old.store.ghost_name }
+        ensures reads { ReadsOn (reading_ending result) (S.state self.old.store.now) (S.state self.new.store.now) self.old.cursor self.new.cursor }
+        ensures section { self.new.cursor.section ≡ self.old.cursor.section }
+        ensures taken { TakesAtMost 65536 (S.state self.old.store.now) (S.state self.new.store.now) }
+        ensures text { IfOk result (λ b. OfKnown (S.state self.old.store.now) (λ bytes. b ≡ has_text_at (strings_of self.old.cursor bytes) offset)) }
+    {
+        let strings = self.cursor.strings;
+        if offset >= strings.size {
+            return Ok(false);
+        }
+        let size = most_at(strings, offset);
+        let at = strings.at + offset;
+        self.has_nul(Place { at, size })
+    }
 }

@@ -1,17 +1,16 @@
 //! What the entries say beside their texts.
-ghost use Rattle.std.specs.Prelude.{◌≡◌, ◌≤◌, ◌*◌, ◌+◌, ◌<◌, ◌^◌, ◌∷◌, [], ◌==◌, ◌||◌, None, Some, ℕ, List, IfOk, OnOk, OnErr};
-ghost use Rattle.elf_headers.specs.Layout.{word_size};
-ghost use Rattle.elf_headers.specs.Reading.{OfKnown, TakesAtMost, reading_ending, OnlyReads, IsHeadOf};
+ghost use Rattle.std.specs.Prelude.{◌≡◌, ◌≤◌, ◌*◌, ◌+◌, ◌<◌, ◌^◌, ◌∷◌, [], ◌==◌, ◌||◌, None, Some, IfOk};
+ghost use Rattle.elf_headers.specs.Reading.{OfKnown, TakesAtMost, reading_ending};
+ghost use Rattle.elf_dynamic.specs.Cursor.{IsCursorOf, ReadsOn, width};
 ghost use Rattle.elf_dynamic.specs.declared.kinds.DynamicEntry.{DynamicEntry};
 ghost use Rattle.elf_dynamic.specs.Section.{dynamic_entries};
 ghost use Rattle.elf_dynamic.specs.Values.{first_of, joined, values_of};
-ghost use Rattle.elf_dynamic.specs.Windows.{IsWindowOf};
 
+use crate::ElfFile;
 use crate::entries::Entries;
 use crate::kinds::DynamicEntry;
 use crate::tags::tag;
-use crate::window::Window;
-use elf_headers::kinds::{Head, Segment};
+use elf_headers::kinds::Segment;
 use lib_types::Failed;
 use tree_face::Store;
 
@@ -70,24 +69,17 @@ impl Values {
 }
 
 /// What the entries of a segment say beside their texts.
-pub fn read_values<S: Store>(
-    store: &mut S,
-    head: &Head,
-    dynamic: Segment,
-    window: &mut Window,
-) -> Result<Values, Failed>
-    requires head { IsHeadOf (S.state store.old) head.now }
-    requires within { dynamic.offset + dynamic.filesz ≤ head.now.length }
-    requires window { IsWindowOf (S.state store.old) head.now window.old }
-    ensures values { IfOk result (λ v. OfKnown (S.state store.old) (λ bytes. v ≡ values_of (dynamic_entries (word_size head.now.wide) bytes dynamic))) }
-    ensures window { OnOk result (IsWindowOf (S.state store.new) head.now window.new) }
-    ensures begun_head { IsHeadOf (S.state store.new) head.now }
-    ensures reads { OnlyReads (reading_ending result) (S.state store.old) (S.state store.new) }
-    ensures taken { TakesAtMost (2 * dynamic.filesz) (S.state store.old) (S.state store.new) }
+pub fn read_values<S: Store>(file: &mut ElfFile<'_, S>, dynamic: Segment) -> Result<Values, Failed>
+    requires cursor { IsCursorOf (S.state file.old.store.now) file.old.cursor }
+    requires within { dynamic.offset + dynamic.filesz ≤ file.old.cursor.head.length }
+    ensures same_store { file.new.store.ghost_name ≡ file.old.store.ghost_name }
+    ensures reads { ReadsOn (reading_ending result) (S.state file.old.store.now) (S.state file.new.store.now) file.old.cursor file.new.cursor }
+    ensures taken { TakesAtMost (2 * dynamic.filesz) (S.state file.old.store.now) (S.state file.new.store.now) }
+    ensures values { IfOk result (λ v. OfKnown (S.state file.old.store.now) (λ bytes. v ≡ values_of (dynamic_entries (width file.old.cursor) bytes dynamic))) }
 {
     let mut values = Values::none();
-    let mut entries = Entries::new(head.wide, dynamic);
-    while let Some(entry) = entries.next(store, head, window)? {
+    let mut entries = Entries::new(file.cursor.head.wide, dynamic);
+    while let Some(entry) = entries.next(file)? {
         values = values.with(entry);
     }
     Ok(values)

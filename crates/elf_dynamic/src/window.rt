@@ -1,7 +1,7 @@
 //! Windows of a file: bytes that were read and are kept, so that what lies near them isn't read again.
-ghost use Rattle.std.specs.Prelude.{◌≡◌, ◌≤◌, ◌<◌, ◌+◌, ◌-◌, ◌^◌, min, length, take, drop, OnOk, OnErr};
+ghost use Rattle.std.specs.Prelude.{◌≡◌, ◌≤◌, ◌<◌, ◌+◌, ◌-◌, min, length, take, drop, OnOk};
 ghost use Rattle.elf_headers.specs.Reading.{OfKnown, TakesAtMost, reading_ending, OnlyReads, IsHeadOf};
-ghost use Rattle.elf_dynamic.specs.Windows.{ready, part, unread, IsWindowOf};
+ghost use Rattle.elf_dynamic.specs.Windows.{ready, part, unread, IsWindowOf, IsAsked, ReadsThrough, HoldsFrom};
 ghost use Rattle.elf_dynamic.specs.declared.window.TheConstants.{WINDOW};
 
 use elf_headers::kinds::Head;
@@ -71,7 +71,7 @@ impl Window {
         &self.bytes[(at - self.at) as usize..self.count]
     }
 
-    // Reads the next bytes from an offset on, and none behind the end of a part of the file.
+    // Reads the next bytes from an offset on, and none after the end of a part of the file.
     #[tactic(auto, unfolding(crate::specs::Windows::ready))]
     fn fill<S: Store>(
         &mut self,
@@ -82,22 +82,21 @@ impl Window {
     ) -> Result<(), Failed>
         requires head { IsHeadOf (S.state store.old) head.now }
         requires window { IsWindowOf (S.state store.old) head.now self.old }
-        requires before { at ≤ end }
-        requires in_file { end ≤ head.now.length }
-        ensures window { OnOk result (IsWindowOf (S.state store.new) head.now self.new) }
-        ensures ready { OnOk result (ready self.new at ≡ min WINDOW (end - at)) }
-        ensures begun_head { IsHeadOf (S.state store.new) head.now }
-        ensures reads { OnlyReads (reading_ending result) (S.state store.old) (S.state store.new) }
+        requires asked { IsAsked head.now at 0 end }
+        ensures reads { ReadsThrough (reading_ending result) head.now self.new (S.state store.old) (S.state store.new) }
         ensures taken { TakesAtMost (min WINDOW (end - at)) (S.state store.old) (S.state store.new) }
+        ensures ready { OnOk result (ready self.new at ≡ min WINDOW (end - at)) }
     {
         let count = (end - at).min(WINDOW as u64) as usize;
+        // After a failure nothing is known of the bytes.
+        self.count = 0;
         read_piece(store, head, at, &mut self.bytes[..count])?;
         self.at = at;
         self.count = count;
         Ok(())
     }
 
-    /// Has at least so many bytes from an offset on, and reads none behind the end of a part of the file.
+    /// Has at least so many bytes from an offset on, and reads none after the end of a part of the file.
     pub fn hold<S: Store>(
         &mut self,
         store: &mut S,
@@ -108,17 +107,10 @@ impl Window {
     ) -> Result<(), Failed>
         requires head { IsHeadOf (S.state store.old) head.now }
         requires window { IsWindowOf (S.state store.old) head.now self.old }
-        requires least { least ≤ WINDOW }
-        requires within { at + least ≤ end }
-        requires in_file { end ≤ head.now.length }
-        ensures window { OnOk result (IsWindowOf (S.state store.new) head.now self.new) }
-        ensures ready { OnOk result (least ≤ ready self.new at) }
-        ensures begun_head { IsHeadOf (S.state store.new) head.now }
-        ensures reads { OnlyReads (reading_ending result) (S.state store.old) (S.state store.new) }
+        requires asked { IsAsked head.now at least end }
+        ensures reads { ReadsThrough (reading_ending result) head.now self.new (S.state store.old) (S.state store.new) }
         ensures taken { TakesAtMost (min (unread self.old end at) (end - at)) (S.state store.old) (S.state store.new) }
-        ensures taken_held { OnOk result (TakesAtMost (min (ready self.new at) (end - at)) (S.state store.old) (S.state store.new)) }
-        ensures taken_item { OnOk result (TakesAtMost (unread self.old end at - unread self.new end (at + least)) (S.state store.old) (S.state store.new)) }
-        ensures unread { OnOk result (unread self.new end (at + least) ≤ unread self.old end at) }
+        ensures holds { OnOk result (HoldsFrom at least end self.old self.new (S.state store.old) (S.state store.new)) }
     {
         if self.ready(at) < least {
             self.fill(store, head, at, end)?;

@@ -1,5 +1,5 @@
 -- A made file is read as what it was made of.
-use Rattle.std.proofs.Common.{◌≡◌, ◌≤◌, ◌<◌, ◌*◌, ◌-◌, ◌/◌, ◌^◌, inl, inr, ℕ, ◌+◌, true, false, not, ◌&&◌, ◌||◌, ◌==◌, nat_le, nat_lt, List, [], ◌∷◌, ◌++◌, length, map, find, take, drop, Some, None, is_some, is_none, Ok, refl, ap, sym, ◌∙◌, arith, append_assoc, length-append}
+use Rattle.std.proofs.Common.{◌≡◌, ◌≤◌, ◌<◌, ◌*◌, ◌-◌, ◌/◌, ◌^◌, inl, inr, ℕ, ◌+◌, true, false, not, ◌&&◌, ◌||◌, ◌==◌, nat_le, nat_lt, min, List, [], ◌∷◌, ◌++◌, length, map, find, take, drop, Some, None, is_some, is_none, Ok, refl, ap, sym, ◌∙◌, arith, append_assoc, length-append}
 use Rattle.std.proofs.Math.Nat.{mul-div_cancel}
 use Rattle.std.proofs.Math.Seq.{drop-append_seam}
 use Rattle.std.proofs.lemmas.Bool.Decides.{nat_tests}
@@ -191,9 +191,11 @@ table_there bytes front table other address is long here =
     let parts : n ≡ length front + length table = ap length is ∙ length-append front table in
     let has : (nat_le (0 + base) address && nat_lt address (0 + base + n)) ≡ true = grind (arith, nat_tests) in
     let at : 0 + (address - (0 + base)) ≡ length front = omega arith in
-    let inside : (nat_le (address + length table) (0 + base + n) && nat_le (length front + length table) n) ≡ true = grind (arith, nat_tests) in
+    let in_file : nat_le (length front) n ≡ true = grind (arith, nat_tests) in
+    let rest : min (0 + base + n - address) (n - length front) ≡ length table = omega arith in
+    let whole : nat_le (length table) (length table) ≡ true = grind (arith, nat_tests) in
     let bytes_there : take (length table) (drop (length front) bytes) ≡ table = ap (λ xs. take (length table) (drop (length front) xs)) is ∙ ap (take (length table)) (drop-append_seam front table) ∙ take_all (length table) table (omega arith) in
-    rw (has, at, inside, bytes_there) refl
+    rw (has, at, in_file, rest, whole, bytes_there) refl
 
 -- ---- no sentence holds
 

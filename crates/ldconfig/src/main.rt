@@ -10,8 +10,9 @@ ghost use Rattle.ldconfig.specs.Start.{code_of};
 use advice::{OUT_OF_MEMORY, advice, written_before};
 use command_runs::Status;
 use device_rules::RunId;
+use devices::Devices;
 use image_folder::HeldFile;
-use ldconfig_cli::run;
+use ldconfig_cli::{Arguments, run_on};
 use lib_types::NoMemory;
 use notes::{note_manifest, note_size, note_update};
 use standard_streams::{Streams, write_error_line, write_text};
@@ -83,7 +84,7 @@ fn fault_of<R: Runtime + Streams>(rt: &R, name: &str, error: io::Error) -> Start
 }
 
 // The arguments behind the program's name.
-fn arguments<R: Runtime + AllocGlobal>(rt: &R) -> io::Result<Vec<String>> {
+fn words<R: Runtime + AllocGlobal>(rt: &R) -> io::Result<Vec<String>> {
     let mut args = match env::args(rt) {
         Ok(args) => args,
         Err(error) if error.kind() == ErrorKind::InvalidData => {
@@ -143,26 +144,26 @@ fn run_here<R: Runtime + AllocGlobal + RandomSource + Streams>(
 where
     R::File: HeldFile,
 {
-    let arguments = match arguments(rt) {
-        Ok(arguments) => arguments,
+    let words = match words(rt) {
+        Ok(words) => words,
         Err(error) => return Err(fault_of(rt, "arguments", error)),
     };
     let id = match run_id(rt, process) {
         Ok(id) => id,
         Err(error) => return Err(fault_of(rt, "random number", error)),
     };
+    let arguments = Arguments::read(rt.alloc(), &words)?;
     let mut store = FolderStore::new(rt.clone()?, ".")?;
     let mut disk = FolderDisk::new(rt.clone()?, ".", id)?;
     let mut input = StdinSource::new(rt.clone()?);
     let mut output = StdoutSink::new(rt.clone()?);
-    let status = run(
-        rt.alloc(),
-        &arguments,
-        &mut store,
-        &mut disk,
-        &mut input,
-        &mut output,
-    );
+    let devices = Devices {
+        store: &mut store,
+        disk: &mut disk,
+        source: &mut input,
+        sink: &mut output,
+    };
+    let status = run_on(rt.alloc(), arguments, devices);
     // A line that can't be written changes nothing.
     let _ = explain(rt, status, &store, &mut disk);
     Ok(status.code())

@@ -2,13 +2,13 @@
 use Rattle.std.proofs.Common.{◌≡◌, Option, Some, None, subst, sym}
 use Rattle.commands.specs.declared.kinds.Command.{Command}
 use Rattle.command_runs.specs.Commands.{RunsCommand}
-use Rattle.update_runs.specs.Devices.{Devices}
+use Rattle.devices.specs.Devices.{DeviceStates}
 use Rattle.command_status.specs.declared.status.Status.{Status}
 use Rattle.command_status.specs.declared.status.Status.TheVariants.{Usage}
 use Rattle.ldconfig_cli.specs.Runs.{RunsAny, RunsArguments}
 use Rattle.ldconfig_cli.specs.Usage.{UsageRun}
 
-module _ (found : Option Command) (status : Status) (old new : Devices) where
+module _ (found : Option Command) (status : Status) (old new : DeviceStates) where
   pub by_some : (command : Command) → found ≡ Some command → RunsCommand command status old new → (status ≡ Usage → ⊥) → RunsArguments found status old new
   by_some command some run no_usage = record {
     usage = (λ usage. absurd (no_usage usage), λ none. absurd (cc (some, none)));

@@ -1,1 +1,2 @@
 mod ByArguments
+mod Laws

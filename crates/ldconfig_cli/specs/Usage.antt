@@ -1,14 +1,14 @@
 -- Arguments that are those of no command.
 use Rattle.std.specs.Prelude.{◌≡◌}
-use Rattle.update_runs.specs.Devices.{Devices}
+use Rattle.devices.specs.Devices.{DeviceStates}
 use Rattle.command_status.specs.Status.{EndsWith}
 use Rattle.command_status.specs.declared.status.Status.{Status}
 use Rattle.command_status.specs.declared.status.Status.TheVariants.{Usage}
 
 -- only the fault line is written, and nothing is read
-pub record UsageRun (old new : Devices) (status : Status) : Type 0 where
+pub record UsageRun (old new : DeviceStates) (status : Status) : Type 0 where
   pub status_is : status ≡ Usage
   pub store : new.store ≡ old.store
   pub disk : new.disk ≡ old.disk
-  pub input : new.input ≡ old.input
-  pub output : EndsWith Usage old.output new.output
+  pub source : new.source ≡ old.source
+  pub sink : EndsWith Usage old.sink new.sink

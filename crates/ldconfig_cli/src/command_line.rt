@@ -1,14 +1,66 @@
 //! The top call.
 ghost use Rattle.std.specs.Prelude.{◌≡◌};
-ghost use Rattle.tree_face.specs.Store.{Contents};
-ghost use Rattle.loaded_image.specs.Session.{Loaded};
-ghost use Rattle.ldconfig_core.specs.Texts.{AreAlike, AreTextsOf, UpdateTexts};
-ghost use Rattle.ldconfig_cli.specs.Runs.{Runs};
+ghost use Rattle.command_words.specs.Words.{command_in};
+ghost use Rattle.devices.specs.Devices.{states};
+ghost use Rattle.ldconfig_cli.specs.Laws.{UpdateLaws};
+ghost use Rattle.ldconfig_cli.specs.Runs.{Runs, RunsArguments};
 
+use crate::arguments::Arguments;
 use command_runs::{Status, refuse_arguments, run_command};
-use command_words::{WordsFault, command_of};
+use commands::Command;
+use devices::Devices;
 use std::alloc::Global;
 use tree_face::{Disk, Sink, Source, Store};
+
+// Runs a command, or refuses arguments that are those of none.
+fn run_or_refuse<S: Store, D: Disk, I: Source, O: Sink>(
+    alloc: Global,
+    command: Option<Command>,
+    store: &mut S,
+    disk: &mut D,
+    source: &mut I,
+    sink: &mut O,
+) -> Status
+    ensures { RunsArguments command result
+        (states (S.state store.old) (D.state disk.old) (I.state source.old) (O.state sink.old))
+        (states (S.state store.new) (D.state disk.new) (I.state source.new) (O.state sink.new)) }
+{
+    match command {
+        Some(command) => run_command(
+            alloc,
+            command,
+            Devices {
+                store,
+                disk,
+                source,
+                sink,
+            },
+        ),
+        None => refuse_arguments(sink),
+    }
+}
+
+/// Runs the command of arguments that were read, on devices that were made for it.
+///
+/// Arguments that are those of no command are refused: the fault line of Usage is written, and nothing is read.
+pub fn run_on<S: Store, D: Disk, I: Source, O: Sink>(
+    alloc: Global,
+    arguments: Arguments<'_>,
+    devices: Devices<'_, S, D, I, O>,
+) -> Status
+    ensures runs { RunsArguments (command_in arguments.entry) result
+        (states (S.state devices.entry.store.now) (D.state devices.entry.disk.now) (I.state devices.entry.source.now) (O.state devices.entry.sink.now))
+        (states (S.state devices.exit.0.now) (D.state devices.exit.1.0.now) (I.state devices.exit.1.1.0.now) (O.state devices.exit.1.1.1.0.now)) }
+    ensures laws { UpdateLaws }
+{
+    let Devices {
+        store,
+        disk,
+        source,
+        sink,
+    } = devices;
+    run_or_refuse(alloc, arguments.into_command(), store, disk, source, sink)
+}
 
 /// Runs the command of these arguments, the program's name not among them.
 ///
@@ -24,17 +76,19 @@ pub fn run<S: Store, D: Disk, I: Source, O: Sink>(
 ) -> Status
     ensures runs { Runs S.state D.state I.state O.state words.now result
         (store.old, (disk.old, (input.old, out.old))) (store.new, (disk.new, (input.new, out.new))) }
-
-    // The texts of an update are determined by the image and the contents, and every image has some.
-    ensures one_update { (held : Contents) (s : Loaded) (a b : UpdateTexts) → AreTextsOf held s a → AreTextsOf held s b → a ≡ b }
-    // What is written depends on the tree and the contents alone, whatever stamps an auxiliary cache has given.
-    ensures any_stamps { (held : Contents) (s rebuilt : Loaded) (a b : UpdateTexts) → rebuilt.tree ≡ s.tree → rebuilt.edited ≡ s.edited
-        → AreTextsOf held s a → AreTextsOf held rebuilt b → AreAlike a b }
-    ensures some_update { (held : Contents) (s : Loaded) → (texts : UpdateTexts) × AreTextsOf held s texts }
+    ensures laws { UpdateLaws }
 {
-    match command_of(alloc, words) {
-        Ok(command) => run_command(alloc, command, store, disk, input, out),
-        Err(WordsFault::Usage) => refuse_arguments(out),
-        Err(WordsFault::NoMemory) => Status::NoMemory,
+    match Arguments::read(alloc, words) {
+        Ok(arguments) => run_on(
+            alloc,
+            arguments,
+            Devices {
+                store,
+                disk,
+                source: input,
+                sink: out,
+            },
+        ),
+        Err(_) => Status::NoMemory,
     }
 }

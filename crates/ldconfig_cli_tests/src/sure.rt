@@ -4,6 +4,7 @@ use command_runs_fixture::{
     LIBZ_MANIFEST, LIBZ_REPORT, NO_STAMPS, ONE_CACHE, copy, has, libz_held,
 };
 use commands::Command;
+use devices::Devices;
 use std::alloc::Global;
 use std::test::Fail;
 use tree_face::{Slot, SureDisk, SureSink, SureSource, SureStore, Tag};
@@ -15,10 +16,12 @@ fn update_surely(alloc: Global, disk: &mut SureDisk, out: &mut SureSink) -> Resu
     Ok(run_command(
         alloc,
         Command::Update { tag: Tag(0) },
-        &mut store,
-        disk,
-        &mut input,
-        out,
+        Devices {
+            store: &mut store,
+            disk,
+            source: &mut input,
+            sink: out,
+        },
     ))
 }
 

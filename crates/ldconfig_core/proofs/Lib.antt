@@ -2,5 +2,5 @@ pub mod LookedUp
 pub mod OneText
 mod OutcomeRows
 mod PreparedTexts
-pub mod Repaired
+pub mod WrittenSlots
 mod SettledImage

@@ -29,12 +29,6 @@ is_size_fault (updating.TooLarge nodes bytes) = true
 is_size_fault updating.NoMemory = true
 is_size_fault _ = false
 
--- too many entries, or out of memory
-abbrev pub is_entry_fault : UpdateFault → Bool
-is_entry_fault (updating.TooMany count) = true
-is_entry_fault updating.NoMemory = true
-is_entry_fault _ = false
-
 -- too long a manifest, too many entries, or out of memory
 abbrev pub is_of_making : UpdateFault → Bool
 is_of_making (updating.TooLarge nodes bytes) = true

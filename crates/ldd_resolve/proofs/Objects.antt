@@ -9,11 +9,13 @@ use Rattle.rpath_search.specs.declared.fault.SearchFault.TheVariants.{StoreFault
 use Rattle.rpath_search.specs.declared.kinds.Owner.{Owner}
 use Rattle.ldd_resolve.specs.declared.loading.Loading.{Loading}
 use Rattle.ldd_resolve.specs.declared.requests.Given.{Given}
-use Rattle.ldd_resolve.specs.Links.{AreLinked, behind}
-use Rattle.ldd_resolve.specs.Listing.{Loaded, Record, Scope, requests, requests_of}
+use Rattle.rpath_search.specs.declared.kinds.Env.{Env}
+use Rattle.ldd_resolve.specs.Links.{behind}
+use Rattle.ldd_resolve.specs.Listing.{Inputs, Loaded, Record, requests, requests_of}
 use Rattle.ldd_resolve.specs.Loading.{Advances, Stands}
-use Rattle.ldd_resolve.specs.Requests.{Answers, AnswersAll, AnswersObjects, IsAt, IsListed, requests_by, scope_by}
-use Rattle.ldd_resolve.specs.Resolving.{IfComplete}
+use Rattle.ldd_resolve.specs.Requests.{Answers, AnswersAll, AnswersObjects, IsAt, IsListed, requests_by, inputs_by}
+use Rattle.ldd_resolve.specs.declared.kinds.Member.{Member}
+use Rattle.ldd_resolve.specs.Resolving.{IfComplete, member_of}
 use Rattle.ldd_resolve.proofs.Advances.{advances_as, advances_then, gives_up, stays}
 use Rattle.ldd_resolve.proofs.Standing.{drop_one}
 
@@ -21,10 +23,10 @@ abbrev pub failing : SearchFault → Ending
 failing fault = search_ending {A = Unit {0}} (Err fault)
 
 -- a call that fails says nothing of the last record
-pub fails_as : (known : Option Contents) (scope : Contents → Scope) (r : Record) (X : Record → Type 0) (a b : StoreState) (fault : SearchFault) →
-    Advances known scope r (failing fault) (λ r2. IfComplete (failing fault) (X r2)) a b → Advances known scope r (failing fault) (λ r2. Unit {0}) a b
-fails_as known scope r X a b StoreFault advances = advances
-fails_as known scope r X a b NoMemory advances = advances
+pub fails_as : (known : Option Contents) (inputs : Contents → Inputs) (r : Record) (X : Record → Type 0) (a b : StoreState) (fault : SearchFault) →
+    Advances known inputs r (failing fault) (λ r2. IfComplete (failing fault) (X r2)) a b → Advances known inputs r (failing fault) (λ r2. Unit {0}) a b
+fails_as known inputs r X a b StoreFault advances = advances
+fails_as known inputs r X a b NoMemory advances = advances
 
 -- ---- the requests of one object
 
@@ -33,26 +35,19 @@ module _ (known : Option Contents) (g : Given) (n : ℕ) (chain : List Owner) wh
     -- one more is answered
     pub request_then : (rest : List (List ℕ)) (s2 : Loading) → Answers known g n chain left_names rest Complete s1 s2 b c → Answers known g n chain names rest Complete s s2 a c
     request_then rest s2 next r here =
-        advances_then (scope_by g) r Complete (λ r2. IsAt r2 s1 n chain left_names) (λ r2. IsAt r2 s2 n chain rest) a b c known (first r here) next
+        advances_then (inputs_by g) r Complete (λ r2. IsAt g.env.now r2 s1 n chain left_names) (λ r2. IsAt g.env.now r2 s2 n chain rest) a b c known (first r here) next
 
     -- the next one fails
     pub request_fails : (rest : List (List ℕ)) (s2 s3 : Loading) (fault : SearchFault) → Answers known g n chain left_names rest (failing fault) s1 s2 b c →
         Answers known g n chain names [] (failing fault) s s3 a c
     request_fails rest s2 s3 StoreFault next r here =
-        advances_then (scope_by g) r DeviceFailed (λ r2. IsAt r2 s1 n chain left_names) (λ r2. Unit {0}) a b c known (first r here) next
+        advances_then (inputs_by g) r DeviceFailed (λ r2. IsAt g.env.now r2 s1 n chain left_names) (λ r2. Unit {0}) a b c known (first r here) next
     request_fails rest s2 s3 NoMemory next r here =
-        advances_then (scope_by g) r GaveUp (λ r2. IsAt r2 s1 n chain left_names) (λ r2. Unit {0}) a b c known (first r here) next
+        advances_then (inputs_by g) r GaveUp (λ r2. IsAt g.env.now r2 s1 n chain left_names) (λ r2. Unit {0}) a b c known (first r here) next
 
   -- out of memory before the first
   pub none_answered : (names rest : List (List ℕ)) (s s2 : Loading) (a : StoreState) → Answers known g n chain names rest GaveUp s s2 a a
-  none_answered names rest s s2 a r here = gives_up (scope_by g) r a known
-
--- the chain is that of the object
-pub chain_answers : (known : Option Contents) (g : Given) (n : ℕ) (mine chain : List Owner) (names rest : List (List ℕ)) (e : Ending) (s s2 : Loading) (a b : StoreState) →
-    ((chains : List (List Owner)) → AreLinked s.links chains → mine ≡ behind chains (Some n)) → Answers known g n mine names rest e s s2 a b → Answers known g n chain names rest e s s2 a b
-chain_answers known g n mine chain names rest e s s2 a b is answers r here =
-    let same : mine ≡ chain = is (map (λ (o : Loaded). o.chain) r.objects) here.stands.linked ∙ here.chain_is in
-    (subst (λ c. Answers known g n c names rest e s s2 a b) same answers) r here
+  none_answered names rest s s2 a r here = gives_up (inputs_by g) r a known
 
 -- ---- the next object
 
@@ -62,13 +57,13 @@ from_drop zero (y ∷ xs) x more d e = cc
 from_drop (suc n) [] x more d e = absurd (cc)
 from_drop (suc n) (y ∷ xs) x more d e = from_drop n xs x more d e
 
-module _ (r : Record) (s s2 : Loading) (n : ℕ) (needed : List (List ℕ)) where
+module _ (env : Env) (r : Record) (s s2 : Loading) (n : ℕ) (needed : List (List ℕ)) where
   -- its needed names are taken from the queue
-  pub object_taken : Stands r s n [] → s.pending.items ≡ needed ∷ s2.pending.items → s2.links ≡ s.links → s2.places ≡ s.places → s2.names ≡ s.names → s2.missing ≡ s.missing → s2.items ≡ s.items →
-      IsAt r s2 n (behind (map (λ o. o.chain) r.objects) (Some n)) needed
-  object_taken stands queue links places names missing items = by (drop n r.objects) refl
+  pub object_taken : Stands env r s n [] → s.pending.items ≡ needed ∷ s2.pending.items → s2.loaders ≡ s.loaders → s2.places ≡ s.places → s2.names ≡ s.names → s2.missing ≡ s.missing → s2.items ≡ s.items → s2.members ≡ s.members →
+      IsAt env r s2 n (behind (map (λ o. o.chain) r.objects) (Some n)) needed
+  object_taken stands queue links places names missing items members = by (drop n r.objects) refl
     where
-      by : (os : List Loaded) → drop n r.objects ≡ os → IsAt r s2 n (behind (map (λ o. o.chain) r.objects) (Some n)) needed
+      by : (os : List Loaded) → drop n r.objects ≡ os → IsAt env r s2 n (behind (map (λ o. o.chain) r.objects) (Some n)) needed
       by [] e = absurd (let none : needed ∷ s2.pending.items ≡ [] = sym queue ∙ stands.pending ∙ ap (map (λ (o : Loaded). o.needed)) e in cc)
       by (o ∷ os) e =
           let both : needed ∷ s2.pending.items ≡ o.needed ∷ map (λ (o : Loaded). o.needed) os = sym queue ∙ stands.pending ∙ ap (map (λ (o : Loaded). o.needed)) e in
@@ -88,6 +83,8 @@ module _ (r : Record) (s s2 : Loading) (n : ℕ) (needed : List (List ℕ)) wher
               names = rw names stands.names;
               missing = rw missing stands.missing;
               items = rw items stands.items;
+              members = rw members stands.members;
+              loaded = stands.loaded;
               pending = others ∙ sym (ap (map (λ (o : Loaded). o.needed)) behind_it);
               left = stands.left ∙ ap requests e ∙ sym whole;
             };
@@ -95,48 +92,57 @@ module _ (r : Record) (s s2 : Loading) (n : ℕ) (needed : List (List ℕ)) wher
           }
 
 -- nothing is left in the queue
-pub all_listed : (r : Record) (s : Loading) (n : ℕ) → Stands r s n [] → s.pending.items ≡ [] → IsListed r s.items
-all_listed r s n stands none = record { all = stands.left ∙ by (drop n r.objects) (sym stands.pending ∙ none); listed = stands.items }
+pub all_listed : (env : Env) (r : Record) (s : Loading) (n : ℕ) → Stands env r s n [] → s.pending.items ≡ [] → IsListed r s.members.items s.items
+all_listed env r s n stands none = record {
+  all = stands.left ∙ by (drop n r.objects) (sym stands.pending ∙ none);
+  members = stands.members;
+  listed = stands.items;
+  loaded = rw (stands.members, stands.items) (ap (map (λ (m : Member). m.path)) (drop-map member_of 1 r.objects) ∙ map_map (drop 1 r.objects) ∙ stands.loaded);
+}
   where
+    map_map : (os : List Loaded) → map (λ (m : Member). m.path) (map member_of os) ≡ map (λ (o : Loaded). o.path) os
+    map_map [] = refl
+    map_map (o ∷ os) = ap (λ l. o.path ∷ l) (map_map os)
+
     by : (os : List Loaded) → map (λ (o : Loaded). o.needed) os ≡ [] → requests os ≡ []
     by [] e = refl
     by (o ∷ os) e = absurd (cc)
 
 module _ (known : Option Contents) (g : Given) (n : ℕ) (s s1 s2 : Loading) (a b c : StoreState) (so_far : AnswersObjects known g 0 n Complete s s1 a b)
-    (needed : List (List ℕ)) (queue : s1.pending.items ≡ needed ∷ s2.pending.items) (links : s2.links ≡ s1.links) (places : s2.places ≡ s1.places) (names : s2.names ≡ s1.names)
-    (missing : s2.missing ≡ s1.missing) (items : s2.items ≡ s1.items) where
-  taken : (r : Record) → Stands r s1 n [] → IsAt r s2 n (behind (map (λ o. o.chain) r.objects) (Some n)) needed
-  taken r stands = object_taken r s1 s2 n needed stands queue links places names missing items
+    (needed : List (List ℕ)) (queue : s1.pending.items ≡ needed ∷ s2.pending.items) (links : s2.loaders ≡ s1.loaders) (places : s2.places ≡ s1.places) (names : s2.names ≡ s1.names)
+    (missing : s2.missing ≡ s1.missing) (items : s2.items ≡ s1.items) (members : s2.members ≡ s1.members) where
+  taken : (r : Record) → Stands g.env.now r s1 n [] → IsAt g.env.now r s2 n (behind (map (λ o. o.chain) r.objects) (Some n)) needed
+  taken r stands = object_taken g.env.now r s1 s2 n needed stands queue links places names missing items members
 
   abbrev chain_in : Record → List Owner
   chain_in r = behind (map (λ o. o.chain) r.objects) (Some n)
 
   -- its requests are answered
   pub object_then : (next : ℕ) (s3 : Loading) → next ≡ suc n → ((chain : List Owner) → Answers known g n chain needed [] Complete s2 s3 b c) → AnswersObjects known g 0 next Complete s s3 a c
-  object_then next s3 is f r stands = subst (λ m. Advances known (scope_by g) r Complete (λ r2. Stands r2 s3 m []) a c) (sym is)
-      (advances_then (scope_by g) r Complete (λ r2. Stands r2 s1 n []) (λ r2. Stands r2 s3 (suc n) []) a b c known (so_far r stands)
-      (λ r2 here. advances_as (scope_by g) r2 Complete (λ r3. IsAt r3 s3 n (chain_in r2) []) (λ r3. Stands r3 s3 (suc n) []) b c (λ r3 there. there.stands) known
+  object_then next s3 is f r stands = subst (λ m. Advances known (inputs_by g) r Complete (λ r2. Stands g.env.now r2 s3 m []) a c) (sym is)
+      (advances_then (inputs_by g) r Complete (λ r2. Stands g.env.now r2 s1 n []) (λ r2. Stands g.env.now r2 s3 (suc n) []) a b c known (so_far r stands)
+      (λ r2 here. advances_as (inputs_by g) r2 Complete (λ r3. IsAt g.env.now r3 s3 n (chain_in r2) []) (λ r3. Stands g.env.now r3 s3 (suc n) []) b c (λ r3 there. there.stands) known
       (f (chain_in r2) r2 (taken r2 here))))
 
   -- one of them fails
   pub object_fails : (s3 s4 : Loading) (fault : SearchFault) → ((chain : List Owner) → Answers known g n chain needed [] (failing fault) s2 s3 b c) → AnswersAll known g (failing fault) s s4 a c
   object_fails s3 s4 StoreFault f r stands =
-      advances_then (scope_by g) r DeviceFailed (λ r2. Stands r2 s1 n []) (λ r2. Unit {0}) a b c known (so_far r stands) (λ r2 here. f (chain_in r2) r2 (taken r2 here))
+      advances_then (inputs_by g) r DeviceFailed (λ r2. Stands g.env.now r2 s1 n []) (λ r2. Unit {0}) a b c known (so_far r stands) (λ r2 here. f (chain_in r2) r2 (taken r2 here))
   object_fails s3 s4 NoMemory f r stands =
-      advances_then (scope_by g) r GaveUp (λ r2. Stands r2 s1 n []) (λ r2. Unit {0}) a b c known (so_far r stands) (λ r2 here. f (chain_in r2) r2 (taken r2 here))
+      advances_then (inputs_by g) r GaveUp (λ r2. Stands g.env.now r2 s1 n []) (λ r2. Unit {0}) a b c known (so_far r stands) (λ r2 here. f (chain_in r2) r2 (taken r2 here))
 
 -- no object is left
 pub all_answered : (known : Option Contents) (g : Given) (n : ℕ) (s s1 s2 : Loading) (a b : StoreState) → AnswersObjects known g 0 n Complete s s1 a b → s1.pending.items ≡ [] →
-    s2.items ≡ s1.items → AnswersAll known g Complete s s2 a b
-all_answered known g n s s1 s2 a b so_far none same r stands =
-    advances_as (scope_by g) r Complete (λ r2. Stands r2 s1 n []) (λ r2. IsListed r2 s2.items) a b
-    (λ r2 here. subst (λ items. IsListed r2 items) (sym same) (all_listed r2 s1 n here none)) known (so_far r stands)
+    s2.members ≡ s1.members → s2.items ≡ s1.items → AnswersAll known g Complete s s2 a b
+all_answered known g n s s1 s2 a b so_far none members items r stands =
+    advances_as (inputs_by g) r Complete (λ r2. Stands g.env.now r2 s1 n []) (λ r2. IsListed r2 s2.members.items s2.items) a b
+    (λ r2 here. rw (members, items) (all_listed g.env.now r2 s1 n here none)) known (so_far r stands)
 
 -- no request is answered yet
 pub nothing_answered : (known : Option Contents) (g : Given) (n : ℕ) (chain : List Owner) (names rest : List (List ℕ)) (s : Loading) (a : StoreState) → names ≡ rest →
     Answers known g n chain names rest Complete s s a a
 nothing_answered known g n chain names rest s a same r here =
-    stays (scope_by g) r (λ r2. IsAt r2 s n chain rest) a known (subst (λ l. IsAt r s n chain l) same here)
+    stays (inputs_by g) r (λ r2. IsAt g.env.now r2 s n chain rest) a known (subst (λ l. IsAt g.env.now r s n chain l) same here)
 
 pub none_taken : (known : Option Contents) (g : Given) (s : Loading) (a : StoreState) → AnswersObjects known g 0 0 Complete s s a a
-none_taken known g s a r stands = stays (scope_by g) r (λ r2. Stands r2 s 0 []) a known stands
+none_taken known g s a r stands = stays (inputs_by g) r (λ r2. Stands g.env.now r2 s 0 []) a known stands

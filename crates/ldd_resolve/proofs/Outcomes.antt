@@ -1,18 +1,19 @@
 -- What a search gives is the next record's.
-use Rattle.std.proofs.Common.{◌≡◌, ◌+◌, ◌<◌, ℕ, suc, List, [], ◌∷◌, ◌++◌, length, map, drop, Option, Some, None, refl, arith}
+use Rattle.std.proofs.Common.{◌≡◌, ◌+◌, ◌<◌, ℕ, suc, List, [], ◌∷◌, ◌++◌, length, map, drop, get_or, Option, Some, None, refl, arith}
 use Rattle.path_walk.specs.Files.{file_at}
 use Rattle.rpath_search.specs.Search.{first_good}
+use Rattle.rpath_search.specs.declared.kinds.Env.{Env}
 use Rattle.ldd_resolve.specs.declared.search.Answer.{Answer}
 use Rattle.ldd_resolve.specs.declared.search.Answer.TheVariants as answer
 use Rattle.ldd_resolve.specs.Links.{behind}
-use Rattle.ldd_resolve.specs.Listing.{Loaded, Record, Request, Scope, found_by, loaded, places_of, requests, with_search}
+use Rattle.ldd_resolve.specs.Listing.{Inputs, Loaded, Record, Request, found_by, loaded, places_of, requests, with_search}
 use Rattle.ldd_resolve.specs.declared.loading.Loading.{Loading}
-use Rattle.ldd_resolve.proofs.Standing.{drop_one, same_by, same_chain}
+use Rattle.ldd_resolve.proofs.Standing.{among_at, drop_one, same_by, same_chain}
 use Rattle.std.proofs.lemmas.List.{get_or_append_left, length-map, map-append}
 use Rattle.ldd_resolve.specs.Loading.{HasOutcome, Stands}
 use Rattle.ldd_resolve.specs.Searching.{Finds, IsNew}
 
-module _ (w : Scope) (r : Record) (q : Request) (all : List (List ℕ)) where
+module _ (w : Inputs) (r : Record) (q : Request) (all : List (List ℕ)) where
   -- what is found by the first good path, with the file to which it leads
   found_at : (path real : List ℕ) → first_good w.held w.nodes w.env.abi all ≡ Some path → file_at w.nodes path ≡ Some real → found_by w all ≡ Some (path, real)
   found_at path real first leads = rw (first, leads) refl
@@ -25,12 +26,14 @@ module _ (w : Scope) (r : Record) (q : Request) (all : List (List ℕ)) where
   outcome None None same finds new = rw (found_none same) (refl, refl)
   outcome None (Some a) same finds new = absurd finds
   outcome (Some path) None same finds new = absurd finds
-  outcome (Some path) (Some answer.Loaded) same finds new = record {
-    real = finds.real;
-    there = finds.there;
-    objects = rw (found_at path finds.real same finds.leads, finds.there) refl;
-    items = rw (found_at path finds.real same finds.leads, finds.there) refl;
-  }
+  outcome (Some path) (Some (answer.Loaded i)) same finds new =
+      let real = get_or (places_of r.objects) i [] in
+      let there = among_at (places_of r.objects) i finds.within in
+      record {
+        within = finds.within;
+        objects = rw (found_at path real same finds.leads, there) refl;
+        items = rw (found_at path real same finds.leads, there) refl;
+      }
   outcome (Some path) (Some (answer.New f)) same finds new =
       let leads : file_at w.nodes path ≡ Some f.real = rw finds.here at new.leads in
       (rw (found_at path f.real same leads, new.unloaded, finds.object, finds.here) refl, rw (found_at path f.real same leads, new.unloaded, finds.here) refl)
@@ -39,17 +42,18 @@ module _ (w : Scope) (r : Record) (q : Request) (all : List (List ℕ)) where
 pub chain_kept : (r r2 : Record) (q : Request) (a : Option Answer) (n : ℕ) → n < length r.objects → HasOutcome r q a r2 →
     behind (map (λ o. o.chain) r2.objects) (Some n) ≡ behind (map (λ o. o.chain) r.objects) (Some n)
 chain_kept r r2 q None n within outcome = rw outcome.0 refl
-chain_kept r r2 q (Some answer.Loaded) n within outcome =
-    rw (outcome.objects, same_by outcome.real q.name (λ o. o.chain) (same_chain outcome.real q.name) r.objects) refl
+chain_kept r r2 q (Some (answer.Loaded i)) n within outcome =
+    let real = get_or (places_of r.objects) i [] in
+    rw (outcome.objects, same_by real q.name (λ o. o.chain) (same_chain real q.name) r.objects) refl
 chain_kept r r2 q (Some (answer.New f)) n within outcome =
-    let o : Loaded = loaded f.path f.real f.object.dynamic (q.name ∷ []) q.chain in
+    let o : Loaded = loaded f.path f.real f.object.dynamic (Some q.name) q.chain in
     let len : length (map (λ (o : Loaded). o.chain) r.objects) ≡ length r.objects = length-map r.objects (λ (o : Loaded). o.chain) in
     let here : n < length (map (λ (o : Loaded). o.chain) r.objects) = omega (arith, within, len) in
     rw (outcome.0, map-append (λ (o : Loaded). o.chain) r.objects (o ∷ [])) (get_or_append_left (map (λ (o : Loaded). o.chain) r.objects) (o.chain ∷ []) [] n here)
 
 -- a request of a name by which an object is known changes nothing but its count
-pub known_stands : (r r2 : Record) (s : Loading) (n : ℕ) (q : Request) (rest : List Request) → Stands r s n (q ∷ rest) → r2 ≡ record r { answered = r.answered + 1 } → Stands r2 s n rest
-known_stands r r2 s n q rest stands same =
+pub known_stands : (env : Env) (r r2 : Record) (s : Loading) (n : ℕ) (q : Request) (rest : List Request) → Stands env r s n (q ∷ rest) → r2 ≡ record r { answered = r.answered + 1 } → Stands env r2 s n rest
+known_stands env r r2 s n q rest stands same =
     let next : r.answered + 1 ≡ suc r.answered = omega arith in
     rw (same, next) (record {
       linked = stands.linked;
@@ -57,6 +61,8 @@ known_stands r r2 s n q rest stands same =
       names = stands.names;
       missing = stands.missing;
       items = stands.items;
+      members = stands.members;
+      loaded = stands.loaded;
       pending = stands.pending;
       left = drop_one r.answered (requests r.objects) q (rest ++ requests (drop n r.objects)) stands.left;
     })

@@ -1,11 +1,12 @@
 -- The listing of a program, once its file is read.
-use Rattle.std.proofs.Common.{◌≡◌, ℕ, Bool, true, false, List, [], ◌∷◌, Option, Some, None, is_some, Result, Ok, Err, refl, sym, ap, subst, ◌∙◌}
+use Rattle.std.proofs.Common.{◌≡◌, ℕ, Bool, true, false, List, [], ◌∷◌, ◌++◌, Option, Some, None, is_some, Result, Ok, Err, refl, sym, ap, subst, ◌∙◌}
 use Rattle.std.specs.Str.{bytes_eq}
 use Rattle.lib_types.proofs.SortedPairs.{by_test}
 use Rattle.lib_types.specs.declared.analysis.Defect.{Defect}
-use Rattle.tree_face.specs.Known.{IfKnown}
+use Rattle.tree_face.specs.Follows.{IsFollowedBy}
+use Rattle.tree_face.specs.Known.{IfKnown, Relates}
 use Rattle.tree_face.specs.Store.{Contents, StoreState}
-use Rattle.tree_face.specs.StoreUse.{Ending, Complete, DeviceFailed, GaveUp, ReadsFiles}
+use Rattle.tree_face.specs.StoreUse.{Ending, Complete, DeviceFailed, GaveUp}
 use Rattle.image_tree.specs.Tree.{Nodes, has_below, kind_at, kind_there, node_at}
 use Rattle.image_tree.specs.Paths.{is_path, root}
 use Rattle.image_tree.specs.declared.node.Node.{Node}
@@ -17,24 +18,25 @@ use Rattle.path_walk.specs.declared.walk.Mode.TheVariants.{Full}
 use Rattle.path_walk.specs.declared.walk.WalkFault.{WalkFault}
 use Rattle.tree_face.proofs.StoreUse.{IsPartial, reads_all, reads_fewer, reads_none, reads_then, unread}
 use Rattle.cache_reader.specs.Cache.{CachedEntry}
-use Rattle.elf_dynamic.proofs.BegunKeys.{keys_early, keys_then}
-use Rattle.elf_dynamic.specs.Begun.{ReadsBy, file_keys, key_in, lacks_one}
+use Rattle.elf_dynamic.proofs.BegunKeys.{keys_early, keys_then, none_lacks}
+use Rattle.elf_dynamic.specs.Begun.{ReadsBy, file_keys, is_lacking, key_in, lacks_one, until_lacking}
 use Rattle.elf_dynamic.specs.declared.kinds.Object.{Object}
 use Rattle.rpath_search.specs.Places.{from_root}
 use Rattle.rpath_search.specs.declared.kinds.Env.{Env}
 use Rattle.rpath_search.specs.declared.kinds.Found.{Found}
-use Rattle.ldd_resolve.specs.declared.kinds.Item.{Item}
+use Rattle.ldd_resolve.specs.declared.kinds.Scope.{Scope}
 use Rattle.ldd_resolve.specs.declared.kinds.ResolveFault.{ResolveFault}
 use Rattle.ldd_resolve.specs.declared.kinds.ResolveFault.TheVariants.{NoProgram, BadProgram, StoreFault, NoMemory}
 use Rattle.rpath_search.specs.declared.fault.SearchFault.{SearchFault}
 use Rattle.rpath_search.specs.declared.fault.SearchFault.TheVariants as search
 use Rattle.ldd_resolve.specs.Faults.{of_search}
 use Rattle.ldd_resolve.proofs.Objects.{failing}
-use Rattle.ldd_resolve.specs.Listing.{Record, Scope, left, record_after}
+use Rattle.ldd_resolve.specs.Listing.{Record, Inputs, left, record_after}
 use Rattle.ldd_resolve.specs.Loading.{Advances}
 use Rattle.ldd_resolve.specs.Requests.{IsListed, record_with}
-use Rattle.ldd_resolve.specs.Resolving.{BeginsBy, BeginsFor, BeginsRecord, IfBadProgram, IfComplete, IsBadProgram, IsListing, IsNoProgram, ReadsListing, first_record, object_at, program_at, record_of, resolve_ending, scope_of, with_abi}
+use Rattle.ldd_resolve.specs.Resolving.{AreAllHeld, AreLoaded, BeginsBy, BeginsFor, BeginsNoneLacking, BeginsRecord, IfBadProgram, IfComplete, IsBadProgram, IsNoProgram, IsScope, IsScopeOf, ReadsListing, first_record, object_at, program_at, record_of, resolve_ending, inputs_of, with_abi}
 use Rattle.ldd_resolve.proofs.Records.{record_none}
+use Rattle.ldd_resolve.proofs.Standing.{or_first, or_second}
 
 -- ---- the file of the program
 
@@ -71,6 +73,21 @@ key_has_node (Some n) key = refl
 
 -- ---- the keys that are begun
 
+-- keys that are all held are all begun
+all_begun : (held : Contents) (keys : List (List ℕ)) → lacks_one held keys ≡ false → until_lacking held keys ≡ keys
+all_begun held [] none = refl
+all_begun held (k ∷ keys) none =
+    rw (or_first (is_lacking held k) (lacks_one held keys) none, all_begun held keys (or_second (is_lacking held k) (lacks_one held keys) none)) refl
+
+all_held : (held : Contents) (keys : List (List ℕ)) (a b : StoreState) → lacks_one held keys ≡ false → ReadsBy (Some held) keys Complete a b → BeginsNoneLacking held a b
+all_held held keys a b none reads = by a.keys b.keys (rw (all_begun held keys none) at reads.begins)
+  where
+    by : (old new : Option (List (List ℕ))) → Relates (IsFollowedBy keys) old new → Relates (AreAllHeld held) old new
+    by None None begun = tt
+    by None (Some new) begun = absurd begun
+    by (Some old) None begun = absurd begun
+    by (Some old) (Some new) begun = (keys, (begun, none))
+
 if_partial : (e : Ending) (P : Type 0) → IsPartial e → IfComplete e P
 if_partial Complete P partial = absurd partial
 if_partial DeviceFailed P partial = tt
@@ -105,7 +122,7 @@ module _ (t : Nodes) (cache : Option (List CachedEntry)) (word : List ℕ) (env 
         none_yet : (o : Object) → BeginsRecord (record_of t cache word env held real o) held e a b
         none_yet o = record {
           requests = 0;
-          reads = subst (λ (x : Record). ReadsBy (Some held) x.keys e a b) (sym (record_none (scope_of t cache (with_abi env o.abi) held) (first_record t word real o))) reads;
+          reads = subst (λ (x : Record). ReadsBy (Some held) x.keys e a b) (sym (record_none (inputs_of t cache (with_abi env o.abi) held) (first_record t word real o))) reads;
           all = if_partial e _ partial;
         }
 
@@ -130,19 +147,19 @@ module _ (t : Nodes) (cache : Option (List CachedEntry)) (word : List ℕ) (env 
     abbrev first : Record
     first = record_with p (key p.real leads)
 
-    abbrev scope : Contents → Scope
-    scope = scope_of t cache (with_abi env p.object.abi)
+    abbrev inputs : Contents → Inputs
+    inputs = inputs_of t cache (with_abi env p.object.abi)
 
     same_first : first_record t word p.real p.object ≡ first
     same_first = rw spelled refl
 
-    same_after : (held : Contents) (n : ℕ) → record_of t cache word env held p.real p.object n ≡ record_after (scope held) first n
-    same_after held n = ap (λ (x : Record). record_after (scope held) x n) same_first
+    same_after : (held : Contents) (n : ℕ) → record_of t cache word env held p.real p.object n ≡ record_after (inputs held) first n
+    same_after held n = ap (λ (x : Record). record_after (inputs held) x n) same_first
 
     module _ (P : Record → Type 0) (e : Ending) (a b c : StoreState) where
       pub listing_read : (known : Option Contents) → IfKnown known (λ held. object_at held t p.real ≡ Some (Ok p.object)) →
           IfKnown known (λ held. lacks_one held (file_keys t (p.real ∷ [])) ≡ false) → ReadsBy known (file_keys t (p.real ∷ [])) Complete a b →
-          Advances known scope first e P b c → ((r : Record) → P r → IfComplete e (left r ≡ [])) → ReadsListing known t cache word env e a c
+          Advances known inputs first e P b c → ((r : Record) → P r → IfComplete e (left r ≡ [])) → ReadsListing known t cache word env e a c
       listing_read None says none reads so_far all = reads_then e a b c ⊥ ⊥ ⊥ None None None None (λ l. l) (reads_fewer ⊥ ⊥ (Some (key p.real leads)) None Complete a b (λ l. l) reads) so_far.reads
       listing_read (Some held) says none reads so_far all =
           let n = so_far.requests in
@@ -151,13 +168,13 @@ module _ (t : Nodes) (cache : Option (List CachedEntry)) (word : List ℕ) (env 
           held_by p.real leads held e a c (subst (λ (o : Option (Result Object Defect)). BeginsBy o (record_of t cache word env held p.real) (key p.real leads) held e a c) (sym says) (record {
             requests = n;
             reads = subst (λ l. ReadsBy (Some held) l e a c) (sym keys) (keys_then (Some held) (key p.real leads) so_far.keys e a b c none reads so_far.begins.reads);
-            all = subst (λ (x : Record). IfComplete e (left x ≡ [])) (sym same) (all (record_after (scope held) first n) so_far.holds);
+            all = subst (λ (x : Record). IfComplete e (left x ≡ [])) (sym same) (all (record_after (inputs held) first n) so_far.holds);
           }))
 
-    pub is_listing : (items : List Item) (b c : StoreState) (known : Option Contents) → IfKnown known (λ held. object_at held t p.real ≡ Some (Ok p.object)) →
-        Advances known scope first Complete (λ r. IsListed r items) b c → IfKnown known (λ held. IsListing t cache word env held items)
-    is_listing items b c None says so_far = tt
-    is_listing items b c (Some held) says so_far =
+    pub is_scope : (scope : Scope) (b c : StoreState) (known : Option Contents) → IfKnown known (λ held. object_at held t p.real ≡ Some (Ok p.object)) →
+        Advances known inputs first Complete (λ r. IsListed r scope.members scope.listing) b c → IfKnown known (λ held. IsScope t cache word env held scope)
+    is_scope scope b c None says so_far = tt
+    is_scope scope b c (Some held) says so_far =
         let same = same_after held so_far.requests in
         record {
           real = p.real;
@@ -166,8 +183,22 @@ module _ (t : Nodes) (cache : Option (List CachedEntry)) (word : List ℕ) (env 
           says = says;
           requests = so_far.requests;
           all = ap left same ∙ so_far.holds.all;
-          listed = so_far.holds.listed ∙ sym (ap (λ (x : Record). x.items) same);
+          holds = subst (IsScopeOf scope) (sym same) (record { members = so_far.holds.members; listing = so_far.holds.listed });
         }
+
+    -- in the same order of the paths, whether or not contents are known
+    pub are_loaded : (scope : Scope) (b c : StoreState) (known : Option Contents) → Advances known inputs first Complete (λ r. IsListed r scope.members scope.listing) b c → AreLoaded scope
+    are_loaded scope b c None so_far = so_far.holds.loaded
+    are_loaded scope b c (Some held) so_far = so_far.holds.loaded
+
+    -- each key that is begun is held
+    pub none_lacking : (P : Record → Type 0) (a b c : StoreState) (known : Option Contents) → IfKnown known (λ held. lacks_one held (file_keys t (p.real ∷ [])) ≡ false) →
+        ReadsBy known (file_keys t (p.real ∷ [])) Complete a b → Advances known inputs first Complete P b c → IfKnown known (λ held. BeginsNoneLacking held a c)
+    none_lacking P a b c None none reads so_far = tt
+    none_lacking P a b c (Some held) none reads so_far =
+        let all = key p.real leads ++ so_far.keys in
+        all_held held all a c (none_lacks held (key p.real leads) so_far.keys none so_far.begins.none_lacks)
+        (keys_then (Some held) (key p.real leads) so_far.keys Complete a b c none reads so_far.begins.reads)
 
 -- ---- the refusals
 
@@ -188,7 +219,7 @@ module _ (t : Nodes) (word real : List ℕ) (leads : program_at t word ≡ Some 
   IsDefect known d = IfKnown known (λ held. object_at held t real ≡ Some (Err d))
 
   pub bad_program : (known : Option Contents) (fault : ResolveFault) → IfBadProgram {A = Object} (Err fault) (IsDefect known) →
-      IfBadProgram {A = List Item} (Err fault) (λ d. IfKnown known (λ held. IsBadProgram held t word d))
+      IfBadProgram {A = Scope} (Err fault) (λ d. IfKnown known (λ held. IsBadProgram held t word d))
   bad_program known NoProgram says = tt
   bad_program None (BadProgram d) says = tt
   bad_program (Some held) (BadProgram d) says = record { real = real; file = leads; says = says }
@@ -196,7 +227,7 @@ module _ (t : Nodes) (word real : List ℕ) (leads : program_at t word ≡ Some 
   bad_program known NoMemory says = tt
 
   pub refusal_reads : (cache : Option (List CachedEntry)) (env : Env) (known : Option Contents) (fault : ResolveFault) (a b : StoreState) → (fault ≡ NoProgram → ⊥) → IfBadProgram {A = Object} (Err fault) (IsDefect known) →
-      ReadsBy known (file_keys t (real ∷ [])) (resolve_ending {A = Object} (Err fault)) a b → ReadsListing known t cache word env (resolve_ending {A = List Item} (Err fault)) a b
+      ReadsBy known (file_keys t (real ∷ [])) (resolve_ending {A = Object} (Err fault)) a b → ReadsListing known t cache word env (resolve_ending {A = Scope} (Err fault)) a b
   refusal_reads cache env known NoProgram a b other says reads = absurd (other refl)
   refusal_reads cache env known (BadProgram d) a b other says reads = defect_read t cache word env real leads known d a b says reads
   refusal_reads cache env known StoreFault a b other says reads = program_fails t cache word env real leads known DeviceFailed a b tt reads
@@ -206,8 +237,8 @@ module _ (t : Nodes) (word real : List ℕ) (leads : program_at t word ≡ Some 
 module _ (t : Nodes) (cache : Option (List CachedEntry)) (word : List ℕ) (env : Env) (p : Found) (spelled : p.path ≡ from_root word) (leads : program_at t word ≡ Some p.real) where
   pub list_fails : (fault : SearchFault) (known : Option Contents) (a b c : StoreState) → IfKnown known (λ held. object_at held t p.real ≡ Some (Ok p.object)) →
       IfKnown known (λ held. lacks_one held (file_keys t (p.real ∷ [])) ≡ false) → ReadsBy known (file_keys t (p.real ∷ [])) Complete a b →
-      Advances known (scope_of t cache (with_abi env p.object.abi)) (record_with p (file_keys t (p.real ∷ []))) (failing fault) (λ r. Unit {0}) b c →
-      ReadsListing known t cache word env (resolve_ending {A = List Item} (Err (of_search fault))) a c
+      Advances known (inputs_of t cache (with_abi env p.object.abi)) (record_with p (file_keys t (p.real ∷ []))) (failing fault) (λ r. Unit {0}) b c →
+      ReadsListing known t cache word env (resolve_ending {A = Scope} (Err (of_search fault))) a c
   list_fails search.StoreFault known a b c says none reads so_far =
       listing_read t cache word env p spelled leads (λ r. Unit {0}) DeviceFailed a b c known says none reads so_far (λ r any. tt)
   list_fails search.NoMemory known a b c says none reads so_far =

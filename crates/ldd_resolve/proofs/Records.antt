@@ -1,9 +1,9 @@
 -- The record of a listing, request by request.
 use Rattle.std.proofs.Common.{◌≡◌, ◌+◌, ℕ, zero, suc, false, true, List, ◌∷◌, refl, sym, ap, ◌∙◌, arith}
 use Rattle.std.specs.List.{list_any}
-use Rattle.ldd_resolve.specs.Listing.{Record, Request, Scope, is_called, left, paths_of, record_after, with_answer, with_next, with_search}
+use Rattle.ldd_resolve.specs.Listing.{Record, Request, Inputs, is_called, left, paths_of, record_after, with_answer, with_next, with_search}
 
-module _ (w : Scope) (r : Record) where
+module _ (w : Inputs) (r : Record) where
   -- no request
   pub record_none : record_after w r 0 ≡ r
   unfolding record_after

@@ -1,6 +1,7 @@
 -- Each file is loaded once, and is one of the tree.
 use Rattle.std.proofs.Common.{◌≡◌, ◌≤◌, ◌<◌, ◌+◌, ◌||◌, ℕ, suc, true, false, not, List, [], ◌∷◌, ◌++◌, length, Option, Some, None, IfSome, refl, sym, ap, subst, ◌∙◌, arith}
 use Rattle.std.proofs.lemmas.Cmp.{nat_list_eq_equiv, tied_itself}
+use Rattle.std.proofs.lemmas.List.{length-append}
 use Rattle.std.proofs.lemmas.Map.Keys.{IsDistinct-push}
 use Rattle.std.proofs.lemmas.Map.Steps.{length-le_from_keys}
 use Rattle.std.proofs.lemmas.Slice.Eq.{bytes_eq-Decides}
@@ -80,13 +81,14 @@ module _ (t : Nodes) (abi : Abi) (s : Loading) (real : List ℕ) (new : is_among
       let last : bytes_eq x real ≡ true = sym (ap (λ b. b || bytes_eq x real) later) ∙ sym (among_one s.places.loaded real x) ∙ there in
       subst P (sym ((bytes_eq-Decides x real).0 last)) here)
 
-  pub sound_more : (known : Option Contents) (s2 : Loading) → IsSound known t abi s → s2.places ≡ more → is_some (node_at t real) ≡ true →
+  pub sound_more : (known : Option Contents) (s2 : Loading) → IsSound known t abi s → s2.places ≡ more → length s2.members.items ≡ length s.members.items + 1 → is_some (node_at t real) ≡ true →
       IfKnown known (λ held. is_library_at held t abi real ≡ true) → IsSound known t abi s2
-  sound_more known s2 sound places node library = rw places (record {
+  sound_more known s2 sound places members node library = rw places (record {
     libraries = libraries known sound.libraries library;
     outsider = outsider s.places.outsider sound.outsider;
     distinct = IsDistinct-push nat_list_eq_equiv s.places.loaded real sound.distinct new;
     nodes = each_of (λ x. is_some (node_at t x) ≡ true) sound.nodes node;
+    members = members ∙ ap (λ n. n + 1) sound.members ∙ sym (length-append s.places.loaded (real ∷ []));
   })
     where
       libraries : (k : Option Contents) → IfKnown k (λ held. AreKnown held t abi s.places) → IfKnown k (λ held. is_library_at held t abi real ≡ true) → IfKnown k (λ held. AreKnown held t abi more)
@@ -97,24 +99,25 @@ module _ (t : Nodes) (abi : Abi) (s : Loading) (real : List ℕ) (new : is_among
       outsider None there = tt
       outsider (Some o) there = among_one s.places.loaded real o ∙ ap (λ b. b || bytes_eq o real) there
 
-pub sound_same : (known : Option Contents) (t : Nodes) (abi : Abi) (s s2 : Loading) → IsSound known t abi s → s2.places ≡ s.places → IsSound known t abi s2
-sound_same known t abi s s2 sound places = record {
+pub sound_same : (known : Option Contents) (t : Nodes) (abi : Abi) (s s2 : Loading) → IsSound known t abi s → s2.places ≡ s.places → length s2.members.items ≡ length s.members.items → IsSound known t abi s2
+sound_same known t abi s s2 sound places members = record {
   libraries = rw places sound.libraries;
   outsider = rw places sound.outsider;
   distinct = rw places sound.distinct;
   nodes = rw places sound.nodes;
+  members = members ∙ sound.members ∙ sym (ap (λ p. length p.loaded) places);
 }
 
 pub grows_then : (a b c : Loading) → Grows a b → Grows b c → Grows a c
 grows_then a b c first next = record {
   more = first.more + next.more;
-  links = omega (arith, first.links, next.links);
+  loaders = omega (arith, first.loaders, next.loaders);
   places = omega (arith, first.places, next.places);
   pending = omega (arith, first.pending, next.pending);
 }
 
 pub grows_none : (a : Loading) → Grows a a
-grows_none a = record { more = 0; links = omega arith; places = omega arith; pending = omega arith }
+grows_none a = record { more = 0; loaders = omega arith; places = omega arith; pending = omega arith }
 
 -- ---- the next object
 
@@ -130,12 +133,12 @@ module _ (s s2 : Loading) (n : ℕ) (needed : List (List ℕ)) (even : IsEven s 
       let fewer = one_fewer in
       omega (arith, few, links, pending, fewer)
 
-  pub even_then : (s3 : Loading) → s2.links ≡ s.links → s2.places ≡ s.places → Grows s2 s3 → IsEven s3 (n + 1)
+  pub even_then : (s3 : Loading) → s2.loaders ≡ s.loaders → s2.places ≡ s.places → Grows s2 s3 → IsEven s3 (n + 1)
   even_then s3 links places grows =
-      let l : length s2.links ≡ length s.links = ap length links in
+      let l : length s2.loaders ≡ length s.loaders = ap length links in
       let p : length s2.places.loaded ≡ length s.places.loaded = ap (λ x. length x.loaded) places in
       let fewer = one_fewer in
       record {
-        places = omega (arith, even.places, grows.links, grows.places, l, p);
-        pending = omega (arith, even.pending, grows.links, grows.pending, l, fewer);
+        places = omega (arith, even.places, grows.loaders, grows.places, l, p);
+        pending = omega (arith, even.pending, grows.loaders, grows.pending, l, fewer);
       }

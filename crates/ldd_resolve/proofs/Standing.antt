@@ -1,17 +1,20 @@
 -- What stands for the record stands for the next one, when a request is answered.
-use Rattle.std.proofs.Common.{◌≡◌, ◌<◌, ◌≤◌, ◌||◌, ◌&&◌, ℕ, zero, suc, Bool, true, false, cond, List, [], ◌∷◌, ◌++◌, length, map, drop, get_or, Option, Some, None, IfSome, Result, Ok, Err, OnOk, refl, sym, ap, subst, ◌∙◌, ⊎_elim, arith}
-use Rattle.std.proofs.lemmas.Bool.{cases_lt}
-use Rattle.std.proofs.lemmas.List.{get_or_append_left, length-append}
-use Rattle.std.proofs.Math.Seq.{get_or-append_seam}
+use Rattle.std.proofs.Common.{◌≡◌, ◌+◌, ◌<◌, ◌||◌, ◌&&◌, ℕ, zero, suc, Bool, true, false, cond, List, [], ◌∷◌, ◌++◌, length, map, drop, get_or, set, Option, Some, Result, Ok, Err, OnOk, refl, sym, ap, subst, ◌∙◌, arith}
+use Rattle.std.proofs.lemmas.List.{length-map, map-append}
 use Rattle.std.proofs.lemmas.List.Folds.{list_any-append}
 use Rattle.std.proofs.lemmas.Slice.Eq.{bytes_eq-Decides}
-use Rattle.std.specs.List.{list_any}
+use Rattle.std.specs.List.{AllByRecursion, IsDistinct, list_any}
 use Rattle.std.specs.Str.{bytes_eq}
 use Rattle.lib_types.proofs.SortedPairs.{by_test}
 use Rattle.rpath_search.specs.declared.kinds.Owner.{Owner}
-use Rattle.ldd_resolve.specs.declared.links.Link.{Link}
-use Rattle.ldd_resolve.specs.Links.{AreLinked, behind}
+use Rattle.rpath_search.specs.declared.kinds.Env.{Env}
+use Rattle.rpath_search.specs.Loaders.{reach_at, reach_over}
+use Rattle.rpath_search.specs.Places.{Reach, reach_of}
+use Rattle.ldd_resolve.specs.Links.{behind, reach_in}
+use Rattle.ldd_resolve.specs.declared.kinds.Member.{Member}
 use Rattle.ldd_resolve.specs.Listing.{Loaded, is_among, is_called, named, places_of, requests}
+use Rattle.ldd_resolve.specs.Loading.{with_last_name}
+use Rattle.ldd_resolve.specs.Resolving.{member_of}
 
 -- ---- Booleans
 
@@ -26,6 +29,18 @@ and_false false = refl
 pub and_true : (b : Bool) → (b && true) ≡ b
 and_true true = refl
 and_true false = refl
+
+or_true : (b : Bool) → (b || true) ≡ true
+or_true true = refl
+or_true false = refl
+
+pub or_first : (a b : Bool) → (a || b) ≡ false → a ≡ false
+or_first true b e = e
+or_first false b e = refl
+
+pub or_second : (a b : Bool) → (a || b) ≡ false → b ≡ false
+or_second true b e = absurd (cc)
+or_second false b e = e
 
 pub or_assoc : (a b c : Bool) → ((a || b) || c) ≡ (a || (b || c))
 or_assoc true b c = refl
@@ -52,49 +67,39 @@ pub on_ok : {A B P Q : Type 0} (r : Result A B) → (P → Q) → OnOk r P → O
 on_ok (Ok a) f p = f p
 on_ok (Err e) f p = tt
 
--- ---- chains
+-- ---- where the requests of objects are searched
 
-get_or_in : {X : Type 0} (xs : List X) (y : X) (n : ℕ) (d : X) → n ≡ length xs → get_or (xs ++ y ∷ []) n d ≡ y
-get_or_in xs y n d e = ap (λ m. get_or (xs ++ y ∷ []) m d) e ∙ get_or-append_seam xs y [] d
+module _ (env : Env) where
+  abbrev reaches : List Loaded → List (Option Reach)
+  reaches os = map (λ (o : Loaded). reach_in env o.chain) os
 
-behind_more : (chains more : List (List Owner)) (loader : Option ℕ) → IfSome loader (λ j. j < length chains) → behind (chains ++ more) loader ≡ behind chains loader
-behind_more chains more None within = refl
-behind_more chains more (Some j) within = get_or_append_left chains more [] j within
+  abbrev somes : List Reach → List (Option Reach)
+  somes rs = map (λ reach. Some reach) rs
 
-within_more : (loader : Option ℕ) (n m : ℕ) → n ≤ m → IfSome loader (λ j. j < n) → IfSome loader (λ j. j < m)
-within_more None n m more within = tt
-within_more (Some j) n m more within = omega (arith, more, within)
+  pub same_count : (rs : List Reach) (os : List Loaded) → somes rs ≡ reaches os → length rs ≡ length os
+  same_count rs os linked = sym (length-map rs (λ (r : Reach). Some r)) ∙ ap length linked ∙ length-map os (λ (o : Loaded). reach_in env o.chain)
 
-module _ (links : List Link) (chains : List (List Owner)) (l : Link) where
-  -- the chain of a new object
-  abbrev c : List Owner
-  c = l.owner ∷ behind chains l.loader
+  -- those of the object with a number
+  pub reach_there : (rs : List Reach) (os : List Loaded) (n : ℕ) → somes rs ≡ reaches os → n < length rs →
+      reach_in env (get_or (map (λ (o : Loaded). o.chain) os) n []) ≡ Some (reach_at rs n)
+  reach_there [] os n linked within = absurd (omega (arith, within))
+  reach_there (r ∷ rs) [] n linked within = absurd (cc)
+  reach_there (r ∷ rs) (o ∷ os) zero linked within = let first : Some r ≡ reach_in env o.chain = cc in sym first
+  reach_there (r ∷ rs) (o ∷ os) (suc n) linked within = let others : somes rs ≡ reaches os = cc in reach_there rs os n others (omega (arith, within))
 
-  pub linked_on : AreLinked links chains → IfSome l.loader (λ j. j < length links) → AreLinked (links ++ l ∷ []) (chains ++ c ∷ [])
-  linked_on so_far within = record {
-    all = omega (arith, so_far.all, length-append chains (c ∷ []), length-append links (l ∷ []));
-    below = λ i d inside. ⊎_elim
-        (λ early. rw (get_or_append_left links (l ∷ []) d i early) (so_far.below i d early))
-        (λ last. let e : i ≡ length links = omega (arith, last, inside, length-append links (l ∷ [])) in rw (get_or_in links l i d e) (within_more l.loader (length links) i (omega (arith, e)) within))
-        (cases_lt i (length links));
-    linked = λ i d inside. ⊎_elim
-        (λ early.
-        let here : i < length chains = omega (arith, early, so_far.all) in
-        let loader_in = so_far.below i d early in
-        let near : i ≤ length chains = omega (arith, here) in
-        rw (get_or_append_left links (l ∷ []) d i early)
-        (get_or_append_left chains (c ∷ []) [] i here
-        ∙ so_far.linked i d early
-        ∙ ap (λ t. (get_or links i d).owner ∷ t) (sym (behind_more chains (c ∷ []) (get_or links i d).loader (within_more (get_or links i d).loader i (length chains) near loader_in)))))
-        (λ last.
-        let e : i ≡ length links = omega (arith, last, inside, length-append links (l ∷ [])) in
-        let at : i ≡ length chains = omega (arith, e, so_far.all) in
-        let near : length links ≤ length chains = omega (arith, so_far.all) in
-        rw (get_or_in links l i d e)
-        (get_or_in chains c i [] at
-        ∙ ap (λ t. l.owner ∷ t) (sym (behind_more chains (c ∷ []) l.loader (within_more l.loader (length links) (length chains) near within)))))
-        (cases_lt i (length links));
-  }
+  -- those of an object whose loader has this chain
+  over : (owner : Owner) (chain : List Owner) (above : Reach) → reach_in env chain ≡ Some above → Some (reach_over env owner above) ≡ reach_in env (owner ∷ chain)
+  over owner [] above same = absurd (cc)
+  over owner (o ∷ more) above same = let is : reach_of env o more ≡ above = cc in ap (λ (r : Reach). Some (reach_over env owner r)) (sym is)
+
+  -- an object more
+  pub linked_on : (rs : List Reach) (os : List Loaded) (o : Loaded) (owner : Owner) (k : ℕ) → somes rs ≡ reaches os → k < length rs →
+      o.chain ≡ owner ∷ behind (map (λ (o : Loaded). o.chain) os) (Some k) → somes (rs ++ reach_over env owner (reach_at rs k) ∷ []) ≡ reaches (os ++ o ∷ [])
+  linked_on rs os o owner k linked within chain =
+      map-append (λ (r : Reach). Some r) rs (reach_over env owner (reach_at rs k) ∷ [])
+      ∙ ap (λ l. l ++ Some (reach_over env owner (reach_at rs k)) ∷ []) linked
+      ∙ ap (λ (r : Option Reach). reaches os ++ r ∷ []) (over owner (behind (map (λ (o : Loaded). o.chain) os) (Some k)) (reach_at rs k) (reach_there rs os k linked within) ∙ sym (ap (reach_in env) chain))
+      ∙ sym (map-append (λ (o : Loaded). reach_in env o.chain) os (o ∷ []))
 
 -- ---- requests
 
@@ -129,6 +134,9 @@ module _ (real name : List ℕ) where
   pub same_needed : (o : Loaded) → (also o).needed ≡ o.needed
   same_needed o = by_test (bytes_eq real o.real) (λ h. rw h refl) (λ h. rw h refl)
 
+  pub same_path : (o : Loaded) → (also o).path ≡ o.path
+  same_path o = by_test (bytes_eq real o.real) (λ h. rw h refl) (λ h. rw h refl)
+
   pub same_requests : (os : List Loaded) → requests (map also os) ≡ requests os
   same_requests [] = refl
   same_requests (o ∷ os) = by_test (bytes_eq real o.real) (λ h. rw (h, same_requests os) refl) (λ h. rw (h, same_requests os) refl)
@@ -144,8 +152,62 @@ module _ (real name : List ℕ) where
   called_with : (os : List Loaded) (x : List ℕ) → list_any (is_called x) (map also os) ≡ (list_any (is_called x) os || (is_among (places_of os) real && bytes_eq x name))
   called_with [] x = refl
   called_with (o ∷ os) x = by_test (bytes_eq real o.real)
-      (λ h. rw (h, among_one o.names name x, called_with os x) (or_more (is_among o.names x) (bytes_eq x name) (list_any (is_called x) os) (is_among (places_of os) real)))
+      (λ h. rw (h, among_inserted o.names name x, called_with os x) (or_more (is_among o.names x) (bytes_eq x name) (list_any (is_called x) os) (is_among (places_of os) real)))
       (λ h. rw (h, called_with os x) (sym (or_assoc (is_called x o) (list_any (is_called x) os) (is_among (places_of os) real && bytes_eq x name))))
 
   pub called_there : (os : List Loaded) (x : List ℕ) → is_among (places_of os) real ≡ true → list_any (is_called x) (map also os) ≡ (list_any (is_called x) os || bytes_eq x name)
   called_there os x there = called_with os x ∙ ap (λ b. list_any (is_called x) os || (b && bytes_eq x name)) there
+
+-- ---- the object with a number
+
+-- a text is among those that it is one of
+pub among_at : (xs : List (List ℕ)) (i : ℕ) → i < length xs → is_among xs (get_or xs i []) ≡ true
+among_at [] i within = absurd (omega (arith, within))
+among_at (x ∷ xs) zero within = rw ((bytes_eq-Decides x x).1 refl) refl
+among_at (x ∷ xs) (suc i) within = ap (λ b. bytes_eq (get_or xs i []) x || b) (among_at xs i (omega (arith, within))) ∙ or_true (bytes_eq (get_or xs i []) x)
+
+all_at : {X : Type 0} (P : X → Type 0) (xs : List X) (i : ℕ) (d : X) → AllByRecursion P xs → i < length xs → P (get_or xs i d)
+all_at P [] i d all within = absurd (omega (arith, within))
+all_at P (x ∷ xs) zero d all within = all.0
+all_at P (x ∷ xs) (suc i) d all within = all_at P xs i d all.1 (omega (arith, within))
+
+apart : (x y : List ℕ) → bytes_eq x y ≡ false → bytes_eq y x ≡ false
+apart x y other = by_test (bytes_eq y x)
+    (λ same. absurd (let e : bytes_eq x y ≡ true = (bytes_eq-Decides x y).1 (sym ((bytes_eq-Decides y x).0 same)) in cc))
+    (λ h. h)
+
+module _ (name : List ℕ) where
+  -- the others keep their names
+  others_same : (real : List ℕ) (os : List Loaded) → AllByRecursion (λ y. bytes_eq real y ≡ false) (places_of os) → map (named real name) os ≡ os
+  others_same real [] all = refl
+  others_same real (o ∷ os) all = rw (all.0, others_same real os all.1) refl
+
+  -- the one with this number has the name too
+  pub named_at : (os : List Loaded) (i : ℕ) (d : Member) → IsDistinct bytes_eq (places_of os) → i < length os → list_any (is_called name) os ≡ false →
+      set (map member_of os) i (with_last_name (get_or (map member_of os) i d) name) ≡ map member_of (map (named (get_or (places_of os) i []) name) os)
+  unfolding IsDistinct
+  named_at [] i d distinct within new = absurd (omega (arith, within))
+  named_at (o ∷ os) zero d distinct within new = rw ((bytes_eq-Decides o.real o.real).1 refl, or_first (is_called name o) (list_any (is_called name) os) new, others_same o.real os distinct.0) refl
+  named_at (o ∷ os) (suc i) d distinct within new =
+      let here : i < length os = omega (arith, within) in
+      let len : length (places_of os) ≡ length os = length-map os (λ (o : Loaded). o.real) in
+      let there : i < length (places_of os) = omega (arith, here, len) in
+      rw (apart o.real (get_or (places_of os) i []) (all_at (λ y. bytes_eq o.real y ≡ false) (places_of os) i [] distinct.0 there))
+      (ap (λ l. member_of o ∷ l) (named_at os i d distinct.1 here (or_second (is_called name o) (list_any (is_called name) os) new)))
+
+-- ---- names that are added one after another
+
+among_drop : (xs : List (List ℕ)) (i : ℕ) (x : List ℕ) → i < length xs → is_among (drop i xs) x ≡ (bytes_eq x (get_or xs i []) || is_among (drop (i + 1) xs) x)
+among_drop [] i x within = absurd (omega (arith, within))
+among_drop (y ∷ xs) zero x within = refl
+among_drop (y ∷ xs) (suc i) x within =
+    let next : suc i + 1 ≡ suc (i + 1) = omega arith in
+    rw next (among_drop xs i x (omega (arith, within)))
+
+pub among_more : (all new names : List (List ℕ)) (name : List ℕ) (i : ℕ) (x : List ℕ) → i < length names → get_or names i [] ≡ name → new ≡ cond (is_among all name) all (all ++ name ∷ []) →
+    (is_among new x || is_among (drop (i + 1) names) x) ≡ (is_among all x || is_among (drop i names) x)
+among_more all new names name i x within is added =
+    ap (λ l. is_among l x || is_among (drop (i + 1) names) x) added
+    ∙ ap (λ b. b || is_among (drop (i + 1) names) x) (among_inserted all name x)
+    ∙ or_assoc (is_among all x) (bytes_eq x name) (is_among (drop (i + 1) names) x)
+    ∙ ap (λ b. is_among all x || b) (ap (λ n. bytes_eq x n || is_among (drop (i + 1) names) x) (sym is) ∙ sym (among_drop names i x within))

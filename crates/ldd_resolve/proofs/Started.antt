@@ -1,5 +1,5 @@
 -- The state with the program alone.
-use Rattle.std.proofs.Common.{◌≡◌, ◌||◌, ℕ, Bool, true, false, cond, not, List, [], ◌∷◌, Option, Some, None, IfSome, Ok, is_some, refl, sym, ap, subst, ◌∙◌, arith}
+use Rattle.std.proofs.Common.{◌≡◌, ◌||◌, ℕ, Bool, true, false, cond, not, length, List, [], ◌∷◌, Option, Some, None, IfSome, Ok, is_some, refl, sym, ap, subst, ◌∙◌, arith}
 use Rattle.std.proofs.lemmas.Map.Keys.{IsDistinct-from_apart}
 use Rattle.std.proofs.lemmas.Slice.Eq.{bytes_eq-Decides}
 use Rattle.std.specs.Option.{option_and_then, option_map, option_map_or}
@@ -20,7 +20,7 @@ use Rattle.ldd_resolve.specs.Resolving.{object_at}
 use Rattle.ldd_resolve.specs.Searching.{AreKnown, is_outsider}
 use Rattle.ldd_resolve.proofs.Standing.{or_false}
 
-module _ (p : Found) (s : Loading) (alone : s.places.loaded ≡ p.real ∷ []) where
+module _ (p : Found) (s : Loading) (alone : s.places.loaded ≡ p.real ∷ []) (member : length s.members.items ≡ 1) where
   itself : bytes_eq p.real p.real ≡ true
   itself = (bytes_eq-Decides p.real p.real).1 refl
 
@@ -52,6 +52,7 @@ module _ (p : Found) (s : Loading) (alone : s.places.loaded ≡ p.real ∷ []) w
     outsider = rw outsider (inside (is_library p.object.abi p.object));
     distinct = rw alone (IsDistinct-from_apart bytes_eq (p.real ∷ []) (λ i j d low high. absurd (omega (arith, low, high))));
     nodes = only_one (λ x. is_some (node_at t x) ≡ true) node;
+    members = member ∙ sym (ap length alone);
   }
     where
       libraries : (k : Option Contents) → IfKnown k (λ held. object_at held t p.real ≡ Some (Ok p.object)) → IfKnown k (λ held. AreKnown held t p.object.abi s.places)

@@ -6,7 +6,7 @@ use Rattle.std.proofs.lemmas.List.Elements.{filter-append}
 use Rattle.std.specs.List.{filter}
 use Rattle.lib_types.proofs.SortedPairs.{by_test}
 use Rattle.lib_types.specs.declared.abi.Abi.{Abi}
-use Rattle.tree_face.proofs.StoreUse.{IsPartial, reads_then}
+use Rattle.tree_face.proofs.StoreUse.{IsPartial, reads_all, reads_none, reads_then, unread}
 use Rattle.tree_face.specs.Known.{IfKnown}
 use Rattle.tree_face.specs.Store.{Contents, StoreState}
 use Rattle.tree_face.specs.StoreUse.{Ending, Complete, DeviceFailed, GaveUp}
@@ -114,3 +114,17 @@ pub no_answer : (known : Option Contents) (t : Nodes) (abi : Abi) (places : List
     IfKnown known (λ held. Tries held t abi places p None) → IfKnown known (λ held. is_good held t abi p ≡ false)
 no_answer None t abi places p tries = tt
 no_answer (Some held) t abi places p tries = tries
+
+-- out of memory before the next path
+pub tried_gives_up : (known : Option Contents) (t : Nodes) (abi : Abi) (places all rest : List (List ℕ)) (a b : StoreState) → HasTried known t abi places all rest a b →
+    Begins known (λ held. keys_searched held t abi places all) GaveUp a b
+tried_gives_up None t abi places all rest a b so_far = reads_all None None a b ⊥ so_far
+tried_gives_up (Some held) t abi places all rest a b so_far = record {
+  reads = rw so_far.keys (keys_early (Some held) so_far.tried (keys_searched held t abi places rest) GaveUp a b tt (reads_all _ _ a b _ so_far.begins.reads));
+  none_lacks = tt;
+}
+
+-- before the first path
+pub none_tried : (known : Option Contents) (t : Nodes) (abi : Abi) (places all : List (List ℕ)) (a : StoreState) → HasTried known t abi places all all a a
+none_tried None t abi places all a = unread a
+none_tried (Some held) t abi places all a = record { tried = []; keys = refl; first = refl; begins = record { reads = reads_none _ _ a; none_lacks = refl } }

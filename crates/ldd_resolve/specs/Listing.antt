@@ -17,7 +17,7 @@ use Rattle.ldd_resolve.specs.declared.kinds.Item.{Item}
 
 -- ---- what a listing stands on
 
-pub record Scope : Type 0 where
+pub record Inputs : Type 0 where
   pub held : Contents
   pub nodes : Nodes
   -- the path that the cache has for a name, if it has one
@@ -29,9 +29,11 @@ pub record Scope : Type 0 where
 
 -- the program, or a library that was found
 pub record Loaded : Type 0 where
+  -- the path by which it was found
+  pub path : List ℕ
   -- where its file is, without links
   pub real : List ℕ
-  -- its DT_SONAME, if it has one, and the names of the requests that it answered
+  -- its DT_SONAME, if it has one, then the names of the requests that it answered, each once
   pub names : List (List ℕ)
   pub needed : List (List ℕ)
   -- its owner, that of the object which was the first to need it, and so on up to the program
@@ -59,9 +61,16 @@ places_of objects = map (λ o. o.real) objects
 abbrev pub is_among : List (List ℕ) → List ℕ → Bool
 is_among places real = list_any (bytes_eq real) places
 
+abbrev pub has_name : List (List ℕ) → List ℕ → Bool
+has_name names name = list_any (bytes_eq name) names
+
+-- a name more, if it isn't there yet
+abbrev pub with_name : List (List ℕ) → List ℕ → List (List ℕ)
+with_name names name = if has_name names name then names else names ++ name ∷ []
+
 -- the object at this place has answered a request of this name
 abbrev pub named : List ℕ → List ℕ → Loaded → Loaded
-named real name o = if bytes_eq real o.real then record o { names = o.names ++ name ∷ [] } else o
+named real name o = if bytes_eq real o.real then record o { names = with_name o.names name } else o
 
 abbrev pub owner_of : List ℕ → Option Dynamic → Owner
 owner_of path None = record { origin = folder_of path; rpath = None; runpath = None; nodeflib = false }
@@ -75,11 +84,16 @@ abbrev pub needed_in : Option Dynamic → List (List ℕ)
 needed_in None = []
 needed_in (Some d) = d.needed
 
--- The object at a place, found by a path, with what it says of itself. It has answered requests of these names, and this is the chain
--- of the object that needs it.
-abbrev pub loaded : List ℕ → List ℕ → Option Dynamic → List (List ℕ) → List Owner → Loaded
-loaded path real d names chain =
-    record { real = real; names = soname_in d ++ names; needed = needed_in d; chain = owner_of path d ∷ chain }
+-- the names of an object with this DT_SONAME, if it has one, which was found for a request of this name; the program was found for none
+abbrev pub names_by : List (List ℕ) → Option (List ℕ) → List (List ℕ)
+names_by soname None = soname
+names_by soname (Some name) = with_name soname name
+
+-- The object at a place, found by a path for a request of this name, with what it says of itself. This is the chain of the object that
+-- needs it.
+abbrev pub loaded : List ℕ → List ℕ → Option Dynamic → Option (List ℕ) → List Owner → Loaded
+loaded path real d name chain =
+    record { path = path; real = real; names = names_by (soname_in d) name; needed = needed_in d; chain = owner_of path d ∷ chain }
 
 -- ---- the record of a listing
 
@@ -109,7 +123,7 @@ with_missing name items = if list_any (is_missing name) items then items else it
 -- ---- the answer of a request
 
 -- the paths at which its name is searched
-abbrev pub paths_of : Scope → Request → List (List ℕ)
+abbrev pub paths_of : Inputs → Request → List (List ℕ)
 paths_of w q = paths q.name q.chain w.env (w.cached q.name)
 
 -- The keys that are begun by a search: of the files to which the paths lead up to and with the first good one, but for files that are
@@ -119,40 +133,40 @@ keys_searched held t abi places all =
     file_keys t (filter (λ real. not (is_among places real)) (files_of t (take (looked_at held t abi all) all)))
 
 -- what the library at a place says of itself
-abbrev pub dynamic_at : Scope → List ℕ → Option Dynamic
+abbrev pub dynamic_at : Inputs → List ℕ → Option Dynamic
 dynamic_at w real = option_and_then (λ o. o.dynamic) (library_at w.held w.nodes w.env.abi real)
 
 -- The file is an object that is there, or a new one, with an item.
-abbrev pub with_file : Scope → Record → Request → List ℕ → List ℕ → Record
+abbrev pub with_file : Inputs → Record → Request → List ℕ → List ℕ → Record
 with_file w r q path real =
     if is_among (places_of r.objects) real then record r { objects = map (named real q.name) r.objects } else
     record r {
-      objects = r.objects ++ loaded path real (dynamic_at w real) (q.name ∷ []) q.chain ∷ [];
+      objects = r.objects ++ loaded path real (dynamic_at w real) (Some q.name) q.chain ∷ [];
       items = r.items ++ item q.name (Some path) ∷ [];
     }
 
 -- the same of what is found: a path and the file to which it leads
-abbrev pub with_found : Scope → Record → Request → Option (List ℕ × List ℕ) → Record
+abbrev pub with_found : Inputs → Record → Request → Option (List ℕ × List ℕ) → Record
 with_found w r q None = record r { items = with_missing q.name r.items }
 with_found w r q (Some found) = with_file w r q found.0 found.1
 
 -- the first good one of these paths, and the file to which it leads
-abbrev pub found_by : Scope → List (List ℕ) → Option (List ℕ × List ℕ)
+abbrev pub found_by : Inputs → List (List ℕ) → Option (List ℕ × List ℕ)
 found_by w all = option_and_then (λ path. option_map (λ real. (path, real)) (file_at w.nodes path)) (first_good w.held w.nodes w.env.abi all)
 
-abbrev pub with_search : Scope → Record → Request → List (List ℕ) → Record
+abbrev pub with_search : Inputs → Record → Request → List (List ℕ) → Record
 with_search w r q all = with_found w (record r { keys = r.keys ++ keys_searched w.held w.nodes w.env.abi (places_of r.objects) all }) q (found_by w all)
 
 -- An object that is called so already is the answer. Else the name is searched.
-abbrev pub with_answer : Scope → Record → Request → Record
+abbrev pub with_answer : Inputs → Record → Request → Record
 with_answer w r q = if list_any (is_called q.name) r.objects then r else with_search w r q (paths_of w q)
 
 -- the least request that isn't answered is answered, if there is one
-abbrev pub with_next : Scope → Record → List Request → Record
+abbrev pub with_next : Inputs → Record → List Request → Record
 with_next w r [] = r
 with_next w r (q ∷ qs) = with_answer w (record r { answered = r.answered + 1 }) q
 
 -- the record when so many requests were answered
-unfoldable pub record_after : Scope → Record → ℕ → Record
+unfoldable pub record_after : Inputs → Record → ℕ → Record
 record_after w first zero = first
 record_after w first (suc n) = with_next w (record_after w first n) (left (record_after w first n))

@@ -1,32 +1,37 @@
 -- How the code keeps a listing: sets of names and places, and a queue of the objects whose requests aren't answered.
-use Rattle.std.specs.Prelude.{◌≡◌, ◌+◌, ℕ, suc, ◌||◌, ◌++◌, true, List, [], ◌∷◌, if◌then◌else◌, drop, length, map, Option, Some, None, IfSome, is_some}
-use Rattle.std.specs.List.{IsDistinct, list_any}
+use Rattle.std.specs.Prelude.{◌≡◌, ◌+◌, ◌<◌, ℕ, suc, ◌||◌, ◌++◌, true, List, [], ◌∷◌, if◌then◌else◌, drop, length, map, slice_index_or, slice_set, Option, Some, None, IfSome, is_some}
+use Rattle.std.specs.List.{IsDistinct, filter_map, list_any}
 use Rattle.std.specs.Str.{bytes_eq}
 use Rattle.lib_types.specs.declared.abi.Abi.{Abi}
 use Rattle.tree_face.specs.Known.{IfKnown}
 use Rattle.tree_face.specs.Store.{Contents, StoreState}
 use Rattle.tree_face.specs.StoreUse.{Ending, ReadsFiles}
 use Rattle.image_tree.specs.Tree.{Nodes, node_at}
-use Rattle.elf_dynamic.specs.declared.kinds.Dynamic.{Dynamic}
+use Rattle.rpath_search.specs.Loaders.{reach_at, reach_over}
 use Rattle.rpath_search.specs.Search.{is_library_at}
+use Rattle.rpath_search.specs.declared.kinds.Env.{Env}
 use Rattle.rpath_search.specs.declared.kinds.Found.{Found}
 use Rattle.ldd_resolve.specs.declared.loading.Loading.{Loading}
 use Rattle.ldd_resolve.specs.declared.search.Answer.{Answer}
 use Rattle.ldd_resolve.specs.declared.search.Answer.TheVariants as answer
-use Rattle.ldd_resolve.specs.Links.{AreLinked, behind}
-use Rattle.ldd_resolve.specs.Listing.{Record, Request, Scope, is_among, is_called, is_missing, item, left, loaded, named, needed_in, owner_of, places_of, record_after, requests, soname_in, with_missing}
+use Rattle.ldd_resolve.specs.Links.{behind, reach_in}
+use Rattle.ldd_resolve.specs.Listing.{Inputs, Record, Request, is_among, is_called, is_missing, item, left, loaded, named, names_by, needed_in, owner_of, places_of, record_after, requests, soname_in, with_missing}
+use Rattle.ldd_resolve.specs.Resolving.{members_of}
+use Rattle.ldd_resolve.specs.declared.kinds.Member.{Member}
 use Rattle.ldd_resolve.specs.Searching.{AreKnown, BeginsHeld}
 
 -- ---- the state of the code and the record
 
 -- The state stands for this record, when the needed names of so many objects were taken from the queue, and these requests of them are
 -- left.
-pub record Stands (r : Record) (s : Loading) (taken : ℕ) (rest : List Request) : Type 0 where
-  pub linked : AreLinked s.links (map (λ o. o.chain) r.objects)
+pub record Stands (env : Env) (r : Record) (s : Loading) (taken : ℕ) (rest : List Request) : Type 0 where
+  pub linked : map (λ reach. Some reach) s.loaders ≡ map (λ o. reach_in env o.chain) r.objects
   pub places : s.places.loaded ≡ places_of r.objects
   pub names : (x : List ℕ) → is_among s.names x ≡ list_any (is_called x) r.objects
   pub missing : (x : List ℕ) → is_among s.missing x ≡ list_any (is_missing x) r.items
   pub items : s.items ≡ r.items
+  pub members : s.members.items ≡ members_of r.objects
+  pub loaded : map (λ o. o.path) (drop 1 r.objects) ≡ filter_map (λ i. i.path) r.items
   pub pending : s.pending.items ≡ map (λ o. o.needed) (drop taken r.objects)
   pub left : left r ≡ rest ++ requests (drop taken r.objects)
 
@@ -36,74 +41,97 @@ pub record IsSound (known : Option Contents) (t : Nodes) (abi : Abi) (s : Loadin
   pub outsider : IfSome s.places.outsider (λ real. is_among s.places.loaded real ≡ true)
   pub distinct : IsDistinct bytes_eq s.places.loaded
   pub nodes : (real : List ℕ) → is_among s.places.loaded real ≡ true → is_some (node_at t real) ≡ true
+  pub members : length s.members.items ≡ length s.places.loaded
 
 -- what is taken into the state is a library and a node of the tree
 abbrev pub IsSoundAnswer : Option Contents → Nodes → Abi → Option Answer → Type 0
 IsSoundAnswer known t abi None = Unit {0}
-IsSoundAnswer known t abi (Some answer.Loaded) = Unit {0}
+IsSoundAnswer known t abi (Some (answer.Loaded i)) = Unit {0}
 IsSoundAnswer known t abi (Some (answer.New f)) = (is_some (node_at t f.real) ≡ true) × IfKnown known (λ held. is_library_at held t abi f.real ≡ true)
 
 -- objects are added, each of which stands in the queue
 pub record Grows (old new : Loading) : Type 0 where
   pub more : ℕ
-  pub links : length new.links ≡ length old.links + more
+  pub loaders : length new.loaders ≡ length old.loaders + more
   pub places : length new.places.loaded ≡ length old.places.loaded + more
   pub pending : length new.pending.items ≡ length old.pending.items + more
 
 -- ---- one request
 
--- an object is added
-pub record AddsObject (old new : Loading) (path real : List ℕ) (d : Option Dynamic) (loader : Option ℕ) : Type 0 where
-  pub links : new.links ≡ old.links ++ record { owner = owner_of path d; loader = loader } ∷ []
-  pub places : new.places ≡ record old.places { loaded = old.places.loaded ++ real ∷ [] }
-  pub names : (x : List ℕ) → is_among new.names x ≡ (is_among old.names x || is_among (soname_in d) x)
-  pub pending : new.pending.items ≡ old.pending.items ++ needed_in d ∷ []
+-- a member is added, with the names that it needs
+pub record AddsMember (old new : Loading) (m : Member) (needed : List (List ℕ)) : Type 0 where
+  pub places : new.places ≡ record old.places { loaded = old.places.loaded ++ m.real ∷ [] }
+  pub names : (x : List ℕ) → is_among new.names x ≡ (is_among old.names x || is_among m.names x)
+  pub members : new.members.items ≡ old.members.items ++ m ∷ []
+  pub pending : new.pending.items ≡ old.pending.items ++ needed ∷ []
   pub missing : new.missing ≡ old.missing
   pub items : new.items ≡ old.items
+  pub loaders : new.loaders ≡ old.loaders
 
--- a library that was found is added, as an item of this name
-pub record AddsFound (old new : Loading) (name : List ℕ) (f : Found) (loader : ℕ) : Type 0 where
-  pub links : new.links ≡ old.links ++ record { owner = owner_of f.path f.object.dynamic; loader = Some loader } ∷ []
+-- a library that was found for the object with this number is added, as an item of this name
+pub record AddsFound (env : Env) (old new : Loading) (name : List ℕ) (f : Found) (loader : ℕ) : Type 0 where
+  pub loaders : new.loaders ≡ old.loaders ++ reach_over env (owner_of f.path f.object.dynamic) (reach_at old.loaders loader) ∷ []
   pub places : new.places ≡ record old.places { loaded = old.places.loaded ++ f.real ∷ [] }
-  pub names : (x : List ℕ) → is_among new.names x ≡ (is_among old.names x || is_among (soname_in f.object.dynamic ++ name ∷ []) x)
+  pub names : (x : List ℕ) → is_among new.names x ≡ (is_among old.names x || is_among (names_by (soname_in f.object.dynamic) (Some name)) x)
+  pub members : new.members.items ≡ old.members.items ++ record { path = f.path; real = f.real; names = names_by (soname_in f.object.dynamic) (Some name) } ∷ []
   pub pending : new.pending.items ≡ old.pending.items ++ needed_in f.object.dynamic ∷ []
   pub missing : new.missing ≡ old.missing
-  pub items : new.items ≡ old.items ++ item name (Some f.path) ∷ []
+  pub listed : new.items ≡ old.items ++ item name (Some f.path) ∷ []
+
+-- a name more, behind the others
+abbrev pub with_last_name : Member → List ℕ → Member
+with_last_name m name = record m { names = m.names ++ name ∷ [] }
+
+-- the member with this index has one name more
+abbrev pub IsNamedAt : List Member → List Member → ℕ → List ℕ → Type 0
+IsNamedAt before after i name = (d : Member) → after ≡ slice_set before i (with_last_name (slice_index_or before i d) name)
+
+-- the object with this number is known by one name more
+pub record AddsName (old new : Loading) (name : List ℕ) (number : ℕ) : Type 0 where
+  pub names : (x : List ℕ) → is_among new.names x ≡ (is_among old.names x || bytes_eq x name)
+  pub members : IsNamedAt old.members.items new.members.items number name
+  pub loaders : new.loaders ≡ old.loaders
+  pub places : new.places ≡ old.places
+  pub missing : new.missing ≡ old.missing
+  pub items : new.items ≡ old.items
+  pub pending : new.pending.items ≡ old.pending.items
 
 -- a name that isn't found is added
 pub record AddsMissing (old new : Loading) (name : List ℕ) : Type 0 where
   pub missing : (x : List ℕ) → is_among new.missing x ≡ (is_among old.missing x || bytes_eq x name)
   pub items : new.items ≡ (if is_among old.missing name then old.items else old.items ++ item name None ∷ [])
-  pub links : new.links ≡ old.links
+  pub loaders : new.loaders ≡ old.loaders
   pub places : new.places ≡ old.places
   pub names : new.names ≡ old.names
+  pub members : new.members.items ≡ old.members.items
   pub pending : new.pending.items ≡ old.pending.items
 
--- the record when a request has this answer
-pub record IsFoundIn (r : Record) (q : Request) (r2 : Record) : Type 0 where
-  pub real : List ℕ
-  pub there : is_among (places_of r.objects) real ≡ true
-  pub objects : r2.objects ≡ map (named real q.name) r.objects
+-- the record when the object with this number is the answer of a request
+pub record IsFoundIn (r : Record) (q : Request) (number : ℕ) (r2 : Record) : Type 0 where
+  pub within : number < length (places_of r.objects)
+  pub objects : r2.objects ≡ map (named (slice_index_or (places_of r.objects) number []) q.name) r.objects
   pub items : r2.items ≡ r.items
+
+-- the record when a request has this answer
 
 abbrev pub HasOutcome : Record → Request → Option Answer → Record → Type 0
 HasOutcome r q None r2 = (r2.objects ≡ r.objects) × (r2.items ≡ with_missing q.name r.items)
-HasOutcome r q (Some answer.Loaded) r2 = IsFoundIn r q r2
+HasOutcome r q (Some (answer.Loaded i)) r2 = IsFoundIn r q i r2
 HasOutcome r q (Some (answer.New f)) r2 =
-    (r2.objects ≡ r.objects ++ loaded f.path f.real f.object.dynamic (q.name ∷ []) q.chain ∷ [])
+    (r2.objects ≡ r.objects ++ loaded f.path f.real f.object.dynamic (Some q.name) q.chain ∷ [])
     × (r2.items ≡ r.items ++ item q.name (Some f.path) ∷ [])
 
 -- The state that stands for a record goes on to stand for the next one, which has this answer of a request more, by the object with this
 -- number for this name.
-abbrev pub TakesAnswer : Loading → Loading → List ℕ → Option Answer → ℕ → Type 0
-TakesAnswer old new name answer loader =
-    (r r2 : Record) (q : Request) (rest : List Request) → Stands r old (suc loader) (q ∷ rest) → HasOutcome r q answer r2
-    → r2.answered ≡ suc r.answered → q.name ≡ name → q.chain ≡ behind (map (λ o. o.chain) r.objects) (Some loader) → Stands r2 new (suc loader) rest
+abbrev pub TakesAnswer : Env → Loading → Loading → List ℕ → Option Answer → ℕ → Type 0
+TakesAnswer env old new name answer loader =
+    (r r2 : Record) (q : Request) (rest : List Request) → Stands env r old (suc loader) (q ∷ rest) → HasOutcome r q answer r2
+    → r2.answered ≡ suc r.answered → q.name ≡ name → q.chain ≡ behind (map (λ o. o.chain) r.objects) (Some loader) → Stands env r2 new (suc loader) rest
 
 -- ---- how far a listing has come
 
 -- from this record, by so many requests, with these keys begun; the fact holds of the record then
-pub record GoesBy (w : Scope) (start : Record) (ending : Ending) (P : Record → Type 0) (old new : StoreState) : Type 0 where
+pub record GoesBy (w : Inputs) (start : Record) (ending : Ending) (P : Record → Type 0) (old new : StoreState) : Type 0 where
   pub requests : ℕ
   pub keys : List (List ℕ)
   pub begun : (record_after w start requests).keys ≡ start.keys ++ keys
@@ -116,6 +144,6 @@ pub record Goes (start : Record) (ending : Ending) (P : Record → Type 0) (old 
   pub some : Record
   pub holds : P some
 
-abbrev pub Advances : Option Contents → (Contents → Scope) → Record → Ending → (Record → Type 0) → StoreState → StoreState → Type 0
-Advances None scope start ending P old new = Goes start ending P old new
-Advances (Some held) scope start ending P old new = GoesBy (scope held) start ending P old new
+abbrev pub Advances : Option Contents → (Contents → Inputs) → Record → Ending → (Record → Type 0) → StoreState → StoreState → Type 0
+Advances None inputs start ending P old new = Goes start ending P old new
+Advances (Some held) inputs start ending P old new = GoesBy (inputs held) start ending P old new

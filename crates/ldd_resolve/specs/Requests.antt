@@ -1,5 +1,6 @@
 -- How the code answers the requests of a listing.
-use Rattle.std.specs.Prelude.{◌≡◌, ℕ, ◌+◌, suc, List, [], ◌∷◌, length, map, if◌then◌else◌, true, Option, Some, None, is_some, Result, Ok, IfOk}
+use Rattle.std.specs.Prelude.{◌≡◌, ℕ, ◌+◌, suc, List, [], ◌∷◌, drop, length, map, if◌then◌else◌, true, Option, Some, None, is_some, Result, Ok, IfOk}
+use Rattle.std.specs.List.{filter_map}
 use Rattle.std.specs.Option.{option_copied}
 use Rattle.tree_face.specs.Known.{IfKnown}
 use Rattle.tree_face.specs.Store.{Contents, StoreState}
@@ -7,30 +8,37 @@ use Rattle.tree_face.specs.StoreUse.{Ending}
 use Rattle.image_tree.specs.Tree.{Nodes, node_at}
 use Rattle.cache_reader.specs.Cache.{CachedEntry}
 use Rattle.rpath_search.specs.Faults.{search_ending}
-use Rattle.rpath_search.specs.Places.{paths}
+use Rattle.rpath_search.specs.Candidates.{all_paths}
+use Rattle.rpath_search.specs.Places.{Reach, paths}
 use Rattle.rpath_search.specs.Search.{first_good, is_library}
 use Rattle.rpath_search.specs.declared.fault.SearchFault.{SearchFault}
 use Rattle.rpath_search.specs.declared.kinds.Env.{Env}
 use Rattle.rpath_search.specs.declared.kinds.Found.{Found}
 use Rattle.rpath_search.specs.declared.kinds.Owner.{Owner}
 use Rattle.ldd_resolve.specs.declared.kinds.Item.{Item}
+use Rattle.ldd_resolve.specs.declared.kinds.Member.{Member}
+use Rattle.ldd_resolve.specs.declared.kinds.Scope.{Scope}
 use Rattle.ldd_resolve.specs.declared.loading.Loading.{Loading}
 use Rattle.ldd_resolve.specs.declared.requests.Given.{Given}
 use Rattle.ldd_resolve.specs.declared.search.Answer.{Answer}
 use Rattle.ldd_resolve.specs.declared.search.Places.{Places}
 use Rattle.ldd_resolve.specs.Links.{behind}
-use Rattle.ldd_resolve.specs.Listing.{Record, Request, Scope, keys_searched, left, loaded}
+use Rattle.ldd_resolve.specs.Listing.{Inputs, Record, Request, keys_searched, left, loaded}
 use Rattle.ldd_resolve.specs.Loading.{Advances, IsSound, Stands}
-use Rattle.ldd_resolve.specs.Resolving.{IfComplete, cached_in, object_at, scope_of, with_abi}
+use Rattle.ldd_resolve.specs.Resolving.{IfComplete, cached_in, inputs_of, members_of, object_at, with_abi}
 use Rattle.ldd_resolve.specs.Searching.{AreKnown, Begins, Finds}
 
 -- ---- what the searches are given
 
-abbrev pub scope_by : Given → Contents → Scope
-scope_by g held = scope_of g.tree.now (option_copied g.cache) g.env.now held
+abbrev pub inputs_by : Given → Contents → Inputs
+inputs_by g held = inputs_of g.tree.now (option_copied g.cache) g.env.now held
 
 abbrev pub paths_by : Given → List ℕ → List Owner → List (List ℕ)
 paths_by g name chain = paths name chain g.env.now (cached_in (option_copied g.cache) g.env.now name)
+
+-- the same for an object whose requests are searched there
+abbrev pub paths_at : Given → List ℕ → Reach → List (List ℕ)
+paths_at g name reach = all_paths name g.env.now.caps reach (cached_in (option_copied g.cache) g.env.now name)
 
 -- what is known of the loaded files
 abbrev pub AreKnownBy : Option Contents → Given → Places → Type 0
@@ -51,56 +59,58 @@ abbrev pub requests_by : List Owner → List (List ℕ) → List Request
 requests_by chain names = map (λ name. record { name = name; chain = chain }) names
 
 -- the object with this number and chain is the one whose requests are answered; those of these names are left
-pub record IsAt (r : Record) (s : Loading) (number : ℕ) (chain : List Owner) (names : List (List ℕ)) : Type 0 where
-  pub stands : Stands r s (suc number) (requests_by chain names)
+pub record IsAt (env : Env) (r : Record) (s : Loading) (number : ℕ) (chain : List Owner) (names : List (List ℕ)) : Type 0 where
+  pub stands : Stands env r s (suc number) (requests_by chain names)
   pub chain_is : behind (map (λ o. o.chain) r.objects) (Some number) ≡ chain
 
 -- By a call the state comes to stand for a record in which the requests of fewer names are left.
 abbrev pub Answers : Option Contents → Given → ℕ → List Owner → List (List ℕ) → List (List ℕ) → Ending → Loading → Loading → StoreState → StoreState → Type 0
 Answers known g number chain names rest ending s s2 old new =
-    (r : Record) → IsAt r s number chain names → Advances known (scope_by g) r ending (λ r2. IfComplete ending (IsAt r2 s2 number chain rest)) old new
+    (r : Record) → IsAt g.env.now r s number chain names → Advances known (inputs_by g) r ending (λ r2. IfComplete ending (IsAt g.env.now r2 s2 number chain rest)) old new
 
 -- ---- the requests of all objects
 
 -- By a call the state that stands for a record with the requests of these objects left comes to stand for another one.
 abbrev pub AnswersObjects : Option Contents → Given → ℕ → ℕ → Ending → Loading → Loading → StoreState → StoreState → Type 0
 AnswersObjects known g number next ending s s2 old new =
-    (r : Record) → Stands r s number [] → Advances known (scope_by g) r ending (λ r2. IfComplete ending (Stands r2 s2 next [])) old new
+    (r : Record) → Stands g.env.now r s number [] → Advances known (inputs_by g) r ending (λ r2. IfComplete ending (Stands g.env.now r2 s2 next [])) old new
 
--- no request of the record is left, and these are its items
-pub record IsListed (r : Record) (items : List Item) : Type 0 where
+-- no request of the record is left, and these are its members and items
+pub record IsListed (r : Record) (ms : List Member) (items : List Item) : Type 0 where
   pub all : left r ≡ []
+  pub members : ms ≡ members_of r.objects
   pub listed : items ≡ r.items
+  pub loaded : map (λ m. m.path) (drop 1 ms) ≡ filter_map (λ i. i.path) items
 
 abbrev pub AnswersAll : Option Contents → Given → Ending → Loading → Loading → StoreState → StoreState → Type 0
 AnswersAll known g ending s s2 old new =
-    (r : Record) → Stands r s 0 [] → Advances known (scope_by g) r ending (λ r2. IfComplete ending (IsListed r2 s2.items)) old new
+    (r : Record) → Stands g.env.now r s 0 [] → Advances known (inputs_by g) r ending (λ r2. IfComplete ending (IsListed r2 s2.members.items s2.items)) old new
 
 -- ---- how the state grows
 
 -- the objects are as many as the files; those whose needed names were taken from the queue are so many
 pub record IsEven (s : Loading) (taken : ℕ) : Type 0 where
-  pub places : length s.links ≡ length s.places.loaded
-  pub pending : taken + length s.pending.items ≡ length s.links
+  pub places : length s.loaders ≡ length s.places.loaded
+  pub pending : taken + length s.pending.items ≡ length s.loaders
 
 -- ---- the program
 
 -- the record of a program alone
 abbrev pub record_with : Found → List (List ℕ) → Record
-record_with p keys = record { objects = loaded p.path p.real p.object.dynamic [] [] ∷ []; answered = 0; items = []; keys = keys }
+record_with p keys = record { objects = loaded p.path p.real p.object.dynamic None [] ∷ []; answered = 0; items = []; keys = keys }
 
 -- the program's file, if that is no library
 abbrev pub outsider_of : Found → Option (List ℕ)
 outsider_of p = if is_library p.object.abi p.object then None else Some p.real
 
-abbrev pub StandsFirst : Found → Loading → Type 0
-StandsFirst p s = (keys : List (List ℕ)) → Stands (record_with p keys) s 0 []
+abbrev pub StandsFirst : Env → Found → Loading → Type 0
+StandsFirst env p s = (keys : List (List ℕ)) → Stands env (record_with p keys) s 0 []
 
 abbrev pub StartsSound : Found → Loading → Type 0
 StartsSound p s = (known : Option Contents) (t : Nodes) → is_some (node_at t p.real) ≡ true
     → IfKnown known (λ held. object_at held t p.real ≡ Some (Ok p.object)) → IsSound known t p.object.abi s
 
--- By a call the record of a program alone comes to one in which no request is left, whose items are returned.
-abbrev pub Lists : Option Contents → Nodes → Option (List CachedEntry) → Env → Found → Result (List Item) SearchFault → StoreState → StoreState → Type 0
+-- By a call the record of a program alone comes to one in which no request is left, whose members and items are returned.
+abbrev pub Lists : Option Contents → Nodes → Option (List CachedEntry) → Env → Found → Result Scope SearchFault → StoreState → StoreState → Type 0
 Lists known t cache env p result old new = (keys : List (List ℕ))
-    → Advances known (scope_of t cache (with_abi env p.object.abi)) (record_with p keys) (search_ending result) (λ r2. IfOk result (IsListed r2)) old new
+    → Advances known (inputs_of t cache (with_abi env p.object.abi)) (record_with p keys) (search_ending result) (λ r2. IfOk result (λ s. IsListed r2 s.members s.listing)) old new

@@ -1,14 +1,16 @@
 -- What is listed of a program, and which keys are begun for it (ldd(1), ld.so(8)).
-use Rattle.std.specs.Prelude.{◌≡◌, ◌⊎◌, ℕ, List, [], ◌∷◌, Option, Some, None, option_map, option_and_then, Result, Ok, Err}
+use Rattle.std.specs.Prelude.{◌≡◌, ◌⊎◌, ◌++◌, ℕ, false, List, [], ◌∷◌, drop, map, Option, Some, None, option_map, option_and_then, Result, Ok, Err}
+use Rattle.std.specs.List.{filter_map}
 use Rattle.lib_types.specs.declared.abi.Abi.{Abi}
 use Rattle.lib_types.specs.declared.analysis.Defect.{Defect}
 use Rattle.tree_face.specs.StoreUse.{Ending, Complete, DeviceFailed, GaveUp, ReadsFiles}
+use Rattle.tree_face.specs.Known.{Relates}
 use Rattle.tree_face.specs.Store.{Contents, StoreState}
 use Rattle.image_tree.specs.Tree.{Nodes, node_at}
 use Rattle.path_walk.specs.Files.{file_at}
 use Rattle.cache_reader.specs.Cache.{CachedEntry}
 use Rattle.cache_lookup.specs.Scan.{scan}
-use Rattle.elf_dynamic.specs.Begun.{ReadsBy, file_keys, key_in}
+use Rattle.elf_dynamic.specs.Begun.{ReadsBy, file_keys, key_in, lacks_one}
 use Rattle.elf_dynamic.specs.Object.{object}
 use Rattle.elf_dynamic.specs.declared.kinds.Object.{Object}
 use Rattle.rpath_search.specs.Places.{from_root}
@@ -16,7 +18,9 @@ use Rattle.rpath_search.specs.declared.kinds.Env.{Env}
 use Rattle.ldd_resolve.specs.declared.kinds.Item.{Item}
 use Rattle.ldd_resolve.specs.declared.kinds.ResolveFault.{ResolveFault}
 use Rattle.ldd_resolve.specs.declared.kinds.ResolveFault.TheVariants.{NoProgram, BadProgram, StoreFault, NoMemory}
-use Rattle.ldd_resolve.specs.Listing.{Record, Scope, left, loaded, record_after}
+use Rattle.ldd_resolve.specs.declared.kinds.Member.{Member}
+use Rattle.ldd_resolve.specs.declared.kinds.Scope.{Scope}
+use Rattle.ldd_resolve.specs.Listing.{Inputs, Loaded, Record, left, loaded, record_after}
 
 -- ---- the program
 
@@ -43,27 +47,52 @@ cached_in cache env name = option_and_then (λ entries. scan entries name env.ab
 abbrev pub with_abi : Env → Abi → Env
 with_abi env abi = record env { abi = abi }
 
-abbrev pub scope_of : Nodes → Option (List CachedEntry) → Env → Contents → Scope
-scope_of t cache env held = record { held = held; nodes = t; cached = cached_in cache env; env = env }
+abbrev pub inputs_of : Nodes → Option (List CachedEntry) → Env → Contents → Inputs
+inputs_of t cache env held = record { held = held; nodes = t; cached = cached_in cache env; env = env }
 
 -- the program alone, with its key begun
 abbrev pub first_record : Nodes → List ℕ → List ℕ → Object → Record
 first_record t word real o =
-    record { objects = loaded (from_root word) real o.dynamic [] [] ∷ []; answered = 0; items = []; keys = file_keys t (real ∷ []) }
+    record { objects = loaded (from_root word) real o.dynamic None [] ∷ []; answered = 0; items = []; keys = file_keys t (real ∷ []) }
 
 -- the record of a program, when so many requests were answered; the ABI is the program's
 abbrev pub record_of : Nodes → Option (List CachedEntry) → List ℕ → Env → Contents → List ℕ → Object → ℕ → Record
-record_of t cache word env held real o n = record_after (scope_of t cache (with_abi env o.abi) held) (first_record t word real o) n
+record_of t cache word env held real o n = record_after (inputs_of t cache (with_abi env o.abi) held) (first_record t word real o) n
 
--- The items are the listing: those of a record that has no request left.
-pub record IsListing (t : Nodes) (cache : Option (List CachedEntry)) (word : List ℕ) (env : Env) (held : Contents) (items : List Item) : Type 0 where
+-- The program's file is held and has an object, and the fact holds of its record when no request is left.
+pub record EndsIn (t : Nodes) (cache : Option (List CachedEntry)) (word : List ℕ) (env : Env) (held : Contents) (P : Record → Type 0) : Type 0 where
   pub real : List ℕ
   pub file : program_at t word ≡ Some real
   pub object : Object
   pub says : object_at held t real ≡ Some (Ok object)
   pub requests : ℕ
   pub all : left (record_of t cache word env held real object requests) ≡ []
-  pub listed : items ≡ (record_of t cache word env held real object requests).items
+  pub holds : P (record_of t cache word env held real object requests)
+
+-- the items are the listing
+abbrev pub IsListing : Nodes → Option (List CachedEntry) → List ℕ → Env → Contents → List Item → Type 0
+IsListing t cache word env held items = EndsIn t cache word env held (λ r. items ≡ r.items)
+
+-- ---- the scope
+
+abbrev pub member_of : Loaded → Member
+member_of o = record { path = o.path; real = o.real; names = o.names }
+
+-- in load order: the index of a member is the number of its object
+abbrev pub members_of : List Loaded → List Member
+members_of objects = map member_of objects
+
+-- what the program loads by this record, and what it doesn't find
+pub record IsScopeOf (scope : Scope) (r : Record) : Type 0 where
+  pub members : scope.members ≡ members_of r.objects
+  pub listing : scope.listing ≡ r.items
+
+abbrev pub IsScope : Nodes → Option (List CachedEntry) → List ℕ → Env → Contents → Scope → Type 0
+IsScope t cache word env held scope = EndsIn t cache word env held (IsScopeOf scope)
+
+-- the members behind the program are those that the items with a path have loaded, in their order
+abbrev pub AreLoaded : Scope → Type 0
+AreLoaded scope = map (λ m. m.path) (drop 1 scope.members) ≡ filter_map (λ i. i.path) scope.listing
 
 -- ---- the keys that are begun
 
@@ -93,6 +122,13 @@ BeginsFor t cache word env held (Some real) ending old new =
 abbrev pub ReadsListing : Option Contents → Nodes → Option (List CachedEntry) → List ℕ → Env → Ending → StoreState → StoreState → Type 0
 ReadsListing None t cache word env ending old new = ReadsFiles ⊥ None None ending old new
 ReadsListing (Some held) t cache word env ending old new = BeginsFor t cache word env held (program_at t word) ending old new
+
+-- each key that was begun in between is held
+abbrev pub AreAllHeld : Contents → List (List ℕ) → List (List ℕ) → Type 0
+AreAllHeld held before after = (keys : List (List ℕ)) × ((after ≡ before ++ keys) × (lacks_one held keys ≡ false))
+
+abbrev pub BeginsNoneLacking : Contents → StoreState → StoreState → Type 0
+BeginsNoneLacking held old new = Relates (AreAllHeld held) old.keys new.keys
 
 -- ---- how a call ends
 

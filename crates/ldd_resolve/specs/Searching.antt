@@ -1,5 +1,5 @@
 -- How the code searches a name: a path that leads to a file which is loaded already needs no reading.
-use Rattle.std.specs.Prelude.{◌≡◌, ℕ, ◌++◌, Bool, true, false, not, List, [], ◌∷◌, filter, Option, Some, None, is_some}
+use Rattle.std.specs.Prelude.{◌≡◌, ◌<◌, ℕ, ◌++◌, Bool, true, false, not, List, [], ◌∷◌, filter, length, slice_index_or, Option, Some, None, is_some}
 use Rattle.std.specs.Option.{option_map_or}
 use Rattle.std.specs.Str.{bytes_eq}
 use Rattle.lib_types.specs.declared.abi.Abi.{Abi}
@@ -38,25 +38,20 @@ pub record IsNewAt (t : Nodes) (places : List (List ℕ)) (f : Found) : Type 0 w
   pub node : is_some (node_at t f.real) ≡ true
 
 -- what is found is a file that is loaded, or a new one
-pub record IsThere (places : List (List ℕ)) : Type 0 where
-  pub real : List ℕ
-  pub there : is_among places real ≡ true
-
 abbrev pub IsNew : Nodes → List (List ℕ) → Option Answer → Type 0
 IsNew t places None = Unit {0}
-IsNew t places (Some answer.Loaded) = IsThere places
+IsNew t places (Some (answer.Loaded i)) = i < length places
 IsNew t places (Some (answer.New f)) = IsNewAt t places f
 
 abbrev pub IsUnloaded : List (List ℕ) → Option Answer → Type 0
 IsUnloaded places None = Unit {0}
-IsUnloaded places (Some answer.Loaded) = Unit {0}
+IsUnloaded places (Some (answer.Loaded i)) = i < length places
 IsUnloaded places (Some (answer.New f)) = is_among places f.real ≡ false
 
--- the path leads to a file that is loaded
-pub record IsLoadedAt (t : Nodes) (places : List (List ℕ)) (path : List ℕ) : Type 0 where
-  pub real : List ℕ
-  pub leads : file_at t path ≡ Some real
-  pub there : is_among places real ≡ true
+-- the path leads to the file with this number, which is loaded
+pub record IsLoadedAt (t : Nodes) (places : List (List ℕ)) (path : List ℕ) (number : ℕ) : Type 0 where
+  pub leads : file_at t path ≡ Some (slice_index_or places number [])
+  pub within : number < length places
 
 -- the path leads to a new library
 pub record IsLibraryAt (held : Contents) (t : Nodes) (abi : Abi) (path : List ℕ) (f : Found) : Type 0 where
@@ -65,7 +60,7 @@ pub record IsLibraryAt (held : Contents) (t : Nodes) (abi : Abi) (path : List �
 
 -- what is found at a good path
 abbrev pub IsAnswer : Contents → Nodes → Abi → List (List ℕ) → List ℕ → Answer → Type 0
-IsAnswer held t abi places path answer.Loaded = IsLoadedAt t places path
+IsAnswer held t abi places path (answer.Loaded i) = IsLoadedAt t places path i
 IsAnswer held t abi places path (answer.New f) = IsLibraryAt held t abi path f
 
 -- whether the path is good, and what is found there

@@ -2,13 +2,13 @@
 #![tactic(auto)]
 
 mod kinds;
-mod links;
 mod loading;
+mod names;
 mod printing;
 mod requests;
 mod resolving;
 mod search;
 
-pub use kinds::{Item, Listing, ResolveFault};
+pub use kinds::{Item, Listing, Member, Members, ResolveFault, Scope};
 pub use printing::listing_text;
-pub use resolving::resolve;
+pub use resolving::{resolve, scope};

@@ -1,18 +1,22 @@
 //! A listing that is made, request by request.
-ghost use Rattle.std.specs.Prelude.{◌≡◌, ◌<◌, ◌||◌, [], ℕ, Option, Some, None, List, false, length, option_to_list, IfOk, IfSome, OnOk};
+ghost use Rattle.std.specs.Prelude.{◌≡◌, ◌<◌, [], Option, false, length, option_to_list, IfOk, IfSome, OnOk};
+ghost use Rattle.std.specs.List.{IsDistinct};
+ghost use Rattle.std.specs.Option.{option_copied};
+ghost use Rattle.std.specs.Str.{bytes_eq};
 ghost use Rattle.lib_types.specs.declared.abi.Abi.{Abi};
 ghost use Rattle.tree_face.specs.Store.{Contents};
 ghost use Rattle.image_tree.specs.Tree.{Nodes};
 ghost use Rattle.ldd_resolve.specs.Listing.{is_among, needed_in, owner_of, soname_in};
-ghost use Rattle.ldd_resolve.specs.Loading.{AddsFound, AddsMissing, AddsObject, Grows, IsSound, IsSoundAnswer, TakesAnswer};
+ghost use Rattle.ldd_resolve.specs.Loading.{AddsFound, AddsMember, AddsMissing, AddsName, Grows, IsSound, IsSoundAnswer, TakesAnswer};
+ghost use Rattle.ldd_resolve.specs.Requests.{IsEven, StandsFirst, StartsSound, outsider_of};
 ghost use Rattle.ldd_resolve.specs.Searching.{IsUnloaded};
 
-use crate::kinds::{Item, Listing};
-use crate::links::{Link, Links};
+use crate::kinds::{Item, Listing, Member};
+use crate::names::{add_name_at, add_names, names_by};
 use crate::search::{Answer, Places};
 use elf_dynamic::kinds::Dynamic;
 use lib_types::{NoMemory, Text, Texts};
-use rpath_search::{Found, Owner, folder_of};
+use rpath_search::{Env, Found, Loaders, Owner, folder_of, is_library};
 use std::alloc::Global;
 use std::collections::VecDeque;
 use text_set::TextSet;
@@ -20,12 +24,14 @@ use text_set::TextSet;
 /// What was loaded and listed so far.
 #[derive(Drop)]
 pub(crate) struct Loading {
-    pub links: Links,
+    pub loaders: Loaders,
     pub places: Places,
     /// The names by which objects are known.
     pub names: TextSet,
     /// The names that weren't found.
     pub missing: TextSet,
+    /// By their numbers.
+    pub members: Vec<Member>,
     pub items: Listing,
     /// The needed names of the objects whose requests aren't answered yet.
     pub pending: VecDeque<Texts>,
@@ -69,62 +75,71 @@ fn parts_of(alloc: Global, path: &[u8], dynamic: Option<Dynamic>) -> Result<Part
     }
 }
 
-// Adds a name, if there is one.
-#[tactic(auto, using(crate::proofs::Standing::among_inserted))]
-fn add_name(names: &mut TextSet, name: Option<Text>) -> Result<(), NoMemory>
-    ensures { OnOk result ((x : List ℕ) → is_among names.new x ≡ (is_among names.old x || is_among (option_to_list name) x)) }
+// The program's file, if that is no library.
+fn outsider_of(alloc: Global, program: &Found) -> Result<Option<Text>, NoMemory>
+    ensures { IfOk result (λ o. o ≡ outsider_of program.now) }
 {
-    match name {
-        Some(name) => names.insert(name),
-        None => Ok(()),
+    if is_library(program.object.abi, &program.object) {
+        return Ok(None);
     }
+    Ok(Some(Text::copy_of(alloc, program.real.as_bytes())?))
 }
 
 impl Loading {
-    /// Nothing so far.
-    pub(crate) fn new(alloc: Global, outsider: Option<Text>) -> Loading
-        ensures links { result.links ≡ [] }
+    // No object so far, but for where the requests of the program are searched.
+    fn empty(alloc: Global, loaders: Loaders, outsider: Option<Text>) -> Loading
+        ensures loaders { result.loaders ≡ loaders }
         ensures places { result.places.loaded ≡ [] }
         ensures outsider { result.places.outsider ≡ outsider }
         ensures names { result.names ≡ [] }
         ensures missing { result.missing ≡ [] }
+        ensures members { result.members.items ≡ [] }
         ensures items { result.items ≡ [] }
         ensures pending { result.pending.items ≡ [] }
     {
         Loading {
-            links: Links::new(alloc),
+            loaders,
             places: Places {
                 loaded: TextSet::new(alloc),
                 outsider,
             },
             names: TextSet::new(alloc),
             missing: TextSet::new(alloc),
+            members: Vec::new(alloc),
             items: Listing::new(alloc),
             pending: VecDeque::new(alloc),
         }
     }
 
-    /// Adds an object, which was found by this path for one with this number.
-    pub(crate) fn add_object(
-        &mut self,
-        alloc: Global,
-        path: &[u8],
-        real: Text,
-        dynamic: Option<Dynamic>,
-        loader: Option<usize>,
-    ) -> Result<(), NoMemory>
-        requires loader { IfSome loader (λ j. j < length self.old.links) }
-        requires new { is_among self.old.places.loaded real ≡ false }
-        ensures { OnOk result (AddsObject self.old self.new path.now real dynamic loader) }
+    /// The program alone.
+    pub(crate) fn new(alloc: Global, env: &Env, program: Found) -> Result<Loading, NoMemory>
+        ensures stands { IfOk result (StandsFirst env.now program) }
+        ensures sound { IfOk result (StartsSound program) }
+        ensures even { IfOk result (λ loading. IsEven loading 0) }
     {
+        let outsider = outsider_of(alloc, &program)?;
+        let Found { path, real, object } = program;
         let Parts {
             owner,
             soname,
             needed,
-        } = parts_of(alloc, path, dynamic)?;
-        self.links.add(Link { owner, loader })?;
+        } = parts_of(alloc, path.as_bytes(), object.dynamic)?;
+        let names = names_by(alloc, soname, None)?;
+        let loaders = Loaders::new(alloc, env, &owner)?;
+        let mut loading = Loading::empty(alloc, loaders, outsider);
+        loading.add_member(alloc, Member { path, real, names }, needed)?;
+        Ok(loading)
+    }
+
+    // Adds a member that needs these names.
+    fn add_member(&mut self, alloc: Global, member: Member, needed: Texts) -> Result<(), NoMemory>
+        requires { is_among self.old.places.loaded member.real ≡ false }
+        ensures { OnOk result (AddsMember self.old self.new member needed) }
+    {
+        let real = Text::copy_of(alloc, member.real.as_bytes())?;
         self.places.loaded.insert(real)?;
-        add_name(&mut self.names, soname)?;
+        add_names(alloc, &mut self.names, &member.names)?;
+        self.members.push(member)?;
         self.pending.push_back(needed)?;
         Ok(())
     }
@@ -133,21 +148,38 @@ impl Loading {
     fn add_found(
         &mut self,
         alloc: Global,
+        env: &Env,
         name: Text,
         found: Found,
         loader: usize,
     ) -> Result<(), NoMemory>
-        requires loader { loader < length self.old.links }
+        requires loader { loader < length self.old.loaders }
         requires new { is_among self.old.places.loaded found.real ≡ false }
-        ensures { OnOk result (AddsFound self.old self.new name found loader) }
+        ensures { OnOk result (AddsFound env.now self.old self.new name found loader) }
     {
         let Found { path, real, object } = found;
-        self.add_object(alloc, path.as_bytes(), real, object.dynamic, Some(loader))?;
-        self.names.insert(Text::copy_of(alloc, name.as_bytes())?)?;
+        let Parts {
+            owner,
+            soname,
+            needed,
+        } = parts_of(alloc, path.as_bytes(), object.dynamic)?;
+        self.loaders.add(alloc, env, &owner, loader)?;
+        let names = names_by(alloc, soname, Some(name.as_bytes()))?;
+        let listed = Text::copy_of(alloc, path.as_bytes())?;
+        self.add_member(alloc, Member { path, real, names }, needed)?;
         self.items.push(Item {
             name,
-            path: Some(path),
+            path: Some(listed),
         })
+    }
+
+    // The object with this number is known by one name more.
+    fn add_name(&mut self, alloc: Global, name: Text, number: usize) -> Result<(), NoMemory>
+        requires { number < length self.old.members.items }
+        ensures { OnOk result (AddsName self.old self.new name number) }
+    {
+        self.names.insert(Text::copy_of(alloc, name.as_bytes())?)?;
+        add_name_at(&mut self.members, number, name)
     }
 
     // Adds a name that isn't found, unless it is an item already.
@@ -165,20 +197,24 @@ impl Loading {
     pub(crate) fn take_answer(
         &mut self,
         alloc: Global,
+        env: &Env,
         name: Text,
         answer: Option<Answer>,
         loader: usize,
     ) -> Result<(), NoMemory>
-        requires loader { loader < length self.old.links }
+        requires loader { loader < length self.old.loaders }
         requires new { IsUnloaded self.old.places.loaded answer }
-        ensures stands { OnOk result (TakesAnswer self.old self.new name answer loader) }
+        requires unknown { is_among self.old.names name ≡ false }
+        requires members { length self.old.members.items ≡ length self.old.places.loaded }
+        requires distinct { IsDistinct bytes_eq self.old.places.loaded }
+        ensures stands { OnOk result (TakesAnswer env.now self.old self.new name answer loader) }
         ensures sound { (known : Option Contents) (t : Nodes) (abi : Abi) → IsSound known t abi self.old → IsSoundAnswer known t abi answer
             → OnOk result (IsSound known t abi self.new) }
         ensures grows { OnOk result (Grows self.old self.new) }
     {
         match answer {
-            Some(Answer::Loaded) => self.names.insert(name),
-            Some(Answer::New(found)) => self.add_found(alloc, name, found, loader),
+            Some(Answer::Loaded(number)) => self.add_name(alloc, name, number),
+            Some(Answer::New(found)) => self.add_found(alloc, env, name, found, loader),
             None => self.add_missing(alloc, name),
         }
     }

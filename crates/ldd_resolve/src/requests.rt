@@ -3,16 +3,17 @@ ghost use Rattle.std.specs.Prelude.{◌≡◌, ◌<◌, ◌∷◌, [], ℕ, List
 ghost use Rattle.rpath_search.specs.declared.kinds.Owner.{Owner};
 ghost use Rattle.std.specs.Option.{option_copied};
 ghost use Rattle.rpath_search.specs.Faults.{search_ending};
+ghost use Rattle.rpath_search.specs.Loaders.{reach_at};
 ghost use Rattle.ldd_resolve.specs.Loading.{Grows, IsSound};
-ghost use Rattle.ldd_resolve.specs.Requests.{Answers, AnswersAll, AreKnownBy, BeginsPaths, FindsBy, IsEven, paths_by};
+ghost use Rattle.ldd_resolve.specs.Requests.{Answers, AnswersAll, AreKnownBy, BeginsPaths, FindsBy, IsEven, paths_at};
 ghost use Rattle.ldd_resolve.specs.Resolving.{cached_in};
 ghost use Rattle.ldd_resolve.specs.Searching.{IsNew};
 
 use crate::loading::Loading;
-use crate::search::{Answer, Places, search};
+use crate::search::{Answer, search};
 use cache_lookup::{Counted, Sorted, lookup};
 use lib_types::{Text, Texts};
-use rpath_search::{Chain, Env, SearchFault, places};
+use rpath_search::{Candidates, Env, SearchFault};
 use std::alloc::Global;
 use tree_face::{Store, Tree};
 
@@ -35,24 +36,39 @@ fn cached_path<'a>(cache: Option<&Sorted<'a>>, name: &[u8], env: &Env) -> Option
     cache.path(index)
 }
 
-// What is found for a name that the first object of a chain needs.
+// What is found for a name that the object with this number needs.
 fn search_name<S: Store>(
     alloc: Global,
     given: &Given<'_, '_>,
     store: &mut S,
-    loaded: &Places,
-    chain: &Chain,
+    loading: &Loading,
+    number: usize,
     name: &[u8],
 ) -> Result<Option<Answer>, SearchFault>
-    requires { AreKnownBy (S.state store.old).held given.now loaded.now }
-    ensures finds { IfOk result (FindsBy (S.state store.old).held given.now loaded.now.loaded (paths_by given.now name.now chain.now)) }
-    ensures new { IfOk result (IsNew given.now.tree.now loaded.now.loaded) }
-    ensures begins { BeginsPaths (S.state store.old).held given.now loaded.now.loaded (paths_by given.now name.now chain.now)
+    requires number { number < length loading.now.loaders }
+    requires known { AreKnownBy (S.state store.old).held given.now loading.now.places }
+    ensures finds { IfOk result (FindsBy (S.state store.old).held given.now loading.now.places.loaded (paths_at given.now name.now (reach_at loading.now.loaders number))) }
+    ensures new { IfOk result (IsNew given.now.tree.now loading.now.places.loaded) }
+    ensures begins { BeginsPaths (S.state store.old).held given.now loading.now.places.loaded (paths_at given.now name.now (reach_at loading.now.loaders number))
         (search_ending result) (S.state store.old) (S.state store.new) }
 {
     let cached = cached_path(given.cache, name, given.env);
-    let paths = places(alloc, name, chain, given.env, cached)?;
-    search(alloc, given.tree, store, loaded, paths, given.env.abi)
+    let paths = Candidates::new(
+        alloc,
+        &loading.loaders,
+        number,
+        name,
+        &given.env.caps,
+        cached,
+    )?;
+    search(
+        alloc,
+        given.tree,
+        store,
+        &loading.places,
+        paths,
+        given.env.abi,
+    )
 }
 
 // Answers a request by the object with this number.
@@ -62,59 +78,34 @@ fn answer_request<S: Store>(
     store: &mut S,
     loading: &mut Loading,
     number: usize,
-    chain: &Chain,
     name: Text,
 ) -> Result<(), SearchFault>
-    requires loader { number < length loading.old.links }
+    requires loader { number < length loading.old.loaders }
     requires sound { IsSound (S.state store.old).held given.now.tree.now given.now.env.now.abi loading.old }
     ensures sound { OnOk result (IsSound (S.state store.old).held given.now.tree.now given.now.env.now.abi loading.new) }
     ensures grows { OnOk result (Grows loading.old loading.new) }
-    ensures answers { (rest : List (List ℕ)) → Answers (S.state store.old).held given.now number chain.now (name ∷ rest) rest (search_ending result)
-        loading.old loading.new (S.state store.old) (S.state store.new) }
+    ensures answers { (chain : List Owner) (rest : List (List ℕ)) → Answers (S.state store.old).held given.now number chain (name ∷ rest) rest
+        (search_ending result) loading.old loading.new (S.state store.old) (S.state store.new) }
     ensures held { (S.state store.new).held ≡ (S.state store.old).held }
 {
     if loading.names.contains(name.as_bytes()) {
         return Ok(());
     }
-    let answer = search_name(alloc, given, store, &loading.places, chain, name.as_bytes())?;
-    loading.take_answer(alloc, name, answer, number)?;
+    let answer = search_name(alloc, given, store, loading, number, name.as_bytes())?;
+    loading.take_answer(alloc, given.env, name, answer, number)?;
     Ok(())
 }
 
-// Answers the requests by the object with this number and chain, of these names.
+// Answers the requests by the object with this number, of these names.
 fn answer_names<S: Store>(
     alloc: Global,
     given: &Given<'_, '_>,
     store: &mut S,
     loading: &mut Loading,
     number: usize,
-    chain: &Chain,
     needed: Texts,
 ) -> Result<(), SearchFault>
-    requires loader { number < length loading.old.links }
-    requires sound { IsSound (S.state store.old).held given.now.tree.now given.now.env.now.abi loading.old }
-    ensures sound { OnOk result (IsSound (S.state store.old).held given.now.tree.now given.now.env.now.abi loading.new) }
-    ensures grows { OnOk result (Grows loading.old loading.new) }
-    ensures answers { Answers (S.state store.old).held given.now number chain.now needed [] (search_ending result)
-        loading.old loading.new (S.state store.old) (S.state store.new) }
-    ensures held { (S.state store.new).held ≡ (S.state store.old).held }
-{
-    for name in needed.into_vec() {
-        answer_request(alloc, given, store, loading, number, chain, name)?;
-    }
-    Ok(())
-}
-
-// The same by the object with this number.
-fn answer_object<S: Store>(
-    alloc: Global,
-    given: &Given<'_, '_>,
-    store: &mut S,
-    loading: &mut Loading,
-    number: usize,
-    needed: Texts,
-) -> Result<(), SearchFault>
-    requires loader { number < length loading.old.links }
+    requires loader { number < length loading.old.loaders }
     requires sound { IsSound (S.state store.old).held given.now.tree.now given.now.env.now.abi loading.old }
     ensures sound { OnOk result (IsSound (S.state store.old).held given.now.tree.now given.now.env.now.abi loading.new) }
     ensures grows { OnOk result (Grows loading.old loading.new) }
@@ -122,8 +113,10 @@ fn answer_object<S: Store>(
         loading.old loading.new (S.state store.old) (S.state store.new) }
     ensures held { (S.state store.new).held ≡ (S.state store.old).held }
 {
-    let chain = loading.links.chain_of(alloc, number)?;
-    answer_names(alloc, given, store, loading, number, &chain, needed)
+    for name in needed.into_vec() {
+        answer_request(alloc, given, store, loading, number, name)?;
+    }
+    Ok(())
 }
 
 /// Answers the requests of all objects, breadth first.
@@ -141,7 +134,7 @@ pub(crate) fn answer_all<S: Store>(
     given.tree.know();
     let mut number = 0;
     while let Some(needed) = loading.pending.pop_front() {
-        answer_object(alloc, given, store, loading, number, needed)?;
+        answer_names(alloc, given, store, loading, number, needed)?;
         number += 1;
     }
     Ok(())

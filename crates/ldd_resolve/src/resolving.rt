@@ -7,10 +7,10 @@ ghost use Rattle.rpath_search.specs.Faults.{search_ending};
 ghost use Rattle.tree_face.specs.Known.{IfKnown};
 ghost use Rattle.tree_face.specs.Store.{Contents};
 ghost use Rattle.image_tree.specs.Tree.{node_at};
-ghost use Rattle.ldd_resolve.specs.Requests.{IsEven, Lists, StandsFirst, StartsSound, outsider_of};
-ghost use Rattle.ldd_resolve.specs.Resolving.{IfBadProgram, IsBadProgram, IsListing, IsNoProgram, ReadsListing, object_at, program_at, resolve_ending, with_abi};
+ghost use Rattle.ldd_resolve.specs.Requests.{Lists};
+ghost use Rattle.ldd_resolve.specs.Resolving.{AreLoaded, BeginsNoneLacking, IfBadProgram, IsBadProgram, IsListing, IsNoProgram, IsScope, ReadsListing, object_at, program_at, resolve_ending, with_abi};
 
-use crate::kinds::{Listing, ResolveFault};
+use crate::kinds::{Listing, Members, ResolveFault, Scope};
 use crate::loading::Loading;
 use crate::requests::{Given, answer_all};
 use cache_lookup::Sorted;
@@ -18,7 +18,7 @@ use elf_dynamic::kinds::Object;
 use elf_dynamic::object;
 use lib_types::{Abi, NoMemory, Text, Texts};
 use path_walk::file_at;
-use rpath_search::{Env, Found, SearchFault, from_root, is_library, key_at};
+use rpath_search::{Env, Found, SearchFault, from_root, key_at};
 use std::alloc::Global;
 use tree_face::{Store, Tree};
 
@@ -65,38 +65,15 @@ fn read_program<S: Store>(
     Ok(object(alloc, store, key)?)
 }
 
-// The program's file, if that is no library.
-fn outsider_of(alloc: Global, program: &Found) -> Result<Option<Text>, NoMemory>
-    ensures { IfOk result (λ o. o ≡ outsider_of program.now) }
-{
-    if is_library(program.object.abi, &program.object) {
-        return Ok(None);
-    }
-    Ok(Some(Text::copy_of(alloc, program.real.as_bytes())?))
-}
-
-// The state with the program alone.
-fn first_loading(alloc: Global, program: Found) -> Result<Loading, NoMemory>
-    ensures stands { IfOk result (StandsFirst program) }
-    ensures sound { IfOk result (StartsSound program) }
-    ensures even { IfOk result (λ loading. IsEven loading 0) }
-{
-    let outsider = outsider_of(alloc, &program)?;
-    let Found { path, real, object } = program;
-    let mut loading = Loading::new(alloc, outsider);
-    loading.add_object(alloc, path.as_bytes(), real, object.dynamic, None)?;
-    Ok(loading)
-}
-
-// The libraries that a program loads, which was read.
-fn list<S: Store>(
+// What a program loads, which was read.
+fn load<S: Store>(
     alloc: Global,
     tree: &Tree,
     store: &mut S,
     cache: Option<&Sorted<'_>>,
     env: &Env,
     program: Found,
-) -> Result<Listing, SearchFault>
+) -> Result<Scope, SearchFault>
     requires node { is_some (node_at tree.now program.real) ≡ true }
     requires object { IfKnown (S.state store.old).held (λ held. object_at held tree.now program.real ≡ Some (Ok program.object)) }
     ensures { Lists (S.state store.old).held tree.now (option_copied cache.entry) env.now program result (S.state store.old) (S.state store.new) }
@@ -107,28 +84,33 @@ fn list<S: Store>(
         cache,
         env: &env,
     };
-    let mut loading = first_loading(alloc, program)?;
+    let mut loading = Loading::new(alloc, &env, program)?;
     match answer_all(alloc, &given, store, &mut loading) {
-        Ok(()) => Ok(loading.items),
+        Ok(()) => Ok(Scope {
+            members: Members::from_vec(loading.members),
+            listing: loading.items,
+        }),
         Err(fault) => Err(fault),
     }
 }
 
-/// The libraries that a program loads, and from where. The program's ABI counts in place of that of `env`; without a cache the search
-/// finds nothing there.
+/// What a program loads: its members with their paths and names, and the listing of the requests. The program's ABI counts in place of
+/// that of `env`; without a cache the search finds nothing there.
 ///
 /// A file that is loaded is not read again, and each is loaded once, so the call returns for every image. A name that isn't found is
 /// searched again for each later object that needs it, since that object's own directories may have it.
-pub fn resolve<S: Store>(
+pub fn scope<S: Store>(
     alloc: Global,
     tree: &Tree,
     store: &mut S,
     cache: Option<&Sorted<'_>>,
     program: &[u8],
     env: &Env,
-) -> Result<Listing, ResolveFault>
-    ensures listing { IfOk result (λ items. IfKnown (S.state store.old).held
-        (λ held. IsListing tree.now (option_copied cache.entry) program.now env.now held items)) }
+) -> Result<Scope, ResolveFault>
+    ensures scope { IfOk result (λ scope. IfKnown (S.state store.old).held
+        (λ held. IsScope tree.now (option_copied cache.entry) program.now env.now held scope)) }
+    ensures loaded { IfOk result AreLoaded }
+    ensures held { IfOk result (λ _. IfKnown (S.state store.old).held (λ held. BeginsNoneLacking held (S.state store.old) (S.state store.new))) }
     ensures no_program { IsNoProgram (program_at tree.now program.now) result }
     ensures bad_program { IfBadProgram result (λ d. IfKnown (S.state store.old).held (λ held. IsBadProgram held tree.now program.now d)) }
     ensures range { IfBadProgram result IsInRange }
@@ -141,6 +123,30 @@ pub fn resolve<S: Store>(
     };
     let object = read_program(alloc, tree, store, real.as_bytes())?;
     let program = Found { path, real, object };
-    let listing = list(alloc, tree, store, cache, env, program)?;
-    Ok(listing)
+    let scope = load(alloc, tree, store, cache, env, program)?;
+    Ok(scope)
+}
+
+/// The libraries that a program loads, and from where: the listing of its scope.
+pub fn resolve<S: Store>(
+    alloc: Global,
+    tree: &Tree,
+    store: &mut S,
+    cache: Option<&Sorted<'_>>,
+    program: &[u8],
+    env: &Env,
+) -> Result<Listing, ResolveFault>
+    ensures listing { IfOk result (λ items. IfKnown (S.state store.old).held
+        (λ held. IsListing tree.now (option_copied cache.entry) program.now env.now held items)) }
+    ensures held { IfOk result (λ _. IfKnown (S.state store.old).held (λ held. BeginsNoneLacking held (S.state store.old) (S.state store.new))) }
+    ensures no_program { IsNoProgram (program_at tree.now program.now) result }
+    ensures bad_program { IfBadProgram result (λ d. IfKnown (S.state store.old).held (λ held. IsBadProgram held tree.now program.now d)) }
+    ensures range { IfBadProgram result IsInRange }
+    ensures reads { ReadsListing (S.state store.old).held tree.now (option_copied cache.entry) program.now env.now (resolve_ending result)
+        (S.state store.old) (S.state store.new) }
+{
+    match scope(alloc, tree, store, cache, program, env) {
+        Ok(scope) => Ok(scope.listing),
+        Err(fault) => Err(fault),
+    }
 }

@@ -2,14 +2,15 @@
 ghost use Rattle.std.specs.Prelude.{◌≡◌, false, IfOk};
 ghost use Rattle.elf_dynamic.specs.Begun.{ReadsBy, lacks_one};
 ghost use Rattle.tree_face.specs.Known.{IfKnown};
+ghost use Rattle.rpath_search.specs.Candidates.{IsInside, paths_left};
 ghost use Rattle.rpath_search.specs.Faults.{search_ending};
 ghost use Rattle.rpath_search.specs.Search.{first_good};
 ghost use Rattle.ldd_resolve.specs.Listing.{is_among, keys_searched};
 ghost use Rattle.ldd_resolve.specs.Searching.{AreKnown, Begins, Finds, IsNew, Tries, is_outsider, keys_for};
 
-use lib_types::{Abi, Text, Texts};
+use lib_types::{Abi, Text};
 use path_walk::file_at;
-use rpath_search::{Found, SearchFault, library_at};
+use rpath_search::{Candidates, Found, SearchFault, library_at};
 use std::alloc::Global;
 use text_set::TextSet;
 use tree_face::{Store, Tree};
@@ -26,8 +27,8 @@ pub(crate) struct Places {
 /// What a search gives.
 #[derive(Drop)]
 pub(crate) enum Answer {
-    /// A file that is loaded already.
-    Loaded,
+    /// The file with this number, which is loaded already.
+    Loaded(usize),
     New(Found),
 }
 
@@ -61,11 +62,11 @@ fn try_path<S: Store>(
     let Some(real) = file_at(alloc, tree, path.as_bytes())? else {
         return Ok(None);
     };
-    if places.loaded.contains(real.as_bytes()) {
+    if let Some(number) = places.loaded.index_of(real.as_bytes()) {
         if places.is_outsider(real.as_bytes()) {
             return Ok(None);
         }
-        return Ok(Some(Answer::Loaded));
+        return Ok(Some(Answer::Loaded(number)));
     }
     match library_at(alloc, tree, store, real.as_bytes(), abi)? {
         Some(object) => Ok(Some(Answer::New(Found { path, real, object }))),
@@ -79,16 +80,19 @@ pub(crate) fn search<S: Store>(
     tree: &Tree,
     store: &mut S,
     places: &Places,
-    paths: Texts,
+    paths: Candidates<'_>,
     abi: Abi,
 ) -> Result<Option<Answer>, SearchFault>
-    requires { IfKnown (S.state store.old).held (λ held. AreKnown held tree.now abi places.now) }
-    ensures finds { IfOk result (λ a. IfKnown (S.state store.old).held (λ held. Finds held tree.now abi places.now.loaded (first_good held tree.now abi paths) a)) }
+    requires known { IfKnown (S.state store.old).held (λ held. AreKnown held tree.now abi places.now) }
+    requires inside { IsInside paths.first }
+    ensures finds { IfOk result (λ a. IfKnown (S.state store.old).held
+        (λ held. Finds held tree.now abi places.now.loaded (first_good held tree.now abi (paths_left paths.entry)) a)) }
     ensures new { IfOk result (IsNew tree.now places.now.loaded) }
-    ensures begins { Begins (S.state store.old).held (λ held. keys_searched held tree.now abi places.now.loaded paths) (search_ending result)
+    ensures begins { Begins (S.state store.old).held (λ held. keys_searched held tree.now abi places.now.loaded (paths_left paths.entry)) (search_ending result)
         (S.state store.old) (S.state store.new) }
 {
-    for path in paths.into_vec() {
+    let mut left = paths;
+    while let Some(path) = left.next_path(alloc)? {
         if let Some(answer) = try_path(alloc, tree, store, places, path, abi)? {
             return Ok(Some(answer));
         }

@@ -1,3 +1,4 @@
 mod Loading
+mod Readings
 pub mod ReadSlots
 mod Removing

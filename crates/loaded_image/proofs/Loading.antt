@@ -1,24 +1,25 @@
--- A loading as a whole, by the readings of the slots and what is made of them.
-use Rattle.std.proofs.Common.{◌≡◌, ◌∷◌, ◌∙◌, Bool, true, false, [], Option, Some, None, Result, Ok, Err, ap, sym, subst, refl}
+-- A loading as a whole, by the readings and what is made of them.
+use Rattle.std.proofs.Common.{◌≡◌, Bool, true, false, Option, Some, None, Result, Ok, Err, ap, sym, subst}
 use Rattle.std.proofs.lemmas.Bool.{false≢true}
-use Rattle.tree_face.specs.declared.disk.Slot.TheVariants as slots
 use Rattle.tree_face.specs.Disk.{Content, DiskContent, DiskState}
-use Rattle.tree_face.specs.DiskUse.{ReadsOnly}
 use Rattle.tree_face.specs.Known.{IfKnown}
-use Rattle.tree_face.specs.StoreUse.{Complete}
+use Rattle.loaded_image.proofs.Readings.{anyway}
 use Rattle.loaded_image.proofs.ReadSlots.{gave_up}
+use Rattle.loaded_image.specs.Faults.{of_slot}
 use Rattle.loaded_image.specs.Manifest.{Manifest, Empty, Faulty, HasTree, manifest_of}
-use Rattle.loaded_image.specs.Reading.{AreSlotTexts, IsImageOf, bytes_in}
-use Rattle.loaded_image.specs.Session.{IsLoad, IsLoaded, Loaded, Loads, image_with}
+use Rattle.loaded_image.specs.Reading.{says}
+use Rattle.loaded_image.specs.Session.{IsImageOf, IsLoad, IsLoaded, Loaded, Loads, LoadsFrom, ReadsBoth, image_with}
 use Rattle.loaded_image.specs.declared.fault.LoadFault.{LoadFault}
 use Rattle.loaded_image.specs.declared.fault.LoadFault.TheVariants as faults
-use Rattle.loaded_image.specs.declared.session.SlotTexts.{SlotTexts}
+use Rattle.loaded_image.specs.declared.fault.SlotFault.{SlotFault}
+use Rattle.loaded_image.specs.declared.fault.SlotFault.TheVariants as slot_faults
+use Rattle.loaded_image.specs.declared.reading.Stored.{Stored}
+use Rattle.loaded_image.specs.declared.reading.Stored.TheVariants as stored
+use Rattle.loaded_image.specs.declared.reading.TreeSource.{TreeSource}
+use Rattle.loaded_image.specs.declared.reading.TreeSource.TheVariants as sources
 
--- a manifest in a slot says what the text says that was read there
-says : (contents : Option DiskContent) (text : Content) (m : Manifest) → IfKnown contents (λ c. c.now.manifest ≡ text) → manifest_of text ≡ m
-    → IfKnown contents (λ c. manifest_of c.now.manifest ≡ m)
-says None text m there e = tt
-says (Some c) text m there e = ap manifest_of there ∙ e
+abbrev text_of : Stored → Content
+text_of (stored.Manifest text) = text
 
 abbrev has_tree : Manifest → Bool
 has_tree (HasTree tree) = true
@@ -31,40 +32,37 @@ is_loaded contents None aux loaded m a reads is = absurd (false≢true (ap has_t
 is_loaded None (Some text) aux loaded m a reads is = record { text = text; aux = aux; in_slots = tt; reads = reads; is = is }
 is_loaded (Some c) (Some text) aux loaded m a reads is = record { text = text; aux = aux; in_slots = (m, a); reads = reads; is = is }
 
-module _ (old new : DiskState) where
-  known : (m : Manifest) (result : Result Loaded LoadFault) → IsLoad m result → IfKnown old.contents (λ c. manifest_of c.now.manifest ≡ m)
-      → IfKnown old.contents (λ c. IsLoad (manifest_of c.now.manifest) result)
-  known m result is there = by old.contents there
-    where
-      by : (contents : Option DiskContent) → IfKnown contents (λ c. manifest_of c.now.manifest ≡ m) → IfKnown contents (λ c. IsLoad (manifest_of c.now.manifest) result)
-      by None e = tt
-      by (Some c) e = subst (λ (x : Manifest). IsLoad x result) (sym e) is
+-- what was read of the slot says what the slot says
+known : (contents : Option DiskContent) (text : Content) (result : Result Loaded LoadFault) → IfKnown contents (λ c. stored.Manifest c.now.manifest ≡ stored.Manifest text)
+    → IsLoad (manifest_of text) result → IfKnown contents (λ c. IsLoad (manifest_of c.now.manifest) result)
+known None text result there is = tt
+known (Some c) text result there is = subst (λ (s : Stored). IsLoad (says s) result) (sym there) is
 
-  -- both slots are read
-  pub loads : (texts : SlotTexts) (result : Result Loaded LoadFault) → AreSlotTexts old.contents texts → IsImageOf (bytes_in texts.manifest) (bytes_in texts.aux) result
-      → ReadsOnly (slots.Manifest ∷ slots.Aux ∷ []) Complete old new → Loads result old new
-  loads texts (Ok loaded) are (reads, is) used = record {
-    answers = known (HasTree loaded.tree) (Ok loaded) refl (says old.contents (bytes_in texts.manifest) _ are.manifest reads);
-    loaded = is_loaded old.contents (bytes_in texts.manifest) (bytes_in texts.aux) loaded are.manifest are.aux reads is;
-    slot = tt;
-    reads = used;
+in_slot : (contents : Option DiskContent) (text : Content) → IfKnown contents (λ c. stored.Manifest c.now.manifest ≡ stored.Manifest text) → IfKnown contents (λ c. c.now.manifest ≡ text)
+in_slot None text there = tt
+in_slot (Some c) text there = ap text_of there
+
+-- a slot isn't read
+pub unloaded : (source : TreeSource) (fault : SlotFault) (a b : DiskState) → ReadsBoth source (Err fault) a b → LoadsFrom source (Err (of_slot fault)) a b
+unloaded sources.Manifest (slot_faults.DiskFailed slot) a b reads = record { answers = anyway a.contents; loaded = tt; fails = reads.fails; reads = reads.reads }
+unloaded sources.Manifest slot_faults.NoMemory a b reads = record { answers = anyway a.contents; loaded = tt; fails = tt; reads = reads.reads }
+
+module _ (a b : DiskState) (aux : Content) where
+  -- of what was read
+  loads : (text : Content) (result : Result Loaded LoadFault) → ReadsBoth sources.Manifest (Ok (record { stored = stored.Manifest text; aux = aux })) a b
+      → IsImageOf (manifest_of text) aux result → Loads result a b
+  loads text (Ok loaded) reads of = record {
+    answers = known a.contents text (Ok loaded) reads.stored of.tree;
+    loaded = is_loaded a.contents text aux loaded (in_slot a.contents text reads.stored) reads.aux of.tree of.image;
+    fails = tt;
+    reads = reads.reads;
   }
-  loads texts (Err faults.NoManifest) are is used = record {
-    answers = known Empty (Err faults.NoManifest) refl (says old.contents (bytes_in texts.manifest) _ are.manifest is);
-    loaded = tt;
-    slot = tt;
-    reads = used;
-  }
-  loads texts (Err (faults.BadManifest fault)) are is used = record {
-    answers = known (Faulty fault) (Err (faults.BadManifest fault)) refl (says old.contents (bytes_in texts.manifest) _ are.manifest is);
-    loaded = tt;
-    slot = tt;
-    reads = used;
-  }
-  loads texts (Err faults.NoMemory) are is used = record {
-    answers = known (manifest_of (bytes_in texts.manifest)) (Err faults.NoMemory) tt (says old.contents (bytes_in texts.manifest) _ are.manifest refl);
-    loaded = tt;
-    slot = tt;
-    reads = gave_up _ old new used;
-  }
-  loads texts (Err (faults.DiskFailed slot)) are is used = absurd is
+  loads text (Err faults.NoManifest) reads of = record { answers = known a.contents text (Err faults.NoManifest) reads.stored of.tree; loaded = tt; fails = tt; reads = reads.reads }
+  loads text (Err (faults.BadManifest fault)) reads of =
+      record { answers = known a.contents text (Err (faults.BadManifest fault)) reads.stored of.tree; loaded = tt; fails = tt; reads = reads.reads }
+  loads text (Err faults.NoMemory) reads of = record { answers = anyway a.contents; loaded = tt; fails = tt; reads = gave_up _ a b reads.reads }
+  loads text (Err (faults.DiskFailed slot)) reads of = absurd of.no_disk
+
+  pub loads_from : (source : TreeSource) (held : Stored) (result : Result Loaded LoadFault) → ReadsBoth source (Ok (record { stored = held; aux = aux })) a b
+      → IsImageOf (says held) aux result → LoadsFrom source result a b
+  loads_from sources.Manifest (stored.Manifest text) result reads of = loads text result reads of

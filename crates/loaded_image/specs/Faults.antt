@@ -9,6 +9,13 @@ use Rattle.loaded_image.specs.declared.fault.EditFault.{EditFault}
 use Rattle.loaded_image.specs.declared.fault.EditFault.TheVariants as editing
 use Rattle.loaded_image.specs.declared.fault.LoadFault.{LoadFault}
 use Rattle.loaded_image.specs.declared.fault.LoadFault.TheVariants as loading
+use Rattle.loaded_image.specs.declared.fault.SlotFault.{SlotFault}
+use Rattle.loaded_image.specs.declared.fault.SlotFault.TheVariants as slot_faults
+
+-- the fault of a slot
+abbrev pub of_slot : SlotFault → LoadFault
+of_slot (slot_faults.DiskFailed slot) = loading.DiskFailed slot
+of_slot slot_faults.NoMemory = loading.NoMemory
 
 -- a manifest's fault, or out of memory
 abbrev pub of_manifest : ManifestFault → LoadFault

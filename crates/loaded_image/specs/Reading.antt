@@ -1,51 +1,110 @@
--- The readings of the slots of which an image is loaded, and what is made of each.
-use Rattle.std.specs.Prelude.{◌≡◌, ◌⊎◌, ℕ, Option, option_map, Vec, Result, Ok, Err, ⊤}
-use Rattle.std.specs.declared.alloc.Global.{Global}
+-- The readings of what is stored of an image, and the tree of what its source holds. Each command reads slots so.
+use Rattle.std.specs.Prelude.{◌≡◌, ◌∷◌, ◌++◌, List, [], Result, Ok, Err, IfOk, ⊤}
+use Rattle.std.specs.Result.{result_map_both}
 use Rattle.tree_face.specs.declared.disk.Slot.{Slot}
 use Rattle.tree_face.specs.declared.disk.Slot.TheVariants as slots
-use Rattle.tree_face.specs.Disk.{Content, DiskContent, slot_of}
+use Rattle.tree_face.specs.Disk.{Content, DiskContent, DiskState, slot_of}
+use Rattle.tree_face.specs.DiskUse.{ReadsOnly}
 use Rattle.tree_face.specs.Known.{IfKnown}
+use Rattle.tree_face.specs.StoreUse.{Ending, Complete, DeviceFailed, GaveUp}
 use Rattle.image_tree.specs.Tree.{Nodes}
 use Rattle.loaded_image.specs.Manifest.{Manifest, Empty, Faulty, HasTree, manifest_of}
-use Rattle.loaded_image.specs.Session.{Loaded, image_with}
 use Rattle.loaded_image.specs.declared.fault.LoadFault.{LoadFault}
 use Rattle.loaded_image.specs.declared.fault.LoadFault.TheVariants as faults
-use Rattle.loaded_image.specs.declared.session.SlotTexts.{SlotTexts}
+use Rattle.loaded_image.specs.declared.fault.SlotFault.{SlotFault}
+use Rattle.loaded_image.specs.declared.fault.SlotFault.TheVariants as slot_faults
+use Rattle.loaded_image.specs.declared.reading.ReadImage.{ReadImage}
+use Rattle.loaded_image.specs.declared.reading.Stored.{Stored}
+use Rattle.loaded_image.specs.declared.reading.Stored.TheVariants as stored
+use Rattle.loaded_image.specs.declared.reading.TreeSource.{TreeSource}
+use Rattle.loaded_image.specs.declared.reading.TreeSource.TheVariants as sources
 
-abbrev pub bytes_in : Option (Vec ℕ Global) → Content
-bytes_in content = option_map (λ bytes. bytes.items) content
+-- ---- how a reading ends
 
--- what this slot holds, or why it isn't read
-abbrev pub IsSlotRead : Slot → Option DiskContent → Result (Option (Vec ℕ Global)) LoadFault → Type 0
-IsSlotRead slot contents (Ok content) = IfKnown contents (λ known. slot_of known.now slot ≡ bytes_in content)
-IsSlotRead slot contents (Err (faults.DiskFailed failed)) = failed ≡ slot
-IsSlotRead slot contents (Err faults.NoMemory) = ⊤
-IsSlotRead slot contents (Err fault) = ⊥
+abbrev pub load_ending : {A : Type 0} → Result A LoadFault → Ending
+load_ending (Ok loaded) = Complete
+load_ending (Err faults.NoManifest) = Complete
+load_ending (Err (faults.BadManifest fault)) = Complete
+load_ending (Err (faults.DiskFailed slot)) = DeviceFailed
+load_ending (Err faults.NoMemory) = GaveUp
 
--- what the two slots hold
-pub record AreSlotTexts (contents : Option DiskContent) (texts : SlotTexts) : Type 0 where
-  pub manifest : IfKnown contents (λ known. known.now.manifest ≡ bytes_in texts.manifest)
-  pub aux : IfKnown contents (λ known. known.now.aux ≡ bytes_in texts.aux)
+abbrev pub slot_ending : {A : Type 0} → Result A SlotFault → Ending
+slot_ending (Ok content) = Complete
+slot_ending (Err (slot_faults.DiskFailed slot)) = DeviceFailed
+slot_ending (Err slot_faults.NoMemory) = GaveUp
 
--- the same, or why the two aren't read
-abbrev pub AreSlotsRead : Option DiskContent → Result SlotTexts LoadFault → Type 0
-AreSlotsRead contents (Ok texts) = AreSlotTexts contents texts
-AreSlotsRead contents (Err (faults.DiskFailed slot)) = (slot ≡ slots.Manifest) ⊎ (slot ≡ slots.Aux)
-AreSlotsRead contents (Err faults.NoMemory) = ⊤
-AreSlotsRead contents (Err fault) = ⊥
+-- a fact of the slot that couldn't be read
+abbrev pub IfSlotFailed : {A : Type 0} → Result A SlotFault → (Slot → Type 0) → Type 0
+IfSlotFailed (Err (slot_faults.DiskFailed slot)) P = P slot
+IfSlotFailed _ P = ⊤
 
--- the tree of a manifest, or why it has none
+abbrev pub IfDiskFailed : {A : Type 0} → Result A LoadFault → (Slot → Type 0) → Type 0
+IfDiskFailed (Err (faults.DiskFailed slot)) P = P slot
+IfDiskFailed _ P = ⊤
+
+-- Of these slots, which are read one after another, those before this one were read, and the reading of this one failed.
+pub record FailsAt (order : List Slot) (old new : DiskState) (slot : Slot) : Type 0 where
+  pub before : List Slot
+  pub behind : List Slot
+  pub is_next : order ≡ before ++ slot ∷ behind
+  pub between : DiskState
+  pub read : ReadsOnly before Complete old between
+  pub fails : ReadsOnly (slot ∷ []) DeviceFailed between new
+
+-- ---- a slot
+
+-- The slot is read once, and nothing else is. It has this content, if contents are known.
+pub record ReadsContent (slot : Slot) (result : Result Content SlotFault) (old new : DiskState) : Type 0 where
+  pub content : IfOk result (λ content. IfKnown old.contents (λ known. slot_of known.now slot ≡ content))
+  pub fails : IfSlotFailed result (λ failed. failed ≡ slot)
+  pub reads : ReadsOnly (slot ∷ []) (slot_ending result) old new
+
+-- ---- the tree
+
+-- what a source is of: the slots that are read for it, in their order
+abbrev pub slots_of : TreeSource → List Slot
+slots_of sources.Manifest = slots.Manifest ∷ []
+
+-- what a source holds
+abbrev pub held_by : TreeSource → DiskContent → Stored
+held_by sources.Manifest content = stored.Manifest content.now.manifest
+
+-- what that says of a tree
+abbrev pub says : Stored → Manifest
+says (stored.Manifest text) = manifest_of text
+
+-- the tree, or why there is none
 abbrev pub IsTreeOf : Manifest → Result Nodes LoadFault → Type 0
 IsTreeOf manifest (Ok tree) = manifest ≡ HasTree tree
 IsTreeOf manifest (Err faults.NoManifest) = manifest ≡ Empty
 IsTreeOf manifest (Err (faults.BadManifest fault)) = manifest ≡ Faulty fault
+IsTreeOf manifest (Err (faults.DiskFailed slot)) = ⊤
 IsTreeOf manifest (Err faults.NoMemory) = ⊤
-IsTreeOf manifest (Err (faults.DiskFailed slot)) = ⊥
 
--- the image of what the two slots hold, or why there is none
-abbrev pub IsImageOf : Content → Content → Result Loaded LoadFault → Type 0
-IsImageOf manifest aux (Ok loaded) = (manifest_of manifest ≡ HasTree loaded.tree) × (loaded ≡ image_with loaded.tree aux)
-IsImageOf manifest aux (Err faults.NoManifest) = manifest_of manifest ≡ Empty
-IsImageOf manifest aux (Err (faults.BadManifest fault)) = manifest_of manifest ≡ Faulty fault
-IsImageOf manifest aux (Err faults.NoMemory) = ⊤
-IsImageOf manifest aux (Err (faults.DiskFailed slot)) = ⊥
+pub record ReadsStored (source : TreeSource) (result : Result Stored SlotFault) (old new : DiskState) : Type 0 where
+  pub content : IfOk result (λ content. IfKnown old.contents (λ known. held_by source known ≡ content))
+  pub fails : IfSlotFailed result (FailsAt (slots_of source) old new)
+  pub reads : ReadsOnly (slots_of source) (slot_ending result) old new
+
+-- the slots of the source are read, and are looked at then
+pub record ReadsTree (source : TreeSource) (result : Result Nodes LoadFault) (old new : DiskState) : Type 0 where
+  pub tree : IfKnown old.contents (λ content. IsTreeOf (says (held_by source content)) result)
+  pub fails : IfDiskFailed result (FailsAt (slots_of source) old new)
+  pub reads : ReadsOnly (slots_of source) (load_ending result) old new
+
+-- ---- the tree and the cache
+
+abbrev pub tree_in : Result ReadImage LoadFault → Result Nodes LoadFault
+tree_in result = result_map_both (λ image. image.tree) (λ fault. fault) result
+
+-- The Cache slot isn't read without a tree.
+abbrev pub slots_read : {A : Type 0} → TreeSource → Result A LoadFault → List Slot
+slots_read source (Err faults.NoManifest) = slots_of source
+slots_read source (Err (faults.BadManifest fault)) = slots_of source
+slots_read source _ = slots_of source ++ slots.Cache ∷ []
+
+pub record ReadsImage (source : TreeSource) (result : Result ReadImage LoadFault) (old new : DiskState) : Type 0 where
+  pub tree : IfKnown old.contents (λ content. IsTreeOf (says (held_by source content)) (tree_in result))
+  pub cache : IfOk result (λ image. IfKnown old.contents (λ content. content.now.cache ≡ image.cache))
+  pub fails : IfDiskFailed result (FailsAt (slots_of source ++ slots.Cache ∷ []) old new)
+  pub reads : ReadsOnly (slots_read source result) (load_ending result) old new

@@ -1,16 +1,20 @@
 -- An image that is loaded.
-use Rattle.std.specs.Prelude.{◌≡◌, ◌⊎◌, ◌∷◌, ℕ, Bool, false, List, [], Option, Some, Result, Ok, Err, IfOk, ⊤}
+use Rattle.std.specs.Prelude.{◌≡◌, ◌∷◌, ◌++◌, ℕ, Bool, false, List, [], Option, Some, Result, IfOk}
+use Rattle.std.specs.Result.{result_map_both}
 use Rattle.tree_face.specs.declared.disk.Slot.TheVariants as slots
 use Rattle.tree_face.specs.Disk.{Content, DiskContent, DiskState}
 use Rattle.tree_face.specs.DiskUse.{ReadsOnly}
 use Rattle.tree_face.specs.Known.{IfKnown}
-use Rattle.tree_face.specs.StoreUse.{Ending, Complete, DeviceFailed, GaveUp}
 use Rattle.aux_cache.specs.declared.stamps.Stamp.{Stamp}
 use Rattle.image_tree.specs.Tree.{Nodes}
 use Rattle.loaded_image.specs.Aux.{damage_of_slot, stamps_of_slot}
-use Rattle.loaded_image.specs.Manifest.{Manifest, Empty, Faulty, HasTree, manifest_of}
+use Rattle.loaded_image.specs.Manifest.{Manifest, HasTree, manifest_of}
+use Rattle.loaded_image.specs.Reading.{FailsAt, IfDiskFailed, IfSlotFailed, IsTreeOf, held_by, load_ending, slot_ending, slots_of}
 use Rattle.loaded_image.specs.declared.fault.LoadFault.{LoadFault}
-use Rattle.loaded_image.specs.declared.fault.LoadFault.TheVariants as faults
+use Rattle.loaded_image.specs.declared.fault.SlotFault.{SlotFault}
+use Rattle.loaded_image.specs.declared.reading.TreeSource.{TreeSource}
+use Rattle.loaded_image.specs.declared.reading.TreeSource.TheVariants as sources
+use Rattle.loaded_image.specs.declared.session.Readings.{Readings}
 
 -- what is kept of an image between its loading and its updates
 pub record Loaded : Type 0 where
@@ -39,33 +43,35 @@ pub record IsLoaded (contents : Option DiskContent) (loaded : Loaded) : Type 0 w
   pub reads : manifest_of (Some text) ≡ HasTree loaded.tree
   pub is : loaded ≡ image_with loaded.tree aux
 
--- ---- the results of a loading, one row for each
+-- ---- a loading
 
--- the result is what the Manifest slot says, or the disk has failed, or memory is out
+-- the tree of what is loaded, or why there is none
 abbrev pub IsLoad : Manifest → Result Loaded LoadFault → Type 0
-IsLoad manifest (Ok loaded) = manifest ≡ HasTree loaded.tree
-IsLoad manifest (Err faults.NoManifest) = manifest ≡ Empty
-IsLoad manifest (Err (faults.BadManifest fault)) = manifest ≡ Faulty fault
-IsLoad manifest (Err (faults.DiskFailed slot)) = ⊤
-IsLoad manifest (Err faults.NoMemory) = ⊤
-
--- how the reading of the slots ended
-abbrev pub load_ending : {A : Type 0} → Result A LoadFault → Ending
-load_ending (Ok loaded) = Complete
-load_ending (Err faults.NoManifest) = Complete
-load_ending (Err (faults.BadManifest fault)) = Complete
-load_ending (Err (faults.DiskFailed slot)) = DeviceFailed
-load_ending (Err faults.NoMemory) = GaveUp
-
--- the slot that couldn't be read is one of the two
-abbrev pub NamesSlot : {A : Type 0} → Result A LoadFault → Type 0
-NamesSlot (Err (faults.DiskFailed slot)) = (slot ≡ slots.Manifest) ⊎ (slot ≡ slots.Aux)
-NamesSlot _ = ⊤
+IsLoad manifest result = IsTreeOf manifest (result_map_both (λ loaded. loaded.tree) (λ fault. fault) result)
 
 -- An image is loaded from the Manifest slot and the Aux slot, each of which is read once, in this order, and nothing else is. What the
 -- Manifest slot holds is looked at only after both readings.
 pub record Loads (result : Result Loaded LoadFault) (old new : DiskState) : Type 0 where
   pub answers : IfKnown old.contents (λ content. IsLoad (manifest_of content.now.manifest) result)
   pub loaded : IfOk result (IsLoaded old.contents)
-  pub slot : NamesSlot result
+  pub fails : IfDiskFailed result (FailsAt (slots.Manifest ∷ slots.Aux ∷ []) old new)
   pub reads : ReadsOnly (slots.Manifest ∷ slots.Aux ∷ []) (load_ending result) old new
+
+-- a loading of an image whose tree comes from this source
+abbrev pub LoadsFrom : TreeSource → Result Loaded LoadFault → DiskState → DiskState → Type 0
+LoadsFrom sources.Manifest = Loads
+
+-- ---- what private functions say
+
+-- the source is read, and then the Aux slot
+pub record ReadsBoth (source : TreeSource) (result : Result Readings SlotFault) (old new : DiskState) : Type 0 where
+  pub stored : IfOk result (λ readings. IfKnown old.contents (λ known. held_by source known ≡ readings.stored))
+  pub aux : IfOk result (λ readings. IfKnown old.contents (λ known. known.now.aux ≡ readings.aux))
+  pub fails : IfSlotFailed result (FailsAt (slots_of source ++ slots.Aux ∷ []) old new)
+  pub reads : ReadsOnly (slots_of source ++ slots.Aux ∷ []) (slot_ending result) old new
+
+-- the image of what was read, or why there is none
+pub record IsImageOf (manifest : Manifest) (aux : Content) (result : Result Loaded LoadFault) : Type 0 where
+  pub tree : IsLoad manifest result
+  pub image : IfOk result (λ loaded. loaded ≡ image_with loaded.tree aux)
+  pub no_disk : IfDiskFailed result (λ slot. ⊥)

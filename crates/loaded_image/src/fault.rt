@@ -1,10 +1,20 @@
-//! Why an image isn't loaded or edited.
+//! Why a slot isn't read, and why an image isn't loaded or edited.
 ghost use Rattle.std.specs.Prelude.{◌≡◌};
-ghost use Rattle.loaded_image.specs.Faults.{of_line, of_manifest, of_tree};
+ghost use Rattle.loaded_image.specs.Faults.{of_line, of_manifest, of_slot, of_tree};
 
 use mtree_manifest::{EntryLineFault, LineKind, ManifestFault};
 use thiserror::Error;
 use tree_face::{Slot, TreeFault};
+
+/// Why a slot isn't read.
+#[derive(Clone, Copy, Debug, PartialEq, Eq, Error)]
+pub enum SlotFault {
+    /// The disk failed.
+    #[error("a slot of the disk can't be read")]
+    DiskFailed { slot: Slot },
+    #[error("out of memory")]
+    NoMemory,
+}
 
 /// Why an image isn't loaded.
 #[derive(Clone, Copy, Debug, PartialEq, Eq, Error)]
@@ -39,6 +49,17 @@ pub enum EditFault {
     Full,
     #[error("out of memory")]
     NoMemory,
+}
+
+impl From<SlotFault> for LoadFault {
+    ghost from_gives = { λ fault e. e ≡ of_slot fault };
+
+    fn from(fault: SlotFault) -> Self {
+        match fault {
+            SlotFault::DiskFailed { slot } => LoadFault::DiskFailed { slot },
+            SlotFault::NoMemory => LoadFault::NoMemory,
+        }
+    }
 }
 
 impl From<ManifestFault> for LoadFault {

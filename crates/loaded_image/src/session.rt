@@ -1,18 +1,17 @@
 //! An image that is loaded.
-ghost use Rattle.std.specs.Prelude.{◌≡◌, ◌∷◌, [], IfErr, IfOk};
+ghost use Rattle.std.specs.Prelude.{◌≡◌, IfErr, IfOk};
 ghost use Rattle.aux_cache.specs.Stamps.{HaveNames};
-ghost use Rattle.tree_face.specs.DiskUse.{ReadsOnly};
-ghost use Rattle.tree_face.specs.declared.disk.Slot.TheVariants as slots;
 ghost use Rattle.loaded_image.specs.Aux.{damage_of_slot, stamps_of_slot};
-ghost use Rattle.loaded_image.specs.Manifest.{manifest_of};
-ghost use Rattle.loaded_image.specs.Reading.{AreSlotsRead, IsImageOf, IsSlotRead, IsTreeOf, bytes_in};
-ghost use Rattle.loaded_image.specs.Session.{Loads, load_ending};
+ghost use Rattle.loaded_image.specs.Reading.{says};
+ghost use Rattle.loaded_image.specs.Session.{IsImageOf, Loads, LoadsFrom, ReadsBoth};
 
-use crate::fault::LoadFault;
+use crate::fault::{LoadFault, SlotFault};
+use crate::reading::{Stored, TreeSource, read_slot, read_stored, tree_of};
 use aux_cache::{AuxFault, Stamps};
+use lib_types::Text;
 use std::alloc::Global;
 use std::marker::Model;
-use tree_face::{Disk, DiskRead, Slot, Tree};
+use tree_face::{Disk, Slot, Tree};
 
 /// An image that is loaded. Each soname of its stamps is a name.
 #[derive(Drop)]
@@ -37,11 +36,11 @@ impl Model for Session {
     ghost invariant = { λ session. HaveNames session.stamps };
 }
 
-// What the slots hold of which an image is loaded.
+// What was read of which an image is loaded.
 #[derive(Drop)]
-pub(crate) struct SlotTexts {
-    pub manifest: Option<Vec<u8>>,
-    pub aux: Option<Vec<u8>>,
+pub(crate) struct Readings {
+    pub stored: Stored,
+    pub aux: Option<Text>,
 }
 
 // What the Aux slot says of files.
@@ -51,45 +50,22 @@ struct AuxStamps {
     damaged: Option<u64>,
 }
 
-fn read_slot<D: Disk>(alloc: Global, disk: &mut D, slot: Slot) -> Result<Option<Vec<u8>>, LoadFault>
-    ensures content { IsSlotRead slot (D.state disk.old).contents result }
-    ensures reads { ReadsOnly (slot ∷ []) (load_ending result) (D.state disk.old) (D.state disk.new) }
+fn read_both<D: Disk>(
+    alloc: Global,
+    disk: &mut D,
+    source: TreeSource,
+) -> Result<Readings, SlotFault>
+    ensures { ReadsBoth source result (D.state disk.old) (D.state disk.new) }
 {
-    match disk.read(alloc, slot) {
-        Ok(content) => Ok(content),
-        Err(DiskRead::Failed) => Err(LoadFault::DiskFailed { slot }),
-        Err(DiskRead::NoMemory) => Err(LoadFault::NoMemory),
-    }
-}
-
-fn read_slots<D: Disk>(alloc: Global, disk: &mut D) -> Result<SlotTexts, LoadFault>
-    ensures texts { AreSlotsRead (D.state disk.old).contents result }
-    ensures reads { ReadsOnly (slots.Manifest ∷ slots.Aux ∷ []) (load_ending result) (D.state disk.old) (D.state disk.new) }
-{
-    let manifest = match read_slot(alloc, disk, Slot::Manifest) {
-        Ok(manifest) => manifest,
-        Err(fault) => return Err(fault),
-    };
-    match read_slot(alloc, disk, Slot::Aux) {
-        Ok(aux) => Ok(SlotTexts { manifest, aux }),
-        Err(fault) => Err(fault),
-    }
-}
-
-// The tree of the Manifest slot.
-fn tree_of(alloc: Global, manifest: Option<Vec<u8>>) -> Result<Tree, LoadFault>
-    ensures { IsTreeOf (manifest_of (bytes_in manifest)) result }
-{
-    let Some(text) = manifest else {
-        return Err(LoadFault::NoManifest);
-    };
-    Ok(mtree_manifest::read(alloc, &text)?)
+    let stored = read_stored(alloc, disk, source)?;
+    let aux = read_slot(alloc, disk, Slot::Aux)?;
+    Ok(Readings { stored, aux })
 }
 
 // The stamps of the Aux slot.
-fn stamps_of(alloc: Global, aux: Option<Vec<u8>>) -> Result<AuxStamps, LoadFault>
-    ensures stamps { IfOk result (λ read. read.stamps ≡ stamps_of_slot (bytes_in aux)) }
-    ensures damaged { IfOk result (λ read. read.damaged ≡ damage_of_slot (bytes_in aux)) }
+fn stamps_of(alloc: Global, aux: Option<Text>) -> Result<AuxStamps, LoadFault>
+    ensures stamps { IfOk result (λ read. read.stamps ≡ stamps_of_slot aux) }
+    ensures damaged { IfOk result (λ read. read.damaged ≡ damage_of_slot aux) }
     ensures names { IfOk result (λ read. HaveNames read.stamps) }
     ensures fault { IfErr result (λ fault. fault ≡ LoadFault.NoMemory) }
 {
@@ -99,7 +75,7 @@ fn stamps_of(alloc: Global, aux: Option<Vec<u8>>) -> Result<AuxStamps, LoadFault
             damaged: None,
         });
     };
-    match aux_cache::read(alloc, &text) {
+    match aux_cache::read(alloc, text.as_bytes()) {
         Ok(stamps) => Ok(AuxStamps {
             stamps,
             damaged: None,
@@ -112,12 +88,12 @@ fn stamps_of(alloc: Global, aux: Option<Vec<u8>>) -> Result<AuxStamps, LoadFault
     }
 }
 
-// The image of what the slots hold.
-fn image_of(alloc: Global, texts: SlotTexts) -> Result<Session, LoadFault>
-    ensures { IsImageOf (bytes_in texts.manifest) (bytes_in texts.aux) result }
+// The image of what was read.
+fn image_of(alloc: Global, readings: Readings) -> Result<Session, LoadFault>
+    ensures { IsImageOf (says readings.stored) readings.aux result }
 {
-    let tree = tree_of(alloc, texts.manifest)?;
-    let aux = stamps_of(alloc, texts.aux)?;
+    let tree = tree_of(alloc, readings.stored)?;
+    let aux = stamps_of(alloc, readings.aux)?;
     Ok(Session {
         tree,
         stamps: aux.stamps,
@@ -131,9 +107,18 @@ impl Session {
     pub fn load<D: Disk>(alloc: Global, disk: &mut D) -> Result<Session, LoadFault>
         ensures loads { Loads result (D.state disk.old) (D.state disk.new) }
     {
-        match read_slots(alloc, disk) {
-            Ok(texts) => image_of(alloc, texts),
-            Err(fault) => Err(fault),
-        }
+        Session::load_from(alloc, disk, TreeSource::Manifest)
+    }
+
+    /// Loads the image whose tree comes from this source.
+    pub fn load_from<D: Disk>(
+        alloc: Global,
+        disk: &mut D,
+        source: TreeSource,
+    ) -> Result<Session, LoadFault>
+        ensures loads { LoadsFrom source result (D.state disk.old) (D.state disk.new) }
+    {
+        let readings = read_both(alloc, disk, source)?;
+        image_of(alloc, readings)
     }
 }

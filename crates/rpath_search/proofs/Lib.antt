@@ -1,3 +1,6 @@
 mod Endings
 pub mod Libraries
+mod Listed
+mod Loading
+mod Once
 mod Tried

@@ -1,4 +1,7 @@
+pub mod Candidates
 pub mod Faults
+pub mod Listed
+pub mod Loaders
 pub mod Places
 pub mod Search
 pub mod Trying

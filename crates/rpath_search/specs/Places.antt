@@ -1,6 +1,6 @@
 -- The paths at which the loader looks for a library that an object needs, as one list (ld.so(8), "DESCRIPTION").
-use Rattle.std.specs.Prelude.{ℕ, Bool, ◌-◌, ◌==◌, ◌&&◌, nat_eq, if◌then◌else◌, List, [], ◌∷◌, ◌++◌, length, map, flat_map, codes, Option, Some, None, is_some}
-use Rattle.std.specs.List.{before_last, list_any, slice_get, slice_split, starts_with}
+use Rattle.std.specs.Prelude.{ℕ, Bool, ◌==◌, ◌&&◌, nat_eq, if◌then◌else◌, List, [], ◌∷◌, ◌++◌, length, map, flat_map, codes, Option, Some, None, is_some, option_and_then, option_map, option_to_list}
+use Rattle.std.specs.List.{before_last, filter_map, list_any, slice_split, starts_with}
 use Rattle.std.specs.Option.{option_map_or}
 use Rattle.conf_patterns.specs.Bytes.{is_in, slashes, without_end}
 use Rattle.hwcap_dirs.specs.Places.{system_dirs}
@@ -26,83 +26,99 @@ folder_of path = or_root (before_last (is_in slashes) path)
 abbrev pub has_slash : List ℕ → Bool
 has_slash name = list_any is_slash name
 
--- ---- the paths in a directory
+-- ---- the directories of a text
 
 -- the directory that a text names, without slashes at its end: nothing for the root
 abbrev pub directory : List ℕ → List ℕ
 directory text = without_end slashes (from_root text)
-
-abbrev pub hwcaps_path : List ℕ → List ℕ → List ℕ → List ℕ
-hwcaps_path dir name cap = dir ++ codes "/glibc-hwcaps/" ++ cap ++ root ++ name
-
--- in the subdirectory for each hwcaps name in order, and then in the directory itself
-abbrev pub paths_in : List ℕ → Env → List ℕ → List (List ℕ)
-paths_in name env text = map (hwcaps_path (directory text) name) env.caps ++ (directory text ++ root ++ name) ∷ []
-
--- ---- the paths of a text of several directories
 
 -- an empty text has no items
 abbrev pub items : List ℕ → List ℕ → List (List ℕ)
 items separators text = if length text == 0 then [] else slice_split (is_in separators) text
 
 -- by an item, its tokens replaced; it is dropped if that gives no text
-abbrev pub item_paths : List ℕ → Env → List ℕ → List ℕ → List (List ℕ)
-item_paths name env origin item =
-    option_map_or (paths_in name env) (expanded (value_of origin (lib_of env.abi) env.platform) env.secure item) []
+abbrev pub item_dir : Env → List ℕ → List ℕ → Option (List ℕ)
+item_dir env origin item = option_map directory (expanded (value_of origin (lib_of env.abi) env.platform) env.secure item)
 
-abbrev pub text_paths : List ℕ → Env → List ℕ → List ℕ → List ℕ → List (List ℕ)
-text_paths name env separators origin text = flat_map (item_paths name env origin) (items separators text)
+abbrev pub dirs_of : Env → List ℕ → List ℕ → List ℕ → List (List ℕ)
+dirs_of env separators origin text = filter_map (item_dir env origin) (items separators text)
 
 -- by DT_RPATH or DT_RUNPATH of an object
-abbrev pub paths_by : List ℕ → Env → Owner → Option (List ℕ) → List (List ℕ)
-paths_by name env owner text = option_map_or (text_paths name env (codes ":") owner.origin) text []
-
--- ---- the parts of the list
+abbrev pub dirs_by : Env → Owner → List ℕ → List (List ℕ)
+dirs_by env owner text = dirs_of env (codes ":") owner.origin text
 
 -- DT_RPATH counts only in an object without DT_RUNPATH
-abbrev pub rpath_paths : List ℕ → Env → Owner → List (List ℕ)
-rpath_paths name env owner = if is_some owner.runpath then [] else paths_by name env owner owner.rpath
-
--- by DT_RPATH of the requesting object, of its loader, and so upwards to the program, unless the requesting object has DT_RUNPATH
-abbrev pub chain_paths : List ℕ → Env → List Owner → Owner → List (List ℕ)
-chain_paths name env chain requester = if is_some requester.runpath then [] else flat_map (rpath_paths name env) chain
+abbrev pub rpath_dirs : Env → Owner → List (List ℕ)
+rpath_dirs env owner = if is_some owner.runpath then [] else option_map_or (dirs_by env owner) owner.rpath []
 
 -- by the library path, which secure execution leaves out
-abbrev pub library_paths : List ℕ → Env → Owner → List (List ℕ)
-library_paths name env program = if env.secure then [] else text_paths name env (codes ":;") program.origin env.library_path
+abbrev pub library_dirs : Env → Owner → List (List ℕ)
+library_dirs env program = if env.secure then [] else dirs_of env (codes ":;") program.origin env.library_path
 
-abbrev pub runpath_paths : List ℕ → Env → Owner → List (List ℕ)
-runpath_paths name env requester = paths_by name env requester requester.runpath
+-- ---- where the requests of an object are searched
+
+pub record Reach : Type 0 where
+  -- by DT_RPATH of the object, of its loader, and so upwards to the program
+  pub rpaths : List (List ℕ)
+  pub library : List (List ℕ)
+  -- by its DT_RUNPATH, if it has one
+  pub runpath : Option (List (List ℕ))
+  -- without the default directories
+  pub nodeflib : Bool
+
+-- the last of an object and its loaders
+abbrev pub program_of : Owner → List Owner → Owner
+program_of owner [] = owner
+program_of owner (loader ∷ more) = program_of loader more
+
+-- of an object with these loaders: the one that was the first to request it, and so upwards to the program
+abbrev pub reach_of : Env → Owner → List Owner → Reach
+reach_of env owner loaders = record {
+  rpaths = flat_map (rpath_dirs env) (owner ∷ loaders);
+  library = library_dirs env (program_of owner loaders);
+  runpath = option_map (dirs_by env owner) owner.runpath;
+  nodeflib = owner.nodeflib;
+}
+
+-- the directories before the cache: those by DT_RPATH only if the object has no DT_RUNPATH
+abbrev pub first_dirs : Reach → List (List ℕ)
+first_dirs reach = (if is_some reach.runpath then [] else reach.rpaths) ++ reach.library ++ option_map_or (λ dirs. dirs) reach.runpath []
+
+-- the directories behind the cache
+abbrev pub default_dirs : Reach → List (List ℕ)
+default_dirs reach = if reach.nodeflib then [] else system_dirs
+
+-- ---- the paths of a name
+
+abbrev pub hwcaps_path : List ℕ → List ℕ → List ℕ → List ℕ
+hwcaps_path dir name cap = dir ++ codes "/glibc-hwcaps/" ++ cap ++ root ++ name
+
+-- in the subdirectory of a directory for each hwcaps name in order, and then in the directory itself
+abbrev pub paths_in : List ℕ → List (List ℕ) → List ℕ → List (List ℕ)
+paths_in name caps dir = map (hwcaps_path dir name) caps ++ (dir ++ root ++ name) ∷ []
 
 -- a path in one of the default directories or below it
 abbrev pub is_default : List ℕ → Bool
 is_default path = list_any (λ dir. is_below dir path) system_dirs
 
 -- an object with NODEFLIB leaves the default directories out, in the cache too
-abbrev pub cached_path : Owner → List ℕ → List (List ℕ)
-cached_path requester path = if requester.nodeflib && is_default path then [] else path ∷ []
+abbrev pub cached_path : Bool → List ℕ → Option (List ℕ)
+cached_path nodeflib path = if nodeflib && is_default path then None else Some path
 
-abbrev pub cached_paths : Owner → Option (List ℕ) → List (List ℕ)
-cached_paths requester cached = option_map_or (cached_path requester) cached []
+abbrev pub cached_paths : Reach → Option (List ℕ) → List (List ℕ)
+cached_paths reach cached = option_to_list (option_and_then (cached_path reach.nodeflib) cached)
 
-abbrev pub default_paths : List ℕ → Env → Owner → List (List ℕ)
-default_paths name env requester = if requester.nodeflib then [] else flat_map (paths_in name env) system_dirs
+abbrev pub paths_by : List ℕ → List (List ℕ) → Reach → Option (List ℕ) → List (List ℕ)
+paths_by name caps reach cached =
+    flat_map (paths_in name caps) (first_dirs reach)
+    ++ cached_paths reach cached
+    ++ flat_map (paths_in name caps) (default_dirs reach)
 
 -- ---- the list
 
-abbrev pub paths_between : List ℕ → Env → List Owner → Option (List ℕ) → Option Owner → Option Owner → List (List ℕ)
-paths_between name env chain cached (Some requester) (Some program) =
-    chain_paths name env chain requester
-    ++ library_paths name env program
-    ++ runpath_paths name env requester
-    ++ cached_paths requester cached
-    ++ default_paths name env requester
-paths_between name env chain cached (Some requester) None = []
-paths_between name env chain cached None program = []
-
--- the requesting object is the first, the program the last
 abbrev pub searched : List ℕ → Env → List Owner → Option (List ℕ) → List (List ℕ)
-searched name env chain cached = paths_between name env chain cached (slice_get chain 0) (slice_get chain (length chain - 1))
+searched name env [] cached = []
+searched name env (owner ∷ loaders) cached = paths_by name env.caps (reach_of env owner loaders) cached
 
 -- The paths for a name that the first object of a chain needs. Behind it in the chain stands the object that was the first to
 -- request it, and so upwards to the program. `cached` is the path that the cache has for the name. A name with a slash is itself

@@ -1,14 +1,19 @@
 //! Where the loader looks for the libraries that an object needs, and which file it takes.
 #![tactic(auto)]
 
+mod candidates;
+mod dirs;
 mod fault;
 mod kinds;
 mod listing;
+mod loaders;
 mod paths;
 mod search;
 
+pub use candidates::Candidates;
 pub use fault::SearchFault;
 pub use kinds::{Chain, Env, Found, Owner};
 pub use listing::places;
+pub use loaders::Loaders;
 pub use paths::{folder_of, from_root};
 pub use search::{find, is_library, key_at, library_at};

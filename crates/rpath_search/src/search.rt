@@ -6,7 +6,7 @@ ghost use Rattle.elf_dynamic.specs.Faults.{HasName};
 ghost use Rattle.tree_face.specs.Known.{IfKnown};
 ghost use Rattle.image_tree.specs.Tree.{node_at};
 ghost use Rattle.rpath_search.specs.Faults.{search_ending};
-ghost use Rattle.rpath_search.specs.Search.{IsFound, Searches, files_of, first_good, is_good, is_library, library_at};
+ghost use Rattle.rpath_search.specs.Search.{IsFound, Searches, each_once, files_of, first_good, is_good, is_library, library_at};
 
 use crate::fault::SearchFault;
 use crate::kinds::Found;
@@ -97,7 +97,8 @@ fn find_at<S: Store>(
     }
 }
 
-/// The first of these paths that leads to a library of the ABI, with what the library says of itself. Every other path is passed over.
+/// The first of these paths that leads to a library of the ABI, with what the library says of itself. Every other path is passed over, so
+/// a path that stands in the list again changes nothing.
 pub fn find<S: Store>(
     alloc: Global,
     tree: &Tree,
@@ -107,6 +108,8 @@ pub fn find<S: Store>(
 ) -> Result<Option<Found>, SearchFault>
     ensures first { IfOk result (λ f. IfKnown (S.state store.old).held
         (λ held. option_map (λ f. f.path) f ≡ first_good held tree.now abi places.now)) }
+    ensures once { IfOk result (λ f. IfKnown (S.state store.old).held
+        (λ held. option_map (λ f. f.path) f ≡ first_good held tree.now abi (each_once places.now))) }
     ensures found { IfOk result (λ f. IfSome f (IsFound (S.state store.old).held tree.now abi)) }
     ensures searches { Searches (S.state store.old).held tree.now abi places.now (search_ending result) (S.state store.old) (S.state store.new) }
 {

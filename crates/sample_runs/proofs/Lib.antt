@@ -1,5 +1,6 @@
 mod Drawn
 mod Edited
+mod Ended
 mod Honest
 mod Putting
 mod Ran

@@ -1,15 +1,23 @@
 -- A sample on devices in memory of its own.
-use Rattle.std.proofs.Common.{◌≡◌, ℕ, List, Option, Some, subst}
+use Rattle.std.proofs.Common.{◌≡◌, ℕ, List, Option, Some, Result, Ok, Err, refl, ap, sym, subst, ◌∙◌, inl, inr}
 use Rattle.command_status.specs.declared.status.Status.{Status}
 use Rattle.command_status.specs.declared.status.Status.TheVariants as statuses
 use Rattle.ldconfig_core.specs.Texts.{UpdateTexts}
 use Rattle.tree_face.specs.Disk.{DiskContent, DiskState}
-use Rattle.tree_face.specs.Follows.{IsFollowedBy, IsFollowedByPart}
 use Rattle.tree_face.specs.Known.{IfKnown}
 use Rattle.tree_face.specs.Store.{Contents, StoreState}
 use Rattle.tree_face.specs.Stream.{SinkState}
-use Rattle.sample_runs.specs.Run.{RunEnds, WritesText, own_status, sample_contents}
-use Rattle.sample_runs.specs.Sample.{IsTextOf, SampleEnds, Writes}
+use Rattle.sample_runs.specs.declared.fault.SampleFault.{SampleFault}
+use Rattle.sample_runs.specs.declared.fault.SampleFault.TheVariants.{DiskFault, NoMemory, StoreFault}
+use Rattle.sample_runs.specs.Faults.{of_sample}
+use Rattle.sample_runs.specs.Run.{IsOwnText, RunEnds, own_status, sample_contents}
+use Rattle.sample_runs.specs.Sample.{EndsBy, IsSample, IsTextOf, SampleEnds, Samples}
+
+-- out of memory, whichever device failed
+no_memory : (fault : SampleFault) → own_status (of_sample fault) ≡ statuses.NoMemory
+no_memory StoreFault = refl
+no_memory DiskFault = refl
+no_memory NoMemory = refl
 
 module _ (n : ℕ) (store after_store : StoreState) (disk after_disk : DiskState) (out after : SinkState) (content : DiskContent)
     (held : store.held ≡ Some (sample_contents n)) (known : disk.contents ≡ Some content) where
@@ -20,28 +28,18 @@ module _ (n : ℕ) (store after_store : StoreState) (disk after_disk : DiskState
       subst (λ (k : Option Contents). IfKnown k (λ held. IfKnown disk.contents (λ _. IsTextOf held n text first second))) held is in
       subst (λ (c : Option DiskContent). IfKnown c (λ _. IsTextOf (sample_contents n) n text first second)) known there
 
-  writes : (P : List ℕ → List ℕ → List ℕ → Type 0) → Writes P n store.held disk after_disk out after → WritesText P n out after
-  writes P w = record { text = w.text; first = w.is.first; second = w.is.second; is = text_is w.text w.is.first w.is.second w.is.is; written = w.written }
+  own : (text : List ℕ) → IsSample n text store after_store disk after_disk → IsOwnText n text
+  own text is = record { first = is.first; second = is.second; is = text_is text is.first is.second is.is }
+
+  sampled : (sampled : Result (List ℕ) SampleFault) (status : Status) → Samples n sampled store after_store disk after_disk → EndsBy sampled status out after → RunEnds n (own_status status) out after
+  sampled (Ok text) status is (inl (done, written)) = inl (text, (own text is, inl (ap own_status done, written)))
+  sampled (Ok text) status is (inr (failed, written)) = inl (text, (own text is, inr (ap own_status failed, written)))
+  sampled (Err fault) status fails (is, same) = inr (ap own_status is ∙ no_memory fault, same)
 
   pub run_ends : (status : Status) → SampleEnds n status store after_store disk after_disk out after → RunEnds n (own_status status) out after
-  run_ends statuses.Done ends = (writes IsFollowedBy ends.0, ends.1)
-  run_ends statuses.OutputFault ends = (writes IsFollowedByPart ends.0, ends.1)
-  run_ends statuses.NoMemory ends = ends
-  run_ends statuses.StoreFault ends = ends.1
-  run_ends statuses.DiskFault ends = ends.1
-  run_ends statuses.Missing ends = absurd ends
-  run_ends statuses.Usage ends = absurd ends
-  run_ends (statuses.BadManifest fault) ends = absurd ends
-  run_ends (statuses.BadScript line kind) ends = absurd ends
-  run_ends statuses.InputFault ends = absurd ends
-  run_ends (statuses.TooLong taken) ends = absurd ends
-  run_ends statuses.NoCache ends = absurd ends
-  run_ends (statuses.BadCache defect) ends = absurd ends
-  run_ends statuses.NoProgram ends = absurd ends
-  run_ends (statuses.BadProgram defect) ends = absurd ends
-  run_ends (statuses.TooMany count) ends = absurd ends
-  run_ends statuses.NoManifest ends = absurd ends
-  run_ends (statuses.TooLarge nodes bytes) ends = absurd ends
+  run_ends status (text, (is, ends)) = sampled text status is ends
 
 pub not_usage : (n : ℕ) (status : Status) (out after : SinkState) → RunEnds n status out after → status ≡ statuses.Usage → ⊥
-not_usage n status out after ends is = subst (λ (s : Status). RunEnds n s out after) is ends
+not_usage n status out after (inl (text, (is, inl (done, written)))) usage = let z : statuses.Done ≡ statuses.Usage = sym done ∙ usage in absurd (cc)
+not_usage n status out after (inl (text, (is, inr (failed, written)))) usage = let z : statuses.OutputFault ≡ statuses.Usage = sym failed ∙ usage in absurd (cc)
+not_usage n status out after (inr (none, same)) usage = let z : statuses.NoMemory ≡ statuses.Usage = sym none ∙ usage in absurd (cc)

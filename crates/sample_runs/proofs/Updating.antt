@@ -1,8 +1,6 @@
 -- One update of a sample, and both one after the other.
-use Rattle.std.proofs.Common.{◌≡◌, ◌≤◌, ℕ, List, Option, Some, None, Result, Ok, Err, sym, ap, subst, ◌∙◌, arith}
-use Rattle.command_status.specs.declared.status.Status.{Status}
-use Rattle.command_status.specs.declared.status.Status.TheVariants as statuses
-use Rattle.ldconfig_core.proofs.Repaired.{slots_are, written_slots}
+use Rattle.std.proofs.Common.{◌≡◌, ◌≤◌, ℕ, true, refl, List, [], ◌∷◌, Option, Some, None, Result, Ok, Err, sym, ap, subst, ◌∙◌, arith}
+use Rattle.ldconfig_core.proofs.WrittenSlots.{slots_are, written_slots}
 use Rattle.ldconfig_core.specs.declared.fault.UpdateFault.{UpdateFault}
 use Rattle.ldconfig_core.specs.declared.fault.UpdateFault.TheVariants as faults
 use Rattle.ldconfig_core.specs.declared.report.Report.{Report}
@@ -12,14 +10,21 @@ use Rattle.ldconfig_core.specs.Update.{IfHonestly, IsUpdated, Updates}
 use Rattle.lib_types.specs.Counts.{HasRisen}
 use Rattle.loaded_image.specs.Session.{Loaded}
 use Rattle.replaced_slots.specs.Replaced.{calls_of}
+use Rattle.searched_image.specs.Begun.{lacks_file, update_bytes}
 use Rattle.tree_face.proofs.Known.{relates_by}
 use Rattle.tree_face.specs.Disk.{DiskContent, DiskState, KeepsAll}
 use Rattle.tree_face.specs.Follows.{IsFollowedBy}
 use Rattle.tree_face.specs.Known.{IfKnown, Relates}
 use Rattle.tree_face.specs.Store.{Contents, StoreState}
+use Rattle.tree_face.specs.StoreUse.{Complete, ReadsFiles}
 use Rattle.tree_face.specs.declared.disk.DoneCall.{DoneCall}
+use Rattle.tree_face.specs.declared.disk.Slot.{Slot}
+use Rattle.tree_face.specs.declared.disk.Slot.TheVariants.{Cache}
+use Rattle.sample_runs.specs.declared.fault.SampleFault.{SampleFault}
+use Rattle.sample_runs.specs.declared.fault.SampleFault.TheVariants.{DiskFault, NoMemory, StoreFault}
 use Rattle.sample_runs.specs.declared.updates.SampleUpdate.{SampleUpdate}
-use Rattle.sample_runs.specs.Updates.{Goes, IsHonest, IsUpdateOf, ReadFails, UpdateFails, UpdatesTo, sample_tag, status_of}
+use Rattle.sample_runs.specs.Faults.{of_update}
+use Rattle.sample_runs.specs.Updates.{Goes, IsHonest, IsUpdateOf, ReadFails, UpdateFails, UpdatesTo, keys_of, sample_tag}
 
 -- ---- counts
 
@@ -40,7 +45,8 @@ cache_is texts cache (Some a) (Some b) leaves is =
 
 module _ (s : Loaded) (store after_store : StoreState) (disk middle after_disk : DiskState) where
   module _ (updated : Loaded) (report : Report) (u : Updates sample_tag s (Ok (updated, report)) store after_store disk middle) (keeps : KeepsAll middle after_disk)
-      (cache : List ℕ) (read : IfKnown middle.contents (λ known. known.now.cache ≡ Some cache)) where
+      (cache : List ℕ) (read : IfKnown middle.contents (λ known. known.now.cache ≡ Some cache)) (no_fault : after_disk.faults ≡ middle.faults)
+      (reads : Relates (IsFollowedBy (Cache ∷ [])) middle.reads after_disk.reads) where
     abbrev numbers : SampleUpdate
     numbers = record { libs = report.libs; links = report.links; opened = report.opened; cache = cache }
 
@@ -61,44 +67,41 @@ module _ (s : Loaded) (store after_store : StoreState) (disk middle after_disk :
           numbers = record { libs = made.report.libs; links = made.report.links; opened = made.report.opened };
         }
 
+    begins : (known : Option Contents) → store.held ≡ known → IfKnown known (λ held. IsHonest held s → Relates (IsFollowedBy (keys_of held s)) store.keys after_store.keys)
+    begins None is = tt
+    begins (Some held) is = λ honest.
+        let reads = subst (λ (known : Option Contents). IfHonestly known s
+        (λ held. ReadsFiles (lacks_file held s.tree s.stamps ≡ true) (Some (keys_of held s)) (Some (update_bytes held s.tree s.stamps)) Complete store after_store)) is u.reads.keys in
+        let here = reads honest.are_true honest.same in
+        here.begins
+
     -- the update is made, and then the cache is read
-    pub is_updated : UpdatesTo s (updated, numbers) store disk after_disk
+    pub is_updated : UpdatesTo s (updated, numbers) store after_store disk after_disk
     is_updated = record {
       texts = texts;
       slots = subst (λ (c : Option DiskContent). Relates (Leaves texts) disk.contents c) (sym keeps.contents) leaves;
       calls = subst (λ (c : Option (List DoneCall)). Relates (IsFollowedBy (calls_of sample_tag (writes_of texts))) disk.calls c) (sym keeps.calls) u.written.written.calls;
       cache = cache_is texts cache disk.contents middle.contents leaves read;
       honest = by_held store.held u.written.are.are_of u.updated;
+      begins = begins store.held refl;
+      reads = subst (λ (r : Option (List Slot)). Relates (IsFollowedBy (Cache ∷ [])) r after_disk.reads) u.written.written.reads reads;
+      none_rise = record { store_faults = u.reads.any.cause; disk_faults = no_fault ∙ u.written.written.faults };
     }
 
   -- the update isn't made
-  pub is_failed : (fault : UpdateFault) → Updates sample_tag s (Err fault) store after_store disk middle → UpdateFails s (status_of fault) store after_store disk middle
+  pub is_failed : (fault : UpdateFault) → Updates sample_tag s (Err fault) store after_store disk middle → UpdateFails s (of_update fault) store after_store disk middle
   is_failed faults.StoreFault u = u.reads.any.cause
   is_failed (faults.DiskFault fault) u = u.written.written.faults
-  is_failed (faults.TooLarge nodes bytes) u = tt
-  is_failed (faults.TooMany count) u = tt
-  is_failed faults.NoMemory u = tt
+  is_failed (faults.TooLarge nodes bytes) u = record { store_faults = u.reads.any.cause; disk_faults = ap (λ (d : DiskState). d.faults) u.written }
+  is_failed (faults.TooMany count) u = record { store_faults = u.reads.any.cause; disk_faults = ap (λ (d : DiskState). d.faults) u.written }
+  is_failed faults.NoMemory u = record { store_faults = u.reads.any.cause; disk_faults = ap (λ (d : DiskState). d.faults) u.written }
 
   -- the cache isn't read
-  pub is_unread : (status : Status) → disk.faults ≤ middle.faults → ReadFails status middle after_disk → UpdateFails s status store after_store disk after_disk
-  is_unread statuses.DiskFault before failed = risen_since disk.faults middle.faults after_disk.faults before failed
-  is_unread statuses.NoMemory before failed = tt
-  is_unread statuses.Done before failed = absurd failed
-  is_unread statuses.OutputFault before failed = absurd failed
-  is_unread statuses.Missing before failed = absurd failed
-  is_unread statuses.Usage before failed = absurd failed
-  is_unread (statuses.BadManifest fault) before failed = absurd failed
-  is_unread (statuses.BadScript line kind) before failed = absurd failed
-  is_unread statuses.InputFault before failed = absurd failed
-  is_unread (statuses.TooLong taken) before failed = absurd failed
-  is_unread statuses.NoCache before failed = absurd failed
-  is_unread (statuses.BadCache defect) before failed = absurd failed
-  is_unread statuses.NoProgram before failed = absurd failed
-  is_unread (statuses.BadProgram defect) before failed = absurd failed
-  is_unread (statuses.TooMany count) before failed = absurd failed
-  is_unread statuses.StoreFault before failed = absurd failed
-  is_unread statuses.NoManifest before failed = absurd failed
-  is_unread (statuses.TooLarge nodes bytes) before failed = absurd failed
+  pub is_unread : (updated : Loaded × Report) → Updates sample_tag s (Ok updated) store after_store disk middle → (fault : SampleFault) → ReadFails fault middle after_disk
+      → UpdateFails s fault store after_store disk after_disk
+  is_unread updated u StoreFault failed = absurd failed
+  is_unread updated u DiskFault failed = risen_since disk.faults middle.faults after_disk.faults u.disk_faults failed
+  is_unread updated u NoMemory same = record { store_faults = u.reads.any.cause; disk_faults = same ∙ u.written.written.faults }
 
   -- the store holds what it held, and no count falls
   pub goes_on : (result : Result (Loaded × Report) UpdateFault) → Updates sample_tag s result store after_store disk middle → middle.faults ≤ after_disk.faults → Goes store after_store disk after_disk

@@ -8,7 +8,7 @@ use Rattle.sample_runs.specs.Sample.{IsSample, IsTextOf}
 use Rattle.sample_runs.specs.Text.{sample_text, text_with}
 use Rattle.sample_runs.specs.Updates.{AreUpdatesOf, UpdatesTwice}
 
-module _ (n : ℕ) (first second : SampleUpdate) (store : StoreState) (disk after_disk : DiskState) (u : UpdatesTwice n (first, second) store disk after_disk) where
+module _ (n : ℕ) (first second : SampleUpdate) (store after_store : StoreState) (disk after_disk : DiskState) (u : UpdatesTwice n (first, second) store after_store disk after_disk) where
   same_text : (held : Contents) → AreUpdatesOf held n u.first u.second (first, second) → first.cache ≡ u.first.cache → second.cache ≡ u.second.cache
       → text_with n first second ≡ sample_text held n u.first.cache u.second.cache
   unfolding sample_text
@@ -29,10 +29,11 @@ module _ (n : ℕ) (first second : SampleUpdate) (store : StoreState) (disk afte
     text_is = same_text held made one two;
   }
 
-  pub is_sample : IsSample n (text_with n first second) store.held disk after_disk
+  pub is_sample : IsSample n (text_with n first second) store after_store disk after_disk
   is_sample = record {
     first = u.first;
     second = u.second;
     written = u.written;
     is = by store.held disk.contents u.first_cache u.second_cache u.are;
+    reads = u.reads;
   }

@@ -1,23 +1,22 @@
 -- The updates of a sample, step by step.
-use Rattle.std.specs.Prelude.{◌≡◌, ◌⊎◌, ◌≤◌, ◌<◌, ℕ, true, length, Option, IsSomeAnd, ⊤, ◌++◌}
-use Rattle.command_status.specs.declared.status.Status.{Status}
-use Rattle.command_status.specs.declared.status.Status.TheVariants.{StoreFault, DiskFault, NoMemory}
-use Rattle.ldconfig_core.specs.declared.fault.UpdateFault.{UpdateFault}
-use Rattle.ldconfig_core.specs.declared.fault.UpdateFault.TheVariants as faults
+use Rattle.std.specs.Prelude.{◌≡◌, ◌⊎◌, ◌≤◌, ◌<◌, ℕ, true, List, [], ◌∷◌, length, Option, IsSomeAnd, ◌++◌}
 use Rattle.ldconfig_core.specs.Repair.{slots_after}
 use Rattle.ldconfig_core.specs.Settled.{planned_image}
 use Rattle.ldconfig_core.specs.Texts.{AreTextsOf, UpdateTexts, update_slots, writes_of}
 use Rattle.lib_types.specs.Counts.{HasRisen}
 use Rattle.loaded_image.specs.Session.{Loaded}
 use Rattle.replaced_slots.specs.Replaced.{calls_of, slots_of}
-use Rattle.searched_image.specs.Begun.{lacks_some, opened_in}
+use Rattle.searched_image.specs.Begun.{lacks_some, opened_in, update_keys}
 use Rattle.searched_image.specs.Ldconfig.{entries_in, links_in}
 use Rattle.stamped_files.specs.Stamped.{AreSame, AreTrue}
+use Rattle.tree_face.specs.declared.disk.Slot.TheVariants.{Cache}
 use Rattle.tree_face.specs.declared.disk.Tag.{Tag}
 use Rattle.tree_face.specs.Disk.{DiskContent, DiskState}
 use Rattle.tree_face.specs.Follows.{IsFollowedBy}
 use Rattle.tree_face.specs.Known.{IfKnown, Relates}
 use Rattle.tree_face.specs.Store.{Contents, StoreState}
+use Rattle.sample_runs.specs.declared.fault.SampleFault.{SampleFault}
+use Rattle.sample_runs.specs.declared.fault.SampleFault.TheVariants.{StoreFault, DiskFault, NoMemory}
 use Rattle.sample_runs.specs.declared.updates.SampleUpdate.{SampleUpdate}
 use Rattle.sample_runs.specs.Images.{first_image, second_image}
 
@@ -31,17 +30,16 @@ pub record IsHonest (held : Contents) (s : Loaded) : Type 0 where
 
 -- ---- one update
 
--- the status of a fault; an image that is too large means out of memory
-abbrev pub status_of : UpdateFault → Status
-status_of faults.StoreFault = StoreFault
-status_of (faults.DiskFault fault) = DiskFault
-status_of _ = NoMemory
-
 -- the store holds what it held, and no count of faults falls
 pub record Goes (store after_store : StoreState) (disk after_disk : DiskState) : Type 0 where
   pub held : after_store.held ≡ store.held
   pub store_faults : store.faults ≤ after_store.faults
   pub disk_faults : disk.faults ≤ after_disk.faults
+
+-- no count of faults rises
+pub record NoneRise (store after_store : StoreState) (disk after_disk : DiskState) : Type 0 where
+  pub store_faults : after_store.faults ≡ store.faults
+  pub disk_faults : after_disk.faults ≡ disk.faults
 
 -- the numbers are those of the update of this image
 pub record AreNumbers (held : Contents) (s : Loaded) (numbers : SampleUpdate) : Type 0 where
@@ -55,30 +53,36 @@ pub record IsUpdateOf (held : Contents) (s : Loaded) (texts : UpdateTexts) (upda
   pub image_is : updated.0 ≡ planned_image held s
   pub numbers : AreNumbers held s updated.1
 
--- the writes of the texts are made, and the cache is then read
-pub record UpdatesTo (s : Loaded) (updated : Loaded × SampleUpdate) (store : StoreState) (disk after_disk : DiskState) : Type 0 where
+-- the keys of the update of this image
+abbrev pub keys_of : Contents → Loaded → List (List ℕ)
+keys_of held s = update_keys held s.tree s.stamps
+
+-- the writes of the texts are made, and the cache is then read; no other slot is, and no other key is begun
+pub record UpdatesTo (s : Loaded) (updated : Loaded × SampleUpdate) (store after_store : StoreState) (disk after_disk : DiskState) : Type 0 where
   pub texts : UpdateTexts
   pub slots : Relates (λ (a b : DiskContent). b.now ≡ slots_after (writes_of texts) a.now) disk.contents after_disk.contents
   pub calls : Relates (IsFollowedBy (calls_of sample_tag (writes_of texts))) disk.calls after_disk.calls
   pub cache : IfKnown disk.contents (λ _. updated.1.cache ≡ texts.cache)
   pub honest : IfKnown store.held (λ held. IsHonest held s → IsUpdateOf held s texts updated)
+  pub begins : IfKnown store.held (λ held. IsHonest held s → Relates (IsFollowedBy (keys_of held s)) store.keys after_store.keys)
+  pub reads : Relates (IsFollowedBy (Cache ∷ [])) disk.reads after_disk.reads
+  pub none_rise : NoneRise store after_store disk after_disk
 
 -- a file of the image isn't held
 abbrev pub Lacks : Option Contents → Loaded → Type 0
 Lacks known s = IsSomeAnd known (λ held. lacks_some held s.tree ≡ true)
 
--- the count of the device rose, or the store doesn't hold a file of the image
-abbrev pub UpdateFails : Loaded → Status → StoreState → StoreState → DiskState → DiskState → Type 0
+-- the count of the device rose, or the store doesn't hold a file of the image; memory is out only if no count rose
+abbrev pub UpdateFails : Loaded → SampleFault → StoreState → StoreState → DiskState → DiskState → Type 0
 UpdateFails s StoreFault store after_store disk after_disk = HasRisen store.faults after_store.faults ⊎ Lacks store.held s
 UpdateFails s DiskFault store after_store disk after_disk = HasRisen disk.faults after_disk.faults
-UpdateFails s NoMemory store after_store disk after_disk = ⊤
-UpdateFails s _ store after_store disk after_disk = ⊥
+UpdateFails s NoMemory store after_store disk after_disk = NoneRise store after_store disk after_disk
 
 -- why the cache isn't read
-abbrev pub ReadFails : Status → DiskState → DiskState → Type 0
+abbrev pub ReadFails : SampleFault → DiskState → DiskState → Type 0
+ReadFails StoreFault disk after_disk = ⊥
 ReadFails DiskFault disk after_disk = HasRisen disk.faults after_disk.faults
-ReadFails NoMemory disk after_disk = ⊤
-ReadFails _ disk after_disk = ⊥
+ReadFails NoMemory disk after_disk = after_disk.faults ≡ disk.faults
 
 -- ---- both updates
 
@@ -96,21 +100,31 @@ pub record AreUpdatesOf (held : Contents) (n : ℕ) (first second : UpdateTexts)
   pub first_numbers : AreNumbers held (first_image n) numbers.0
   pub second_numbers : AreNumbers held (second_image held n) numbers.1
 
-pub record UpdatesTwice (n : ℕ) (numbers : SampleUpdate × SampleUpdate) (store : StoreState) (disk after_disk : DiskState) : Type 0 where
+-- the keys of both updates, one after the other
+abbrev pub sample_keys : Contents → ℕ → List (List ℕ)
+sample_keys held n = keys_of held (first_image n) ++ keys_of held (second_image held n)
+
+-- what is read: the cache after each update, and the keys of both; no count of faults rises
+pub record ReadsTwice (n : ℕ) (store after_store : StoreState) (disk after_disk : DiskState) : Type 0 where
+  pub begins : IfKnown store.held (λ held. Relates (IsFollowedBy (sample_keys held n)) store.keys after_store.keys)
+  pub reads : Relates (IsFollowedBy (Cache ∷ Cache ∷ [])) disk.reads after_disk.reads
+  pub none_rise : NoneRise store after_store disk after_disk
+
+pub record UpdatesTwice (n : ℕ) (numbers : SampleUpdate × SampleUpdate) (store after_store : StoreState) (disk after_disk : DiskState) : Type 0 where
   pub first : UpdateTexts
   pub second : UpdateTexts
   pub written : AreWritten first second disk after_disk
   pub first_cache : IfKnown disk.contents (λ _. numbers.0.cache ≡ first.cache)
   pub second_cache : IfKnown disk.contents (λ _. numbers.1.cache ≡ second.cache)
   pub are : IfKnown store.held (λ held. AreUpdatesOf held n first second numbers)
+  pub reads : ReadsTwice n store after_store disk after_disk
 
 -- a file of one of the two images isn't held
 abbrev pub LacksFile : ℕ → Option Contents → Type 0
 LacksFile n known = IsSomeAnd known (λ held. (lacks_some held (first_image n).tree ≡ true) ⊎ (lacks_some held (second_image held n).tree ≡ true))
 
--- the count of the device rose, or the store doesn't hold a file of the images
-abbrev pub SampleFails : ℕ → Status → StoreState → StoreState → DiskState → DiskState → Type 0
+-- the count of the device rose, or the store doesn't hold a file of the images; memory is out only if no count rose
+abbrev pub SampleFails : ℕ → SampleFault → StoreState → StoreState → DiskState → DiskState → Type 0
 SampleFails n StoreFault store after_store disk after_disk = HasRisen store.faults after_store.faults ⊎ LacksFile n store.held
 SampleFails n DiskFault store after_store disk after_disk = HasRisen disk.faults after_disk.faults
-SampleFails n NoMemory store after_store disk after_disk = ⊤
-SampleFails n _ store after_store disk after_disk = ⊥
+SampleFails n NoMemory store after_store disk after_disk = NoneRise store after_store disk after_disk

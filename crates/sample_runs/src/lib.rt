@@ -1,6 +1,7 @@
 //! The command `sample`: two updates of images of made libraries on devices in memory, look-ups, and readings while updaters are at work.
 #![tactic(auto)]
 
+mod fault;
 mod files;
 mod images;
 mod lookups;
@@ -11,6 +12,7 @@ mod sample;
 mod text;
 mod updates;
 
+pub use fault::SampleFault;
 pub use files::SampleFile;
 pub use run::run_sample;
 pub use sample::sample_on;

@@ -5,6 +5,7 @@ ghost use Rattle.sample_runs.specs.Sample.{IsSample, SampleEnds};
 ghost use Rattle.sample_runs.specs.Text.{text_with};
 ghost use Rattle.sample_runs.specs.Updates.{SampleFails, UpdatesTwice};
 
+use crate::fault::SampleFault;
 use crate::files::{SampleFile, sample_files};
 use crate::images::{first_image, replace_all};
 use crate::lookups::found_in;
@@ -24,24 +25,24 @@ fn update_twice<S: Store, D: Disk>(
     files: &[SampleFile],
     store: &mut S,
     disk: &mut D,
-) -> Result<(SampleUpdate, SampleUpdate), Status>
+) -> Result<(SampleUpdate, SampleUpdate), SampleFault>
     requires { files.now ≡ sample_files n }
-    ensures updates { IfOk result (λ numbers. UpdatesTwice n numbers (S.state store.old) (D.state disk.old) (D.state disk.new)) }
-    ensures failed { IfErr result (λ status. SampleFails n status (S.state store.old) (S.state store.new) (D.state disk.old) (D.state disk.new)) }
+    ensures updates { IfOk result (λ numbers. UpdatesTwice n numbers (S.state store.old) (S.state store.new) (D.state disk.old) (D.state disk.new)) }
+    ensures failed { IfErr result (λ fault. SampleFails n fault (S.state store.old) (S.state store.new) (D.state disk.old) (D.state disk.new)) }
 {
     let Ok(image) = first_image(alloc, n, files) else {
-        return Err(Status::NoMemory);
+        return Err(SampleFault::NoMemory);
     };
     let (updated, first) = match update(alloc, image, store, disk) {
         Ok(updated) => updated,
-        Err(status) => return Err(status),
+        Err(fault) => return Err(fault),
     };
     let Ok(image) = replace_all(alloc, updated, n, files) else {
-        return Err(Status::NoMemory);
+        return Err(SampleFault::NoMemory);
     };
     match update(alloc, image, store, disk) {
         Ok((_, second)) => Ok((first, second)),
-        Err(status) => Err(status),
+        Err(fault) => Err(fault),
     }
 }
 
@@ -72,20 +73,20 @@ fn sample<S: Store, D: Disk>(
     n: u16,
     store: &mut S,
     disk: &mut D,
-) -> Result<Vec<u8>, Status>
-    ensures text { IfOk result (λ text. IsSample n text.items (S.state store.old).held (D.state disk.old) (D.state disk.new)) }
-    ensures failed { IfErr result (λ status. SampleFails n status (S.state store.old) (S.state store.new) (D.state disk.old) (D.state disk.new)) }
+) -> Result<Vec<u8>, SampleFault>
+    ensures text { IfOk result (λ text. IsSample n text.items (S.state store.old) (S.state store.new) (D.state disk.old) (D.state disk.new)) }
+    ensures failed { IfErr result (λ fault. SampleFails n fault (S.state store.old) (S.state store.new) (D.state disk.old) (D.state disk.new)) }
 {
     let Ok(files) = sample_files(alloc, n) else {
-        return Err(Status::NoMemory);
+        return Err(SampleFault::NoMemory);
     };
     let (first, second) = match update_twice(alloc, n, &files, store, disk) {
         Ok(updates) => updates,
-        Err(status) => return Err(status),
+        Err(fault) => return Err(fault),
     };
     match text_of(alloc, n, &files, &first, &second) {
         Ok(text) => Ok(text),
-        Err(NoMemory) => Err(Status::NoMemory),
+        Err(NoMemory) => Err(SampleFault::NoMemory),
     }
 }
 
@@ -101,7 +102,7 @@ pub fn sample_on<S: Store, D: Disk, O: Sink>(
 {
     let text = match sample(alloc, n, store, disk) {
         Ok(text) => text,
-        Err(status) => return status,
+        Err(fault) => return Status::from(fault),
     };
     if put_all(out, &text).is_err() {
         return Status::OutputFault;

@@ -1,12 +1,13 @@
 //! The updates of a sample.
-ghost use Rattle.std.specs.Prelude.{◌≡◌, ◌≤◌, IfErr, IfOk, Some};
+ghost use Rattle.std.specs.Prelude.{◌≡◌, ◌≤◌, ◌∷◌, [], IfErr, IfOk, OnOk, Some};
 ghost use Rattle.tree_face.specs.Disk.{KeepsAll};
-ghost use Rattle.tree_face.specs.Known.{IfKnown};
-ghost use Rattle.sample_runs.specs.Updates.{Goes, ReadFails, UpdateFails, UpdatesTo, status_of};
+ghost use Rattle.tree_face.specs.declared.disk.Slot.TheVariants as slots;
+ghost use Rattle.tree_face.specs.Follows.{IsFollowedBy};
+ghost use Rattle.tree_face.specs.Known.{IfKnown, Relates};
+ghost use Rattle.sample_runs.specs.Updates.{Goes, ReadFails, UpdateFails, UpdatesTo};
 
-use command_status::Status;
-use ldconfig_core::UpdateFault;
-use lib_types::{NoMemory, Text};
+use crate::fault::SampleFault;
+use lib_types::Text;
 use loaded_image::Session;
 use std::alloc::Global;
 use tree_face::{Disk, DiskRead, Slot, Store, Tag};
@@ -20,28 +21,19 @@ pub struct SampleUpdate {
     pub cache: Text,
 }
 
-// The status of a fault. No image of a sample is too large, so that one for its size means out of memory.
-fn status_of(fault: UpdateFault) -> Status
-    ensures { result ≡ status_of fault }
-{
-    match fault {
-        UpdateFault::StoreFault => Status::StoreFault,
-        UpdateFault::DiskFault(_) => Status::DiskFault,
-        _ => Status::NoMemory,
-    }
-}
-
 // The cache in its slot.
-fn read_cache<D: Disk>(alloc: Global, disk: &mut D) -> Result<Text, Status>
+fn read_cache<D: Disk>(alloc: Global, disk: &mut D) -> Result<Text, SampleFault>
     ensures content { IfOk result (λ cache. IfKnown (D.state disk.old).contents (λ known. known.now.cache ≡ Some cache)) }
-    ensures failed { IfErr result (λ status. ReadFails status (D.state disk.old) (D.state disk.new)) }
+    ensures failed { IfErr result (λ fault. ReadFails fault (D.state disk.old) (D.state disk.new)) }
     ensures keeps { KeepsAll (D.state disk.old) (D.state disk.new) }
     ensures faults { (D.state disk.old).faults ≤ (D.state disk.new).faults }
+    ensures no_fault { OnOk result ((D.state disk.new).faults ≡ (D.state disk.old).faults) }
+    ensures reads { OnOk result (Relates (IsFollowedBy (slots.Cache ∷ [])) (D.state disk.old).reads (D.state disk.new).reads) }
 {
     match disk.read(alloc, Slot::Cache) {
         Ok(Some(bytes)) => Ok(Text::from_vec(bytes)),
-        Ok(None) | Err(DiskRead::NoMemory) => Err(Status::NoMemory),
-        Err(DiskRead::Failed) => Err(Status::DiskFault),
+        Ok(None) | Err(DiskRead::NoMemory) => Err(SampleFault::NoMemory),
+        Err(DiskRead::Failed) => Err(SampleFault::DiskFault),
     }
 }
 
@@ -52,18 +44,18 @@ pub(crate) fn update<S: Store, D: Disk>(
     image: Session,
     store: &mut S,
     disk: &mut D,
-) -> Result<(Session, SampleUpdate), Status>
-    ensures updated { IfOk result (λ updated. UpdatesTo image updated (S.state store.old) (D.state disk.old) (D.state disk.new)) }
-    ensures failed { IfErr result (λ status. UpdateFails image status (S.state store.old) (S.state store.new) (D.state disk.old) (D.state disk.new)) }
+) -> Result<(Session, SampleUpdate), SampleFault>
+    ensures updated { IfOk result (λ updated. UpdatesTo image updated (S.state store.old) (S.state store.new) (D.state disk.old) (D.state disk.new)) }
+    ensures failed { IfErr result (λ fault. UpdateFails image fault (S.state store.old) (S.state store.new) (D.state disk.old) (D.state disk.new)) }
     ensures goes { Goes (S.state store.old) (S.state store.new) (D.state disk.old) (D.state disk.new) }
 {
     let (updated, report) = match ldconfig_core::update(alloc, image, store, disk, Tag(0)) {
         Ok(updated) => updated,
-        Err(fault) => return Err(status_of(fault)),
+        Err(fault) => return Err(SampleFault::from(fault)),
     };
     let cache = match read_cache(alloc, disk) {
         Ok(cache) => cache,
-        Err(status) => return Err(status),
+        Err(fault) => return Err(fault),
     };
     let numbers = SampleUpdate {
         libs: report.libs,

@@ -1,36 +1,47 @@
 -- What a crash of a script leaves.
-use Rattle.std.proofs.Common.{◌≡◌, ◌+◌, ◌++◌, ℕ, true, false, List, [], ◌∷◌, All, drop, flat_map, get_or, Option, Some, None, Result, Ok, Err, IsErrOf, refl, ap, sym, subst, ◌∙◌, inl, inr, arith}
+use Rattle.std.proofs.Common.{◌≡◌, ◌+◌, ◌++◌, ℕ, List, [], ◌∷◌, All, drop, append-nil, flat_map, get_or, Option, Some, None, Result, Ok, Err, refl, ap, sym, subst, ◌∙◌, inl, inr, arith}
 use Rattle.std.proofs.lemmas.List.Elements.{All-cons, All-nil}
+use Rattle.atomic_replace.specs.declared.fault.DiskFault.{DiskFault}
+use Rattle.atomic_replace.specs.Replace.{StopsAt, call_by}
 use Rattle.aux_cache.specs.declared.stamps.Stamp.{Stamp}
-use Rattle.ldconfig_core.specs.Outcome.{Outcome, Writes, update_outcome}
+use Rattle.ldconfig_core.specs.Outcome.{Outcome, update_outcome}
 use Rattle.ldconfig_core.specs.Settled.{planned_image}
 use Rattle.ldconfig_core.specs.Texts.{AreTexts, UpdateTexts, writes_of}
-use Rattle.ldconfig_core.specs.Update.{AreUpdateTexts, IfHonestly, IsUpdated, Updates}
+use Rattle.ldconfig_core.specs.Update.{IfHonestly, IsUpdated, Updates}
 use Rattle.ldconfig_core.specs.declared.fault.UpdateFault.{UpdateFault}
 use Rattle.ldconfig_core.specs.declared.fault.UpdateFault.TheVariants as updating
 use Rattle.ldconfig_core.specs.declared.report.Report.{Report}
 use Rattle.loaded_image.specs.Session.{Loaded}
 use Rattle.manifest_words.specs.declared.fault.LineKind.{LineKind}
 use Rattle.replaced_slots.proofs.CrashesOneByOne.{leaves_on, nothing_left}
-use Rattle.replaced_slots.specs.Replaced.{IsOfWrites, LeavesOnlyWritten}
+use Rattle.replaced_slots.specs.Replaced.{IsOfWrites, LeavesOnlyWritten, calls_of}
 use Rattle.script_lines.specs.Script.{line_of}
 use Rattle.script_lines.specs.declared.line.ScriptLine.{ScriptLine}
 use Rattle.script_lines.specs.declared.line.ScriptLine.TheVariants as asking
 use Rattle.tree_face.specs.Crash.{HasMoments, Leaves}
 use Rattle.tree_face.specs.Disk.{DiskState}
-use Rattle.tree_face.specs.Known.{IfKnown}
+use Rattle.tree_face.proofs.Follows.{follow}
+use Rattle.tree_face.proofs.Known.{relates_by, relates_on}
+use Rattle.tree_face.specs.declared.disk.DoneCall.{DoneCall}
+use Rattle.tree_face.specs.Follows.{IsFollowedBy}
+use Rattle.tree_face.specs.Known.{IfKnown, Relates}
 use Rattle.tree_face.specs.Store.{Contents}
 use Rattle.tree_face.specs.declared.disk.Tag.{Tag}
-use Rattle.command_status.specs.Status.{of_update}
-use Rattle.command_status.specs.declared.status.Status.{Status}
-use Rattle.command_status.specs.declared.status.Status.TheVariants.{DiskFault, Done, NoMemory}
-use Rattle.update_runs.proofs.SettledSlots.{not_updated}
-use Rattle.update_runs.specs.Update.{IsUpdatedTo, Reports, is_made, status_of}
+use Rattle.update_runs.specs.Update.{Reports, States}
+use Rattle.update_runs.specs.declared.fault.UpdatingFault.{UpdatingFault}
+use Rattle.update_runs.specs.declared.fault.UpdatingFault.TheVariants.{OutputFault, Update}
+use Rattle.script_runs.specs.declared.fault.LineFault.{LineFault}
+use Rattle.script_runs.specs.declared.fault.LineFault.TheVariants as lines_end
+use Rattle.script_runs.specs.declared.fault.ScriptFault.{ScriptFault}
+use Rattle.script_runs.specs.declared.fault.ScriptFault.TheVariants.{Line, NoMemory, Updating}
 use Rattle.script_runs.proofs.EditedImage.{IsEdit, edit_is}
 use Rattle.script_runs.proofs.HonestCourse.{IsHonest, asked_is, next_is}
+use Rattle.script_runs.proofs.UpdateOf.{if_honest}
 use Rattle.script_runs.specs.Course.{AreHonest, Course, course, course_by, course_of_update, goes_on}
-use Rattle.script_runs.specs.Crash.{AreOfCourse, AreOfFirst, AreSettledTexts, LeavesLast, LeavesWholeCaches}
-use Rattle.script_runs.specs.Run.{DoesLine, GoesOn, RunsLines, States, after_line}
+use Rattle.script_runs.specs.Crash.{AreOfCourse, AreOfFirst, IsNotDone, LeavesLast, LeavesWholeCaches, MakesCalls, NoneFailed, calls_of_all}
+use Rattle.script_runs.specs.Faults.{numbered, updated}
+use Rattle.script_runs.specs.Left.{IsUpdateOf}
+use Rattle.script_runs.specs.Run.{DoesLine, DoesUpdate, GoesOn, RunsLines, after_line}
 
 -- ---- lists
 
@@ -40,25 +51,38 @@ first_is x y xs ys e = ap (λ list. get_or list 0 x) e
 rest_is : (x y : UpdateTexts) (xs ys : List UpdateTexts) → x ∷ xs ≡ y ∷ ys → xs ≡ ys
 rest_is x y xs ys e = ap (drop 1) e
 
+-- a script that has ended isn't done
+pub fault_ends : (to : Result Loaded ScriptFault) (fault : ScriptFault) → to ≡ Err fault → IsNotDone to
+fault_ends to fault is session done = let z : Ok session ≡ Err fault = sym done ∙ is in absurd (cc)
+
 -- ---- updates
 
 -- these updates were made from the one disk to the other; the last may have failed
-record AreWritten (updates : List UpdateTexts) (status : Status) (old new : DiskState) : Type 0 where
+record AreWritten (tag : Tag) (updates : List UpdateTexts) (to : Result Loaded ScriptFault) (old new : DiskState) : Type 0 where
   are : All AreTexts updates
   leaves : Leaves (IsOfWrites (flat_map writes_of updates)) old new
   none : updates ≡ [] → new ≡ old
-  settled : (status ≡ DiskFault → ⊥) → LeavesLast updates new
+  settled : NoneFailed to → LeavesLast updates new
+  calls : Relates (MakesCalls tag updates to) old.calls new.calls
 
 -- some updates of which this holds were made
-abbrev HasWritten : (List UpdateTexts → Type 0) → Status → DiskState → DiskState → Type 0
-HasWritten Of status old new = (updates : List UpdateTexts) × (AreWritten updates status old new × Of updates)
+abbrev HasWritten : Tag → (List UpdateTexts → Type 0) → Result Loaded ScriptFault → DiskState → DiskState → Type 0
+HasWritten tag Of to old new = (updates : List UpdateTexts) × (AreWritten tag updates to old new × Of updates)
 
 no_last : (new : DiskState) → LeavesLast [] new
 no_last new [] last e = absurd (cc)
 no_last new (x ∷ front) last e = absurd (cc)
 
-nothing_written : (Of : List UpdateTexts → Type 0) (status : Status) (old new : DiskState) → Of [] → new ≡ old → HasWritten Of status old new
-nothing_written Of status old new none same = (
+-- no writing call failed, since the script ends so
+none_failed : (to other : Result Loaded ScriptFault) → to ≡ other → NoneFailed other → NoneFailed to
+none_failed to other is none fault e = none fault (sym is ∙ e)
+
+no_calls : (tag : Tag) (to : Result Loaded ScriptFault) → NoneFailed to → (calls : Option (List DoneCall)) → Relates (MakesCalls tag [] to) calls calls
+no_calls tag to none None = tt
+no_calls tag to none (Some calls) = record { all = λ _. sym (append-nil calls); part = λ fault failed. absurd (none fault failed) }
+
+nothing_written : (tag : Tag) (Of : List UpdateTexts → Type 0) (to : Result Loaded ScriptFault) (old new : DiskState) → NoneFailed to → Of [] → new ≡ old → HasWritten tag Of to old new
+nothing_written tag Of to old new none_fails none same = (
   [],
   (
     record {
@@ -66,17 +90,33 @@ nothing_written Of status old new none same = (
       leaves = subst (λ (new : DiskState). Leaves (IsOfWrites []) old new) (sym same) (nothing_left old);
       none = λ _. same;
       settled = λ _. no_last new;
+      calls = subst (λ (new : DiskState). Relates (MakesCalls tag [] to) old.calls new.calls) (sym same) (no_calls tag to none_fails old.calls);
     },
     none,
   ),
 )
 
 -- the same updates, of which another fact holds
-of_by : (Of Also : List UpdateTexts → Type 0) (status : Status) (old new : DiskState) → ((updates : List UpdateTexts) → Of updates → Also updates)
-    → HasWritten Of status old new → HasWritten Also status old new
-of_by Of Also status old new f (updates, (written, is)) = (updates, (written, f updates is))
+of_by : (tag : Tag) (Of Also : List UpdateTexts → Type 0) (to : Result Loaded ScriptFault) (old new : DiskState) → ((updates : List UpdateTexts) → Of updates → Also updates)
+    → HasWritten tag Of to old new → HasWritten tag Also to old new
+of_by tag Of Also to old new f (updates, (written, is)) = (updates, (written, f updates is))
 
-module _ (texts : UpdateTexts) (are : AreTexts texts) (status : Status) (old between new : DiskState) (leaves : Leaves (IsOfWrites (writes_of texts)) old between) where
+module _ (tag : Tag) (texts : UpdateTexts) (are : AreTexts texts) (to : Result Loaded ScriptFault) (old between new : DiskState) (leaves : Leaves (IsOfWrites (writes_of texts)) old between)
+    (first : Relates (IsFollowedBy (calls_of tag (writes_of texts))) old.calls between.calls) where
+  calls_on : (updates : List UpdateTexts) (x y z : List DoneCall) → IsFollowedBy (calls_of tag (writes_of texts)) x y → MakesCalls tag updates to y z → MakesCalls tag (texts ∷ updates) to x z
+  calls_on updates x y z one rest =
+      let these = calls_of tag (writes_of texts) in
+      record {
+        all = λ none. follow these (calls_of_all tag updates) x y z one (rest.all none);
+        part = λ fault failed. let left = rest.part fault failed in record {
+          front = texts ∷ left.front;
+          last = left.last;
+          parts = ap (λ l. texts ∷ l) left.parts;
+          stops = subst (λ (made : List DoneCall). StopsAt (call_by tag fault.slot fault.call) (calls_of tag (writes_of left.last)) made z)
+              (follow these (calls_of_all tag left.front) x y (y ++ calls_of_all tag left.front) one refl) left.stops;
+        };
+      }
+
   last_is : (updates : List UpdateTexts) → IfKnown between.contents (λ _. LeavesOnlyWritten (writes_of texts) between) → (updates ≡ [] → new ≡ between) → LeavesLast updates new
       → LeavesLast (texts ∷ updates) new
   last_is updates settled none later [] last e =
@@ -86,7 +126,7 @@ module _ (texts : UpdateTexts) (are : AreTexts texts) (status : Status) (old bet
 
   -- an update that is made, and what follows
   then_written : (Of Rest : List UpdateTexts → Type 0) → IfKnown between.contents (λ _. LeavesOnlyWritten (writes_of texts) between)
-      → ((updates : List UpdateTexts) → Rest updates → Of (texts ∷ updates)) → HasWritten Rest status between new → HasWritten Of status old new
+      → ((updates : List UpdateTexts) → Rest updates → Of (texts ∷ updates)) → HasWritten tag Rest to between new → HasWritten tag Of to old new
   then_written Of Rest settled f (updates, (rest, is)) = (
     texts ∷ updates,
     (
@@ -95,193 +135,214 @@ module _ (texts : UpdateTexts) (are : AreTexts texts) (status : Status) (old bet
         leaves = leaves_on (writes_of texts) (flat_map writes_of updates) old between new leaves rest.leaves;
         none = λ e. absurd (cc);
         settled = λ other. last_is updates settled rest.none (rest.settled other);
+        calls = relates_on (IsFollowedBy (calls_of tag (writes_of texts))) (MakesCalls tag updates to) (MakesCalls tag (texts ∷ updates) to) (calls_on updates) old.calls between.calls new.calls first rest.calls;
       },
       f updates is,
     ),
   )
 
+one_fault : (to : Result Loaded ScriptFault) (fault other : DiskFault) → to ≡ Err (Updating (Update (updating.DiskFault fault))) → to ≡ Err (Updating (Update (updating.DiskFault other)))
+    → fault ≡ other
+one_fault to fault other is e =
+    let same : Err (Updating (Update (updating.DiskFault fault))) ≡ Err (Updating (Update (updating.DiskFault other))) = sym is ∙ e in
+    ap (fault_in fault) same
+  where
+    fault_in : DiskFault → Result Loaded ScriptFault → DiskFault
+    fault_in else (Err (Updating (Update (updating.DiskFault fault)))) = fault
+    fault_in else _ = else
+
 -- an update that a failing device ends
-part_written : (Of : List UpdateTexts → Type 0) (texts : UpdateTexts) → AreTexts texts → (status : Status) (old new : DiskState) → status ≡ DiskFault → Of (texts ∷ [])
-    → Leaves (IsOfWrites (writes_of texts)) old new → HasWritten Of status old new
-part_written Of texts are status old new failed is leaves = (
+part_written : (tag : Tag) (Of : List UpdateTexts → Type 0) (texts : UpdateTexts) → AreTexts texts → (to : Result Loaded ScriptFault) (old new : DiskState) (fault : DiskFault)
+    → to ≡ Err (Updating (Update (updating.DiskFault fault))) → Of (texts ∷ []) → Leaves (IsOfWrites (writes_of texts)) old new
+    → Relates (StopsAt (call_by tag fault.slot fault.call) (calls_of tag (writes_of texts))) old.calls new.calls → HasWritten tag Of to old new
+part_written tag Of texts are to old new fault failed is leaves calls = (
   texts ∷ [],
   (
     record {
       are = All-cons AreTexts texts [] are (All-nil AreTexts);
       leaves = leaves_on (writes_of texts) [] old new new leaves (nothing_left new);
       none = λ e. absurd (cc);
-      settled = λ other. absurd (other failed);
+      settled = λ other. absurd (other fault failed);
+      calls = relates_by (StopsAt (call_by tag fault.slot fault.call) (calls_of tag (writes_of texts))) (MakesCalls tag (texts ∷ []) to) stopped old.calls new.calls calls;
     },
     is,
   ),
 )
+  where
+    stopped : (x y : List DoneCall) → StopsAt (call_by tag fault.slot fault.call) (calls_of tag (writes_of texts)) x y → MakesCalls tag (texts ∷ []) to x y
+    stopped x y stops = record {
+      all = λ none. absurd (none fault failed);
+      part = λ other e. record {
+        front = [];
+        last = texts;
+        parts = refl;
+        stops = subst (λ (fault : DiskFault). StopsAt (call_by tag fault.slot fault.call) (calls_of tag (writes_of texts)) (x ++ []) y) (one_fault to fault other failed e)
+            (subst (λ (made : List DoneCall). StopsAt (call_by tag fault.slot fault.call) (calls_of tag (writes_of texts)) made y) (sym (append-nil x)) stops);
+      };
+    }
 
 -- ---- the course
 
-none_of : (status : Status) (known : Option Contents) (stamps : List Stamp) (course : Contents → Course) → ((held : Contents) → status ≡ Done → (course held).updates ≡ [])
-    → AreOfCourse known stamps status course []
-none_of status None stamps course none = tt
-none_of status (Some held) stamps course none = λ honest. none held
+none_of : (to : Result Loaded ScriptFault) (known : Option Contents) (stamps : List Stamp) (course : Contents → Course)
+    → ((held : Contents) (session : Loaded) → to ≡ Ok session → (course held).updates ≡ []) → AreOfCourse known stamps to course []
+none_of to None stamps course none = tt
+none_of to (Some held) stamps course none = λ honest. none held
 
-settled_texts : (s : Loaded) (texts : UpdateTexts) (known : Option Contents) → AreUpdateTexts s known texts → IfHonestly known s (λ held. update_outcome held s ≡ Writes)
-    → IfHonestly known s (λ held. AreSettledTexts held s texts)
-settled_texts s texts None are writes = tt
-settled_texts s texts (Some held) are writes = λ are_true same.
-    record {
-      made = writes are_true same;
-      are = are.are_of are_true same;
-      finds = are.finds are_true same;
-      settled = are.settles are_true same;
-      manifest_read = are.reads are_true same;
-      aux_read = are.aux_read are_true same;
-    }
+-- of a script that isn't done some updates may be left
+none_yet : (to : Result Loaded ScriptFault) (known : Option Contents) (stamps : List Stamp) (course : Contents → Course) → IsNotDone to → AreOfCourse known stamps to course []
+none_yet to known stamps course not_done = none_of to known stamps course (λ held session done. absurd (not_done session done))
 
--- an update, and the updates behind it
-module _ (status : Status) (s : Loaded) (more : Contents → Loaded → Course) (texts : UpdateTexts) (updates : List UpdateTexts) where
-  abbrev IsBehind : Contents → Type 0
-  IsBehind held = AreHonest held (planned_image held s).stamps (more held (planned_image held s)).asked → AreOfFirst held status (more held (planned_image held s)).updates updates
+-- an update, and the updates after it
+module _ (to : Result Loaded ScriptFault) (s : Loaded) (more : Contents → Loaded → Course) (texts : UpdateTexts) (updates : List UpdateTexts) where
+  abbrev IsAfter : Contents → Type 0
+  IsAfter held = AreHonest held (planned_image held s).stamps (more held (planned_image held s)).asked → AreOfFirst held to (more held (planned_image held s)).updates updates
 
-  update_of : (known : Option Contents) → IfHonestly known s (λ held. AreSettledTexts held s texts) → IfHonestly known s IsBehind
-      → AreOfCourse known s.stamps status (λ held. course_of_update held s (update_outcome held s) (more held)) (texts ∷ updates)
-  update_of None are behind = tt
-  update_of (Some held) are behind = λ honest.
+  update_of : (known : Option Contents) → IfHonestly known s (λ held. IsUpdateOf held s texts) → IfHonestly known s IsAfter
+      → AreOfCourse known s.stamps to (λ held. course_of_update held s (update_outcome held s) (more held)) (texts ∷ updates)
+  update_of None are after = tt
+  update_of (Some held) are after = λ honest.
       let here : IsHonest held s = asked_is held s (update_outcome held s) (more held) honest in
-      let settled = are here.0 here.1 in
+      let update = are here.0 here.1 in
       let next = next_is held s (more held (planned_image held s)).asked
-      (subst (λ (outcome : Outcome). AreHonest held s.stamps (course_of_update held s outcome (more held)).asked) settled.made honest) in
-      subst (λ (outcome : Outcome). AreOfFirst held status (course_of_update held s outcome (more held)).updates (texts ∷ updates)) (sym settled.made)
-      (settled, behind here.0 here.1 next)
+      (subst (λ (outcome : Outcome). AreHonest held s.stamps (course_of_update held s outcome (more held)).asked) update.made honest) in
+      subst (λ (outcome : Outcome). AreOfFirst held to (course_of_update held s outcome (more held)).updates (texts ∷ updates)) (sym update.made)
+      (update, after here.0 here.1 next)
 
-  -- the updates of the image with the planned links
-  behind_of : (image : Loaded) (known between : Option Contents) → between ≡ known → IfHonestly known s (λ held. image ≡ planned_image held s)
-      → AreOfCourse between image.stamps status (λ held. more held image) updates → IfHonestly known s IsBehind
-  behind_of image None between same is are = tt
-  behind_of image (Some held) between same is are = λ are_true same_files.
-      subst (λ (i : Loaded). AreHonest held i.stamps (more held i).asked → AreOfFirst held status (more held i).updates updates) (is are_true same_files)
-      (subst (λ (known : Option Contents). AreOfCourse known image.stamps status (λ held. more held image) updates) same are)
+  -- the updates of the session with the planned links
+  after_of : (session : Loaded) (known between : Option Contents) → between ≡ known → IfHonestly known s (λ held. session ≡ planned_image held s)
+      → AreOfCourse between session.stamps to (λ held. more held session) updates → IfHonestly known s IsAfter
+  after_of session None between same is are = tt
+  after_of session (Some held) between same is are = λ are_true same_files.
+      subst (λ (i : Loaded). AreHonest held i.stamps (more held i).asked → AreOfFirst held to (more held i).updates updates) (is are_true same_files)
+      (subst (λ (known : Option Contents). AreOfCourse known session.stamps to (λ held. more held session) updates) same are)
 
--- no update is behind it
-last_of : (status : Status) (s : Loaded) (more : Contents → Loaded → Course) (texts : UpdateTexts) (known : Option Contents) → (status ≡ Done → ⊥)
-    → IfHonestly known s (IsBehind status s more texts [])
-last_of status s more texts None not_done = tt
-last_of status s more texts (Some held) not_done = λ are_true same honest done. absurd (not_done done)
+-- no update is after it
+last_of : (to : Result Loaded ScriptFault) (s : Loaded) (more : Contents → Loaded → Course) (texts : UpdateTexts) (known : Option Contents) → IsNotDone to
+    → IfHonestly known s (IsAfter to s more texts [])
+last_of to s more texts None not_done = tt
+last_of to s more texts (Some held) not_done = λ are_true same honest session done. absurd (not_done session done)
 
-planned_of : (known : Option Contents) (s image : Loaded) (updated : Loaded × Report) → image ≡ updated.0 → IfHonestly known s (λ held. IsUpdated held s updated)
-    → IfHonestly known s (λ held. image ≡ planned_image held s)
-planned_of None s image updated same is = tt
-planned_of (Some held) s image updated same is = λ are_true files. let is_updated = is are_true files in same ∙ is_updated.planned
+planned_of : (known : Option Contents) (s session : Loaded) (done : Loaded × Report) → session ≡ done.0 → IfHonestly known s (λ held. IsUpdated held s done)
+    → IfHonestly known s (λ held. session ≡ planned_image held s)
+planned_of None s session done same is = tt
+planned_of (Some held) s session done same is = λ are_true files. let is_updated = is are_true files in same ∙ is_updated.planned
 
--- the updates behind an edit
-edit_of : (status : Status) (known : Option Contents) (s image : Loaded) (more : Contents → Loaded → Course) (updates : List UpdateTexts) → image.stamps ≡ s.stamps
-    → AreOfCourse known image.stamps status (λ held. more held image) updates → AreOfCourse known s.stamps status (λ held. more held image) updates
-edit_of status known s image more updates kept are = subst (λ (stamps : List Stamp). AreOfCourse known stamps status (λ held. more held image) updates) kept are
+-- the updates after an edit
+edit_of : (to : Result Loaded ScriptFault) (known : Option Contents) (s session : Loaded) (more : Contents → Loaded → Course) (updates : List UpdateTexts) → session.stamps ≡ s.stamps
+    → AreOfCourse known session.stamps to (λ held. more held session) updates → AreOfCourse known s.stamps to (λ held. more held session) updates
+edit_of to known s session more updates kept are = subst (λ (stamps : List Stamp). AreOfCourse known stamps to (λ held. more held session) updates) kept are
 
 -- ---- the lines
 
 module _ (tag : Tag) where
   abbrev AreWrittenBy : List (List ℕ) → Type 0
-  AreWrittenBy lines = (number : ℕ) (s : Loaded) (status : Status) (old new : States) → RunsLines tag number lines s status old new
-      → HasWritten (AreOfCourse old.store.held s.stamps status (λ held. course held number lines s)) status old.disk new.disk
+  AreWrittenBy lines = (number : ℕ) (s : Loaded) (to : Result Loaded ScriptFault) (old new : States) → RunsLines tag number lines s to old new
+      → HasWritten tag (AreOfCourse old.store.held s.stamps to (λ held. course held number lines s)) to old.disk new.disk
 
-  module _ (lines : List (List ℕ)) (are : AreWrittenBy lines) (number : ℕ) (s : Loaded) (status : Status) (old new : States) where
+  module _ (lines : List (List ℕ)) (are : AreWrittenBy lines) (number : ℕ) (s : Loaded) (to : Result Loaded ScriptFault) (old new : States) where
     abbrev more : Contents → Loaded → Course
-    more held image = course held (1 + number) lines image
+    more held session = course held (1 + number) lines session
 
-    abbrev GoesBy : States → Result Loaded Status → Type 0
-    GoesBy between to = GoesOn to (λ image. RunsLines tag (1 + number) lines image status between new) status between new
+    abbrev GoesFrom : States → Result Loaded LineFault → Type 0
+    GoesFrom between one = GoesOn number one (λ session. RunsLines tag (1 + number) lines session to between new) to between new
 
     -- ---- an update
 
     module _ (between : States) where
       abbrev OfUpdate : List UpdateTexts → Type 0
-      OfUpdate = AreOfCourse old.store.held s.stamps status (λ held. course_of_update held s (update_outcome held s) (more held))
+      OfUpdate = AreOfCourse old.store.held s.stamps to (λ held. course_of_update held s (update_outcome held s) (more held))
 
       abbrev IsRun : Result (Loaded × Report) UpdateFault → Type 0
       IsRun result = Updates tag s result old.store between.store old.disk between.disk
 
-      unwritten : (status ≡ Done → ⊥) → between.disk ≡ old.disk → new ≡ between → HasWritten OfUpdate status old.disk new.disk
-      unwritten not_done kept same = nothing_written OfUpdate status old.disk new.disk
-          (none_of status old.store.held s.stamps (λ held. course_of_update held s (update_outcome held s) (more held)) (λ held done. absurd (not_done done)))
+      unwritten : IsNotDone to → NoneFailed to → between.disk ≡ old.disk → new ≡ between → HasWritten tag OfUpdate to old.disk new.disk
+      unwritten not_done none_fails kept same = nothing_written tag OfUpdate to old.disk new.disk none_fails
+          (none_yet to old.store.held s.stamps (λ held. course_of_update held s (update_outcome held s) (more held)) not_done)
           (ap (λ (d : States). d.disk) same ∙ kept)
 
-      not_done : (fault : UpdateFault) → status ≡ of_update fault → status ≡ Done → ⊥
-      not_done fault is done = let z : true ≡ false = ap is_made (sym done ∙ is) ∙ not_updated fault in absurd (cc)
-
-      failed : (fault : UpdateFault) → IsRun (Err fault) → status ≡ of_update fault → new ≡ between → HasWritten OfUpdate status old.disk new.disk
+      failed : (fault : UpdateFault) → IsRun (Err fault) → to ≡ Err (Updating (Update fault)) → new ≡ between → HasWritten tag OfUpdate to old.disk new.disk
       failed (updating.DiskFault fault) u is same =
           let left = u.written in
-          subst (λ (s : States). HasWritten OfUpdate status old.disk s.disk) (sym same)
-          (part_written OfUpdate left.texts left.are.are status old.disk between.disk is
-          (update_of status s more left.texts [] old.store.held (settled_texts s left.texts old.store.held left.are u.answers)
-          (last_of status s more left.texts old.store.held (not_done (updating.DiskFault fault) is))) left.written.leaves)
-      failed updating.StoreFault u is same = unwritten (not_done updating.StoreFault is) u.written same
-      failed (updating.TooLarge nodes bytes) u is same = unwritten (not_done (updating.TooLarge nodes bytes) is) u.written same
-      failed (updating.TooMany count) u is same = unwritten (not_done (updating.TooMany count) is) u.written same
-      failed updating.NoMemory u is same = unwritten (not_done updating.NoMemory is) u.written same
+          subst (λ (s : States). HasWritten tag OfUpdate to old.disk s.disk) (sym same)
+          (part_written tag OfUpdate left.texts left.are.are to old.disk between.disk fault is
+          (update_of to s more left.texts [] old.store.held (if_honest s left.texts old.store.held left.are u.answers)
+          (last_of to s more left.texts old.store.held (fault_ends to (Updating (Update (updating.DiskFault fault))) is))) left.written.leaves left.written.calls)
+      failed updating.StoreFault u is same = unwritten (fault_ends to (Updating (Update updating.StoreFault)) is) (none_failed to (Err (Updating (Update updating.StoreFault))) is (λ fault e. absurd (cc))) u.written same
+      failed (updating.TooLarge nodes bytes) u is same = unwritten (fault_ends to (Updating (Update (updating.TooLarge nodes bytes))) is) (none_failed to (Err (Updating (Update (updating.TooLarge nodes bytes)))) is (λ fault e. absurd (cc))) u.written same
+      failed (updating.TooMany count) u is same = unwritten (fault_ends to (Updating (Update (updating.TooMany count))) is) (none_failed to (Err (Updating (Update (updating.TooMany count)))) is (λ fault e. absurd (cc))) u.written same
+      failed updating.NoMemory u is same = unwritten (fault_ends to (Updating (Update updating.NoMemory)) is) (none_failed to (Err (Updating (Update updating.NoMemory))) is (λ fault e. absurd (cc))) u.written same
 
-      updated_by : (to : Result Loaded Status) (result : Result (Loaded × Report) UpdateFault) → IsRun result → Reports result (status_of to) old.output between.output → IsUpdatedTo to result
-          → (IsErrOf to Done → ⊥) → GoesBy between to → HasWritten OfUpdate status old.disk new.disk
-      updated_by (Ok image) (Ok updated) u reports same made runs =
+      updated_by : (one : Result Loaded UpdatingFault) (result : Result (Loaded × Report) UpdateFault) → IsRun result → Reports result one old.sink between.sink
+          → GoesFrom between (updated one) → HasWritten tag OfUpdate to old.disk new.disk
+      updated_by (Ok session) (Ok done) u reports runs =
           let left = u.written in
-          then_written left.texts left.are.are status old.disk between.disk new.disk left.written.leaves OfUpdate
-          (AreOfCourse between.store.held image.stamps status (λ held. more held image)) left.written.settled
-          (λ updates rest. update_of status s more left.texts updates old.store.held (settled_texts s left.texts old.store.held left.are u.answers)
-          (behind_of status s more left.texts updates image old.store.held between.store.held u.reads.any.held (planned_of old.store.held s image updated same u.updated) rest))
-          (are (1 + number) image status between new runs)
-      updated_by (Err ended) (Ok updated) u reports same made (e, end) =
+          then_written tag left.texts left.are.are to old.disk between.disk new.disk left.written.leaves left.written.calls OfUpdate
+          (AreOfCourse between.store.held session.stamps to (λ held. more held session)) left.written.settled
+          (λ updates rest. update_of to s more left.texts updates old.store.held (if_honest s left.texts old.store.held left.are u.answers)
+          (after_of to s more left.texts updates session old.store.held between.store.held u.reads.any.held (planned_of old.store.held s session done reports.0 u.updated) rest))
+          (are (1 + number) session to between new runs)
+      updated_by (Err OutputFault) (Ok done) u reports (e, end) =
           let left = u.written in
-          then_written left.texts left.are.are status old.disk between.disk new.disk left.written.leaves OfUpdate (λ updates. updates ≡ []) left.written.settled
+          then_written tag left.texts left.are.are to old.disk between.disk new.disk left.written.leaves left.written.calls OfUpdate (λ updates. updates ≡ []) left.written.settled
           (λ updates none. subst (λ (updates : List UpdateTexts). OfUpdate (left.texts ∷ updates)) (sym none)
-          (update_of status s more left.texts [] old.store.held (settled_texts s left.texts old.store.held left.are u.answers)
-          (last_of status s more left.texts old.store.held (λ done. made (ap (λ (status : Status). Err status) (sym e ∙ done))))))
-          (nothing_written (λ updates. updates ≡ []) status between.disk new.disk refl (ap (λ (d : States). d.disk) end))
-      updated_by (Ok image) (Err fault) u reports same made runs = absurd same
-      updated_by (Err ended) (Err fault) u reports same made (e, end) = failed fault u (e ∙ reports.0) end
+          (update_of to s more left.texts [] old.store.held (if_honest s left.texts old.store.held left.are u.answers)
+          (last_of to s more left.texts old.store.held (fault_ends to (Updating OutputFault) e))))
+          (nothing_written tag (λ updates. updates ≡ []) to between.disk new.disk (none_failed to (Err (Updating OutputFault)) e (λ fault e. absurd (cc))) refl (ap (λ (d : States). d.disk) end))
+      updated_by (Err (Update fault)) (Ok done) u reports goes = absurd reports
+      updated_by one (Err fault) u reports goes =
+          let end : (to ≡ Err (Updating (Update fault))) × (new ≡ between) = subst (λ (one : Result Loaded UpdatingFault). GoesFrom between (updated one)) reports.0 goes in
+          failed fault u end.0 end.1
 
     -- ---- another line
 
-    edited_by : (to : Result Loaded Status) → IsEdit s to → GoesBy old to → HasWritten (AreOfCourse old.store.held s.stamps status (λ held. goes_on to (more held))) status old.disk new.disk
-    edited_by (Ok image) kept runs =
-        of_by (AreOfCourse old.store.held image.stamps status (λ held. more held image)) (AreOfCourse old.store.held s.stamps status (λ held. more held image)) status old.disk new.disk
-        (λ updates is. edit_of status old.store.held s image more updates kept is) (are (1 + number) image status old new runs)
-    edited_by (Err ended) bad (e, end) = nothing_written (AreOfCourse old.store.held s.stamps status (λ held. goes_on (Err ended) (more held))) status old.disk new.disk
-        (none_of status old.store.held s.stamps (λ held. goes_on (Err ended) (more held)) (λ held done. refl)) (ap (λ (d : States). d.disk) end)
+    edited_by : (one : Result Loaded LineFault) → IsEdit s one → GoesFrom old one → HasWritten tag (AreOfCourse old.store.held s.stamps to (λ held. goes_on number one (more held))) to old.disk new.disk
+    edited_by (Ok session) kept runs =
+        of_by tag (AreOfCourse old.store.held session.stamps to (λ held. more held session)) (AreOfCourse old.store.held s.stamps to (λ held. more held session)) to old.disk new.disk
+        (λ updates is. edit_of to old.store.held s session more updates kept.0 is) (are (1 + number) session to old new runs)
+    edited_by (Err fault) (kind, bad) (e, end) = nothing_written tag (AreOfCourse old.store.held s.stamps to (λ held. goes_on number (Err fault) (more held))) to old.disk new.disk
+        (none_failed to (Err (Line number kind)) (e ∙ ap (λ fault. Err (numbered number fault)) bad) (λ fault e. absurd (cc)))
+        (none_of to old.store.held s.stamps (λ held. goes_on number (Err fault) (more held)) (λ held session done. refl)) (ap (λ (d : States). d.disk) end)
 
-    edit_by : (asked : Result ScriptLine LineKind) (to : Result Loaded Status) (between : States) → (to ≡ after_line number asked s) × (between ≡ old) → GoesBy between to
-        → HasWritten (AreOfCourse old.store.held s.stamps status (λ held. goes_on (after_line number asked s) (more held))) status old.disk new.disk
-    edit_by asked to between (is, same) goes = edited_by (after_line number asked s) (edit_is number s asked)
-        (subst (λ (to : Result Loaded Status). GoesBy old to) is (subst (λ (between : States). GoesBy between to) same goes))
+    edit_by : (asked : Result ScriptLine LineKind) (one : Result Loaded LineFault) (between : States) → (one ≡ after_line asked s) × (between ≡ old) → GoesFrom between one
+        → HasWritten tag (AreOfCourse old.store.held s.stamps to (λ held. goes_on number (after_line asked s) (more held))) to old.disk new.disk
+    edit_by asked one between (is, same) goes = edited_by (after_line asked s) (edit_is s asked)
+        (subst (λ (one : Result Loaded LineFault). GoesFrom old one) is (subst (λ (between : States). GoesFrom between one) same goes))
 
-    line_by : (asked : Result ScriptLine LineKind) (to : Result Loaded Status) (between : States) → DoesLine tag number asked s to old between → GoesBy between to
-        → HasWritten (AreOfCourse old.store.held s.stamps status (λ held. course_by held number asked s (more held))) status old.disk new.disk
-    line_by (Ok asking.Update) to between u goes = updated_by between to u.once.result u.once.updates u.once.reports u.updated u.not_done goes
-    line_by (Ok asking.Ignored) to between does goes = edit_by (Ok asking.Ignored) to between does goes
-    line_by (Ok (asking.Put entry)) to between does goes = edit_by (Ok (asking.Put entry)) to between does goes
-    line_by (Ok (asking.Drop path)) to between does goes = edit_by (Ok (asking.Drop path)) to between does goes
-    line_by (Err kind) to between does goes = edit_by (Err kind) to between does goes
+    update_by : (one : Result Loaded LineFault) (between : States) → DoesUpdate tag s one old between → GoesFrom between one
+        → HasWritten tag (OfUpdate between) to old.disk new.disk
+    update_by one between (this, (u, e)) goes =
+        updated_by between this u.result u.updates u.reports (subst (λ (one : Result Loaded LineFault). GoesFrom between one) e goes)
+
+    line_by : (asked : Result ScriptLine LineKind) (one : Result Loaded LineFault) (between : States) → DoesLine tag asked s one old between → GoesFrom between one
+        → HasWritten tag (AreOfCourse old.store.held s.stamps to (λ held. course_by held number asked s (more held))) to old.disk new.disk
+    line_by (Ok asking.Update) one between u goes = update_by one between u goes
+    line_by (Ok asking.Ignored) one between does goes = edit_by (Ok asking.Ignored) one between does goes
+    line_by (Ok (asking.Put entry)) one between does goes = edit_by (Ok (asking.Put entry)) one between does goes
+    line_by (Ok (asking.Drop path)) one between does goes = edit_by (Ok (asking.Drop path)) one between does goes
+    line_by (Err kind) one between does goes = edit_by (Err kind) one between does goes
 
     -- memory is out
-    ended_by : (Of : List UpdateTexts → Type 0) → ((status ≡ Done → ⊥) → Of []) → (to : Result Loaded Status) (between : States) → (to ≡ Err NoMemory) × (between ≡ old) → GoesBy between to
-        → HasWritten Of status old.disk new.disk
-    ended_by Of none to between (is, same) goes =
-        let end : (status ≡ NoMemory) × (new ≡ between) = subst (λ (to : Result Loaded Status). GoesBy between to) is goes in
-        nothing_written Of status old.disk new.disk (none (λ done. let z : Done ≡ NoMemory = sym done ∙ end.0 in absurd (cc))) (ap (λ (d : States). d.disk) (end.1 ∙ same))
+    ended_by : (Of : List UpdateTexts → Type 0) → (IsNotDone to → Of []) → (one : Result Loaded LineFault) (between : States) → (one ≡ Err lines_end.NoMemory) × (between ≡ old) → GoesFrom between one
+        → HasWritten tag Of to old.disk new.disk
+    ended_by Of none one between (is, same) goes =
+        let end : (to ≡ Err NoMemory) × (new ≡ between) = subst (λ (one : Result Loaded LineFault). GoesFrom between one) is goes in
+        nothing_written tag Of to old.disk new.disk (none_failed to (Err NoMemory) end.0 (λ fault e. absurd (cc))) (none (fault_ends to NoMemory end.0)) (ap (λ (d : States). d.disk) (end.1 ∙ same))
 
   are_written : (lines : List (List ℕ)) → AreWrittenBy lines
-  are_written [] number s status old new (done, same) =
-      nothing_written (AreOfCourse old.store.held s.stamps status (λ held. course held number [] s)) status old.disk new.disk
-      (none_of status old.store.held s.stamps (λ held. course held number [] s) (λ held done. refl)) (ap (λ (d : States). d.disk) same)
-  are_written (line ∷ lines) number s status old new (to, (between, (takes, goes))) = elim takes [
-    | inl does ↦ line_by lines (λ n t st a b. are_written lines n t st a b) number s status old new (line_of line) to between does goes
-    | inr out ↦ ended_by lines (λ n t st a b. are_written lines n t st a b) number s status old new
-        (AreOfCourse old.store.held s.stamps status (λ held. course held number (line ∷ lines) s))
-        (λ not_done. none_of status old.store.held s.stamps (λ held. course held number (line ∷ lines) s) (λ held done. absurd (not_done done))) to between out goes
+  are_written [] number s to old new (done, same) =
+      nothing_written tag (AreOfCourse old.store.held s.stamps to (λ held. course held number [] s)) to old.disk new.disk (none_failed to (Ok s) done (λ fault e. absurd (cc)))
+      (none_of to old.store.held s.stamps (λ held. course held number [] s) (λ held session done. refl)) (ap (λ (d : States). d.disk) same)
+  are_written (line ∷ lines) number s to old new (one, (between, (takes, goes))) = elim takes [
+    | inl does ↦ line_by lines (λ n t e a b. are_written lines n t e a b) number s to old new (line_of line) one between does goes
+    | inr out ↦ ended_by lines (λ n t e a b. are_written lines n t e a b) number s to old new
+        (AreOfCourse old.store.held s.stamps to (λ held. course held number (line ∷ lines) s))
+        (λ not_done. none_yet to old.store.held s.stamps (λ held. course held number (line ∷ lines) s) not_done) one between out goes
   ]
 
-pub whole_caches : (tag : Tag) (lines : List (List ℕ)) (number : ℕ) (s : Loaded) (status : Status) (old new : States) → HasMoments old.disk
-    → RunsLines tag number lines s status old new → LeavesWholeCaches old.store.held number lines s status old.disk new.disk
-whole_caches tag lines number s status old new laws runs =
-    let written = are_written tag lines number s status old new runs in
+pub whole_caches : (tag : Tag) (lines : List (List ℕ)) (number : ℕ) (s : Loaded) (to : Result Loaded ScriptFault) (old new : States) → HasMoments old.disk
+    → RunsLines tag number lines s to old new → LeavesWholeCaches tag old.store.held number lines s to old.disk new.disk
+whole_caches tag lines number s to old new laws runs =
+    let written = are_written tag lines number s to old new runs in
     record {
       updates = written.0;
       are = written.1.0.are;
@@ -291,4 +352,5 @@ whole_caches tag lines number s status old new laws runs =
         | inr is ↦ inr is
       ];
       settled = written.1.0.settled;
+      calls = written.1.0.calls;
     }

@@ -1,9 +1,13 @@
-pub mod BatchScript
-pub mod Crashed
+mod Completed
+mod Crashed
 mod EditedImage
+mod HeldUpdate
 mod HonestCourse
-pub mod LoadedScript
-pub mod NotUsage
+mod InSlots
+mod LoadedScript
+mod NotUsage
+mod OneUpdate
 mod PartWritten
-pub mod Rebuilt
+mod Rebuilt
 mod RepairedScript
+mod UpdateOf

@@ -1,15 +1,14 @@
 -- What a script leaves is what rebuilding without an auxiliary cache gives.
-use Rattle.std.proofs.Common.{◌≡◌, ◌≤◌, ◌+◌, ◌++◌, ℕ, List, [], ◌∷◌, Option, Some, None, Result, Ok, Err, IsErrOf, append-nil, refl, ap, sym, subst, ◌∙◌, inl, inr, arith}
+use Rattle.std.proofs.Common.{◌≡◌, ◌≤◌, ◌+◌, ◌++◌, ℕ, List, [], ◌∷◌, Option, Some, None, Result, Ok, Err, append-nil, refl, ap, sym, subst, ◌∙◌, true, inl, inr, arith}
 use Rattle.atomic_replace.specs.Replace.{Write}
 use Rattle.tree_face.specs.declared.disk.Slot.{Slot}
 use Rattle.aux_cache.specs.declared.stamps.Stamp.{Stamp}
-use Rattle.ldconfig_core.proofs.Repaired.{slots_are}
+use Rattle.ldconfig_core.proofs.WrittenSlots.{slots_are}
 use Rattle.ldconfig_core.specs.Outcome.{Lacking, Outcome, TooLarge, TooMany, Writes, update_outcome}
 use Rattle.ldconfig_core.specs.Repair.{OldOrNew, slots_after}
 use Rattle.ldconfig_core.specs.Settled.{planned_image}
-use Rattle.ldconfig_core.specs.Texts.{AreTextsOf, UpdateTexts, writes_of}
-use Rattle.ldconfig_core.specs.Update.{AreUpdateTexts, IsAnswer, IsUpdated, Updates}
-use Rattle.ldconfig_core.specs.Lookup.{FindsAsSearched}
+use Rattle.ldconfig_core.specs.Texts.{UpdateTexts, writes_of}
+use Rattle.ldconfig_core.specs.Update.{IsAnswer, IsUpdated, Updates}
 use Rattle.ldconfig_core.specs.declared.fault.UpdateFault.{UpdateFault}
 use Rattle.ldconfig_core.specs.declared.fault.UpdateFault.TheVariants as updating
 use Rattle.ldconfig_core.specs.declared.report.Report.{Report}
@@ -18,6 +17,7 @@ use Rattle.loaded_image.specs.Session.{Loaded}
 use Rattle.manifest_words.specs.declared.fault.LineKind.{LineKind}
 use Rattle.replaced_slots.specs.Replaced.{FailsToReplace, Replaces}
 use Rattle.script_lines.specs.Script.{line_of}
+use Rattle.searched_image.specs.Begun.{lacks_file, update_bytes, update_keys}
 use Rattle.script_lines.specs.declared.line.ScriptLine.{ScriptLine}
 use Rattle.script_lines.specs.declared.line.ScriptLine.TheVariants as asking
 use Rattle.tree_face.proofs.Follows.{follow}
@@ -25,19 +25,24 @@ use Rattle.tree_face.proofs.Known.{relates_by, relates_on}
 use Rattle.tree_face.specs.Disk.{DiskContent, DiskState, Slots}
 use Rattle.tree_face.specs.Follows.{IsFollowedBy, IsFollowedByPart}
 use Rattle.tree_face.specs.Known.{IfKnown, Relates}
-use Rattle.tree_face.specs.Store.{Contents}
+use Rattle.tree_face.specs.Store.{Contents, StoreState}
+use Rattle.tree_face.specs.StoreUse.{Complete, ReadsFiles}
 use Rattle.tree_face.specs.Stream.{SinkState}
 use Rattle.tree_face.specs.declared.disk.Tag.{Tag}
-use Rattle.command_status.specs.Status.{of_update}
-use Rattle.command_status.specs.declared.status.Status.{Status}
-use Rattle.command_status.specs.declared.status.Status.TheVariants as statuses
-use Rattle.update_runs.specs.Update.{HasWritten, IsUpdatedTo, Reports, UpdatesTo, status_of}
+use Rattle.update_runs.specs.Update.{Reports, States}
+use Rattle.update_runs.specs.declared.fault.UpdatingFault.{UpdatingFault}
+use Rattle.update_runs.specs.declared.fault.UpdatingFault.TheVariants.{OutputFault, Update}
+use Rattle.script_runs.specs.declared.fault.LineFault.{LineFault}
+use Rattle.script_runs.specs.declared.fault.ScriptFault.{ScriptFault}
+use Rattle.script_runs.specs.declared.fault.ScriptFault.TheVariants.{Line, NoMemory, Updating}
 use Rattle.script_runs.proofs.EditedImage.{IsEdit, edit_is}
 use Rattle.script_runs.proofs.HonestCourse.{IsHonest, asked_is, honestly, next_is}
 use Rattle.script_runs.proofs.PartWritten.{part_written}
-use Rattle.script_runs.specs.Course.{AreHonest, Course, course, course_by, course_of_update, ends, goes_on}
-use Rattle.script_runs.specs.Left.{AreMade, AreSlots, AreWritten, EndsBy, FollowsAndPart, IsUpdateOf, LeavesRebuilt, Rebuilds, joined}
-use Rattle.script_runs.specs.Run.{DoesLine, GoesOn, RunsLines, States, after_line}
+use Rattle.script_runs.proofs.UpdateOf.{texts_are}
+use Rattle.script_runs.specs.Course.{AreHonest, Course, course, course_by, course_of_update, ends, goes_on, refused}
+use Rattle.script_runs.specs.Faults.{numbered, updated}
+use Rattle.script_runs.specs.Left.{AreMade, AreSlots, AreWritten, EndsBy, EndsByUpdate, FollowsAndPart, IsUpdateOf, LeavesRebuilt, joined, keys_of}
+use Rattle.script_runs.specs.Run.{DoesLine, DoesUpdate, GoesOn, RunsLines, after_line}
 
 -- ---- counts of faults
 
@@ -49,17 +54,17 @@ risen_since a b c before risen = omega (arith, before, risen)
 pub record AreBefore (old between : States) : Type 0 where
   pub store : old.store.faults ≤ between.store.faults
   pub disk : old.disk.faults ≤ between.disk.faults
-  pub output : old.output.faults ≤ between.output.faults
+  pub sink : old.sink.faults ≤ between.sink.faults
 
 -- ---- the output
 
-nothing_follows : (a b : Option (List ℕ)) → b ≡ a → Relates (IsFollowedBy []) a b
+nothing_follows : {A : Type 0} (a b : Option (List A)) → b ≡ a → Relates (IsFollowedBy []) a b
 nothing_follows None None e = tt
 nothing_follows None (Some b) e = absurd (cc)
 nothing_follows (Some a) None e = absurd (cc)
-nothing_follows (Some a) (Some b) e = ap (λ (o : Option (List ℕ)). items_of b o) e ∙ sym (append-nil a)
+nothing_follows {A} (Some a) (Some b) e = ap (λ (o : Option (List A)). items_of b o) e ∙ sym (append-nil a)
   where
-    items_of : List ℕ → Option (List ℕ) → List ℕ
+    items_of : List A → Option (List A) → List A
     items_of other None = other
     items_of other (Some items) = items
 
@@ -76,122 +81,74 @@ module _ (report : List ℕ) (reports : List (List ℕ)) (a b c : Option (List �
   all_on : Relates (IsFollowedBy (joined reports)) b c → Relates (IsFollowedBy (joined (report ∷ reports))) a c
   all_on = all_follow report a b c first (joined reports)
 
-  written_on : (status : Status) → AreWritten status reports b c → AreWritten status (report ∷ reports) a c
-  written_on statuses.OutputFault (front, (last, (parts, next))) =
+  written_on : (to : Result Loaded ScriptFault) → AreWritten to reports b c → AreWritten to (report ∷ reports) a c
+  written_on (Err (Updating OutputFault)) (front, (last, (parts, next))) =
       (report ∷ front, (last, (ap (λ l. report ∷ l) parts, part_follows report a b c first (joined front) last next)))
-  written_on statuses.Done next = all_on next
-  written_on statuses.Missing next = all_on next
-  written_on statuses.Usage next = all_on next
-  written_on (statuses.BadManifest fault) next = all_on next
-  written_on (statuses.BadScript line kind) next = all_on next
-  written_on statuses.NoCache next = all_on next
-  written_on (statuses.BadCache defect) next = all_on next
-  written_on statuses.NoProgram next = all_on next
-  written_on (statuses.BadProgram defect) next = all_on next
-  written_on (statuses.TooMany count) next = all_on next
-  written_on statuses.StoreFault next = all_on next
-  written_on statuses.DiskFault next = all_on next
-  written_on statuses.InputFault next = all_on next
-  written_on (statuses.TooLong taken) next = all_on next
-  written_on statuses.NoMemory next = all_on next
-  written_on statuses.NoManifest next = all_on next
-  written_on (statuses.TooLarge nodes bytes) next = all_on next
+  written_on (Err (Updating (Update fault))) next = all_on next
+  written_on (Err (Line number kind)) next = all_on next
+  written_on (Err NoMemory) next = all_on next
+  written_on (Ok session) next = all_on next
 
 -- ---- the end
 
 -- what ends a script from a later moment on ends it from an earlier one on
 module _ (later whole : Course) (same : whole.end ≡ later.end) (rest : List Loaded) (old between new : States) (before : AreBefore old between) where
-  pub ends_since : (status : Status) → EndsBy status later rest between new → EndsBy status whole rest old new
-  ends_since statuses.Done (none, end) = (none, same ∙ end)
-  ends_since (statuses.BadScript line kind) (none, end) = (none, same ∙ end)
-  ends_since (statuses.TooLarge nodes bytes) (none, end) = (none, same ∙ end)
-  ends_since (statuses.TooMany count) (none, end) = (none, same ∙ end)
-  ends_since statuses.StoreFault (inl risen) = inl (risen_since old.store.faults between.store.faults new.store.faults before.store risen)
-  ends_since statuses.StoreFault (inr (none, end)) = inr (none, same ∙ end)
-  ends_since statuses.DiskFault risen = risen_since old.disk.faults between.disk.faults new.disk.faults before.disk risen
-  ends_since statuses.OutputFault risen = risen_since old.output.faults between.output.faults new.output.faults before.output risen
-  ends_since statuses.NoMemory end = tt
-  ends_since statuses.Missing end = absurd end
-  ends_since statuses.Usage end = absurd end
-  ends_since (statuses.BadManifest fault) end = absurd end
-  ends_since statuses.NoCache end = absurd end
-  ends_since (statuses.BadCache defect) end = absurd end
-  ends_since statuses.NoProgram end = absurd end
-  ends_since (statuses.BadProgram defect) end = absurd end
-  ends_since statuses.InputFault end = absurd end
-  ends_since (statuses.TooLong taken) end = absurd end
-  ends_since statuses.NoManifest end = absurd end
+  refused_since : (fault : UpdateFault) → EndsByUpdate fault later rest between new → EndsByUpdate fault whole rest old new
+  refused_since updating.StoreFault (inl risen) = inl (risen_since old.store.faults between.store.faults new.store.faults before.store risen)
+  refused_since updating.StoreFault (inr (none, end)) = inr (none, same ∙ end)
+  refused_since (updating.DiskFault fault) risen = risen_since old.disk.faults between.disk.faults new.disk.faults before.disk risen
+  refused_since updating.NoMemory end = tt
+  refused_since (updating.TooLarge nodes bytes) (none, end) = (none, same ∙ end)
+  refused_since (updating.TooMany count) (none, end) = (none, same ∙ end)
+
+  pub ends_since : (to : Result Loaded ScriptFault) → EndsBy to later rest between new → EndsBy to whole rest old new
+  ends_since (Ok session) (none, end) = (none, same ∙ end)
+  ends_since (Err (Line number kind)) (none, end) = (none, same ∙ end)
+  ends_since (Err (Updating (Update fault))) end = refused_since fault end
+  ends_since (Err (Updating OutputFault)) risen = risen_since old.sink.faults between.sink.faults new.sink.faults before.sink risen
+  ends_since (Err NoMemory) end = tt
 
 -- ---- no update is made
 
 module _ (held : Contents) (course : Course) (content : DiskContent) (old new : States) (known : old.disk.contents ≡ Some content) where
   -- nothing is written
-  stopped : (status : Status) → new.disk ≡ old.disk → new.output ≡ old.output → AreSlots held status course.updates content.now content.now
-      → (Relates (IsFollowedBy []) old.output.written new.output.written → AreWritten status [] old.output.written new.output.written) → EndsBy status course course.updates old new
-      → LeavesRebuilt held course status content old new
-  stopped status disk output slots written end = record {
+  stopped : (to : Result Loaded ScriptFault) → ((session : Loaded) → to ≡ Ok session → new.store ≡ old.store) → new.disk ≡ old.disk → new.sink ≡ old.sink → AreSlots held to course.updates content.now content.now
+      → (Relates (IsFollowedBy []) old.sink.written new.sink.written → AreWritten to [] old.sink.written new.sink.written) → EndsBy to course course.updates old new
+      → LeavesRebuilt held course to content old new
+  stopped to store disk sink slots written end = record {
     made = [];
     rest = course.updates;
     parts = refl;
     slots = content.now;
     reports = [];
     are_made = (refl, refl);
-    now = subst (λ (c : Option DiskContent). IfKnown c (λ left. AreSlots held status course.updates content.now left.now))
+    now = subst (λ (c : Option DiskContent). IfKnown c (λ left. AreSlots held to course.updates content.now left.now))
         (sym (ap (λ (d : DiskState). d.contents) disk ∙ known)) slots;
-    written = written (nothing_follows old.output.written new.output.written (ap (λ (o : SinkState). o.written) output));
+    written = written (nothing_follows old.sink.written new.sink.written (ap (λ (o : SinkState). o.written) sink));
     ends = end;
+    keys = λ session e. nothing_follows old.store.keys new.store.keys (ap (λ (s : StoreState). s.keys) (store session e));
   }
 
--- memory is out
-out_of_memory : (held : Contents) (course : Course) (content : DiskContent) (old new : States) → old.disk.contents ≡ Some content → new ≡ old
-    → LeavesRebuilt held course statuses.NoMemory content old new
-out_of_memory held course content old new known same =
-    stopped held course content old new known statuses.NoMemory (ap (λ (d : States). d.disk) same) (ap (λ (d : States). d.output) same) refl (λ w. w) tt
-
--- ---- the texts of an update
-
-texts_are : (held : Contents) (s : Loaded) (known : Option Contents) (texts : UpdateTexts) → known ≡ Some held → IsHonest held s → AreUpdateTexts s known texts → IsUpdateOf held s texts
-texts_are held s known texts is here are = record {
-  are = honestly held s (λ held. AreTextsOf held s texts) known is here are.are_of;
-  all = are.are;
-  finds = honestly held s (λ held. FindsAsSearched held s.tree texts.cache) known is here are.finds;
-}
-
--- a report that isn't written in full
-reported_part : (report : List ℕ) (ended : Status) (a b : SinkState) → HasWritten report ended a b → (ended ≡ statuses.Done → ⊥)
-    → (ended ≡ statuses.OutputFault) × (Relates (IsFollowedByPart report) a.written b.written × HasRisen a.faults b.faults)
-reported_part report statuses.OutputFault a b written not_done = (refl, written)
-reported_part report statuses.Done a b written not_done = absurd (not_done refl)
-reported_part report statuses.Missing a b written not_done = absurd written
-reported_part report statuses.Usage a b written not_done = absurd written
-reported_part report (statuses.BadManifest fault) a b written not_done = absurd written
-reported_part report (statuses.BadScript line kind) a b written not_done = absurd written
-reported_part report statuses.NoCache a b written not_done = absurd written
-reported_part report (statuses.BadCache defect) a b written not_done = absurd written
-reported_part report statuses.NoProgram a b written not_done = absurd written
-reported_part report (statuses.BadProgram defect) a b written not_done = absurd written
-reported_part report (statuses.TooMany count) a b written not_done = absurd written
-reported_part report statuses.StoreFault a b written not_done = absurd written
-reported_part report statuses.DiskFault a b written not_done = absurd written
-reported_part report statuses.InputFault a b written not_done = absurd written
-reported_part report (statuses.TooLong taken) a b written not_done = absurd written
-reported_part report statuses.NoMemory a b written not_done = absurd written
-reported_part report statuses.NoManifest a b written not_done = absurd written
-reported_part report (statuses.TooLarge nodes bytes) a b written not_done = absurd written
+  -- a line isn't done, and the devices stay
+  unmoved : (to : Result Loaded ScriptFault) → new ≡ old → AreSlots held to course.updates content.now content.now
+      → (Relates (IsFollowedBy []) old.sink.written new.sink.written → AreWritten to [] old.sink.written new.sink.written) → EndsBy to course course.updates old new
+      → LeavesRebuilt held course to content old new
+  unmoved to same = stopped to (λ session e. ap (λ (d : States). d.store) same) (ap (λ (d : States). d.disk) same) (ap (λ (d : States). d.sink) same)
 
 -- ---- one update
 
 module _ (tag : Tag) (held : Contents) (s : Loaded) (more : Loaded → Course) (content : DiskContent) (old between : States)
     (is : old.store.held ≡ Some held) (known : old.disk.contents ≡ Some content) (here : IsHonest held s) where
   -- the outcome of the update is this one
-  by_outcome : (status : Status) (new : States) (outcome : Outcome) → update_outcome held s ≡ outcome → LeavesRebuilt held (course_of_update held s outcome more) status content old new
-      → LeavesRebuilt held (course_of_update held s (update_outcome held s) more) status content old new
-  by_outcome status new outcome e = subst (λ (o : Outcome). LeavesRebuilt held (course_of_update held s o more) status content old new) (sym e)
+  by_outcome : (to : Result Loaded ScriptFault) (new : States) (outcome : Outcome) → update_outcome held s ≡ outcome → LeavesRebuilt held (course_of_update held s outcome more) to content old new
+      → LeavesRebuilt held (course_of_update held s (update_outcome held s) more) to content old new
+  by_outcome to new outcome e = subst (λ (o : Outcome). LeavesRebuilt held (course_of_update held s o more) to content old new) (sym e)
 
-  -- an update that is made, and what the lines behind it leave
-  module _ (status : Status) (new : States) (texts : UpdateTexts) (update : IsUpdateOf held s texts) (after : DiskContent) (slots : after.now ≡ slots_after (writes_of texts) content.now)
-      (first : Relates (IsFollowedBy texts.report) old.output.written between.output.written) (before : AreBefore old between) where
-    made_on : LeavesRebuilt held (more (planned_image held s)) status after between new → LeavesRebuilt held (course_of_update held s Writes more) status content old new
+  -- an update that is made, and what the lines after it leave
+  module _ (to : Result Loaded ScriptFault) (new : States) (texts : UpdateTexts) (update : IsUpdateOf held s texts) (after : DiskContent) (slots : after.now ≡ slots_after (writes_of texts) content.now)
+      (first : Relates (IsFollowedBy texts.report) old.sink.written between.sink.written) (before : AreBefore old between)
+      (begun : Relates (IsFollowedBy (update_keys held s.tree s.stamps)) old.store.keys between.store.keys) where
+    made_on : LeavesRebuilt held (more (planned_image held s)) to after between new → LeavesRebuilt held (course_of_update held s Writes more) to content old new
     made_on left = record {
       made = s ∷ left.made;
       rest = left.rest;
@@ -200,14 +157,16 @@ module _ (tag : Tag) (held : Contents) (s : Loaded) (more : Loaded → Course) (
       reports = texts.report ∷ left.reports;
       are_made = (texts, (update, (left.reports, (refl, subst (λ (slots : Slots). AreMade held left.made slots left.slots left.reports) slots left.are_made))));
       now = left.now;
-      written = written_on texts.report left.reports old.output.written between.output.written new.output.written first status left.written;
-      ends = ends_since (more (planned_image held s)) (course_of_update held s Writes more) refl left.rest old between new before status left.ends;
+      written = written_on texts.report left.reports old.sink.written between.sink.written new.sink.written first to left.written;
+      ends = ends_since (more (planned_image held s)) (course_of_update held s Writes more) refl left.rest old between new before to left.ends;
+      keys = λ session e. relates_on (IsFollowedBy (update_keys held s.tree s.stamps)) (IsFollowedBy (keys_of held left.made)) (IsFollowedBy (keys_of held (s ∷ left.made)))
+          (λ x y z. follow (update_keys held s.tree s.stamps) (keys_of held left.made) x y z) old.store.keys between.store.keys new.store.keys begun (left.keys session e);
     }
 
   -- an update that is made, and whose report isn't written in full
   unreported : (texts : UpdateTexts) → IsUpdateOf held s texts → (after : DiskContent) → after.now ≡ slots_after (writes_of texts) content.now → between.disk.contents ≡ Some after
-      → Relates (IsFollowedByPart texts.report) old.output.written between.output.written → HasRisen old.output.faults between.output.faults
-      → LeavesRebuilt held (course_of_update held s Writes more) statuses.OutputFault content old between
+      → Relates (IsFollowedByPart texts.report) old.sink.written between.sink.written → HasRisen old.sink.faults between.sink.faults
+      → LeavesRebuilt held (course_of_update held s Writes more) (Err (Updating OutputFault)) content old between
   unreported texts update after slots there part risen = record {
     made = s ∷ [];
     rest = (more (planned_image held s)).updates;
@@ -223,17 +182,19 @@ module _ (tag : Tag) (held : Contents) (s : Loaded) (more : Loaded → Course) (
         (
           refl,
           relates_by (IsFollowedByPart texts.report) (FollowsAndPart [] texts.report)
-              (λ a b part. (a, (sym (append-nil a), part))) old.output.written between.output.written part,
+              (λ x y follows. (x, (sym (append-nil x), follows))) old.sink.written between.sink.written part,
         ),
       ),
     );
     ends = risen;
+    keys = λ session e. absurd (cc);
   }
 
   -- an update of which a writing call failed
-  partly : (texts : UpdateTexts) → IsUpdateOf held s texts → IfKnown between.disk.contents (λ left. OldOrNew (writes_of texts) content.now left.now) → between.output ≡ old.output
-      → HasRisen old.disk.faults between.disk.faults → LeavesRebuilt held (course_of_update held s Writes more) statuses.DiskFault content old between
-  partly texts update now output risen = record {
+  partly : (texts : UpdateTexts) → IsUpdateOf held s texts → IfKnown between.disk.contents (λ left. OldOrNew (writes_of texts) content.now left.now) → between.sink ≡ old.sink
+      → (fault : _) → HasRisen old.disk.faults between.disk.faults
+      → LeavesRebuilt held (course_of_update held s Writes more) (Err (Updating (Update (updating.DiskFault fault)))) content old between
+  partly texts update now sink fault risen = record {
     made = [];
     rest = s ∷ (more (planned_image held s)).updates;
     parts = refl;
@@ -241,19 +202,20 @@ module _ (tag : Tag) (held : Contents) (s : Loaded) (more : Loaded → Course) (
     reports = [];
     are_made = (refl, refl);
     now = each between.disk.contents now;
-    written = nothing_follows old.output.written between.output.written (ap (λ (o : SinkState). o.written) output);
+    written = nothing_follows old.sink.written between.sink.written (ap (λ (o : SinkState). o.written) sink);
     ends = risen;
+    keys = λ session e. absurd (cc);
   }
     where
       each : (c : Option DiskContent) → IfKnown c (λ left. OldOrNew (writes_of texts) content.now left.now)
-          → IfKnown c (λ left. AreSlots held statuses.DiskFault (s ∷ (more (planned_image held s)).updates) content.now left.now)
+          → IfKnown c (λ left. AreSlots held (Err (Updating (Update (updating.DiskFault fault)))) (s ∷ (more (planned_image held s)).updates) content.now left.now)
       each None now = tt
       each (Some left) now = (texts, (update, now))
 
   -- ---- by its result
 
-  abbrev IsLeft : Status → States → Type 0
-  IsLeft status new = LeavesRebuilt held (course_of_update held s (update_outcome held s) more) status content old new
+  abbrev IsLeft : Result Loaded ScriptFault → States → Type 0
+  IsLeft to new = LeavesRebuilt held (course_of_update held s (update_outcome held s) more) to content old new
 
   abbrev IsRun : Result (Loaded × Report) UpdateFault → Type 0
   IsRun result = Updates tag s result old.store between.store old.disk between.disk
@@ -274,109 +236,126 @@ module _ (tag : Tag) (held : Contents) (s : Loaded) (more : Loaded → Course) (
   part_slots at writes (Some left) fails =
       part_written tag.0 at writes content left (subst (λ (a : Option DiskContent). Relates (FailsToReplace tag.0 at writes) a (Some left)) known fails)
 
-  refused : (fault : UpdateFault) → IsRun (Err fault) → between.output ≡ old.output → IsLeft (of_update fault) between
-  refused updating.NoMemory u output =
-      stopped held (course_of_update held s (update_outcome held s) more) content old between known statuses.NoMemory u.written output refl (λ w. w) tt
-  refused updating.StoreFault u output = elim (answer (Err updating.StoreFault) u) [
-    | inl risen ↦ stopped held (course_of_update held s (update_outcome held s) more) content old between known statuses.StoreFault u.written output refl (λ w. w) (inl risen)
-    | inr lacks ↦ by_outcome statuses.StoreFault between Lacking lacks
-        (stopped held (course_of_update held s Lacking more) content old between known statuses.StoreFault u.written output refl (λ w. w) (inr (refl, refl)))
+  not_made : (fault : UpdateFault) → IsRun (Err fault) → between.sink ≡ old.sink → IsLeft (Err (Updating (Update fault))) between
+  not_made updating.NoMemory u sink =
+      stopped held (course_of_update held s (update_outcome held s) more) content old between known (Err (Updating (Update updating.NoMemory))) (λ session e. absurd (cc)) u.written sink refl (λ w. w) tt
+  not_made updating.StoreFault u sink = elim (answer (Err updating.StoreFault) u) [
+    | inl risen ↦ stopped held (course_of_update held s (update_outcome held s) more) content old between known (Err (Updating (Update updating.StoreFault))) (λ session e. absurd (cc)) u.written sink refl (λ w. w) (inl risen)
+    | inr lacks ↦ by_outcome (Err (Updating (Update updating.StoreFault))) between Lacking lacks
+        (stopped held (refused s updating.StoreFault) content old between known (Err (Updating (Update updating.StoreFault))) (λ session e. absurd (cc)) u.written sink refl (λ w. w) (inr (refl, refl)))
   ]
-  refused (updating.TooLarge nodes bytes) u output = by_outcome (statuses.TooLarge nodes bytes) between (TooLarge nodes bytes) (answer (Err (updating.TooLarge nodes bytes)) u)
-      (stopped held (course_of_update held s (TooLarge nodes bytes) more) content old between known (statuses.TooLarge nodes bytes) u.written output refl (λ w. w) (refl, refl))
-  refused (updating.TooMany count) u output = by_outcome (statuses.TooMany count) between (TooMany count) (answer (Err (updating.TooMany count)) u)
-      (stopped held (course_of_update held s (TooMany count) more) content old between known (statuses.TooMany count) u.written output refl (λ w. w) (refl, refl))
-  refused (updating.DiskFault fault) u output =
+  not_made (updating.TooLarge nodes bytes) u sink =
+      let to : Result Loaded ScriptFault = Err (Updating (Update (updating.TooLarge nodes bytes))) in
+      by_outcome to between (TooLarge nodes bytes) (answer (Err (updating.TooLarge nodes bytes)) u)
+      (stopped held (refused s (updating.TooLarge nodes bytes)) content old between known to (λ session e. absurd (cc)) u.written sink refl (λ w. w) (refl, refl))
+  not_made (updating.TooMany count) u sink =
+      let to : Result Loaded ScriptFault = Err (Updating (Update (updating.TooMany count))) in
+      by_outcome to between (TooMany count) (answer (Err (updating.TooMany count)) u)
+      (stopped held (refused s (updating.TooMany count)) content old between known to (λ session e. absurd (cc)) u.written sink refl (λ w. w) (refl, refl))
+  not_made (updating.DiskFault fault) u sink =
       let left = u.written in
-      by_outcome statuses.DiskFault between Writes (answer (Err (updating.DiskFault fault)) u)
-      (partly left.texts (texts_are held s old.store.held left.texts is here left.are)
-      (part_slots fault.slot (writes_of left.texts) between.disk.contents left.written.contents) output left.written.faults)
+      let writes = answer (Err (updating.DiskFault fault)) u in
+      by_outcome (Err (Updating (Update (updating.DiskFault fault)))) between Writes writes
+      (partly left.texts (texts_are held s left.texts old.store.held is here writes left.are)
+      (part_slots fault.slot (writes_of left.texts) between.disk.contents left.written.contents) sink fault left.written.faults)
 
-  module _ (updated : Loaded × Report) (u : IsRun (Ok updated)) where
-    planned : updated.0 ≡ planned_image held s
-    planned = let is_updated = honestly held s (λ held. IsUpdated held s updated) old.store.held is here u.updated in is_updated.planned
+  module _ (done : Loaded × Report) (u : IsRun (Ok done)) where
+    planned : done.0 ≡ planned_image held s
+    planned = let is_updated = honestly held s (λ held. IsUpdated held s done) old.store.held is here u.updated in is_updated.planned
+
+    -- the keys of the update are begun
+    begun : Relates (IsFollowedBy (update_keys held s.tree s.stamps)) old.store.keys between.store.keys
+    begun =
+        let reads = honestly held s
+        (λ held. ReadsFiles (lacks_file held s.tree s.stamps ≡ true) (Some (update_keys held s.tree s.stamps)) (Some (update_bytes held s.tree s.stamps)) Complete old.store between.store)
+        old.store.held is here u.reads.keys in
+        reads.begins
 
     -- the report is that of the texts
-    report_of : (P : List ℕ → Type 0) → P updated.1.text → P u.written.texts.report
+    report_of : (P : List ℕ → Type 0) → P done.1.text → P u.written.texts.report
     report_of P written = subst P u.written.report_is written
 
-    made : HasWritten updated.1.text statuses.Done old.output between.output → (status : Status) (new : States)
-        → ((after : DiskContent) → between.disk.contents ≡ Some after → LeavesRebuilt held (more (planned_image held s)) status after between new) → IsLeft status new
-    made (written, faults) status new next =
+    reported : Relates (IsFollowedBy done.1.text) old.sink.written between.sink.written × (between.sink.faults ≡ old.sink.faults) → (to : Result Loaded ScriptFault) (new : States)
+        → ((after : DiskContent) → between.disk.contents ≡ Some after → LeavesRebuilt held (more (planned_image held s)) to after between new) → IsLeft to new
+    reported (written, faults) to new next =
         let left = u.written in
         let all = all_written (writes_of left.texts) between.disk.contents left.written.contents in
-        by_outcome status new Writes (answer (Ok updated) u)
-        (made_on status new left.texts (texts_are held s old.store.held left.texts is here left.are) all.0 all.1.1
-        (report_of (λ report. Relates (IsFollowedBy report) old.output.written between.output.written) written)
-        (record { store = u.reads.any.faults; disk = u.disk_faults; output = omega (arith, faults) })
+        let writes = answer (Ok done) u in
+        by_outcome to new Writes writes
+        (made_on to new left.texts (texts_are held s left.texts old.store.held is here writes left.are) all.0 all.1.1
+        (report_of (λ report. Relates (IsFollowedBy report) old.sink.written between.sink.written) written)
+        (record { store = u.reads.any.faults; disk = u.disk_faults; sink = omega (arith, faults) }) begun
         (next all.0 all.1.0))
 
-    not_reported : (ended : Status) → HasWritten updated.1.text ended old.output between.output → (ended ≡ statuses.Done → ⊥) → IsLeft ended between
-    not_reported ended written not_done =
+    not_reported : Relates (IsFollowedByPart done.1.text) old.sink.written between.sink.written × HasRisen old.sink.faults between.sink.faults
+        → IsLeft (Err (Updating OutputFault)) between
+    not_reported (written, risen) =
         let left = u.written in
         let all = all_written (writes_of left.texts) between.disk.contents left.written.contents in
-        let part = reported_part updated.1.text ended old.output between.output written not_done in
-        subst (λ (ended : Status). IsLeft ended between) (sym part.0)
-        (by_outcome statuses.OutputFault between Writes (answer (Ok updated) u)
-        (unreported left.texts (texts_are held s old.store.held left.texts is here left.are) all.0 all.1.1 all.1.0
-        (report_of (λ report. Relates (IsFollowedByPart report) old.output.written between.output.written) part.1.0) part.1.1))
+        let writes = answer (Ok done) u in
+        by_outcome (Err (Updating OutputFault)) between Writes writes
+        (unreported left.texts (texts_are held s left.texts old.store.held is here writes left.are) all.0 all.1.1 all.1.0
+        (report_of (λ report. Relates (IsFollowedByPart report) old.sink.written between.sink.written) written) risen)
 
   -- a script that ends with this update
-  at_end : (ended status : Status) (new : States) → IsLeft ended between → (status ≡ ended) × (new ≡ between) → IsLeft status new
-  at_end ended status new left (e, same) = subst (λ (status : Status). IsLeft status new) (sym e) (subst (λ (new : States). IsLeft ended new) (sym same) left)
+  at_end : (ended to : Result Loaded ScriptFault) (new : States) → IsLeft ended between → (to ≡ ended) × (new ≡ between) → IsLeft to new
+  at_end ended to new left (e, same) = subst (λ (to : Result Loaded ScriptFault). IsLeft to new) (sym e) (subst (λ (new : States). IsLeft ended new) (sym same) left)
 
-  module _ (status : Status) (new : States) (Rest : Loaded → Type 0)
-      (next : update_outcome held s ≡ Writes → between.store.held ≡ Some held → (after : DiskContent) → between.disk.contents ≡ Some after → Rest (planned_image held s) → LeavesRebuilt held (more (planned_image held s)) status after between new) where
-    by_result : (to : Result Loaded Status) (result : Result (Loaded × Report) UpdateFault) → IsRun result → Reports result (status_of to) old.output between.output
-        → IsUpdatedTo to result → (IsErrOf to statuses.Done → ⊥) → GoesOn to Rest status between new → IsLeft status new
-    by_result (Ok image) (Ok updated) u reports same not_done goes =
-        made updated u reports status new (λ after there. next (answer (Ok updated) u) (u.reads.any.held ∙ is) after there (subst Rest (same ∙ planned updated u) goes))
-    by_result (Ok image) (Err fault) u reports same not_done goes = absurd same
-    by_result (Err ended) (Ok updated) u reports same not_done goes = at_end ended status new (not_reported updated u ended reports (λ e. not_done (ap (λ (status : Status). Err status) e))) goes
-    by_result (Err ended) (Err fault) u reports same not_done goes =
-        at_end ended status new (subst (λ (ended : Status). IsLeft ended between) (sym reports.0) (refused fault u reports.1)) goes
+  module _ (number : ℕ) (to : Result Loaded ScriptFault) (new : States) (Rest : Loaded → Type 0)
+      (next : update_outcome held s ≡ Writes → between.store.held ≡ Some held → (after : DiskContent) → between.disk.contents ≡ Some after → Rest (planned_image held s) → LeavesRebuilt held (more (planned_image held s)) to after between new) where
+    by_result : (one : Result Loaded UpdatingFault) (result : Result (Loaded × Report) UpdateFault) → IsRun result → Reports result one old.sink between.sink
+        → GoesOn number (updated one) Rest to between new → IsLeft to new
+    by_result (Ok session) (Ok done) u reports goes =
+        reported done u reports.1 to new (λ after there. next (answer (Ok done) u) (u.reads.any.held ∙ is) after there (subst Rest (reports.0 ∙ planned done u) goes))
+    by_result (Err OutputFault) (Ok done) u reports goes = at_end (Err (Updating OutputFault)) to new (not_reported done u reports) goes
+    by_result (Err (Update fault)) (Ok done) u reports goes = absurd reports
+    by_result one (Err fault) u reports goes =
+        at_end (Err (Updating (Update fault))) to new (not_made fault u reports.1)
+        (subst (λ (one : Result Loaded UpdatingFault). GoesOn number (updated one) Rest to between new) reports.0 goes)
 
 -- ---- the lines
 
 module _ (tag : Tag) (held : Contents) where
   abbrev pub AreRebuilt : List (List ℕ) → Type 0
-  AreRebuilt lines = (number : ℕ) (s : Loaded) (status : Status) (content : DiskContent) (old new : States) → old.store.held ≡ Some held → old.disk.contents ≡ Some content
-      → AreHonest held s.stamps (course held number lines s).asked → RunsLines tag number lines s status old new → LeavesRebuilt held (course held number lines s) status content old new
+  AreRebuilt lines = (number : ℕ) (s : Loaded) (to : Result Loaded ScriptFault) (content : DiskContent) (old new : States) → old.store.held ≡ Some held → old.disk.contents ≡ Some content
+      → AreHonest held s.stamps (course held number lines s).asked → RunsLines tag number lines s to old new → LeavesRebuilt held (course held number lines s) to content old new
 
-  module _ (lines : List (List ℕ)) (are : AreRebuilt lines) (number : ℕ) (s : Loaded) (status : Status) (content : DiskContent) (old new : States)
+  module _ (lines : List (List ℕ)) (are : AreRebuilt lines) (number : ℕ) (s : Loaded) (to : Result Loaded ScriptFault) (content : DiskContent) (old new : States)
       (is : old.store.held ≡ Some held) (known : old.disk.contents ≡ Some content) where
     abbrev more : Loaded → Course
-    more image = course held (1 + number) lines image
+    more session = course held (1 + number) lines session
 
-    -- behind a line that asks for no update
-    edit_on : (to : Result Loaded Status) → IsEdit s to → AreHonest held s.stamps (goes_on to more).asked
-        → GoesOn to (λ image. RunsLines tag (1 + number) lines image status old new) status old new → LeavesRebuilt held (goes_on to more) status content old new
-    edit_on (Ok image) kept honest goes =
-        are (1 + number) image status content old new is known (subst (λ (stamps : List Stamp). AreHonest held stamps (more image).asked) (sym kept) honest) goes
-    edit_on (Err ended) (line, (kind, bad)) honest (e, same) =
-        subst (λ (ended : Status). LeavesRebuilt held (ends ended) status content old new) (sym bad)
-        (subst (λ (status : Status). LeavesRebuilt held (ends (statuses.BadScript line kind)) status content old new) (sym (e ∙ bad))
-        (stopped held (ends (statuses.BadScript line kind)) content old new known (statuses.BadScript line kind)
-        (ap (λ (d : States). d.disk) same) (ap (λ (d : States). d.output) same) refl (λ w. w) (refl, refl)))
+    abbrev GoesFrom : States → Result Loaded LineFault → Type 0
+    GoesFrom between one = GoesOn number one (λ session. RunsLines tag (1 + number) lines session to between new) to between new
 
-    module _ (to : Result Loaded Status) (between : States) (goes : GoesOn to (λ image. RunsLines tag (1 + number) lines image status between new) status between new) where
-      edited_on : (asked : Result ScriptLine LineKind) → AreHonest held s.stamps (goes_on (after_line number asked s) more).asked
-          → (to ≡ after_line number asked s) × (between ≡ old) → LeavesRebuilt held (goes_on (after_line number asked s) more) status content old new
-      edited_on asked honest (e, same) = edit_on (after_line number asked s) (edit_is number s asked) honest
-          (subst (λ (to : Result Loaded Status). GoesOn to (λ image. RunsLines tag (1 + number) lines image status old new) status old new) e
-          (subst (λ (between : States). GoesOn to (λ image. RunsLines tag (1 + number) lines image status between new) status between new) same goes))
+    -- after a line that asks for no update
+    edit_on : (one : Result Loaded LineFault) → IsEdit s one → AreHonest held s.stamps (goes_on number one more).asked → GoesFrom old one
+        → LeavesRebuilt held (goes_on number one more) to content old new
+    edit_on (Ok session) kept honest goes =
+        are (1 + number) session to content old new is known (subst (λ (stamps : List Stamp). AreHonest held stamps (more session).asked) (sym kept.0) honest) goes
+    edit_on (Err fault) (kind, bad) honest (e, same) =
+        let end : Result Loaded ScriptFault = Err (Line number kind) in
+        subst (λ (fault : LineFault). LeavesRebuilt held (ends (Err (numbered number fault))) to content old new) (sym bad)
+        (subst (λ (to : Result Loaded ScriptFault). LeavesRebuilt held (ends end) to content old new) (sym (e ∙ ap (λ fault. Err (numbered number fault)) bad))
+        (unmoved held (ends end) content old new known end same refl (λ w. w) (refl, refl)))
 
-      updated_on : AreHonest held s.stamps (course_of_update held s (update_outcome held s) more).asked
-          → UpdatesTo tag s to old.store between.store old.disk between.disk old.output between.output
-          → LeavesRebuilt held (course_of_update held s (update_outcome held s) more) status content old new
-      updated_on honest u =
-          by_result tag held s more content old between is known (asked_is held s (update_outcome held s) more honest) status new (λ image. RunsLines tag (1 + number) lines image status between new)
-          (λ writes held_too after there runs. are (1 + number) (planned_image held s) status after between new held_too there
+    module _ (one : Result Loaded LineFault) (between : States) (goes : GoesFrom between one) where
+      edited_on : (asked : Result ScriptLine LineKind) → AreHonest held s.stamps (goes_on number (after_line asked s) more).asked
+          → (one ≡ after_line asked s) × (between ≡ old) → LeavesRebuilt held (goes_on number (after_line asked s) more) to content old new
+      edited_on asked honest (e, same) = edit_on (after_line asked s) (edit_is s asked) honest
+          (subst (λ (one : Result Loaded LineFault). GoesFrom old one) e (subst (λ (between : States). GoesFrom between one) same goes))
+
+      updated_on : AreHonest held s.stamps (course_of_update held s (update_outcome held s) more).asked → DoesUpdate tag s one old between
+          → LeavesRebuilt held (course_of_update held s (update_outcome held s) more) to content old new
+      updated_on honest (this, (u, e)) =
+          by_result tag held s more content old between is known (asked_is held s (update_outcome held s) more honest) number to new
+          (λ session. RunsLines tag (1 + number) lines session to between new)
+          (λ writes held_too after there runs. are (1 + number) (planned_image held s) to after between new held_too there
           (next_is held s (more (planned_image held s)).asked (subst (λ (outcome : Outcome). AreHonest held s.stamps (course_of_update held s outcome more).asked) writes honest)) runs)
-          to u.once.result u.once.updates u.once.reports u.updated u.not_done goes
+          this u.result u.updates u.reports (subst (λ (one : Result Loaded LineFault). GoesFrom between one) e goes)
 
-      line_on : (asked : Result ScriptLine LineKind) → AreHonest held s.stamps (course_by held number asked s more).asked → DoesLine tag number asked s to old between
-          → LeavesRebuilt held (course_by held number asked s more) status content old new
+      line_on : (asked : Result ScriptLine LineKind) → AreHonest held s.stamps (course_by held number asked s more).asked → DoesLine tag asked s one old between
+          → LeavesRebuilt held (course_by held number asked s more) to content old new
       line_on (Ok asking.Update) honest does = updated_on honest does
       line_on (Ok asking.Ignored) honest does = edited_on (Ok asking.Ignored) honest does
       line_on (Ok (asking.Put entry)) honest does = edited_on (Ok (asking.Put entry)) honest does
@@ -384,28 +363,18 @@ module _ (tag : Tag) (held : Contents) where
       line_on (Err kind) honest does = edited_on (Err kind) honest does
 
   line_rebuilt : (line : List ℕ) (lines : List (List ℕ)) → AreRebuilt lines → AreRebuilt (line ∷ lines)
-  line_rebuilt line lines are number s status content old new is known honest (to, (between, (takes, goes))) = elim takes [
-    | inl does ↦ line_on lines are number s status content old new is known to between goes (line_of line) honest does
+  line_rebuilt line lines are number s to content old new is known honest (one, (between, (takes, goes))) = elim takes [
+    | inl does ↦ line_on lines are number s to content old new is known one between goes (line_of line) honest does
     | inr out ↦
-        let end : (status ≡ statuses.NoMemory) × (new ≡ between) =
-        subst (λ (to : Result Loaded Status). GoesOn to (λ image. RunsLines tag (1 + number) lines image status between new) status between new) out.0 goes in
-        subst (λ (status : Status). LeavesRebuilt held (course held number (line ∷ lines) s) status content old new) (sym end.0)
-        (out_of_memory held (course held number (line ∷ lines) s) content old new known (end.1 ∙ out.1))
+        let end : (to ≡ Err NoMemory) × (new ≡ between) =
+        subst (λ (one : Result Loaded LineFault). GoesOn number one (λ session. RunsLines tag (1 + number) lines session to between new) to between new) out.0 goes in
+        subst (λ (to : Result Loaded ScriptFault). LeavesRebuilt held (course held number (line ∷ lines) s) to content old new) (sym end.0)
+        (unmoved held (course held number (line ∷ lines) s) content old new known (Err NoMemory) (end.1 ∙ out.1) refl (λ w. w) tt)
   ]
 
   pub are_rebuilt : (lines : List (List ℕ)) → AreRebuilt lines
-  are_rebuilt [] number s status content old new is known honest (done, same) =
-      subst (λ (status : Status). LeavesRebuilt held (ends statuses.Done) status content old new) (sym done)
-      (stopped held (ends statuses.Done) content old new known statuses.Done (ap (λ (d : States). d.disk) same) (ap (λ (d : States). d.output) same) refl (λ w. w) (refl, refl))
-  are_rebuilt (line ∷ lines) number s status content old new is known honest runs =
-      line_rebuilt line lines (λ n t st c a b. are_rebuilt lines n t st c a b) number s status content old new is known honest runs
-
-pub rebuilt : (tag : Tag) (lines : List (List ℕ)) (number : ℕ) (s : Loaded) (status : Status) (old new : States) → RunsLines tag number lines s status old new
-    → Rebuilds number lines s status old new
-rebuilt tag lines number s status old new runs = by old.store.held refl old.disk.contents refl
-  where
-    by : (held : Option Contents) → old.store.held ≡ held → (disk : Option DiskContent) → old.disk.contents ≡ disk → IfKnown held (λ held. IfKnown disk (λ content.
-        AreHonest held s.stamps (course held number lines s).asked → LeavesRebuilt held (course held number lines s) status content old new))
-    by None is disk known = tt
-    by (Some held) is None known = tt
-    by (Some held) is (Some content) known = λ honest. are_rebuilt tag held lines number s status content old new is known honest runs
+  are_rebuilt [] number s to content old new is known honest (done, same) =
+      subst (λ (to : Result Loaded ScriptFault). LeavesRebuilt held (ends (Ok s)) to content old new) (sym done)
+      (unmoved held (ends (Ok s)) content old new known (Ok s) same refl (λ w. w) (refl, refl))
+  are_rebuilt (line ∷ lines) number s to content old new is known honest runs =
+      line_rebuilt line lines (λ n t e c a b. are_rebuilt lines n t e c a b) number s to content old new is known honest runs

@@ -1,18 +1,18 @@
 -- What a crash of a script has left is honest, and what an update of it writes is what one of the old image or of the course writes.
-use Rattle.std.proofs.Common.{◌≡◌, ◌⊎◌, ◌+◌, ◌++◌, ℕ, Bool, false, List, [], ◌∷◌, All, flat_map, Option, Some, None, Result, Ok, Err, IfOk, refl, ap, sym, subst, ◌∙◌, inl, inr}
+use Rattle.std.proofs.Common.{◌≡◌, ◌⊎◌, ◌+◌, ◌++◌, ℕ, Bool, List, [], ◌∷◌, All, flat_map, Option, Some, None, Result, Ok, Err, IfOk, refl, ap, sym, subst, ◌∙◌, inl, inr}
 use Rattle.std.specs.List.{Contains}
 use Rattle.std.proofs.lemmas.List.Elements.{All-cons, All-contains, All-contains_itself, All-head, All-nil, All-tail, All-weaker, Contains-append_right}
 use Rattle.atomic_replace.specs.Replace.{Write}
 use Rattle.aux_cache.specs.declared.stamps.Stamp.{Stamp}
 use Rattle.image_tree.specs.Tree.{Nodes}
 use Rattle.ldconfig_core.proofs.OneText.{again, one_written}
-use Rattle.ldconfig_core.proofs.Repaired.{aux_written, manifest_written, one_image}
+use Rattle.ldconfig_core.proofs.WrittenSlots.{aux_written, manifest_written, one_image}
 use Rattle.ldconfig_core.specs.Outcome.{Lacking, Outcome, TooLarge, TooMany, Writes, new_manifest, update_outcome}
 use Rattle.ldconfig_core.specs.Repair.{IsImageIn}
 use Rattle.ldconfig_core.specs.Settled.{AreCachesAgain, AreSettled, IfReads, planned_image}
-use Rattle.ldconfig_core.specs.Texts.{AreAlike, AreTextsOf, UpdateTexts, of_manifest, writes_of}
+use Rattle.ldconfig_core.specs.Texts.{AreAlike, AreTextsOf, UpdateTexts, writes_of}
 use Rattle.loaded_image.specs.Aux.{stamps_of_slot}
-use Rattle.loaded_image.specs.Manifest.{HasTree, manifest_of}
+use Rattle.loaded_image.specs.Manifest.{manifest_of}
 use Rattle.loaded_image.specs.Session.{IsLoaded, Loaded, image_with}
 use Rattle.loaded_image.specs.declared.fault.LoadFault.{LoadFault}
 use Rattle.manifest_words.specs.declared.fault.LineKind.{LineKind}
@@ -26,14 +26,19 @@ use Rattle.stamped_files.specs.Stamped.{AreSame, AreTrue}
 use Rattle.tree_face.specs.Disk.{Content, DiskContent, DiskState, Slots, slot_of}
 use Rattle.tree_face.specs.Store.{Contents}
 use Rattle.tree_face.specs.declared.disk.Slot.{Slot}
-use Rattle.tree_face.specs.declared.disk.Slot.TheVariants.{Manifest, Cache, Aux}
+use Rattle.tree_face.specs.declared.disk.Tag.{Tag}
+use Rattle.tree_face.specs.declared.disk.Slot.TheVariants.{Manifest, Aux}
 use Rattle.command_status.specs.declared.status.Status.{Status}
-use Rattle.update_runs.proofs.SettledSlots.{image_is}
-use Rattle.update_runs.specs.Devices.{IfBothKnown}
+use Rattle.devices.specs.Devices.{IfBothKnown}
+use Rattle.script_runs.specs.declared.fault.LineFault.{LineFault}
+use Rattle.script_runs.specs.declared.fault.ScriptFault.{ScriptFault}
+use Rattle.script_runs.proofs.InSlots.{image_is}
 use Rattle.script_runs.proofs.HonestCourse.{first_is, later_is}
 use Rattle.script_runs.specs.Course.{AreHonest, Course, course, course_by, course_of_update, goes_on, trees_of}
-use Rattle.script_runs.specs.Crash.{AreOfFirst, AreSettledTexts, IsRepairable, LeavesBy, LeavesWhole, LeavesWholeCaches, RepairsScript}
-use Rattle.script_runs.specs.Run.{after_line, lines_of}
+use Rattle.script_runs.specs.Crash.{AreOfFirst, IsOfOld, IsOfUpdate, LeavesWholeCaches, MayBeLeft}
+use Rattle.script_runs.specs.Left.{IsUpdateOf}
+use Rattle.script_runs.specs.Stored.{IsRepairable, LeavesBy, LeavesWhole, RepairsScript}
+use Rattle.script_runs.specs.Run.{after_line}
 
 -- ---- lists
 
@@ -65,17 +70,17 @@ update_asked held s Lacking rest are = none_asked (s ∷ [])
 update_asked held s (TooLarge nodes bytes) rest are = none_asked (s ∷ [])
 update_asked held s (TooMany count) rest are = none_asked (s ∷ [])
 
-edit_asked : (to : Result Loaded Status) (rest : Loaded → Course) → ((image : Loaded) → AreAsked (rest image)) → AreAsked (goes_on to rest)
-edit_asked (Ok image) rest are = are image
-edit_asked (Err status) rest are = none_asked []
+edit_asked : (number : ℕ) (one : Result Loaded LineFault) (rest : Loaded → Course) → ((session : Loaded) → AreAsked (rest session)) → AreAsked (goes_on number one rest)
+edit_asked number (Ok session) rest are = are session
+edit_asked number (Err fault) rest are = none_asked []
 
 line_asked : (held : Contents) (number : ℕ) (asked : Result ScriptLine LineKind) (s : Loaded) (rest : Loaded → Course) → ((image : Loaded) → AreAsked (rest image))
     → AreAsked (course_by held number asked s rest)
 line_asked held number (Ok asking.Update) s rest are = update_asked held s (update_outcome held s) rest (are (planned_image held s))
-line_asked held number (Ok asking.Ignored) s rest are = edit_asked (after_line number (Ok asking.Ignored) s) rest are
-line_asked held number (Ok (asking.Put entry)) s rest are = edit_asked (after_line number (Ok (asking.Put entry)) s) rest are
-line_asked held number (Ok (asking.Drop path)) s rest are = edit_asked (after_line number (Ok (asking.Drop path)) s) rest are
-line_asked held number (Err kind) s rest are = edit_asked (after_line number (Err kind) s) rest are
+line_asked held number (Ok asking.Ignored) s rest are = edit_asked number (after_line (Ok asking.Ignored) s) rest are
+line_asked held number (Ok (asking.Put entry)) s rest are = edit_asked number (after_line (Ok (asking.Put entry)) s) rest are
+line_asked held number (Ok (asking.Drop path)) s rest are = edit_asked number (after_line (Ok (asking.Drop path)) s) rest are
+line_asked held number (Err kind) s rest are = edit_asked number (after_line (Err kind) s) rest are
 
 are_asked : (held : Contents) (lines : List (List ℕ)) (number : ℕ) (s : Loaded) → AreAsked (course held number lines s)
 are_asked held [] number s = none_asked []
@@ -94,17 +99,17 @@ module _ (held : Contents) (slot : Slot) (b : Content) where
     image : Loaded
     among : Contains images image
     texts : UpdateTexts
-    are : AreSettledTexts held image texts
+    are : IsUpdateOf held image texts
     there : IsOfWrites (writes_of texts) slot b
 
-  written_of : (status : Status) (images : List Loaded) (updates : List UpdateTexts) → AreOfFirst held status images updates → IsOfWrites (flat_map writes_of updates) slot b
+  written_of : (to : Result Loaded ScriptFault) (images : List Loaded) (updates : List UpdateTexts) → AreOfFirst held to images updates → IsOfWrites (flat_map writes_of updates) slot b
       → IsWrittenOf images
-  written_of status images [] are there = absurd there
-  written_of status [] (texts ∷ updates) are there = absurd are
-  written_of status (u ∷ images) (texts ∷ updates) are there = elim (either_writes (writes_of texts) (flat_map writes_of updates) slot b there) [
+  written_of to images [] are there = absurd there
+  written_of to [] (texts ∷ updates) are there = absurd are
+  written_of to (u ∷ images) (texts ∷ updates) are there = elim (either_writes (writes_of texts) (flat_map writes_of updates) slot b there) [
     | inl here ↦ record { image = u; among = contains_first u images; texts = texts; are = are.0; there = here }
     | inr later ↦
-        let rest = written_of status images updates are.1 later in
+        let rest = written_of to images updates are.1 later in
         record { image = rest.image; among = contains_later u images rest.image rest.among; texts = rest.texts; are = rest.are; there = rest.there }
   ]
 
@@ -116,24 +121,16 @@ one_outcome held s new tree edited = ap (λ t. outcome_of t new.edited) tree ∙
     outcome_of : Nodes → Bool → Outcome
     outcome_of t edited = update_outcome held (record { tree = t; stamps = []; edited = edited; damaged = None })
 
--- ---- an image of which each slot is old, or written by an update of the course
+-- ---- a session that may be left
 
-module _ (held : Contents) (slots : Slots) (s : Loaded) (in_slots : IsImageIn slots s) (c : Course) (within : AreAsked c) (honest : AreHonest held s.stamps (s ∷ c.asked))
-    (image : Slots) (each : (slot : Slot) → (slot_of image slot ≡ slot_of slots slot) ⊎ IsWrittenOf held slot (slot_of image slot) c.updates) where
+module _ (held : Contents) (s : Loaded) (c : Course) (within : AreAsked c) (honest : AreHonest held s.stamps (s ∷ c.asked)) where
   abbrev asked : List Loaded
   asked = s ∷ c.asked
-
-  abbrev stamps : List Stamp
-  stamps = stamps_of_slot image.aux
-
-  -- the stamps are true of an image that is asked for
-  abbrev IsTrue : Loaded → Type 0
-  IsTrue u = AreTrue held u.tree stamps
 
   among_asked : (u : Loaded) → Contains c.updates u → Contains asked u
   among_asked u there = contains_later s c.asked u (All-contains (Contains c.asked) c.updates u within there)
 
-  -- those of the libraries of one of the images
+  -- the stamps of an update are true of each session that is asked for
   made_true : (u : Loaded) → Contains asked u → All (λ (v : Loaded). AreTrue held v.tree (stamps_in held u.tree)) asked
   unfolding stamps_in
   made_true u there =
@@ -142,89 +139,116 @@ module _ (held : Contents) (slots : Slots) (s : Loaded) (in_slots : IsImageIn sl
       All-weaker (λ (v : Loaded). AreSame held u.tree v.tree) (λ (v : Loaded). AreTrue held v.tree (stamps_in held u.tree))
       (λ v same. true_made held v.tree u.tree same (library_paths held u.tree)) asked (each_tree (AreSame held u.tree) asked same)
 
-  all_true : All IsTrue asked
-  all_true = elim (each Aux) [
-    | inl old ↦
-        let is : stamps ≡ s.stamps = ap stamps_of_slot old ∙ ap (λ (l : Loaded). l.stamps) (sym in_slots.is) in
-        subst (λ (x : List Stamp). All (λ (u : Loaded). AreTrue held u.tree x) asked) (sym is) (each_tree (λ t. AreTrue held t s.stamps) asked honest.are_true)
-    | inr w ↦
-        let is : stamps ≡ stamps_in held w.image.tree = ap stamps_of_slot (aux_written w.texts.manifest w.texts.cache w.texts.aux image.aux w.there) ∙ w.are.aux_read in
-        subst (λ (x : List Stamp). All (λ (u : Loaded). AreTrue held u.tree x) asked) (sym is) (made_true w.image (among_asked w.image w.among))
+  module _ (left : Loaded) (may : MayBeLeft held s c.updates left) where
+    -- its stamps are true of each session that is asked for
+    all_true : All (λ (u : Loaded). AreTrue held u.tree left.stamps) asked
+    all_true = elim may.stamps [
+      | inl old ↦ subst (λ (x : List Stamp). All (λ (u : Loaded). AreTrue held u.tree x) asked) (sym old) (each_tree (λ t. AreTrue held t s.stamps) asked honest.are_true)
+      | inr (u, (among, new)) ↦ subst (λ (x : List Stamp). All (λ (u : Loaded). AreTrue held u.tree x) asked) (sym new) (made_true u (among_asked u among))
+    ]
+
+    -- ---- of the old tree
+
+    module _ (tree : left.tree ≡ s.tree) where
+      pub old_true : AreTrue held left.tree left.stamps
+      old_true = subst (λ (t : Nodes). AreTrue held t left.stamps) (sym tree) (All-head (λ (u : Loaded). AreTrue held u.tree left.stamps) s c.asked all_true)
+
+      pub old_same : AreSame held left.tree left.tree
+      old_same = let here = first_is held s c.asked honest in subst (λ (t : Nodes). AreSame held t t) (sym tree) here.1
+
+      pub of_old : IsOfOld held s left
+      of_old = record {
+        tree = tree;
+        outcome = λ not. one_outcome held s left tree (may.fresh ∙ sym not);
+        again = λ not texts again are is. one_written held s left texts again tree (may.fresh ∙ sym not) are is;
+      }
+
+    -- ---- of the planned tree of an update
+
+    module _ (u : Loaded) (among : Contains c.updates u) (made : update_outcome held u ≡ Writes) (settled : AreSettled held u (planned_image held u)) (tree : left.tree ≡ planned_in held u.tree) where
+      pub new_true : AreTrue held left.tree left.stamps
+      new_true = subst (λ (t : Nodes). AreTrue held t left.stamps) (sym tree)
+          (settled.true_too left.stamps (All-contains (λ (u : Loaded). AreTrue held u.tree left.stamps) asked u all_true (among_asked u among)))
+
+      pub new_same : AreSame held left.tree left.tree
+      new_same = subst (λ (t : Nodes). AreSame held t t) (sym tree) settled.same
+
+      written_again : (texts others : UpdateTexts) → AreTextsOf held u texts → AreTextsOf held left others → AreCachesAgain texts others
+      written_again texts others are is =
+          let more = again held u (planned_image held u) texts settled are in
+          let one : AreAlike more.0 others = one_written held (planned_image held u) left more.0 others tree may.fresh more.1.0 is in
+          record { manifest = one.manifest ∙ more.1.1.manifest; cache = one.cache ∙ more.1.1.cache; aux = one.aux ∙ more.1.1.aux }
+
+      pub of_update : IsOfUpdate held u left
+      of_update = record { tree = tree; made = one_outcome held (planned_image held u) left tree may.fresh ∙ settled.outcome made; again = written_again }
+
+-- ---- slots each of which is old, or written by an update of the course
+
+module _ (held : Contents) (slots : Slots) (s : Loaded) (in_slots : IsImageIn slots s) (c : Course) (within : AreAsked c) (honest : AreHonest held s.stamps (s ∷ c.asked))
+    (image : Slots) (each : (slot : Slot) → (slot_of image slot ≡ slot_of slots slot) ⊎ IsWrittenOf held slot (slot_of image slot) c.updates) where
+  -- the stamps are the old ones, or those of an update
+  stamps_are : (stamps_of_slot image.aux ≡ s.stamps) ⊎ ((u : Loaded) × (Contains c.updates u × (stamps_of_slot image.aux ≡ stamps_in held u.tree)))
+  stamps_are = elim (each Aux) [
+    | inl old ↦ inl (ap stamps_of_slot old ∙ ap (λ (l : Loaded). l.stamps) (sym in_slots.is))
+    | inr w ↦ inr (w.image, (w.among, ap stamps_of_slot (aux_written w.texts.manifest w.texts.cache w.texts.aux image.aux w.there) ∙ w.are.aux_read))
   ]
 
-  not_edited : false ≡ s.edited
-  not_edited = sym (ap (λ (l : Loaded). l.edited) in_slots.is)
+  of_old_manifest : image.manifest ≡ slots.manifest → IsRepairable held s c.updates slots image
+  of_old_manifest old =
+      let left : Loaded = image_with s.tree image.aux in
+      let may : MayBeLeft held s c.updates left = record { tree = inl refl; stamps = stamps_are; fresh = refl } in
+      record {
+        left = left;
+        in_slots = record { tree = ap manifest_of old ∙ in_slots.tree; is = refl };
+        may = may;
+        are_true = old_true held s c within honest left may refl;
+        same = old_same held s c within honest left may refl;
+        writes = inl (old, of_old held s c within honest left may refl);
+      }
 
-  -- the old tree, with the stamps that are left
-  of_old : image.manifest ≡ slots.manifest → IsRepairable held s c.updates slots image
-  of_old old = record {
-    honest = record {
-      loaded = image_with s.tree image.aux;
-      in_slots = record { tree = ap manifest_of old ∙ in_slots.tree; is = refl };
-      are_true = All-head IsTrue s c.asked all_true;
-      same = let here = first_is held s c.asked honest in here.1;
-    };
-    writes = inl (record {
-      manifest = old;
-      outcome = one_outcome held s (image_with s.tree image.aux) refl not_edited;
-      again = λ texts again are is. one_written held s (image_with s.tree image.aux) texts again refl not_edited are is;
-    });
-  }
-
-  -- the planned tree of an update
-  module _ (u : Loaded) (among : Contains c.updates u) (made : update_outcome held u ≡ Writes) (settled : AreSettled held u (planned_image held u)) where
-    abbrev left : Loaded
-    left = image_with (planned_in held u.tree) image.aux
-
-    written_again : (texts others : UpdateTexts) → AreTextsOf held u texts → AreTextsOf held left others → AreCachesAgain texts others
-    written_again texts others are is =
-        let more = again held u (planned_image held u) texts settled are in
-        let one : AreAlike more.0 others = one_written held (planned_image held u) left more.0 others refl refl more.1.0 is in
-        record { manifest = one.manifest ∙ more.1.1.manifest; cache = one.cache ∙ more.1.1.cache; aux = one.aux ∙ more.1.1.aux }
-
-    of_planned : manifest_of image.manifest ≡ HasTree (planned_in held u.tree) → IsRepairable held s c.updates slots image
-    of_planned reads = record {
-      honest = record {
-        loaded = left;
-        in_slots = record { tree = reads; is = refl };
-        are_true = settled.true_too stamps (All-contains IsTrue asked u all_true (among_asked u among));
-        same = settled.same;
-      };
-      writes = inr (u, (among, record { manifest = reads; made = one_outcome held (planned_image held u) left refl refl ∙ settled.outcome made; again = written_again }));
-    }
-
-  reads_planned : (u : Loaded) (texts : UpdateTexts) → IfReads texts.manifest (planned_image held u) → IsOfWrites (writes_of texts) Manifest image.manifest
-      → manifest_of image.manifest ≡ HasTree (planned_in held u.tree)
-  reads_planned u texts reads there =
-      let is = manifest_written texts image.manifest there in
-      ap manifest_of is.1.1 ∙ subst (λ (manifest : Option (List ℕ)). IfReads manifest (planned_image held u)) is.1.0 reads
+  of_new_manifest : (u : Loaded) → Contains c.updates u → (texts : UpdateTexts) → IsUpdateOf held u texts → IsOfWrites (writes_of texts) Manifest image.manifest → IsRepairable held s c.updates slots image
+  of_new_manifest u among texts is there =
+      let left : Loaded = image_with (planned_in held u.tree) image.aux in
+      let may : MayBeLeft held s c.updates left = record { tree = inr (u, (among, refl)); stamps = stamps_are; fresh = refl } in
+      let text = manifest_written texts image.manifest there in
+      record {
+        left = left;
+        in_slots = record {
+          tree = ap manifest_of text.1.1 ∙ subst (λ (manifest : Option (List ℕ)). IfReads manifest (planned_image held u)) text.1.0 is.manifest_read;
+          is = refl;
+        };
+        may = may;
+        are_true = new_true held s c within honest left may u among is.made is.settled refl;
+        same = new_same held s c within honest left may u among is.made is.settled refl;
+        writes = inr (u, (among, (text.1.1 ∙ sym text.1.0 ∙ is.are.manifest_is, of_update held s c within honest left may u among is.made is.settled refl)));
+      }
 
   repairable : IsRepairable held s c.updates slots image
   repairable = elim (each Manifest) [
-    | inl old ↦ of_old old
-    | inr w ↦ of_planned w.image w.among w.are.made w.are.settled (reads_planned w.image w.texts w.are.manifest_read w.there)
+    | inl old ↦ of_old_manifest old
+    | inr w ↦ of_new_manifest w.image w.among w.texts w.are w.there
   ]
 
 -- ---- a crash of a script
 
-module _ (held : Contents) (content : DiskContent) (text : List ℕ) (status : Status) (old new : DiskState) (known : old.contents ≡ Some content) where
-  by_loaded : (loaded : Result Loaded LoadFault) → IfOk loaded (IsLoaded old.contents) → LeavesBy (Some held) text loaded status old new → RepairsScript held text content old new
-  by_loaded (Ok found) in_slots left only s is honest image might =
+module _ (tag : Tag) (held : Contents) (content : DiskContent) (lines : List (List ℕ)) (status : Status) (old new : DiskState) (known : old.contents ≡ Some content) where
+  by_loaded : (loaded : Result Loaded LoadFault) → IfOk loaded (IsLoaded old.contents) → LeavesBy tag (Some held) lines loaded status old new → RepairsScript held lines content old new
+  by_loaded (Ok found) in_slots (to, (is_status, left)) only s is honest image might =
       let there : IsImageIn content.now found = image_is content found (subst (λ (c : Option DiskContent). IsLoaded c found) known in_slots) in
-      let whole : LeavesWholeCaches (Some held) 1 (lines_of text) s status old new =
-      subst (λ (s : Loaded). LeavesWholeCaches (Some held) 1 (lines_of text) s status old new) (one_image content.now s found is there) left in
-      let c = course held 1 (lines_of text) s in
-      repairable held content.now s is c (are_asked held (lines_of text) 1 s) honest image
+      let whole : LeavesWholeCaches tag (Some held) 1 lines s to old new =
+      subst (λ (s : Loaded). LeavesWholeCaches tag (Some held) 1 lines s to old new) (one_image content.now s found is there) left in
+      let c = course held 1 lines s in
+      repairable held content.now s is c (are_asked held lines 1 s) honest image
       (λ slot. elim (whole.whole slot (slot_of image slot) (might slot)) [
         | inl was ↦ inl (only slot (slot_of image slot) was)
-        | inr is ↦ inr (written_of held slot (slot_of image slot) status c.updates whole.updates (whole.of_course (later_is held s c.asked honest)) is)
+        | inr is ↦ inr (written_of held slot (slot_of image slot) to c.updates whole.updates (whole.of_course (later_is held s c.asked honest)) is)
       ])
   by_loaded (Err fault) in_slots left only s is honest image might =
-      repairable held content.now s is (course held 1 (lines_of text) s) (are_asked held (lines_of text) 1 s) honest image
+      repairable held content.now s is (course held 1 lines s) (are_asked held lines 1 s) honest image
       (λ slot. inl (only slot (slot_of image slot) (left slot (slot_of image slot) (might slot))))
 
-pub repairs_script : (text : List ℕ) (status : Status) (known : Option Contents) (disk : Option DiskContent) (old new : DiskState) → old.contents ≡ disk
-    → LeavesWhole known text status old new → IfBothKnown known disk (λ held content. RepairsScript held text content old new)
-repairs_script text status None disk old new is whole = tt
-repairs_script text status (Some held) None old new is whole = tt
-repairs_script text status (Some held) (Some content) old new is whole = by_loaded held content text status old new is whole.loaded whole.in_slots whole.whole
+pub repairs_script : (tag : Tag) (lines : List (List ℕ)) (status : Status) (known : Option Contents) (disk : Option DiskContent) (old new : DiskState) → old.contents ≡ disk
+    → LeavesWhole tag known lines status old new → IfBothKnown known disk (λ held content. RepairsScript held lines content old new)
+repairs_script tag lines status None disk old new is whole = tt
+repairs_script tag lines status (Some held) None old new is whole = tt
+repairs_script tag lines status (Some held) (Some content) old new is whole = by_loaded tag held content lines status old new is whole.loaded whole.in_slots whole.whole

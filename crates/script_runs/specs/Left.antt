@@ -1,35 +1,57 @@
--- What a script leaves: of its updates the first were made, and the slots and the output are those that rebuilding without an auxiliary cache gives.
-use Rattle.std.specs.Prelude.{◌≡◌, ◌⊎◌, ◌++◌, ℕ, List, [], ◌∷◌, flat_map, Option, ⊤}
-use Rattle.ldconfig_core.specs.Repair.{IsImageIn, OldOrNew, slots_after}
+-- What a script of a session leaves: of its updates the first were made, and the slots and the output are those that rebuilding without an auxiliary
+-- cache gives.
+use Rattle.std.specs.Prelude.{◌≡◌, ◌⊎◌, ◌++◌, ℕ, false, List, [], ◌∷◌, flat_map, Option, Some, None, Result, Ok, Err, ⊤}
+use Rattle.cache_lookup.specs.Scan.{AreDescending}
+use Rattle.cache_reader.specs.Cache.{defect, read}
 use Rattle.ldconfig_core.specs.Lookup.{FindsAsSearched}
+use Rattle.ldconfig_core.specs.Outcome.{Writes, update_outcome}
+use Rattle.ldconfig_core.specs.Repair.{IsImageIn, OldOrNew, slots_after}
+use Rattle.ldconfig_core.specs.Settled.{AreSettled, IfReads, planned_image}
 use Rattle.ldconfig_core.specs.Texts.{AreTexts, AreTextsOf, UpdateTexts, writes_of}
+use Rattle.ldconfig_core.specs.declared.fault.UpdateFault.{UpdateFault}
+use Rattle.ldconfig_core.specs.declared.fault.UpdateFault.TheVariants as updating
 use Rattle.lib_types.specs.Counts.{HasRisen}
+use Rattle.loaded_image.specs.Aux.{stamps_of_slot}
+use Rattle.loaded_image.specs.Manifest.{HasTree, manifest_of}
 use Rattle.loaded_image.specs.Session.{Loaded}
-use Rattle.tree_face.specs.Disk.{DiskContent, DiskState, Slots}
+use Rattle.searched_image.specs.Begun.{update_keys}
+use Rattle.searched_image.specs.Ldconfig.{stamps_in}
+use Rattle.stamped_files.specs.Stamped.{AreSame, AreTrue}
+use Rattle.tree_face.specs.Disk.{DiskContent, Slots}
 use Rattle.tree_face.specs.Follows.{IsFollowedBy, IsFollowedByPart}
 use Rattle.tree_face.specs.Known.{IfKnown, Relates}
 use Rattle.tree_face.specs.Store.{Contents}
-use Rattle.command_status.specs.declared.status.Status.{Status}
-use Rattle.command_status.specs.declared.status.Status.TheVariants.{BadScript, DiskFault, Done, NoMemory, OutputFault, StoreFault, TooLarge, TooMany}
+use Rattle.update_runs.specs.Update.{States}
+use Rattle.update_runs.specs.declared.fault.UpdatingFault.TheVariants.{OutputFault, Update}
+use Rattle.script_runs.specs.declared.fault.ScriptFault.{ScriptFault}
+use Rattle.script_runs.specs.declared.fault.ScriptFault.TheVariants.{Line, NoMemory, Updating}
 use Rattle.script_runs.specs.Course.{AreHonest, Course, course}
-use Rattle.script_runs.specs.Run.{States, lines_of}
 
--- these are the texts of an update of the image, and by its cache the loader finds what the search of the directories finds
+-- ---- one update
+
+-- These are the texts of the update of the session, which is settled with them: a manifest reads as the session with the planned links, the auxiliary
+-- cache as its stamps, and by the cache the loader finds what the search of the directories finds.
 pub record IsUpdateOf (held : Contents) (u : Loaded) (texts : UpdateTexts) : Type 0 where
+  pub made : update_outcome held u ≡ Writes
   pub are : AreTextsOf held u texts
   pub all : AreTexts texts
   pub finds : FindsAsSearched held u.tree texts.cache
+  pub settled : AreSettled held u (planned_image held u)
+  pub manifest_read : IfReads texts.manifest (planned_image held u)
+  pub aux_read : stamps_of_slot (Some texts.aux) ≡ stamps_in held u.tree
 
--- the updates of these images are made one after the other, from the one slots to the others, and these are their reports
+-- the updates of these sessions are made one after the other, from the one slots to the others, and these are their reports
 abbrev pub AreMade : Contents → List Loaded → Slots → Slots → List (List ℕ) → Type 0
 AreMade held [] before after reports = (after ≡ before) × (reports ≡ [])
 AreMade held (u ∷ us) before after reports =
     (texts : UpdateTexts) × (IsUpdateOf held u texts × ((rest : List (List ℕ)) × ((reports ≡ texts.report ∷ rest) × AreMade held us (slots_after (writes_of texts) before) after rest)))
 
+-- ---- how the script ends
+
 -- of a writing call of the next update that failed, each slot has what it had or what that update writes there
-abbrev pub AreSlots : Contents → Status → List Loaded → Slots → Slots → Type 0
-AreSlots held DiskFault (u ∷ us) made now = (texts : UpdateTexts) × (IsUpdateOf held u texts × OldOrNew (writes_of texts) made now)
-AreSlots held status rest made now = now ≡ made
+abbrev pub AreSlots : Contents → Result Loaded ScriptFault → List Loaded → Slots → Slots → Type 0
+AreSlots held (Err (Updating (Update (updating.DiskFault fault)))) (u ∷ us) made now = (texts : UpdateTexts) × (IsUpdateOf held u texts × OldOrNew (writes_of texts) made now)
+AreSlots held to rest made now = now ≡ made
 
 -- one text follows in full, and then a part of another one
 abbrev pub FollowsAndPart : List ℕ → List ℕ → List ℕ → List ℕ → Type 0
@@ -40,24 +62,36 @@ abbrev pub joined : List (List ℕ) → List ℕ
 joined texts = flat_map (λ text. text) texts
 
 -- the reports are written; if the output has failed, those before the last one and a part of that
-abbrev pub AreWritten : Status → List (List ℕ) → Option (List ℕ) → Option (List ℕ) → Type 0
-AreWritten OutputFault reports before after =
+abbrev pub AreWritten : Result Loaded ScriptFault → List (List ℕ) → Option (List ℕ) → Option (List ℕ) → Type 0
+AreWritten (Err (Updating OutputFault)) reports before after =
     (front : List (List ℕ)) × ((last : List ℕ) × ((reports ≡ front ++ last ∷ []) × Relates (FollowsAndPart (joined front) last) before after))
-AreWritten status reports before after = Relates (IsFollowedBy (joined reports)) before after
+AreWritten to reports before after = Relates (IsFollowedBy (joined reports)) before after
 
--- which updates were made, and why no more, by the status
-abbrev pub EndsBy : Status → Course → List Loaded → States → States → Type 0
-EndsBy Done course rest old new = (rest ≡ []) × (course.end ≡ Done)
-EndsBy (BadScript number kind) course rest old new = (rest ≡ []) × (course.end ≡ BadScript number kind)
-EndsBy (TooLarge nodes bytes) course rest old new = (rest ≡ []) × (course.end ≡ TooLarge nodes bytes)
-EndsBy (TooMany count) course rest old new = (rest ≡ []) × (course.end ≡ TooMany count)
-EndsBy StoreFault course rest old new = HasRisen old.store.faults new.store.faults ⊎ ((rest ≡ []) × (course.end ≡ StoreFault))
-EndsBy DiskFault course rest old new = HasRisen old.disk.faults new.disk.faults
-EndsBy OutputFault course rest old new = HasRisen old.output.faults new.output.faults
-EndsBy NoMemory course rest old new = ⊤
-EndsBy _ course rest old new = ⊥
+-- all updates of the course were made, and it ends so
+abbrev pub IsCourseEnd : Course → List Loaded → Result Loaded ScriptFault → Type 0
+IsCourseEnd course rest to = (rest ≡ []) × (course.end ≡ to)
 
-pub record LeavesRebuilt (held : Contents) (course : Course) (status : Status) (content : DiskContent) (old new : States) : Type 0 where
+-- why an update isn't made
+abbrev pub EndsByUpdate : UpdateFault → Course → List Loaded → States → States → Type 0
+EndsByUpdate updating.StoreFault course rest old new = HasRisen old.store.faults new.store.faults ⊎ IsCourseEnd course rest (Err (Updating (Update updating.StoreFault)))
+EndsByUpdate (updating.DiskFault fault) course rest old new = HasRisen old.disk.faults new.disk.faults
+EndsByUpdate updating.NoMemory course rest old new = ⊤
+EndsByUpdate (updating.TooLarge nodes bytes) course rest old new = IsCourseEnd course rest (Err (Updating (Update (updating.TooLarge nodes bytes))))
+EndsByUpdate (updating.TooMany count) course rest old new = IsCourseEnd course rest (Err (Updating (Update (updating.TooMany count))))
+
+-- which updates were made, and why no more
+abbrev pub EndsBy : Result Loaded ScriptFault → Course → List Loaded → States → States → Type 0
+EndsBy (Ok session) course rest old new = IsCourseEnd course rest (Ok session)
+EndsBy (Err (Line number kind)) course rest old new = IsCourseEnd course rest (Err (Line number kind))
+EndsBy (Err (Updating (Update fault))) course rest old new = EndsByUpdate fault course rest old new
+EndsBy (Err (Updating OutputFault)) course rest old new = HasRisen old.sink.faults new.sink.faults
+EndsBy (Err NoMemory) course rest old new = ⊤
+
+-- the keys that updates of these sessions begin, one after the other
+abbrev pub keys_of : Contents → List Loaded → List (List ℕ)
+keys_of held sessions = flat_map (λ (u : Loaded). update_keys held u.tree u.stamps) sessions
+
+pub record LeavesRebuilt (held : Contents) (course : Course) (to : Result Loaded ScriptFault) (content : DiskContent) (old new : States) : Type 0 where
   -- the updates that were made, and those that weren't
   pub made : List Loaded
   pub rest : List Loaded
@@ -65,32 +99,48 @@ pub record LeavesRebuilt (held : Contents) (course : Course) (status : Status) (
   pub slots : Slots
   pub reports : List (List ℕ)
   pub are_made : AreMade held made content.now slots reports
-  pub now : IfKnown new.disk.contents (λ left. AreSlots held status rest slots left.now)
-  pub written : AreWritten status reports old.output.written new.output.written
-  pub ends : EndsBy status course rest old new
+  pub now : IfKnown new.disk.contents (λ left. AreSlots held to rest slots left.now)
+  pub written : AreWritten to reports old.sink.written new.sink.written
+  pub ends : EndsBy to course rest old new
+  -- after the last line the keys of these updates were begun, and no others
+  pub keys : (session : Loaded) → to ≡ Ok session → Relates (IsFollowedBy (keys_of held made)) old.store.keys new.store.keys
 
--- if the contents of store and disk are known and identities are honest in the images of which updates are asked for
-abbrev pub Rebuilds : ℕ → List (List ℕ) → Loaded → Status → States → States → Type 0
-Rebuilds number lines s status old new =
+-- ---- the last update that was made
+
+-- a fact of the last of these sessions, if there is one
+abbrev pub OfLast : List Loaded → (Loaded → Type 0) → Type 0
+OfLast sessions P = (front : List Loaded) (last : Loaded) → sessions ≡ front ++ last ∷ [] → P last
+
+-- The slots hold the update of the session: it is made, writes no manifest and the caches that are there, and by the cache the loader finds what the
+-- search of the directories finds. The stamps of the session are true, and its files of equal identity have equal content.
+pub record HoldUpdateOf (held : Contents) (s : Loaded) (slots : Slots) : Type 0 where
+  pub are_true : AreTrue held s.tree s.stamps
+  pub same : AreSame held s.tree s.tree
+  pub made : update_outcome held s ≡ Writes
+  pub texts : UpdateTexts
+  pub are : AreTextsOf held s texts
+  pub manifest : texts.manifest ≡ None
+  pub cache : slots.cache ≡ Some texts.cache
+  pub aux : slots.aux ≡ Some texts.aux
+  pub accepted : defect texts.cache ≡ None
+  pub descending : AreDescending (read texts.cache)
+  pub finds : FindsAsSearched held s.tree texts.cache
+
+-- the Manifest slot has the tree of a session that isn't edited
+abbrev pub HasItsTree : Loaded → Slots → Type 0
+HasItsTree s slots = s.edited ≡ false → manifest_of slots.manifest ≡ HasTree s.tree
+
+-- ---- the whole script
+
+-- What a script of this session leaves. A further update of the last session that was updated is held by the slots; that is the session that is
+-- loaded from them, if the first one was loaded from the slots at the start.
+pub record RebuildsScript (held : Contents) (number : ℕ) (lines : List (List ℕ)) (s : Loaded) (to : Result Loaded ScriptFault) (content : DiskContent) (old new : States) : Type 0 where
+  pub left : LeavesRebuilt held (course held number lines s) to content old new
+  pub settled : OfLast left.made (λ u. HoldUpdateOf held (planned_image held u) left.slots)
+  pub stored : HasItsTree s content.now → OfLast left.made (λ u. IsImageIn left.slots (planned_image held u))
+
+-- if the contents of store and disk are known and identities are honest in the sessions of which updates are asked for
+abbrev pub Rebuilds : ℕ → List (List ℕ) → Loaded → Result Loaded ScriptFault → States → States → Type 0
+Rebuilds number lines s to old new =
     IfKnown old.store.held (λ held. IfKnown old.disk.contents (λ content.
-    AreHonest held s.stamps (course held number lines s).asked → LeavesRebuilt held (course held number lines s) status content old new))
-
--- ---- the image in the slots
-
--- why an image that is there isn't loaded
-abbrev pub StopsLoading : Status → DiskState → DiskState → Type 0
-StopsLoading DiskFault old new = HasRisen old.faults new.faults
-StopsLoading NoMemory old new = ⊤
-StopsLoading _ old new = ⊥
-
--- nothing is written, since it isn't loaded
-pub record IsUnloaded (status : Status) (content : DiskContent) (old new : States) : Type 0 where
-  pub why : StopsLoading status old.disk new.disk
-  pub slots : IfKnown new.disk.contents (λ left. left.now ≡ content.now)
-  pub output : new.output ≡ old.output
-
--- what a script leaves of the image that is in the slots
-abbrev pub RebuildsSlots : List ℕ → Status → States → States → Type 0
-RebuildsSlots text status old new =
-    IfKnown old.store.held (λ held. IfKnown old.disk.contents (λ content. (s : Loaded) → IsImageIn content.now s → AreHonest held s.stamps (course held 1 (lines_of text) s).asked
-    → IsUnloaded status content old new ⊎ LeavesRebuilt held (course held 1 (lines_of text) s) status content old new))
+    AreHonest held s.stamps (course held number lines s).asked → RebuildsScript held number lines s to content old new))

@@ -1,14 +1,17 @@
 //! The command `batch`.
 ghost use Rattle.std.specs.Prelude.{◌≡◌};
-ghost use Rattle.script_runs.specs.Batch.{BatchRun, LoadsAndRuns, RunsInput, of_read};
-ghost use Rattle.script_runs.specs.Run.{states};
-ghost use Rattle.update_runs.specs.Devices.{devices};
+ghost use Rattle.devices.specs.Devices as devices;
+ghost use Rattle.script_runs.specs.Batch.{BatchRun, RunsInput, of_read};
+ghost use Rattle.script_runs.specs.Run.{lines_of};
+ghost use Rattle.script_runs.specs.Stored.{RunsStored};
+ghost use Rattle.update_runs.specs.Update.{states};
 
 use crate::lines::run_lines;
 use command_status::{Status, put_fault_line};
 use loaded_image::Session;
-use std::alloc::Global;
-use tree_face::{Disk, ReadFault, Sink, Source, Store, Tag, read_all};
+use std::mem::forget;
+use tree_face::{Disk, ReadFault, Sink, Source, Store, read_all};
+use update_runs::Updater;
 
 /// The most bytes of a script.
 pub const SCRIPT_MAX: usize = 1 << 26;
@@ -24,58 +27,63 @@ fn status_of(fault: ReadFault) -> Status
     }
 }
 
-// The loading of the image, and the run of the script.
+// The loading of a session, and the run of the script.
 fn load_and_run<S: Store, D: Disk, O: Sink>(
-    alloc: Global,
+    by: Updater,
     text: &[u8],
     store: &mut S,
     disk: &mut D,
-    out: &mut O,
-    tag: Tag,
+    sink: &mut O,
 ) -> Status
-    ensures { LoadsAndRuns tag text.now result
-        (states (S.state store.old) (D.state disk.old) (O.state out.old)) (states (S.state store.new) (D.state disk.new) (O.state out.new)) }
+    ensures { RunsStored by.tag (lines_of text.now) result
+        (states (S.state store.old) (D.state disk.old) (O.state sink.old)) (states (S.state store.new) (D.state disk.new) (O.state sink.new)) }
 {
-    match Session::load(alloc, disk) {
-        Ok(session) => run_lines(alloc, text, session, store, disk, out, tag),
+    let session = match Session::load(by.alloc, disk) {
+        Ok(session) => session,
+        Err(fault) => return Status::from(fault),
+    };
+    match run_lines(by, text, session, store, disk, sink) {
+        Ok(left) => {
+            // The process ends with the command, and the system takes all its memory at once.
+            forget(left);
+            Status::Done
+        }
         Err(fault) => Status::from(fault),
     }
 }
 
 // The command up to its fault line.
 fn batch<S: Store, D: Disk, I: Source, O: Sink>(
-    alloc: Global,
+    by: Updater,
     store: &mut S,
     disk: &mut D,
-    input: &mut I,
-    out: &mut O,
-    tag: Tag,
+    source: &mut I,
+    sink: &mut O,
 ) -> Status
-    ensures { RunsInput tag result (I.state input.old) (I.state input.new)
-        (states (S.state store.old) (D.state disk.old) (O.state out.old)) (states (S.state store.new) (D.state disk.new) (O.state out.new)) }
+    ensures { RunsInput by.tag result (I.state source.old) (I.state source.new)
+        (states (S.state store.old) (D.state disk.old) (O.state sink.old)) (states (S.state store.new) (D.state disk.new) (O.state sink.new)) }
 {
-    match read_all(alloc, input, SCRIPT_MAX) {
-        Ok(text) => load_and_run(alloc, &text, store, disk, out, tag),
+    match read_all(by.alloc, source, SCRIPT_MAX) {
+        Ok(text) => load_and_run(by, &text, store, disk, sink),
         Err(fault) => status_of(fault),
     }
 }
 
 /// Runs the command `batch`: reads the script that is the input, loads the image, and takes the script's lines.
 pub fn run_batch<S: Store, D: Disk, I: Source, O: Sink>(
-    alloc: Global,
+    by: Updater,
     store: &mut S,
     disk: &mut D,
-    input: &mut I,
-    out: &mut O,
-    tag: Tag,
+    source: &mut I,
+    sink: &mut O,
 ) -> Status
-    ensures runs { BatchRun tag
-        (devices (S.state store.old) (D.state disk.old) (I.state input.old) (O.state out.old))
-        (devices (S.state store.new) (D.state disk.new) (I.state input.new) (O.state out.new))
+    ensures runs { BatchRun by.tag
+        (devices.states (S.state store.old) (D.state disk.old) (I.state source.old) (O.state sink.old))
+        (devices.states (S.state store.new) (D.state disk.new) (I.state source.new) (O.state sink.new))
         result }
     ensures no_usage { result ≡ Status.Usage → ⊥ }
 {
-    let status = batch(alloc, store, disk, input, out, tag);
-    put_fault_line(out, status);
+    let status = batch(by, store, disk, source, sink);
+    put_fault_line(sink, status);
     status
 }

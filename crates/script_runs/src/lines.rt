@@ -1,131 +1,128 @@
 //! The lines of a script, taken in their order.
-ghost use Rattle.std.specs.Prelude.{◌≡◌, ◌⊎◌, Err, IsErrOf, Ok};
+ghost use Rattle.std.specs.Prelude.{◌≡◌, ◌⊎◌, Err, Ok};
 ghost use Rattle.image_tree.specs.Node.{is_node};
 ghost use Rattle.image_tree.specs.Paths.{is_path};
 ghost use Rattle.script_lines.specs.Script.{IsProper, line_of};
-ghost use Rattle.script_runs.specs.Run.{DoesLineOrNothing, RunsLines, TakesLine, edited, lines_of, of_edit, states};
+ghost use Rattle.script_runs.specs.Faults.{edited};
+ghost use Rattle.script_runs.specs.Run.{DoesLineOrNothing, RunsLines, TakesLine, lines_of};
+ghost use Rattle.update_runs.specs.Update.{states};
 ghost use Rattle.loaded_image.specs.Edit.{drop_result, put_entry_result};
 
-use command_status::{ScriptKind, Status};
+use crate::fault::{LineFault, ScriptFault};
+use command_status::ScriptKind;
 use conf_patterns::parts::split;
 use lib_types::Text;
-use loaded_image::{EditFault, Session};
+use loaded_image::Session;
 use mtree_manifest::EntryLineFault;
 use script_lines::{ScriptLine, read_line};
-use std::alloc::Global;
-use tree_face::{Disk, Node, Sink, Store, Tag};
-use update_runs::update_once;
-
-// The status of an edit that isn't made.
-fn status_of(number: u64, fault: EditFault) -> Status
-    ensures { result ≡ of_edit number fault }
-{
-    let kind = match fault {
-        EditFault::Bad(kind) => ScriptKind::Bad(kind),
-        EditFault::Clash => ScriptKind::Clash,
-        EditFault::NotThere => ScriptKind::NotThere,
-        EditFault::Full => ScriptKind::Full,
-        EditFault::NoMemory => return Status::NoMemory,
-    };
-    Status::BadScript { line: number, kind }
-}
+use tree_face::{Disk, Node, Sink, Store};
+use update_runs::{Updater, update_once};
 
 // Puts the node of an entry, if it makes one.
-fn put(number: u64, session: Session, entry: Option<(Text, Node)>) -> Result<Session, Status>
+fn put(session: Session, entry: Option<(Text, Node)>) -> Result<Session, LineFault>
     requires { IsProper (ScriptLine.Put entry) }
-    ensures { (result ≡ edited number (put_entry_result session entry)) ⊎ (result ≡ Err Status.NoMemory) }
+    ensures { (result ≡ edited (put_entry_result session entry)) ⊎ (result ≡ Err LineFault.NoMemory) }
 {
     let mut image = session;
     if let Some((path, node)) = entry {
         if let Err(fault) = image.put(path.as_bytes(), node) {
-            return Err(status_of(number, fault));
+            return Err(LineFault::from(fault));
         }
     }
     Ok(image)
 }
 
 // Removes the node of a path.
-fn remove(number: u64, session: Session, path: &Text) -> Result<Session, Status>
-    ensures { result ≡ edited number (drop_result session path.now) }
+fn remove(session: Session, path: &Text) -> Result<Session, LineFault>
+    ensures { result ≡ edited (drop_result session path.now) }
 {
     let mut image = session;
     match image.remove(path.as_bytes()) {
         Ok(()) => Ok(image),
-        Err(fault) => Err(status_of(number, fault)),
+        Err(fault) => Err(LineFault::from(fault)),
+    }
+}
+
+// Makes an update of a session.
+fn update<S: Store, D: Disk, O: Sink>(
+    by: Updater,
+    session: Session,
+    store: &mut S,
+    disk: &mut D,
+    sink: &mut O,
+) -> Result<Session, LineFault>
+    ensures { DoesLineOrNothing by.tag (Ok ScriptLine.Update) session result
+        (states (S.state store.old) (D.state disk.old) (O.state sink.old)) (states (S.state store.new) (D.state disk.new) (O.state sink.new)) }
+{
+    match update_once(by, session, store, disk, sink) {
+        Ok(updated) => Ok(updated),
+        Err(fault) => Err(LineFault::Updating(fault)),
     }
 }
 
 // Does what a line asks for.
 fn do_line<S: Store, D: Disk, O: Sink>(
-    alloc: Global,
-    number: u64,
+    by: Updater,
     asked: ScriptLine,
     session: Session,
     store: &mut S,
     disk: &mut D,
-    out: &mut O,
-    tag: Tag,
-) -> Result<Session, Status>
+    sink: &mut O,
+) -> Result<Session, LineFault>
     requires { IsProper asked }
-    ensures { DoesLineOrNothing tag number (Ok asked) session result
-        (states (S.state store.old) (D.state disk.old) (O.state out.old)) (states (S.state store.new) (D.state disk.new) (O.state out.new)) }
+    ensures { DoesLineOrNothing by.tag (Ok asked) session result
+        (states (S.state store.old) (D.state disk.old) (O.state sink.old)) (states (S.state store.new) (D.state disk.new) (O.state sink.new)) }
 {
     match asked {
         ScriptLine::Ignored => Ok(session),
-        ScriptLine::Put(entry) => put(number, session, entry),
-        ScriptLine::Drop(path) => remove(number, session, &path),
-        ScriptLine::Update => update_once(alloc, session, store, disk, out, tag),
+        ScriptLine::Put(entry) => put(session, entry),
+        ScriptLine::Drop(path) => remove(session, &path),
+        ScriptLine::Update => update(by, session, store, disk, sink),
     }
 }
 
 // Takes a line.
 fn take_line<S: Store, D: Disk, O: Sink>(
-    alloc: Global,
-    number: u64,
+    by: Updater,
     line: &[u8],
     session: Session,
     store: &mut S,
     disk: &mut D,
-    out: &mut O,
-    tag: Tag,
-) -> Result<Session, Status>
-    ensures { TakesLine tag number line.now session result
-        (states (S.state store.old) (D.state disk.old) (O.state out.old)) (states (S.state store.new) (D.state disk.new) (O.state out.new)) }
+    sink: &mut O,
+) -> Result<Session, LineFault>
+    ensures { TakesLine by.tag line.now session result
+        (states (S.state store.old) (D.state disk.old) (O.state sink.old)) (states (S.state store.new) (D.state disk.new) (O.state sink.new)) }
 {
-    match read_line(alloc, line) {
-        Ok(asked) => do_line(alloc, number, asked, session, store, disk, out, tag),
-        Err(EntryLineFault::Bad(kind)) => Err(Status::BadScript {
-            line: number,
-            kind: ScriptKind::Bad(kind),
-        }),
-        Err(EntryLineFault::NoMemory) => Err(Status::NoMemory),
+    match read_line(by.alloc, line) {
+        Ok(asked) => do_line(by, asked, session, store, disk, sink),
+        Err(EntryLineFault::Bad(kind)) => Err(LineFault::Bad(ScriptKind::Bad(kind))),
+        Err(EntryLineFault::NoMemory) => Err(LineFault::NoMemory),
     }
 }
 
-/// Runs a script on an image. Each update writes its report; no fault line is written.
+/// Runs a script of a session, and returns what the session is then. Each update writes its report; no fault line is written.
 pub(crate) fn run_lines<S: Store, D: Disk, O: Sink>(
-    alloc: Global,
+    by: Updater,
     text: &[u8],
     session: Session,
     store: &mut S,
     disk: &mut D,
-    out: &mut O,
-    tag: Tag,
-) -> Status
-    ensures { RunsLines tag 1 (lines_of text.now) session result
-        (states (S.state store.old) (D.state disk.old) (O.state out.old)) (states (S.state store.new) (D.state disk.new) (O.state out.new)) }
+    sink: &mut O,
+) -> Result<Session, ScriptFault>
+    ensures { RunsLines by.tag 1 (lines_of text.now) session result
+        (states (S.state store.old) (D.state disk.old) (O.state sink.old)) (states (S.state store.new) (D.state disk.new) (O.state sink.new)) }
 {
     let mut image = session;
     let mut taken = 0u64;
     for line in split(b"\n", text) {
         let Some(number) = taken.checked_add(1) else {
-            return Status::NoMemory;
+            return Err(ScriptFault::NoMemory);
         };
-        match take_line(alloc, number, line, image, store, disk, out, tag) {
+        match take_line(by, line, image, store, disk, sink) {
             Ok(next) => image = next,
-            Err(status) => return status,
+            Err(fault) => return Err(fault.at(number)),
         }
         taken = number;
     }
-    Status::Done
+    Ok(image)
 }

@@ -134,10 +134,12 @@ fn run_into(alloc: Global, devices: &mut Devices, out: &mut NarrowSink) -> Statu
     run_command(
         alloc,
         Command::Batch { tag: Tag(0) },
-        &mut devices.store,
-        &mut devices.disk,
-        &mut devices.input,
-        out,
+        devices::Devices {
+            store: &mut devices.store,
+            disk: &mut devices.disk,
+            source: &mut devices.input,
+            sink: out,
+        },
     )
 }
 

@@ -1,1 +1,3 @@
-pub mod Pooled
+mod Adding
+pub mod InOrder
+pub mod Numbers

@@ -1,2 +1,3 @@
+pub mod InOrder
 pub mod Kept
-pub mod Strings
+pub mod Texts

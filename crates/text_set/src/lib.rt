@@ -1,10 +1,11 @@
 //! A set of texts, for what was met before.
 #![tactic(auto)]
 
-ghost use Rattle.std.specs.Prelude.{◌≡◌, [], OnOk, OnErr};
+ghost use Rattle.std.specs.Prelude.{◌≡◌, [], is_some, position, IfSome, OnOk, OnErr};
 ghost use Rattle.std.specs.List.{list_any};
 ghost use Rattle.std.specs.Str.{bytes_eq};
 ghost use Rattle.indexmap.specs.IndexSet.{insert_key};
+ghost use Rattle.text_set.specs.At.{IsAt};
 
 use indexmap::IndexSet;
 use lib_types::{NoMemory, Text, TextRef};
@@ -42,6 +43,15 @@ impl TextSet {
         ensures { result ≡ list_any (bytes_eq text.now) self.now }
     {
         self.texts.contains(TextRef { bytes: text })
+    }
+
+    /// The place of the text in that order, if it is in the set.
+    pub fn index_of(&self, text: &[u8]) -> Option<usize>
+        ensures index { result ≡ position (bytes_eq text.now) self.now }
+        ensures there { is_some result ≡ list_any (bytes_eq text.now) self.now }
+        ensures at { IfSome result (λ i. IsAt self.now i text.now) }
+    {
+        self.texts.get_index_of(TextRef { bytes: text })
     }
 
     /// Puts the text in, if it isn't there.

@@ -1,4 +1,1 @@
-pub mod Crash
-pub mod Devices
 pub mod Update
-pub mod UpdateCommand

@@ -1,6 +1,8 @@
-//! The command `update`, from the loading of the image to its report and fault line.
+//! One update of a session, with its report on the output.
 #![tactic(auto)]
 
+mod fault;
 mod updating;
 
-pub use updating::{run_update, update_once};
+pub use fault::UpdatingFault;
+pub use updating::{Updater, update_once};

@@ -1,5 +1,5 @@
 -- The calls of a world on a disk: how the disk stands after them.
-use Rattle.std.proofs.Common.{◌≡◌, ◌<◌, ◌||◌, ◌&&◌, ℕ, zero, suc, Bool, true, false, List, [], ◌∷◌, ◌++◌, length, Option, Some, None, IfSome, is_some, refl, sym, ap, subst, ◌∙◌, append_assoc, append-nil, eqb, slice_get, unwrap_or, Result, Ok, Err, IfOk}
+use Rattle.std.proofs.Common.{◌≡◌, ◌<◌, ◌||◌, ◌&&◌, ℕ, zero, suc, Bool, true, false, List, [], ◌∷◌, ◌++◌, length, filter, Option, Some, None, IfSome, is_some, refl, sym, ap, subst, ◌∙◌, append_assoc, append-nil, eqb, slice_get, unwrap_or, Result, Ok, Err, IfOk}
 use Rattle.std.specs.Option.{option_map, option_map_or}
 use Rattle.std.proofs.lemmas.Bool.{eqb-true, false≢true}
 use Rattle.std.proofs.lemmas.List.Folds.{list_any-append}
@@ -17,8 +17,8 @@ use Rattle.update_world.specs.declared.post.Post.{Post}
 use Rattle.update_world.specs.declared.post.Reading.{Reading}
 use Rattle.update_world.specs.declared.post.Turn.{Turn}
 use Rattle.update_world.specs.declared.post.Turn.TheVariants.{Step, Load}
-use Rattle.update_world.specs.Disks.{AreMade, HoldsAlone, LeavesExactly, done, is_among}
-use Rattle.update_world.specs.Turns.{PostCall, call_of, calls, calls_behind, is_publish, is_settle, left, left_by, publishers, reading, repeated, steps_of}
+use Rattle.update_world.specs.Disks.{AreMade, AreOnDisks, HoldsAlone, HoldsExactly, LeavesExactly, done, is_among, is_load}
+use Rattle.update_world.specs.Turns.{PostCall, call_of, calls, calls_behind, is_publish, is_settle, left, left_by, publishers, reading, reading_after, readings_behind, repeated, steps_of}
 use Rattle.update_world.proofs.Apart.{tags_apart}
 use Rattle.update_world.proofs.Calls.{absent_apart, absent_call, call_is, calls_more, last_more, load_steps, other_steps, own_steps, place_is, place_of, publishers_more}
 use Rattle.update_world.proofs.Left.{left_alone, left_more, left_same, none_more}
@@ -58,7 +58,7 @@ module _ (first : Content) (posts : List Post) (different : repeated posts ≡ N
     left : (b : Content) → s.may Cache b ≡ is_among b (left_by first posts (of_turns turns))
 
   starts : (s : DiskState) → HoldsAlone first s → OnDisk [] s
-  starts s alone = record { known = alone.known; contents = alone.contents; held = alone.held; files = λ j q e. tt; left = λ b. alone.left b ∙ sym (or_none (content_eq first b)) }
+  starts s alone = record { known = alone.now.known; contents = alone.now.contents; held = alone.now.held; files = λ j q e. tt; left = λ b. alone.left b ∙ sym (or_none (content_eq first b)) }
 
   module _ (turns : List Turn) (s : DiskState) (on : OnDisk turns s) where
     -- a turn that makes no call
@@ -237,3 +237,17 @@ module _ (first : Content) (posts : List Post) (different : repeated posts ≡ N
   pub left_exactly : (turns : List Turn) (r : Result (List Reading) NoMemory) → IfOk r (λ rs. rs ≡ left first posts turns) → IfOk r (LeavesExactly first posts (calls (length posts) turns))
   left_exactly turns (Ok rs) e = subst (LeavesExactly first posts (calls (length posts) turns)) (sym e) (leaves turns)
   left_exactly turns (Err fault) e = tt
+
+  -- what a load after these turns reads is what the slot holds
+  pub holds : (turns : List Turn) → HoldsExactly first posts (calls (length posts) turns) (reading_after first posts turns).bytes
+  holds turns = λ old new alone made. let on = on_all [] turns old new (starts old alone) made in record { known = on.known; contents = on.contents; held = on.held }
+
+  -- the reading of the load after the earlier turns of a schedule
+  read_at : (before earlier later : List Turn) → slice_get (readings_behind first posts before (earlier ++ Load ∷ later)) (length (filter is_load earlier)) ≡ Some (reading_after first posts (before ++ earlier))
+  read_at before [] later = ap (λ turns. Some (reading_after first posts turns)) (sym (append-nil before))
+  read_at before (Step i ∷ earlier) later = read_at (before ++ Step i ∷ []) earlier later ∙ ap (λ turns. Some (reading_after first posts turns)) (append_assoc before (Step i ∷ []) earlier)
+  read_at before (Load ∷ earlier) later = read_at (before ++ Load ∷ []) earlier later ∙ ap (λ turns. Some (reading_after first posts turns)) (append_assoc before (Load ∷ []) earlier)
+
+  pub on_disks : (before schedule : List Turn) → AreOnDisks first posts before schedule (readings_behind first posts before schedule)
+  on_disks before schedule = λ earlier later is.
+      (reading_after first posts (before ++ earlier), ap (λ turns. slice_get (readings_behind first posts before turns) (length (filter is_load earlier))) is ∙ read_at before earlier later, holds (before ++ earlier))

@@ -1,19 +1,25 @@
 -- The calls of a world, made on a disk.
-use Rattle.std.specs.Prelude.{◌≡◌, Bool, List, [], ◌∷◌, Some, IfSome, Result, Ok}
+use Rattle.std.specs.Prelude.{◌≡◌, Bool, true, false, List, [], ◌∷◌, ◌++◌, length, filter, Some, IfSome, Result, Ok}
 use Rattle.std.specs.List.{list_any, slice_get}
 use Rattle.lib_types.specs.declared.fault.Failed.{Failed}
 use Rattle.atomic_replace.specs.Step.{Makes}
 use Rattle.tree_face.specs.Disk.{Content, DiskContent, DiskState, content_eq}
 use Rattle.tree_face.specs.declared.disk.Slot.TheVariants.{Cache}
-use Rattle.update_world.specs.Turns.{PostCall}
+use Rattle.update_world.specs.Turns.{PostCall, calls}
 use Rattle.update_world.specs.declared.post.Post.{Post}
 use Rattle.update_world.specs.declared.post.Reading.{Reading}
+use Rattle.update_world.specs.declared.post.Turn.{Turn}
+use Rattle.update_world.specs.declared.post.Turn.TheVariants.{Step, Load}
 
--- the cache slot of a disk of known contents holds this content, and a crash leaves no other
-pub record HoldsAlone (first : Content) (s : DiskState) : Type 0 where
+-- the cache slot of a disk of known contents holds this content
+pub record Holds (content : Content) (s : DiskState) : Type 0 where
   pub known : DiskContent
   pub contents : s.contents ≡ Some known
-  pub held : known.now.cache ≡ first
+  pub held : known.now.cache ≡ content
+
+-- and a crash leaves no other
+pub record HoldsAlone (first : Content) (s : DiskState) : Type 0 where
+  pub now : Holds first s
   pub left : (b : Content) → s.may Cache b ≡ content_eq first b
 
 abbrev pub done : Result (Unit {0}) Failed
@@ -36,3 +42,18 @@ is_among b readings = list_any (λ r. content_eq r.bytes b) readings
 abbrev pub LeavesExactly : Content → List Post → List PostCall → List Reading → Type 0
 LeavesExactly first posts calls readings =
     (old new : DiskState) → HoldsAlone first old → AreMade posts calls old new → (b : Content) → new.may Cache b ≡ is_among b readings
+
+-- on every disk on which these calls were made the cache slot holds this content
+abbrev pub HoldsExactly : Content → List Post → List PostCall → Content → Type 0
+HoldsExactly first posts calls content = (old new : DiskState) → HoldsAlone first old → AreMade posts calls old new → Holds content new
+
+abbrev pub is_load : Turn → Bool
+is_load (Step i) = false
+is_load Load = true
+
+-- each load of this schedule, which is taken behind other turns, has read what the cache slot of every disk holds on which the calls of the
+-- turns before it were made
+abbrev pub AreOnDisks : Content → List Post → List Turn → List Turn → List Reading → Type 0
+AreOnDisks first posts before schedule readings =
+    (earlier later : List Turn) → schedule ≡ earlier ++ Load ∷ later
+    → (reading : Reading) × (slice_get readings (length (filter is_load earlier)) ≡ Some reading) × HoldsExactly first posts (calls (length posts) (before ++ earlier)) reading.bytes

@@ -1,6 +1,7 @@
 //! The turns of a world.
 ghost use Rattle.std.specs.Prelude.{◌≡◌, IfOk, OnOk, OnErr};
 ghost use Rattle.std.specs.List.{All};
+ghost use Rattle.update_world.specs.Disks.{AreOnDisks};
 ghost use Rattle.update_world.specs.Turns.{readings_behind};
 ghost use Rattle.update_world.specs.Worlds.{HasTaken, HasTakenPart, IsWhole, NeverFalls, Stands};
 
@@ -19,6 +20,7 @@ pub fn world_run(alloc: Global, world: &mut World, schedule: &[Turn]) -> Result<
     ensures stands { Stands world.new }
     ensures whole { IfOk result (All (IsWhole world.old.first world.old.posts)) }
     ensures order { IfOk result NeverFalls }
+    ensures disk { IfOk result (AreOnDisks world.old.first world.old.posts world.old.turns schedule.now) }
 {
     // What stands before the first turn is so if none is taken.
     let _taken = world.turns();

@@ -1,8 +1,8 @@
 //! A world of updaters and loaders.
 ghost use Rattle.std.specs.Prelude.{◌≡◌, ◌<◌, ◌^◌, ◌∷◌, [], None, IfOk, IfErr, OnOk, OnErr, length};
 ghost use Rattle.std.specs.Option.{option_to_list};
-ghost use Rattle.update_world.specs.Disks.{LeavesExactly};
-ghost use Rattle.update_world.specs.Turns.{calls, left, read_in, repeated};
+ghost use Rattle.update_world.specs.Disks.{HoldsExactly, LeavesExactly};
+ghost use Rattle.update_world.specs.Turns.{calls, left, read_in, reading_after, repeated};
 ghost use Rattle.update_world.specs.Worlds.{HasTaken, IsFaultOf, Stands, new_world};
 
 use crate::fault::WorldFault;
@@ -72,6 +72,7 @@ impl World {
     pub fn turns(&self) -> &[Turn]
         ensures turns { result.now ≡ self.now.turns }
         ensures stands { Stands self.now }
+        ensures different { repeated self.now.posts ≡ None }
     {
         &self.turns
     }
@@ -96,6 +97,7 @@ impl World {
     pub fn left(&self, alloc: Global) -> Result<Readings, NoMemory>
         ensures left { IfOk result (λ readings. readings ≡ left self.now.first self.now.posts self.now.turns) }
         ensures crash { IfOk result (LeavesExactly self.now.first self.now.posts (calls (length self.now.posts) self.now.turns)) }
+        ensures held { HoldsExactly self.now.first self.now.posts (calls (length self.now.posts) self.now.turns) (reading_after self.now.first self.now.posts self.now.turns).bytes }
     {
         readings_from(
             alloc,

@@ -1,41 +1,43 @@
--- The file of all records and strings.
-use Rattle.std.proofs.Common.{◌≡◌, ◌∙◌, ap, None, length, ◌++◌}
-use Rattle.std.proofs.lemmas.Result.{IfOk-weaker}
+-- The strings fit, and the file is that of the stamps.
+use Rattle.std.proofs.Common.{◌∙◌, ℕ, List, ap, arith, length}
+use Rattle.string_pool.specs.InOrder.{Strings, table_of}
 use Rattle.aux_cache.specs.AuxFile.{damage, stamps_in}
-use Rattle.aux_cache.specs.AuxText.{aux_text, header}
-use Rattle.aux_cache.proofs.Back.{parts_are, written, joined, records_fit, strings_fit, all_back, undamaged}
+use Rattle.aux_cache.specs.AuxText.{strings}
+use Rattle.aux_cache.proofs.Adding.{strings_small}
+use Rattle.aux_cache.proofs.Back.{written, all_back, undamaged}
+use Rattle.aux_cache.proofs.Joining.{joined}
 use Rattle.aux_cache.proofs.writer.write.Goals as goal
 
-pub join-requires-clause-records : goal.join-requires-clause-records
-join-requires-clause-records c =
-    let put = c.in_ok-put_records.ensures in
-    let stamps = c.as_slice-stamps in
-    let parts = parts_are c.args.stamps.now stamps.result.now c.in_ok-records.records.items c.put_records.new.out.items c.deref.result.now c.bytes.result.now c.put_records.new.pool stamps.ensures.stamps c.in_ok-records.ensures.items put.bytes c.deref.ensures.value put.strings c.bytes.ensures in
-    rw parts.0 (records_fit c.args.stamps.now (written c.args.stamps.now stamps.result.now c.requires.few c.requires.names stamps.ensures.sorted stamps.ensures.stamps put.range))
+pub of-requires : goal.of-requires
+of-requires c =
+    let same = c.in_ok-numbered.ensures.texts ∙ ap strings c.as_slice-stamps.ensures.stamps in
+    let small = strings_small c.args.stamps.now c.requires.names in
+    omega (arith, small, ap (λ ts. length (table_of ts)) same, c.requires.few)
 
-pub join-requires-clause-strings : goal.join-requires-clause-strings
-join-requires-clause-strings c =
-    let put = c.in_ok-put_records.ensures in
-    let stamps = c.as_slice-stamps in
-    let parts = parts_are c.args.stamps.now stamps.result.now c.in_ok-records.records.items c.put_records.new.out.items c.deref.result.now c.bytes.result.now c.put_records.new.pool stamps.ensures.stamps c.in_ok-records.ensures.items put.bytes c.deref.ensures.value put.strings c.bytes.ensures in
-    rw parts.1 (strings_fit c.args.stamps.now (written c.args.stamps.now stamps.result.now c.requires.few c.requires.names stamps.ensures.sorted stamps.ensures.stamps put.range))
+pub overflow_cast-bytes : goal.overflow_cast-bytes
+overflow_cast-bytes c =
+    let same = ap (λ s. s.texts) c.in_ok-strings.ensures ∙ c.in_ok-numbered.ensures.texts ∙ ap strings c.as_slice-stamps.ensures.stamps in
+    let small = strings_small c.args.stamps.now c.requires.names in
+    omega (arith, small, ap (λ ts. length (table_of ts)) same, ap length c.bytes-bytes.ensures, c.requires.few)
 
 pub returns-clause-bytes : goal.returns-clause-bytes
 returns-clause-bytes c =
-    let put = c.in_ok-put_records.ensures in
-    let stamps = c.as_slice-stamps in
-    let parts = parts_are c.args.stamps.now stamps.result.now c.in_ok-records.records.items c.put_records.new.out.items c.deref.result.now c.bytes.result.now c.put_records.new.pool stamps.ensures.stamps c.in_ok-records.ensures.items put.bytes c.deref.ensures.value put.strings c.bytes.ensures in
-    IfOk-weaker c.join.result (λ bytes. bytes.items ≡ header (length stamps.result.now) (length c.bytes.result.now) ++ c.deref.result.now ++ c.bytes.result.now) (λ bytes. bytes.items ≡ aux_text c.args.stamps.now)
-    (λ bytes is. is ∙ joined c.args.stamps.now (length stamps.result.now) c.deref.result.now c.bytes.result.now (ap length stamps.ensures.stamps) parts.0 parts.1) c.join.ensures
+    let ys = c.as_slice-stamps.result.now in
+    let made : List (List ℕ) → Strings = λ ts. record { base = 0; texts = ts } in
+    let texts = c.in_ok-strings.ensures ∙ ap made c.in_ok-numbered.ensures.texts in
+    rw (c.in_ok-extend_from_slice.ensures.items, c.in_ok-put_records.ensures.bytes, c.in_ok-put_header.ensures, c.deref.ensures.value)
+    (joined c.args.stamps.now ys c.in_ok-numbered.numbered.items c.in_ok-strings.strings c.in_ok-out.out.items c.bytes-bytes.result.now c.as_slice-stamps.ensures.stamps c.in_ok-numbered.ensures.stamps texts c.in_ok-out.ensures.items c.bytes-bytes.ensures)
 
 pub returns-clause-undamaged : goal.returns-clause-undamaged
 returns-clause-undamaged c =
-    let stamps = c.as_slice-stamps in
-    let good = undamaged c.args.stamps.now (written c.args.stamps.now stamps.result.now c.requires.few c.requires.names stamps.ensures.sorted stamps.ensures.stamps c.in_ok-put_records.ensures.range) in
-    IfOk-weaker c.join.result (λ bytes. bytes.items ≡ aux_text c.args.stamps.now) (λ bytes. damage bytes.items ≡ None) (λ bytes is. ap damage is ∙ good) (returns-clause-bytes c)
+    let ys = c.as_slice-stamps.result.now in
+    let whole = written c.args.stamps.now ys c.requires.few c.requires.names c.as_slice-stamps.ensures.sorted c.as_slice-stamps.ensures.stamps
+    (rw c.in_ok-numbered.ensures.stamps at (rw c.deref.ensures.value at c.in_ok-put_records.ensures.range)) in
+    ap damage (returns-clause-bytes c) ∙ undamaged c.args.stamps.now whole
 
 pub returns-clause-read_back : goal.returns-clause-read_back
 returns-clause-read_back c =
-    let stamps = c.as_slice-stamps in
-    let back = all_back c.args.stamps.now (written c.args.stamps.now stamps.result.now c.requires.few c.requires.names stamps.ensures.sorted stamps.ensures.stamps c.in_ok-put_records.ensures.range) in
-    IfOk-weaker c.join.result (λ bytes. bytes.items ≡ aux_text c.args.stamps.now) (λ bytes. stamps_in bytes.items ≡ c.args.stamps.now) (λ bytes is. ap stamps_in is ∙ back) (returns-clause-bytes c)
+    let ys = c.as_slice-stamps.result.now in
+    let whole = written c.args.stamps.now ys c.requires.few c.requires.names c.as_slice-stamps.ensures.sorted c.as_slice-stamps.ensures.stamps
+    (rw c.in_ok-numbered.ensures.stamps at (rw c.deref.ensures.value at c.in_ok-put_records.ensures.range)) in
+    ap stamps_in (returns-clause-bytes c) ∙ all_back c.args.stamps.now whole

@@ -1,16 +1,21 @@
--- The fields of an entry, one after the other.
-use Rattle.std.proofs.Common.{◌≡◌, ap, ◌∙◌}
-use Rattle.string_pool.specs.Strings.{place_of}
-use Rattle.cache_writer.proofs.Adding.{put_fields, first_place}
+-- The fields of an entry, one after the other, with the offsets of its strings.
+use Rattle.std.proofs.Common.{◌≡◌, ◌+◌, ◌∙◌, ap, length, take}
+use Rattle.string_pool.specs.InOrder.{table_of, place_of}
+use Rattle.string_pool.proofs.Numbers.{number_within}
+use Rattle.cache_writer.proofs.Joining.{put_fields}
 use Rattle.cache_writer.proofs.writer.put_entry.Goals as goal
 
-pub returns-clause-bytes : goal.returns-clause-bytes
-returns-clause-bytes c =
-    let first = c.in_ok-soname.ensures in
-    let second = c.in_ok-path.ensures in
-    let soname : c.in_ok-soname.soname ≡ place_of c.add-2.new.self c.args.entry.now.soname =
-    first_place c.args.pool.now c.add.new.self c.add-2.new.self c.as_bytes.result.now c.as_bytes-2.result.now c.in_ok-soname.soname first.strings second.strings first.offset
-    ∙ ap (place_of c.add-2.new.self) c.as_bytes.ensures in
-    let path : c.in_ok-path.path ≡ place_of c.add-2.new.self c.args.entry.now.path = second.offset ∙ ap (place_of c.add-2.new.self) c.as_bytes-2.ensures in
+pub offset-soname-requires : goal.offset-soname-requires
+offset-soname-requires c = let own = c.requires.own in rw own.soname (number_within c.args.strings.now.texts c.args.numbered.now.entry.now.soname own.own.soname)
+
+pub offset-path-requires : goal.offset-path-requires
+offset-path-requires c = let own = c.requires.own in rw own.path (number_within c.args.strings.now.texts c.args.numbered.now.entry.now.path own.own.path)
+
+pub returns : goal.returns
+returns c =
+    let s = c.args.strings.now in
+    let e = c.args.numbered.now.entry.now in
+    let soname : c.offset-soname.result ≡ place_of s e.soname = c.offset-soname.ensures ∙ ap (λ n. s.base + length (table_of (take n s.texts))) c.requires.own.soname in
+    let path : c.offset-path.result ≡ place_of s e.path = c.offset-path.ensures ∙ ap (λ n. s.base + length (table_of (take n s.texts))) c.requires.own.path in
     rw (c.in_ok-extend_from_slice.ensures.items, c.fields_of-fields.ensures)
-    (put_fields c.add-2.new.self c.args.names.now c.args.entry.now c.args.out.now.items c.flags.result c.in_ok-soname.soname c.in_ok-path.path c.hwcap.result c.flags.ensures soname path c.hwcap.ensures)
+    (put_fields s c.args.names.now e c.args.out.now.items c.flags.result c.offset-soname.result c.offset-path.result c.hwcap.result c.flags.ensures soname path c.hwcap.ensures)

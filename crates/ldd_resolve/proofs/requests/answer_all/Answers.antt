@@ -14,18 +14,18 @@ loop-needed-init g c =
       answers = none_taken st.held c.args.given.now c.args.loading.now st;
     }
 
-pub returns-in_err-answer_object-clause-answers : goal.returns-in_err-answer_object-clause-answers
-returns-in_err-answer_object-clause-answers g c =
+pub returns-in_err-answer_names-clause-answers : goal.returns-in_err-answer_names-clause-answers
+returns-in_err-answer_names-clause-answers g c =
     let s1 = c.loop-needed.loading in
     let s2 : Loading = record s1 { pending = c.pop_front.new.self } in
     let queue : s1.pending.items ≡ c.in-Some.needed ∷ s2.pending.items = search rules in
-    let fault = c.in_err-answer_object.field-0.0 in
-    let failed : c.answer_object.result ≡ Err fault = c.in_err-answer_object.was in
+    let fault = c.in_err-answer_names.field-0.0 in
+    let failed : c.answer_names.result ≡ Err fault = c.in_err-answer_names.was in
     let same : c.from_residual.result ≡ Err fault = search rules in
     let st = g.S.Store.state c.args.store.now in
-    rw same (object_fails st.held c.args.given.now c.loop-needed.number c.args.loading.now s1 s2 st (g.S.Store.state c.loop-needed.store) (g.S.Store.state c.answer_object.new.store)
-    c.loop-needed.invariant.answers c.in-Some.needed queue refl refl refl refl refl c.answer_object.new.loading c.answer_object.new.loading fault
-    (rw (failed, c.loop-needed.invariant.held) at c.answer_object.ensures.answers))
+    rw same (object_fails st.held c.args.given.now c.loop-needed.number c.args.loading.now s1 s2 st (g.S.Store.state c.loop-needed.store) (g.S.Store.state c.answer_names.new.store)
+    c.loop-needed.invariant.answers c.in-Some.needed queue refl refl refl refl refl refl c.answer_names.new.loading c.answer_names.new.loading fault
+    (rw (failed, c.loop-needed.invariant.held) at c.answer_names.ensures.answers))
 
 pub overflow_add-number : goal.overflow_add-number
 overflow_add-number g c =
@@ -53,12 +53,12 @@ loop-needed-preserved g c =
     let n = c.loop-needed.number in
     let next : n + 1 ≡ suc n = omega arith in
     record {
-      held = c.answer_object.ensures.held ∙ c.loop-needed.invariant.held;
-      sound = rw c.loop-needed.invariant.held at c.in_ok-answer_object.ensures.sound;
-      even = even_then s1 s2 n c.in-Some.needed c.loop-needed.invariant.even queue c.answer_object.new.loading refl refl c.in_ok-answer_object.ensures.grows;
-      answers = object_then st.held c.args.given.now n c.args.loading.now s1 s2 st (g.S.Store.state c.loop-needed.store) (g.S.Store.state c.answer_object.new.store)
-          c.loop-needed.invariant.answers c.in-Some.needed queue refl refl refl refl refl (n + 1) c.answer_object.new.loading next
-          (rw (c.in_ok-answer_object.was, c.loop-needed.invariant.held) at c.answer_object.ensures.answers);
+      held = c.answer_names.ensures.held ∙ c.loop-needed.invariant.held;
+      sound = rw c.loop-needed.invariant.held at c.in_ok-answer_names.ensures.sound;
+      even = even_then s1 s2 n c.in-Some.needed c.loop-needed.invariant.even queue c.answer_names.new.loading refl refl c.in_ok-answer_names.ensures.grows;
+      answers = object_then st.held c.args.given.now n c.args.loading.now s1 s2 st (g.S.Store.state c.loop-needed.store) (g.S.Store.state c.answer_names.new.store)
+          c.loop-needed.invariant.answers c.in-Some.needed queue refl refl refl refl refl refl (n + 1) c.answer_names.new.loading next
+          (rw (c.in_ok-answer_names.was, c.loop-needed.invariant.held) at c.answer_names.ensures.answers);
     }
 
 pub returns-clause-answers : goal.returns-clause-answers
@@ -67,4 +67,4 @@ returns-clause-answers g c =
     let s1 = c.loop-needed.loading in
     let s2 : Loading = record s1 { pending = c.pop_front.new.self } in
     let none : s1.pending.items ≡ [] = search rules in
-    all_answered st.held c.args.given.now c.loop-needed.number c.args.loading.now s1 s2 st (g.S.Store.state c.loop-needed.store) c.loop-needed.invariant.answers none refl
+    all_answered st.held c.args.given.now c.loop-needed.number c.args.loading.now s1 s2 st (g.S.Store.state c.loop-needed.store) c.loop-needed.invariant.answers none refl refl

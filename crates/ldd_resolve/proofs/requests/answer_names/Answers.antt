@@ -6,11 +6,12 @@ use Rattle.ldd_resolve.proofs.requests.answer_names.Goals as goal
 pub loop-name-init : goal.loop-name-init
 loop-name-init g c =
     let st = g.S.Store.state c.args.store.now in
+    let same : c.args.needed ≡ c.into_iter-name-iterator.result.rest.items = search rules in
     record {
       held = refl;
       sound = c.requires.sound;
       grows = grows_none c.args.loading.now;
-      answers = nothing_answered st.held c.args.given.now c.args.number c.args.chain.now c.args.needed _ c.args.loading.now st (search rules);
+      answers = λ chain. nothing_answered st.held c.args.given.now c.args.number chain c.args.needed _ c.args.loading.now st same;
     }
 
 pub returns-in_err-answer_request-clause-answers : goal.returns-in_err-answer_request-clause-answers
@@ -20,9 +21,9 @@ returns-in_err-answer_request-clause-answers g c =
     let same : c.from_residual.result ≡ Err fault = search rules in
     let st = g.S.Store.state c.args.store.now in
     let rest = c.next.new.self.rest.items in
-    rw same (request_fails st.held c.args.given.now c.args.number c.args.chain.now c.args.needed _ c.args.loading.now c.loop-name.loading st (g.S.Store.state c.loop-name.store)
-    (g.S.Store.state c.answer_request.new.store) (rw c.in-Some.ensures.steps.0 at c.loop-name.invariant.answers) rest c.answer_request.new.loading c.answer_request.new.loading fault
-    (rw (failed, c.loop-name.invariant.held) at c.answer_request.ensures.answers rest))
+    rw same (λ chain. request_fails st.held c.args.given.now c.args.number chain c.args.needed _ c.args.loading.now c.loop-name.loading st (g.S.Store.state c.loop-name.store)
+    (g.S.Store.state c.answer_request.new.store) ((rw c.in-Some.ensures.steps.0 at c.loop-name.invariant.answers) chain) rest c.answer_request.new.loading c.answer_request.new.loading fault
+    (rw (failed, c.loop-name.invariant.held) at c.answer_request.ensures.answers chain rest))
 
 pub loop-name-preserved : goal.loop-name-preserved
 loop-name-preserved g c =
@@ -32,7 +33,7 @@ loop-name-preserved g c =
       held = c.answer_request.ensures.held ∙ c.loop-name.invariant.held;
       sound = rw c.loop-name.invariant.held at c.in_ok-answer_request.ensures.sound;
       grows = grows_then c.args.loading.now c.loop-name.loading c.answer_request.new.loading c.loop-name.invariant.grows c.in_ok-answer_request.ensures.grows;
-      answers = request_then st.held c.args.given.now c.args.number c.args.chain.now c.args.needed _ c.args.loading.now c.loop-name.loading st (g.S.Store.state c.loop-name.store)
-          (g.S.Store.state c.answer_request.new.store) (rw c.in-Some.ensures.steps.0 at c.loop-name.invariant.answers) rest c.answer_request.new.loading
-          (rw (c.in_ok-answer_request.was, c.loop-name.invariant.held) at c.answer_request.ensures.answers rest);
+      answers = λ chain. request_then st.held c.args.given.now c.args.number chain c.args.needed _ c.args.loading.now c.loop-name.loading st (g.S.Store.state c.loop-name.store)
+          (g.S.Store.state c.answer_request.new.store) ((rw c.in-Some.ensures.steps.0 at c.loop-name.invariant.answers) chain) rest c.answer_request.new.loading
+          (rw (c.in_ok-answer_request.was, c.loop-name.invariant.held) at c.answer_request.ensures.answers chain rest);
     }

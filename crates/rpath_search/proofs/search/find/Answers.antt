@@ -1,5 +1,6 @@
-use Rattle.std.proofs.Common.{◌≡◌, ◌≤◌, Err, Option, None, length, get_or, rules, sym, arith}
+use Rattle.std.proofs.Common.{◌≡◌, ◌≤◌, Err, Option, Some, None, length, get_or, rules, sym, arith}
 use Rattle.rpath_search.proofs.Endings.{is_partial}
+use Rattle.rpath_search.proofs.Once.{first_once, none_found}
 use Rattle.rpath_search.proofs.Tried.{all_tried, failed_on, first_on, found_on, next_is, tried_on}
 use Rattle.rpath_search.specs.declared.kinds.Found.{Found}
 use Rattle.rpath_search.proofs.search.find.Goals as goal
@@ -62,3 +63,17 @@ returns-clause-searches g c =
     let past = rw list at c.loop-path-test.false in
     let end : length places ≤ i = omega (arith, past) in
     all_tried _ c.args.tree.now c.args.abi places i _ _ c.loop-path.invariant end
+
+pub returns-in-Some-clause-once : goal.returns-in-Some-clause-once
+returns-in-Some-clause-once g c =
+    first_once (g.S.Store.state c.args.store.now).held c.args.tree.now c.args.abi c.args.places.now (Some c.in-Some.found.path) (returns-in-Some-clause-first g c)
+
+pub returns-clause-once : goal.returns-clause-once
+returns-clause-once g c =
+    let known = (g.S.Store.state c.args.store.now).held in
+    let places = c.args.places.now in
+    let i = c.loop-path.path-index in
+    let list = c.as_slice-path-items.ensures in
+    let past = rw list at c.loop-path-test.false in
+    let end : length places ≤ i = omega (arith, past) in
+    first_once known c.args.tree.now c.args.abi places None (none_found known c.args.tree.now c.args.abi places i end c.loop-path.invariant.behind)

@@ -3,4 +3,4 @@ use Rattle.sample_runs.proofs.sample.sample.Goals as goal
 
 pub returns-in-Ok-text_of-clause-text : goal.returns-in-Ok-text_of-clause-text
 returns-in-Ok-text_of-clause-text g c =
-    rw c.in-Ok-text_of.ensures (is_sample c.args.n c.in-Ok-update_twice.updates.0 c.in-Ok-update_twice.updates.1 _ _ _ c.in-Ok-update_twice.ensures.updates)
+    rw c.in-Ok-text_of.ensures (is_sample c.args.n c.in-Ok-update_twice.updates.0 c.in-Ok-update_twice.updates.1 _ _ _ _ c.in-Ok-update_twice.ensures.updates)

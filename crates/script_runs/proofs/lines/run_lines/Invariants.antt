@@ -1,11 +1,13 @@
-use Rattle.std.proofs.Common.{◌+◌}
-use Rattle.command_status.specs.declared.status.Status.{Status}
-use Rattle.script_runs.specs.Run.{RunsLines, States, lines_of, states}
+use Rattle.std.proofs.Common.{◌+◌, Result}
+use Rattle.loaded_image.specs.Session.{Loaded}
+use Rattle.update_runs.specs.Update.{States, states}
+use Rattle.script_runs.specs.declared.fault.ScriptFault.{ScriptFault}
+use Rattle.script_runs.specs.Run.{RunsLines, lines_of}
 use Rattle.script_runs.proofs.lines.run_lines.Given as goal
 
 -- a run of the lines that are left, from here on, is one of all lines
 abbrev pub invariant-loop-line : goal.invariant-loop-line
 invariant-loop-line g l =
-    (status : Status) (new : States)
-    → RunsLines l.tag (1 + l.taken) l.line-iterator l.image status (states (g.S.Store.state l.store) (g.D.Disk.state l.disk) (g.O.Sink.state l.out)) new
-    → RunsLines l.fn.tag 1 (lines_of l.fn.text) l.fn.session status (states (g.S.Store.state l.fn.store) (g.D.Disk.state l.fn.disk) (g.O.Sink.state l.fn.out)) new
+    (to : Result Loaded ScriptFault) (new : States)
+    → RunsLines l.by.tag (1 + l.taken) l.line-iterator l.image to (states (g.S.Store.state l.store) (g.D.Disk.state l.disk) (g.O.Sink.state l.sink)) new
+    → RunsLines l.fn.by.tag 1 (lines_of l.fn.text) l.fn.session to (states (g.S.Store.state l.fn.store) (g.D.Disk.state l.fn.disk) (g.O.Sink.state l.fn.sink)) new

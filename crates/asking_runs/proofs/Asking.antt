@@ -1,0 +1,90 @@
+-- A command that only asks, by what it reads, what is answered of that, and how it ends.
+use Rattle.std.proofs.Common.{◌≡◌, ℕ, List, Option, Some, None, Result, Ok, Err, inr, refl, subst}
+use Rattle.std.specs.Result.{result_map_both}
+use Rattle.devices.specs.Devices.{DeviceStates}
+use Rattle.cache_reader.specs.Cache.{CachedEntry}
+use Rattle.commands.specs.declared.kinds.Resolve.{Resolve}
+use Rattle.image_tree.specs.Tree.{Nodes}
+use Rattle.ldd_resolve.specs.Resolving.{BeginsBy, BeginsFor, ReadsListing, object_at, program_at, record_of}
+use Rattle.ldd_resolve.specs.Listing.{Record}
+use Rattle.ldd_resolve.specs.declared.kinds.ResolveFault.TheVariants as resolving
+use Rattle.elf_dynamic.specs.declared.kinds.Object.{Object}
+use Rattle.lib_types.specs.declared.analysis.Defect.{Defect}
+use Rattle.rpath_search.specs.declared.kinds.Env.{Env}
+use Rattle.loaded_image.specs.Reading.{ReadsContent, ReadsImage}
+use Rattle.loaded_image.specs.declared.fault.LoadFault.{LoadFault}
+use Rattle.loaded_image.specs.declared.fault.SlotFault.{SlotFault}
+use Rattle.loaded_image.specs.declared.reading.ReadImage.{ReadImage}
+use Rattle.loaded_image.specs.declared.reading.TreeSource.TheVariants as sources
+use Rattle.tree_face.proofs.StoreUse.{reads_all}
+use Rattle.tree_face.specs.declared.disk.Slot.TheVariants as slots
+use Rattle.tree_face.specs.Disk.{Content}
+use Rattle.tree_face.specs.Store.{Contents, StoreState}
+use Rattle.tree_face.specs.StoreUse.{Complete, GaveUp}
+use Rattle.tree_face.specs.Stream.{SinkState}
+use Rattle.command_status.specs.Ending.{AnswerText, EndsAs}
+use Rattle.command_status.specs.declared.status.Status.{Status}
+use Rattle.asking_runs.proofs.Completing.{completes, completes_listing}
+use Rattle.asking_runs.specs.AskCache.{AsksCache, CacheAnswer, answer_of}
+use Rattle.asking_runs.specs.Faults.{of_cache, of_list}
+use Rattle.asking_runs.specs.Resolve.{AnswersImage, ListsProgram, ResolveRun, listed_answer, listed_text}
+use Rattle.asking_runs.specs.declared.fault.CacheFault.{CacheFault}
+use Rattle.asking_runs.specs.declared.fault.ListFault.{ListFault}
+use Rattle.asking_runs.specs.declared.fault.ListFault.TheVariants as faults
+use Rattle.asking_runs.specs.declared.resolve.Listed.{Listed}
+
+-- a command that ends by an answer ends by what that is
+module _ {A F : Type 0} (f : A → AnswerText) (g : F → Status) (status : Status) (a b : SinkState) where
+  ends_by : (r : Result A F) (expected : Result AnswerText F) → result_map_both f (λ e. e) r ≡ expected → EndsAs (result_map_both f g r) status a b
+      → EndsAs (result_map_both (λ answer. answer) g expected) status a b
+  ends_by (Ok x) expected is ends = subst (λ (e : Result AnswerText F). EndsAs (result_map_both (λ answer. answer) g e) status a b) is ends
+  ends_by (Err e) expected is ends = subst (λ (e : Result AnswerText F). EndsAs (result_map_both (λ answer. answer) g e) status a b) is ends
+
+module _ (old new : DeviceStates) (status : Status) where
+  pub asks : {A : Type 0} (f : A → AnswerText) (answer : CacheAnswer) (read : Result Content SlotFault) (result : Result A CacheFault) → ReadsContent slots.Cache read old.disk new.disk
+      → result_map_both f (λ e. e) result ≡ answer_of answer read → EndsAs (result_map_both f of_cache result) status old.sink new.sink
+      → new.store ≡ old.store → new.source ≡ old.source → AsksCache answer old new status
+  asks f answer read result reads is ends store source =
+      let by_answer = ends_by f of_cache status old.sink new.sink result (answer_of answer read) is ends in
+      record { read = read; reads = reads; ends = by_answer; store = store; source = source; complete = completes old new status answer read reads by_answer }
+
+  pub resolves : (asked : Resolve) (read : Result ReadImage LoadFault) (result : Result Listed ListFault) → ReadsImage sources.Manifest read old.disk new.disk
+      → AnswersImage asked read (listed_answer result) old.store new.store → EndsAs (result_map_both listed_text of_list result) status old.sink new.sink → new.source ≡ old.source
+      → ResolveRun asked old new status
+  resolves asked read result reads answers ends source =
+      let by_answer = ends_by listed_text of_list status old.sink new.sink result (listed_answer result) refl ends in
+      record {
+        read = read;
+        reads = reads;
+        answer = listed_answer result;
+        answers = answers;
+        ends = by_answer;
+        source = source;
+        complete = completes_listing old new status asked read (listed_answer result) reads answers by_answer;
+      }
+
+-- ---- a listing whose text has no memory
+
+module _ (t : Nodes) (cache : Option (List CachedEntry)) (path : List ℕ) (env : Env) (a b : StoreState) where
+  by_object : (held : Contents) (key : List (List ℕ)) (at : Object → ℕ → Record) (o : Option (Result Object Defect)) → BeginsBy o at key held Complete a b → BeginsBy o at key held GaveUp a b
+  by_object held key at None reads = reads_all _ _ _ _ _ reads
+  by_object held key at (Some (Err d)) reads = reads_all _ _ _ _ _ reads
+  by_object held key at (Some (Ok o)) reads = record { requests = reads.requests; reads = reads_all _ _ _ _ _ reads.reads; all = tt }
+
+  by_file : (held : Contents) (file : Option (List ℕ)) → BeginsFor t cache path env held file Complete a b → BeginsFor t cache path env held file GaveUp a b
+  by_file held None reads = reads_all _ _ _ _ _ reads
+  by_file held (Some real) reads = by_object held _ (record_of t cache path env held real) (object_at held t real) reads
+
+  gave_up : (known : Option Contents) → ReadsListing known t cache path env Complete a b → ReadsListing known t cache path env GaveUp a b
+  gave_up None reads = reads_all _ _ _ _ _ reads
+  gave_up (Some held) reads = by_file held (program_at t path) reads
+
+  pub no_text : ReadsListing a.held t cache path env Complete a b → ListsProgram path env t cache (Err (faults.Program resolving.NoMemory)) a b
+  no_text reads = record {
+    listing = Err resolving.NoMemory;
+    is = tt;
+    no_program = record { only = λ e. absurd (cc (e)); always = λ e. inr refl };
+    bad_program = tt;
+    reads = gave_up a.held reads;
+    answer_is = refl;
+  }

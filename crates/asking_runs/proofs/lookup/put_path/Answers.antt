@@ -1,0 +1,12 @@
+use Rattle.std.proofs.Common.{rules, ◌≡◌, Err}
+use Rattle.std.specs.Prelude.{codes}
+use Rattle.command_status.proofs.Saying.{takes_on, takes_part}
+use Rattle.asking_runs.proofs.lookup.put_path.Goals as goal
+
+pub returns-in_err-put_all : goal.returns-in_err-put_all
+returns-in_err-put_all g c =
+    let same : c.from_residual.result ≡ Err c.in_err-put_all.field-0.0 = search rules in
+    rw same (takes_part c.args.path.now (codes "\n") _ _ c.in_err-put_all.field-0.0 (rw c.in_err-put_all.was at c.put_all.ensures))
+
+pub returns : goal.returns
+returns g c = takes_on c.args.path.now (codes "\n") _ _ _ c.put_all-2.result (rw c.in_ok-put_all.was at c.put_all.ensures) c.put_all-2.ensures

@@ -1,0 +1,36 @@
+-- A command that asks the cache alone.
+use Rattle.std.specs.Prelude.{◌≡◌, ℕ, List, Result, Ok, Err}
+use Rattle.std.specs.Result.{result_map_both}
+use Rattle.devices.specs.Devices.{DeviceStates}
+use Rattle.tree_face.specs.declared.disk.Slot.TheVariants as slots
+use Rattle.tree_face.specs.Disk.{Content}
+use Rattle.tree_face.specs.Known.{IfKnown}
+use Rattle.command_status.specs.Ending.{AnswerText, EndsAs}
+use Rattle.command_status.specs.declared.status.Status.{Status}
+use Rattle.loaded_image.specs.Reading.{ReadsContent}
+use Rattle.loaded_image.specs.declared.fault.SlotFault.{SlotFault}
+use Rattle.asking_runs.specs.Cache.{cache_in}
+use Rattle.asking_runs.specs.Complete.{Completes}
+use Rattle.asking_runs.specs.Faults.{of_cache}
+use Rattle.asking_runs.specs.declared.fault.CacheFault.{CacheFault}
+
+-- what is answered of a cache's bytes
+abbrev pub CacheAnswer : Type 0
+CacheAnswer = List ℕ → Result AnswerText CacheFault
+
+abbrev pub answer_by : CacheAnswer → Result (List ℕ) CacheFault → Result AnswerText CacheFault
+answer_by answer (Ok bytes) = answer bytes
+answer_by answer (Err fault) = Err fault
+
+-- the same of what was read of the Cache slot
+abbrev pub answer_of : CacheAnswer → Result Content SlotFault → Result AnswerText CacheFault
+answer_of answer read = answer_by answer (cache_in read)
+
+-- The Cache slot is read once, and the command ends by the answer of that.
+pub record AsksCache (answer : CacheAnswer) (old new : DeviceStates) (status : Status) : Type 0 where
+  pub read : Result Content SlotFault
+  pub reads : ReadsContent slots.Cache read old.disk new.disk
+  pub ends : EndsAs (result_map_both (λ answer. answer) of_cache (answer_of answer read)) status old.sink new.sink
+  pub store : new.store ≡ old.store
+  pub source : new.source ≡ old.source
+  pub complete : IfKnown old.disk.contents (λ content. Completes (answer_of answer (Ok content.now.cache)) old new status)

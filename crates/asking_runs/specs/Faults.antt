@@ -1,0 +1,41 @@
+-- Why a command that only asks has no answer, and the status of each reason.
+use Rattle.std.specs.Prelude.{◌≡◌}
+use Rattle.command_status.specs.Status.{of_load, of_resolve}
+use Rattle.command_status.specs.Usage.{load_no_usage, resolve_no_usage}
+use Rattle.command_status.specs.declared.status.Status.{Status}
+use Rattle.command_status.specs.declared.status.Status.TheVariants as statuses
+use Rattle.loaded_image.specs.declared.fault.SlotFault.{SlotFault}
+use Rattle.loaded_image.specs.declared.fault.SlotFault.TheVariants as slot_faults
+use Rattle.asking_runs.specs.declared.fault.CacheFault.{CacheFault}
+use Rattle.asking_runs.specs.declared.fault.CacheFault.TheVariants as caches
+use Rattle.asking_runs.specs.declared.fault.ListFault.{ListFault}
+use Rattle.asking_runs.specs.declared.fault.ListFault.TheVariants as lists
+
+-- the fault of the Cache slot
+abbrev pub of_slot : SlotFault → CacheFault
+of_slot (slot_faults.DiskFailed slot) = caches.DiskFailed
+of_slot slot_faults.NoMemory = caches.NoMemory
+
+abbrev pub of_cache : CacheFault → Status
+of_cache caches.DiskFailed = statuses.DiskFault
+of_cache caches.NoMemory = statuses.NoMemory
+of_cache caches.NoCache = statuses.NoCache
+of_cache (caches.BadCache defect) = statuses.BadCache defect
+
+abbrev pub of_list : ListFault → Status
+of_list (lists.Image fault) = of_load fault
+of_list (lists.BadCache defect) = statuses.BadCache defect
+of_list (lists.Program fault) = of_resolve fault
+
+-- ---- no reason is that of arguments which are those of no command
+
+pub cache_no_usage : (fault : CacheFault) → of_cache fault ≡ statuses.Usage → ⊥
+cache_no_usage caches.DiskFailed e = absurd (cc)
+cache_no_usage caches.NoMemory e = absurd (cc)
+cache_no_usage caches.NoCache e = absurd (cc)
+cache_no_usage (caches.BadCache defect) e = absurd (cc)
+
+pub list_no_usage : (fault : ListFault) → of_list fault ≡ statuses.Usage → ⊥
+list_no_usage (lists.Image fault) e = load_no_usage fault e
+list_no_usage (lists.BadCache defect) e = absurd (cc)
+list_no_usage (lists.Program fault) e = resolve_no_usage fault e

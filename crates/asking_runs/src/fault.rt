@@ -1,0 +1,111 @@
+//! Why a command that only asks has no answer.
+ghost use Rattle.std.specs.Prelude.{◌≡◌};
+ghost use Rattle.asking_runs.specs.Faults.{of_slot};
+ghost use Rattle.asking_runs.specs.declared.fault.CacheFault.TheVariants as caches;
+ghost use Rattle.asking_runs.specs.declared.fault.ListFault.TheVariants as lists;
+ghost use Rattle.ldd_resolve.specs.declared.kinds.ResolveFault.TheVariants as resolving;
+
+use cache_reader::CacheDefect;
+use command_status::{Fault, Status};
+use ldd_resolve::ResolveFault;
+use lib_types::NoMemory;
+use loaded_image::{LoadFault, SlotFault};
+
+/// Why the cache isn't asked.
+#[derive(Clone, Copy, Debug, PartialEq, Eq)]
+pub(crate) enum CacheFault {
+    /// The disk has failed.
+    DiskFailed,
+    NoMemory,
+    /// The Cache slot holds nothing.
+    NoCache,
+    /// The first defect of the cache.
+    BadCache(CacheDefect),
+}
+
+/// Why a program isn't listed.
+#[derive(Clone, Copy, Debug, PartialEq, Eq)]
+pub(crate) enum ListFault {
+    /// The image isn't read.
+    Image(LoadFault),
+    /// The first defect of the cache.
+    BadCache(CacheDefect),
+    /// The program has no listing.
+    Program(ResolveFault),
+}
+
+impl From<SlotFault> for CacheFault {
+    ghost from_gives = { λ fault e. e ≡ of_slot fault };
+
+    fn from(fault: SlotFault) -> Self {
+        match fault {
+            SlotFault::DiskFailed { .. } => CacheFault::DiskFailed,
+            SlotFault::NoMemory => CacheFault::NoMemory,
+        }
+    }
+}
+
+impl From<CacheDefect> for CacheFault {
+    ghost from_gives = { λ defect e. e ≡ caches.BadCache defect };
+
+    fn from(defect: CacheDefect) -> Self {
+        CacheFault::BadCache(defect)
+    }
+}
+
+impl Fault for CacheFault {
+    ghost use Rattle.asking_runs.specs.Faults.{cache_no_usage, of_cache};
+
+    ghost status_of = { of_cache };
+
+    fn status(self) -> Status {
+        match self {
+            CacheFault::DiskFailed => Status::DiskFault,
+            CacheFault::NoMemory => Status::NoMemory,
+            CacheFault::NoCache => Status::NoCache,
+            CacheFault::BadCache(defect) => Status::BadCache(defect),
+        }
+    }
+
+    ghost not_usage = { cache_no_usage };
+}
+
+impl From<CacheDefect> for ListFault {
+    ghost from_gives = { λ defect e. e ≡ lists.BadCache defect };
+
+    fn from(defect: CacheDefect) -> Self {
+        ListFault::BadCache(defect)
+    }
+}
+
+impl From<ResolveFault> for ListFault {
+    ghost from_gives = { λ fault e. e ≡ lists.Program fault };
+
+    fn from(fault: ResolveFault) -> Self {
+        ListFault::Program(fault)
+    }
+}
+
+impl From<NoMemory> for ListFault {
+    ghost from_gives = { λ _ e. e ≡ lists.Program resolving.NoMemory };
+
+    fn from(_: NoMemory) -> Self {
+        ListFault::Program(ResolveFault::NoMemory)
+    }
+}
+
+impl Fault for ListFault {
+    ghost use Rattle.asking_runs.specs.Faults.{list_no_usage, of_list};
+
+    ghost status_of = { of_list };
+
+    fn status(self) -> Status {
+        match self {
+            ListFault::Image(fault) => fault.status(),
+            ListFault::BadCache(defect) => Status::BadCache(defect),
+            ListFault::Program(fault) => fault.status(),
+        }
+    }
+
+    ghost not_usage = { list_no_usage };
+}

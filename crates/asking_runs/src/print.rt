@@ -1,0 +1,62 @@
+//! The command `print`.
+ghost use Rattle.std.specs.Prelude.{◌≡◌};
+ghost use Rattle.std.specs.Result.{result_map_both};
+ghost use Rattle.devices.specs.Devices.{states};
+ghost use Rattle.tree_face.specs.Store.{StoreState};
+ghost use Rattle.tree_face.specs.Stream.{SourceState};
+ghost use Rattle.asking_runs.specs.AskCache.{answer_of};
+ghost use Rattle.asking_runs.specs.Print.{PrintRun, cache_name, print_answer, printed_answer};
+
+use crate::cache::cache_in;
+use crate::fault::CacheFault;
+use cache_reader::CacheView;
+use command_status::{Answer, Status, end};
+use lib_types::{Failed, Text};
+use loaded_image::{SlotFault, read_slot};
+use std::alloc::Global;
+use tree_face::{Disk, Sink, Slot};
+
+// The cache, to be printed.
+#[derive(Drop)]
+struct Printed<'a> {
+    view: CacheView<'a>,
+}
+
+impl<'a> Answer for Printed<'a> {
+    ghost use Rattle.asking_runs.specs.Print.{printed_answer};
+
+    ghost answer = { λ printed. printed_answer printed.view };
+
+    fn write<O: Sink>(&self, out: &mut O) -> Result<(), Failed> {
+        cache_reader::print(&self.view, cache_name(), out)
+    }
+
+    fn is_missing(&self) -> bool {
+        false
+    }
+}
+
+// The name of the cache in the first line, as the loader and ldconfig -p name it.
+fn cache_name() -> &'static [u8]
+    ensures { result.now ≡ cache_name }
+{
+    b"/etc/ld.so.cache"
+}
+
+// The answer of what was read of the Cache slot.
+fn print(read: &Result<Option<Text>, SlotFault>) -> Result<Printed<'_>, CacheFault>
+    ensures { result_map_both (λ printed. printed_answer printed.view) (λ fault. fault) result ≡ answer_of print_answer read.now }
+{
+    let view = CacheView::parse(cache_in(read)?)?;
+    Ok(Printed { view })
+}
+
+/// Runs the command `print`. The states of the store and the input are any, since nothing is read from them.
+pub fn run_print<D: Disk, O: Sink>(alloc: Global, disk: &mut D, sink: &mut O) -> Status
+    ensures runs { (store : StoreState) (source : SourceState) → PrintRun
+        (states store (D.state disk.old) source (O.state sink.old)) (states store (D.state disk.new) source (O.state sink.new)) result }
+    ensures no_usage { result ≡ Status.Usage → ⊥ }
+{
+    let read = read_slot(alloc, disk, Slot::Cache);
+    end(print(&read), sink)
+}

@@ -1,0 +1,20 @@
+-- No fault of a part is that of arguments which are those of no command.
+use Rattle.std.specs.Prelude.{◌≡◌}
+use Rattle.loaded_image.specs.declared.fault.LoadFault.{LoadFault}
+use Rattle.loaded_image.specs.declared.fault.LoadFault.TheVariants as loading
+use Rattle.ldd_resolve.specs.declared.kinds.ResolveFault.{ResolveFault}
+use Rattle.ldd_resolve.specs.declared.kinds.ResolveFault.TheVariants as resolving
+use Rattle.command_status.specs.Status.{of_load, of_resolve}
+use Rattle.command_status.specs.declared.status.Status.TheVariants.{Usage}
+
+pub load_no_usage : (fault : LoadFault) → of_load fault ≡ Usage → ⊥
+load_no_usage (loading.DiskFailed slot) e = absurd (cc)
+load_no_usage loading.NoManifest e = absurd (cc)
+load_no_usage (loading.BadManifest fault) e = absurd (cc)
+load_no_usage loading.NoMemory e = absurd (cc)
+
+pub resolve_no_usage : (fault : ResolveFault) → of_resolve fault ≡ Usage → ⊥
+resolve_no_usage resolving.NoProgram e = absurd (cc)
+resolve_no_usage (resolving.BadProgram defect) e = absurd (cc)
+resolve_no_usage resolving.StoreFault e = absurd (cc)
+resolve_no_usage resolving.NoMemory e = absurd (cc)

@@ -1,0 +1,89 @@
+//! How a command that only asks ends.
+ghost use Rattle.std.specs.Prelude.{◌≡◌};
+ghost use Rattle.std.specs.Result.{result_map_both};
+ghost use Rattle.tree_face.specs.Stream.{TakesAll};
+ghost use Rattle.command_status.specs.Ending.{AnswerText, EndsAs};
+
+use crate::output::put_fault_line;
+use crate::status::Status;
+use ldd_resolve::ResolveFault;
+use lib_types::Failed;
+use loaded_image::LoadFault;
+use tree_face::Sink;
+
+/// What a command answers that only asks. It may be written in pieces.
+pub trait Answer {
+    ghost answer: { Self → AnswerText };
+
+    /// Writes the text. After an error a prefix of it was written.
+    fn write<O: Sink>(&self, out: &mut O) -> Result<(), Failed>
+        ensures { TakesAll (O.state out.old) (O.state out.new) (answer self.now).text result };
+
+    /// Whether something that was asked for isn't there.
+    fn is_missing(&self) -> bool
+        ensures { result ≡ (answer self.now).missing };
+}
+
+/// Why a command has no answer.
+pub trait Fault {
+    ghost use Rattle.command_status.specs.declared.status.Status.{Status};
+    ghost use Rattle.command_status.specs.declared.status.Status.TheVariants as statuses;
+
+    ghost status_of: { Self → Status };
+
+    /// The status of a command that ends so.
+    fn status(self) -> Status
+        ensures { result ≡ status_of self };
+
+    // Only arguments have that status.
+    ghost not_usage: { (fault : Self) → status_of fault ≡ statuses.Usage → ⊥ };
+}
+
+/// Ends a command that only asks: writes the answer, or the fault line of the error.
+pub fn end<A: Answer + Drop, F: Fault, O: Sink>(answered: Result<A, F>, out: &mut O) -> Status
+    ensures ends { EndsAs (result_map_both A.answer F.status_of answered) result (O.state out.old) (O.state out.new) }
+    ensures no_usage { result ≡ Status.Usage → ⊥ }
+{
+    let answer = match answered {
+        Ok(answer) => answer,
+        Err(fault) => {
+            let status = fault.status();
+            put_fault_line(out, status);
+            return status;
+        }
+    };
+    if answer.write(out).is_err() {
+        return Status::OutputFault;
+    }
+    if answer.is_missing() {
+        Status::Missing
+    } else {
+        Status::Done
+    }
+}
+
+impl Fault for LoadFault {
+    ghost use Rattle.command_status.specs.Status.{of_load};
+    ghost use Rattle.command_status.specs.Usage.{load_no_usage};
+
+    ghost status_of = { of_load };
+
+    fn status(self) -> Status {
+        Status::from(self)
+    }
+
+    ghost not_usage = { load_no_usage };
+}
+
+impl Fault for ResolveFault {
+    ghost use Rattle.command_status.specs.Status.{of_resolve};
+    ghost use Rattle.command_status.specs.Usage.{resolve_no_usage};
+
+    ghost status_of = { of_resolve };
+
+    fn status(self) -> Status {
+        Status::from(self)
+    }
+
+    ghost not_usage = { resolve_no_usage };
+}

@@ -1,0 +1,8 @@
+use Rattle.elf_dynamic.proofs.Known.{sized}
+use Rattle.elf_dynamic.proofs.Nuls.{nul_known}
+use Rattle.elf_dynamic.proofs.file.ElfFile.has_text_at.Goals as goal
+
+pub returns-clause-text : goal.returns-clause-text
+returns-clause-text g c =
+    let f = c.args.self.now.cursor in
+    nul_known _ c.most_at-size.result c.args.offset f.strings f.head.length _ c.if-offset-strings.false c.requires.cursor.strings c.most_at-size.ensures (sized _ _ c.requires.cursor.head) c.has_nul.ensures.nul

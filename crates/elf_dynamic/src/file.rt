@@ -1,0 +1,66 @@
+//! A cursor over the ELF file that a store has begun.
+ghost use Rattle.std.specs.Prelude.{◌≡◌, ◌≤◌, ◌+◌};
+ghost use Rattle.elf_headers.specs.Reading.{IsHeadOf};
+ghost use Rattle.elf_dynamic.specs.Cursor.{IsCursorOf, no_strings};
+
+use crate::kinds::Place;
+use crate::window::Window;
+use elf_headers::kinds::Head;
+use tree_face::Store;
+
+/// What is known of the begun file.
+#[derive(Drop)]
+pub struct Cursor {
+    pub(crate) head: Head,
+    // The program headers, later the texts of the string table.
+    pub(crate) headers: Window,
+    // The entries of the dynamic section.
+    pub(crate) section: Window,
+    // The string table. It has no bytes until it is known.
+    pub(crate) strings: Place,
+}
+
+/// The ELF file that a store has begun. It is read through windows, so that nearby bytes aren't read again.
+#[derive(Drop)]
+pub struct ElfFile<'s, S: Store> {
+    pub(crate) store: &'s mut S,
+    pub(crate) cursor: Cursor,
+}
+
+impl<'s, S: Store> ElfFile<'s, S> {
+    /// The begun file, with the header that `elf_headers::head` has read of it.
+    pub fn new(store: &'s mut S, head: Head) -> ElfFile<'s, S>
+        requires head { IsHeadOf (S.state store.old) head }
+        ensures same_store { result.store.ghost_name ≡ store.entry.ghost_name }
+        ensures unread { result.store.now ≡ store.old }
+        ensures cursor { IsCursorOf (S.state result.store.now) result.cursor }
+        ensures head { result.cursor.head ≡ head }
+        ensures strings { result.cursor.strings ≡ no_strings }
+    {
+        ElfFile {
+            store,
+            cursor: Cursor {
+                head,
+                headers: Window::new(),
+                section: Window::new(),
+                strings: Place { at: 0, size: 0 },
+            },
+        }
+    }
+
+    /// What the file's header says.
+    pub fn head(&self) -> &Head
+        ensures { result.now ≡ self.now.cursor.head }
+    {
+        &self.cursor.head
+    }
+
+    /// Takes this place as the string table.
+    pub fn set_strings(&mut self, strings: Place)
+        requires within { strings.at + strings.size ≤ self.old.cursor.head.length }
+        ensures same_store { self.new.store ≡ self.old.store }
+        ensures strings { self.new.cursor ≡ record self.old.cursor { strings = strings } }
+    {
+        self.cursor.strings = strings;
+    }
+}

@@ -1,0 +1,278 @@
+//! The paths of a search, one after another.
+ghost use Rattle.std.specs.Prelude.{◌≡◌, ◌<◌, ◌∷◌, [], ℕ, Some, drop, length, option_and_then, IfOk};
+ghost use Rattle.std.specs.Option.{MatchOption, option_copied};
+ghost use Rattle.hwcap_dirs.specs.Places.{system_dirs};
+ghost use Rattle.rpath_search.specs.Candidates.{IsInside, IsNext, IsNextAt, IsRefilled, all_paths, dirs_left, paths_at, paths_left};
+ghost use Rattle.rpath_search.specs.Loaders.{reach_at};
+ghost use Rattle.rpath_search.specs.Places.{cached_path, first_dirs, is_default, paths_by};
+
+use crate::loaders::Loaders;
+use crate::paths::{from_root, hwcaps_path, plain_path};
+use lib_types::{NoMemory, Text, Texts, has_byte};
+use std::alloc::Global;
+
+// The directories before the cache that are left: these, those by DT_RPATH from an object upwards, and those of two more lists.
+#[derive(Clone, Copy)]
+struct FirstDirs<'a> {
+    list: &'a [Text],
+    above: Option<usize>,
+    loaders: &'a Loaders,
+    second: &'a [Text],
+    third: &'a [Text],
+}
+
+impl<'a> FirstDirs<'a> {
+    // None.
+    fn none(loaders: &'a Loaders) -> FirstDirs<'a>
+        ensures left { dirs_left result ≡ [] }
+        ensures inside { IsInside result }
+    {
+        FirstDirs {
+            list: &[],
+            above: None,
+            loaders,
+            second: &[],
+            third: &[],
+        }
+    }
+
+    // Those of an object.
+    fn of(loaders: &'a Loaders, number: usize) -> FirstDirs<'a>
+        requires { number < length loaders.now }
+        ensures left { dirs_left result ≡ first_dirs (reach_at loaders.now number) }
+        ensures inside { IsInside result }
+    {
+        let link = loaders.link(number);
+        let library = loaders.library();
+        match &link.dirs.runpath {
+            Some(runpath) => FirstDirs {
+                list: library,
+                above: None,
+                loaders,
+                second: runpath.as_slice(),
+                third: &[],
+            },
+            None => FirstDirs {
+                list: link.dirs.rpath.as_slice(),
+                above: link.above,
+                loaders,
+                second: library,
+                third: &[],
+            },
+        }
+    }
+
+    // With the next list in place of one that is empty, if there is one.
+    fn refilled(self) -> Option<FirstDirs<'a>>
+        requires empty { self.list.now ≡ [] }
+        requires inside { IsInside self }
+        ensures { MatchOption result (dirs_left self.entry ≡ []) (IsRefilled self.entry) }
+    {
+        if let Some(number) = self.above {
+            let link = self.loaders.link(number);
+            return Some(FirstDirs {
+                list: link.dirs.rpath.as_slice(),
+                above: link.above,
+                ..self
+            });
+        }
+        if self.second.is_empty() && self.third.is_empty() {
+            return None;
+        }
+        Some(FirstDirs {
+            list: self.second,
+            second: self.third,
+            third: &[],
+            ..self
+        })
+    }
+}
+
+// The next directory, and those behind it.
+fn split_first<'a>(dirs: FirstDirs<'a>) -> Option<(&'a Text, FirstDirs<'a>)>
+    requires { IsInside dirs }
+    ensures { MatchOption result (dirs_left dirs.entry ≡ []) (λ r. (dirs_left dirs.entry ≡ r.0.now ∷ dirs_left r.1) × IsInside r.1) }
+{
+    let mut left = dirs;
+    while left.list.is_empty() {
+        left = left.refilled()?;
+    }
+    let (dir, rest) = left.list.split_first()?;
+    Some((dir, FirstDirs { list: rest, ..left }))
+}
+
+// A directory, and the hwcaps names whose subdirectories are left.
+#[derive(Clone, Copy)]
+struct At<'a> {
+    dir: &'a [u8],
+    caps: &'a [Text],
+}
+
+// The next path of a name in it, and what is left.
+fn next_at<'a>(alloc: Global, name: &[u8], at: At<'a>) -> Result<(Text, Option<At<'a>>), NoMemory>
+    ensures { IfOk result (λ r. paths_at name.now (Some at.entry) ≡ r.0 ∷ paths_at name.now r.1) }
+{
+    match at.caps.split_first() {
+        Some((cap, caps)) => {
+            let path = hwcaps_path(alloc, at.dir, name, cap.as_bytes())?;
+            Ok((path, Some(At { dir: at.dir, caps })))
+        }
+        None => Ok((plain_path(alloc, at.dir, name)?, None)),
+    }
+}
+
+const DEFAULT_DIRS: usize = 4;
+
+// The next of the default directories, when so many are done, and how many are done then.
+fn next_default(done: usize) -> Option<(&'static [u8], usize)>
+    ensures { MatchOption result (drop done system_dirs ≡ []) (λ r. drop done system_dirs ≡ r.0.now ∷ drop r.1 system_dirs) }
+{
+    match done {
+        0 => Some((b"/lib", 1)),
+        1 => Some((b"/usr/lib", 2)),
+        2 => Some((b"/lib64", 3)),
+        3 => Some((b"/usr/lib64", DEFAULT_DIRS)),
+        _ => None,
+    }
+}
+
+// Whether a path is in one of the default directories or below it.
+fn is_default(path: &[u8]) -> bool
+    ensures { result ≡ is_default path.now }
+{
+    path.starts_with(b"/lib/")
+        || path.starts_with(b"/usr/lib/")
+        || path.starts_with(b"/lib64/")
+        || path.starts_with(b"/usr/lib64/")
+}
+
+// The path that the cache has, if the search tries it.
+fn tried<'a>(cached: Option<&'a [u8]>, nodeflib: bool) -> Option<&'a [u8]>
+    ensures { option_copied result ≡ option_and_then (cached_path nodeflib) (option_copied cached.entry) }
+{
+    let path = cached?;
+    if nodeflib && is_default(path) {
+        return None;
+    }
+    Some(path)
+}
+
+/// The paths at which a name is searched, in their order. None is made before it is asked for.
+#[derive(Drop)]
+pub struct Candidates<'a> {
+    name: &'a [u8],
+    caps: &'a [Text],
+    // The one path of a name with a slash.
+    whole: Option<Text>,
+    at: Option<At<'a>>,
+    first: FirstDirs<'a>,
+    cached: Option<&'a [u8]>,
+    // How many of the default directories are done.
+    defaults: usize,
+}
+
+impl<'a> Candidates<'a> {
+    fn of_whole(loaders: &'a Loaders, name: &'a [u8], path: Text) -> Candidates<'a>
+        ensures left { paths_left result ≡ path ∷ [] }
+        ensures inside { IsInside result.first }
+    {
+        Candidates {
+            name,
+            caps: &[],
+            whole: Some(path),
+            at: None,
+            first: FirstDirs::none(loaders),
+            cached: None,
+            defaults: DEFAULT_DIRS,
+        }
+    }
+
+    // Those of a name without a slash.
+    fn of_name(
+        loaders: &'a Loaders,
+        number: usize,
+        name: &'a [u8],
+        caps: &'a Texts,
+        cached: Option<&'a [u8]>,
+    ) -> Candidates<'a>
+        requires { number < length loaders.now }
+        ensures left { paths_left result ≡ paths_by name.entry.now caps.entry.now (reach_at loaders.entry.now number) (option_copied cached.entry) }
+        ensures inside { IsInside result.first }
+    {
+        let nodeflib = loaders.link(number).dirs.nodeflib;
+        Candidates {
+            name,
+            caps: caps.as_slice(),
+            whole: None,
+            at: None,
+            first: FirstDirs::of(loaders, number),
+            cached: tried(cached, nodeflib),
+            defaults: if nodeflib { DEFAULT_DIRS } else { 0 },
+        }
+    }
+
+    /// Those of a name that the object with this number needs. `cached` is the path that the cache has for the name.
+    pub fn new(
+        alloc: Global,
+        loaders: &'a Loaders,
+        number: usize,
+        name: &'a [u8],
+        caps: &'a Texts,
+        cached: Option<&'a [u8]>,
+    ) -> Result<Candidates<'a>, NoMemory>
+        requires { number < length loaders.now }
+        ensures left { IfOk result (λ c. paths_left c ≡ all_paths name.entry.now caps.entry.now (reach_at loaders.entry.now number) (option_copied cached.entry)) }
+        ensures inside { IfOk result (λ c. IsInside c.first) }
+    {
+        if has_byte(b'/', name) {
+            let path = from_root(alloc, name)?;
+            return Ok(Candidates::of_whole(loaders, name, path));
+        }
+        Ok(Candidates::of_name(loaders, number, name, caps, cached))
+    }
+
+    // The next path in a directory.
+    fn next_in(&mut self, alloc: Global, at: At<'a>) -> Result<Option<Text>, NoMemory>
+        ensures next { IfOk result (λ path. IsNextAt path (paths_at self.old.name.now (Some at.entry)) (paths_at self.old.name.now self.new.at)) }
+        ensures same { self.new ≡ record self.old { at = self.new.at } }
+    {
+        let (path, left) = next_at(alloc, self.name, at)?;
+        self.at = left;
+        Ok(Some(path))
+    }
+
+    /// The next path, if one is left.
+    pub fn next_path(&mut self, alloc: Global) -> Result<Option<Text>, NoMemory>
+        requires { IsInside self.old.first }
+        ensures next { IfOk result (λ path. IsNext path (paths_left self.old) (paths_left self.new)) }
+        ensures inside { IsInside self.new.first }
+    {
+        if let Some(path) = self.whole.take() {
+            return Ok(Some(path));
+        }
+        if let Some(at) = self.at {
+            return self.next_in(alloc, at);
+        }
+        if let Some((dir, rest)) = split_first(self.first) {
+            self.first = rest;
+            let at = At {
+                dir: dir.as_bytes(),
+                caps: self.caps,
+            };
+            return self.next_in(alloc, at);
+        }
+        if let Some(path) = self.cached {
+            self.cached = None;
+            return Ok(Some(Text::copy_of(alloc, path)?));
+        }
+        if let Some((dir, done)) = next_default(self.defaults) {
+            self.defaults = done;
+            let at = At {
+                dir,
+                caps: self.caps,
+            };
+            return self.next_in(alloc, at);
+        }
+        Ok(None)
+    }
+}

@@ -1,0 +1,150 @@
+-- Texts that are added to different texts, and their numbers.
+use Rattle.std.proofs.Common.{◌≡◌, ℕ, ◌+◌, ◌<◌, ◌≤◌, Bool, true, false, cond, not, ◌||◌, List, [], ◌∷◌, ◌++◌, length, filter, refl, sym, ap, subst, ◌∙◌, true≢false, arith, bytes_eq, if◌then◌else◌}
+use Rattle.std.proofs.lemmas.List.{append_assoc, append-nil, length-append}
+use Rattle.std.proofs.lemmas.List.Elements.{filter-append}
+use Rattle.std.proofs.lemmas.Bool.Decides.{same_from_decides, Decides-like}
+use Rattle.std.proofs.lemmas.Slice.Eq.{bytes_eq-Decides}
+use Rattle.std.specs.List.{list_any, fold}
+use Rattle.indexmap.specs.IndexSet.{insert_key}
+use Rattle.string_pool.specs.Texts.{distinct, number_of}
+
+bytes_eq-sym : (xs ys : List ℕ) → bytes_eq xs ys ≡ bytes_eq ys xs
+bytes_eq-sym xs ys = same_from_decides (bytes_eq xs ys) (bytes_eq ys xs) (bytes_eq-Decides xs ys) (Decides-like (bytes_eq ys xs) sym sym (bytes_eq-Decides ys xs))
+
+-- a string that differs from one is found as well without that one
+kept : (text other : List ℕ) (ts : List (List ℕ)) → bytes_eq text other ≡ false
+    → list_any (bytes_eq text) (filter (λ t. not (bytes_eq other t)) ts) ≡ list_any (bytes_eq text) ts
+kept text other [] _ = refl
+kept text other (t ∷ ts) apart = by (bytes_eq other t) refl (kept text other ts apart)
+  where
+    by : (b : Bool) → bytes_eq other t ≡ b
+        → list_any (bytes_eq text) (filter (λ x. not (bytes_eq other x)) ts) ≡ list_any (bytes_eq text) ts
+        → list_any (bytes_eq text) (cond (not b) (t ∷ filter (λ x. not (bytes_eq other x)) ts) (filter (λ x. not (bytes_eq other x)) ts)) ≡ (bytes_eq text t || list_any (bytes_eq text) ts)
+    by true e rest = rw (subst (λ x. bytes_eq text x ≡ false) ((bytes_eq-Decides other t).0 e) apart) rest
+    by false e rest = ap (λ b. bytes_eq text t || b) rest
+
+-- one more text
+pub distinct_push : (ts : List (List ℕ)) (t : List ℕ) → distinct (ts ++ t ∷ []) ≡ insert_key bytes_eq (distinct ts) t
+distinct_push [] t = refl
+distinct_push (s ∷ ts) t = rw (distinct_push ts t) (by (bytes_eq t s) (list_any (bytes_eq t) (distinct ts)) refl refl)
+  where
+    by : (a b : Bool) → bytes_eq t s ≡ a → list_any (bytes_eq t) (distinct ts) ≡ b
+        → s ∷ filter (λ x. not (bytes_eq s x)) (insert_key bytes_eq (distinct ts) t) ≡ insert_key bytes_eq (s ∷ filter (λ x. not (bytes_eq s x)) (distinct ts)) t
+    by true true p q = rw (p, q) refl
+    by true false p q = rw (p, q) (ap (λ xs. s ∷ xs) (filter-append (λ x. not (bytes_eq s x)) (distinct ts) (t ∷ []) ∙ rw (bytes_eq-sym s t ∙ p) (append-nil (filter (λ x. not (bytes_eq s x)) (distinct ts)))))
+    by false true p q = rw (p, kept t s (distinct ts) p, q) refl
+    by false false p q = rw (p, kept t s (distinct ts) p, q) (ap (λ xs. s ∷ xs) (filter-append (λ x. not (bytes_eq s x)) (distinct ts) (t ∷ []) ∙ rw (bytes_eq-sym s t ∙ p) refl))
+
+-- strings that are added one after the other
+pub distinct_append : (ts us : List (List ℕ)) → distinct (ts ++ us) ≡ fold (insert_key bytes_eq) (distinct ts) us
+distinct_append ts [] = ap distinct (append-nil ts)
+distinct_append ts (u ∷ us) = ap distinct (sym (append_assoc ts (u ∷ []) us)) ∙ distinct_append (ts ++ u ∷ []) us ∙ ap (λ xs. fold (insert_key bytes_eq) xs us) (distinct_push ts u)
+
+-- a string is among those that it was added to
+pub among : (ts : List (List ℕ)) (t : List ℕ) → list_any (bytes_eq t) (insert_key bytes_eq ts t) ≡ true
+among ts t = by (list_any (bytes_eq t) ts) refl
+  where
+    itself : bytes_eq t t ≡ true
+    itself = (bytes_eq-Decides t t).1 refl
+
+    last : (xs : List (List ℕ)) → list_any (bytes_eq t) (xs ++ t ∷ []) ≡ true
+    last [] = rw itself refl
+    last (x ∷ xs) = elim (bytes_eq t x) as (λ b. (b || list_any (bytes_eq t) (xs ++ t ∷ [])) ≡ true) [ true ↦ refl | false ↦ last xs ]
+
+    by : (b : Bool) → list_any (bytes_eq t) ts ≡ b → list_any (bytes_eq t) (if b then ts else ts ++ t ∷ []) ≡ true
+    by true e = e
+    by false e = last ts
+
+-- a string is still among the strings
+pub among_more : (ts : List (List ℕ)) (t u : List ℕ) → list_any (bytes_eq t) ts ≡ true → list_any (bytes_eq t) (insert_key bytes_eq ts u) ≡ true
+among_more ts t u h = elim (list_any (bytes_eq u) ts) as (λ b. list_any (bytes_eq t) (if b then ts else ts ++ u ∷ []) ≡ true) [ true ↦ h | false ↦ behind ts h ]
+  where
+    behind : (xs : List (List ℕ)) → list_any (bytes_eq t) xs ≡ true → list_any (bytes_eq t) (xs ++ u ∷ []) ≡ true
+    behind [] e = absurd (true≢false (sym e))
+    behind (x ∷ xs) e = by (bytes_eq t x) e (behind xs)
+      where
+        by : (b : Bool) → (b || list_any (bytes_eq t) xs) ≡ true → (list_any (bytes_eq t) xs ≡ true → list_any (bytes_eq t) (xs ++ u ∷ []) ≡ true)
+            → (b || list_any (bytes_eq t) (xs ++ u ∷ [])) ≡ true
+        by true e rest = refl
+        by false e rest = rest e
+
+pub among_all : (ts us : List (List ℕ)) (t : List ℕ) → list_any (bytes_eq t) ts ≡ true → list_any (bytes_eq t) (fold (insert_key bytes_eq) ts us) ≡ true
+among_all ts [] t h = h
+among_all ts (u ∷ us) t h = among_all (insert_key bytes_eq ts u) us t (among_more ts t u h)
+
+-- ---- numbers
+
+-- a text is before the end
+pub number_within : (ts : List (List ℕ)) (t : List ℕ) → list_any (bytes_eq t) ts ≡ true → number_of ts t < length ts
+number_within [] t h = absurd (true≢false (sym h))
+number_within (x ∷ xs) t h = by (bytes_eq t x) h (number_within xs t)
+  where
+    by : (b : Bool) → (b || list_any (bytes_eq t) xs) ≡ true → (list_any (bytes_eq t) xs ≡ true → number_of xs t < length xs)
+        → cond (not b) (1 + number_of xs t) 0 < length (x ∷ xs)
+    by true e rest = omega arith
+    by false e rest = omega (arith, rest e)
+
+-- others that are added don't change a text's number
+pub number_more : (ts : List (List ℕ)) (t u : List ℕ) → list_any (bytes_eq t) ts ≡ true → number_of (insert_key bytes_eq ts u) t ≡ number_of ts t
+number_more ts t u h = elim (list_any (bytes_eq u) ts) as (λ b. number_of (if b then ts else ts ++ u ∷ []) t ≡ number_of ts t) [ true ↦ refl | false ↦ before ts h ]
+  where
+    before : (xs : List (List ℕ)) → list_any (bytes_eq t) xs ≡ true → number_of (xs ++ u ∷ []) t ≡ number_of xs t
+    before [] e = absurd (true≢false (sym e))
+    before (x ∷ xs) e = by (bytes_eq t x) e (before xs)
+      where
+        by : (b : Bool) → (b || list_any (bytes_eq t) xs) ≡ true → (list_any (bytes_eq t) xs ≡ true → number_of (xs ++ u ∷ []) t ≡ number_of xs t)
+            → cond (not b) (1 + number_of (xs ++ u ∷ []) t) 0 ≡ cond (not b) (1 + number_of xs t) 0
+        by true e rest = refl
+        by false e rest = ap (λ n. 1 + n) (rest e)
+
+pub number_stays : (ts us : List (List ℕ)) (t : List ℕ) → list_any (bytes_eq t) ts ≡ true → number_of (fold (insert_key bytes_eq) ts us) t ≡ number_of ts t
+number_stays ts [] t h = refl
+number_stays ts (u ∷ us) t h = number_stays (insert_key bytes_eq ts u) us t (among_more ts t u h) ∙ number_more ts t u h
+
+-- a new text has the number of those before it
+new_number : (ts : List (List ℕ)) (t : List ℕ) → list_any (bytes_eq t) ts ≡ false → number_of (ts ++ t ∷ []) t ≡ number_of ts t
+new_number [] t h = rw ((bytes_eq-Decides t t).1 refl) refl
+new_number (x ∷ xs) t h = by (bytes_eq t x) h (new_number xs t)
+  where
+    by : (b : Bool) → (b || list_any (bytes_eq t) xs) ≡ false → (list_any (bytes_eq t) xs ≡ false → number_of (xs ++ t ∷ []) t ≡ number_of xs t)
+        → cond (not b) (1 + number_of (xs ++ t ∷ []) t) 0 ≡ cond (not b) (1 + number_of xs t) 0
+    by true e rest = refl
+    by false e rest = ap (λ n. 1 + n) (rest e)
+
+-- the number of a text that is added, before and after
+pub number_added : (ts : List (List ℕ)) (t : List ℕ) → number_of ts t ≡ number_of (insert_key bytes_eq ts t) t
+number_added ts t = by (list_any (bytes_eq t) ts) refl
+  where
+    by : (b : Bool) → list_any (bytes_eq t) ts ≡ b → number_of ts t ≡ number_of (if b then ts else ts ++ t ∷ []) t
+    by true e = refl
+    by false e = sym (new_number ts t e)
+
+-- ---- whether a text is new
+
+-- a text that leaves their number as it was is one of them
+pub not_new : (ts new : List (List ℕ)) (t : List ℕ) → new ≡ insert_key bytes_eq ts t → length new ≡ length ts → (list_any (bytes_eq t) ts ≡ true) × (new ≡ ts)
+not_new ts new t is same = by (list_any (bytes_eq t) ts) refl
+  where
+    by : (b : Bool) → list_any (bytes_eq t) ts ≡ b → (b ≡ true) × (new ≡ ts)
+    by true e = (refl, rw e at is)
+    by false e = let longer : new ≡ ts ++ t ∷ [] = rw e at is in absurd (omega (arith, same, ap length longer, length-append ts (t ∷ [])))
+
+-- and one that doesn't comes last
+pub is_new : (ts new : List (List ℕ)) (t : List ℕ) → new ≡ insert_key bytes_eq ts t → (length new ≡ length ts → ⊥) → (list_any (bytes_eq t) ts ≡ false) × (new ≡ ts ++ t ∷ [])
+is_new ts new t is other = by (list_any (bytes_eq t) ts) refl
+  where
+    by : (b : Bool) → list_any (bytes_eq t) ts ≡ b → (b ≡ false) × (new ≡ ts ++ t ∷ [])
+    by true e = let same : new ≡ ts = rw e at is in absurd (other (ap length same))
+    by false e = (refl, rw e at is)
+
+-- ---- how many texts there are
+
+length_insert : (ts : List (List ℕ)) (t : List ℕ) → length (insert_key bytes_eq ts t) ≤ length ts + 1
+length_insert ts t = elim (list_any (bytes_eq t) ts) as (λ b. length (if b then ts else ts ++ t ∷ []) ≤ length ts + 1) [ true ↦ omega arith | false ↦ omega (arith, length-append ts (t ∷ [])) ]
+
+pub length_all : (ts us : List (List ℕ)) → length (fold (insert_key bytes_eq) ts us) ≤ length ts + length us
+length_all ts [] = omega arith
+length_all ts (u ∷ us) = omega (arith, length_insert ts u, length_all (insert_key bytes_eq ts u) us)
+
+pub length_distinct : (ts : List (List ℕ)) → length (distinct ts) ≤ length ts
+length_distinct ts = omega (arith, ap length (distinct_append [] ts), length_all [] ts)

@@ -1,0 +1,21 @@
+-- Different texts of a file, and where one of them is (the string tables of glibc's dl-cache.h).
+use Rattle.std.specs.Prelude.{◌≡◌, ℕ, ◌+◌, List, [], ◌∷◌, ◌++◌, length, take, drop, filter, not}
+use Rattle.std.specs.List.{position_or_len}
+use Rattle.std.specs.Str.{bytes_eq}
+
+-- each text once, in the order of first use
+abbrev pub distinct : List (List ℕ) → List (List ℕ)
+distinct [] = []
+distinct (text ∷ texts) = text ∷ filter (λ other. not (bytes_eq text other)) (distinct texts)
+
+-- the number of a text: its index among these
+abbrev pub number_of : List (List ℕ) → List ℕ → ℕ
+number_of texts text = position_or_len (bytes_eq text) texts
+
+-- a text as it is in a file
+abbrev pub with_nul : List ℕ → List ℕ
+with_nul text = text ++ 0 ∷ []
+
+-- a text with its NUL is at this offset
+abbrev pub StandsAt : List ℕ → ℕ → List ℕ → Type 0
+StandsAt bytes at text = take (length text + 1) (drop at bytes) ≡ with_nul text

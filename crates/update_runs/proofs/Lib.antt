@@ -1,4 +1,0 @@
-mod CrashedRun
-pub mod NotUsage
-mod RepairedRun
-pub mod SettledSlots
