@@ -9,10 +9,12 @@ use Rattle.std.specs.Str.{is_utf8}
 use Rattle.indexmap.specs.IndexSet.{insert_key}
 use Rattle.lib_types.specs.Name.{is_name, are_dots, have_no_slash}
 use Rattle.lib_types.specs.declared.name.TheConstants.{NAME_MAX}
-use Rattle.string_pool.specs.Texts.{distinct, number_of}
+use Rattle.string_pool.specs.Texts.{number_of}
 use Rattle.string_pool.specs.InOrder.{table_of}
-use Rattle.string_pool.proofs.Numbers.{among, among_more, among_all, number_more, distinct_append, distinct_push, length_distinct}
+use Rattle.string_pool.proofs.Numbers.{among, among_more, among_all, number_more, length_distinct}
 use Rattle.string_pool.proofs.InOrder.{length_table_insert}
+use Rattle.text_set.proofs.Added.{distinct_folded, distinct_push}
+use Rattle.text_set.specs.Distinct.{distinct}
 use Rattle.aux_cache.specs.AuxText.{soname_of, strings}
 use Rattle.aux_cache.specs.Numbers.{HasNumber}
 use Rattle.aux_cache.specs.Stamps.{HaveNames}
@@ -31,16 +33,13 @@ there ss [] i d h = absurd (omega arith)
 there ss (t ∷ ts) zero d h = among_all (insert_key bytes_eq ss t) ts t (among ss t)
 there ss (t ∷ ts) (suc i) d h = there (insert_key bytes_eq ss t) ts i d (omega arith)
 
-folded : (ts : List (List ℕ)) → distinct ts ≡ fold (insert_key bytes_eq) [] ts
-folded ts = distinct_append [] ts
-
 -- so is each soname among the strings
 pub own_there : (xs : List Stamp) → All (λ x. list_any (bytes_eq (soname_of x)) (strings xs) ≡ true) xs
 own_there xs i d h =
     let at : get_or (map soname_of xs) i (soname_of d) ≡ soname_of (get_or xs i d) = get_or-map soname_of xs i d (soname_of d) h in
     let many : length (map soname_of xs) ≡ length xs = length-map xs soname_of in
     let found = there [] ([] ∷ map soname_of xs) (suc i) (soname_of d) (omega (arith, many)) in
-    ap (list_any (bytes_eq (soname_of (get_or xs i d)))) (folded ([] ∷ map soname_of xs)) ∙ rw at at found
+    ap (list_any (bytes_eq (soname_of (get_or xs i d)))) (distinct_folded ([] ∷ map soname_of xs)) ∙ rw at at found
 
 -- ---- their size
 
@@ -72,7 +71,7 @@ table_small ss (x ∷ xs) h =
 pub strings_small : (xs : List Stamp) → HaveNames xs → length (table_of (strings xs)) ≤ 256 * length xs + 1
 strings_small xs names =
     let small : length (table_of (fold (insert_key bytes_eq) ([] ∷ []) (map soname_of xs))) ≤ 1 + 256 * length xs = table_small ([] ∷ []) xs (soname_short xs names) in
-    let same : length (table_of (strings xs)) ≡ length (table_of (fold (insert_key bytes_eq) ([] ∷ []) (map soname_of xs))) = ap (λ ts. length (table_of ts)) (folded ([] ∷ map soname_of xs)) in
+    let same : length (table_of (strings xs)) ≡ length (table_of (fold (insert_key bytes_eq) ([] ∷ []) (map soname_of xs))) = ap (λ ts. length (table_of ts)) (distinct_folded ([] ∷ map soname_of xs)) in
     subst (λ n. n ≤ 256 * length xs + 1) (sym same) (omega (arith, small))
 
 -- ---- stamps with the numbers of their sonames

@@ -1,7 +1,6 @@
 //! The strings of the file of stamps, gathered.
 ghost use Rattle.std.specs.Prelude.{◌≡◌, ◌∷◌, ◌^◌, ◌≤◌, ◌<◌, [], length, map, All, IfOk, OnOk, bytes_eq};
 ghost use Rattle.indexmap.specs.IndexSet.{insert_key};
-ghost use Rattle.string_pool.specs.Texts.{distinct};
 ghost use Rattle.aux_cache.specs.AuxText.{soname_of, strings};
 ghost use Rattle.aux_cache.specs.Numbers.{HasNumber};
 ghost use Rattle.aux_cache.specs.declared.stamps.TheConstants.{STAMPS_MAX};

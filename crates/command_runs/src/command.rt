@@ -1,6 +1,6 @@
 //! The commands.
 ghost use Rattle.std.specs.Prelude.{◌≡◌};
-ghost use Rattle.devices.specs.Devices.{states};
+ghost use Rattle.devices.specs.Devices.{states_in, states_left};
 ghost use Rattle.command_runs.specs.Commands.{RunsCommand};
 ghost use Rattle.command_status.specs.Status.{EndsWith};
 
@@ -37,8 +37,7 @@ pub fn run_command<S: Store, D: Disk, I: Source, O: Sink>(
     devices: Devices<'_, S, D, I, O>,
 ) -> Status
     ensures runs { RunsCommand command result
-        (states (S.state devices.entry.store.now) (D.state devices.entry.disk.now) (I.state devices.entry.source.now) (O.state devices.entry.sink.now))
-        (states (S.state devices.exit.0.now) (D.state devices.exit.1.0.now) (I.state devices.exit.1.1.0.now) (O.state devices.exit.1.1.1.0.now)) }
+        (states_in S.state D.state I.state O.state devices.entry) (states_left S.state D.state I.state O.state devices.exit) }
     ensures no_usage { result ≡ Status.Usage → ⊥ }
 {
     let Devices {

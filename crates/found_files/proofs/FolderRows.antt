@@ -6,7 +6,6 @@ use Rattle.std.proofs.lemmas.List.{append-nil, length-append, map-append, take_m
 use Rattle.std.proofs.lemmas.List.Elements.{filter_map-append}
 use Rattle.std.proofs.lemmas.List.Folds.{flat_map-map, list_any-append, list_any_at}
 use Rattle.std.proofs.lemmas.List.Quantifiers.{position-Some}
-use Rattle.std.proofs.lemmas.List.Sums.{fold-append}
 use Rattle.std.proofs.lemmas.Option.{slice_get-get_or, slice_get_within}
 use Rattle.std.proofs.lemmas.Slice.Eq.{bytes_eq-Decides}
 use Rattle.std.specs.List.{cons_option, flat_map, list_any, position, position_or_len, slice_get}
@@ -16,6 +15,7 @@ use Rattle.hwcap_dirs.specs.declared.kinds.Place.{Place}
 use Rattle.lib_types.proofs.SortedPairs.{by_test}
 use Rattle.image_tree.specs.Tree.{Nodes}
 use Rattle.indexmap.specs.IndexSet.{insert_key}
+use Rattle.text_set.proofs.Added.{distinct_push}
 use Rattle.found_files.proofs.EachOnce.{ascending_alike, each_alike, taken_made}
 use Rattle.found_files.proofs.InOrder.{any_ascending}
 use Rattle.found_files.specs.Order.{ascending}
@@ -100,7 +100,7 @@ module _ (paths old new : List (List ℕ)) (rows : List ℕ) (path : List ℕ) (
   row_more have is =
       let last = slice_get_within new row path is.stored in
       record {
-        once = is.keys ∙ ap (λ ks. insert_key bytes_eq ks path) have.once ∙ sym (fold-append (insert_key bytes_eq) [] paths (path ∷ []));
+        once = is.keys ∙ ap (λ ks. insert_key bytes_eq ks path) have.once ∙ sym (distinct_push paths path);
         rows = elim is.kept [
           | inl e ↦
               let count : length new ≡ length old = ap length e in

@@ -1,18 +1,15 @@
 -- The folders that places are, each once.
-use Rattle.std.specs.Prelude.{◌≡◌, ◌⊎◌, ℕ, List, [], ◌∷◌, ◌++◌, fold, length, Some}
+use Rattle.std.specs.Prelude.{◌≡◌, ◌⊎◌, ℕ, List, [], ◌∷◌, ◌++◌, length, Some}
 use Rattle.std.specs.List.{slice_get}
 use Rattle.std.specs.Str.{bytes_eq}
 use Rattle.indexmap.specs.IndexSet.{insert_key}
+use Rattle.text_set.specs.Distinct.{distinct}
 use Rattle.found_files.specs.Shared.{taken, AreRows}
 use Rattle.found_files.specs.declared.reals.RealFolders.{RealFolders}
 
--- these paths, each once, in the order in which they come
-abbrev pub each_path : List (List ℕ) → List (List ℕ)
-each_path paths = fold (insert_key bytes_eq) [] paths
-
 -- these folders have the paths, each once, and the rows are those of the paths
 pub record HaveRows (paths folders : List (List ℕ)) (indices : List ℕ) : Type 0 where
-  pub once : folders ≡ each_path paths
+  pub once : folders ≡ distinct paths
   pub rows : AreRows (length folders) indices
   pub are : taken folders indices ≡ paths
 

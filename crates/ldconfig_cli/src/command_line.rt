@@ -1,7 +1,7 @@
 //! The top call.
 ghost use Rattle.std.specs.Prelude.{◌≡◌};
 ghost use Rattle.command_words.specs.Words.{command_in};
-ghost use Rattle.devices.specs.Devices.{states};
+ghost use Rattle.devices.specs.Devices.{states, states_in, states_left};
 ghost use Rattle.ldconfig_cli.specs.Laws.{UpdateLaws};
 ghost use Rattle.ldconfig_cli.specs.Runs.{Runs, RunsArguments};
 
@@ -49,8 +49,7 @@ pub fn run_on<S: Store, D: Disk, I: Source, O: Sink>(
     devices: Devices<'_, S, D, I, O>,
 ) -> Status
     ensures runs { RunsArguments (command_in arguments.entry) result
-        (states (S.state devices.entry.store.now) (D.state devices.entry.disk.now) (I.state devices.entry.source.now) (O.state devices.entry.sink.now))
-        (states (S.state devices.exit.0.now) (D.state devices.exit.1.0.now) (I.state devices.exit.1.1.0.now) (O.state devices.exit.1.1.1.0.now)) }
+        (states_in S.state D.state I.state O.state devices.entry) (states_left S.state D.state I.state O.state devices.exit) }
     ensures laws { UpdateLaws }
 {
     let Devices {

@@ -53,22 +53,43 @@ pub(crate) fn content(alloc: Global, devices: &mut Devices, slot: Slot) -> Vec<u
     }
 }
 
-/// Runs a command with a new sink. Whether it has this exit status, and writes the row's text of this name.
+/// A command's word, the exit status that is expected of it, and the name of the row's text that it writes.
+#[derive(Clone, Copy)]
+pub(crate) struct Command<'a> {
+    pub(crate) word: &'a str,
+    pub(crate) status: u64,
+    pub(crate) text: &'a [u8],
+}
+
+/// Runs a command with a new sink. Whether it has the exit status that is expected of it, and writes the text.
 pub(crate) fn is_run(
     alloc: Global,
     row: Row<'_>,
-    word: &str,
-    status: u64,
-    name: &[u8],
+    command: Command<'_>,
     devices: &mut Devices,
     said: &mut Said,
 ) -> Result<bool, NoMemory> {
     devices.out = MemSink::new(alloc, Vec::new(alloc));
-    let got = run_words(alloc, &[word], devices)?;
+    let got = run_words(alloc, &[command.word], devices)?;
     Ok(
-        is_text(alloc, row, name, devices.out.written(), said)?
-            && said.is_number(alloc, b"status", status, u64::from(got.code()))?,
+        is_text(alloc, row, command.text, devices.out.written(), said)?
+            && said.is_number(alloc, b"status", command.status, u64::from(got.code()))?,
     )
+}
+
+/// Prints the cache. Whether it is as the row says.
+pub(crate) fn is_printed(
+    alloc: Global,
+    row: Row<'_>,
+    devices: &mut Devices,
+    said: &mut Said,
+) -> Result<bool, NoMemory> {
+    let print = Command {
+        word: "print",
+        status: 0,
+        text: b"print",
+    };
+    is_run(alloc, row, print, devices, said)
 }
 
 /// Whether these slots were replaced, one after another, and nothing else was written.

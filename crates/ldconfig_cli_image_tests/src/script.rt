@@ -1,6 +1,8 @@
 //! One row: a script of edits and updates of an image.
 use crate::auxes::{left, loaded};
-use crate::image::{content, devices_of, either, has_replaced, is_cache, is_run, is_text};
+use crate::image::{
+    Command, content, devices_of, either, has_replaced, is_cache, is_printed, is_run, is_text,
+};
 use crate::lookups::are_answered;
 use command_runs_fixture::{Devices, OLD, has};
 use lib_types::NoMemory;
@@ -62,7 +64,7 @@ fn is_updated(
     Ok(
         said.is_same(b"left", &left(alloc, row)?, &aux)?
             && is_cache(alloc, row, &cache, said)?
-            && is_run(alloc, row, "print", 0, b"print", devices, said)?
+            && is_printed(alloc, row, devices, said)?
             && are_answered(alloc, row, devices, said)?,
     )
 }
@@ -86,9 +88,13 @@ fn is_as_written(
     devices: &mut Devices,
     said: &mut Said,
 ) -> Result<bool, NoMemory> {
-    let status = count(row, b"status");
+    let batch = Command {
+        word: "batch",
+        status: count(row, b"status"),
+        text: b"report",
+    };
     let slots = slots_of(alloc, row)?;
-    let is_so = is_run(alloc, row, "batch", status, b"report", devices, said)?
+    let is_so = is_run(alloc, row, batch, devices, said)?
         && said.is_number(alloc, b"begun", count(row, b"begun"), devices.store.begun())?
         && has_replaced(alloc, devices, &slots, said)?
         && has_manifest(alloc, row, devices, said)?;

@@ -1,6 +1,8 @@
 //! One row: an update of an image, a print of its cache, look-ups in it, and a second update.
 use crate::auxes::{left, loaded};
-use crate::image::{content, devices_of, either, has_replaced, is_cache, is_run, is_text};
+use crate::image::{
+    Command, content, devices_of, either, has_replaced, is_cache, is_printed, is_run, is_text,
+};
 use crate::lookups::are_answered;
 use command_runs_fixture::{Devices, OLD, has};
 use lib_types::NoMemory;
@@ -72,9 +74,13 @@ fn is_first(
     devices: &mut Devices,
     said: &mut Said,
 ) -> Result<bool, NoMemory> {
-    let status = count(row, b"status");
+    let update = Command {
+        word: "update",
+        status: count(row, b"status"),
+        text: b"report",
+    };
     Ok(
-        is_run(alloc, row, "update", status, b"report", devices, said)?
+        is_run(alloc, row, update, devices, said)?
             && said.is_number(alloc, b"begun", count(row, b"begun"), devices.store.begun())?
             && has_replaced(alloc, devices, slots(row, false), said)?
             && is_left(alloc, row, devices, said)?
@@ -90,16 +96,14 @@ fn is_second(
     cache: &[u8],
     said: &mut Said,
 ) -> Result<bool, NoMemory> {
+    let update = Command {
+        word: "update",
+        status: 0,
+        text: either(row, b"again", b"report"),
+    };
     Ok(
-        is_run(
-            alloc,
-            row,
-            "update",
-            0,
-            either(row, b"again", b"report"),
-            devices,
-            said,
-        )? && has_replaced(alloc, devices, slots(row, true), said)?
+        is_run(alloc, row, update, devices, said)?
+            && has_replaced(alloc, devices, slots(row, true), said)?
             && is_left(alloc, row, devices, said)?
             && said.is_same(b"cache", cache, &content(alloc, devices, Slot::Cache))?
             && is_aux_left(alloc, row, devices, said)?,
@@ -123,7 +127,7 @@ fn is_as_written(
     }
     Ok(
         is_cache(alloc, row, &cache, said)?
-            && is_run(alloc, row, "print", 0, b"print", devices, said)?
+            && is_printed(alloc, row, devices, said)?
             && are_answered(alloc, row, devices, said)?
             && is_second(alloc, row, devices, &cache, said)?,
     )

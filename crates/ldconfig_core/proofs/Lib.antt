@@ -3,4 +3,4 @@ pub mod OneText
 mod OutcomeRows
 mod PreparedTexts
 pub mod WrittenSlots
-mod SettledImage
+pub mod SettledImage

@@ -13,6 +13,7 @@ use Rattle.std.specs.Ordering.{int_eq, is_lt, ordering_then}
 use Rattle.std.specs.Str.{bytes_eq}
 use Rattle.std.specs.declared.cmp.Ordering.{Ordering}
 use Rattle.std.specs.declared.cmp.Ordering.TheVariants.{Less, Equal, Greater}
+use Rattle.aux_cache.specs.declared.stamps.Stamp.{Stamp}
 use Rattle.winning_entries.proofs.Led.{walk_by, walk_same}
 use Rattle.winning_entries.proofs.OneEach.{turned}
 use Rattle.winning_entries.specs.Entries.{AreEntriesOf, entry_order}
@@ -23,7 +24,6 @@ use Rattle.cache_lookup.specs.Scan.{AreDescending, chosen, first_for, is_candida
 use Rattle.cache_reader.specs.Cache.{CachedEntry, cap_of, entry_at, hwcap, indexes, name_offsets, read, text_at}
 use Rattle.cache_writer.specs.CacheText.{hwcap_of, hwcaps_names}
 use Rattle.cache_writer.specs.ReadBack.{as_read}
-use Rattle.stamped_files.specs.Files.{what_is}
 use Rattle.lib_types.proofs.SortedPairs.{by_test}
 use Rattle.lib_types.specs.Abi.{flags_of}
 use Rattle.lib_types.specs.declared.abi.Abi.{Abi}
@@ -31,7 +31,7 @@ use Rattle.lib_types.specs.declared.entry.Entry.{Entry}
 use Rattle.name_order.specs.Order.{token_order}
 use Rattle.tree_face.specs.Store.{Contents}
 use Rattle.image_tree.specs.Tree.{Nodes}
-use Rattle.searched_image.specs.Ldconfig.{entries_in, places_in, planned_in, walk_in}
+use Rattle.searched_image.specs.Ldconfig.{entries_in, places_in, planned_in, said_files, walk_in}
 use Rattle.ldconfig_core.specs.Lookup.{FindsAsSearched}
 
 -- ---- the index of an item, and the item
@@ -178,18 +178,19 @@ names_descend entries cache sorted back = subst (λ (es : List CachedEntry). Are
 
 -- ---- the cache of an image
 
-module _ (held : Contents) (t : Nodes) where
-  pub searched : (entries : List Entry) (cache : List ℕ) → AreEntriesOf (entries_in held t) entries → read cache ≡ map (as_read (hwcaps_names entries)) entries
-      → FindsAsSearched held t cache
+module _ (held : Contents) (t : Nodes) (loaded : List Stamp) where
+  pub searched : (entries : List Entry) (cache : List ℕ) → AreEntriesOf (entries_in held t loaded) entries → read cache ≡ map (as_read (hwcaps_names entries)) entries
+      → FindsAsSearched held t loaded cache
   unfolding entries_in walk_in
   searched entries cache are back name abi caps =
       let names : List (List ℕ) = hwcaps_names entries in
       let marked = all_marked names entries (subst (λ (es : List CachedEntry). All (λ (e : CachedEntry). is_named e.hwcap ≡ is_some e.cap) es) back (each_named cache)) in
       ap (λ (es : List CachedEntry). scan es name abi caps) back ∙ scanned names name abi entries marked caps
-      ∙ sym (walk_by name abi caps (what_is held t) (planned_in held t) (places_in held t) entries are)
+      ∙ sym (walk_by name abi caps (said_files held t loaded) (planned_in held t loaded) (places_in held t) entries are)
 
   -- in an image of the same entries the search finds the same
-  pub searched_too : (u : Nodes) (cache : List ℕ) → entries_in held u ≡ entries_in held t → FindsAsSearched held t cache → FindsAsSearched held u cache
+  pub searched_too : (u : Nodes) (others : List Stamp) (cache : List ℕ) → entries_in held u others ≡ entries_in held t loaded → FindsAsSearched held t loaded cache → FindsAsSearched held u others cache
   unfolding entries_in walk_in
-  searched_too u cache same finds name abi caps =
-      finds name abi caps ∙ sym (walk_same name abi caps (what_is held t) (what_is held u) (planned_in held t) (planned_in held u) (places_in held t) (places_in held u) same)
+  searched_too u others cache same finds name abi caps =
+      finds name abi caps
+      ∙ sym (walk_same name abi caps (said_files held t loaded) (said_files held u others) (planned_in held t loaded) (planned_in held u others) (places_in held t) (places_in held u) same)

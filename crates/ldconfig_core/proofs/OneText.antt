@@ -1,25 +1,36 @@
 -- The texts of an update are determined by the image and the contents, and there are some.
-use Rattle.std.proofs.Common.{◌≡◌, ℕ, List, Option, refl, sym, ap, subst, ◌∙◌}
+use Rattle.std.proofs.Common.{◌≡◌, ℕ, Bool, nat_lt, List, [], ◌∷◌, length, Option, refl, sym, ap, subst, ◌∙◌}
 use Rattle.aux_cache.specs.AuxText.{aux_text}
+use Rattle.aux_cache.specs.declared.stamps.Stamp.{Stamp}
 use Rattle.image_tree.specs.Tree.{Nodes}
 use Rattle.winning_entries.proofs.InOneOrder.{one_list_is}
 use Rattle.winning_entries.proofs.Single.{one_list}
 use Rattle.winning_entries.specs.Entries.{AreEntriesOf}
 use Rattle.cache_writer.specs.CacheText.{cache_text}
-use Rattle.stamped_files.specs.Files.{what_is}
+use Rattle.cache_writer.specs.declared.writer.TheConstants.{ENTRIES_MAX}
+use Rattle.elf_dynamic.specs.Begun.{lacks_one}
+use Rattle.image_tree.specs.declared.tree.TheConstants.{NODES_MAX}
+use Rattle.ldso_conf.specs.Reading.{conf_lacks}
+use Rattle.soname_links.specs.Apply.{nodes_with}
+use Rattle.soname_links.specs.declared.kinds.Planned.{Planned}
+use Rattle.soname_links.specs.Plan.{with_links}
+use Rattle.stamped_files.specs.Stamped.{AreSame, AreTrue}
 use Rattle.lib_types.specs.declared.entry.Entry.{Entry}
 use Rattle.tree_face.specs.Store.{Contents}
 use Rattle.update_report.specs.Report.{report_text}
-use Rattle.searched_image.specs.Ldconfig.{entries_in, links_in, places_in, planned_in, stamps_in}
-use Rattle.ldconfig_core.specs.Outcome.{manifest_with, new_manifest}
+use Rattle.searched_image.proofs.Honest.{said_law}
+use Rattle.searched_image.specs.Begun.{behind_keys, wanted_keys}
+use Rattle.searched_image.specs.Laws.{IsSaidRight}
+use Rattle.searched_image.specs.Ldconfig.{entries_in, links_in, places_in, planned_in, said_files, stamps_in}
+use Rattle.ldconfig_core.specs.Outcome.{Lacking, Outcome, Refusal, TooLarge, TooMany, first_refusal, is_too_long, manifest_with, new_manifest, size_of, update_outcome}
 use Rattle.loaded_image.specs.Session.{Loaded}
 use Rattle.ldconfig_core.specs.Settled.{AreCachesAgain, AreSettled}
 use Rattle.ldconfig_core.specs.Texts.{AreAlike, AreTextsOf, UpdateTexts, said_with}
 
 module _ (held : Contents) (s : Loaded) where
-  pub one_entries : (a b : List Entry) → AreEntriesOf (entries_in held s.tree) a → AreEntriesOf (entries_in held s.tree) b → a ≡ b
+  pub one_entries : (a b : List Entry) → AreEntriesOf (entries_in held s.tree s.stamps) a → AreEntriesOf (entries_in held s.tree s.stamps) b → a ≡ b
   unfolding entries_in
-  one_entries a b are is = one_list (what_is held s.tree) (planned_in held s.tree) (places_in held s.tree) a b are is
+  one_entries a b are is = one_list (said_files held s.tree s.stamps) (planned_in held s.tree s.stamps) (places_in held s.tree) a b are is
 
   pub one_update : (texts others : UpdateTexts) → AreTextsOf held s texts → AreTextsOf held s others → texts ≡ others
   one_update texts others are is =
@@ -34,30 +45,90 @@ module _ (held : Contents) (s : Loaded) where
       texts_with : Option (List ℕ) → List ℕ → List ℕ → List ℕ → UpdateTexts
       texts_with m c a r = record { manifest = m; cache = c; aux = a; report = r }
 
-  texts_by : (entries : List Entry) → AreEntriesOf (entries_in held s.tree) entries → (texts : UpdateTexts) × AreTextsOf held s texts
+  texts_by : (entries : List Entry) → AreEntriesOf (entries_in held s.tree s.stamps) entries → (texts : UpdateTexts) × AreTextsOf held s texts
   texts_by entries are = (
-    record { manifest = new_manifest held s; cache = cache_text entries; aux = aux_text (stamps_in held s.tree); report = report_text (said_with held s entries) },
+    record { manifest = new_manifest held s; cache = cache_text entries; aux = aux_text (stamps_in held s.tree s.stamps); report = report_text (said_with held s entries) },
     record { entries = entries; are = are; manifest_is = refl; cache_is = refl; aux_is = refl; report_is = refl },
   )
 
   -- every image has texts
   pub some_texts : (texts : UpdateTexts) × AreTextsOf held s texts
-  some_texts = let list = one_list_is (entries_in held s.tree) in texts_by list.0 list.1
+  some_texts = let list = one_list_is (entries_in held s.tree s.stamps) in texts_by list.0 list.1
 
--- images of one tree, both edited or both not, write the same, whatever stamps they have
-pub one_written : (held : Contents) (s new : Loaded) (texts others : UpdateTexts) → new.tree ≡ s.tree → new.edited ≡ s.edited → AreTextsOf held s texts → AreTextsOf held new others
-    → AreAlike texts others
-unfolding new_manifest
-one_written held s new texts others tree edited are is =
-    let of_tree : AreEntriesOf (entries_in held s.tree) is.entries = subst (λ (t : Nodes). AreEntriesOf (entries_in held t) is.entries) tree is.are in
-    record {
-      manifest = is.manifest_is
-          ∙ ap (λ t. manifest_with new.edited (planned_in held t) (links_in held t)) tree
-          ∙ ap (λ e. manifest_with e (planned_in held s.tree) (links_in held s.tree)) edited
-          ∙ sym are.manifest_is;
-      cache = is.cache_is ∙ ap cache_text (one_entries held s is.entries are.entries of_tree are.are) ∙ sym are.cache_is;
-      aux = is.aux_is ∙ ap (λ t. aux_text (stamps_in held t)) tree ∙ sym are.aux_is;
-    }
+-- Images of one tree, both edited or both not, have the same outcome and write the same, whatever true stamps they have, if files of equal identity have equal
+-- content.
+module _ (held : Contents) (s new : Loaded) (tree : new.tree ≡ s.tree) (edited : new.edited ≡ s.edited) (same : AreSame held s.tree s.tree)
+    (are : AreTrue held s.tree s.stamps) (too : AreTrue held new.tree new.stamps) where
+  abbrev there : List Stamp
+  there = new.stamps
+
+  of_tree : AreTrue held s.tree there
+  of_tree = subst (λ (t : Nodes). AreTrue held t there) tree too
+
+  abbrev law : IsSaidRight held s.tree s.stamps
+  law = said_law held s.tree same s.stamps are
+
+  abbrev other : IsSaidRight held s.tree new.stamps
+  other = said_law held s.tree same there of_tree
+
+  pub both_links : links_in held s.tree new.stamps ≡ links_in held s.tree s.stamps
+  both_links = other.links ∙ sym law.links
+
+  both_planned : planned_in held s.tree there ≡ planned_in held s.tree s.stamps
+  unfolding planned_in
+  both_planned = ap (with_links s.tree) both_links
+
+  both_entries : entries_in held s.tree there ≡ entries_in held s.tree s.stamps
+  both_entries = other.entries ∙ sym law.entries
+
+  both_manifests : new_manifest held new ≡ new_manifest held s
+  unfolding new_manifest
+  both_manifests =
+      ap (λ t. manifest_with new.edited (planned_in held t there) (links_in held t there)) tree
+      ∙ ap (λ e. manifest_with e (planned_in held s.tree there) (links_in held s.tree there)) edited
+      ∙ ap (λ t. manifest_with s.edited t (links_in held s.tree there)) both_planned
+      ∙ ap (manifest_with s.edited (planned_in held s.tree s.stamps)) both_links
+
+  pub one_written : (texts others : UpdateTexts) → AreTextsOf held s texts → AreTextsOf held new others → AreAlike texts others
+  one_written texts others are is =
+      let entries : AreEntriesOf (entries_in held s.tree s.stamps) is.entries =
+      subst (λ (found : List Entry). AreEntriesOf found is.entries) (ap (λ t. entries_in held t there) tree ∙ both_entries) is.are in
+      record {
+        manifest = is.manifest_is ∙ both_manifests ∙ sym are.manifest_is;
+        cache = is.cache_is ∙ ap cache_text (one_entries held s is.entries are.entries entries are.are) ∙ sym are.cache_is;
+        aux = is.aux_is ∙ ap (λ t. aux_text (stamps_in held t there)) tree ∙ ap aux_text (other.stamps ∙ sym law.stamps) ∙ sym are.aux_is;
+      }
+
+  pub one_outcome : update_outcome held new ≡ update_outcome held s
+  unfolding update_outcome
+  one_outcome =
+      ap (λ t. outcome_with t there (new_manifest held new)) tree
+      ∙ ap (λ m. outcome_with s.tree there m) both_manifests
+      ∙ ap (λ b. first_refusal (rows b (links_in held s.tree there) (lacks_one held (behind_keys held s.tree there)) (planned_in held s.tree there) (entries_in held s.tree there))) (other.wanted_lack ∙ sym law.wanted_lack)
+      ∙ ap (λ l. first_refusal (rows wanted_here l (lacks_one held (behind_keys held s.tree there)) (planned_in held s.tree there) (entries_in held s.tree there))) both_links
+      ∙ ap (λ b. first_refusal (rows wanted_here (links_in held s.tree s.stamps) b (planned_in held s.tree there) (entries_in held s.tree there))) (other.behind_lack ∙ sym law.behind_lack)
+      ∙ ap (λ t. first_refusal (rows wanted_here (links_in held s.tree s.stamps) (lacks_one held (behind_keys held s.tree s.stamps)) t (entries_in held s.tree there))) both_planned
+      ∙ ap (λ es. first_refusal (rows wanted_here (links_in held s.tree s.stamps) (lacks_one held (behind_keys held s.tree s.stamps)) (planned_in held s.tree s.stamps) es)) both_entries
+    where
+      wanted_here : Bool
+      wanted_here = lacks_one held (wanted_keys held s.tree s.stamps)
+
+      rows_with : Nodes → Bool → List Planned → Bool → Nodes → Option (List ℕ) → List Entry → List Refusal
+      rows_with t wanted plan behind planned text entries =
+          (conf_lacks held t, Lacking)
+          ∷ (wanted, Lacking)
+          ∷ (nat_lt NODES_MAX (nodes_with t plan), TooLarge (nodes_with t plan) 0)
+          ∷ (behind, Lacking)
+          ∷ (is_too_long text, TooLarge (length planned) (size_of text))
+          ∷ (nat_lt ENTRIES_MAX (length entries), TooMany (length entries))
+          ∷ []
+
+      outcome_with : Nodes → List Stamp → Option (List ℕ) → Outcome
+      outcome_with t loaded text =
+          first_refusal (rows_with t (lacks_one held (wanted_keys held t loaded)) (links_in held t loaded) (lacks_one held (behind_keys held t loaded)) (planned_in held t loaded) text (entries_in held t loaded))
+
+      rows : Bool → List Planned → Bool → Nodes → List Entry → List Refusal
+      rows wanted plan behind planned entries = rows_with s.tree wanted plan behind planned (new_manifest held s) entries
 
 -- a further update has texts: no manifest, and the same caches
 pub again : (held : Contents) (s new : Loaded) (texts : UpdateTexts) → AreSettled held s new → AreTextsOf held s texts
@@ -66,7 +137,7 @@ again held s new texts settled are =
     let others : UpdateTexts = record {
       manifest = new_manifest held new;
       cache = cache_text are.entries;
-      aux = aux_text (stamps_in held new.tree);
+      aux = aux_text (stamps_in held new.tree new.stamps);
       report = report_text (said_with held new are.entries);
     } in
     let is : AreTextsOf held new others = record {

@@ -1,42 +1,44 @@
 -- What an update is about to write is what the image's update writes.
-use Rattle.std.proofs.Common.{◌≡◌, ◌⊎◌, inl, inr, ◌≤◌, ◌<◌, ℕ, true, false, nat_lt, List, length, Option, Some, None, Err, refl, ap, sym, subst, ◌∙◌, arith}
+use Rattle.std.proofs.Common.{◌≡◌, ◌⊎◌, inl, inr, ◌≤◌, ◌<◌, ◌+◌, ℕ, true, false, nat_lt, List, length, Option, Some, None, Err, refl, ap, sym, subst, ◌∙◌, arith}
 use Rattle.std.proofs.lemmas.List.Sorted.{length_permutation}
 use Rattle.aux_cache.specs.AuxText.{aux_text}
 use Rattle.winning_entries.specs.Entries.{AreEntriesOf}
 use Rattle.cache_writer.specs.declared.writer.TheConstants.{ENTRIES_MAX}
 use Rattle.lib_types.specs.declared.entry.Entry.{Entry}
 use Rattle.tree_face.proofs.StoreUse.{reads_all}
+use Rattle.tree_face.specs.Known.{IfKnown}
 use Rattle.tree_face.specs.Store.{Contents, StoreState}
 use Rattle.tree_face.specs.StoreUse.{Ending, Complete, GaveUp, ReadsFiles}
 use Rattle.image_tree.specs.Tree.{Nodes, IsTree}
 use Rattle.update_report.specs.Report.{report_text}
 use Rattle.ldconfig_core.proofs.LookedUp.{names_descend, searched}
 use Rattle.ldconfig_core.proofs.OutcomeRows as rows
+use Rattle.searched_image.proofs.Honest.{said_law}
 use Rattle.searched_image.proofs.Limits.{over, within}
 use Rattle.ldconfig_core.specs.declared.fault.UpdateFault.{UpdateFault}
 use Rattle.ldconfig_core.specs.declared.fault.UpdateFault.TheVariants as faults
-use Rattle.searched_image.specs.Begun.{lacks_file, update_bytes, update_keys}
+use Rattle.searched_image.specs.Begun.{lacks_file, opened_in, update_bytes, update_keys}
 use Rattle.searched_image.specs.Faults.{find_ending}
 use Rattle.searched_image.specs.Found.{HasTooManyNodes, IsFound, ReadsFinding}
+use Rattle.searched_image.specs.Laws.{IsSaidRight}
+use Rattle.ldso_conf.specs.Reading.{conf_keys}
 use Rattle.searched_image.specs.declared.fault.FindFault.{FindFault}
 use Rattle.searched_image.specs.declared.fault.FindFault.TheVariants as finding
 use Rattle.searched_image.specs.declared.finding.Found.{Found}
 use Rattle.ldconfig_core.specs.declared.prepare.Prepared.{Prepared}
 use Rattle.ldconfig_core.specs.Faults.{is_of_making, of_finding}
-use Rattle.searched_image.specs.Ldconfig.{conf_in, entries_in, places_in, planned_in, stamps_in}
-use Rattle.stamped_files.specs.Files.{what_is}
+use Rattle.searched_image.specs.Ldconfig.{conf_in, entries_in, places_in, planned_in, said_wanted, stamps_in}
 use Rattle.loaded_image.specs.Aux.{stamps_of_slot}
 use Rattle.loaded_image.specs.Session.{Loaded}
 use Rattle.settled_links.specs.Search.{IsSearchedAlike}
 use Rattle.soname_links.specs.Settled.{IsSettled}
-use Rattle.stamped_files.specs.Stamped.{AreSame, AreTrue, IfHonest}
 use Rattle.ldconfig_core.proofs.SettledImage.{are_settled}
 use Rattle.ldconfig_core.specs.Lookup.{FindsAsSearched}
 use Rattle.ldconfig_core.specs.Outcome.{TooLarge, TooMany, Writes, is_too_long, manifest_with, new_manifest, size_of, update_outcome}
 use Rattle.ldconfig_core.specs.Settled.{AreSettled, IfReads, planned_image}
 use Rattle.ldconfig_core.specs.Stages.{HasTooMany, IsMadeOf, IsTooLarge, entries_of, said_of, stored_image, texts_of}
 use Rattle.ldconfig_core.specs.Texts.{AreTexts, AreTextsOf, said_with}
-use Rattle.ldconfig_core.specs.Update.{AreUpdateTexts, IfHonestly, IsAnswer, IsUpdated, update_ending}
+use Rattle.ldconfig_core.specs.Update.{AreUpdateTexts, IfHonestIn, IfHonestly, IsAnswer, IsUpdated, update_ending}
 
 -- the count of faults rose, or a file isn't held
 cause_of : {risen : Type 0} {a b : Type 0} → (a → b) → risen ⊎ a → risen ⊎ b
@@ -44,10 +46,9 @@ cause_of f (inl risen) = inl risen
 cause_of f (inr lacks) = inr (f lacks)
 
 -- what follows for given contents follows if they are known
-honestly : (known : Option Contents) (s : Loaded) (P Q : Contents → Type 0) → ((held : Contents) → AreTrue held s.tree s.stamps → AreSame held s.tree s.tree → P held → Q held)
-    → IfHonestly known s P → IfHonestly known s Q
-honestly None s P Q f h = tt
-honestly (Some held) s P Q f h = λ are same. f held are same (h are same)
+if_known : (known : Option Contents) (P Q : Contents → Type 0) → ((held : Contents) → P held → Q held) → IfKnown known P → IfKnown known Q
+if_known None P Q f h = tt
+if_known (Some held) P Q f h = f held h
 
 module _ (s : Loaded) (found : Found) (tree : Nodes) (alike : IsSearchedAlike s.tree tree) where
   -- ---- for given contents
@@ -57,32 +58,28 @@ module _ (s : Loaded) (found : Found) (tree : Nodes) (alike : IsSearchedAlike s.
     unfolding new_manifest
     manifest_is = rw (is.tree_is, is.plan) refl
 
-    planned_alike : IsSearchedAlike s.tree (planned_in held s.tree)
-    planned_alike = subst (λ (n : Nodes). IsSearchedAlike s.tree n) is.tree_is alike
+    too_long : (nodes bytes : ℕ) → IsTooLarge s.edited tree found.links.plan nodes bytes → update_outcome held s ≡ TooLarge nodes bytes
+    too_long nodes bytes large =
+        let long : is_too_long (new_manifest held s) ≡ true = ap is_too_long (sym manifest_is) ∙ large.1.1 in
+        let size : length (planned_in held s.tree s.stamps) ≡ nodes = sym (large.0 ∙ ap length is.tree_is) in
+        let bytes_are : size_of (new_manifest held s) ≡ bytes = sym (large.1.0 ∙ ap size_of manifest_is) in
+        rows.too_long held s is.none_lacks is.few is.none_behind long
+        ∙ ap (λ n. TooLarge n (size_of (new_manifest held s))) size ∙ ap (TooLarge nodes) bytes_are
 
-    module _ (are : AreTrue held s.tree s.stamps) (same : AreSame held s.tree s.tree) where
-      too_long : (nodes bytes : ℕ) → IsTooLarge s.edited tree found.links.plan nodes bytes → update_outcome held s ≡ TooLarge nodes bytes
-      too_long nodes bytes large =
-          let long : is_too_long (new_manifest held s) ≡ true = ap is_too_long (sym manifest_is) ∙ large.1.1 in
-          let size : length (planned_in held s.tree) ≡ nodes = sym (large.0 ∙ ap length is.tree_is) in
-          let bytes_are : size_of (new_manifest held s) ≡ bytes = sym (large.1.0 ∙ ap size_of manifest_is) in
-          rows.too_long held s are same is.none_lacks planned_alike is.few is.none_behind long
-          ∙ ap (λ n. TooLarge n (size_of (new_manifest held s))) size ∙ ap (TooLarge nodes) bytes_are
+    module _ (short : is_too_long (manifest_with s.edited tree found.links.plan) ≡ false) where
+      short_new : is_too_long (new_manifest held s) ≡ false
+      short_new = ap is_too_long (sym manifest_is) ∙ short
 
-      module _ (short : is_too_long (manifest_with s.edited tree found.links.plan) ≡ false) where
-        short_new : is_too_long (new_manifest held s) ≡ false
-        short_new = ap is_too_long (sym manifest_is) ∙ short
+      too_many : (count : ℕ) → count ≡ length (entries_of found tree) → ENTRIES_MAX < count → update_outcome held s ≡ TooMany count
+      too_many count e more =
+          let size : count ≡ length (entries_in held s.tree s.stamps) = e ∙ ap length is.entries_are in
+          let many : nat_lt ENTRIES_MAX (length (entries_in held s.tree s.stamps)) ≡ true = over ENTRIES_MAX (length (entries_in held s.tree s.stamps)) (omega (arith, more, size)) in
+          rows.too_many held s is.none_lacks is.few is.none_behind short_new many ∙ ap TooMany (sym size)
 
-        too_many : (count : ℕ) → count ≡ length (entries_of found tree) → ENTRIES_MAX < count → update_outcome held s ≡ TooMany count
-        too_many count e more =
-            let size : count ≡ length (entries_in held s.tree) = e ∙ ap length is.entries_are in
-            let many : nat_lt ENTRIES_MAX (length (entries_in held s.tree)) ≡ true = over ENTRIES_MAX (length (entries_in held s.tree)) (omega (arith, more, size)) in
-            rows.too_many held s are same is.none_lacks planned_alike is.few is.none_behind short_new many ∙ ap TooMany (sym size)
-
-        writes : length (entries_of found tree) ≤ ENTRIES_MAX → update_outcome held s ≡ Writes
-        writes few =
-            let size : length (entries_of found tree) ≡ length (entries_in held s.tree) = ap length is.entries_are in
-            rows.writes held s are same is.none_lacks planned_alike is.few is.none_behind short_new (within ENTRIES_MAX (length (entries_in held s.tree)) (omega (arith, few, size)))
+      writes : length (entries_of found tree) ≤ ENTRIES_MAX → update_outcome held s ≡ Writes
+      writes few =
+          let size : length (entries_of found tree) ≡ length (entries_in held s.tree s.stamps) = ap length is.entries_are in
+          rows.writes held s is.none_lacks is.few is.none_behind short_new (within ENTRIES_MAX (length (entries_in held s.tree s.stamps)) (omega (arith, few, size)))
 
     -- what is said is what the image's report says
     said_is : (entries : List Entry) → said_of s.damaged found entries ≡ said_with held s entries
@@ -102,11 +99,12 @@ module _ (s : Loaded) (found : Found) (tree : Nodes) (alike : IsSearchedAlike s.
     }) is.skips_are ∙ rw (is.conf.reports, is.places, is.absent_is, is.plan, is.blocked_is, is.mixed_is, is.dangling_is, is.opened) refl
 
     -- the image is settled
-    settled_is : IsTree tree → IsSettled (what_is held s.tree) s.tree (places_in held s.tree) tree → AreSame held s.tree s.tree → AreSettled held s (planned_image held s)
-    settled_is is_tree still same = subst (λ (n : Nodes). AreSettled held s (stored_image n (stamps_in held s.tree))) is.tree_is (are_settled held s tree alike is.tree_is still is_tree same)
+    settled_is : IsTree tree → IsSettled (said_wanted held s.tree s.stamps) s.tree (places_in held s.tree) tree → IfHonestIn held s (AreSettled held s (planned_image held s))
+    settled_is is_tree still are same =
+        subst (λ (n : Nodes). AreSettled held s (stored_image n (stamps_in held s.tree s.stamps))) is.tree_is (are_settled held s tree alike is.tree_is still is_tree are same)
 
     module _ (prepared : Prepared) (made : IsMadeOf s.edited s.damaged found tree prepared) where
-      ordered : AreEntriesOf (entries_in held s.tree) made.entries
+      ordered : AreEntriesOf (entries_in held s.tree s.stamps) made.entries
       ordered = subst (λ (all : List Entry). AreEntriesOf all made.entries) is.entries_are made.are
 
       are_texts : AreTextsOf held s (texts_of prepared)
@@ -120,15 +118,15 @@ module _ (s : Loaded) (found : Found) (tree : Nodes) (alike : IsSearchedAlike s.
       }
 
       image_is : stored_image tree prepared.stamps ≡ planned_image held s
-      image_is = ap (λ (n : Nodes). stored_image n prepared.stamps) is.tree_is ∙ ap (stored_image (planned_in held s.tree)) (made.stamps ∙ is.stamps)
+      image_is = ap (λ (n : Nodes). stored_image n prepared.stamps) is.tree_is ∙ ap (stored_image (planned_in held s.tree s.stamps)) (made.stamps ∙ is.stamps)
 
-      is_updated : AreSettled held s (planned_image held s) → IsUpdated held s (stored_image tree prepared.stamps, prepared.report)
+      is_updated : IfHonestIn held s (AreSettled held s (planned_image held s)) → IsUpdated held s (stored_image tree prepared.stamps, prepared.report)
       is_updated settled = record {
         planned = image_is;
-        settled = subst (λ (image : Loaded). AreSettled held s image) (sym image_is) settled;
         reads = subst (λ (manifest : Option (List ℕ)). IfReads manifest (stored_image tree prepared.stamps)) (made.manifest ∙ manifest_is) made.reads;
+        settled = λ are same. subst (λ (image : Loaded). AreSettled held s image) (sym image_is) (settled are same);
         report = record {
-          libs = made.libs ∙ length_permutation (entries_in held s.tree) made.entries ordered.all;
+          libs = made.libs ∙ length_permutation (entries_in held s.tree s.stamps) made.entries ordered.all;
           links = made.links ∙ ap length is.plan;
           opened = made.opened ∙ is.opened;
         };
@@ -136,24 +134,24 @@ module _ (s : Loaded) (found : Found) (tree : Nodes) (alike : IsSearchedAlike s.
 
   -- ---- if contents are known
 
-  module _ (known : Option Contents) (is : IfHonest known s.tree s.stamps (λ held. IsFound held s.tree s.stamps found tree)) where
+  module _ (known : Option Contents) (is : IfKnown known (λ held. IsFound held s.tree s.stamps found tree)) where
     -- the image with the planned links is settled
-    pub settled_by : IsTree tree → IfHonest known s.tree s.stamps (λ held. IsSettled (what_is held s.tree) s.tree (places_in held s.tree) tree)
+    pub settled_by : IsTree tree → IfKnown known (λ held. IsSettled (said_wanted held s.tree s.stamps) s.tree (places_in held s.tree) tree)
         → IfHonestly known s (λ held. AreSettled held s (planned_image held s))
     settled_by is_tree still = by known is still
       where
-        by : (k : Option Contents) → IfHonestly k s (λ held. IsFound held s.tree s.stamps found tree) → IfHonestly k s (λ held. IsSettled (what_is held s.tree) s.tree (places_in held s.tree) tree)
+        by : (k : Option Contents) → IfKnown k (λ held. IsFound held s.tree s.stamps found tree) → IfKnown k (λ held. IsSettled (said_wanted held s.tree s.stamps) s.tree (places_in held s.tree) tree)
             → IfHonestly k s (λ held. AreSettled held s (planned_image held s))
         by None is still = tt
-        by (Some held) is still = λ are same. settled_is held (is are same) is_tree (still are same) same
+        by (Some held) is still = settled_is held is is_tree still
 
     abbrev If : (Contents → Type 0) → Type 0
-    If P = IfHonestly known s P
+    If P = IfKnown known P
 
-    follows : (P : Contents → Type 0) → ((held : Contents) → AreTrue held s.tree s.stamps → AreSame held s.tree s.tree → IsFound held s.tree s.stamps found tree → P held) → If P
-    follows P f = honestly known s (λ held. IsFound held s.tree s.stamps found tree) P f is
+    follows : (P : Contents → Type 0) → ((held : Contents) → IsFound held s.tree s.stamps found tree → P held) → If P
+    follows P f = if_known known (λ held. IsFound held s.tree s.stamps found tree) P f is
 
-    module _ (prepared : Prepared) (made : IsMadeOf s.edited s.damaged found tree prepared) (settled : If (λ held. AreSettled held s (planned_image held s))) where
+    module _ (prepared : Prepared) (made : IsMadeOf s.edited s.damaged found tree prepared) (settled : IfHonestly known s (λ held. AreSettled held s (planned_image held s))) where
       texts_alone : AreTexts (texts_of prepared)
       texts_alone = record {
         said = said_of s.damaged found made.entries;
@@ -171,25 +169,27 @@ module _ (s : Loaded) (found : Found) (tree : Nodes) (alike : IsSearchedAlike s.
       pub update_texts : AreUpdateTexts s known (texts_of prepared)
       update_texts = record {
         are = texts_alone;
-        are_of = follows (λ held. AreTextsOf held s (texts_of prepared)) (λ held are same is. are_texts held is prepared made);
-        aux_read = follows (λ held. stamps_of_slot (Some prepared.aux.items) ≡ stamps_in held s.tree) (λ held are same is. made.aux_read ∙ is.stamps);
-        finds = follows (λ held. FindsAsSearched held s.tree prepared.cache.items)
-            (λ held are same is. searched held s.tree made.entries prepared.cache.items (ordered held is prepared made) made.read_back);
+        are_of = follows (λ held. AreTextsOf held s (texts_of prepared)) (λ held is. are_texts held is prepared made);
+        aux_read = follows (λ held. stamps_of_slot (Some prepared.aux.items) ≡ stamps_in held s.tree s.stamps) (λ held is. made.aux_read ∙ is.stamps);
+        finds = follows (λ held. FindsAsSearched held s.tree s.stamps prepared.cache.items)
+            (λ held is. searched held s.tree s.stamps made.entries prepared.cache.items (ordered held is prepared made) made.read_back);
+        counted = follows (λ held. length (update_keys held s.tree s.stamps) ≡ length (conf_keys held s.tree) + opened_in held s.tree s.stamps) (λ held is. is.counted);
+        right = follows (λ held. IfHonestIn held s (IsSaidRight held s.tree s.stamps)) (λ held is are same. said_law held s.tree same s.stamps are);
         settles = settled;
         reads = follows (λ held. IfReads (texts_of prepared).manifest (planned_image held s))
-            (λ held are same is. subst (λ (n : Nodes). IfReads (texts_of prepared).manifest (stored_image n (stamps_in held s.tree))) is.tree_is made.reads);
+            (λ held is. subst (λ (n : Nodes). IfReads (texts_of prepared).manifest (stored_image n (stamps_in held s.tree s.stamps))) is.tree_is made.reads);
       }
 
       pub updated_is : If (λ held. IsUpdated held s (stored_image tree prepared.stamps, prepared.report))
       updated_is = by known is settled
         where
-          by : (k : Option Contents) → IfHonestly k s (λ held. IsFound held s.tree s.stamps found tree) → IfHonestly k s (λ held. AreSettled held s (planned_image held s))
-              → IfHonestly k s (λ held. IsUpdated held s (stored_image tree prepared.stamps, prepared.report))
+          by : (k : Option Contents) → IfKnown k (λ held. IsFound held s.tree s.stamps found tree) → IfHonestly k s (λ held. AreSettled held s (planned_image held s))
+              → IfKnown k (λ held. IsUpdated held s (stored_image tree prepared.stamps, prepared.report))
           by None is settled = tt
-          by (Some held) is settled = λ are same. is_updated held (is are same) prepared made (settled are same)
+          by (Some held) is settled = is_updated held is prepared made settled
 
     pub writes_is : (prepared : Prepared) → IsMadeOf s.edited s.damaged found tree prepared → If (λ held. update_outcome held s ≡ Writes)
-    writes_is prepared made = follows (λ held. update_outcome held s ≡ Writes) (λ held are same is. writes held is are same made.short made.few)
+    writes_is prepared made = follows (λ held. update_outcome held s ≡ Writes) (λ held is. writes held is made.short made.few)
 
     -- ---- what isn't made
 
@@ -197,17 +197,17 @@ module _ (s : Loaded) (found : Found) (tree : Nodes) (alike : IsSearchedAlike s.
         → ((nodes bytes : ℕ) → fault ≡ faults.TooLarge nodes bytes → IsTooLarge s.edited tree found.links.plan nodes bytes)
         → ((count : ℕ) → fault ≡ faults.TooMany count → HasTooMany s.edited found tree count)
         → If (λ held. IsAnswer {A = A} (update_outcome held s) (Err fault) a b)
-    making_answers A a b fault of large many = follows _ (λ held are same is. by held are same is fault of large many)
+    making_answers A a b fault of large many = follows _ (λ held is. by held is fault of large many)
       where
-        by : (held : Contents) → AreTrue held s.tree s.stamps → AreSame held s.tree s.tree → IsFound held s.tree s.stamps found tree → (fault : UpdateFault) → is_of_making fault ≡ true
+        by : (held : Contents) → IsFound held s.tree s.stamps found tree → (fault : UpdateFault) → is_of_making fault ≡ true
             → ((nodes bytes : ℕ) → fault ≡ faults.TooLarge nodes bytes → IsTooLarge s.edited tree found.links.plan nodes bytes)
             → ((count : ℕ) → fault ≡ faults.TooMany count → HasTooMany s.edited found tree count)
             → IsAnswer {A = A} (update_outcome held s) (Err fault) a b
-        by held are same is (faults.TooLarge nodes bytes) of large many = too_long held is are same nodes bytes (large nodes bytes refl)
-        by held are same is (faults.TooMany count) of large many = let m = many count refl in too_many held is are same m.0 count m.1.0 m.1.1
-        by held are same is faults.NoMemory of large many = tt
-        by held are same is faults.StoreFault of large many = absurd (cc)
-        by held are same is (faults.DiskFault fault) of large many = absurd (cc)
+        by held is (faults.TooLarge nodes bytes) of large many = too_long held is nodes bytes (large nodes bytes refl)
+        by held is (faults.TooMany count) of large many = let m = many count refl in too_many held is m.0 count m.1.0 m.1.1
+        by held is faults.NoMemory of large many = tt
+        by held is faults.StoreFault of large many = absurd (cc)
+        by held is (faults.DiskFault fault) of large many = absurd (cc)
 
 -- ---- what is read
 
@@ -218,10 +218,10 @@ module _ (A : Type 0) (s : Loaded) (a b : StoreState) where
   -- a call that read all may give up
   given_up : Finds Complete → Finds GaveUp
   given_up reads = record {
-    keys = honestly a.held s
+    keys = if_known a.held
         (λ held. ReadsFiles (lacks_file held s.tree s.stamps ≡ true) (Some (update_keys held s.tree s.stamps)) (Some (update_bytes held s.tree s.stamps)) Complete a b)
         (λ held. ReadsFiles (lacks_file held s.tree s.stamps ≡ true) (Some (update_keys held s.tree s.stamps)) (Some (update_bytes held s.tree s.stamps)) GaveUp a b)
-        (λ held are same reads. reads_all _ _ _ _ _ reads) reads.keys;
+        (λ held reads. reads_all _ _ _ _ _ reads) reads.keys;
     any = reads_all _ _ _ _ _ reads.any;
   }
 
@@ -233,12 +233,12 @@ module _ (A : Type 0) (s : Loaded) (a b : StoreState) where
   making_ends (faults.DiskFault fault) of reads = absurd (cc)
 
   module _ (B : Type 0) where
-    pub finding_answers : (fault : FindFault) → ((nodes : ℕ) → fault ≡ finding.TooLarge nodes → IfHonest a.held s.tree s.stamps (λ held. HasTooManyNodes held s.tree s.stamps nodes))
-        → Finds (find_ending {A = B} (Err fault)) → IfHonestly a.held s (λ held. IsAnswer {A = A} (update_outcome held s) (Err (of_finding fault)) a b)
-    finding_answers finding.StoreFault large reads = honestly a.held s _ _ (λ held are same reads. cause_of (rows.lacking held s) reads.cause) reads.keys
+    pub finding_answers : (fault : FindFault) → ((nodes : ℕ) → fault ≡ finding.TooLarge nodes → IfKnown a.held (λ held. HasTooManyNodes held s.tree s.stamps nodes))
+        → Finds (find_ending {A = B} (Err fault)) → IfKnown a.held (λ held. IsAnswer {A = A} (update_outcome held s) (Err (of_finding fault)) a b)
+    finding_answers finding.StoreFault large reads = if_known a.held _ _ (λ held reads. cause_of (rows.lacking held s) reads.cause) reads.keys
     finding_answers (finding.TooLarge nodes) large reads =
-        honestly a.held s _ _ (λ held are same many. rows.too_many_nodes held s are same many.none_lacks nodes many.many many.nodes_are) (large nodes refl)
-    finding_answers finding.NoMemory large reads = honestly a.held s _ _ (λ held are same reads. tt) reads.keys
+        if_known a.held _ _ (λ held many. rows.too_many_nodes held s many.none_lacks nodes many.many many.nodes_are) (large nodes refl)
+    finding_answers finding.NoMemory large reads = if_known a.held _ _ (λ held reads. tt) reads.keys
 
     pub finding_ends : (fault : FindFault) → Finds (find_ending {A = B} (Err fault)) → Finds (update_ending {A = A} (Err (of_finding fault)))
     finding_ends finding.StoreFault reads = reads

@@ -1,7 +1,7 @@
--- What an update of a loaded image comes to, for given contents.
+-- The outcome of an update of a loaded image, for given contents.
 use Rattle.std.specs.Prelude.{ℕ, Bool, true, false, List, [], ◌∷◌, nat_lt, if◌then◌else◌, length, Option, Some, None}
 use Rattle.cache_writer.specs.declared.writer.TheConstants.{ENTRIES_MAX}
-use Rattle.elf_dynamic.specs.Begun.{file_keys, lacks_one}
+use Rattle.elf_dynamic.specs.Begun.{lacks_one}
 use Rattle.ldso_conf.specs.Reading.{conf_lacks}
 use Rattle.mtree_manifest.specs.Canon.{canon}
 use Rattle.mtree_manifest.specs.declared.fault.TheConstants.{TEXT_MAX}
@@ -10,11 +10,11 @@ use Rattle.soname_links.specs.declared.kinds.Planned.{Planned}
 use Rattle.tree_face.specs.Store.{Contents}
 use Rattle.image_tree.specs.Tree.{Nodes}
 use Rattle.loaded_image.specs.Session.{Loaded}
-use Rattle.searched_image.specs.Begun.{has_too_many_nodes}
-use Rattle.searched_image.specs.Ldconfig.{behind_in, entries_in, links_in, planned_in, wanted_in}
+use Rattle.searched_image.specs.Begun.{behind_keys, has_too_many_nodes, wanted_keys}
+use Rattle.searched_image.specs.Ldconfig.{entries_in, links_in, planned_in}
 
 pub data Outcome : Type 0 where
-  -- the content of a conf file or of a library file isn't held
+  -- the content of a conf file, or of a library file that is opened, isn't held
   Lacking : Outcome
   -- the tree with the planned links has more nodes than a tree may have, or its manifest more bytes than a manifest may have
   TooLarge : ℕ → ℕ → Outcome
@@ -30,7 +30,7 @@ manifest_with false t [] = None
 manifest_with false t (planned ∷ plan) = Some (canon t)
 
 unfoldable pub new_manifest : Contents → Loaded → Option (List ℕ)
-new_manifest held s = manifest_with s.edited (planned_in held s.tree) (links_in held s.tree)
+new_manifest held s = manifest_with s.edited (planned_in held s.tree s.stamps) (links_in held s.tree s.stamps)
 
 abbrev pub is_too_long : Option (List ℕ) → Bool
 is_too_long None = false
@@ -40,13 +40,6 @@ abbrev pub size_of : Option (List ℕ) → ℕ
 size_of None = 0
 size_of (Some text) = length text
 
--- the keys of the library files, whatever stamps say: a file that a true stamp tells of is held too
-unfoldable pub wanted_files : Contents → Nodes → List (List ℕ)
-wanted_files held t = file_keys t (wanted_in held t)
-
-unfoldable pub behind_files : Contents → Nodes → List (List ℕ)
-behind_files held t = file_keys (planned_in held t) (behind_in held t)
-
 -- why no cache is written, if the condition holds
 abbrev pub Refusal : Type 0
 Refusal = Bool × Outcome
@@ -54,11 +47,11 @@ Refusal = Bool × Outcome
 abbrev pub refusals : Contents → Loaded → List Refusal
 refusals held s =
     (conf_lacks held s.tree, Lacking)
-    ∷ (lacks_one held (wanted_files held s.tree), Lacking)
-    ∷ (has_too_many_nodes held s.tree, TooLarge (nodes_with s.tree (links_in held s.tree)) 0)
-    ∷ (lacks_one held (behind_files held s.tree), Lacking)
-    ∷ (is_too_long (new_manifest held s), TooLarge (length (planned_in held s.tree)) (size_of (new_manifest held s)))
-    ∷ (nat_lt ENTRIES_MAX (length (entries_in held s.tree)), TooMany (length (entries_in held s.tree)))
+    ∷ (lacks_one held (wanted_keys held s.tree s.stamps), Lacking)
+    ∷ (has_too_many_nodes held s.tree s.stamps, TooLarge (nodes_with s.tree (links_in held s.tree s.stamps)) 0)
+    ∷ (lacks_one held (behind_keys held s.tree s.stamps), Lacking)
+    ∷ (is_too_long (new_manifest held s), TooLarge (length (planned_in held s.tree s.stamps)) (size_of (new_manifest held s)))
+    ∷ (nat_lt ENTRIES_MAX (length (entries_in held s.tree s.stamps)), TooMany (length (entries_in held s.tree s.stamps)))
     ∷ []
 
 -- the first whose condition holds

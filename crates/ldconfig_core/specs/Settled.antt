@@ -11,7 +11,11 @@ use Rattle.ldconfig_core.specs.Texts.{AreTextsOf, UpdateTexts}
 
 -- the image with the planned links, and with the stamps of its libraries
 abbrev pub planned_image : Contents → Loaded → Loaded
-planned_image held s = record { tree = planned_in held s.tree; stamps = stamps_in held s.tree; edited = false; damaged = None }
+planned_image held s = record { tree = planned_in held s.tree s.stamps; stamps = stamps_in held s.tree s.stamps; edited = false; damaged = None }
+
+-- the image without its auxiliary cache
+abbrev pub unstamped_image : Loaded → Loaded
+unstamped_image s = record s { stamps = [] }
 
 -- a manifest that is written, if one is, reads as the image
 abbrev pub IfReads : Option (List ℕ) → Loaded → Type 0
@@ -23,16 +27,16 @@ pub record AreCachesAgain (texts again : UpdateTexts) : Type 0 where
   pub cache : again.cache ≡ texts.cache
   pub aux : again.aux ≡ texts.aux
 
--- an update of the new image is that of the old one, but for the planned links, which are there; its stamps are true
+-- an update of the new image is that of the old one, except that the planned links are there; its stamps are true
 pub record AreSettled (held : Contents) (s new : Loaded) : Type 0 where
   pub conf : conf_in held new.tree ≡ conf_in held s.tree
   pub places : places_in held new.tree ≡ places_in held s.tree
   pub wanted : wanted_in held new.tree ≡ wanted_in held s.tree
-  pub no_links : links_in held new.tree ≡ []
-  pub planned : planned_in held new.tree ≡ new.tree
-  pub reached : reached_in held new.tree ≡ reached_in held s.tree
-  pub entries : entries_in held new.tree ≡ entries_in held s.tree
-  pub stamps : stamps_in held new.tree ≡ stamps_in held s.tree
+  pub no_links : links_in held new.tree new.stamps ≡ []
+  pub planned : planned_in held new.tree new.stamps ≡ new.tree
+  pub reached : reached_in held new.tree new.stamps ≡ reached_in held s.tree s.stamps
+  pub entries : entries_in held new.tree new.stamps ≡ entries_in held s.tree s.stamps
+  pub stamps : stamps_in held new.tree new.stamps ≡ stamps_in held s.tree s.stamps
   pub no_manifest : new_manifest held new ≡ None
   -- no manifest is written only if the tree had its links
   pub unchanged : new_manifest held s ≡ None → new.tree ≡ s.tree

@@ -61,7 +61,7 @@ abbrev pub IsTooLarge : Bool → Nodes → List Planned → ℕ → ℕ → Type
 IsTooLarge edited tree plan nodes bytes =
     (nodes ≡ length tree) × ((bytes ≡ size_of (manifest_with edited tree plan)) × (is_too_long (manifest_with edited tree plan) ≡ true))
 
--- the manifest isn't too long, but there are so many entries
+-- the manifest isn't too long, but this is the number of entries, which is too large
 abbrev pub HasTooMany : Bool → Found → Nodes → ℕ → Type 0
 HasTooMany edited found tree count =
     (is_too_long (manifest_with edited tree found.links.plan) ≡ false) × ((count ≡ length (entries_of found tree)) × (ENTRIES_MAX < count))

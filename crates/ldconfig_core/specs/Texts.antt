@@ -8,7 +8,6 @@ use Rattle.cache_lookup.specs.Scan.{AreDescending}
 use Rattle.cache_reader.specs.Cache.{defect, read}
 use Rattle.cache_writer.specs.CacheText.{cache_text, hwcaps_names}
 use Rattle.cache_writer.specs.ReadBack.{as_read}
-use Rattle.stamped_files.specs.Files.{what_is}
 use Rattle.hwcap_dirs.specs.Places.{absent}
 use Rattle.lib_types.specs.declared.entry.Entry.{Entry}
 use Rattle.found_files.specs.Search.{dangling}
@@ -19,7 +18,7 @@ use Rattle.tree_face.specs.Store.{Contents}
 use Rattle.update_report.specs.Report.{Said, report_text}
 use Rattle.update_report.specs.Skips.{skip_at}
 use Rattle.searched_image.specs.Begun.{opened_in}
-use Rattle.searched_image.specs.Ldconfig.{conf_in, entries_in, library_files, links_in, places_in, planned_in, stamps_in}
+use Rattle.searched_image.specs.Ldconfig.{conf_in, entries_in, library_files, links_in, places_in, planned_in, said_files, said_wanted, stamps_in}
 use Rattle.ldconfig_core.specs.Outcome.{new_manifest}
 use Rattle.loaded_image.specs.Aux.{stamps_of_slot}
 use Rattle.loaded_image.specs.Session.{Loaded}
@@ -34,11 +33,11 @@ said_with held s entries = record {
   conf = (conf_in held s.tree).reports;
   places = places_in held s.tree;
   absent = absent s.tree (conf_in held s.tree).dirs;
-  plan = links_in held s.tree;
-  blocked = blocked (what_is held s.tree) s.tree (places_in held s.tree);
-  mixed = mixed (what_is held s.tree) s.tree (places_in held s.tree);
-  skips = filter_map (skip_at (what_is held s.tree)) (library_files held s.tree);
-  dangling = dangling (planned_in held s.tree) (places_in held s.tree);
+  plan = links_in held s.tree s.stamps;
+  blocked = blocked (said_wanted held s.tree s.stamps) s.tree (places_in held s.tree);
+  mixed = mixed (said_wanted held s.tree s.stamps) s.tree (places_in held s.tree);
+  skips = filter_map (skip_at (said_files held s.tree s.stamps)) (library_files held s.tree s.stamps);
+  dangling = dangling (planned_in held s.tree s.stamps) (places_in held s.tree);
   entries = entries;
   opened = opened_in held s.tree s.stamps;
 }
@@ -53,10 +52,10 @@ pub record UpdateTexts : Type 0 where
 -- the texts of the update of a loaded image
 pub record AreTextsOf (held : Contents) (s : Loaded) (texts : UpdateTexts) : Type 0 where
   pub entries : List Entry
-  pub are : AreEntriesOf (entries_in held s.tree) entries
+  pub are : AreEntriesOf (entries_in held s.tree s.stamps) entries
   pub manifest_is : texts.manifest ≡ new_manifest held s
   pub cache_is : texts.cache ≡ cache_text entries
-  pub aux_is : texts.aux ≡ aux_text (stamps_in held s.tree)
+  pub aux_is : texts.aux ≡ aux_text (stamps_in held s.tree s.stamps)
   pub report_is : texts.report ≡ report_text (said_with held s entries)
 
 -- the same is written: manifest, cache and auxiliary cache

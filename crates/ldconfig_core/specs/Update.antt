@@ -1,13 +1,16 @@
 -- One update of a loaded image: what it returns, and what it leaves on the store and on the disk.
-use Rattle.std.specs.Prelude.{◌≡◌, ◌⊎◌, ◌≤◌, length, Option, Some, Result, Ok, Err, IfOk, ⊤}
+use Rattle.std.specs.Prelude.{◌≡◌, ◌⊎◌, ◌≤◌, ◌+◌, length, Option, Some, Result, Ok, Err, IfOk, ⊤}
 use Rattle.atomic_replace.specs.declared.fault.DiskFault.{DiskFault}
 use Rattle.lib_types.specs.Counts.{HasRisen}
 use Rattle.tree_face.specs.declared.disk.Tag.{Tag}
 use Rattle.tree_face.specs.Disk.{DiskState}
+use Rattle.tree_face.specs.Known.{IfKnown}
 use Rattle.tree_face.specs.Store.{Contents, StoreState}
 use Rattle.tree_face.specs.StoreUse.{Ending, Complete, DeviceFailed, GaveUp}
-use Rattle.searched_image.specs.Begun.{opened_in}
+use Rattle.searched_image.specs.Begun.{opened_in, update_keys}
+use Rattle.searched_image.specs.Laws.{IsSaidRight}
 use Rattle.searched_image.specs.Found.{ReadsFinding}
+use Rattle.ldso_conf.specs.Reading.{conf_keys}
 use Rattle.ldconfig_core.specs.declared.fault.UpdateFault.{UpdateFault}
 use Rattle.ldconfig_core.specs.declared.fault.UpdateFault.TheVariants as faults
 use Rattle.ldconfig_core.specs.declared.report.Report.{Report}
@@ -17,7 +20,7 @@ use Rattle.ldconfig_core.specs.Lookup.{FindsAsSearched}
 use Rattle.ldconfig_core.specs.Outcome.{Outcome, Lacking, TooLarge, TooMany, Writes, new_manifest, update_outcome}
 use Rattle.replaced_slots.specs.Replaced.{KeepsRestMade, WritesAll, WritesPart}
 use Rattle.loaded_image.specs.Session.{Loaded}
-use Rattle.stamped_files.specs.Stamped.{IfHonest}
+use Rattle.stamped_files.specs.Stamped.{AreSame, AreTrue, IfHonest}
 use Rattle.ldconfig_core.specs.Settled.{AreSettled, IfReads, planned_image}
 use Rattle.ldconfig_core.specs.Texts.{AreTexts, AreTextsOf, UpdateTexts, update_slots, writes_of}
 
@@ -53,14 +56,19 @@ ReadsUpdate s ending old new = ReadsFinding s.tree s.stamps ending old new
 abbrev pub IfHonestly : Option Contents → Loaded → (Contents → Type 0) → Type 0
 IfHonestly known s P = IfHonest known s.tree s.stamps P
 
--- the texts of an update of this image, which is settled with them: if contents are known and stamps are true, of the one that there is
+-- the texts of the update of this image, if contents are known
 pub record AreUpdateTexts (s : Loaded) (known : Option Contents) (texts : UpdateTexts) : Type 0 where
   pub are : AreTexts texts
-  pub are_of : IfHonestly known s (λ held. AreTextsOf held s texts)
-  pub aux_read : IfHonestly known s (λ held. stamps_of_slot (Some texts.aux) ≡ stamps_in held s.tree)
-  pub finds : IfHonestly known s (λ held. FindsAsSearched held s.tree texts.cache)
+  pub are_of : IfKnown known (λ held. AreTextsOf held s texts)
+  pub aux_read : IfKnown known (λ held. stamps_of_slot (Some texts.aux) ≡ stamps_in held s.tree s.stamps)
+  pub finds : IfKnown known (λ held. FindsAsSearched held s.tree s.stamps texts.cache)
+  -- the keys that were begun: those of the conf files, and one for each library file that was opened
+  pub counted : IfKnown known (λ held. length (update_keys held s.tree s.stamps) ≡ length (conf_keys held s.tree) + opened_in held s.tree s.stamps)
+  -- If stamps are true and files of equal identity have equal content, each file is what it is said to be, so that an update without stamps gives the
+  -- same, and the image is settled.
+  pub right : IfHonestly known s (λ held. IsSaidRight held s.tree s.stamps)
   pub settles : IfHonestly known s (λ held. AreSettled held s (planned_image held s))
-  pub reads : IfHonestly known s (λ held. IfReads texts.manifest (planned_image held s))
+  pub reads : IfKnown known (λ held. IfReads texts.manifest (planned_image held s))
 
 -- the texts of the update are written, and this is its report
 pub record LeavesTexts (tag : Tag) (s : Loaded) (known : Option Contents) (report : Report) (old new : DiskState) : Type 0 where
@@ -88,23 +96,27 @@ DiskAfter tag s known (Err faults.NoMemory) old new = new ≡ old
 
 -- the numbers of the report are those of the update
 pub record IsReportFor (held : Contents) (s : Loaded) (report : Report) : Type 0 where
-  pub libs : report.libs ≡ length (entries_in held s.tree)
-  pub links : report.links ≡ length (links_in held s.tree)
+  pub libs : report.libs ≡ length (entries_in held s.tree s.stamps)
+  pub links : report.links ≡ length (links_in held s.tree s.stamps)
   pub opened : report.opened ≡ opened_in held s.tree s.stamps
 
--- It is the image with the planned links and its stamps, which is settled, and as which a manifest that is written reads.
+-- a fact of an image whose stamps are true and whose files of equal identity have equal content
+abbrev pub IfHonestIn : Contents → Loaded → Type 0 → Type 0
+IfHonestIn held s P = AreTrue held s.tree s.stamps → AreSame held s.tree s.tree → P
+
+-- It is the image with the planned links and its stamps, as which a manifest that is written reads.
 pub record IsUpdated (held : Contents) (s : Loaded) (updated : Loaded × Report) : Type 0 where
   pub planned : updated.0 ≡ planned_image held s
-  pub settled : AreSettled held s updated.0
   pub reads : IfReads (new_manifest held s) updated.0
   pub report : IsReportFor held s updated.1
+  pub settled : IfHonestIn held s (AreSettled held s updated.0)
 
 -- ---- one update
 
 pub record Updates (tag : Tag) (s : Loaded) (result : Result (Loaded × Report) UpdateFault) (store after_store : StoreState) (disk after_disk : DiskState) : Type 0 where
-  pub answers : IfHonestly store.held s (λ held. IsAnswer (update_outcome held s) result store after_store)
+  pub answers : IfKnown store.held (λ held. IsAnswer (update_outcome held s) result store after_store)
   pub reads : ReadsUpdate s (update_ending result) store after_store
   pub written : DiskAfter tag s store.held result disk after_disk
   pub made : KeepsRestMade tag.0 update_slots disk after_disk
   pub disk_faults : disk.faults ≤ after_disk.faults
-  pub updated : IfOk result (λ updated. IfHonestly store.held s (λ held. IsUpdated held s updated))
+  pub updated : IfOk result (λ updated. IfKnown store.held (λ held. IsUpdated held s updated))

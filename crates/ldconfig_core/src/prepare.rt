@@ -12,7 +12,8 @@ ghost use Rattle.ldconfig_core.specs.Faults.{is_of_making, is_of_preparing, is_s
 ghost use Rattle.ldconfig_core.specs.Outcome.{is_too_long, manifest_with, update_outcome};
 ghost use Rattle.ldconfig_core.specs.Stages.{said_of, stored_image, texts_of, HasTooMany, IfTree, IsMadeOf, IsTooLarge};
 ghost use Rattle.ldconfig_core.specs.Texts.{manifest_bytes};
-ghost use Rattle.ldconfig_core.specs.Update.{AreUpdateTexts, IfHonestly, IsAnswer, IsUpdated, ReadsUpdate, update_ending};
+ghost use Rattle.ldconfig_core.specs.Update.{AreUpdateTexts, IsAnswer, IsUpdated, ReadsUpdate, update_ending};
+ghost use Rattle.tree_face.specs.Known.{IfKnown};
 ghost use Rattle.update_report.specs.Report.{report_text};
 
 use crate::fault::UpdateFault;
@@ -180,11 +181,11 @@ pub fn prepare<S: Store>(
     image: &mut Session,
     store: &mut S,
 ) -> Result<Prepared, UpdateFault>
-    ensures updated { IfOk result (λ prepared. IfHonestly (S.state store.old).held image.old
+    ensures updated { IfOk result (λ prepared. IfKnown (S.state store.old).held
         (λ held. IsUpdated held image.old (stored_image image.new.tree prepared.stamps, prepared.report))) }
     ensures names { IfOk result (λ prepared. HaveNames prepared.stamps) }
     ensures texts { IfOk result (λ prepared. AreUpdateTexts image.old (S.state store.old).held (texts_of prepared)) }
-    ensures answers { IfHonestly (S.state store.old).held image.old
+    ensures answers { IfKnown (S.state store.old).held
         (λ held. IsAnswer (update_outcome held image.old) result (S.state store.old) (S.state store.new)) }
     ensures others { IfErr result (λ fault. is_of_preparing fault ≡ true) }
     ensures reads { ReadsUpdate image.old (update_ending result) (S.state store.old) (S.state store.new) }

@@ -15,7 +15,8 @@ use Rattle.ldd_resolve.specs.declared.kinds.Member.{Member}
 use Rattle.rpath_search.specs.declared.kinds.Env.{Env}
 use Rattle.ldd_resolve.specs.declared.loading.Loading.{Loading}
 use Rattle.ldd_resolve.specs.Links.{behind, reach_in}
-use Rattle.ldd_resolve.specs.Listing.{Loaded, Record, Request, is_among, is_called, is_missing, item, loaded, named, names_by, needed_in, owner_of, places_of, requests, requests_of, soname_in, with_missing}
+use Rattle.rpath_search.specs.Searching.{is_among}
+use Rattle.ldd_resolve.specs.Listing.{Loaded, Record, Request, is_called, is_missing, item, loaded, named, names_by, needed_in, owner_of, places_of, requests, requests_of, soname_in, with_missing}
 use Rattle.ldd_resolve.specs.Loading.{AddsFound, AddsName, IsFoundIn, Stands, with_last_name}
 use Rattle.ldd_resolve.specs.Resolving.{member_of, members_of}
 use Rattle.ldd_resolve.proofs.Standing.{among_at, and_false, and_true, called_there, drop_next, drop_one, linked_on, named_at, or_false, same_by, same_chain, same_needed, same_path, same_real, same_requests}

@@ -9,5 +9,3 @@ pub mod Sound
 pub mod Standing
 pub mod Started
 pub mod Texts
-pub mod Tried
-pub mod TriedPaths

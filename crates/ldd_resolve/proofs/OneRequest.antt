@@ -4,6 +4,7 @@ use Rattle.std.proofs.lemmas.List.{append-nil}
 use Rattle.std.specs.Option.{option_copied}
 use Rattle.std.specs.List.{list_any}
 use Rattle.lib_types.proofs.SortedPairs.{by_test}
+use Rattle.lib_types.specs.declared.abi.Abi.{Abi}
 use Rattle.tree_face.specs.Known.{IfKnown}
 use Rattle.image_tree.specs.Tree.{Nodes}
 use Rattle.tree_face.specs.Store.{Contents, StoreState}
@@ -19,19 +20,19 @@ use Rattle.rpath_search.specs.declared.fault.SearchFault.TheVariants.{StoreFault
 use Rattle.rpath_search.specs.declared.kinds.Owner.{Owner}
 use Rattle.ldd_resolve.specs.declared.loading.Loading.{Loading}
 use Rattle.ldd_resolve.specs.declared.requests.Given.{Given}
-use Rattle.ldd_resolve.specs.declared.search.Answer.{Answer}
-use Rattle.ldd_resolve.specs.declared.search.Answer.TheVariants as answer
-use Rattle.ldd_resolve.specs.Listing.{Inputs, Record, Request, found_by, is_among, is_called, item, keys_searched, left, loaded, named, places_of, record_after, requests, with_found, with_missing, with_search}
+use Rattle.rpath_search.specs.declared.search.Answer.{Answer}
+use Rattle.rpath_search.specs.declared.search.Answer.TheVariants as answer
+use Rattle.rpath_search.specs.Searching.{Finds, IsNew, is_among}
+use Rattle.ldd_resolve.specs.Listing.{Inputs, Record, Request, found_by, is_called, item, keys_searched, left, loaded, named, places_of, record_after, requests, with_found, with_missing, with_search}
 use Rattle.ldd_resolve.specs.Loading.{Advances, GoesBy, HasOutcome, IsSoundAnswer, TakesAnswer}
 use Rattle.ldd_resolve.specs.Requests.{BeginsPaths, FindsBy, IsAt, inputs_by, paths_at, paths_by, requests_by}
 use Rattle.ldd_resolve.specs.Resolving.{IfComplete, cached_in}
-use Rattle.ldd_resolve.specs.Searching.{Finds, IsNew}
 use Rattle.tree_face.proofs.StoreUse.{unread}
 use Rattle.ldd_resolve.proofs.Advances.{unread_held}
 use Rattle.ldd_resolve.proofs.Outcomes.{chain_kept, known_stands, outcome}
 use Rattle.ldd_resolve.proofs.Objects.{failing}
 use Rattle.ldd_resolve.proofs.Standing.{reach_there, same_count}
-use Rattle.ldd_resolve.proofs.Tried.{is_one}
+use Rattle.rpath_search.proofs.Libraries.{is_one}
 use Rattle.ldd_resolve.proofs.Records.{record_known, record_searched}
 
 -- a search adds keys, and answers no request
@@ -54,7 +55,7 @@ module _ (w : Inputs) (r : Record) (q : Request) (all : List (List ℕ)) where
   search_count = found_count w with_keys q (found_by w all)
 
 -- what is found is sound
-pub sound_answer : (known : Option Contents) (g : Given) (places all : List (List ℕ)) (found : Option Answer) → FindsBy known g places all found → IsNew g.tree.now places found →
+pub sound_answer : (known : Option Contents) (g : Given) (places all : List (List ℕ)) (found : Option Answer) → FindsBy known g places all found → IsNew known g.tree.now g.env.now.abi places found →
     IsSoundAnswer known g.tree.now g.env.now.abi found
 sound_answer known g places all None finds there = tt
 sound_answer known g places all (Some (answer.Loaded i)) finds there = tt
@@ -83,12 +84,12 @@ counted_outcome r r2 n q (Some (answer.Loaded i)) out = record { within = out.wi
 counted_outcome r r2 n q (Some (answer.New f)) out = out
 
 -- some record has this answer of a request
-some_outcome : (r : Record) (q : Request) (t : Nodes) (found : Option Answer) → IsNew t (places_of r.objects) found →
+some_outcome : (r : Record) (q : Request) (known : Option Contents) (t : Nodes) (abi : Abi) (found : Option Answer) → IsNew known t abi (places_of r.objects) found →
     (r2 : Record) × (HasOutcome r q found r2 × (r2.answered ≡ suc r.answered))
-some_outcome r q t None there = (record r { answered = suc r.answered; items = with_missing q.name r.items }, ((refl, refl), refl))
-some_outcome r q t (Some (answer.Loaded i)) there =
+some_outcome r q known t abi None there = (record r { answered = suc r.answered; items = with_missing q.name r.items }, ((refl, refl), refl))
+some_outcome r q known t abi (Some (answer.Loaded i)) there =
     (record r { answered = suc r.answered; objects = map (named (get_or (places_of r.objects) i []) q.name) r.objects }, (record { within = there; objects = refl; items = refl }, refl))
-some_outcome r q t (Some (answer.New f)) there = (
+some_outcome r q known t abi (Some (answer.New f)) there = (
   record r {
     answered = suc r.answered;
     objects = r.objects ++ loaded f.path f.real f.object.dynamic (Some q.name) q.chain ∷ [];
@@ -177,10 +178,10 @@ module _ (g : Given) (r : Record) (s : Loading) (number : ℕ) (chain : List Own
             chain_is = chain_kept r r2 q found number few out ∙ here.chain_is;
           }
 
-      pub searched_name : (known : Option Contents) → FindsBy known g s.places.loaded all found → IsNew g.tree.now s.places.loaded found → Begun known Complete →
+      pub searched_name : (known : Option Contents) → FindsBy known g s.places.loaded all found → IsNew known g.tree.now g.env.now.abi s.places.loaded found → Begun known Complete →
           Advances known (inputs_by g) r Complete (λ r2. IsAt g.env.now r2 s2 number chain rest) a b
       searched_name None finds there begins =
-          let one = some_outcome r q g.tree.now found (rw here.stands.places at there) in
+          let one = some_outcome r q None g.tree.now g.env.now.abi found (rw here.stands.places at there) in
           record { reads = begins; some = one.0; holds = answered_at one.0 one.1.0 one.1.1 }
       searched_name (Some held) finds there begins =
           let w = inputs_by g held in

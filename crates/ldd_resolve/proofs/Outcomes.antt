@@ -3,15 +3,15 @@ use Rattle.std.proofs.Common.{◌≡◌, ◌+◌, ◌<◌, ℕ, suc, List, [], �
 use Rattle.path_walk.specs.Files.{file_at}
 use Rattle.rpath_search.specs.Search.{first_good}
 use Rattle.rpath_search.specs.declared.kinds.Env.{Env}
-use Rattle.ldd_resolve.specs.declared.search.Answer.{Answer}
-use Rattle.ldd_resolve.specs.declared.search.Answer.TheVariants as answer
+use Rattle.rpath_search.specs.declared.search.Answer.{Answer}
+use Rattle.rpath_search.specs.declared.search.Answer.TheVariants as answer
 use Rattle.ldd_resolve.specs.Links.{behind}
 use Rattle.ldd_resolve.specs.Listing.{Inputs, Loaded, Record, Request, found_by, loaded, places_of, requests, with_search}
 use Rattle.ldd_resolve.specs.declared.loading.Loading.{Loading}
 use Rattle.ldd_resolve.proofs.Standing.{among_at, drop_one, same_by, same_chain}
 use Rattle.std.proofs.lemmas.List.{get_or_append_left, length-map, map-append}
 use Rattle.ldd_resolve.specs.Loading.{HasOutcome, Stands}
-use Rattle.ldd_resolve.specs.Searching.{Finds, IsNew}
+use Rattle.rpath_search.specs.Searching.{Finds, IsNew}
 
 module _ (w : Inputs) (r : Record) (q : Request) (all : List (List ℕ)) where
   -- what is found by the first good path, with the file to which it leads
@@ -22,7 +22,7 @@ module _ (w : Inputs) (r : Record) (q : Request) (all : List (List ℕ)) where
   found_none first = rw first refl
 
   pub outcome : (first : Option (List ℕ)) (a : Option Answer) → first_good w.held w.nodes w.env.abi all ≡ first →
-      Finds w.held w.nodes w.env.abi (places_of r.objects) first a → IsNew w.nodes (places_of r.objects) a → HasOutcome r q a (with_search w r q all)
+      Finds w.held w.nodes w.env.abi (places_of r.objects) first a → IsNew (Some w.held) w.nodes w.env.abi (places_of r.objects) a → HasOutcome r q a (with_search w r q all)
   outcome None None same finds new = rw (found_none same) (refl, refl)
   outcome None (Some a) same finds new = absurd finds
   outcome (Some path) None same finds new = absurd finds
@@ -35,7 +35,7 @@ module _ (w : Inputs) (r : Record) (q : Request) (all : List (List ℕ)) where
         items = rw (found_at path real same finds.leads, there) refl;
       }
   outcome (Some path) (Some (answer.New f)) same finds new =
-      let leads : file_at w.nodes path ≡ Some f.real = rw finds.here at new.leads in
+      let leads : file_at w.nodes path ≡ Some f.real = rw finds.here at new.found.leads in
       (rw (found_at path f.real same leads, new.unloaded, finds.object, finds.here) refl, rw (found_at path f.real same leads, new.unloaded, finds.here) refl)
 
 -- an object that is there keeps its chain

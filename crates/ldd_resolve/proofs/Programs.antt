@@ -34,7 +34,7 @@ use Rattle.ldd_resolve.proofs.Objects.{failing}
 use Rattle.ldd_resolve.specs.Listing.{Record, Inputs, left, record_after}
 use Rattle.ldd_resolve.specs.Loading.{Advances}
 use Rattle.ldd_resolve.specs.Requests.{IsListed, record_with}
-use Rattle.ldd_resolve.specs.Resolving.{AreAllHeld, AreLoaded, BeginsBy, BeginsFor, BeginsNoneLacking, BeginsRecord, IfBadProgram, IfComplete, IsBadProgram, IsNoProgram, IsScope, IsScopeOf, ReadsListing, first_record, object_at, program_at, record_of, resolve_ending, inputs_of, with_abi}
+use Rattle.ldd_resolve.specs.Resolving.{AreAllHeld, AreLoaded, BeginsBy, BeginsFor, BeginsNoneLacking, BeginsRecord, IfBadProgram, IfComplete, IsBadProgram, IsNoProgram, IsScope, IsScopeOf, ReadsListing, env_for, first_record, inputs_of, object_at, program_at, record_of, resolve_ending}
 use Rattle.ldd_resolve.proofs.Records.{record_none}
 use Rattle.ldd_resolve.proofs.Standing.{or_first, or_second}
 
@@ -122,7 +122,7 @@ module _ (t : Nodes) (cache : Option (List CachedEntry)) (word : List ℕ) (env 
         none_yet : (o : Object) → BeginsRecord (record_of t cache word env held real o) held e a b
         none_yet o = record {
           requests = 0;
-          reads = subst (λ (x : Record). ReadsBy (Some held) x.keys e a b) (sym (record_none (inputs_of t cache (with_abi env o.abi) held) (first_record t word real o))) reads;
+          reads = subst (λ (x : Record). ReadsBy (Some held) x.keys e a b) (sym (record_none (inputs_of t cache (env_for env o.abi) held) (first_record t word real o))) reads;
           all = if_partial e _ partial;
         }
 
@@ -148,7 +148,7 @@ module _ (t : Nodes) (cache : Option (List CachedEntry)) (word : List ℕ) (env 
     first = record_with p (key p.real leads)
 
     abbrev inputs : Contents → Inputs
-    inputs = inputs_of t cache (with_abi env p.object.abi)
+    inputs = inputs_of t cache (env_for env p.object.abi)
 
     same_first : first_record t word p.real p.object ≡ first
     same_first = rw spelled refl
@@ -237,7 +237,7 @@ module _ (t : Nodes) (word real : List ℕ) (leads : program_at t word ≡ Some 
 module _ (t : Nodes) (cache : Option (List CachedEntry)) (word : List ℕ) (env : Env) (p : Found) (spelled : p.path ≡ from_root word) (leads : program_at t word ≡ Some p.real) where
   pub list_fails : (fault : SearchFault) (known : Option Contents) (a b c : StoreState) → IfKnown known (λ held. object_at held t p.real ≡ Some (Ok p.object)) →
       IfKnown known (λ held. lacks_one held (file_keys t (p.real ∷ [])) ≡ false) → ReadsBy known (file_keys t (p.real ∷ [])) Complete a b →
-      Advances known (inputs_of t cache (with_abi env p.object.abi)) (record_with p (file_keys t (p.real ∷ []))) (failing fault) (λ r. Unit {0}) b c →
+      Advances known (inputs_of t cache (env_for env p.object.abi)) (record_with p (file_keys t (p.real ∷ []))) (failing fault) (λ r. Unit {0}) b c →
       ReadsListing known t cache word env (resolve_ending {A = Scope} (Err (of_search fault))) a c
   list_fails search.StoreFault known a b c says none reads so_far =
       listing_read t cache word env p spelled leads (λ r. Unit {0}) DeviceFailed a b c known says none reads so_far (λ r any. tt)

@@ -21,11 +21,10 @@ use Rattle.tree_face.specs.Store.{Contents}
 use Rattle.image_tree.specs.Tree.{Nodes, node_at}
 use Rattle.rpath_search.specs.Search.{is_library_at}
 use Rattle.ldd_resolve.specs.declared.loading.Loading.{Loading}
-use Rattle.ldd_resolve.specs.declared.search.Places.{Places}
-use Rattle.ldd_resolve.specs.Listing.{is_among}
+use Rattle.rpath_search.specs.declared.search.LoadedFiles.{LoadedFiles}
+use Rattle.rpath_search.specs.Searching.{AreKnown, is_among, is_outsider}
 use Rattle.ldd_resolve.specs.Loading.{Grows, IsSound}
 use Rattle.ldd_resolve.specs.Requests.{IsEven}
-use Rattle.ldd_resolve.specs.Searching.{AreKnown, is_outsider}
 use Rattle.ldd_resolve.proofs.Standing.{among_one}
 
 -- ---- how many there are
@@ -60,7 +59,7 @@ files_few known t abi s sound =
 -- ---- one more
 
 module _ (t : Nodes) (abi : Abi) (s : Loading) (real : List ℕ) (new : is_among s.places.loaded real ≡ false) where
-  abbrev more : Places
+  abbrev more : LoadedFiles
   more = record s.places { loaded = s.places.loaded ++ real ∷ [] }
 
   not_loaded : (x : List ℕ) → bytes_eq x real ≡ true → is_among s.places.loaded x ≡ false

@@ -12,7 +12,8 @@ use Rattle.rpath_search.specs.Loaders.{reach_at, reach_over}
 use Rattle.rpath_search.specs.Places.{Reach, reach_of}
 use Rattle.ldd_resolve.specs.Links.{behind, reach_in}
 use Rattle.ldd_resolve.specs.declared.kinds.Member.{Member}
-use Rattle.ldd_resolve.specs.Listing.{Loaded, is_among, is_called, named, places_of, requests}
+use Rattle.rpath_search.specs.Searching.{is_among}
+use Rattle.ldd_resolve.specs.Listing.{Loaded, is_called, named, places_of, requests}
 use Rattle.ldd_resolve.specs.Loading.{with_last_name}
 use Rattle.ldd_resolve.specs.Resolving.{member_of}
 

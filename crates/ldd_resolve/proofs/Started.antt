@@ -14,10 +14,9 @@ use Rattle.elf_dynamic.specs.Object.{object}
 use Rattle.rpath_search.specs.Search.{is_library, is_library_at, is_library_of}
 use Rattle.rpath_search.specs.declared.kinds.Found.{Found}
 use Rattle.ldd_resolve.specs.declared.loading.Loading.{Loading}
-use Rattle.ldd_resolve.specs.Listing.{is_among}
+use Rattle.rpath_search.specs.Searching.{AreKnown, is_among, is_outsider}
 use Rattle.ldd_resolve.specs.Requests.{StartsSound, outsider_of}
 use Rattle.ldd_resolve.specs.Resolving.{object_at}
-use Rattle.ldd_resolve.specs.Searching.{AreKnown, is_outsider}
 use Rattle.ldd_resolve.proofs.Standing.{or_false}
 
 module _ (p : Found) (s : Loading) (alone : s.places.loaded ≡ p.real ∷ []) (member : length s.members.items ≡ 1) where

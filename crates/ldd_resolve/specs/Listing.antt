@@ -1,16 +1,16 @@
 -- Which libraries a program loads, and from where (ld.so(8); ldd(1) lists them): the needed names of the program and of each library that
 -- was found are requests, which are answered one after another, breadth first.
-use Rattle.std.specs.Prelude.{◌&&◌, ℕ, zero, suc, ◌+◌, Bool, false, List, [], ◌∷◌, ◌++◌, map, take, drop, flat_map, filter, not, if◌then◌else◌, Option, Some, None, is_none, option_and_then, option_map, option_to_list}
+use Rattle.std.specs.Prelude.{◌&&◌, ℕ, zero, suc, ◌+◌, Bool, false, List, [], ◌∷◌, ◌++◌, map, take, drop, flat_map, if◌then◌else◌, Option, Some, None, is_none, option_and_then, option_map, option_to_list}
 use Rattle.std.specs.List.{list_any}
 use Rattle.std.specs.Str.{bytes_eq}
 use Rattle.lib_types.specs.declared.abi.Abi.{Abi}
 use Rattle.tree_face.specs.Store.{Contents}
 use Rattle.image_tree.specs.Tree.{Nodes}
 use Rattle.path_walk.specs.Files.{file_at}
-use Rattle.elf_dynamic.specs.Begun.{file_keys}
 use Rattle.elf_dynamic.specs.declared.kinds.Dynamic.{Dynamic}
 use Rattle.rpath_search.specs.Places.{folder_of, paths}
-use Rattle.rpath_search.specs.Search.{files_of, first_good, library_at, looked_at}
+use Rattle.rpath_search.specs.Search.{first_good, library_at, looked_at}
+use Rattle.rpath_search.specs.Searching.{is_among, keys_beside}
 use Rattle.rpath_search.specs.declared.kinds.Env.{Env}
 use Rattle.rpath_search.specs.declared.kinds.Owner.{Owner}
 use Rattle.ldd_resolve.specs.declared.kinds.Item.{Item}
@@ -56,10 +56,6 @@ is_called name o = list_any (bytes_eq name) o.names
 
 abbrev pub places_of : List Loaded → List (List ℕ)
 places_of objects = map (λ o. o.real) objects
-
--- one of these places
-abbrev pub is_among : List (List ℕ) → List ℕ → Bool
-is_among places real = list_any (bytes_eq real) places
 
 abbrev pub has_name : List (List ℕ) → List ℕ → Bool
 has_name names name = list_any (bytes_eq name) names
@@ -130,7 +126,7 @@ paths_of w q = paths q.name q.chain w.env (w.cached q.name)
 -- loaded already.
 abbrev pub keys_searched : Contents → Nodes → Abi → List (List ℕ) → List (List ℕ) → List (List ℕ)
 keys_searched held t abi places all =
-    file_keys t (filter (λ real. not (is_among places real)) (files_of t (take (looked_at held t abi all) all)))
+    keys_beside t places (take (looked_at held t abi all) all)
 
 -- what the library at a place says of itself
 abbrev pub dynamic_at : Inputs → List ℕ → Option Dynamic

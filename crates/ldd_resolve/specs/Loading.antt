@@ -12,13 +12,14 @@ use Rattle.rpath_search.specs.Search.{is_library_at}
 use Rattle.rpath_search.specs.declared.kinds.Env.{Env}
 use Rattle.rpath_search.specs.declared.kinds.Found.{Found}
 use Rattle.ldd_resolve.specs.declared.loading.Loading.{Loading}
-use Rattle.ldd_resolve.specs.declared.search.Answer.{Answer}
-use Rattle.ldd_resolve.specs.declared.search.Answer.TheVariants as answer
+use Rattle.rpath_search.specs.declared.search.Answer.{Answer}
+use Rattle.rpath_search.specs.declared.search.Answer.TheVariants as answer
 use Rattle.ldd_resolve.specs.Links.{behind, reach_in}
-use Rattle.ldd_resolve.specs.Listing.{Inputs, Record, Request, is_among, is_called, is_missing, item, left, loaded, named, names_by, needed_in, owner_of, places_of, record_after, requests, soname_in, with_missing}
+use Rattle.rpath_search.specs.Searching.{AreKnown, is_among}
+use Rattle.ldd_resolve.specs.Listing.{Inputs, Record, Request, is_called, is_missing, item, left, loaded, named, names_by, needed_in, owner_of, places_of, record_after, requests, soname_in, with_missing}
 use Rattle.ldd_resolve.specs.Resolving.{members_of}
 use Rattle.ldd_resolve.specs.declared.kinds.Member.{Member}
-use Rattle.ldd_resolve.specs.Searching.{AreKnown, BeginsHeld}
+use Rattle.ldd_resolve.specs.Searching.{BeginsHeld}
 
 -- ---- the state of the code and the record
 

@@ -20,13 +20,14 @@ use Rattle.ldd_resolve.specs.declared.kinds.Member.{Member}
 use Rattle.ldd_resolve.specs.declared.kinds.Scope.{Scope}
 use Rattle.ldd_resolve.specs.declared.loading.Loading.{Loading}
 use Rattle.ldd_resolve.specs.declared.requests.Given.{Given}
-use Rattle.ldd_resolve.specs.declared.search.Answer.{Answer}
-use Rattle.ldd_resolve.specs.declared.search.Places.{Places}
+use Rattle.rpath_search.specs.declared.search.Answer.{Answer}
+use Rattle.rpath_search.specs.declared.search.LoadedFiles.{LoadedFiles}
 use Rattle.ldd_resolve.specs.Links.{behind}
 use Rattle.ldd_resolve.specs.Listing.{Inputs, Record, Request, keys_searched, left, loaded}
 use Rattle.ldd_resolve.specs.Loading.{Advances, IsSound, Stands}
-use Rattle.ldd_resolve.specs.Resolving.{IfComplete, cached_in, inputs_of, members_of, object_at, with_abi}
-use Rattle.ldd_resolve.specs.Searching.{AreKnown, Begins, Finds}
+use Rattle.ldd_resolve.specs.Resolving.{IfComplete, cached_in, env_for, inputs_of, members_of, object_at}
+use Rattle.rpath_search.specs.Searching.{AreKnown, Finds}
+use Rattle.ldd_resolve.specs.Searching.{Begins}
 
 -- ---- what the searches are given
 
@@ -41,7 +42,7 @@ abbrev pub paths_at : Given → List ℕ → Reach → List (List ℕ)
 paths_at g name reach = all_paths name g.env.now.caps reach (cached_in (option_copied g.cache) g.env.now name)
 
 -- what is known of the loaded files
-abbrev pub AreKnownBy : Option Contents → Given → Places → Type 0
+abbrev pub AreKnownBy : Option Contents → Given → LoadedFiles → Type 0
 AreKnownBy known g loaded = IfKnown known (λ held. AreKnown held g.tree.now g.env.now.abi loaded)
 
 -- what is found at the first good one of these paths
@@ -113,4 +114,4 @@ StartsSound p s = (known : Option Contents) (t : Nodes) → is_some (node_at t p
 -- By a call the record of a program alone comes to one in which no request is left, whose members and items are returned.
 abbrev pub Lists : Option Contents → Nodes → Option (List CachedEntry) → Env → Found → Result Scope SearchFault → StoreState → StoreState → Type 0
 Lists known t cache env p result old new = (keys : List (List ℕ))
-    → Advances known (inputs_of t cache (with_abi env p.object.abi)) (record_with p keys) (search_ending result) (λ r2. IfOk result (λ s. IsListed r2 s.members s.listing)) old new
+    → Advances known (inputs_of t cache (env_for env p.object.abi)) (record_with p keys) (search_ending result) (λ r2. IfOk result (λ s. IsListed r2 s.members s.listing)) old new

@@ -13,7 +13,7 @@ use Rattle.cache_lookup.specs.Scan.{scan}
 use Rattle.elf_dynamic.specs.Begun.{ReadsBy, file_keys, key_in, lacks_one}
 use Rattle.elf_dynamic.specs.Object.{object}
 use Rattle.elf_dynamic.specs.declared.kinds.Object.{Object}
-use Rattle.rpath_search.specs.Places.{from_root}
+use Rattle.rpath_search.specs.Places.{from_root, with_caps_once}
 use Rattle.rpath_search.specs.declared.kinds.Env.{Env}
 use Rattle.ldd_resolve.specs.declared.kinds.Item.{Item}
 use Rattle.ldd_resolve.specs.declared.kinds.ResolveFault.{ResolveFault}
@@ -44,8 +44,9 @@ pub record IsBadProgram (held : Contents) (t : Nodes) (word : List ℕ) (d : Def
 abbrev pub cached_in : Option (List CachedEntry) → Env → List ℕ → Option (List ℕ)
 cached_in cache env name = option_and_then (λ entries. scan entries name env.abi env.caps) cache
 
-abbrev pub with_abi : Env → Abi → Env
-with_abi env abi = record env { abi = abi }
+-- for a program of this ABI, with each hwcaps name once
+abbrev pub env_for : Env → Abi → Env
+env_for env abi = record (with_caps_once env) { abi = abi }
 
 abbrev pub inputs_of : Nodes → Option (List CachedEntry) → Env → Contents → Inputs
 inputs_of t cache env held = record { held = held; nodes = t; cached = cached_in cache env; env = env }
@@ -57,7 +58,7 @@ first_record t word real o =
 
 -- the record of a program, when so many requests were answered; the ABI is the program's
 abbrev pub record_of : Nodes → Option (List CachedEntry) → List ℕ → Env → Contents → List ℕ → Object → ℕ → Record
-record_of t cache word env held real o n = record_after (inputs_of t cache (with_abi env o.abi) held) (first_record t word real o) n
+record_of t cache word env held real o n = record_after (inputs_of t cache (env_for env o.abi) held) (first_record t word real o) n
 
 -- The program's file is held and has an object, and the fact holds of its record when no request is left.
 pub record EndsIn (t : Nodes) (cache : Option (List CachedEntry)) (word : List ℕ) (env : Env) (held : Contents) (P : Record → Type 0) : Type 0 where

@@ -7,7 +7,6 @@ mod names;
 mod printing;
 mod requests;
 mod resolving;
-mod search;
 
 pub use kinds::{Item, Listing, Member, Members, ResolveFault, Scope};
 pub use printing::listing_text;

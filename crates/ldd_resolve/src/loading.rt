@@ -6,17 +6,17 @@ ghost use Rattle.std.specs.Str.{bytes_eq};
 ghost use Rattle.lib_types.specs.declared.abi.Abi.{Abi};
 ghost use Rattle.tree_face.specs.Store.{Contents};
 ghost use Rattle.image_tree.specs.Tree.{Nodes};
-ghost use Rattle.ldd_resolve.specs.Listing.{is_among, needed_in, owner_of, soname_in};
+ghost use Rattle.rpath_search.specs.Searching.{is_among};
+ghost use Rattle.ldd_resolve.specs.Listing.{needed_in, owner_of, soname_in};
 ghost use Rattle.ldd_resolve.specs.Loading.{AddsFound, AddsMember, AddsMissing, AddsName, Grows, IsSound, IsSoundAnswer, TakesAnswer};
 ghost use Rattle.ldd_resolve.specs.Requests.{IsEven, StandsFirst, StartsSound, outsider_of};
 ghost use Rattle.ldd_resolve.specs.Searching.{IsUnloaded};
 
 use crate::kinds::{Item, Listing, Member};
 use crate::names::{add_name_at, add_names, names_by};
-use crate::search::{Answer, Places};
 use elf_dynamic::kinds::Dynamic;
 use lib_types::{NoMemory, Text, Texts};
-use rpath_search::{Env, Found, Loaders, Owner, folder_of, is_library};
+use rpath_search::{Answer, Env, Found, LoadedFiles, Loaders, Owner, folder_of, is_library};
 use std::alloc::Global;
 use std::collections::VecDeque;
 use text_set::TextSet;
@@ -25,7 +25,7 @@ use text_set::TextSet;
 #[derive(Drop)]
 pub(crate) struct Loading {
     pub loaders: Loaders,
-    pub places: Places,
+    pub places: LoadedFiles,
     /// The names by which objects are known.
     pub names: TextSet,
     /// The names that weren't found.
@@ -99,7 +99,7 @@ impl Loading {
     {
         Loading {
             loaders,
-            places: Places {
+            places: LoadedFiles {
                 loaded: TextSet::new(alloc),
                 outsider,
             },

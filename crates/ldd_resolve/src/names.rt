@@ -1,7 +1,8 @@
 //! The names of objects.
 ghost use Rattle.std.specs.Prelude.{◌≡◌, ◌<◌, ◌||◌, ℕ, List, length, map, option_to_list, set, slice_index_or, IfOk, OnOk};
 ghost use Rattle.std.specs.Option.{option_copied};
-ghost use Rattle.ldd_resolve.specs.Listing.{has_name, is_among, names_by, with_name};
+ghost use Rattle.rpath_search.specs.Searching.{is_among};
+ghost use Rattle.ldd_resolve.specs.Listing.{has_name, names_by, with_name};
 ghost use Rattle.ldd_resolve.specs.Loading.{IsNamedAt};
 
 use crate::kinds::Member;

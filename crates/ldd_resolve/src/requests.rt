@@ -7,13 +7,12 @@ ghost use Rattle.rpath_search.specs.Loaders.{reach_at};
 ghost use Rattle.ldd_resolve.specs.Loading.{Grows, IsSound};
 ghost use Rattle.ldd_resolve.specs.Requests.{Answers, AnswersAll, AreKnownBy, BeginsPaths, FindsBy, IsEven, paths_at};
 ghost use Rattle.ldd_resolve.specs.Resolving.{cached_in};
-ghost use Rattle.ldd_resolve.specs.Searching.{IsNew};
+ghost use Rattle.rpath_search.specs.Searching.{IsNew};
 
 use crate::loading::Loading;
-use crate::search::{Answer, search};
 use cache_lookup::{Counted, Sorted, lookup};
 use lib_types::{Text, Texts};
-use rpath_search::{Candidates, Env, SearchFault};
+use rpath_search::{Answer, Candidates, Env, SearchFault, search_paths};
 use std::alloc::Global;
 use tree_face::{Store, Tree};
 
@@ -48,7 +47,7 @@ fn search_name<S: Store>(
     requires number { number < length loading.now.loaders }
     requires known { AreKnownBy (S.state store.old).held given.now loading.now.places }
     ensures finds { IfOk result (FindsBy (S.state store.old).held given.now loading.now.places.loaded (paths_at given.now name.now (reach_at loading.now.loaders number))) }
-    ensures new { IfOk result (IsNew given.now.tree.now loading.now.places.loaded) }
+    ensures new { IfOk result (IsNew (S.state store.old).held given.now.tree.now given.now.env.now.abi loading.now.places.loaded) }
     ensures begins { BeginsPaths (S.state store.old).held given.now loading.now.places.loaded (paths_at given.now name.now (reach_at loading.now.loaders number))
         (search_ending result) (S.state store.old) (S.state store.new) }
 {
@@ -61,7 +60,7 @@ fn search_name<S: Store>(
         &given.env.caps,
         cached,
     )?;
-    search(
+    search_paths(
         alloc,
         given.tree,
         store,

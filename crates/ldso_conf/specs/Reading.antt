@@ -129,7 +129,7 @@ steps_in t (Misses f key) = []
 abbrev pub asked_by : (List (List ℕ) → Found → List Item) → List (List ℕ) → Step → List Item
 asked_by file before (step.Directory dir) = named dir ∷ []
 asked_by file before (step.Report report) = Reports report ∷ []
-asked_by file before (step.Include spelled real) = file before (spelled, real)
+asked_by file before (step.Include f) = file before (f.spelled, f.real)
 
 -- what steps ask for in turn: the files that one of them reads stand before the next one
 abbrev pub asked : (List (List ℕ) → Found → List Item) → List (List ℕ) → List Step → List Item

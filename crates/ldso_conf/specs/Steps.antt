@@ -36,7 +36,7 @@ directory_steps text =
 -- ---- the lines
 
 abbrev pub included : Found → Step
-included f = Include f.0 f.1
+included f = Include (record { spelled = f.0; real = f.1 })
 
 abbrev pub include_steps : Nodes → List ℕ → List ℕ → List Step
 include_steps t file patterns = flat_map (λ pattern. map included (results t file pattern)) (words_of patterns)

@@ -12,7 +12,7 @@ use crate::content::content_of;
 use crate::fault::ConfFault;
 use crate::kinds::{Conf, ConfKind};
 use crate::reader::Reader;
-use crate::steps::{Step, steps_of};
+use crate::steps::{ConfFile, Step, steps_of};
 use conf_patterns::patterns::place_of;
 use lib_types::{NoMemory, Text};
 use std::alloc::Global;
@@ -48,21 +48,20 @@ fn key_to_begin<'t>(
     tree: &'t Tree,
     reader: &mut Reader,
     left: u8,
-    spelled: &Text,
-    real: &Text,
+    file: &ConfFile,
 ) -> Result<Option<&'t [u8]>, NoMemory>
-    ensures visits { IfOk result (λ key. IsToBegin tree.now left reader.old (spelled.now, real.now) reader.new (option_copied key)) }
+    ensures visits { IfOk result (λ key. IsToBegin tree.now left reader.old (file.now.spelled, file.now.real) reader.new (option_copied key)) }
 {
-    let Some(key) = key_at(tree, real.as_bytes()) else {
-        report(alloc, reader, spelled, ConfKind::NotFile)?;
+    let Some(key) = key_at(tree, file.real.as_bytes()) else {
+        report(alloc, reader, &file.spelled, ConfKind::NotFile)?;
         return Ok(None);
     };
-    if reader.was_read(real.as_bytes()) {
-        report(alloc, reader, spelled, ConfKind::Repeated)?;
+    if reader.was_read(file.real.as_bytes()) {
+        report(alloc, reader, &file.spelled, ConfKind::Repeated)?;
         return Ok(None);
     }
     if left == 0 {
-        report(alloc, reader, spelled, ConfKind::TooDeep)?;
+        report(alloc, reader, &file.spelled, ConfKind::TooDeep)?;
         return Ok(None);
     }
     Ok(Some(key))
@@ -76,23 +75,22 @@ fn load<S: Store>(
     store: &mut S,
     reader: &mut Reader,
     key: &[u8],
-    spelled: Text,
-    real: Text,
+    file: ConfFile,
 ) -> Result<Vec<Step>, ConfFault>
-    requires { was_read reader.old.read real ≡ false }
+    requires { was_read reader.old.read file.real ≡ false }
     ensures loads { IfOk result (λ steps. IfKnown (S.state store.old).held
-        (λ held. HasLoaded tree.now (begun (spelled, real) key.now (held key.now)) reader.old reader.new steps.items)) }
+        (λ held. HasLoaded tree.now (begun (file.spelled, file.real) key.now (held key.now)) reader.old reader.new steps.items)) }
     ensures files { IfOk result (λ _. reader.new.files ≡ reader.old.files + 1) }
     ensures begun { IfOk result (λ _. (S.state store.new).begun ≡ raised (S.state store.old).begun 1) }
     ensures reads { ReadsFile key.now (S.state store.old).held (ending_of result) (S.state store.old) (S.state store.new) }
 {
     reader.count_file()?;
     let Some(content) = content_of(alloc, store, key)? else {
-        reader.report(spelled, ConfKind::TooLarge)?;
+        reader.report(file.spelled, ConfKind::TooLarge)?;
         return Ok(Vec::new(alloc));
     };
-    reader.add_read(real)?;
-    Ok(steps_of(alloc, tree, spelled.as_bytes(), &content)?)
+    reader.add_read(file.real)?;
+    Ok(steps_of(alloc, tree, file.spelled.as_bytes(), &content)?)
 }
 
 // Visits a file: reads it and takes the steps of its lines, with at most so many files in a line from here on.
@@ -103,26 +101,23 @@ fn visit<S: Store>(
     store: &mut S,
     reader: &mut Reader,
     left: u8,
-    spelled: Text,
-    real: Text,
+    file: ConfFile,
 ) -> Result<(), ConfFault>
     ensures visits { OnOk result (IfKnown (S.state store.old).held
-        (λ held. HasTaken (included tree.now held left reader.old.read (spelled, real)) reader.old reader.new)) }
+        (λ held. HasTaken (included tree.now held left reader.old.read (file.spelled, file.real)) reader.old reader.new)) }
     ensures files { OnOk result (reader.old.files ≤ reader.new.files) }
     ensures begun { OnOk result ((S.state store.new).begun ≡ raised (S.state store.old).begun (reader.new.files - reader.old.files)) }
-    ensures reads { ReadsItems (λ held. included tree.now held left reader.old.read (spelled, real)) (S.state store.old).held
+    ensures reads { ReadsItems (λ held. included tree.now held left reader.old.read (file.spelled, file.real)) (S.state store.old).held
         (ending_of result) (S.state store.old) (S.state store.new) }
 {
-    let Some(key) = key_to_begin(alloc, tree, reader, left, &spelled, &real)? else {
+    let Some(key) = key_to_begin(alloc, tree, reader, left, &file)? else {
         return Ok(());
     };
-    for step in load(alloc, tree, store, reader, key, spelled, real)? {
+    for step in load(alloc, tree, store, reader, key, file)? {
         match step {
             Step::Directory(dir) => reader.add_dir(dir)?,
             Step::Report(report) => reader.add_report(report)?,
-            Step::Include(spelled, real) => {
-                visit(alloc, tree, store, reader, left - 1, spelled, real)?
-            }
+            Step::Include(file) => visit(alloc, tree, store, reader, left - 1, file)?,
         }
     }
     Ok(())
@@ -144,14 +139,7 @@ pub fn read_conf<S: Store>(alloc: Global, tree: &Tree, store: &mut S) -> Result<
         return Ok(reader.into_conf());
     };
     let spelled = Text::copy_of(alloc, path)?;
-    visit(
-        alloc,
-        tree,
-        store,
-        &mut reader,
-        DEPTH_MAX + 1,
-        spelled,
-        real,
-    )?;
+    let file = ConfFile { spelled, real };
+    visit(alloc, tree, store, &mut reader, DEPTH_MAX + 1, file)?;
     Ok(reader.into_conf())
 }

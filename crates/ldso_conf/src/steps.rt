@@ -11,13 +11,19 @@ use lib_types::{NoMemory, Text};
 use std::alloc::Global;
 use tree_face::Tree;
 
+/// A conf file: its path as it is spelled, and the place to which that leads.
+#[derive(Drop)]
+pub(crate) struct ConfFile {
+    pub(crate) spelled: Text,
+    pub(crate) real: Text,
+}
+
 /// What one line, or one result of a pattern, asks for.
 #[derive(Drop)]
 pub(crate) enum Step {
     Directory(Text),
     Report(ConfReport),
-    /// A file is included: its path as it is spelled, and the place to which that leads.
-    Include(Text, Text),
+    Include(ConfFile),
 }
 
 fn add_report(
@@ -71,8 +77,8 @@ fn add_directory(alloc: Global, text: &[u8], steps: &mut Vec<Step>) -> Result<()
 fn add_results(found: Results, steps: &mut Vec<Step>) -> Result<(), NoMemory>
     ensures { OnOk result (steps.new.items ≡ steps.old.items ++ map included found.entries) }
 {
-    for (text, real) in found {
-        steps.push(Step::Include(text, real))?;
+    for (spelled, real) in found {
+        steps.push(Step::Include(ConfFile { spelled, real }))?;
     }
     Ok(())
 }

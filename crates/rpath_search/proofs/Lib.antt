@@ -1,3 +1,4 @@
+mod Beside
 mod Endings
 pub mod Libraries
 mod Listed

@@ -19,7 +19,10 @@ use Rattle.elf_dynamic.specs.Taken.{most_known}
 use Rattle.elf_dynamic.specs.declared.kinds.Object.{Object}
 use Rattle.elf_dynamic.proofs.BegunKeys.{one_key}
 use Rattle.elf_dynamic.specs.Begun.{ReadsBy, file_keys, key_in, lacks_one}
-use Rattle.rpath_search.specs.Search.{files_of, is_good, is_library, is_library_at, is_library_of, library_at, library_by}
+use Rattle.rpath_search.specs.Search.{is_good, is_library, is_library_at, is_library_of, library_at, library_by}
+use Rattle.rpath_search.specs.Searching.{Tries, is_among, keys_beside}
+use Rattle.rpath_search.specs.declared.kinds.Found.{Found}
+use Rattle.rpath_search.specs.declared.search.Answer.TheVariants as answer
 
 module _ (abi : Abi) (bytes : List ℕ) where
   library_is : (o : Object) → object bytes ≡ Ok o → library_by abi bytes ≡ cond (is_library abi o) (Some o) None
@@ -35,12 +38,14 @@ module _ (abi : Abi) (bytes : List ℕ) where
   pub is_either : is_some (library_by abi bytes) ≡ is_library_of abi (analysis bytes)
   is_either = either (object bytes) refl
 
--- a path is good if the file to which it leads has the object of a library
-pub good_by_object : (held : Contents) (t : Nodes) (abi : Abi) (path real : List ℕ) → file_at t path ≡ Some real → is_good held t abi path ≡ is_some (library_at held t abi real)
-good_by_object held t abi path real leads =
-    ap (λ file. option_map_or (is_library_at held t abi) file false) leads
-    ∙ elim (option_and_then held (key_in (node_at t real))) as (λ content. option_map_or (λ bytes. is_library_of abi (analysis bytes)) content false ≡ is_some (option_and_then (library_by abi) content))
+-- the file at a place is a library if it has the object of one
+pub by_object : (held : Contents) (t : Nodes) (abi : Abi) (real : List ℕ) → is_library_at held t abi real ≡ is_some (library_at held t abi real)
+by_object held t abi real =
+    elim (option_and_then held (key_in (node_at t real))) as (λ content. option_map_or (λ bytes. is_library_of abi (analysis bytes)) content false ≡ is_some (option_and_then (library_by abi) content))
     [ None ↦ refl | Some bytes ↦ sym (is_either abi bytes) ]
+
+pub is_one : (held : Contents) (t : Nodes) (abi : Abi) (real : List ℕ) (o : Object) → library_at held t abi real ≡ Some o → is_library_at held t abi real ≡ true
+is_one held t abi real o same = by_object held t abi real ∙ ap is_some same
 
 -- ---- the file at a path without links
 
@@ -94,14 +99,22 @@ module _ (t : Nodes) (abi : Abi) (real : List ℕ) (none : key_in (node_at t rea
 
 -- ---- the file to which a path leads
 
-module _ (t : Nodes) (abi : Abi) (path : List ℕ) where
-  module _ (real : List ℕ) (leads : file_at t path ≡ Some real) where
-    its_file : files_of t (path ∷ []) ≡ real ∷ []
-    its_file = ap (λ file. cons_option file []) leads
+-- its key, if it isn't loaded
+pub new_keys : (t : Nodes) (places : List (List ℕ)) (path real : List ℕ) → file_at t path ≡ Some real → is_among places real ≡ false →
+    keys_beside t places (path ∷ []) ≡ file_keys t (real ∷ [])
+new_keys t places path real leads new = rw (leads, new) refl
 
-    pub reads_file : (known : Option Contents) (e : Ending) (a b : StoreState) → ReadsBy known (file_keys t (real ∷ [])) e a b → ReadsBy known (file_keys t (files_of t (path ∷ []))) e a b
-    reads_file known e a b reads = subst (λ files. ReadsBy known (file_keys t files) e a b) (sym its_file) reads
+module _ (known : Option Contents) (t : Nodes) (abi : Abi) (places : List (List ℕ)) where
+  good_at : (held : Contents) (path real : List ℕ) → file_at t path ≡ Some real → is_good held t abi path ≡ is_some (library_at held t abi real)
+  good_at held path real leads = ap (λ file. option_map_or (is_library_at held t abi) file false) leads ∙ by_object held t abi real
 
-    pub file_good : (known : Option Contents) (found : Option Object) → IfKnown known (λ held. found ≡ library_at held t abi real) → IfKnown known (λ held. is_some found ≡ is_good held t abi path)
-    file_good None found is = tt
-    file_good (Some held) found is = ap is_some is ∙ sym (good_by_object held t abi path real leads)
+  -- a library is found
+  pub new_tries : (f : Found) → file_at t f.path ≡ Some f.real → IfKnown known (λ held. Some f.object ≡ library_at held t abi f.real) →
+      IfKnown known (λ held. Tries held t abi places f.path (Some (answer.New f)))
+  new_tries f leads object = elim known as (λ k. IfKnown k (λ held. Some f.object ≡ library_at held t abi f.real) → IfKnown k (λ held. Tries held t abi places f.path (Some (answer.New f))))
+      [ None ↦ λ o. tt | Some held ↦ λ o. (good_at held f.path f.real leads ∙ ap is_some (sym o), record { here = refl; object = sym o }) ] object
+
+  -- no library is there
+  pub none_tries : (path real : List ℕ) → file_at t path ≡ Some real → IfKnown known (λ held. None ≡ library_at held t abi real) → IfKnown known (λ held. Tries held t abi places path None)
+  none_tries path real leads object = elim known as (λ k. IfKnown k (λ held. None ≡ library_at held t abi real) → IfKnown k (λ held. Tries held t abi places path None))
+      [ None ↦ λ o. tt | Some held ↦ λ o. good_at held path real leads ∙ ap is_some (sym o) ] object

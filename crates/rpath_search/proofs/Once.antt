@@ -1,6 +1,5 @@
 -- A path that was looked at already gives nothing new.
-use Rattle.std.proofs.Common.{◌≡◌, ◌≤◌, ℕ, Bool, false, not, List, [], ◌∷◌, length, Option, Some, None, refl, sym, ap, subst, ◌∙◌}
-use Rattle.std.proofs.lemmas.List.{drop_all}
+use Rattle.std.proofs.Common.{◌≡◌, ℕ, Bool, false, not, List, [], ◌∷◌, Option, Some, None, refl, sym, subst, ◌∙◌}
 use Rattle.std.proofs.lemmas.Slice.Eq.{bytes_eq-Decides}
 use Rattle.std.specs.List.{filter, find}
 use Rattle.std.specs.Str.{bytes_eq}
@@ -9,8 +8,8 @@ use Rattle.lib_types.specs.declared.abi.Abi.{Abi}
 use Rattle.image_tree.specs.Tree.{Nodes}
 use Rattle.tree_face.specs.Known.{IfKnown}
 use Rattle.tree_face.specs.Store.{Contents}
-use Rattle.rpath_search.specs.Search.{each_once, first_good, is_good}
-use Rattle.rpath_search.specs.Trying.{IsBehind}
+use Rattle.text_set.specs.Distinct.{distinct}
+use Rattle.rpath_search.specs.Search.{first_good, is_good}
 
 module _ (good : List ℕ → Bool) where
   -- without the paths that equal one that isn't good
@@ -24,20 +23,14 @@ module _ (good : List ℕ → Bool) where
       (λ found. rw (other, found) refl)
       (λ none. rw (other, none) (found_among p bad paths)))
 
-  found_once : (paths : List (List ℕ)) → find good paths ≡ find good (each_once paths)
+  found_once : (paths : List (List ℕ)) → find good paths ≡ find good (distinct paths)
   found_once [] = refl
   found_once (p ∷ paths) = by_test (good p)
       (λ found. rw found refl)
-      (λ none. rw none (found_once paths ∙ sym (found_among p none (each_once paths))))
+      (λ none. rw none (found_once paths ∙ sym (found_among p none (distinct paths))))
 
 -- a list finds what it finds without its repetitions
 pub first_once : (known : Option Contents) (t : Nodes) (abi : Abi) (paths : List (List ℕ)) (found : Option (List ℕ)) → IfKnown known (λ held. found ≡ first_good held t abi paths) →
-    IfKnown known (λ held. found ≡ first_good held t abi (each_once paths))
+    IfKnown known (λ held. found ≡ first_good held t abi (distinct paths))
 first_once None t abi paths found first = tt
 first_once (Some held) t abi paths found first = first ∙ found_once (is_good held t abi) paths
-
--- nothing is found if all paths were passed over
-pub none_found : (known : Option Contents) (t : Nodes) (abi : Abi) (paths : List (List ℕ)) (i : ℕ) → length paths ≤ i → IfKnown known (λ held. IsBehind held t abi paths i) →
-    IfKnown known (λ held. None ≡ first_good held t abi paths)
-none_found None t abi paths i end behind = tt
-none_found (Some held) t abi paths i end behind = sym (behind.first ∙ ap (find (is_good held t abi)) (drop_all i paths end))

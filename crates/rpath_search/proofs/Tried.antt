@@ -1,37 +1,50 @@
 -- The paths are tried one after another.
-use Rattle.std.proofs.Common.{◌≡◌, ◌+◌, ◌<◌, ◌≤◌, ◌++◌, ℕ, true, false, List, [], ◌∷◌, length, take, drop, drop-cons, add-one, get_or, find, Option, Some, None, refl, ap, sym, subst, ◌∙◌, arith}
+use Rattle.std.proofs.Common.{◌≡◌, ◌+◌, ◌-◌, ◌≤◌, ◌++◌, ℕ, zero, suc, Bool, true, false, not, List, [], ◌∷◌, take, drop, filter, find, Option, Some, None, refl, ap, sym, subst, ◌∙◌, arith}
 use Rattle.std.proofs.Math.Seq.{take-add}
-use Rattle.std.proofs.lemmas.List.{drop_all, take_all}
-use Rattle.std.proofs.lemmas.List.Elements.{filter_map-append}
+use Rattle.std.proofs.lemmas.List.{append-nil}
+use Rattle.std.proofs.lemmas.List.Elements.{filter-append, filter_map-append}
 use Rattle.std.specs.List.{position_or_len}
 use Rattle.lib_types.specs.declared.abi.Abi.{Abi}
-use Rattle.tree_face.proofs.StoreUse.{IsPartial, reads_none}
+use Rattle.tree_face.proofs.StoreUse.{IsPartial, reads_all, reads_none}
 use Rattle.tree_face.specs.Known.{IfKnown}
 use Rattle.tree_face.specs.Store.{Contents, StoreState}
-use Rattle.tree_face.specs.StoreUse.{Ending, Complete}
+use Rattle.tree_face.specs.StoreUse.{Ending, Complete, DeviceFailed, GaveUp}
 use Rattle.image_tree.specs.Tree.{Nodes, node_at}
 use Rattle.path_walk.specs.Files.{file_at}
 use Rattle.elf_dynamic.proofs.BegunKeys.{keys_early, keys_then, none_lacks}
 use Rattle.elf_dynamic.specs.Begun.{ReadsBy, file_keys, key_in, lacks_one}
-use Rattle.rpath_search.specs.Search.{Searches, files_of, first_good, is_good, looked_at}
+use Rattle.rpath_search.specs.Search.{files_of, first_good, is_good, looked_at}
+use Rattle.rpath_search.specs.Searching.{AreHeld, Finds, SearchesBeside, Tries, is_among, keys_beside}
 use Rattle.rpath_search.specs.Trying.{HasTried, IsBehind}
+use Rattle.rpath_search.specs.declared.search.Answer.{Answer}
 
--- a path and those behind it
-pub next_is : (paths : List (List ℕ)) (i : ℕ) (path : List ℕ) → i < length paths → get_or paths i path ≡ path → drop i paths ≡ path ∷ drop (i + 1) paths
-next_is paths i path less e = rw (drop-cons paths i path less, e, add-one) refl
+-- behind the next path
+rest_is : (paths : List (List ℕ)) (i : ℕ) (path : List ℕ) (more : List (List ℕ)) → drop i paths ≡ path ∷ more → drop (i + 1) paths ≡ more
+rest_is [] zero path more e = absurd (cc)
+rest_is [] (suc i) path more e = absurd (cc)
+rest_is (p ∷ paths) zero path more e = let same : paths ≡ more = cc in same
+rest_is (p ∷ paths) (suc i) path more e = let next : suc i + 1 ≡ suc (i + 1) = omega arith in rw next (rest_is paths i path more e)
 
-module _ (t : Nodes) where
+held_if : (e : Ending) (held : Contents) (keys : List (List ℕ)) → IsPartial e → AreHeld held keys e
+held_if Complete held keys partial = absurd partial
+held_if DeviceFailed held keys partial = tt
+held_if GaveUp held keys partial = tt
+
+module _ (t : Nodes) (places : List (List ℕ)) where
   abbrev keys : List (List ℕ) → List (List ℕ)
-  keys paths = file_keys t (files_of t paths)
+  keys paths = keys_beside t places paths
 
   keys_append : (xs ys : List (List ℕ)) → keys (xs ++ ys) ≡ keys xs ++ keys ys
   keys_append xs ys =
-      ap (file_keys t) (filter_map-append (file_at t) xs ys)
-      ∙ filter_map-append (λ path. key_in (node_at t path)) (files_of t xs) (files_of t ys)
+      let f : List ℕ → Bool = λ real. not (is_among places real) in
+      ap (λ l. file_keys t (filter f l)) (filter_map-append (file_at t) xs ys)
+      ∙ ap (file_keys t) (filter-append f (files_of t xs) (files_of t ys))
+      ∙ filter_map-append (λ real. key_in (node_at t real)) (filter f (files_of t xs)) (filter f (files_of t ys))
 
-module _ (known : Option Contents) (t : Nodes) (abi : Abi) (paths : List (List ℕ)) where
-  pub none_tried : (s : StoreState) → HasTried known t abi paths 0 s s
-  none_tried s = record { reads = nothing known; held = none known; behind = all known }
+module _ (known : Option Contents) (t : Nodes) (abi : Abi) (places paths : List (List ℕ)) where
+  -- before the first path
+  pub none_tried : (s : StoreState) → HasTried known t abi places paths paths s s
+  none_tried s = record { count = 0; left = refl; reads = nothing known; held = none known; behind = all known }
     where
       nothing : (k : Option Contents) → ReadsBy k [] Complete s s
       nothing None = reads_none _ _ s
@@ -45,103 +58,154 @@ module _ (known : Option Contents) (t : Nodes) (abi : Abi) (paths : List (List �
       all None = tt
       all (Some held) = record { place = omega arith; first = refl }
 
-  module _ (i : ℕ) (before here : StoreState) (so_far : HasTried known t abi paths i before here) where
-    module _ (path : List ℕ) (next : drop i paths ≡ path ∷ drop (i + 1) paths) where
+  -- the search ends before it has tried more than these
+  stops : (n : ℕ) (e : Ending) (before after : StoreState) → IsPartial e → IfKnown known (λ held. n ≤ looked_at held t abi paths) →
+      ReadsBy known (keys t places (take n paths)) e before after → SearchesBeside known t abi places paths e before after
+  stops n e before after partial few reads = by known few reads
+    where
+      by : (k : Option Contents) → IfKnown k (λ held. n ≤ looked_at held t abi paths) → ReadsBy k (keys t places (take n paths)) e before after → SearchesBeside k t abi places paths e before after
+      by None few reads = record { count = n; begins = reads; exactly = tt; none_lacks = tt }
+      by (Some held) few reads =
+          let m = looked_at held t abi paths - n in
+          let split = ap (keys t places) (take-add n m paths) ∙ keys_append t places (take n paths) (take m (drop n paths)) in
+          record {
+            count = n + m;
+            begins = subst (λ ks. ReadsBy (Some held) ks e before after) (sym split)
+                (keys_early (Some held) (keys t places (take n paths)) (keys t places (take m (drop n paths))) e before after partial reads);
+            exactly = omega (arith, few);
+            none_lacks = held_if e held (keys t places (take (n + m) paths)) partial;
+          }
+
+  module _ (rest : List (List ℕ)) (before here : StoreState) (so_far : HasTried known t abi places paths rest before here) where
+    abbrev i : ℕ
+    i = so_far.count
+
+    -- out of memory before the next path
+    pub gives_up : SearchesBeside known t abi places paths GaveUp before here
+    gives_up = stops i GaveUp before here tt (few known so_far.behind) (reads_all _ _ before here _ so_far.reads)
+      where
+        few : (k : Option Contents) → IfKnown k (λ held. IsBehind held t abi paths i) → IfKnown k (λ held. i ≤ looked_at held t abi paths)
+        few None a = tt
+        few (Some held) a = let place = a.place in omega (arith, place)
+
+    module _ (path : List ℕ) (more : List (List ℕ)) (next : rest ≡ path ∷ more) where
+      at_hand : drop i paths ≡ path ∷ more
+      at_hand = so_far.left ∙ next
+
       one_more : take (i + 1) paths ≡ take i paths ++ path ∷ []
-      one_more = take-add i 1 paths ∙ ap (λ l. take i paths ++ take 1 l) next
+      one_more = take-add i 1 paths ∙ ap (λ l. take i paths ++ take 1 l) at_hand
 
-      keys_more : keys t (take (i + 1) paths) ≡ keys t (take i paths) ++ keys t (path ∷ [])
-      keys_more = ap (keys t) one_more ∙ keys_append t (take i paths) (path ∷ [])
+      keys_more : keys t places (take (i + 1) paths) ≡ keys t places (take i paths) ++ keys t places (path ∷ [])
+      keys_more = ap (keys t places) one_more ∙ keys_append t places (take i paths) (path ∷ [])
 
-      reads_more : (e : Ending) (after : StoreState) → ReadsBy known (keys t (path ∷ [])) e here after → ReadsBy known (keys t (take (i + 1) paths)) e before after
+      reads_more : (e : Ending) (after : StoreState) → ReadsBy known (keys t places (path ∷ [])) e here after → ReadsBy known (keys t places (take (i + 1) paths)) e before after
       reads_more e after reads =
           subst (λ ks. ReadsBy known ks e before after) (sym keys_more)
-          (keys_then known (keys t (take i paths)) (keys t (path ∷ [])) e before here after so_far.held so_far.reads reads)
+          (keys_then known (keys t places (take i paths)) (keys t places (path ∷ [])) e before here after so_far.held so_far.reads reads)
 
-      pub tried_on : (after : StoreState) → IfKnown known (λ held. false ≡ is_good held t abi path) → IfKnown known (λ held. lacks_one held (keys t (path ∷ [])) ≡ false)
-          → ReadsBy known (keys t (path ∷ [])) Complete here after → HasTried known t abi paths (i + 1) before after
+      held_on : (k : Option Contents) → IfKnown k (λ held. lacks_one held (keys t places (take i paths)) ≡ false) → IfKnown k (λ held. lacks_one held (keys t places (path ∷ [])) ≡ false)
+          → IfKnown k (λ held. lacks_one held (keys t places (take (i + 1) paths)) ≡ false)
+      held_on None a b = tt
+      held_on (Some held) a b = ap (lacks_one held) keys_more ∙ none_lacks held (keys t places (take i paths)) (keys t places (path ∷ [])) a b
+
+      -- the path isn't good
+      pub tried_on : (after : StoreState) → IfKnown known (λ held. is_good held t abi path ≡ false) → IfKnown known (λ held. lacks_one held (keys t places (path ∷ [])) ≡ false)
+          → ReadsBy known (keys t places (path ∷ [])) Complete here after → HasTried known t abi places paths more before after
       tried_on after bad held reads = record {
+        count = i + 1;
+        left = rest_is paths i path more at_hand;
         reads = reads_more Complete after reads;
         held = held_on known so_far.held held;
         behind = behind_on known so_far.behind bad;
       }
         where
-          held_on : (k : Option Contents) → IfKnown k (λ held. lacks_one held (keys t (take i paths)) ≡ false) → IfKnown k (λ held. lacks_one held (keys t (path ∷ [])) ≡ false)
-              → IfKnown k (λ held. lacks_one held (keys t (take (i + 1) paths)) ≡ false)
-          held_on None a b = tt
-          held_on (Some held) a b = ap (lacks_one held) keys_more ∙ none_lacks held (keys t (take i paths)) (keys t (path ∷ [])) a b
-
-          behind_on : (k : Option Contents) → IfKnown k (λ held. IsBehind held t abi paths i) → IfKnown k (λ held. false ≡ is_good held t abi path) → IfKnown k (λ held. IsBehind held t abi paths (i + 1))
+          behind_on : (k : Option Contents) → IfKnown k (λ held. IsBehind held t abi paths i) → IfKnown k (λ held. is_good held t abi path ≡ false) → IfKnown k (λ held. IsBehind held t abi paths (i + 1))
           behind_on None a b = tt
           behind_on (Some held) a b =
               let p = is_good held t abi in
-              let further : position_or_len p (path ∷ drop (i + 1) paths) ≡ 1 + position_or_len p (drop (i + 1) paths) = rw (← b) refl in
-              let same : find p (path ∷ drop (i + 1) paths) ≡ find p (drop (i + 1) paths) = rw (← b) refl in
-              let place = a.place ∙ ap (λ l. i + position_or_len p l) next in
-              record { place = omega (arith, place, further); first = a.first ∙ ap (find p) next ∙ same }
+              let tail = sym (rest_is paths i path more at_hand) in
+              let further : position_or_len p (path ∷ more) ≡ 1 + position_or_len p more = rw b refl in
+              let same : find p (path ∷ more) ≡ find p more = rw b refl in
+              let place = a.place ∙ ap (λ l. i + position_or_len p l) at_hand in
+              let behind = ap (position_or_len p) tail in
+              record { place = omega (arith, place, further, behind); first = a.first ∙ ap (find p) at_hand ∙ same ∙ ap (find p) tail }
 
       -- the path is good
-      pub found_on : (after : StoreState) → IfKnown known (λ held. true ≡ is_good held t abi path) → ReadsBy known (keys t (path ∷ [])) Complete here after → Searches known t abi paths Complete before after
-      found_on after good reads = record { count = i + 1; begins = reads_more Complete after reads; exactly = exactly known so_far.behind good }
+      pub found_on : (after : StoreState) → IfKnown known (λ held. is_good held t abi path ≡ true) → IfKnown known (λ held. lacks_one held (keys t places (path ∷ [])) ≡ false)
+          → ReadsBy known (keys t places (path ∷ [])) Complete here after → SearchesBeside known t abi places paths Complete before after
+      found_on after good held reads = record {
+        count = i + 1;
+        begins = reads_more Complete after reads;
+        exactly = exactly known so_far.behind good;
+        none_lacks = held_on known so_far.held held;
+      }
         where
-          exactly : (k : Option Contents) → IfKnown k (λ held. IsBehind held t abi paths i) → IfKnown k (λ held. true ≡ is_good held t abi path) → IfKnown k (λ held. i + 1 ≡ looked_at held t abi paths)
+          exactly : (k : Option Contents) → IfKnown k (λ held. IsBehind held t abi paths i) → IfKnown k (λ held. is_good held t abi path ≡ true) → IfKnown k (λ held. i + 1 ≡ looked_at held t abi paths)
           exactly None a b = tt
           exactly (Some held) a b =
               let p = is_good held t abi in
-              let here : position_or_len p (path ∷ drop (i + 1) paths) ≡ 0 = rw (← b) refl in
-              let place = a.place ∙ ap (λ l. i + position_or_len p l) next in
+              let here : position_or_len p (path ∷ more) ≡ 0 = rw b refl in
+              let place = a.place ∙ ap (λ l. i + position_or_len p l) at_hand in
               omega (arith, place, here)
 
-      pub first_on : IfKnown known (λ held. true ≡ is_good held t abi path) → IfKnown known (λ held. Some path ≡ first_good held t abi paths)
-      first_on good = first known so_far.behind good
+      pub finds_on : (a : Answer) → IfKnown known (λ held. Tries held t abi places path (Some a)) → IfKnown known (λ held. Finds held t abi places (first_good held t abi paths) (Some a))
+      finds_on a tries = by known so_far.behind tries
         where
-          first : (k : Option Contents) → IfKnown k (λ held. IsBehind held t abi paths i) → IfKnown k (λ held. true ≡ is_good held t abi path) → IfKnown k (λ held. Some path ≡ first_good held t abi paths)
-          first None a b = tt
-          first (Some held) a b =
+          by : (k : Option Contents) → IfKnown k (λ held. IsBehind held t abi paths i) → IfKnown k (λ held. Tries held t abi places path (Some a))
+              → IfKnown k (λ held. Finds held t abi places (first_good held t abi paths) (Some a))
+          by None behind tries = tt
+          by (Some held) behind tries =
               let p = is_good held t abi in
-              let here : find p (path ∷ drop (i + 1) paths) ≡ Some path = rw (← b) refl in
-              sym (a.first ∙ ap (find p) next ∙ here)
+              let here : find p (path ∷ more) ≡ Some path = rw tries.0 refl in
+              let first : first_good held t abi paths ≡ Some path = behind.first ∙ ap (find p) at_hand ∙ here in
+              rw first tries.1
 
       -- the search ends with this path
-      pub failed_on : (e : Ending) (after : StoreState) → IsPartial e → ReadsBy known (keys t (path ∷ [])) e here after → Searches known t abi paths e before after
-      failed_on e after partial reads = by known so_far.behind (reads_more e after reads)
+      pub failed_on : (e : Ending) (after : StoreState) → IsPartial e → ReadsBy known (keys t places (path ∷ [])) e here after → SearchesBeside known t abi places paths e before after
+      failed_on e after partial reads = stops (i + 1) e before after partial (few known so_far.behind) (reads_more e after reads)
         where
-          by : (k : Option Contents) → IfKnown k (λ held. IsBehind held t abi paths i) → ReadsBy k (keys t (take (i + 1) paths)) e before after → Searches k t abi paths e before after
-          by None a first = record { count = i + 1; begins = first; exactly = tt }
-          by (Some held) a first =
-              let m = position_or_len (is_good held t abi) (drop i paths) in
-              let place = a.place in
-              let split = ap (keys t) (take-add (i + 1) m paths) ∙ keys_append t (take (i + 1) paths) (take m (drop (i + 1) paths)) in
-              record {
-                count = (i + 1) + m;
-                begins = subst (λ ks. ReadsBy (Some held) ks e before after) (sym split)
-                    (keys_early (Some held) (keys t (take (i + 1) paths)) (keys t (take m (drop (i + 1) paths))) e before after partial first);
-                exactly = omega (arith, place);
-              }
+          few : (k : Option Contents) → IfKnown k (λ held. IsBehind held t abi paths i) → IfKnown k (λ held. i + 1 ≤ looked_at held t abi paths)
+          few None a = tt
+          few (Some held) a = let place = a.place in omega (arith, place)
 
     -- all paths were tried
-    module _ (end : length paths ≤ i) where
+    module _ (end : rest ≡ []) where
       none_left : drop i paths ≡ []
-      none_left = drop_all i paths end
+      none_left = so_far.left ∙ end
 
-      pub all_tried : Searches known t abi paths Complete before here
-      all_tried = by known so_far.behind so_far.reads
+      pub all_tried : SearchesBeside known t abi places paths Complete before here
+      all_tried = by known so_far.behind so_far.held so_far.reads
         where
-          by : (k : Option Contents) → IfKnown k (λ held. IsBehind held t abi paths i) → ReadsBy k (keys t (take i paths)) Complete before here → Searches k t abi paths Complete before here
-          by None a reads = record { count = i; begins = reads; exactly = tt }
-          by (Some held) a reads =
+          by : (k : Option Contents) → IfKnown k (λ held. IsBehind held t abi paths i) → IfKnown k (λ held. lacks_one held (keys t places (take i paths)) ≡ false)
+              → ReadsBy k (keys t places (take i paths)) Complete before here → SearchesBeside k t abi places paths Complete before here
+          by None a none reads = record { count = i; begins = reads; exactly = tt; none_lacks = tt }
+          by (Some held) a none reads =
               let p = is_good held t abi in
               let place = a.place ∙ ap (λ l. i + position_or_len p l) none_left in
-              let same : take (i + 1) paths ≡ take i paths = take_all (i + 1) paths (omega (arith, end)) ∙ sym (take_all i paths end) in
+              let same : take (i + 1) paths ≡ take i paths = take-add i 1 paths ∙ ap (λ l. take i paths ++ take 1 l) none_left ∙ append-nil (take i paths) in
               record {
                 count = i + 1;
-                begins = subst (λ l. ReadsBy (Some held) (keys t l) Complete before here) (sym same) reads;
+                begins = subst (λ l. ReadsBy (Some held) (keys t places l) Complete before here) (sym same) reads;
                 exactly = omega (arith, place);
+                none_lacks = rw same none;
               }
 
-      pub none_good : IfKnown known (λ held. None ≡ first_good held t abi paths)
-      none_good = by known so_far.behind
+      pub finds_none : IfKnown known (λ held. Finds held t abi places (first_good held t abi paths) None)
+      finds_none = by known so_far.behind
         where
-          by : (k : Option Contents) → IfKnown k (λ held. IsBehind held t abi paths i) → IfKnown k (λ held. None ≡ first_good held t abi paths)
+          by : (k : Option Contents) → IfKnown k (λ held. IsBehind held t abi paths i) → IfKnown k (λ held. Finds held t abi places (first_good held t abi paths) None)
           by None a = tt
-          by (Some held) a = sym (a.first ∙ ap (find (is_good held t abi)) none_left)
+          by (Some held) a =
+              let first : first_good held t abi paths ≡ None = a.first ∙ ap (find (is_good held t abi)) none_left in
+              rw first tt
+
+-- what was found says whether the path is good
+pub good_answer : (known : Option Contents) (t : Nodes) (abi : Abi) (places : List (List ℕ)) (path : List ℕ) (a : Answer) →
+    IfKnown known (λ held. Tries held t abi places path (Some a)) → IfKnown known (λ held. is_good held t abi path ≡ true)
+good_answer None t abi places path a tries = tt
+good_answer (Some held) t abi places path a tries = tries.0
+
+pub no_answer : (known : Option Contents) (t : Nodes) (abi : Abi) (places : List (List ℕ)) (path : List ℕ) →
+    IfKnown known (λ held. Tries held t abi places path None) → IfKnown known (λ held. is_good held t abi path ≡ false)
+no_answer None t abi places path tries = tt
+no_answer (Some held) t abi places path tries = tries

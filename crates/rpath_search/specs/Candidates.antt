@@ -45,7 +45,7 @@ paths_behind s =
     ++ flat_map (paths_in s.name.now s.caps.now) (drop s.defaults system_dirs)
 
 abbrev pub paths_left : Candidates → List (List ℕ)
-paths_left s = option_to_list s.whole ++ paths_at s.name.now s.at ++ paths_behind s
+paths_left s = s.listed.now ++ option_to_list s.whole ++ paths_at s.name.now s.at ++ paths_behind s
 
 -- the first of the paths, if there is one, and the others
 abbrev pub IsNext : Option (List ℕ) → List (List ℕ) → List (List ℕ) → Type 0

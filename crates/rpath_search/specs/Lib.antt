@@ -4,4 +4,5 @@ pub mod Listed
 pub mod Loaders
 pub mod Places
 pub mod Search
+pub mod Searching
 pub mod Trying

@@ -5,6 +5,7 @@ use Rattle.std.specs.Option.{option_map_or}
 use Rattle.conf_patterns.specs.Bytes.{is_in, slashes, without_end}
 use Rattle.hwcap_dirs.specs.Places.{system_dirs}
 use Rattle.lib_types.specs.Abi.{lib_of}
+use Rattle.text_set.specs.Distinct.{distinct}
 use Rattle.origin_expand.specs.Tokens.{expanded, value_of}
 use Rattle.image_tree.specs.Paths.{is_below, is_slash, root}
 use Rattle.rpath_search.specs.declared.kinds.Env.{Env}
@@ -115,6 +116,10 @@ paths_by name caps reach cached =
     ++ flat_map (paths_in name caps) (default_dirs reach)
 
 -- ---- the list
+
+-- with each hwcaps name once: of a repeated one the first counts
+abbrev pub with_caps_once : Env → Env
+with_caps_once env = record env { caps = distinct env.caps }
 
 abbrev pub searched : List ℕ → Env → List Owner → Option (List ℕ) → List (List ℕ)
 searched name env [] cached = []

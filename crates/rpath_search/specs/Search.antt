@@ -1,8 +1,7 @@
 -- The library that a search finds (ld.so(8)): that of the first path which leads to a library of the program's ABI.
-use Rattle.std.specs.Prelude.{◌≡◌, ℕ, ◌+◌, ◌==◌, Bool, true, false, not, if◌then◌else◌, List, [], ◌∷◌, filter, take, find, Option, Some, None, Result, Ok, Err}
+use Rattle.std.specs.Prelude.{◌≡◌, ℕ, ◌+◌, ◌==◌, Bool, true, false, if◌then◌else◌, List, take, find, Option, Some, None, Result, Ok, Err}
 use Rattle.std.specs.List.{filter_map, position_or_len}
 use Rattle.std.specs.Option.{option_and_then, option_map_or}
-use Rattle.std.specs.Str.{bytes_eq}
 use Rattle.lib_types.specs.Abi.{flags_of}
 use Rattle.lib_types.specs.declared.abi.Abi.{Abi}
 use Rattle.lib_types.specs.declared.analysis.Analysis.{Analysis}
@@ -42,11 +41,6 @@ is_good held t abi path = option_map_or (is_library_at held t abi) (file_at t pa
 -- the path that the search gives
 abbrev pub first_good : Contents → Nodes → Abi → List (List ℕ) → Option (List ℕ)
 first_good held t abi paths = find (is_good held t abi) paths
-
--- a list without its repetitions: of equal paths the first stays
-abbrev pub each_once : List (List ℕ) → List (List ℕ)
-each_once [] = []
-each_once (path ∷ paths) = path ∷ filter (λ other. not (bytes_eq path other)) (each_once paths)
 
 -- ---- what a library says of itself
 

@@ -6,16 +6,19 @@ use Rattle.tree_face.specs.Known.{IfKnown}
 use Rattle.tree_face.specs.Store.{Contents, StoreState}
 use Rattle.tree_face.specs.StoreUse.{Complete}
 use Rattle.image_tree.specs.Tree.{Nodes}
-use Rattle.elf_dynamic.specs.Begun.{ReadsBy, file_keys, lacks_one}
-use Rattle.rpath_search.specs.Search.{files_of, is_good}
+use Rattle.elf_dynamic.specs.Begun.{ReadsBy, lacks_one}
+use Rattle.rpath_search.specs.Search.{is_good}
+use Rattle.rpath_search.specs.Searching.{keys_beside}
 
 -- the first good path is one of the others
 pub record IsBehind (held : Contents) (t : Nodes) (abi : Abi) (paths : List (List ℕ)) (i : ℕ) : Type 0 where
   pub place : position_or_len (is_good held t abi) paths ≡ i + position_or_len (is_good held t abi) (drop i paths)
   pub first : find (is_good held t abi) paths ≡ find (is_good held t abi) (drop i paths)
 
--- the first i paths were tried, and none of them is good
-pub record HasTried (known : Option Contents) (t : Nodes) (abi : Abi) (paths : List (List ℕ)) (i : ℕ) (before here : StoreState) : Type 0 where
-  pub reads : ReadsBy known (file_keys t (files_of t (take i paths))) Complete before here
-  pub held : IfKnown known (λ held. lacks_one held (file_keys t (files_of t (take i paths))) ≡ false)
-  pub behind : IfKnown known (λ held. IsBehind held t abi paths i)
+-- some first paths were tried, none of them is good, and these are left
+pub record HasTried (known : Option Contents) (t : Nodes) (abi : Abi) (places paths rest : List (List ℕ)) (before here : StoreState) : Type 0 where
+  pub count : ℕ
+  pub left : drop count paths ≡ rest
+  pub reads : ReadsBy known (keys_beside t places (take count paths)) Complete before here
+  pub held : IfKnown known (λ held. lacks_one held (keys_beside t places (take count paths)) ≡ false)
+  pub behind : IfKnown known (λ held. IsBehind held t abi paths count)

@@ -157,11 +157,20 @@ fn tried<'a>(cached: Option<&'a [u8]>, nodeflib: bool) -> Option<&'a [u8]>
     Some(path)
 }
 
+// The first path of a list, and those behind it.
+fn split_list<'a>(list: &'a [Text]) -> Option<(&'a Text, &'a [Text])>
+    ensures { MatchOption result (list.entry.now ≡ []) (λ r. list.entry.now ≡ r.0.now ∷ r.1.now) }
+{
+    list.split_first()
+}
+
 /// The paths at which a name is searched, in their order. None is made before it is asked for.
 #[derive(Drop)]
 pub struct Candidates<'a> {
     name: &'a [u8],
     caps: &'a [Text],
+    // Paths that are given as a list.
+    listed: &'a [Text],
     // The one path of a name with a slash.
     whole: Option<Text>,
     at: Option<At<'a>>,
@@ -172,6 +181,23 @@ pub struct Candidates<'a> {
 }
 
 impl<'a> Candidates<'a> {
+    /// The paths of a list.
+    pub(crate) fn of_list(loaders: &'a Loaders, list: &'a [Text]) -> Candidates<'a>
+        ensures left { paths_left result ≡ list.entry.now }
+        ensures inside { IsInside result.first }
+    {
+        Candidates {
+            name: b"",
+            caps: &[],
+            listed: list,
+            whole: None,
+            at: None,
+            first: FirstDirs::none(loaders),
+            cached: None,
+            defaults: DEFAULT_DIRS,
+        }
+    }
+
     fn of_whole(loaders: &'a Loaders, name: &'a [u8], path: Text) -> Candidates<'a>
         ensures left { paths_left result ≡ path ∷ [] }
         ensures inside { IsInside result.first }
@@ -179,6 +205,7 @@ impl<'a> Candidates<'a> {
         Candidates {
             name,
             caps: &[],
+            listed: &[],
             whole: Some(path),
             at: None,
             first: FirstDirs::none(loaders),
@@ -203,6 +230,7 @@ impl<'a> Candidates<'a> {
         Candidates {
             name,
             caps: caps.as_slice(),
+            listed: &[],
             whole: None,
             at: None,
             first: FirstDirs::of(loaders, number),
@@ -247,6 +275,10 @@ impl<'a> Candidates<'a> {
         ensures next { IfOk result (λ path. IsNext path (paths_left self.old) (paths_left self.new)) }
         ensures inside { IsInside self.new.first }
     {
+        if let Some((path, rest)) = split_list(self.listed) {
+            self.listed = rest;
+            return Ok(Some(Text::copy_of(alloc, path.as_bytes())?));
+        }
         if let Some(path) = self.whole.take() {
             return Ok(Some(path));
         }

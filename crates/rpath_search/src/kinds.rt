@@ -7,7 +7,7 @@ use lib_types::{Abi, Seq, Text, Texts};
 pub struct Env {
     /// The program's.
     pub abi: Abi,
-    /// The hwcaps names that the processor has, the preferred one first.
+    /// The hwcaps names that the processor has, the preferred one first. Of a repeated one the first counts.
     pub caps: Texts,
     /// `LD_LIBRARY_PATH`: directories between colons and semicolons; empty, if there is none.
     pub library_path: Text,

@@ -16,4 +16,4 @@ pub use kinds::{Chain, Env, Found, Owner};
 pub use listing::places;
 pub use loaders::Loaders;
 pub use paths::{folder_of, from_root};
-pub use search::{find, is_library, key_at, library_at};
+pub use search::{Answer, LoadedFiles, find, is_library, key_at, library_at, search_paths};

@@ -3,7 +3,7 @@ ghost use Rattle.std.specs.Prelude.{◌≡◌, ◌<◌, length, IfOk};
 ghost use Rattle.std.specs.Option.{option_copied};
 ghost use Rattle.rpath_search.specs.Candidates.{IsInside, paths_left};
 ghost use Rattle.rpath_search.specs.Listed.{HasLast};
-ghost use Rattle.rpath_search.specs.Places.{paths};
+ghost use Rattle.rpath_search.specs.Places.{paths, with_caps_once};
 
 use crate::candidates::Candidates;
 use crate::kinds::{Chain, Env, Owner};
@@ -11,6 +11,7 @@ use crate::loaders::Loaders;
 use crate::paths::from_root;
 use lib_types::{NoMemory, Texts, has_byte};
 use std::alloc::Global;
+use text_set::distinct;
 
 // The objects of a chain, the program first.
 fn loaders_of(alloc: Global, env: &Env, owners: &[Owner]) -> Result<Loaders, NoMemory>
@@ -41,7 +42,7 @@ fn collected(alloc: Global, candidates: Candidates<'_>) -> Result<Texts, NoMemor
 }
 
 /// The paths at which the loader looks for a name that the first object of a chain needs, in their order. `cached` is the path that
-/// the cache has for the name.
+/// the cache has for the name. Of a hwcaps name that stands in `caps` again the first counts, so no directory comes twice by it.
 ///
 /// They take memory in proportion to the chain's items and to `caps`, for each name again.
 #[tactic(auto, unfolding(crate::specs::Places::paths))]
@@ -52,7 +53,7 @@ pub fn places(
     env: &Env,
     cached: Option<&[u8]>,
 ) -> Result<Texts, NoMemory>
-    ensures { IfOk result (λ list. list ≡ paths name.now chain.now env.now (option_copied cached.entry)) }
+    ensures { IfOk result (λ list. list ≡ paths name.now chain.now (with_caps_once env.now) (option_copied cached.entry)) }
 {
     if has_byte(b'/', name) {
         let mut paths = Texts::new(alloc);
@@ -64,6 +65,7 @@ pub fn places(
     }
     let loaders = loaders_of(alloc, env, chain.as_slice())?;
     let last = loaders.len() - 1;
-    let candidates = Candidates::new(alloc, &loaders, last, name, &env.caps, cached)?;
+    let caps = distinct(alloc, &env.caps)?;
+    let candidates = Candidates::new(alloc, &loaders, last, name, &caps, cached)?;
     collected(alloc, candidates)
 }

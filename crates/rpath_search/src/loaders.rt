@@ -64,6 +64,16 @@ impl Loaders {
         Ok(Loaders { library, links })
     }
 
+    /// No object. It takes no memory.
+    pub(crate) fn empty(alloc: Global) -> Loaders
+        ensures { result ≡ [] }
+    {
+        Loaders {
+            library: Texts::new(alloc),
+            links: Vec::new(alloc),
+        }
+    }
+
     /// How many there are.
     pub fn len(&self) -> usize
         ensures { result ≡ length self.now }

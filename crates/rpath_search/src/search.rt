@@ -1,23 +1,69 @@
 //! Which file is taken.
-ghost use Rattle.std.specs.Prelude.{◌≡◌, ◌∷◌, [], true, false, IfOk, IfSome, is_some, option_map};
+ghost use Rattle.std.specs.Prelude.{◌≡◌, ◌∷◌, [], None, true, false, IfOk, IfSome, is_some, option_map};
 ghost use Rattle.std.specs.Option.{option_copied};
 ghost use Rattle.elf_dynamic.specs.Begun.{ReadsBy, file_keys, key_in, lacks_one};
 ghost use Rattle.elf_dynamic.specs.Faults.{HasName};
 ghost use Rattle.tree_face.specs.Known.{IfKnown};
 ghost use Rattle.image_tree.specs.Tree.{node_at};
+ghost use Rattle.text_set.specs.Distinct.{distinct};
+ghost use Rattle.rpath_search.specs.Candidates.{IsInside, paths_left};
 ghost use Rattle.rpath_search.specs.Faults.{search_ending};
-ghost use Rattle.rpath_search.specs.Search.{IsFound, Searches, each_once, files_of, first_good, is_good, is_library, library_at};
+ghost use Rattle.rpath_search.specs.Search.{IsFound, Searches, first_good, is_library, library_at};
+ghost use Rattle.rpath_search.specs.Searching.{AreKnown, Finds, IsNew, SearchesBeside, Tries, is_outsider, keys_beside};
 
+use crate::candidates::Candidates;
 use crate::fault::SearchFault;
 use crate::kinds::Found;
+use crate::loaders::Loaders;
 use elf_dynamic::kinds::Object;
 use elf_dynamic::{ObjectFault, object};
 use lib_types::{Abi, Text, Texts};
 use path_walk::file_at;
 use std::alloc::Global;
+use text_set::TextSet;
 use tree_face::{Node, Store, Tree};
 
 const ET_EXEC: u16 = 2;
+
+/// The files that are loaded, by their paths without links.
+#[derive(Drop)]
+pub struct LoadedFiles {
+    /// In the order of the objects.
+    pub loaded: TextSet,
+    /// The program, if it is no library of its ABI: a path that leads there is passed over.
+    pub outsider: Option<Text>,
+}
+
+/// What a search gives.
+#[derive(Drop)]
+pub enum Answer {
+    /// The file with this number, which is loaded already.
+    Loaded(usize),
+    New(Found),
+}
+
+impl LoadedFiles {
+    /// No file. It takes no memory.
+    pub fn none(alloc: Global) -> LoadedFiles
+        ensures loaded { result.loaded ≡ [] }
+        ensures outsider { result.outsider ≡ None }
+    {
+        LoadedFiles {
+            loaded: TextSet::new(alloc),
+            outsider: None,
+        }
+    }
+
+    // Whether the file is the program that is no library.
+    fn is_outsider(&self, real: &[u8]) -> bool
+        ensures { result ≡ is_outsider self.now.outsider real.now }
+    {
+        match &self.outsider {
+            Some(outsider) => real == outsider.as_bytes(),
+            None => false,
+        }
+    }
+}
 
 /// The key of the file at a path without links.
 pub fn key_at<'a>(tree: &'a Tree, real: &[u8]) -> Option<&'a [u8]>
@@ -71,30 +117,61 @@ pub fn library_at<S: Store>(
     }
 }
 
-// What is found at one path.
-fn find_at<S: Store>(
+// What is found at one path, if it is good. A file that is loaded isn't read.
+fn try_path<S: Store>(
     alloc: Global,
     tree: &Tree,
     store: &mut S,
-    path: &[u8],
+    files: &LoadedFiles,
+    path: Text,
     abi: Abi,
-) -> Result<Option<Found>, SearchFault>
-    ensures good { IfOk result (λ f. IfKnown (S.state store.old).held (λ held. is_some f ≡ is_good held tree.now abi path.now)) }
-    ensures path { IfOk result (λ f. IfSome f (λ f. f.path ≡ path.now)) }
-    ensures found { IfOk result (λ f. IfSome f (IsFound (S.state store.old).held tree.now abi)) }
-    ensures held { IfOk result (λ _. IfKnown (S.state store.old).held
-        (λ held. lacks_one held (file_keys tree.now (files_of tree.now (path.now ∷ []))) ≡ false)) }
-    ensures reads { ReadsBy (S.state store.old).held (file_keys tree.now (files_of tree.now (path.now ∷ []))) (search_ending result)
+) -> Result<Option<Answer>, SearchFault>
+    requires { IfKnown (S.state store.old).held (λ held. AreKnown held tree.now abi files.now) }
+    ensures tries { IfOk result (λ a. IfKnown (S.state store.old).held (λ held. Tries held tree.now abi files.now.loaded path a)) }
+    ensures new { IfOk result (IsNew (S.state store.old).held tree.now abi files.now.loaded) }
+    ensures held { IfOk result (λ _. IfKnown (S.state store.old).held (λ held. lacks_one held (keys_beside tree.now files.now.loaded (path ∷ [])) ≡ false)) }
+    ensures reads { ReadsBy (S.state store.old).held (keys_beside tree.now files.now.loaded (path ∷ [])) (search_ending result)
         (S.state store.old) (S.state store.new) }
 {
-    let Some(real) = file_at(alloc, tree, path)? else {
+    let Some(real) = file_at(alloc, tree, path.as_bytes())? else {
         return Ok(None);
     };
-    let path = Text::copy_of(alloc, path)?;
+    if let Some(number) = files.loaded.index_of(real.as_bytes()) {
+        if files.is_outsider(real.as_bytes()) {
+            return Ok(None);
+        }
+        return Ok(Some(Answer::Loaded(number)));
+    }
     match library_at(alloc, tree, store, real.as_bytes(), abi)? {
-        Some(object) => Ok(Some(Found { path, real, object })),
+        Some(object) => Ok(Some(Answer::New(Found { path, real, object }))),
         None => Ok(None),
     }
+}
+
+/// What is found at the first good one of these paths. No file that is loaded is read.
+pub fn search_paths<S: Store>(
+    alloc: Global,
+    tree: &Tree,
+    store: &mut S,
+    files: &LoadedFiles,
+    paths: Candidates<'_>,
+    abi: Abi,
+) -> Result<Option<Answer>, SearchFault>
+    requires known { IfKnown (S.state store.old).held (λ held. AreKnown held tree.now abi files.now) }
+    requires inside { IsInside paths.first }
+    ensures finds { IfOk result (λ a. IfKnown (S.state store.old).held
+        (λ held. Finds held tree.now abi files.now.loaded (first_good held tree.now abi (paths_left paths.entry)) a)) }
+    ensures new { IfOk result (IsNew (S.state store.old).held tree.now abi files.now.loaded) }
+    ensures searches { SearchesBeside (S.state store.old).held tree.now abi files.now.loaded (paths_left paths.entry) (search_ending result)
+        (S.state store.old) (S.state store.new) }
+{
+    let mut left = paths;
+    while let Some(path) = left.next_path(alloc)? {
+        if let Some(answer) = try_path(alloc, tree, store, files, path, abi)? {
+            return Ok(Some(answer));
+        }
+    }
+    Ok(None)
 }
 
 /// The first of these paths that leads to a library of the ABI, with what the library says of itself. Every other path is passed over, so
@@ -109,14 +186,15 @@ pub fn find<S: Store>(
     ensures first { IfOk result (λ f. IfKnown (S.state store.old).held
         (λ held. option_map (λ f. f.path) f ≡ first_good held tree.now abi places.now)) }
     ensures once { IfOk result (λ f. IfKnown (S.state store.old).held
-        (λ held. option_map (λ f. f.path) f ≡ first_good held tree.now abi (each_once places.now))) }
+        (λ held. option_map (λ f. f.path) f ≡ first_good held tree.now abi (distinct places.now))) }
     ensures found { IfOk result (λ f. IfSome f (IsFound (S.state store.old).held tree.now abi)) }
     ensures searches { Searches (S.state store.old).held tree.now abi places.now (search_ending result) (S.state store.old) (S.state store.new) }
 {
-    for path in places.as_slice() {
-        if let Some(found) = find_at(alloc, tree, store, path.as_bytes(), abi)? {
-            return Ok(Some(found));
-        }
+    let files = LoadedFiles::none(alloc);
+    let loaders = Loaders::empty(alloc);
+    let paths = Candidates::of_list(&loaders, places.as_slice());
+    match search_paths(alloc, tree, store, &files, paths, abi)? {
+        Some(Answer::New(found)) => Ok(Some(found)),
+        Some(Answer::Loaded(_)) | None => Ok(None),
     }
-    Ok(None)
 }

@@ -55,5 +55,5 @@ replaced_edited (suc n) image some = stays_replaced (files_from (next (next (suc
 pub writes_all : (held : Contents) (s : Loaded) (texts : UpdateTexts) → AreTextsOf held s texts → s.edited ≡ true → slots_of (writes_of texts) ≡ update_slots
 unfolding new_manifest
 writes_all held s texts are edited =
-    let written : texts.manifest ≡ Some (canon (planned_in held s.tree)) = are.manifest_is ∙ ap (λ b. manifest_with b (planned_in held s.tree) (links_in held s.tree)) edited in
+    let written : texts.manifest ≡ Some (canon (planned_in held s.tree s.stamps)) = are.manifest_is ∙ ap (λ b. manifest_with b (planned_in held s.tree s.stamps) (links_in held s.tree s.stamps)) edited in
     ap (λ m. slots_of (of_manifest m ++ (Cache, texts.cache) ∷ (Aux, texts.aux) ∷ [])) written

@@ -1,4 +1,4 @@
--- Both images of a sample are honest: the inode of a file says which library it has, and so what its key is.
+-- Both images of a sample meet the assumption on identities: the inode of a file says which library it has, and so what its key is.
 use Rattle.std.proofs.Common.{◌≡◌, ◌<◌, ◌≤◌, ◌+◌, ◌-◌, ◌++◌, ℕ, zero, suc, Bool, true, false, nat_lt, List, [], ◌∷◌, All, fold, Option, Some, None, codes, refl, ap, sym, subst, ◌∙◌, if◌then◌else◌, arith}
 use Rattle.std.proofs.lemmas.List.Elements.{All-cons, All-head, All-nil, All-tail}
 use Rattle.std.proofs.lemmas.Map.Views.{All-map-remove_entry, All-values-insert_entry, IfSome-lookup_from_All}
@@ -7,7 +7,7 @@ use Rattle.std.specs.Fmt.{decimal}
 use Rattle.std.specs.Map.{values_of}
 use Rattle.std.specs.Option.{is_some, option_and_then}
 use Rattle.std.specs.Prelude.{IfSome, ⊤}
-use Rattle.aux_cache.specs.Stamps.{stamp_of}
+use Rattle.aux_cache.specs.declared.stamps.Stamp.{Stamp}
 use Rattle.elf_dynamic.specs.Begun.{key_in}
 use Rattle.image_tree.specs.Paths.{path_cmp}
 use Rattle.image_tree.specs.Tree.{Nodes, node_at, put, remove}
@@ -17,19 +17,18 @@ use Rattle.image_tree.specs.declared.node.Node.TheVariants.{Dir, File, Link}
 use Rattle.ldconfig_core.specs.Settled.{planned_image}
 use Rattle.loaded_image.specs.Edit.{without_node}
 use Rattle.loaded_image.specs.Session.{Loaded}
-use Rattle.searched_image.specs.Ldconfig.{library_paths, links_in, planned_in, stamps_in}
-use Rattle.stamped_files.proofs.Truth.{true_made}
-use Rattle.stamped_files.specs.Stamped.{AreSame, AreTrue, content_of, id_at, id_in, of_stamp}
-use Rattle.stamped_files.specs.Files.{what_is}
+use Rattle.searched_image.proofs.Honest.{none_true, said_law, stamps_true}
+use Rattle.searched_image.specs.Laws.{IsSaidRight}
+use Rattle.searched_image.specs.Ldconfig.{links_in, planned_in, stamps_in}
+use Rattle.stamped_files.specs.Stamped.{AreSame, AreTrue, content_of, id_at, id_in}
 use Rattle.tree_face.specs.Store.{Contents}
 use Rattle.sample_runs.specs.declared.files.SampleFile.{SampleFile}
 use Rattle.sample_runs.specs.Files.{files_from, has_hwcaps_file, hwcaps_path, is_replaced, key, library_path, next, sample_files}
 use Rattle.sample_runs.specs.Images.{empty_image, first_image, node_of, second_image, with_files, with_hwcaps_file, with_library, with_newer, with_replaced}
-use Rattle.sample_runs.specs.Updates.{IsHonest}
 
 -- ---- keys by identities
 
--- which library, by the inode of one of its files: those for processors have the inodes behind the others
+-- which library, by the inode of one of its files: those for processors have the inodes after the others
 abbrev index_of : ℕ → ℕ → ℕ
 index_of n inode = if nat_lt n inode then inode - (n + 1) else inode - 1
 
@@ -61,9 +60,9 @@ module _ (n : ℕ) where
   own_steps step keeps (a ∷ more) t own = own_steps step keeps more (step t a) (keeps t a own)
 
   -- planned links have no identities
-  own_planned : (held : Contents) (t : Nodes) → HaveOwnKeys n t → HaveOwnKeys n (planned_in held t)
+  own_planned : (held : Contents) (t : Nodes) (loaded : List Stamp) → HaveOwnKeys n t → HaveOwnKeys n (planned_in held t loaded)
   unfolding planned_in
-  own_planned held t own = own_steps _ (λ u planned kept. own_put u planned.path (Link planned.file) kept tt) (links_in held t) t own
+  own_planned held t loaded own = own_steps _ (λ u planned kept. own_put u planned.path (Link planned.file) kept tt) (links_in held t loaded) t own
 
   -- the content of a file with an identity is that of the identity's key
   content_is : (held : Contents) (t : Nodes) (path : List ℕ) (id : Id) → HaveOwnKeys n t → id_at t path ≡ Some id → content_of held t path ≡ held (key_of n id)
@@ -146,7 +145,7 @@ module _ (n : ℕ) where
 
   second_own : (held : Contents) → HaveOwnKeys n (second_image held n).tree
   unfolding second_image
-  second_own held = all_own_replaced (sample_files n) (planned_image held (first_image n)) (all_are n) (own_planned n held (first_image n).tree first_own)
+  second_own held = all_own_replaced (sample_files n) (planned_image held (first_image n)) (all_are n) (own_planned n held (first_image n).tree (first_image n).stamps first_own)
 
 -- ---- stamps
 
@@ -165,7 +164,7 @@ first_stamps n = by (sample_files n) empty_image refl
     by [] image none = none
     by (file ∷ files) image none = by files (with_files n image file) (one image file ∙ none)
 
-second_stamps : (held : Contents) (n : ℕ) → (second_image held n).stamps ≡ stamps_in held (first_image n).tree
+second_stamps : (held : Contents) (n : ℕ) → (second_image held n).stamps ≡ stamps_in held (first_image n).tree (first_image n).stamps
 unfolding second_image
 second_stamps held n = by (sample_files n) (planned_image held (first_image n))
   where
@@ -180,29 +179,23 @@ second_stamps held n = by (sample_files n) (planned_image held (first_image n))
     by [] image = refl
     by (file ∷ files) image = by files (with_replaced image file) ∙ one image file
 
-none_true : (held : Contents) (t : Nodes) → AreTrue held t []
-none_true held t path = by (id_at t path)
-  where
-    by : (i : Option Id) → IfSome (option_and_then (stamp_of []) i) (λ s. what_is held t path ≡ Some (of_stamp s))
-    by None = tt
-    by (Some id) = tt
-
--- the stamps that an update makes of the first tree are true of each tree of such files
-made_true : (held : Contents) (t u : Nodes) → AreSame held t u → AreTrue held u (stamps_in held t)
-unfolding stamps_in
-made_true held t u same = true_made held u t same (library_paths held t)
-
 -- ---- both images
 
-pub first_honest : (held : Contents) (n : ℕ) → IsHonest held (first_image n)
-first_honest held n = record {
-  are_true = subst (λ stamps. AreTrue held (first_image n).tree stamps) (sym (first_stamps n)) (none_true held (first_image n).tree);
-  same = are_same n held (first_image n).tree (first_image n).tree (first_own n) (first_own n);
-}
+first_true : (held : Contents) (n : ℕ) → AreTrue held (first_image n).tree (first_image n).stamps
+first_true held n = subst (λ stamps. AreTrue held (first_image n).tree stamps) (sym (first_stamps n)) (none_true held (first_image n).tree)
 
-pub second_honest : (held : Contents) (n : ℕ) → IsHonest held (second_image held n)
-second_honest held n = record {
-  are_true = subst (λ stamps. AreTrue held (second_image held n).tree stamps) (sym (second_stamps held n))
-      (made_true held (first_image n).tree (second_image held n).tree (are_same n held (first_image n).tree (second_image held n).tree (first_own n) (second_own n held)));
-  same = are_same n held (second_image held n).tree (second_image held n).tree (second_own n held) (second_own n held);
-}
+first_same : (held : Contents) (n : ℕ) → AreSame held (first_image n).tree (first_image n).tree
+first_same held n = are_same n held (first_image n).tree (first_image n).tree (first_own n) (first_own n)
+
+pub first_right : (held : Contents) (n : ℕ) → IsSaidRight held (first_image n).tree (first_image n).stamps
+first_right held n = said_law held (first_image n).tree (first_same held n) (first_image n).stamps (first_true held n)
+
+-- the stamps that the update makes of the first image are true of the second one
+pub second_right : (held : Contents) (n : ℕ) → IsSaidRight held (second_image held n).tree (second_image held n).stamps
+second_right held n =
+    let first = first_image n in
+    let second = second_image held n in
+    let over = are_same n held first.tree second.tree (first_own n) (second_own n held) in
+    let are : AreTrue held second.tree second.stamps =
+    subst (λ stamps. AreTrue held second.tree stamps) (sym (second_stamps held n)) (stamps_true held first.tree (first_same held n) first.stamps (first_true held n) second.tree over) in
+    said_law held second.tree (are_same n held second.tree second.tree (second_own n held) (second_own n held)) second.stamps are

@@ -1,22 +1,24 @@
 -- One update of a sample, and both one after the other.
 use Rattle.std.proofs.Common.{◌≡◌, ◌≤◌, ℕ, true, refl, List, [], ◌∷◌, Option, Some, None, Result, Ok, Err, sym, ap, subst, ◌∙◌, arith}
+use Rattle.std.proofs.lemmas.List.{append-nil}
 use Rattle.ldconfig_core.proofs.WrittenSlots.{slots_are, written_slots}
 use Rattle.ldconfig_core.specs.declared.fault.UpdateFault.{UpdateFault}
 use Rattle.ldconfig_core.specs.declared.fault.UpdateFault.TheVariants as faults
 use Rattle.ldconfig_core.specs.declared.report.Report.{Report}
 use Rattle.ldconfig_core.specs.Repair.{slots_after}
 use Rattle.ldconfig_core.specs.Texts.{AreTextsOf, UpdateTexts, writes_of}
-use Rattle.ldconfig_core.specs.Update.{IfHonestly, IsUpdated, Updates}
+use Rattle.ldconfig_core.specs.Update.{IsUpdated, Updates, update_ending}
 use Rattle.lib_types.specs.Counts.{HasRisen}
 use Rattle.loaded_image.specs.Session.{Loaded}
 use Rattle.replaced_slots.specs.Replaced.{calls_of}
 use Rattle.searched_image.specs.Begun.{lacks_file, update_bytes}
+use Rattle.tree_face.proofs.Follows.{part_whole}
 use Rattle.tree_face.proofs.Known.{relates_by}
 use Rattle.tree_face.specs.Disk.{DiskContent, DiskState, KeepsAll}
-use Rattle.tree_face.specs.Follows.{IsFollowedBy}
+use Rattle.tree_face.specs.Follows.{IsFollowedBy, IsFollowedByPart}
 use Rattle.tree_face.specs.Known.{IfKnown, Relates}
 use Rattle.tree_face.specs.Store.{Contents, StoreState}
-use Rattle.tree_face.specs.StoreUse.{Complete, ReadsFiles}
+use Rattle.tree_face.specs.StoreUse.{BeginsKeys, Complete, DeviceFailed, Ending, GaveUp, ReadsFiles}
 use Rattle.tree_face.specs.declared.disk.DoneCall.{DoneCall}
 use Rattle.tree_face.specs.declared.disk.Slot.{Slot}
 use Rattle.tree_face.specs.declared.disk.Slot.TheVariants.{Cache}
@@ -24,12 +26,31 @@ use Rattle.sample_runs.specs.declared.fault.SampleFault.{SampleFault}
 use Rattle.sample_runs.specs.declared.fault.SampleFault.TheVariants.{DiskFault, NoMemory, StoreFault}
 use Rattle.sample_runs.specs.declared.updates.SampleUpdate.{SampleUpdate}
 use Rattle.sample_runs.specs.Faults.{of_update}
-use Rattle.sample_runs.specs.Updates.{Goes, IsHonest, IsUpdateOf, ReadFails, UpdateFails, UpdatesTo, keys_of, sample_tag}
+use Rattle.sample_runs.specs.Updates.{Goes, IsUpdateOf, ReadFails, UpdateFails, UpdatesTo, UsesPart, keys_of, sample_tag}
 
 -- ---- counts
 
 pub risen_since : (a b c : ℕ) → a ≤ b → HasRisen b c → HasRisen a c
 risen_since a b c before risen = omega (arith, before, risen)
+
+-- ---- what is read
+
+-- nothing is read
+pub none_follow : {A : Type 0} (items : List A) (a b : Option (List A)) → b ≡ a → Relates (IsFollowedByPart items) a b
+none_follow items None None e = tt
+none_follow items None (Some b) e = absurd (cc)
+none_follow items (Some a) None e = absurd (cc)
+none_follow {A} items (Some a) (Some b) e = (0, ap (λ (o : Option (List A)). or_else b o) e ∙ sym (append-nil a))
+  where
+    or_else : List A → Option (List A) → List A
+    or_else other None = other
+    or_else other (Some items) = items
+
+-- all keys are begun, which is a part of them
+pub all_begun : (keys : Contents → List (List ℕ)) (a b : Option (List (List ℕ))) (known : Option Contents) → IfKnown known (λ held. Relates (IsFollowedBy (keys held)) a b)
+    → IfKnown known (λ held. Relates (IsFollowedByPart (keys held)) a b)
+all_begun keys a b None begun = tt
+all_begun keys a b (Some held) begun = relates_by (IsFollowedBy (keys held)) (IsFollowedByPart (keys held)) (part_whole (keys held)) a b begun
 
 -- ---- one update
 
@@ -56,24 +77,21 @@ module _ (s : Loaded) (store after_store : StoreState) (disk middle after_disk :
     leaves : Relates (Leaves texts) disk.contents middle.contents
     leaves = relates_by _ _ (slots_are 0 (writes_of texts)) _ _ u.written.written.contents
 
-    by_held : (known : Option Contents) → IfHonestly known s (λ held. AreTextsOf held s texts) → IfHonestly known s (λ held. IsUpdated held s (updated, report))
-        → IfKnown known (λ held. IsHonest held s → IsUpdateOf held s texts (updated, numbers))
+    by_held : (known : Option Contents) → IfKnown known (λ held. AreTextsOf held s texts) → IfKnown known (λ held. IsUpdated held s (updated, report))
+        → IfKnown known (λ held. IsUpdateOf held s texts (updated, numbers))
     by_held None are is = tt
-    by_held (Some held) are is = λ honest.
-        let made = is honest.are_true honest.same in
-        record {
-          texts_are = are honest.are_true honest.same;
-          image_is = made.planned;
-          numbers = record { libs = made.report.libs; links = made.report.links; opened = made.report.opened };
-        }
+    by_held (Some held) are is = record {
+      texts_are = are;
+      image_is = is.planned;
+      numbers = record { libs = is.report.libs; links = is.report.links; opened = is.report.opened };
+    }
 
-    begins : (known : Option Contents) → store.held ≡ known → IfKnown known (λ held. IsHonest held s → Relates (IsFollowedBy (keys_of held s)) store.keys after_store.keys)
+    begins : (known : Option Contents) → store.held ≡ known → IfKnown known (λ held. Relates (IsFollowedBy (keys_of held s)) store.keys after_store.keys)
     begins None is = tt
-    begins (Some held) is = λ honest.
-        let reads = subst (λ (known : Option Contents). IfHonestly known s
+    begins (Some held) is =
+        let reads = subst (λ (known : Option Contents). IfKnown known
         (λ held. ReadsFiles (lacks_file held s.tree s.stamps ≡ true) (Some (keys_of held s)) (Some (update_bytes held s.tree s.stamps)) Complete store after_store)) is u.reads.keys in
-        let here = reads honest.are_true honest.same in
-        here.begins
+        reads.begins
 
     -- the update is made, and then the cache is read
     pub is_updated : UpdatesTo s (updated, numbers) store after_store disk after_disk
@@ -82,7 +100,7 @@ module _ (s : Loaded) (store after_store : StoreState) (disk middle after_disk :
       slots = subst (λ (c : Option DiskContent). Relates (Leaves texts) disk.contents c) (sym keeps.contents) leaves;
       calls = subst (λ (c : Option (List DoneCall)). Relates (IsFollowedBy (calls_of sample_tag (writes_of texts))) disk.calls c) (sym keeps.calls) u.written.written.calls;
       cache = cache_is texts cache disk.contents middle.contents leaves read;
-      honest = by_held store.held u.written.are.are_of u.updated;
+      update = by_held store.held u.written.are.are_of u.updated;
       begins = begins store.held refl;
       reads = subst (λ (r : Option (List Slot)). Relates (IsFollowedBy (Cache ∷ [])) r after_disk.reads) u.written.written.reads reads;
       none_rise = record { store_faults = u.reads.any.cause; disk_faults = no_fault ∙ u.written.written.faults };
@@ -106,3 +124,38 @@ module _ (s : Loaded) (store after_store : StoreState) (disk middle after_disk :
   -- the store holds what it held, and no count falls
   pub goes_on : (result : Result (Loaded × Report) UpdateFault) → Updates sample_tag s result store after_store disk middle → middle.faults ≤ after_disk.faults → Goes store after_store disk after_disk
   goes_on result u read = record { held = u.reads.any.held; store_faults = u.reads.any.faults; disk_faults = omega (arith, u.disk_faults, read) }
+
+  -- ---- what is read, if it isn't made or the cache isn't read
+
+  stops_by : (e : Ending) (known : Option Contents) → IfKnown known (λ held. Relates (BeginsKeys e (keys_of held s)) store.keys after_store.keys)
+      → IfKnown known (λ held. Relates (IsFollowedByPart (keys_of held s)) store.keys after_store.keys)
+  stops_by e None begins = tt
+  stops_by Complete (Some held) begins = all_begun (λ held. keys_of held s) store.keys after_store.keys (Some held) begins
+  stops_by DeviceFailed (Some held) begins = begins
+  stops_by GaveUp (Some held) begins = begins
+
+  begins_by : (e : Ending) (known : Option Contents) → IfKnown known (λ held.
+      ReadsFiles (lacks_file held s.tree s.stamps ≡ true) (Some (keys_of held s)) (Some (update_bytes held s.tree s.stamps)) e store after_store)
+      → IfKnown known (λ held. Relates (BeginsKeys e (keys_of held s)) store.keys after_store.keys)
+  begins_by e None reads = tt
+  begins_by e (Some held) reads = reads.begins
+
+  no_reads : (fault : UpdateFault) → Updates sample_tag s (Err fault) store after_store disk middle → middle.reads ≡ disk.reads
+  no_reads faults.StoreFault u = ap (λ (d : DiskState). d.reads) u.written
+  no_reads (faults.DiskFault fault) u = u.written.written.reads
+  no_reads (faults.TooLarge nodes bytes) u = ap (λ (d : DiskState). d.reads) u.written
+  no_reads (faults.TooMany count) u = ap (λ (d : DiskState). d.reads) u.written
+  no_reads faults.NoMemory u = ap (λ (d : DiskState). d.reads) u.written
+
+  pub stops : (fault : UpdateFault) → Updates sample_tag s (Err fault) store after_store disk middle → UsesPart (λ held. keys_of held s) (Cache ∷ []) store after_store disk middle
+  stops fault u = record {
+    begins = stops_by (update_ending {A = Loaded × Report} (Err fault)) store.held (begins_by (update_ending {A = Loaded × Report} (Err fault)) store.held u.reads.keys);
+    reads = none_follow (Cache ∷ []) disk.reads middle.reads (no_reads fault u);
+  }
+
+  pub stops_reading : (updated : Loaded × Report) → Updates sample_tag s (Ok updated) store after_store disk middle → Relates (IsFollowedByPart (Cache ∷ [])) middle.reads after_disk.reads
+      → UsesPart (λ held. keys_of held s) (Cache ∷ []) store after_store disk after_disk
+  stops_reading updated u part = record {
+    begins = stops_by Complete store.held (begins_by Complete store.held u.reads.keys);
+    reads = subst (λ (r : Option (List Slot)). Relates (IsFollowedByPart (Cache ∷ [])) r after_disk.reads) u.written.written.reads part;
+  }

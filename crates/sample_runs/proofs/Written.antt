@@ -24,6 +24,8 @@ module _ (n : ℕ) (first second : SampleUpdate) (store after_store : StoreState
   by (Some held) (Some c) one two made = record {
     first_are = made.first_are;
     second_are = made.second_are;
+    first_right = made.first_right;
+    second_right = made.second_right;
     first_all = made.first_all;
     second_all = made.second_all;
     text_is = same_text held made one two;

@@ -1,4 +1,4 @@
--- The command `sample`: two updates of images of made libraries, and its text.
+-- The command `sample`: two updates of images of generated libraries, and its text.
 use Rattle.std.specs.Prelude.{◌≡◌, ◌⊎◌, ◌<◌, ℕ, List, Result, Ok, Err}
 use Rattle.command_status.specs.declared.status.Status.{Status}
 use Rattle.command_status.specs.declared.status.Status.TheVariants.{Done, OutputFault}
@@ -12,14 +12,18 @@ use Rattle.tree_face.specs.Store.{Contents, StoreState}
 use Rattle.tree_face.specs.Stream.{SinkState}
 use Rattle.sample_runs.specs.declared.fault.SampleFault.{SampleFault}
 use Rattle.sample_runs.specs.Faults.{of_sample}
+use Rattle.searched_image.specs.Laws.{IsSaidRight}
 use Rattle.sample_runs.specs.Images.{first_image, second_image}
 use Rattle.sample_runs.specs.Text.{sample_text}
-use Rattle.sample_runs.specs.Updates.{AreWritten, ReadsTwice, SampleFails}
+use Rattle.sample_runs.specs.Updates.{AreWritten, ReadsTwice, SampleFails, UsesSample}
 
 -- the texts are those of the two updates, each of which writes all three slots if there are libraries, and the text of the sample has their numbers
 pub record IsTextOf (held : Contents) (n : ℕ) (text : List ℕ) (first second : UpdateTexts) : Type 0 where
   pub first_are : AreTextsOf held (first_image n) first
   pub second_are : AreTextsOf held (second_image held n) second
+  -- each file is said to be what it is, so that updates without stamps give the same
+  pub first_right : IsSaidRight held (first_image n).tree (first_image n).stamps
+  pub second_right : IsSaidRight held (second_image held n).tree (second_image held n).stamps
   pub first_all : 0 < n → slots_of (writes_of first) ≡ update_slots
   pub second_all : 0 < n → slots_of (writes_of second) ≡ update_slots
   pub text_is : text ≡ sample_text held n first.cache second.cache
@@ -35,7 +39,7 @@ pub record IsSample (n : ℕ) (text : List ℕ) (store after_store : StoreState)
 -- the text of the sample, or why there is none
 abbrev pub Samples : ℕ → Result (List ℕ) SampleFault → StoreState → StoreState → DiskState → DiskState → Type 0
 Samples n (Ok text) store after_store disk after_disk = IsSample n text store after_store disk after_disk
-Samples n (Err fault) store after_store disk after_disk = SampleFails n fault store after_store disk after_disk
+Samples n (Err fault) store after_store disk after_disk = SampleFails n fault store after_store disk after_disk × UsesSample n store after_store disk after_disk
 
 -- ---- the end
 

@@ -37,7 +37,7 @@ update_line number libs links opened bytes = libs_text number libs ++ links_text
 -- the line of the update of this image, which writes this cache
 abbrev pub line_of : Contents → ℕ → Loaded → List ℕ → List ℕ
 line_of held number s cache =
-    update_line number (length (entries_in held s.tree)) (length (links_in held s.tree)) (opened_in held s.tree s.stamps) (length cache)
+    update_line number (length (entries_in held s.tree s.stamps)) (length (links_in held s.tree s.stamps)) (opened_in held s.tree s.stamps) (length cache)
 
 -- ---- look-ups
 
@@ -57,7 +57,7 @@ lookups_line found n = codes "lookups: " ++ decimal found ++ codes " found of " 
 abbrev pub posts : List ℕ → List ℕ → List Post
 posts first second = record { tag = record { 0 = 0 }; bytes = second } ∷ record { tag = record { 0 = 1 }; bytes = first } ∷ []
 
--- a step of each post, and a loader behind each
+-- a step of each post, and a loader after each
 abbrev pub round : List Turn
 round = Step 0 ∷ Load ∷ Step 1 ∷ Load ∷ []
 
@@ -81,7 +81,7 @@ readings_line rs =
 
 -- ---- all of it
 
--- behind the lines of the updates, by the caches that they write
+-- after the lines of the updates, by the caches that they write
 abbrev pub last_lines : ℕ → List ℕ → List ℕ → List ℕ
 last_lines n first second = lookups_line (count_by (is_found (read second)) (sample_files n)) n ++ readings_line (readings first second)
 

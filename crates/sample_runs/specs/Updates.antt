@@ -7,12 +7,13 @@ use Rattle.lib_types.specs.Counts.{HasRisen}
 use Rattle.loaded_image.specs.Session.{Loaded}
 use Rattle.replaced_slots.specs.Replaced.{calls_of, slots_of}
 use Rattle.searched_image.specs.Begun.{lacks_some, opened_in, update_keys}
+use Rattle.searched_image.specs.Laws.{IsSaidRight}
 use Rattle.searched_image.specs.Ldconfig.{entries_in, links_in}
-use Rattle.stamped_files.specs.Stamped.{AreSame, AreTrue}
+use Rattle.tree_face.specs.declared.disk.Slot.{Slot}
 use Rattle.tree_face.specs.declared.disk.Slot.TheVariants.{Cache}
 use Rattle.tree_face.specs.declared.disk.Tag.{Tag}
 use Rattle.tree_face.specs.Disk.{DiskContent, DiskState}
-use Rattle.tree_face.specs.Follows.{IsFollowedBy}
+use Rattle.tree_face.specs.Follows.{IsFollowedBy, IsFollowedByPart}
 use Rattle.tree_face.specs.Known.{IfKnown, Relates}
 use Rattle.tree_face.specs.Store.{Contents, StoreState}
 use Rattle.sample_runs.specs.declared.fault.SampleFault.{SampleFault}
@@ -22,11 +23,6 @@ use Rattle.sample_runs.specs.Images.{first_image, second_image}
 
 abbrev pub sample_tag : Tag
 sample_tag = record { 0 = 0 }
-
--- the stamps of an image are true, and its files of equal identity have equal content
-pub record IsHonest (held : Contents) (s : Loaded) : Type 0 where
-  pub are_true : AreTrue held s.tree s.stamps
-  pub same : AreSame held s.tree s.tree
 
 -- ---- one update
 
@@ -43,11 +39,11 @@ pub record NoneRise (store after_store : StoreState) (disk after_disk : DiskStat
 
 -- the numbers are those of the update of this image
 pub record AreNumbers (held : Contents) (s : Loaded) (numbers : SampleUpdate) : Type 0 where
-  pub libs : numbers.libs ≡ length (entries_in held s.tree)
-  pub links : numbers.links ≡ length (links_in held s.tree)
+  pub libs : numbers.libs ≡ length (entries_in held s.tree s.stamps)
+  pub links : numbers.links ≡ length (links_in held s.tree s.stamps)
   pub opened : numbers.opened ≡ opened_in held s.tree s.stamps
 
--- of an honest image: the texts, the numbers and the updated image are those of its update
+-- the texts, the numbers and the updated image are those of the update of this image
 pub record IsUpdateOf (held : Contents) (s : Loaded) (texts : UpdateTexts) (updated : Loaded × SampleUpdate) : Type 0 where
   pub texts_are : AreTextsOf held s texts
   pub image_is : updated.0 ≡ planned_image held s
@@ -63,8 +59,8 @@ pub record UpdatesTo (s : Loaded) (updated : Loaded × SampleUpdate) (store afte
   pub slots : Relates (λ (a b : DiskContent). b.now ≡ slots_after (writes_of texts) a.now) disk.contents after_disk.contents
   pub calls : Relates (IsFollowedBy (calls_of sample_tag (writes_of texts))) disk.calls after_disk.calls
   pub cache : IfKnown disk.contents (λ _. updated.1.cache ≡ texts.cache)
-  pub honest : IfKnown store.held (λ held. IsHonest held s → IsUpdateOf held s texts updated)
-  pub begins : IfKnown store.held (λ held. IsHonest held s → Relates (IsFollowedBy (keys_of held s)) store.keys after_store.keys)
+  pub update : IfKnown store.held (λ held. IsUpdateOf held s texts updated)
+  pub begins : IfKnown store.held (λ held. Relates (IsFollowedBy (keys_of held s)) store.keys after_store.keys)
   pub reads : Relates (IsFollowedBy (Cache ∷ [])) disk.reads after_disk.reads
   pub none_rise : NoneRise store after_store disk after_disk
 
@@ -77,6 +73,11 @@ abbrev pub UpdateFails : Loaded → SampleFault → StoreState → StoreState �
 UpdateFails s StoreFault store after_store disk after_disk = HasRisen store.faults after_store.faults ⊎ Lacks store.held s
 UpdateFails s DiskFault store after_store disk after_disk = HasRisen disk.faults after_disk.faults
 UpdateFails s NoMemory store after_store disk after_disk = NoneRise store after_store disk after_disk
+
+-- a prefix of these keys is begun, and a prefix of these slots is read
+pub record UsesPart (keys : Contents → List (List ℕ)) (slots : List Slot) (store after_store : StoreState) (disk after_disk : DiskState) : Type 0 where
+  pub begins : IfKnown store.held (λ held. Relates (IsFollowedByPart (keys held)) store.keys after_store.keys)
+  pub reads : Relates (IsFollowedByPart slots) disk.reads after_disk.reads
 
 -- why the cache isn't read
 abbrev pub ReadFails : SampleFault → DiskState → DiskState → Type 0
@@ -91,7 +92,8 @@ pub record AreWritten (first second : UpdateTexts) (old new : DiskState) : Type 
   pub slots : Relates (λ (a b : DiskContent). b.now ≡ slots_after (writes_of second) (slots_after (writes_of first) a.now)) old.contents new.contents
   pub calls : Relates (IsFollowedBy (calls_of sample_tag (writes_of first) ++ calls_of sample_tag (writes_of second))) old.calls new.calls
 
--- the texts and the numbers are those of the updates of both images, each of which writes all three slots if there are libraries
+-- The texts and the numbers are those of the updates of both images, each of which writes all three slots if there are libraries. Each file is said to be
+-- what it is, so that updates without stamps give the same.
 pub record AreUpdatesOf (held : Contents) (n : ℕ) (first second : UpdateTexts) (numbers : SampleUpdate × SampleUpdate) : Type 0 where
   pub first_are : AreTextsOf held (first_image n) first
   pub second_are : AreTextsOf held (second_image held n) second
@@ -99,6 +101,8 @@ pub record AreUpdatesOf (held : Contents) (n : ℕ) (first second : UpdateTexts)
   pub second_all : 0 < n → slots_of (writes_of second) ≡ update_slots
   pub first_numbers : AreNumbers held (first_image n) numbers.0
   pub second_numbers : AreNumbers held (second_image held n) numbers.1
+  pub first_right : IsSaidRight held (first_image n).tree (first_image n).stamps
+  pub second_right : IsSaidRight held (second_image held n).tree (second_image held n).stamps
 
 -- the keys of both updates, one after the other
 abbrev pub sample_keys : Contents → ℕ → List (List ℕ)
@@ -122,6 +126,10 @@ pub record UpdatesTwice (n : ℕ) (numbers : SampleUpdate × SampleUpdate) (stor
 -- a file of one of the two images isn't held
 abbrev pub LacksFile : ℕ → Option Contents → Type 0
 LacksFile n known = IsSomeAnd known (λ held. (lacks_some held (first_image n).tree ≡ true) ⊎ (lacks_some held (second_image held n).tree ≡ true))
+
+-- what is read then of the keys of both updates, and of the cache after each
+abbrev pub UsesSample : ℕ → StoreState → StoreState → DiskState → DiskState → Type 0
+UsesSample n store after_store disk after_disk = UsesPart (λ held. sample_keys held n) (Cache ∷ Cache ∷ []) store after_store disk after_disk
 
 -- the count of the device rose, or the store doesn't hold a file of the images; memory is out only if no count rose
 abbrev pub SampleFails : ℕ → SampleFault → StoreState → StoreState → DiskState → DiskState → Type 0

@@ -23,7 +23,7 @@ fn next(state: u32) -> u32
     ((u64::from(state) * 1_103_515_245 + 12_345) % (1 << 31)) as u32
 }
 
-/// The libraries of a sample of so many.
+/// The libraries of a sample of `n`.
 pub(crate) fn sample_files(alloc: Global, n: u16) -> Result<Vec<SampleFile>, NoMemory>
     ensures { IfOk result (λ files. files.items ≡ sample_files n) }
 {

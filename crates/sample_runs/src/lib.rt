@@ -1,4 +1,4 @@
-//! The command `sample`: two updates of images of made libraries on devices in memory, look-ups, and readings while updaters are at work.
+//! The command `sample`: two updates of images of generated libraries on devices in memory, look-ups, and readings while updaters are at work.
 #![tactic(auto)]
 
 mod fault;

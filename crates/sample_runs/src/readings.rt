@@ -8,7 +8,7 @@ use std::alloc::Global;
 use tree_face::Tag;
 use update_world::{Post, Posts, Reading, Readings, Turn, World, world_run};
 
-// A step of each updater and a loader behind each, five times.
+// A step of each updater and a loader after each, five times.
 const SCHEDULE: [Turn; 20] = [
     Turn::Step(0),
     Turn::Load,

@@ -1,9 +1,9 @@
 //! The command `sample`.
-ghost use Rattle.std.specs.Prelude.{◌≡◌, IfErr, IfOk};
+ghost use Rattle.std.specs.Prelude.{◌≡◌, IfErr, IfOk, OnErr};
 ghost use Rattle.sample_runs.specs.Files.{sample_files};
 ghost use Rattle.sample_runs.specs.Sample.{IsSample, SampleEnds};
 ghost use Rattle.sample_runs.specs.Text.{text_with};
-ghost use Rattle.sample_runs.specs.Updates.{SampleFails, UpdatesTwice};
+ghost use Rattle.sample_runs.specs.Updates.{SampleFails, UpdatesTwice, UsesSample};
 
 use crate::fault::SampleFault;
 use crate::files::{SampleFile, sample_files};
@@ -18,7 +18,7 @@ use std::alloc::Global;
 use tree_face::{Disk, Sink, Store, put_all};
 
 // Both updates.
-#[tactic(auto, using(crate::proofs::Twice::first_fails_by, crate::proofs::Twice::second_fails_by))]
+#[tactic(auto, using(crate::proofs::Twice::first_fails_by, crate::proofs::Twice::second_fails_by, crate::proofs::Twice::first_stops_by, crate::proofs::Twice::nothing_read))]
 fn update_twice<S: Store, D: Disk>(
     alloc: Global,
     n: u16,
@@ -29,6 +29,7 @@ fn update_twice<S: Store, D: Disk>(
     requires { files.now ≡ sample_files n }
     ensures updates { IfOk result (λ numbers. UpdatesTwice n numbers (S.state store.old) (S.state store.new) (D.state disk.old) (D.state disk.new)) }
     ensures failed { IfErr result (λ fault. SampleFails n fault (S.state store.old) (S.state store.new) (D.state disk.old) (D.state disk.new)) }
+    ensures part { OnErr result (UsesSample n (S.state store.old) (S.state store.new) (D.state disk.old) (D.state disk.new)) }
 {
     let Ok(image) = first_image(alloc, n, files) else {
         return Err(SampleFault::NoMemory);
@@ -76,6 +77,7 @@ fn sample<S: Store, D: Disk>(
 ) -> Result<Vec<u8>, SampleFault>
     ensures text { IfOk result (λ text. IsSample n text.items (S.state store.old) (S.state store.new) (D.state disk.old) (D.state disk.new)) }
     ensures failed { IfErr result (λ fault. SampleFails n fault (S.state store.old) (S.state store.new) (D.state disk.old) (D.state disk.new)) }
+    ensures part { OnErr result (UsesSample n (S.state store.old) (S.state store.new) (D.state disk.old) (D.state disk.new)) }
 {
     let Ok(files) = sample_files(alloc, n) else {
         return Err(SampleFault::NoMemory);

@@ -1,10 +1,10 @@
 //! The updates of a sample.
-ghost use Rattle.std.specs.Prelude.{◌≡◌, ◌≤◌, ◌∷◌, [], IfErr, IfOk, OnOk, Some};
+ghost use Rattle.std.specs.Prelude.{◌≡◌, ◌≤◌, ◌∷◌, [], IfErr, IfOk, OnErr, OnOk, Some};
 ghost use Rattle.tree_face.specs.Disk.{KeepsAll};
 ghost use Rattle.tree_face.specs.declared.disk.Slot.TheVariants as slots;
-ghost use Rattle.tree_face.specs.Follows.{IsFollowedBy};
+ghost use Rattle.tree_face.specs.Follows.{IsFollowedBy, IsFollowedByPart};
 ghost use Rattle.tree_face.specs.Known.{IfKnown, Relates};
-ghost use Rattle.sample_runs.specs.Updates.{Goes, ReadFails, UpdateFails, UpdatesTo};
+ghost use Rattle.sample_runs.specs.Updates.{Goes, ReadFails, UpdateFails, UpdatesTo, UsesPart, keys_of};
 
 use crate::fault::SampleFault;
 use lib_types::Text;
@@ -29,6 +29,7 @@ fn read_cache<D: Disk>(alloc: Global, disk: &mut D) -> Result<Text, SampleFault>
     ensures faults { (D.state disk.old).faults ≤ (D.state disk.new).faults }
     ensures no_fault { OnOk result ((D.state disk.new).faults ≡ (D.state disk.old).faults) }
     ensures reads { OnOk result (Relates (IsFollowedBy (slots.Cache ∷ [])) (D.state disk.old).reads (D.state disk.new).reads) }
+    ensures part { OnErr result (Relates (IsFollowedByPart (slots.Cache ∷ [])) (D.state disk.old).reads (D.state disk.new).reads) }
 {
     match disk.read(alloc, Slot::Cache) {
         Ok(Some(bytes)) => Ok(Text::from_vec(bytes)),
@@ -38,7 +39,7 @@ fn read_cache<D: Disk>(alloc: Global, disk: &mut D) -> Result<Text, SampleFault>
 }
 
 /// Updates an image, and reads the cache that is written.
-#[tactic(auto, using(crate::proofs::Updating::is_updated, crate::proofs::Updating::is_failed, crate::proofs::Updating::is_unread, crate::proofs::Updating::goes_on))]
+#[tactic(auto, using(crate::proofs::Updating::is_updated, crate::proofs::Updating::is_failed, crate::proofs::Updating::is_unread, crate::proofs::Updating::stops, crate::proofs::Updating::stops_reading, crate::proofs::Updating::goes_on))]
 pub(crate) fn update<S: Store, D: Disk>(
     alloc: Global,
     image: Session,
@@ -47,6 +48,7 @@ pub(crate) fn update<S: Store, D: Disk>(
 ) -> Result<(Session, SampleUpdate), SampleFault>
     ensures updated { IfOk result (λ updated. UpdatesTo image updated (S.state store.old) (S.state store.new) (D.state disk.old) (D.state disk.new)) }
     ensures failed { IfErr result (λ fault. UpdateFails image fault (S.state store.old) (S.state store.new) (D.state disk.old) (D.state disk.new)) }
+    ensures part { OnErr result (UsesPart (λ held. keys_of held image) (slots.Cache ∷ []) (S.state store.old) (S.state store.new) (D.state disk.old) (D.state disk.new)) }
     ensures goes { Goes (S.state store.old) (S.state store.new) (D.state disk.old) (D.state disk.new) }
 {
     let (updated, report) = match ldconfig_core::update(alloc, image, store, disk, Tag(0)) {

@@ -16,7 +16,7 @@ use Rattle.update_runs.specs.Update.{States}
 use Rattle.update_runs.specs.declared.fault.UpdatingFault.TheVariants.{OutputFault, Update}
 use Rattle.script_runs.specs.declared.fault.ScriptFault.{ScriptFault}
 use Rattle.script_runs.specs.declared.fault.ScriptFault.TheVariants as script
-use Rattle.script_runs.specs.Course.{AreHonest, Course, course}
+use Rattle.script_runs.specs.Course.{Course, course}
 use Rattle.script_runs.specs.Faults.{status_of}
 use Rattle.script_runs.specs.Left.{EndsBy, EndsByUpdate, IsCourseEnd}
 use Rattle.script_runs.specs.Stored.{CompletesScript, IsRebuilt, IsUnloaded, NoneRose, RebuildsSlots, StopsLoading}
@@ -67,10 +67,10 @@ pub completes : (lines : List (List ℕ)) (status : Status) (old new : States) �
 completes lines status old new rebuilds = by old.store.held old.disk.contents rebuilds
   where
     by : (h : Option Contents) (c : Option DiskContent)
-        → IfBothKnown h c (λ held content. (s : Loaded) → IsImageIn content.now s → AreHonest held s.stamps (course held 1 lines s).asked
+        → IfBothKnown h c (λ held content. (s : Loaded) → IsImageIn content.now s
         → IsUnloaded status content old new ⊎ IsRebuilt held lines s status content old new)
-        → IfBothKnown h c (λ held content. (s : Loaded) → IsImageIn content.now s → AreHonest held s.stamps (course held 1 lines s).asked
+        → IfBothKnown h c (λ held content. (s : Loaded) → IsImageIn content.now s
         → NoneRose old new → (session : Loaded) → (course held 1 lines s).end ≡ Ok session → IsComplete status)
     by None c left = tt
     by (Some held) None left = tt
-    by (Some held) (Some content) left = λ s image honest none session done. by_left held lines s status content old new none session done (left s image honest)
+    by (Some held) (Some content) left = λ s image none session done. by_left held lines s status content old new none session done (left s image)

@@ -3,11 +3,10 @@ use Rattle.std.proofs.Common.{◌≡◌, ◌+◌, ◌++◌, ℕ, List, [], ◌�
 use Rattle.std.proofs.lemmas.List.Elements.{All-cons, All-nil}
 use Rattle.atomic_replace.specs.declared.fault.DiskFault.{DiskFault}
 use Rattle.atomic_replace.specs.Replace.{StopsAt, call_by}
-use Rattle.aux_cache.specs.declared.stamps.Stamp.{Stamp}
 use Rattle.ldconfig_core.specs.Outcome.{Outcome, update_outcome}
 use Rattle.ldconfig_core.specs.Settled.{planned_image}
 use Rattle.ldconfig_core.specs.Texts.{AreTexts, UpdateTexts, writes_of}
-use Rattle.ldconfig_core.specs.Update.{IfHonestly, IsUpdated, Updates}
+use Rattle.ldconfig_core.specs.Update.{IsUpdated, Updates}
 use Rattle.ldconfig_core.specs.declared.fault.UpdateFault.{UpdateFault}
 use Rattle.ldconfig_core.specs.declared.fault.UpdateFault.TheVariants as updating
 use Rattle.ldconfig_core.specs.declared.report.Report.{Report}
@@ -35,9 +34,8 @@ use Rattle.script_runs.specs.declared.fault.LineFault.TheVariants as lines_end
 use Rattle.script_runs.specs.declared.fault.ScriptFault.{ScriptFault}
 use Rattle.script_runs.specs.declared.fault.ScriptFault.TheVariants.{Line, NoMemory, Updating}
 use Rattle.script_runs.proofs.EditedImage.{IsEdit, edit_is}
-use Rattle.script_runs.proofs.HonestCourse.{IsHonest, asked_is, next_is}
-use Rattle.script_runs.proofs.UpdateOf.{if_honest}
-use Rattle.script_runs.specs.Course.{AreHonest, Course, course, course_by, course_of_update, goes_on}
+use Rattle.script_runs.proofs.UpdateOf.{of_update}
+use Rattle.script_runs.specs.Course.{Course, course, course_by, course_of_update, goes_on}
 use Rattle.script_runs.specs.Crash.{AreOfCourse, AreOfFirst, IsNotDone, LeavesLast, LeavesWholeCaches, MakesCalls, NoneFailed, calls_of_all}
 use Rattle.script_runs.specs.Faults.{numbered, updated}
 use Rattle.script_runs.specs.Left.{IsUpdateOf}
@@ -95,11 +93,6 @@ nothing_written tag Of to old new none_fails none same = (
     none,
   ),
 )
-
--- the same updates, of which another fact holds
-of_by : (tag : Tag) (Of Also : List UpdateTexts → Type 0) (to : Result Loaded ScriptFault) (old new : DiskState) → ((updates : List UpdateTexts) → Of updates → Also updates)
-    → HasWritten tag Of to old new → HasWritten tag Also to old new
-of_by tag Of Also to old new f (updates, (written, is)) = (updates, (written, f updates is))
 
 module _ (tag : Tag) (texts : UpdateTexts) (are : AreTexts texts) (to : Result Loaded ScriptFault) (old between new : DiskState) (leaves : Leaves (IsOfWrites (writes_of texts)) old between)
     (first : Relates (IsFollowedBy (calls_of tag (writes_of texts))) old.calls between.calls) where
@@ -183,61 +176,51 @@ part_written tag Of texts are to old new fault failed is leaves calls = (
 
 -- ---- the course
 
-none_of : (to : Result Loaded ScriptFault) (known : Option Contents) (stamps : List Stamp) (course : Contents → Course)
-    → ((held : Contents) (session : Loaded) → to ≡ Ok session → (course held).updates ≡ []) → AreOfCourse known stamps to course []
-none_of to None stamps course none = tt
-none_of to (Some held) stamps course none = λ honest. none held
+none_of : (to : Result Loaded ScriptFault) (known : Option Contents) (course : Contents → Course)
+    → ((held : Contents) (session : Loaded) → to ≡ Ok session → (course held).updates ≡ []) → AreOfCourse known to course []
+none_of to None course none = tt
+none_of to (Some held) course none = none held
 
 -- of a script that isn't done some updates may be left
-none_yet : (to : Result Loaded ScriptFault) (known : Option Contents) (stamps : List Stamp) (course : Contents → Course) → IsNotDone to → AreOfCourse known stamps to course []
-none_yet to known stamps course not_done = none_of to known stamps course (λ held session done. absurd (not_done session done))
+none_yet : (to : Result Loaded ScriptFault) (known : Option Contents) (course : Contents → Course) → IsNotDone to → AreOfCourse known to course []
+none_yet to known course not_done = none_of to known course (λ held session done. absurd (not_done session done))
 
 -- an update, and the updates after it
 module _ (to : Result Loaded ScriptFault) (s : Loaded) (more : Contents → Loaded → Course) (texts : UpdateTexts) (updates : List UpdateTexts) where
   abbrev IsAfter : Contents → Type 0
-  IsAfter held = AreHonest held (planned_image held s).stamps (more held (planned_image held s)).asked → AreOfFirst held to (more held (planned_image held s)).updates updates
+  IsAfter held = AreOfFirst held to (more held (planned_image held s)).updates updates
 
-  update_of : (known : Option Contents) → IfHonestly known s (λ held. IsUpdateOf held s texts) → IfHonestly known s IsAfter
-      → AreOfCourse known s.stamps to (λ held. course_of_update held s (update_outcome held s) (more held)) (texts ∷ updates)
-  update_of None are after = tt
-  update_of (Some held) are after = λ honest.
-      let here : IsHonest held s = asked_is held s (update_outcome held s) (more held) honest in
-      let update = are here.0 here.1 in
-      let next = next_is held s (more held (planned_image held s)).asked
-      (subst (λ (outcome : Outcome). AreHonest held s.stamps (course_of_update held s outcome (more held)).asked) update.made honest) in
-      subst (λ (outcome : Outcome). AreOfFirst held to (course_of_update held s outcome (more held)).updates (texts ∷ updates)) (sym update.made)
-      (update, after here.0 here.1 next)
+  update_of : (known : Option Contents) → IfKnown known (λ held. IsUpdateOf held s texts) → IfKnown known IsAfter
+      → AreOfCourse known to (λ held. course_of_update held s (update_outcome held s) (more held)) (texts ∷ updates)
+  update_of None is after = tt
+  update_of (Some held) is after =
+      subst (λ (outcome : Outcome). AreOfFirst held to (course_of_update held s outcome (more held)).updates (texts ∷ updates)) (sym is.made) (is, after)
 
   -- the updates of the session with the planned links
-  after_of : (session : Loaded) (known between : Option Contents) → between ≡ known → IfHonestly known s (λ held. session ≡ planned_image held s)
-      → AreOfCourse between session.stamps to (λ held. more held session) updates → IfHonestly known s IsAfter
+  after_of : (session : Loaded) (known between : Option Contents) → between ≡ known → IfKnown known (λ held. session ≡ planned_image held s)
+      → AreOfCourse between to (λ held. more held session) updates → IfKnown known IsAfter
   after_of session None between same is are = tt
-  after_of session (Some held) between same is are = λ are_true same_files.
-      subst (λ (i : Loaded). AreHonest held i.stamps (more held i).asked → AreOfFirst held to (more held i).updates updates) (is are_true same_files)
-      (subst (λ (known : Option Contents). AreOfCourse known session.stamps to (λ held. more held session) updates) same are)
+  after_of session (Some held) between same is are =
+      subst (λ (i : Loaded). AreOfFirst held to (more held i).updates updates) is
+      (subst (λ (known : Option Contents). AreOfCourse known to (λ held. more held session) updates) same are)
 
 -- no update is after it
 last_of : (to : Result Loaded ScriptFault) (s : Loaded) (more : Contents → Loaded → Course) (texts : UpdateTexts) (known : Option Contents) → IsNotDone to
-    → IfHonestly known s (IsAfter to s more texts [])
+    → IfKnown known (IsAfter to s more texts [])
 last_of to s more texts None not_done = tt
-last_of to s more texts (Some held) not_done = λ are_true same honest session done. absurd (not_done session done)
+last_of to s more texts (Some held) not_done = λ session done. absurd (not_done session done)
 
-planned_of : (known : Option Contents) (s session : Loaded) (done : Loaded × Report) → session ≡ done.0 → IfHonestly known s (λ held. IsUpdated held s done)
-    → IfHonestly known s (λ held. session ≡ planned_image held s)
+planned_of : (known : Option Contents) (s session : Loaded) (done : Loaded × Report) → session ≡ done.0 → IfKnown known (λ held. IsUpdated held s done)
+    → IfKnown known (λ held. session ≡ planned_image held s)
 planned_of None s session done same is = tt
-planned_of (Some held) s session done same is = λ are_true files. let is_updated = is are_true files in same ∙ is_updated.planned
-
--- the updates after an edit
-edit_of : (to : Result Loaded ScriptFault) (known : Option Contents) (s session : Loaded) (more : Contents → Loaded → Course) (updates : List UpdateTexts) → session.stamps ≡ s.stamps
-    → AreOfCourse known session.stamps to (λ held. more held session) updates → AreOfCourse known s.stamps to (λ held. more held session) updates
-edit_of to known s session more updates kept are = subst (λ (stamps : List Stamp). AreOfCourse known stamps to (λ held. more held session) updates) kept are
+planned_of (Some held) s session done same is = same ∙ is.planned
 
 -- ---- the lines
 
 module _ (tag : Tag) where
   abbrev AreWrittenBy : List (List ℕ) → Type 0
   AreWrittenBy lines = (number : ℕ) (s : Loaded) (to : Result Loaded ScriptFault) (old new : States) → RunsLines tag number lines s to old new
-      → HasWritten tag (AreOfCourse old.store.held s.stamps to (λ held. course held number lines s)) to old.disk new.disk
+      → HasWritten tag (AreOfCourse old.store.held to (λ held. course held number lines s)) to old.disk new.disk
 
   module _ (lines : List (List ℕ)) (are : AreWrittenBy lines) (number : ℕ) (s : Loaded) (to : Result Loaded ScriptFault) (old new : States) where
     abbrev more : Contents → Loaded → Course
@@ -250,14 +233,14 @@ module _ (tag : Tag) where
 
     module _ (between : States) where
       abbrev OfUpdate : List UpdateTexts → Type 0
-      OfUpdate = AreOfCourse old.store.held s.stamps to (λ held. course_of_update held s (update_outcome held s) (more held))
+      OfUpdate = AreOfCourse old.store.held to (λ held. course_of_update held s (update_outcome held s) (more held))
 
       abbrev IsRun : Result (Loaded × Report) UpdateFault → Type 0
       IsRun result = Updates tag s result old.store between.store old.disk between.disk
 
       unwritten : IsNotDone to → NoneFailed to → between.disk ≡ old.disk → new ≡ between → HasWritten tag OfUpdate to old.disk new.disk
       unwritten not_done none_fails kept same = nothing_written tag OfUpdate to old.disk new.disk none_fails
-          (none_yet to old.store.held s.stamps (λ held. course_of_update held s (update_outcome held s) (more held)) not_done)
+          (none_yet to old.store.held (λ held. course_of_update held s (update_outcome held s) (more held)) not_done)
           (ap (λ (d : States). d.disk) same ∙ kept)
 
       failed : (fault : UpdateFault) → IsRun (Err fault) → to ≡ Err (Updating (Update fault)) → new ≡ between → HasWritten tag OfUpdate to old.disk new.disk
@@ -265,7 +248,7 @@ module _ (tag : Tag) where
           let left = u.written in
           subst (λ (s : States). HasWritten tag OfUpdate to old.disk s.disk) (sym same)
           (part_written tag OfUpdate left.texts left.are.are to old.disk between.disk fault is
-          (update_of to s more left.texts [] old.store.held (if_honest s left.texts old.store.held left.are u.answers)
+          (update_of to s more left.texts [] old.store.held (of_update s left.texts old.store.held left.are u.answers)
           (last_of to s more left.texts old.store.held (fault_ends to (Updating (Update (updating.DiskFault fault))) is))) left.written.leaves left.written.calls)
       failed updating.StoreFault u is same = unwritten (fault_ends to (Updating (Update updating.StoreFault)) is) (none_failed to (Err (Updating (Update updating.StoreFault))) is (λ fault e. absurd (cc))) u.written same
       failed (updating.TooLarge nodes bytes) u is same = unwritten (fault_ends to (Updating (Update (updating.TooLarge nodes bytes))) is) (none_failed to (Err (Updating (Update (updating.TooLarge nodes bytes)))) is (λ fault e. absurd (cc))) u.written same
@@ -277,15 +260,15 @@ module _ (tag : Tag) where
       updated_by (Ok session) (Ok done) u reports runs =
           let left = u.written in
           then_written tag left.texts left.are.are to old.disk between.disk new.disk left.written.leaves left.written.calls OfUpdate
-          (AreOfCourse between.store.held session.stamps to (λ held. more held session)) left.written.settled
-          (λ updates rest. update_of to s more left.texts updates old.store.held (if_honest s left.texts old.store.held left.are u.answers)
+          (AreOfCourse between.store.held to (λ held. more held session)) left.written.settled
+          (λ updates rest. update_of to s more left.texts updates old.store.held (of_update s left.texts old.store.held left.are u.answers)
           (after_of to s more left.texts updates session old.store.held between.store.held u.reads.any.held (planned_of old.store.held s session done reports.0 u.updated) rest))
           (are (1 + number) session to between new runs)
       updated_by (Err OutputFault) (Ok done) u reports (e, end) =
           let left = u.written in
           then_written tag left.texts left.are.are to old.disk between.disk new.disk left.written.leaves left.written.calls OfUpdate (λ updates. updates ≡ []) left.written.settled
           (λ updates none. subst (λ (updates : List UpdateTexts). OfUpdate (left.texts ∷ updates)) (sym none)
-          (update_of to s more left.texts [] old.store.held (if_honest s left.texts old.store.held left.are u.answers)
+          (update_of to s more left.texts [] old.store.held (of_update s left.texts old.store.held left.are u.answers)
           (last_of to s more left.texts old.store.held (fault_ends to (Updating OutputFault) e))))
           (nothing_written tag (λ updates. updates ≡ []) to between.disk new.disk (none_failed to (Err (Updating OutputFault)) e (λ fault e. absurd (cc))) refl (ap (λ (d : States). d.disk) end))
       updated_by (Err (Update fault)) (Ok done) u reports goes = absurd reports
@@ -295,16 +278,15 @@ module _ (tag : Tag) where
 
     -- ---- another line
 
-    edited_by : (one : Result Loaded LineFault) → IsEdit s one → GoesFrom old one → HasWritten tag (AreOfCourse old.store.held s.stamps to (λ held. goes_on number one (more held))) to old.disk new.disk
+    edited_by : (one : Result Loaded LineFault) → IsEdit s one → GoesFrom old one → HasWritten tag (AreOfCourse old.store.held to (λ held. goes_on number one (more held))) to old.disk new.disk
     edited_by (Ok session) kept runs =
-        of_by tag (AreOfCourse old.store.held session.stamps to (λ held. more held session)) (AreOfCourse old.store.held s.stamps to (λ held. more held session)) to old.disk new.disk
-        (λ updates is. edit_of to old.store.held s session more updates kept.0 is) (are (1 + number) session to old new runs)
-    edited_by (Err fault) (kind, bad) (e, end) = nothing_written tag (AreOfCourse old.store.held s.stamps to (λ held. goes_on number (Err fault) (more held))) to old.disk new.disk
+        are (1 + number) session to old new runs
+    edited_by (Err fault) (kind, bad) (e, end) = nothing_written tag (AreOfCourse old.store.held to (λ held. goes_on number (Err fault) (more held))) to old.disk new.disk
         (none_failed to (Err (Line number kind)) (e ∙ ap (λ fault. Err (numbered number fault)) bad) (λ fault e. absurd (cc)))
-        (none_of to old.store.held s.stamps (λ held. goes_on number (Err fault) (more held)) (λ held session done. refl)) (ap (λ (d : States). d.disk) end)
+        (none_of to old.store.held (λ held. goes_on number (Err fault) (more held)) (λ held session done. refl)) (ap (λ (d : States). d.disk) end)
 
     edit_by : (asked : Result ScriptLine LineKind) (one : Result Loaded LineFault) (between : States) → (one ≡ after_line asked s) × (between ≡ old) → GoesFrom between one
-        → HasWritten tag (AreOfCourse old.store.held s.stamps to (λ held. goes_on number (after_line asked s) (more held))) to old.disk new.disk
+        → HasWritten tag (AreOfCourse old.store.held to (λ held. goes_on number (after_line asked s) (more held))) to old.disk new.disk
     edit_by asked one between (is, same) goes = edited_by (after_line asked s) (edit_is s asked)
         (subst (λ (one : Result Loaded LineFault). GoesFrom old one) is (subst (λ (between : States). GoesFrom between one) same goes))
 
@@ -314,7 +296,7 @@ module _ (tag : Tag) where
         updated_by between this u.result u.updates u.reports (subst (λ (one : Result Loaded LineFault). GoesFrom between one) e goes)
 
     line_by : (asked : Result ScriptLine LineKind) (one : Result Loaded LineFault) (between : States) → DoesLine tag asked s one old between → GoesFrom between one
-        → HasWritten tag (AreOfCourse old.store.held s.stamps to (λ held. course_by held number asked s (more held))) to old.disk new.disk
+        → HasWritten tag (AreOfCourse old.store.held to (λ held. course_by held number asked s (more held))) to old.disk new.disk
     line_by (Ok asking.Update) one between u goes = update_by one between u goes
     line_by (Ok asking.Ignored) one between does goes = edit_by (Ok asking.Ignored) one between does goes
     line_by (Ok (asking.Put entry)) one between does goes = edit_by (Ok (asking.Put entry)) one between does goes
@@ -330,13 +312,13 @@ module _ (tag : Tag) where
 
   are_written : (lines : List (List ℕ)) → AreWrittenBy lines
   are_written [] number s to old new (done, same) =
-      nothing_written tag (AreOfCourse old.store.held s.stamps to (λ held. course held number [] s)) to old.disk new.disk (none_failed to (Ok s) done (λ fault e. absurd (cc)))
-      (none_of to old.store.held s.stamps (λ held. course held number [] s) (λ held session done. refl)) (ap (λ (d : States). d.disk) same)
+      nothing_written tag (AreOfCourse old.store.held to (λ held. course held number [] s)) to old.disk new.disk (none_failed to (Ok s) done (λ fault e. absurd (cc)))
+      (none_of to old.store.held (λ held. course held number [] s) (λ held session done. refl)) (ap (λ (d : States). d.disk) same)
   are_written (line ∷ lines) number s to old new (one, (between, (takes, goes))) = elim takes [
     | inl does ↦ line_by lines (λ n t e a b. are_written lines n t e a b) number s to old new (line_of line) one between does goes
     | inr out ↦ ended_by lines (λ n t e a b. are_written lines n t e a b) number s to old new
-        (AreOfCourse old.store.held s.stamps to (λ held. course held number (line ∷ lines) s))
-        (λ not_done. none_yet to old.store.held s.stamps (λ held. course held number (line ∷ lines) s) not_done) one between out goes
+        (AreOfCourse old.store.held to (λ held. course held number (line ∷ lines) s))
+        (λ not_done. none_yet to old.store.held (λ held. course held number (line ∷ lines) s) not_done) one between out goes
   ]
 
 pub whole_caches : (tag : Tag) (lines : List (List ℕ)) (number : ℕ) (s : Loaded) (to : Result Loaded ScriptFault) (old new : States) → HasMoments old.disk

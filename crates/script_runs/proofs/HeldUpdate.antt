@@ -1,5 +1,7 @@
 -- The slots that a script leaves hold the update of the last session that was updated, and are those of that session.
 use Rattle.std.proofs.Common.{◌≡◌, ◌⊎◌, ◌+◌, ◌++◌, ℕ, Bool, true, false, List, [], ◌∷◌, drop, get_or, Option, Some, None, Result, Ok, Err, refl, ap, sym, subst, ◌∙◌, inl, inr}
+use Rattle.std.proofs.lemmas.List.Elements.{All-contains, All-cons, All-head, All-nil, All-tail, All-weaker}
+use Rattle.std.specs.List.{All, Contains}
 use Rattle.std.specs.Option.{option_or}
 use Rattle.image_tree.specs.Tree.{Nodes}
 use Rattle.aux_cache.specs.declared.stamps.Stamp.{Stamp}
@@ -7,6 +9,7 @@ use Rattle.cache_lookup.specs.Scan.{AreDescending}
 use Rattle.cache_reader.specs.Cache.{defect, read}
 use Rattle.ldconfig_core.proofs.LookedUp.{searched_too}
 use Rattle.ldconfig_core.proofs.OneText.{again}
+use Rattle.ldconfig_core.proofs.SettledImage.{unwritten as unlinked}
 use Rattle.ldconfig_core.proofs.WrittenSlots.{written_slots}
 use Rattle.ldconfig_core.specs.Lookup.{FindsAsSearched}
 use Rattle.ldconfig_core.specs.Outcome.{Lacking, Outcome, TooLarge, TooMany, Writes, manifest_with, new_manifest, update_outcome}
@@ -27,8 +30,10 @@ use Rattle.tree_face.specs.Store.{Contents}
 use Rattle.update_runs.specs.Update.{States}
 use Rattle.script_runs.specs.declared.fault.LineFault.{LineFault}
 use Rattle.script_runs.specs.declared.fault.ScriptFault.{ScriptFault}
+use Rattle.script_runs.proofs.AskedFor.{are_asked}
 use Rattle.script_runs.proofs.EditedImage.{IsEdit, edit_is}
-use Rattle.script_runs.specs.Course.{Course, course, course_by, course_of_update, goes_on}
+use Rattle.script_runs.proofs.HonestCourse.{each_honest}
+use Rattle.script_runs.specs.Course.{AreHonest, Course, IsHonest, course, course_by, course_of_update, goes_on}
 use Rattle.script_runs.specs.Left.{AreMade, HasItsTree, HoldUpdateOf, IsUpdateOf, LeavesRebuilt, OfLast, RebuildsScript}
 use Rattle.script_runs.specs.Run.{after_line}
 
@@ -52,14 +57,15 @@ ended held (u ∷ us) before after reports none made = absurd (cc)
 -- ---- the update of what is left
 
 module _ (held : Contents) where
-  held_by : (u : Loaded) (texts : UpdateTexts) (before : Slots) → IsUpdateOf held u texts → HoldUpdateOf held (planned_image held u) (slots_after (writes_of texts) before)
-  held_by u texts before is =
-      let more = again held u (planned_image held u) texts is.settled is.are in
+  held_by : (u : Loaded) (texts : UpdateTexts) (before : Slots) → IsHonest held u → IsUpdateOf held u texts → HoldUpdateOf held (planned_image held u) (slots_after (writes_of texts) before)
+  held_by u texts before here is =
+      let settled = is.settled here in
+      let more = again held u (planned_image held u) texts settled is.are in
       let slots = written_slots texts before in
       record {
-        are_true = is.settled.are_true;
-        same = is.settled.same;
-        made = is.settled.outcome is.made;
+        are_true = settled.are_true;
+        same = settled.same;
+        made = settled.outcome is.made;
         texts = more.0;
         are = more.1.0;
         manifest = more.1.1.manifest;
@@ -67,16 +73,16 @@ module _ (held : Contents) where
         aux = ap (λ (x : Slots). x.aux) slots ∙ ap (λ bytes. Some bytes) (sym more.1.1.aux);
         accepted = ap defect more.1.1.cache ∙ is.all.accepted;
         descending = subst (λ (cache : List ℕ). AreDescending (read cache)) (sym more.1.1.cache) is.all.descending;
-        finds = subst (λ (cache : List ℕ). FindsAsSearched held (planned_image held u).tree cache) (sym more.1.1.cache)
-            (searched_too held u.tree (planned_image held u).tree texts.cache is.settled.entries is.finds);
+        finds = subst (λ (cache : List ℕ). FindsAsSearched held (planned_image held u).tree (planned_image held u).stamps cache) (sym more.1.1.cache)
+            (searched_too held u.tree u.stamps (planned_image held u).tree (planned_image held u).stamps texts.cache settled.entries is.finds);
       }
 
-  held_last : (us : List Loaded) (before after : Slots) (reports : List (List ℕ)) → AreMade held us before after reports → OfLast us (λ u. HoldUpdateOf held (planned_image held u) after)
-  held_last [] before after reports made = none_last (λ u. HoldUpdateOf held (planned_image held u) after)
-  held_last (u ∷ us) before after reports (texts, (is, (rest, (parts, made)))) =
+  held_last : (us : List Loaded) (before after : Slots) (reports : List (List ℕ)) → All (IsHonest held) us → AreMade held us before after reports → OfLast us (λ u. HoldUpdateOf held (planned_image held u) after)
+  held_last [] before after reports honest made = none_last (λ u. HoldUpdateOf held (planned_image held u) after)
+  held_last (u ∷ us) before after reports honest (texts, (is, (rest, (parts, made)))) =
       last_by u us (λ u. HoldUpdateOf held (planned_image held u) after)
-      (λ none. subst (λ (slots : Slots). HoldUpdateOf held (planned_image held u) slots) (sym (ended held us (slots_after (writes_of texts) before) after rest none made)) (held_by u texts before is))
-      (held_last us (slots_after (writes_of texts) before) after rest made)
+      (λ none. subst (λ (slots : Slots). HoldUpdateOf held (planned_image held u) slots) (sym (ended held us (slots_after (writes_of texts) before) after rest none made)) (held_by u texts before (All-head (IsHonest held) u us honest) is))
+      (held_last us (slots_after (writes_of texts) before) after rest (All-tail (IsHonest held) u us honest) made)
 
 -- ---- the manifest
 
@@ -132,8 +138,8 @@ module _ (held : Contents) where
     where
       by : (m : Option (List ℕ)) → m ≡ new_manifest held u → IfReads m (planned_image held u) → manifest_of (option_or m slots.manifest) ≡ HasTree (planned_image held u).tree
       by None e reads =
-          let not = unwritten u.edited (planned_in held u.tree) (links_in held u.tree) (sym e) in
-          has (chain not).1 ∙ ap HasTree (sym (chain not).0 ∙ sym (is.settled.unchanged (sym e)))
+          let not = unwritten u.edited (planned_in held u.tree u.stamps) (links_in held u.tree u.stamps) (sym e) in
+          has (chain not).1 ∙ ap HasTree (sym (chain not).0 ∙ sym (unlinked held u (sym e)))
       by (Some text) e reads = reads
 
   -- the session with the planned links is that of the slots
@@ -149,7 +155,7 @@ module _ (held : Contents) where
       }
     where
       of_parts : List Stamp → Option ℕ → Loaded
-      of_parts stamps damaged = record { tree = planned_in held u.tree; stamps = stamps; edited = false; damaged = damaged }
+      of_parts stamps damaged = record { tree = planned_in held u.tree u.stamps; stamps = stamps; edited = false; damaged = damaged }
 
   has_planned : (u : Loaded) (slots : Slots) → IsImageIn slots (planned_image held u) → HasItsTree (planned_image held u) slots
   has_planned u slots is not = is.tree
@@ -169,7 +175,21 @@ pub rebuilds_by : (held : Contents) (lines : List (List ℕ)) (number : ℕ) (s 
     → LeavesRebuilt held (course held number lines s) to content old new → RebuildsScript held number lines s to content old new
 rebuilds_by held lines number s to content old new left = record {
   left = left;
-  settled = held_last held left.made content.now left.slots left.reports left.are_made;
+  honest = made_honest;
+  settled = λ honest. held_last held left.made content.now left.slots left.reports (made_honest honest) left.are_made;
   stored = stored_last held s left.made content.now left.slots left.reports left.are_made
       (front_chained held s left.made left.rest (subst (λ (us : List Loaded). AreChained held s us) left.parts (are_chained held lines number s)));
 }
+  where
+    front : (xs ys : List Loaded) → All (IsHonest held) (xs ++ ys) → All (IsHonest held) xs
+    front [] ys all = All-nil (IsHonest held)
+    front (x ∷ xs) ys all = All-cons (IsHonest held) x xs (All-head (IsHonest held) x (xs ++ ys) all) (front xs ys (All-tail (IsHonest held) x (xs ++ ys) all))
+
+    -- the sessions of which updates were made are among those of which updates are asked for
+    made_honest : AreHonest held s.stamps (course held number lines s).asked → All (IsHonest held) left.made
+    made_honest honest =
+        let c = course held number lines s in
+        let each = each_honest held lines number s honest in
+        let updates : All (IsHonest held) c.updates =
+        All-weaker (Contains c.asked) (IsHonest held) (λ u there. All-contains (IsHonest held) c.asked u each there) c.updates (are_asked held lines number s) in
+        front left.made left.rest (subst (λ (us : List Loaded). All (IsHonest held) us) left.parts updates)

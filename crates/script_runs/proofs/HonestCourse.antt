@@ -1,33 +1,42 @@
--- Honest identities stay so along a script.
-use Rattle.std.proofs.Common.{◌≡◌, List, [], ◌∷◌, All, Option, Some, subst}
-use Rattle.std.proofs.lemmas.List.Elements.{All-head, All-tail, All-weaker}
-use Rattle.ldconfig_core.specs.Outcome.{Lacking, Outcome, TooLarge, TooMany, Writes}
+-- The assumption on identities holds for each session of a script.
+use Rattle.std.proofs.Common.{◌≡◌, ◌+◌, ℕ, List, [], ◌∷◌, All, Option, Some, Result, Ok, Err, subst, sym}
+use Rattle.std.proofs.lemmas.List.Elements.{All-cons, All-head, All-nil, All-tail, All-weaker}
+use Rattle.ldconfig_core.specs.Outcome.{Lacking, Outcome, TooLarge, TooMany, Writes, update_outcome}
 use Rattle.ldconfig_core.specs.Settled.{planned_image}
-use Rattle.ldconfig_core.specs.Update.{IfHonestly}
+use Rattle.image_tree.specs.Tree.{Nodes}
 use Rattle.loaded_image.specs.Session.{Loaded}
-use Rattle.searched_image.specs.Ldconfig.{library_paths, stamps_in}
-use Rattle.stamped_files.proofs.Truth.{true_made}
+use Rattle.manifest_words.specs.declared.fault.LineKind.{LineKind}
+use Rattle.script_lines.specs.Script.{line_of}
+use Rattle.script_lines.specs.declared.line.ScriptLine.{ScriptLine}
+use Rattle.script_lines.specs.declared.line.ScriptLine.TheVariants as asking
+use Rattle.aux_cache.specs.declared.stamps.Stamp.{Stamp}
+use Rattle.searched_image.proofs.Honest.{stamps_true}
+use Rattle.searched_image.specs.Ldconfig.{stamps_in}
 use Rattle.stamped_files.specs.Stamped.{AreSame, AreTrue}
+use Rattle.tree_face.specs.Known.{IfKnown}
 use Rattle.tree_face.specs.Store.{Contents}
-use Rattle.script_runs.specs.Course.{AreHonest, Course, course_of_update, trees_of}
+use Rattle.script_runs.specs.Course.{AreHonest, Course, IsHonest, course, course_by, course_of_update, goes_on, trees_of}
+use Rattle.script_runs.specs.Run.{after_line}
+use Rattle.script_runs.specs.declared.fault.LineFault.{LineFault}
+use Rattle.script_runs.proofs.EditedImage.{IsEdit, edit_is}
 
--- its stamps are true, and its files of equal identity have equal content
-abbrev pub IsHonest : Contents → Loaded → Type 0
-IsHonest held s = AreTrue held s.tree s.stamps × AreSame held s.tree s.tree
+-- a fact of contents that are known
+pub knowing : (held : Contents) (P : Contents → Type 0) (known : Option Contents) → known ≡ Some held → IfKnown known P → P held
+knowing held P known is given = subst (λ (known : Option Contents). IfKnown known P) is given
 
--- a fact of an image that is honest
-pub honestly : (held : Contents) (s : Loaded) (P : Contents → Type 0) (known : Option Contents) → known ≡ Some held → IsHonest held s → IfHonestly known s P → P held
-honestly held s P known is here given = subst (λ (known : Option Contents). IfHonestly known s P) is given here.0 here.1
+-- the stamps of an update of such a session are true of each tree whose files of equal identity have equal content
+pub made_true : (held : Contents) (s : Loaded) → IsHonest held s → (t : Nodes) → AreSame held s.tree t → AreTrue held t (stamps_in held s.tree s.stamps)
+made_true held s here t same = stamps_true held s.tree here.1 s.stamps here.0 t same
 
 module _ (held : Contents) (s : Loaded) where
-  -- files of equal identity have equal content in the images behind it
+  -- files of equal identity have equal content in the images after it
   same_later : (images : List Loaded) → AreHonest held s.stamps (s ∷ images) → All (λ t. All (AreSame held t) (trees_of images)) (trees_of images)
   same_later images honest =
       let trees = trees_of images in
       All-weaker (λ t. All (AreSame held t) (s.tree ∷ trees)) (λ t. All (AreSame held t) trees) (λ t same. All-tail (AreSame held t) s.tree trees same) trees
       (All-tail (λ t. All (AreSame held t) (s.tree ∷ trees)) s.tree trees honest.same)
 
-  -- the stamps of the first image are true of those behind it
+  -- the stamps of the first image are true of those after it
   pub later_is : (images : List Loaded) → AreHonest held s.stamps (s ∷ images) → AreHonest held s.stamps images
   later_is images honest = record { same = same_later images honest; are_true = All-tail (λ t. AreTrue held t s.stamps) s.tree (trees_of images) honest.are_true }
 
@@ -46,12 +55,45 @@ module _ (held : Contents) (s : Loaded) where
 
   -- the stamps of an update are true of the images of later ones
   pub next_is : (images : List Loaded) → AreHonest held s.stamps (s ∷ images) → AreHonest held (planned_image held s).stamps images
-  unfolding stamps_in
   next_is images honest =
+      let here = first_is images honest in
       let trees = trees_of images in
       let to_first : All (AreSame held s.tree) trees =
       All-tail (AreSame held s.tree) s.tree trees (All-head (λ t. All (AreSame held t) (s.tree ∷ trees)) s.tree trees honest.same) in
       record {
         same = same_later images honest;
-        are_true = All-weaker (AreSame held s.tree) (λ t. AreTrue held t (stamps_in held s.tree)) (λ t same. true_made held t s.tree same (library_paths held s.tree)) trees to_first;
+        are_true = All-weaker (AreSame held s.tree) (λ t. AreTrue held t (stamps_in held s.tree s.stamps)) (λ t same. made_true held s here t same) trees to_first;
       }
+
+-- ---- each session of which an update is asked for meets the assumption
+
+module _ (held : Contents) where
+  abbrev AreEach : Loaded → Course → Type 0
+  AreEach s c = AreHonest held s.stamps c.asked → All (IsHonest held) c.asked
+
+  one_honest : (s : Loaded) → AreHonest held s.stamps (s ∷ []) → All (IsHonest held) (s ∷ [])
+  one_honest s honest = All-cons (IsHonest held) s [] (first_is held s [] honest) (All-nil (IsHonest held))
+
+  update_honest : (s : Loaded) (outcome : Outcome) (rest : Loaded → Course) → AreEach (planned_image held s) (rest (planned_image held s)) → AreEach s (course_of_update held s outcome rest)
+  update_honest s Writes rest are honest =
+      let images = (rest (planned_image held s)).asked in
+      All-cons (IsHonest held) s images (first_is held s images honest) (are (next_is held s images honest))
+  update_honest s Lacking rest are honest = one_honest s honest
+  update_honest s (TooLarge nodes bytes) rest are honest = one_honest s honest
+  update_honest s (TooMany count) rest are honest = one_honest s honest
+
+  module _ (number : ℕ) (s : Loaded) (rest : Loaded → Course) (are : (session : Loaded) → AreEach session (rest session)) where
+    edit_honest : (one : Result Loaded LineFault) → IsEdit s one → AreEach s (goes_on number one rest)
+    edit_honest (Ok session) is honest = are session (subst (λ (stamps : List Stamp). AreHonest held stamps (rest session).asked) (sym is.0) honest)
+    edit_honest (Err fault) is honest = All-nil (IsHonest held)
+
+    line_honest : (asked : Result ScriptLine LineKind) → AreEach s (course_by held number asked s rest)
+    line_honest (Ok asking.Update) = update_honest s (update_outcome held s) rest (are (planned_image held s))
+    line_honest (Ok asking.Ignored) = edit_honest (after_line (Ok asking.Ignored) s) (edit_is s (Ok asking.Ignored))
+    line_honest (Ok (asking.Put entry)) = edit_honest (after_line (Ok (asking.Put entry)) s) (edit_is s (Ok (asking.Put entry)))
+    line_honest (Ok (asking.Drop path)) = edit_honest (after_line (Ok (asking.Drop path)) s) (edit_is s (Ok (asking.Drop path)))
+    line_honest (Err kind) = edit_honest (after_line (Err kind) s) (edit_is s (Err kind))
+
+  pub each_honest : (lines : List (List ℕ)) (number : ℕ) (s : Loaded) → AreHonest held s.stamps (course held number lines s).asked → All (IsHonest held) (course held number lines s).asked
+  each_honest [] number s = λ honest. All-nil (IsHonest held)
+  each_honest (line ∷ lines) number s = line_honest number s (λ session. course held (1 + number) lines session) (λ session. each_honest lines (1 + number) session) (line_of line)

@@ -1,3 +1,4 @@
+mod AskedFor
 mod Completed
 mod Crashed
 mod EditedImage

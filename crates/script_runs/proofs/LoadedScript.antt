@@ -24,7 +24,7 @@ use Rattle.script_runs.proofs.HeldUpdate.{rebuilds_by}
 use Rattle.script_runs.proofs.InSlots.{image_is}
 use Rattle.script_runs.proofs.Rebuilt.{are_rebuilt, ends_since}
 use Rattle.script_runs.proofs.RepairedScript.{repairs_script}
-use Rattle.script_runs.specs.Course.{AreHonest, Course, course}
+use Rattle.script_runs.specs.Course.{Course, course}
 use Rattle.script_runs.specs.Crash.{LeavesWholeCaches, MakesCalls}
 use Rattle.script_runs.specs.Left.{LeavesRebuilt}
 use Rattle.script_runs.specs.Run.{RunsLines}
@@ -72,30 +72,30 @@ module _ (tag : Tag) (lines : List (List ℕ)) (status : Status) (held : Content
     keys = left.keys;
   }
 
-  script_left : (s : Loaded) → IsImageIn content.now s → AreHonest held s.stamps (course held 1 lines s).asked → (loaded : Result Loaded LoadFault) → Loads loaded old.disk between
+  script_left : (s : Loaded) → IsImageIn content.now s → (loaded : Result Loaded LoadFault) → Loads loaded old.disk between
       → AfterLoad tag lines loaded status (record old { disk = between }) new
       → IsUnloaded status content old new ⊎ IsRebuilt held lines s status content old new
-  script_left s image honest (Err fault) loads (e, same) =
+  script_left s image (Err fault) loads (e, same) =
       inl (subst (λ (status : Status). IsUnloaded status content old new) (sym e)
       (subst (λ (new : States). IsUnloaded (of_load fault) content old new) (sym same) (unloaded content old between known s image fault loads)))
-  script_left s image honest (Ok found) loads (to, (is_status, runs)) =
+  script_left s image (Ok found) loads (to, (is_status, runs)) =
       let there : IsImageIn content.now found = image_is content found (subst (λ (c : Option DiskContent). IsLoaded c found) known loads.loaded) in
       let one : found ≡ s = one_image content.now s found image there in
       let here : RunsLines tag 1 lines s to (record old { disk = between }) new =
       subst (λ (s : Loaded). RunsLines tag 1 lines s to (record old { disk = between }) new) one runs in
       let left = left_since (course held 1 lines s) to loads.reads.faults
-      (are_rebuilt tag held lines 1 s to content (record old { disk = between }) new is (loads.reads.keeps.contents ∙ known) honest here) in
+      (are_rebuilt tag held lines 1 s to content (record old { disk = between }) new is (loads.reads.keeps.contents ∙ known) here) in
       inr (to, (is_status, rebuilds_by held lines 1 s to content old new left))
 
 pub loads_rebuilt : (tag : Tag) (lines : List (List ℕ)) (status : Status) (old new : States) → RunsStored tag lines status old new → RebuildsSlots lines status old new
 loads_rebuilt tag lines status old new run = by old.store.held refl old.disk.contents refl
   where
     by : (h : Option Contents) → old.store.held ≡ h → (c : Option DiskContent) → old.disk.contents ≡ c → IfBothKnown h c (λ held content.
-        (s : Loaded) → IsImageIn content.now s → AreHonest held s.stamps (course held 1 lines s).asked
+        (s : Loaded) → IsImageIn content.now s
         → IsUnloaded status content old new ⊎ IsRebuilt held lines s status content old new)
     by None is c known = tt
     by (Some held) is None known = tt
-    by (Some held) is (Some content) known = λ s image honest. script_left tag lines status held content old new run.between is known s image honest run.loaded run.loads run.after
+    by (Some held) is (Some content) known = λ s image. script_left tag lines status held content old new run.between is known s image run.loaded run.loads run.after
 
 -- ---- a crash
 

@@ -1,8 +1,7 @@
--- What a script leaves is what rebuilding without an auxiliary cache gives.
+-- What a script leaves is what its course gives.
 use Rattle.std.proofs.Common.{◌≡◌, ◌≤◌, ◌+◌, ◌++◌, ℕ, List, [], ◌∷◌, Option, Some, None, Result, Ok, Err, append-nil, refl, ap, sym, subst, ◌∙◌, true, inl, inr, arith}
 use Rattle.atomic_replace.specs.Replace.{Write}
 use Rattle.tree_face.specs.declared.disk.Slot.{Slot}
-use Rattle.aux_cache.specs.declared.stamps.Stamp.{Stamp}
 use Rattle.ldconfig_core.proofs.WrittenSlots.{slots_are}
 use Rattle.ldconfig_core.specs.Outcome.{Lacking, Outcome, TooLarge, TooMany, Writes, update_outcome}
 use Rattle.ldconfig_core.specs.Repair.{OldOrNew, slots_after}
@@ -36,10 +35,10 @@ use Rattle.script_runs.specs.declared.fault.LineFault.{LineFault}
 use Rattle.script_runs.specs.declared.fault.ScriptFault.{ScriptFault}
 use Rattle.script_runs.specs.declared.fault.ScriptFault.TheVariants.{Line, NoMemory, Updating}
 use Rattle.script_runs.proofs.EditedImage.{IsEdit, edit_is}
-use Rattle.script_runs.proofs.HonestCourse.{IsHonest, asked_is, honestly, next_is}
+use Rattle.script_runs.proofs.HonestCourse.{knowing}
 use Rattle.script_runs.proofs.PartWritten.{part_written}
 use Rattle.script_runs.proofs.UpdateOf.{texts_are}
-use Rattle.script_runs.specs.Course.{AreHonest, Course, course, course_by, course_of_update, ends, goes_on, refused}
+use Rattle.script_runs.specs.Course.{Course, course, course_by, course_of_update, ends, goes_on, refused}
 use Rattle.script_runs.specs.Faults.{numbered, updated}
 use Rattle.script_runs.specs.Left.{AreMade, AreSlots, AreWritten, EndsBy, EndsByUpdate, FollowsAndPart, IsUpdateOf, LeavesRebuilt, joined, keys_of}
 use Rattle.script_runs.specs.Run.{DoesLine, DoesUpdate, GoesOn, RunsLines, after_line}
@@ -138,7 +137,7 @@ module _ (held : Contents) (course : Course) (content : DiskContent) (old new : 
 -- ---- one update
 
 module _ (tag : Tag) (held : Contents) (s : Loaded) (more : Loaded → Course) (content : DiskContent) (old between : States)
-    (is : old.store.held ≡ Some held) (known : old.disk.contents ≡ Some content) (here : IsHonest held s) where
+    (is : old.store.held ≡ Some held) (known : old.disk.contents ≡ Some content) where
   -- the outcome of the update is this one
   by_outcome : (to : Result Loaded ScriptFault) (new : States) (outcome : Outcome) → update_outcome held s ≡ outcome → LeavesRebuilt held (course_of_update held s outcome more) to content old new
       → LeavesRebuilt held (course_of_update held s (update_outcome held s) more) to content old new
@@ -221,7 +220,7 @@ module _ (tag : Tag) (held : Contents) (s : Loaded) (more : Loaded → Course) (
   IsRun result = Updates tag s result old.store between.store old.disk between.disk
 
   answer : (result : Result (Loaded × Report) UpdateFault) → IsRun result → IsAnswer (update_outcome held s) result old.store between.store
-  answer result u = honestly held s (λ held. IsAnswer (update_outcome held s) result old.store between.store) old.store.held is here u.answers
+  answer result u = knowing held (λ held. IsAnswer (update_outcome held s) result old.store between.store) old.store.held is u.answers
 
   -- the slots when all is written
   all_written : (writes : List Write) (b : Option DiskContent) → Relates (Replaces tag.0 writes) old.disk.contents b
@@ -256,19 +255,19 @@ module _ (tag : Tag) (held : Contents) (s : Loaded) (more : Loaded → Course) (
       let left = u.written in
       let writes = answer (Err (updating.DiskFault fault)) u in
       by_outcome (Err (Updating (Update (updating.DiskFault fault)))) between Writes writes
-      (partly left.texts (texts_are held s left.texts old.store.held is here writes left.are)
+      (partly left.texts (texts_are held s left.texts old.store.held is writes left.are)
       (part_slots fault.slot (writes_of left.texts) between.disk.contents left.written.contents) sink fault left.written.faults)
 
   module _ (done : Loaded × Report) (u : IsRun (Ok done)) where
     planned : done.0 ≡ planned_image held s
-    planned = let is_updated = honestly held s (λ held. IsUpdated held s done) old.store.held is here u.updated in is_updated.planned
+    planned = let is_updated = knowing held (λ held. IsUpdated held s done) old.store.held is u.updated in is_updated.planned
 
     -- the keys of the update are begun
     begun : Relates (IsFollowedBy (update_keys held s.tree s.stamps)) old.store.keys between.store.keys
     begun =
-        let reads = honestly held s
+        let reads = knowing held
         (λ held. ReadsFiles (lacks_file held s.tree s.stamps ≡ true) (Some (update_keys held s.tree s.stamps)) (Some (update_bytes held s.tree s.stamps)) Complete old.store between.store)
-        old.store.held is here u.reads.keys in
+        old.store.held is u.reads.keys in
         reads.begins
 
     -- the report is that of the texts
@@ -282,7 +281,7 @@ module _ (tag : Tag) (held : Contents) (s : Loaded) (more : Loaded → Course) (
         let all = all_written (writes_of left.texts) between.disk.contents left.written.contents in
         let writes = answer (Ok done) u in
         by_outcome to new Writes writes
-        (made_on to new left.texts (texts_are held s left.texts old.store.held is here writes left.are) all.0 all.1.1
+        (made_on to new left.texts (texts_are held s left.texts old.store.held is writes left.are) all.0 all.1.1
         (report_of (λ report. Relates (IsFollowedBy report) old.sink.written between.sink.written) written)
         (record { store = u.reads.any.faults; disk = u.disk_faults; sink = omega (arith, faults) }) begun
         (next all.0 all.1.0))
@@ -294,7 +293,7 @@ module _ (tag : Tag) (held : Contents) (s : Loaded) (more : Loaded → Course) (
         let all = all_written (writes_of left.texts) between.disk.contents left.written.contents in
         let writes = answer (Ok done) u in
         by_outcome (Err (Updating OutputFault)) between Writes writes
-        (unreported left.texts (texts_are held s left.texts old.store.held is here writes left.are) all.0 all.1.1 all.1.0
+        (unreported left.texts (texts_are held s left.texts old.store.held is writes left.are) all.0 all.1.1 all.1.0
         (report_of (λ report. Relates (IsFollowedByPart report) old.sink.written between.sink.written) written) risen)
 
   -- a script that ends with this update
@@ -318,7 +317,7 @@ module _ (tag : Tag) (held : Contents) (s : Loaded) (more : Loaded → Course) (
 module _ (tag : Tag) (held : Contents) where
   abbrev pub AreRebuilt : List (List ℕ) → Type 0
   AreRebuilt lines = (number : ℕ) (s : Loaded) (to : Result Loaded ScriptFault) (content : DiskContent) (old new : States) → old.store.held ≡ Some held → old.disk.contents ≡ Some content
-      → AreHonest held s.stamps (course held number lines s).asked → RunsLines tag number lines s to old new → LeavesRebuilt held (course held number lines s) to content old new
+      → RunsLines tag number lines s to old new → LeavesRebuilt held (course held number lines s) to content old new
 
   module _ (lines : List (List ℕ)) (are : AreRebuilt lines) (number : ℕ) (s : Loaded) (to : Result Loaded ScriptFault) (content : DiskContent) (old new : States)
       (is : old.store.held ≡ Some held) (known : old.disk.contents ≡ Some content) where
@@ -329,42 +328,36 @@ module _ (tag : Tag) (held : Contents) where
     GoesFrom between one = GoesOn number one (λ session. RunsLines tag (1 + number) lines session to between new) to between new
 
     -- after a line that asks for no update
-    edit_on : (one : Result Loaded LineFault) → IsEdit s one → AreHonest held s.stamps (goes_on number one more).asked → GoesFrom old one
-        → LeavesRebuilt held (goes_on number one more) to content old new
-    edit_on (Ok session) kept honest goes =
-        are (1 + number) session to content old new is known (subst (λ (stamps : List Stamp). AreHonest held stamps (more session).asked) (sym kept.0) honest) goes
-    edit_on (Err fault) (kind, bad) honest (e, same) =
+    edit_on : (one : Result Loaded LineFault) → IsEdit s one → GoesFrom old one → LeavesRebuilt held (goes_on number one more) to content old new
+    edit_on (Ok session) kept goes = are (1 + number) session to content old new is known goes
+    edit_on (Err fault) (kind, bad) (e, same) =
         let end : Result Loaded ScriptFault = Err (Line number kind) in
         subst (λ (fault : LineFault). LeavesRebuilt held (ends (Err (numbered number fault))) to content old new) (sym bad)
         (subst (λ (to : Result Loaded ScriptFault). LeavesRebuilt held (ends end) to content old new) (sym (e ∙ ap (λ fault. Err (numbered number fault)) bad))
         (unmoved held (ends end) content old new known end same refl (λ w. w) (refl, refl)))
 
     module _ (one : Result Loaded LineFault) (between : States) (goes : GoesFrom between one) where
-      edited_on : (asked : Result ScriptLine LineKind) → AreHonest held s.stamps (goes_on number (after_line asked s) more).asked
-          → (one ≡ after_line asked s) × (between ≡ old) → LeavesRebuilt held (goes_on number (after_line asked s) more) to content old new
-      edited_on asked honest (e, same) = edit_on (after_line asked s) (edit_is s asked) honest
+      edited_on : (asked : Result ScriptLine LineKind) → (one ≡ after_line asked s) × (between ≡ old) → LeavesRebuilt held (goes_on number (after_line asked s) more) to content old new
+      edited_on asked (e, same) = edit_on (after_line asked s) (edit_is s asked)
           (subst (λ (one : Result Loaded LineFault). GoesFrom old one) e (subst (λ (between : States). GoesFrom between one) same goes))
 
-      updated_on : AreHonest held s.stamps (course_of_update held s (update_outcome held s) more).asked → DoesUpdate tag s one old between
-          → LeavesRebuilt held (course_of_update held s (update_outcome held s) more) to content old new
-      updated_on honest (this, (u, e)) =
-          by_result tag held s more content old between is known (asked_is held s (update_outcome held s) more honest) number to new
+      updated_on : DoesUpdate tag s one old between → LeavesRebuilt held (course_of_update held s (update_outcome held s) more) to content old new
+      updated_on (this, (u, e)) =
+          by_result tag held s more content old between is known number to new
           (λ session. RunsLines tag (1 + number) lines session to between new)
-          (λ writes held_too after there runs. are (1 + number) (planned_image held s) to after between new held_too there
-          (next_is held s (more (planned_image held s)).asked (subst (λ (outcome : Outcome). AreHonest held s.stamps (course_of_update held s outcome more).asked) writes honest)) runs)
+          (λ writes held_too after there runs. are (1 + number) (planned_image held s) to after between new held_too there runs)
           this u.result u.updates u.reports (subst (λ (one : Result Loaded LineFault). GoesFrom between one) e goes)
 
-      line_on : (asked : Result ScriptLine LineKind) → AreHonest held s.stamps (course_by held number asked s more).asked → DoesLine tag asked s one old between
-          → LeavesRebuilt held (course_by held number asked s more) to content old new
-      line_on (Ok asking.Update) honest does = updated_on honest does
-      line_on (Ok asking.Ignored) honest does = edited_on (Ok asking.Ignored) honest does
-      line_on (Ok (asking.Put entry)) honest does = edited_on (Ok (asking.Put entry)) honest does
-      line_on (Ok (asking.Drop path)) honest does = edited_on (Ok (asking.Drop path)) honest does
-      line_on (Err kind) honest does = edited_on (Err kind) honest does
+      line_on : (asked : Result ScriptLine LineKind) → DoesLine tag asked s one old between → LeavesRebuilt held (course_by held number asked s more) to content old new
+      line_on (Ok asking.Update) does = updated_on does
+      line_on (Ok asking.Ignored) does = edited_on (Ok asking.Ignored) does
+      line_on (Ok (asking.Put entry)) does = edited_on (Ok (asking.Put entry)) does
+      line_on (Ok (asking.Drop path)) does = edited_on (Ok (asking.Drop path)) does
+      line_on (Err kind) does = edited_on (Err kind) does
 
   line_rebuilt : (line : List ℕ) (lines : List (List ℕ)) → AreRebuilt lines → AreRebuilt (line ∷ lines)
-  line_rebuilt line lines are number s to content old new is known honest (one, (between, (takes, goes))) = elim takes [
-    | inl does ↦ line_on lines are number s to content old new is known one between goes (line_of line) honest does
+  line_rebuilt line lines are number s to content old new is known (one, (between, (takes, goes))) = elim takes [
+    | inl does ↦ line_on lines are number s to content old new is known one between goes (line_of line) does
     | inr out ↦
         let end : (to ≡ Err NoMemory) × (new ≡ between) =
         subst (λ (one : Result Loaded LineFault). GoesOn number one (λ session. RunsLines tag (1 + number) lines session to between new) to between new) out.0 goes in
@@ -373,8 +366,8 @@ module _ (tag : Tag) (held : Contents) where
   ]
 
   pub are_rebuilt : (lines : List (List ℕ)) → AreRebuilt lines
-  are_rebuilt [] number s to content old new is known honest (done, same) =
+  are_rebuilt [] number s to content old new is known (done, same) =
       subst (λ (to : Result Loaded ScriptFault). LeavesRebuilt held (ends (Ok s)) to content old new) (sym done)
       (unmoved held (ends (Ok s)) content old new known (Ok s) same refl (λ w. w) (refl, refl))
-  are_rebuilt (line ∷ lines) number s to content old new is known honest runs =
-      line_rebuilt line lines (λ n t e c a b. are_rebuilt lines n t e c a b) number s to content old new is known honest runs
+  are_rebuilt (line ∷ lines) number s to content old new is known runs =
+      line_rebuilt line lines (λ n t e c a b. are_rebuilt lines n t e c a b) number s to content old new is known runs

@@ -1,13 +1,13 @@
--- What a crash of a script has left is honest, and what an update of it writes is what one of the old image or of the course writes.
-use Rattle.std.proofs.Common.{◌≡◌, ◌⊎◌, ◌+◌, ◌++◌, ℕ, Bool, List, [], ◌∷◌, All, flat_map, Option, Some, None, Result, Ok, Err, IfOk, refl, ap, sym, subst, ◌∙◌, inl, inr}
+-- What a crash of a script has left meets the assumption on identities, and what an update of it writes is what one of the old image or of the course writes.
+use Rattle.std.proofs.Common.{◌≡◌, ◌⊎◌, ◌++◌, ℕ, List, [], ◌∷◌, All, flat_map, Option, Some, None, Result, Ok, Err, IfOk, refl, ap, sym, subst, ◌∙◌, inl, inr}
 use Rattle.std.specs.List.{Contains}
-use Rattle.std.proofs.lemmas.List.Elements.{All-cons, All-contains, All-contains_itself, All-head, All-nil, All-tail, All-weaker, Contains-append_right}
+use Rattle.std.proofs.lemmas.List.Elements.{All-cons, All-contains, All-head, All-nil, All-tail, All-weaker}
 use Rattle.atomic_replace.specs.Replace.{Write}
 use Rattle.aux_cache.specs.declared.stamps.Stamp.{Stamp}
 use Rattle.image_tree.specs.Tree.{Nodes}
-use Rattle.ldconfig_core.proofs.OneText.{again, one_written}
+use Rattle.ldconfig_core.proofs.OneText.{again, one_outcome, one_written}
 use Rattle.ldconfig_core.proofs.WrittenSlots.{aux_written, manifest_written, one_image}
-use Rattle.ldconfig_core.specs.Outcome.{Lacking, Outcome, TooLarge, TooMany, Writes, new_manifest, update_outcome}
+use Rattle.ldconfig_core.specs.Outcome.{Writes, update_outcome}
 use Rattle.ldconfig_core.specs.Repair.{IsImageIn}
 use Rattle.ldconfig_core.specs.Settled.{AreCachesAgain, AreSettled, IfReads, planned_image}
 use Rattle.ldconfig_core.specs.Texts.{AreAlike, AreTextsOf, UpdateTexts, writes_of}
@@ -15,13 +15,8 @@ use Rattle.loaded_image.specs.Aux.{stamps_of_slot}
 use Rattle.loaded_image.specs.Manifest.{manifest_of}
 use Rattle.loaded_image.specs.Session.{IsLoaded, Loaded, image_with}
 use Rattle.loaded_image.specs.declared.fault.LoadFault.{LoadFault}
-use Rattle.manifest_words.specs.declared.fault.LineKind.{LineKind}
 use Rattle.replaced_slots.specs.Replaced.{IsOfWrites}
-use Rattle.script_lines.specs.Script.{line_of}
-use Rattle.script_lines.specs.declared.line.ScriptLine.{ScriptLine}
-use Rattle.script_lines.specs.declared.line.ScriptLine.TheVariants as asking
-use Rattle.searched_image.specs.Ldconfig.{library_paths, planned_in, stamps_in}
-use Rattle.stamped_files.proofs.Truth.{true_made}
+use Rattle.searched_image.specs.Ldconfig.{planned_in, stamps_in}
 use Rattle.stamped_files.specs.Stamped.{AreSame, AreTrue}
 use Rattle.tree_face.specs.Disk.{Content, DiskContent, DiskState, Slots, slot_of}
 use Rattle.tree_face.specs.Store.{Contents}
@@ -30,61 +25,21 @@ use Rattle.tree_face.specs.declared.disk.Tag.{Tag}
 use Rattle.tree_face.specs.declared.disk.Slot.TheVariants.{Manifest, Aux}
 use Rattle.command_status.specs.declared.status.Status.{Status}
 use Rattle.devices.specs.Devices.{IfBothKnown}
-use Rattle.script_runs.specs.declared.fault.LineFault.{LineFault}
 use Rattle.script_runs.specs.declared.fault.ScriptFault.{ScriptFault}
 use Rattle.script_runs.proofs.InSlots.{image_is}
-use Rattle.script_runs.proofs.HonestCourse.{first_is, later_is}
-use Rattle.script_runs.specs.Course.{AreHonest, Course, course, course_by, course_of_update, goes_on, trees_of}
+use Rattle.script_runs.proofs.AskedFor.{AreAsked, are_asked, contains_first, contains_later}
+use Rattle.script_runs.proofs.HonestCourse.{each_honest, first_is, later_is, made_true}
+use Rattle.script_runs.specs.Course.{AreHonest, Course, IsHonest, course, trees_of}
 use Rattle.script_runs.specs.Crash.{AreOfFirst, IsOfOld, IsOfUpdate, LeavesWholeCaches, MayBeLeft}
 use Rattle.script_runs.specs.Left.{IsUpdateOf}
 use Rattle.script_runs.specs.Stored.{IsRepairable, LeavesBy, LeavesWhole, RepairsScript}
-use Rattle.script_runs.specs.Run.{after_line}
 
 -- ---- lists
-
-contains_first : (u : Loaded) (images : List Loaded) → Contains (u ∷ images) u
-contains_first u images = All-head (Contains (u ∷ images)) u images (All-contains_itself (u ∷ images))
-
-contains_later : (v : Loaded) (images : List Loaded) (u : Loaded) → Contains images u → Contains (v ∷ images) u
-contains_later v images u there = Contains-append_right (v ∷ []) images u there
 
 each_tree : (P : Nodes → Type 0) (images : List Loaded) → All P (trees_of images) → All (λ (u : Loaded). P u.tree) images
 each_tree P [] are = All-nil (λ (u : Loaded). P u.tree)
 each_tree P (u ∷ images) are =
     All-cons (λ (u : Loaded). P u.tree) u images (All-head P u.tree (trees_of images) are) (each_tree P images (All-tail P u.tree (trees_of images) are))
-
--- ---- an update that is made was asked for
-
-abbrev AreAsked : Course → Type 0
-AreAsked course = All (Contains course.asked) course.updates
-
-none_asked : (asked : List Loaded) → All (Contains asked) []
-none_asked asked = All-nil (Contains asked)
-
-update_asked : (held : Contents) (s : Loaded) (outcome : Outcome) (rest : Loaded → Course) → AreAsked (rest (planned_image held s)) → AreAsked (course_of_update held s outcome rest)
-update_asked held s Writes rest are =
-    let next = rest (planned_image held s) in
-    All-cons (Contains (s ∷ next.asked)) s next.updates (contains_first s next.asked)
-    (All-weaker (Contains next.asked) (Contains (s ∷ next.asked)) (λ u there. contains_later s next.asked u there) next.updates are)
-update_asked held s Lacking rest are = none_asked (s ∷ [])
-update_asked held s (TooLarge nodes bytes) rest are = none_asked (s ∷ [])
-update_asked held s (TooMany count) rest are = none_asked (s ∷ [])
-
-edit_asked : (number : ℕ) (one : Result Loaded LineFault) (rest : Loaded → Course) → ((session : Loaded) → AreAsked (rest session)) → AreAsked (goes_on number one rest)
-edit_asked number (Ok session) rest are = are session
-edit_asked number (Err fault) rest are = none_asked []
-
-line_asked : (held : Contents) (number : ℕ) (asked : Result ScriptLine LineKind) (s : Loaded) (rest : Loaded → Course) → ((image : Loaded) → AreAsked (rest image))
-    → AreAsked (course_by held number asked s rest)
-line_asked held number (Ok asking.Update) s rest are = update_asked held s (update_outcome held s) rest (are (planned_image held s))
-line_asked held number (Ok asking.Ignored) s rest are = edit_asked number (after_line (Ok asking.Ignored) s) rest are
-line_asked held number (Ok (asking.Put entry)) s rest are = edit_asked number (after_line (Ok (asking.Put entry)) s) rest are
-line_asked held number (Ok (asking.Drop path)) s rest are = edit_asked number (after_line (Ok (asking.Drop path)) s) rest are
-line_asked held number (Err kind) s rest are = edit_asked number (after_line (Err kind) s) rest are
-
-are_asked : (held : Contents) (lines : List (List ℕ)) (number : ℕ) (s : Loaded) → AreAsked (course held number lines s)
-are_asked held [] number s = none_asked []
-are_asked held (line ∷ lines) number s = line_asked held number (line_of line) s (λ image. course held (1 + number) lines image) (λ image. are_asked held lines (1 + number) image)
 
 -- ---- what one of the updates writes
 
@@ -113,38 +68,33 @@ module _ (held : Contents) (slot : Slot) (b : Content) where
         record { image = rest.image; among = contains_later u images rest.image rest.among; texts = rest.texts; are = rest.are; there = rest.there }
   ]
 
--- images of one tree, both edited or both not, come to the same, whatever stamps they have
-one_outcome : (held : Contents) (s new : Loaded) → new.tree ≡ s.tree → new.edited ≡ s.edited → update_outcome held new ≡ update_outcome held s
-unfolding update_outcome new_manifest
-one_outcome held s new tree edited = ap (λ t. outcome_of t new.edited) tree ∙ ap (outcome_of s.tree) edited
-  where
-    outcome_of : Nodes → Bool → Outcome
-    outcome_of t edited = update_outcome held (record { tree = t; stamps = []; edited = edited; damaged = None })
-
 -- ---- a session that may be left
 
-module _ (held : Contents) (s : Loaded) (c : Course) (within : AreAsked c) (honest : AreHonest held s.stamps (s ∷ c.asked)) where
+module _ (held : Contents) (s : Loaded) (c : Course) (within : AreAsked c) (honest : AreHonest held s.stamps (s ∷ c.asked)) (each : All (IsHonest held) c.asked) where
   abbrev asked : List Loaded
   asked = s ∷ c.asked
 
   among_asked : (u : Loaded) → Contains c.updates u → Contains asked u
   among_asked u there = contains_later s c.asked u (All-contains (Contains c.asked) c.updates u within there)
 
+  abbrev first : IsHonest held s
+  first = first_is held s c.asked honest
+
   -- the stamps of an update are true of each session that is asked for
-  made_true : (u : Loaded) → Contains asked u → All (λ (v : Loaded). AreTrue held v.tree (stamps_in held u.tree)) asked
-  unfolding stamps_in
-  made_true u there =
+  all_made_true : (u : Loaded) → Contains asked u → All (λ (v : Loaded). AreTrue held v.tree (stamps_in held u.tree u.stamps)) asked
+  all_made_true u there =
       let same : All (AreSame held u.tree) (trees_of asked) =
       All-contains (λ (u : Loaded). All (AreSame held u.tree) (trees_of asked)) asked u (each_tree (λ t. All (AreSame held t) (trees_of asked)) asked honest.same) there in
-      All-weaker (λ (v : Loaded). AreSame held u.tree v.tree) (λ (v : Loaded). AreTrue held v.tree (stamps_in held u.tree))
-      (λ v same. true_made held v.tree u.tree same (library_paths held u.tree)) asked (each_tree (AreSame held u.tree) asked same)
+      let here : IsHonest held u = All-contains (IsHonest held) asked u (All-cons (IsHonest held) s c.asked first each) there in
+      All-weaker (λ (v : Loaded). AreSame held u.tree v.tree) (λ (v : Loaded). AreTrue held v.tree (stamps_in held u.tree u.stamps))
+      (λ v same. made_true held u here v.tree same) asked (each_tree (AreSame held u.tree) asked same)
 
   module _ (left : Loaded) (may : MayBeLeft held s c.updates left) where
     -- its stamps are true of each session that is asked for
     all_true : All (λ (u : Loaded). AreTrue held u.tree left.stamps) asked
     all_true = elim may.stamps [
       | inl old ↦ subst (λ (x : List Stamp). All (λ (u : Loaded). AreTrue held u.tree x) asked) (sym old) (each_tree (λ t. AreTrue held t s.stamps) asked honest.are_true)
-      | inr (u, (among, new)) ↦ subst (λ (x : List Stamp). All (λ (u : Loaded). AreTrue held u.tree x) asked) (sym new) (made_true u (among_asked u among))
+      | inr (u, (among, new)) ↦ subst (λ (x : List Stamp). All (λ (u : Loaded). AreTrue held u.tree x) asked) (sym new) (all_made_true u (among_asked u among))
     ]
 
     -- ---- of the old tree
@@ -154,18 +104,18 @@ module _ (held : Contents) (s : Loaded) (c : Course) (within : AreAsked c) (hone
       old_true = subst (λ (t : Nodes). AreTrue held t left.stamps) (sym tree) (All-head (λ (u : Loaded). AreTrue held u.tree left.stamps) s c.asked all_true)
 
       pub old_same : AreSame held left.tree left.tree
-      old_same = let here = first_is held s c.asked honest in subst (λ (t : Nodes). AreSame held t t) (sym tree) here.1
+      old_same = subst (λ (t : Nodes). AreSame held t t) (sym tree) first.1
 
       pub of_old : IsOfOld held s left
       of_old = record {
         tree = tree;
-        outcome = λ not. one_outcome held s left tree (may.fresh ∙ sym not);
-        again = λ not texts again are is. one_written held s left texts again tree (may.fresh ∙ sym not) are is;
+        outcome = λ not. one_outcome held s left tree (may.fresh ∙ sym not) first.1 first.0 old_true;
+        again = λ not texts again are is. one_written held s left tree (may.fresh ∙ sym not) first.1 first.0 old_true texts again are is;
       }
 
     -- ---- of the planned tree of an update
 
-    module _ (u : Loaded) (among : Contains c.updates u) (made : update_outcome held u ≡ Writes) (settled : AreSettled held u (planned_image held u)) (tree : left.tree ≡ planned_in held u.tree) where
+    module _ (u : Loaded) (among : Contains c.updates u) (made : update_outcome held u ≡ Writes) (settled : AreSettled held u (planned_image held u)) (tree : left.tree ≡ planned_in held u.tree u.stamps) where
       pub new_true : AreTrue held left.tree left.stamps
       new_true = subst (λ (t : Nodes). AreTrue held t left.stamps) (sym tree)
           (settled.true_too left.stamps (All-contains (λ (u : Loaded). AreTrue held u.tree left.stamps) asked u all_true (among_asked u among)))
@@ -176,18 +126,18 @@ module _ (held : Contents) (s : Loaded) (c : Course) (within : AreAsked c) (hone
       written_again : (texts others : UpdateTexts) → AreTextsOf held u texts → AreTextsOf held left others → AreCachesAgain texts others
       written_again texts others are is =
           let more = again held u (planned_image held u) texts settled are in
-          let one : AreAlike more.0 others = one_written held (planned_image held u) left more.0 others tree may.fresh more.1.0 is in
+          let one : AreAlike more.0 others = one_written held (planned_image held u) left tree may.fresh settled.same settled.are_true new_true more.0 others more.1.0 is in
           record { manifest = one.manifest ∙ more.1.1.manifest; cache = one.cache ∙ more.1.1.cache; aux = one.aux ∙ more.1.1.aux }
 
       pub of_update : IsOfUpdate held u left
-      of_update = record { tree = tree; made = one_outcome held (planned_image held u) left tree may.fresh ∙ settled.outcome made; again = written_again }
+      of_update = record { tree = tree; made = one_outcome held (planned_image held u) left tree may.fresh settled.same settled.are_true new_true ∙ settled.outcome made; again = written_again }
 
 -- ---- slots each of which is old, or written by an update of the course
 
-module _ (held : Contents) (slots : Slots) (s : Loaded) (in_slots : IsImageIn slots s) (c : Course) (within : AreAsked c) (honest : AreHonest held s.stamps (s ∷ c.asked))
+module _ (held : Contents) (slots : Slots) (s : Loaded) (in_slots : IsImageIn slots s) (c : Course) (within : AreAsked c) (honest : AreHonest held s.stamps (s ∷ c.asked)) (every : All (IsHonest held) c.asked)
     (image : Slots) (each : (slot : Slot) → (slot_of image slot ≡ slot_of slots slot) ⊎ IsWrittenOf held slot (slot_of image slot) c.updates) where
   -- the stamps are the old ones, or those of an update
-  stamps_are : (stamps_of_slot image.aux ≡ s.stamps) ⊎ ((u : Loaded) × (Contains c.updates u × (stamps_of_slot image.aux ≡ stamps_in held u.tree)))
+  stamps_are : (stamps_of_slot image.aux ≡ s.stamps) ⊎ ((u : Loaded) × (Contains c.updates u × (stamps_of_slot image.aux ≡ stamps_in held u.tree u.stamps)))
   stamps_are = elim (each Aux) [
     | inl old ↦ inl (ap stamps_of_slot old ∙ ap (λ (l : Loaded). l.stamps) (sym in_slots.is))
     | inr w ↦ inr (w.image, (w.among, ap stamps_of_slot (aux_written w.texts.manifest w.texts.cache w.texts.aux image.aux w.there) ∙ w.are.aux_read))
@@ -201,14 +151,15 @@ module _ (held : Contents) (slots : Slots) (s : Loaded) (in_slots : IsImageIn sl
         left = left;
         in_slots = record { tree = ap manifest_of old ∙ in_slots.tree; is = refl };
         may = may;
-        are_true = old_true held s c within honest left may refl;
-        same = old_same held s c within honest left may refl;
-        writes = inl (old, of_old held s c within honest left may refl);
+        are_true = old_true held s c within honest every left may refl;
+        same = old_same held s c within honest every left may refl;
+        writes = inl (old, of_old held s c within honest every left may refl);
       }
 
   of_new_manifest : (u : Loaded) → Contains c.updates u → (texts : UpdateTexts) → IsUpdateOf held u texts → IsOfWrites (writes_of texts) Manifest image.manifest → IsRepairable held s c.updates slots image
   of_new_manifest u among texts is there =
-      let left : Loaded = image_with (planned_in held u.tree) image.aux in
+      let left : Loaded = image_with (planned_in held u.tree u.stamps) image.aux in
+      let settled = is.settled (All-contains (IsHonest held) c.asked u every (All-contains (Contains c.asked) c.updates u within among)) in
       let may : MayBeLeft held s c.updates left = record { tree = inr (u, (among, refl)); stamps = stamps_are; fresh = refl } in
       let text = manifest_written texts image.manifest there in
       record {
@@ -218,9 +169,9 @@ module _ (held : Contents) (slots : Slots) (s : Loaded) (in_slots : IsImageIn sl
           is = refl;
         };
         may = may;
-        are_true = new_true held s c within honest left may u among is.made is.settled refl;
-        same = new_same held s c within honest left may u among is.made is.settled refl;
-        writes = inr (u, (among, (text.1.1 ∙ sym text.1.0 ∙ is.are.manifest_is, of_update held s c within honest left may u among is.made is.settled refl)));
+        are_true = new_true held s c within honest every left may u among is.made settled refl;
+        same = new_same held s c within honest every left may u among is.made settled refl;
+        writes = inr (u, (among, (text.1.1 ∙ sym text.1.0 ∙ is.are.manifest_is, of_update held s c within honest every left may u among is.made settled refl)));
       }
 
   repairable : IsRepairable held s c.updates slots image
@@ -238,13 +189,14 @@ module _ (tag : Tag) (held : Contents) (content : DiskContent) (lines : List (Li
       let whole : LeavesWholeCaches tag (Some held) 1 lines s to old new =
       subst (λ (s : Loaded). LeavesWholeCaches tag (Some held) 1 lines s to old new) (one_image content.now s found is there) left in
       let c = course held 1 lines s in
-      repairable held content.now s is c (are_asked held lines 1 s) honest image
+      repairable held content.now s is c (are_asked held lines 1 s) honest (each_honest held lines 1 s (later_is held s c.asked honest)) image
       (λ slot. elim (whole.whole slot (slot_of image slot) (might slot)) [
         | inl was ↦ inl (only slot (slot_of image slot) was)
-        | inr is ↦ inr (written_of held slot (slot_of image slot) to c.updates whole.updates (whole.of_course (later_is held s c.asked honest)) is)
+        | inr is ↦ inr (written_of held slot (slot_of image slot) to c.updates whole.updates whole.of_course is)
       ])
   by_loaded (Err fault) in_slots left only s is honest image might =
-      repairable held content.now s is (course held 1 lines s) (are_asked held lines 1 s) honest image
+      let c = course held 1 lines s in
+      repairable held content.now s is c (are_asked held lines 1 s) honest (each_honest held lines 1 s (later_is held s c.asked honest)) image
       (λ slot. inl (only slot (slot_of image slot) (left slot (slot_of image slot) (might slot))))
 
 pub repairs_script : (tag : Tag) (lines : List (List ℕ)) (status : Status) (known : Option Contents) (disk : Option DiskContent) (old new : DiskState) → old.contents ≡ disk

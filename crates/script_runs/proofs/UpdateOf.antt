@@ -1,29 +1,40 @@
 -- The texts of an update that is made.
-use Rattle.std.proofs.Common.{◌≡◌, Option, Some, None, subst}
+use Rattle.std.proofs.Common.{◌≡◌, Option, Some, None, refl, subst, ◌∙◌}
+use Rattle.ldconfig_core.proofs.OneText.{one_outcome, one_written}
 use Rattle.ldconfig_core.specs.Outcome.{Writes, update_outcome}
-use Rattle.ldconfig_core.specs.Texts.{UpdateTexts}
-use Rattle.ldconfig_core.specs.Update.{AreUpdateTexts, IfHonestly}
+use Rattle.ldconfig_core.specs.Settled.{unstamped_image}
+use Rattle.ldconfig_core.specs.Texts.{AreTextsOf, UpdateTexts}
+use Rattle.ldconfig_core.specs.Update.{AreUpdateTexts}
 use Rattle.loaded_image.specs.Session.{Loaded}
+use Rattle.searched_image.proofs.Honest.{none_true}
+use Rattle.tree_face.specs.Known.{IfKnown}
 use Rattle.tree_face.specs.Store.{Contents}
-use Rattle.script_runs.proofs.HonestCourse.{IsHonest}
-use Rattle.script_runs.specs.Left.{IsUpdateOf}
+use Rattle.script_runs.specs.Course.{IsHonest}
+use Rattle.script_runs.specs.Left.{IsRebuiltOf, IsUpdateOf}
 
--- they are those of the session, if contents are known and identities are honest
-pub if_honest : (s : Loaded) (texts : UpdateTexts) (known : Option Contents) → AreUpdateTexts s known texts → IfHonestly known s (λ held. update_outcome held s ≡ Writes)
-    → IfHonestly known s (λ held. IsUpdateOf held s texts)
-if_honest s texts None are writes = tt
-if_honest s texts (Some held) are writes = λ are_true same. record {
-  made = writes are_true same;
-  are = are.are_of are_true same;
-  all = are.are;
-  finds = are.finds are_true same;
-  settled = are.settles are_true same;
-  manifest_read = are.reads are_true same;
-  aux_read = are.aux_read are_true same;
+-- without the auxiliary cache they are the same
+rebuilt_of : (held : Contents) (s : Loaded) (texts : UpdateTexts) → update_outcome held s ≡ Writes → AreTextsOf held s texts → IsHonest held s → IsRebuiltOf held s texts
+rebuilt_of held s texts writes are here = record {
+  made = one_outcome held s (unstamped_image s) refl refl here.1 here.0 (none_true held s.tree) ∙ writes;
+  same = λ again others. one_written held s (unstamped_image s) refl refl here.1 here.0 (none_true held s.tree) texts again are others;
 }
 
-pub texts_are : (held : Contents) (s : Loaded) (texts : UpdateTexts) (known : Option Contents) → known ≡ Some held → IsHonest held s → update_outcome held s ≡ Writes
-    → AreUpdateTexts s known texts → IsUpdateOf held s texts
-texts_are held s texts known is here writes are =
-    let honest = if_honest s texts (Some held) (subst (λ (known : Option Contents). AreUpdateTexts s known texts) is are) (λ are_true same. writes) in
-    honest here.0 here.1
+-- they are those of the session, if contents are known
+pub of_update : (s : Loaded) (texts : UpdateTexts) (known : Option Contents) → AreUpdateTexts s known texts → IfKnown known (λ held. update_outcome held s ≡ Writes)
+    → IfKnown known (λ held. IsUpdateOf held s texts)
+of_update s texts None are writes = tt
+of_update s texts (Some held) are writes = record {
+  made = writes;
+  are = are.are_of;
+  all = are.are;
+  finds = are.finds;
+  manifest_read = are.reads;
+  aux_read = are.aux_read;
+  counted = are.counted;
+  right = λ here. are.right here.0 here.1;
+  rebuilt = rebuilt_of held s texts writes are.are_of;
+  settled = λ here. are.settles here.0 here.1;
+}
+
+pub texts_are : (held : Contents) (s : Loaded) (texts : UpdateTexts) (known : Option Contents) → known ≡ Some held → update_outcome held s ≡ Writes → AreUpdateTexts s known texts → IsUpdateOf held s texts
+texts_are held s texts known is writes are = of_update s texts (Some held) (subst (λ (known : Option Contents). AreUpdateTexts s known texts) is are) writes

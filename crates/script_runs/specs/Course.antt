@@ -1,4 +1,4 @@
--- What a script comes to, by its lines and the contents alone: of which sessions its updates are made, and how it ends. No auxiliary cache is known here.
+-- What a script does, by its lines, its session and the contents alone: of which sessions its updates are made, and how it ends.
 use Rattle.std.specs.Prelude.{◌+◌, ℕ, List, [], ◌∷◌, map, Result, Ok, Err}
 use Rattle.std.specs.List.{All}
 use Rattle.aux_cache.specs.declared.stamps.Stamp.{Stamp}
@@ -61,7 +61,11 @@ abbrev pub course : Contents → ℕ → List (List ℕ) → Loaded → Course
 course held number [] s = ends (Ok s)
 course held number (line ∷ lines) s = course_by held number (line_of line) s (λ session. course held (1 + number) lines session)
 
--- ---- honest identities
+-- ---- the assumption on identities
+
+-- the stamps of a session are true, and its files of equal identity have equal content
+abbrev pub IsHonest : Contents → Loaded → Type 0
+IsHonest held s = AreTrue held s.tree s.stamps × AreSame held s.tree s.tree
 
 abbrev pub trees_of : List Loaded → List Nodes
 trees_of sessions = map (λ (session : Loaded). session.tree) sessions

@@ -2,7 +2,6 @@
 use Rattle.std.specs.Prelude.{◌≡◌, ◌⊎◌, ◌++◌, ℕ, false, true, List, [], ◌∷◌, flat_map, Option, Result, Ok, Err}
 use Rattle.std.specs.List.{All, Contains}
 use Rattle.atomic_replace.specs.declared.fault.DiskFault.{DiskFault}
-use Rattle.aux_cache.specs.declared.stamps.Stamp.{Stamp}
 use Rattle.ldconfig_core.specs.Outcome.{Writes, update_outcome}
 use Rattle.ldconfig_core.specs.Settled.{AreCachesAgain}
 use Rattle.ldconfig_core.specs.Texts.{AreAlike, AreTexts, AreTextsOf, UpdateTexts, writes_of}
@@ -21,7 +20,7 @@ use Rattle.tree_face.specs.Store.{Contents}
 use Rattle.update_runs.specs.declared.fault.UpdatingFault.TheVariants.{Update}
 use Rattle.script_runs.specs.declared.fault.ScriptFault.{ScriptFault}
 use Rattle.script_runs.specs.declared.fault.ScriptFault.TheVariants.{Updating}
-use Rattle.script_runs.specs.Course.{AreHonest, Course, course}
+use Rattle.script_runs.specs.Course.{Course, course}
 use Rattle.script_runs.specs.Left.{IsUpdateOf}
 
 -- ---- the writing calls
@@ -57,9 +56,9 @@ AreOfFirst held to sessions [] = (session : Loaded) → to ≡ Ok session → se
 AreOfFirst held to [] (texts ∷ updates) = ⊥
 AreOfFirst held to (u ∷ sessions) (texts ∷ updates) = IsUpdateOf held u texts × AreOfFirst held to sessions updates
 
--- they are those of the updates that a script asks for, if the contents of the store are known and identities are honest
-abbrev pub AreOfCourse : Option Contents → List Stamp → Result Loaded ScriptFault → (Contents → Course) → List UpdateTexts → Type 0
-AreOfCourse known stamps to course updates = IfKnown known (λ held. AreHonest held stamps (course held).asked → AreOfFirst held to (course held).updates updates)
+-- they are those of the updates that a script asks for, if the contents of the store are known
+abbrev pub AreOfCourse : Option Contents → Result Loaded ScriptFault → (Contents → Course) → List UpdateTexts → Type 0
+AreOfCourse known to course updates = IfKnown known (λ held. AreOfFirst held to (course held).updates updates)
 
 -- the writing calls of these updates were made, up to the one that failed
 pub record MakesCalls (tag : Tag) (updates : List UpdateTexts) (to : Result Loaded ScriptFault) (a b : List DoneCall) : Type 0 where
@@ -70,7 +69,7 @@ pub record LeavesWholeCaches (tag : Tag) (known : Option Contents) (number : ℕ
   -- the updates that were made, and the one that a failing device has ended; the caches of each are whole
   pub updates : List UpdateTexts
   pub are : All AreTexts updates
-  pub of_course : AreOfCourse known s.stamps to (λ held. course held number lines s) updates
+  pub of_course : AreOfCourse known to (λ held. course held number lines s) updates
   -- at each moment since the start a crash leaves in a slot what a crash at the start might have left there, or what one of them has written
   pub whole : (slot : Slot) (b : Content) → new.since old.time slot b ≡ true → (old.may slot b ≡ true) ⊎ IsOfWrites (flat_map writes_of updates) slot b
   -- and at the end only what the last one has written, unless a writing call has failed
@@ -83,11 +82,11 @@ pub record LeavesWholeCaches (tag : Tag) (known : Option Contents) (number : ℕ
 -- a session that a crash may have left: of the old tree or of that with the planned links of an update, with the old stamps or those of an update, and
 -- without edits
 pub record MayBeLeft (held : Contents) (s : Loaded) (updates : List Loaded) (left : Loaded) : Type 0 where
-  pub tree : (left.tree ≡ s.tree) ⊎ ((u : Loaded) × (Contains updates u × (left.tree ≡ planned_in held u.tree)))
-  pub stamps : (left.stamps ≡ s.stamps) ⊎ ((u : Loaded) × (Contains updates u × (left.stamps ≡ stamps_in held u.tree)))
+  pub tree : (left.tree ≡ s.tree) ⊎ ((u : Loaded) × (Contains updates u × (left.tree ≡ planned_in held u.tree u.stamps)))
+  pub stamps : (left.stamps ≡ s.stamps) ⊎ ((u : Loaded) × (Contains updates u × (left.stamps ≡ stamps_in held u.tree u.stamps)))
   pub fresh : left.edited ≡ false
 
--- its tree is the old one, and an update of it comes to what one of the old session comes to if that isn't edited, and writes the same
+-- its tree is the old one, and an update of it has the outcome of one of the old session if that isn't edited, and writes the same
 pub record IsOfOld (held : Contents) (s left : Loaded) : Type 0 where
   pub tree : left.tree ≡ s.tree
   pub outcome : s.edited ≡ false → update_outcome held left ≡ update_outcome held s
@@ -95,6 +94,6 @@ pub record IsOfOld (held : Contents) (s left : Loaded) : Type 0 where
 
 -- its tree is that of an update of the session u, and a further update is made, writes no manifest, and the very caches of that one
 pub record IsOfUpdate (held : Contents) (u left : Loaded) : Type 0 where
-  pub tree : left.tree ≡ planned_in held u.tree
+  pub tree : left.tree ≡ planned_in held u.tree u.stamps
   pub made : update_outcome held left ≡ Writes
   pub again : (texts again : UpdateTexts) → AreTextsOf held u texts → AreTextsOf held left again → AreCachesAgain texts again

@@ -1,20 +1,23 @@
--- What a script of a session leaves: of its updates the first were made, and the slots and the output are those that rebuilding without an auxiliary
--- cache gives.
-use Rattle.std.specs.Prelude.{◌≡◌, ◌⊎◌, ◌++◌, ℕ, false, List, [], ◌∷◌, flat_map, Option, Some, None, Result, Ok, Err, ⊤}
+-- What a script of a session leaves: of its updates the first were made, and the slots and the output are theirs. Under the assumption on identities these are
+-- those that rebuilding without an auxiliary cache gives.
+use Rattle.std.specs.Prelude.{◌≡◌, ◌⊎◌, ◌+◌, ◌++◌, ℕ, false, List, [], ◌∷◌, flat_map, length, Option, Some, None, Result, Ok, Err, ⊤}
+use Rattle.std.specs.List.{All}
 use Rattle.cache_lookup.specs.Scan.{AreDescending}
 use Rattle.cache_reader.specs.Cache.{defect, read}
 use Rattle.ldconfig_core.specs.Lookup.{FindsAsSearched}
 use Rattle.ldconfig_core.specs.Outcome.{Writes, update_outcome}
 use Rattle.ldconfig_core.specs.Repair.{IsImageIn, OldOrNew, slots_after}
-use Rattle.ldconfig_core.specs.Settled.{AreSettled, IfReads, planned_image}
-use Rattle.ldconfig_core.specs.Texts.{AreTexts, AreTextsOf, UpdateTexts, writes_of}
+use Rattle.ldconfig_core.specs.Settled.{AreSettled, IfReads, planned_image, unstamped_image}
+use Rattle.ldconfig_core.specs.Texts.{AreAlike, AreTexts, AreTextsOf, UpdateTexts, writes_of}
 use Rattle.ldconfig_core.specs.declared.fault.UpdateFault.{UpdateFault}
 use Rattle.ldconfig_core.specs.declared.fault.UpdateFault.TheVariants as updating
+use Rattle.ldso_conf.specs.Reading.{conf_keys}
 use Rattle.lib_types.specs.Counts.{HasRisen}
 use Rattle.loaded_image.specs.Aux.{stamps_of_slot}
 use Rattle.loaded_image.specs.Manifest.{HasTree, manifest_of}
 use Rattle.loaded_image.specs.Session.{Loaded}
-use Rattle.searched_image.specs.Begun.{update_keys}
+use Rattle.searched_image.specs.Begun.{opened_in, update_keys}
+use Rattle.searched_image.specs.Laws.{IsSaidRight}
 use Rattle.searched_image.specs.Ldconfig.{stamps_in}
 use Rattle.stamped_files.specs.Stamped.{AreSame, AreTrue}
 use Rattle.tree_face.specs.Disk.{DiskContent, Slots}
@@ -25,20 +28,29 @@ use Rattle.update_runs.specs.Update.{States}
 use Rattle.update_runs.specs.declared.fault.UpdatingFault.TheVariants.{OutputFault, Update}
 use Rattle.script_runs.specs.declared.fault.ScriptFault.{ScriptFault}
 use Rattle.script_runs.specs.declared.fault.ScriptFault.TheVariants.{Line, NoMemory, Updating}
-use Rattle.script_runs.specs.Course.{AreHonest, Course, course}
+use Rattle.script_runs.specs.Course.{AreHonest, Course, IsHonest, course}
 
 -- ---- one update
 
--- These are the texts of the update of the session, which is settled with them: a manifest reads as the session with the planned links, the auxiliary
--- cache as its stamps, and by the cache the loader finds what the search of the directories finds.
+-- an update of the session without its auxiliary cache is made, and writes the same
+pub record IsRebuiltOf (held : Contents) (u : Loaded) (texts : UpdateTexts) : Type 0 where
+  pub made : update_outcome held (unstamped_image u) ≡ Writes
+  pub same : (again : UpdateTexts) → AreTextsOf held (unstamped_image u) again → AreAlike texts again
+
+-- These are the texts of the update of the session: a manifest reads as the session with the planned links, the auxiliary cache as its stamps, and by the
+-- cache the loader finds what the search of the directories finds. Under the assumption on identities an update without the auxiliary cache writes the same, and
+-- the session is settled.
 pub record IsUpdateOf (held : Contents) (u : Loaded) (texts : UpdateTexts) : Type 0 where
   pub made : update_outcome held u ≡ Writes
   pub are : AreTextsOf held u texts
   pub all : AreTexts texts
-  pub finds : FindsAsSearched held u.tree texts.cache
-  pub settled : AreSettled held u (planned_image held u)
+  pub finds : FindsAsSearched held u.tree u.stamps texts.cache
   pub manifest_read : IfReads texts.manifest (planned_image held u)
-  pub aux_read : stamps_of_slot (Some texts.aux) ≡ stamps_in held u.tree
+  pub aux_read : stamps_of_slot (Some texts.aux) ≡ stamps_in held u.tree u.stamps
+  pub counted : length (update_keys held u.tree u.stamps) ≡ length (conf_keys held u.tree) + opened_in held u.tree u.stamps
+  pub right : IsHonest held u → IsSaidRight held u.tree u.stamps
+  pub rebuilt : IsHonest held u → IsRebuiltOf held u texts
+  pub settled : IsHonest held u → AreSettled held u (planned_image held u)
 
 -- the updates of these sessions are made one after the other, from the one slots to the others, and these are their reports
 abbrev pub AreMade : Contents → List Loaded → Slots → Slots → List (List ℕ) → Type 0
@@ -124,7 +136,7 @@ pub record HoldUpdateOf (held : Contents) (s : Loaded) (slots : Slots) : Type 0 
   pub aux : slots.aux ≡ Some texts.aux
   pub accepted : defect texts.cache ≡ None
   pub descending : AreDescending (read texts.cache)
-  pub finds : FindsAsSearched held s.tree texts.cache
+  pub finds : FindsAsSearched held s.tree s.stamps texts.cache
 
 -- the Manifest slot has the tree of a session that isn't edited
 abbrev pub HasItsTree : Loaded → Slots → Type 0
@@ -132,15 +144,16 @@ HasItsTree s slots = s.edited ≡ false → manifest_of slots.manifest ≡ HasTr
 
 -- ---- the whole script
 
--- What a script of this session leaves. A further update of the last session that was updated is held by the slots; that is the session that is
--- loaded from them, if the first one was loaded from the slots at the start.
+-- What a script of this session leaves. The last session that was updated is the one that is loaded from the slots, if the first one was loaded from
+-- them at the start. If the sessions of which updates are asked for meet the assumption on identities, each of these sessions does, and the slots hold a
+-- further update of the last one.
 pub record RebuildsScript (held : Contents) (number : ℕ) (lines : List (List ℕ)) (s : Loaded) (to : Result Loaded ScriptFault) (content : DiskContent) (old new : States) : Type 0 where
   pub left : LeavesRebuilt held (course held number lines s) to content old new
-  pub settled : OfLast left.made (λ u. HoldUpdateOf held (planned_image held u) left.slots)
   pub stored : HasItsTree s content.now → OfLast left.made (λ u. IsImageIn left.slots (planned_image held u))
+  pub honest : AreHonest held s.stamps (course held number lines s).asked → All (IsHonest held) left.made
+  pub settled : AreHonest held s.stamps (course held number lines s).asked → OfLast left.made (λ u. HoldUpdateOf held (planned_image held u) left.slots)
 
--- if the contents of store and disk are known and identities are honest in the sessions of which updates are asked for
+-- if the contents of store and disk are known
 abbrev pub Rebuilds : ℕ → List (List ℕ) → Loaded → Result Loaded ScriptFault → States → States → Type 0
 Rebuilds number lines s to old new =
-    IfKnown old.store.held (λ held. IfKnown old.disk.contents (λ content.
-    AreHonest held s.stamps (course held number lines s).asked → RebuildsScript held number lines s to content old new))
+    IfKnown old.store.held (λ held. IfKnown old.disk.contents (λ content. RebuildsScript held number lines s to content old new))

@@ -68,7 +68,7 @@ IsRebuilt held lines s status content old new = (to : Result Loaded ScriptFault)
 -- what a script leaves of the session that is in the slots
 abbrev pub RebuildsSlots : List (List ℕ) → Status → States → States → Type 0
 RebuildsSlots lines status old new =
-    IfBothKnown old.store.held old.disk.contents (λ held content. (s : Loaded) → IsImageIn content.now s → AreHonest held s.stamps (course held 1 lines s).asked
+    IfBothKnown old.store.held old.disk.contents (λ held content. (s : Loaded) → IsImageIn content.now s
     → IsUnloaded status content old new ⊎ IsRebuilt held lines s status content old new)
 
 -- ---- completeness
@@ -82,7 +82,7 @@ pub record NoneRose (old new : States) : Type 0 where
 -- a script of the session in the slots whose lines can all be done is done, unless a device fails or memory is out
 abbrev pub CompletesScript : List (List ℕ) → Status → States → States → Type 0
 CompletesScript lines status old new =
-    IfBothKnown old.store.held old.disk.contents (λ held content. (s : Loaded) → IsImageIn content.now s → AreHonest held s.stamps (course held 1 lines s).asked
+    IfBothKnown old.store.held old.disk.contents (λ held content. (s : Loaded) → IsImageIn content.now s
     → NoneRose old new → (session : Loaded) → (course held 1 lines s).end ≡ Ok session → (status ≡ Done) ⊎ (status ≡ NoMemory))
 
 -- ---- a crash
@@ -114,7 +114,7 @@ pub record IsRepairable (held : Contents) (s : Loaded) (updates : List Loaded) (
   pub same : AreSame held left.tree left.tree
   pub writes : WritesAgain held s updates slots image left
 
--- All slots that a crash since the start may leave are so, if a crash at the start leaves only what the slots hold, and if identities are honest
+-- All slots that a crash since the start may leave are so, if a crash at the start leaves only what the slots hold, and if identities are so
 -- in their session and in those of which updates are asked for.
 abbrev pub RepairsScript : Contents → List (List ℕ) → DiskContent → DiskState → DiskState → Type 0
 RepairsScript held lines content old new =

@@ -43,7 +43,7 @@ fn remove(session: Session, path: &Text) -> Result<Session, LineFault>
     }
 }
 
-// Makes an update of a session.
+// Updates a session.
 fn update<S: Store, D: Disk, O: Sink>(
     by: Updater,
     session: Session,

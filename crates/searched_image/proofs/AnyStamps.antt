@@ -12,7 +12,8 @@ use Rattle.image_tree.specs.Tree.{Nodes, node_at}
 use Rattle.ldso_conf.specs.Reading.{conf_lacks}
 use Rattle.lib_types.proofs.SortedPairs.{by_test}
 use Rattle.settled_links.specs.Search.{IsSearchedAlike}
-use Rattle.stamped_files.specs.Opened.{ReadsOpenedBy, opened_keys, stamps_before, unstamped_key}
+use Rattle.stamped_files.specs.Opened.{ReadsOpenedBy, opened_keys, unstamped_key}
+use Rattle.stamped_files.specs.Said.{stamps_before}
 use Rattle.stamped_files.specs.Stamped.{stamp_for}
 use Rattle.tree_face.proofs.StoreUse.{reads_fewer, reads_then}
 use Rattle.tree_face.specs.Store.{Contents, StoreState}

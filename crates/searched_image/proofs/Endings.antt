@@ -12,7 +12,6 @@ use Rattle.settled_links.specs.Search.{IsSearchedAlike}
 use Rattle.soname_links.specs.declared.kinds.ApplyFault.{ApplyFault}
 use Rattle.soname_links.specs.declared.kinds.ApplyFault.TheVariants as applying
 use Rattle.stamped_files.specs.Opened.{ReadsOpenedBy, opened_keys}
-use Rattle.stamped_files.specs.Stamped.{IfHonest}
 use Rattle.tree_face.proofs.StoreUse.{IsPartial, reads_all}
 use Rattle.tree_face.specs.Known.{IfKnown}
 use Rattle.tree_face.specs.Store.{Contents, StoreState}
@@ -51,15 +50,15 @@ module _ (t : Nodes) (loaded : List Stamp) (a b : StoreState) where
   search_failed A B (finding.TooLarge nodes) is reads = absurd (cc)
 
   -- no links are put
-  pub links_failed : (B : Type 0) (fault : ApplyFault) → ((nodes : ℕ) → fault ≡ applying.TooLarge nodes → IfHonest a.held t loaded (λ held. has_too_many_nodes held t ≡ true))
+  pub links_failed : (B : Type 0) (fault : ApplyFault) → ((nodes : ℕ) → fault ≡ applying.TooLarge nodes → IfKnown a.held (λ held. has_too_many_nodes held t loaded ≡ true))
       → SearchBy t loaded a.held Complete a b → ReadsFinding t loaded (find_ending {A = B} (Err (of_apply fault))) a b
   links_failed B (applying.TooLarge nodes) many reads = record { keys = update_small t loaded a.held a b (many nodes refl) reads; any = search_any t loaded Complete a.held a b reads }
   links_failed B applying.NoMemory many reads = early GaveUp tt (reads_all _ _ _ _ _ reads)
 
-  module _ (none : IfHonest a.held t loaded (λ held. lacks_wanted held t loaded ≡ false)) (few : IfHonest a.held t loaded (λ held. has_too_many_nodes held t ≡ false))
+  module _ (none : IfKnown a.held (λ held. lacks_wanted held t loaded ≡ false)) (few : IfKnown a.held (λ held. has_too_many_nodes held t loaded ≡ false))
       (new : Nodes) (alike : IsSearchedAlike t new) (stamps : List Stamp) (paths : List (List ℕ))
-      (are : IfHonest a.held t loaded (λ held. opened_keys held new stamps paths ≡ behind_keys held t loaded)) (first : SearchBy t loaded a.held Complete a b) (c : StoreState) where
-    -- the files behind links are read
+      (are : IfKnown a.held (λ held. opened_keys held new stamps paths ≡ behind_keys held t loaded)) (first : SearchBy t loaded a.held Complete a b) (c : StoreState) where
+    -- the files that links lead to are read
     pub behind_read : (e : Ending) → ReadsOpenedBy a.held (λ held. opened_keys held new stamps paths) e b c → ReadsFinding t loaded e a c
     behind_read e next = record {
       keys = update_all t loaded e a.held (λ held. opened_keys held new stamps paths) a b c none few are first next;

@@ -1,5 +1,5 @@
 -- What was read of the files of an image is what they are.
-use Rattle.std.proofs.Common.{◌≡◌, ◌||◌, ◌++◌, ℕ, true, false, cond, not, List, [], ◌∷◌, Option, Some, None, refl, ap, sym, ◌∙◌, filter}
+use Rattle.std.proofs.Common.{◌≡◌, ◌||◌, ◌++◌, ℕ, true, false, not, List, [], ◌∷◌, Option, Some, None, refl, ap, sym, ◌∙◌, filter}
 use Rattle.std.proofs.lemmas.Bool.{or_left, or_right}
 use Rattle.std.proofs.lemmas.List.Folds.{list_any-append}
 use Rattle.std.specs.Cmp.Lexicographic.{slice_cmp}
@@ -10,14 +10,14 @@ use Rattle.std.specs.Option.{is_none, is_some, option_and_then, option_map}
 use Rattle.std.specs.Ordering.{nat_cmp}
 use Rattle.std.specs.Str.{bytes_eq}
 use Rattle.elf_dynamic.specs.Analysis.{analysis}
-use Rattle.stamped_files.specs.Files.{AreRead, AreRight, what_is}
+use Rattle.stamped_files.specs.Files.{what_is}
 use Rattle.elf_dynamic.specs.Begun.{key_in}
 use Rattle.hwcap_dirs.specs.declared.kinds.Place.{Place}
 use Rattle.lib_types.proofs.SortedPairs.{by_test}
 use Rattle.lib_types.specs.declared.analysis.Analysis.{Analysis}
 use Rattle.found_files.proofs.InOrder.{ascending_sorted, in_ascending}
 use Rattle.found_files.proofs.Members.{is_in}
-use Rattle.found_files.specs.Analyses.{AgreeOn, Analyses, HaveAnalyses, KeepsAnalyses, unread}
+use Rattle.found_files.specs.Analyses.{AgreeOn, Analyses, HaveAnalyses, unread}
 use Rattle.found_files.specs.Order.{ascending}
 use Rattle.found_files.specs.Search.{reached, wanted}
 use Rattle.found_files.specs.Table.{Rows, analysis_at}
@@ -42,23 +42,7 @@ pub reached_sorted : (t : Nodes) (places : List Place) → IsStrictlySortedBy (s
 unfolding reached
 reached_sorted t places = ascending_sorted _
 
--- ---- files that were read
-
-nothing_at : (held : Contents) (o : Option (List ℕ)) → o ≡ None → option_map analysis (option_and_then held o) ≡ None
-nothing_at held o none = rw none refl
-
-none_is : (a : Option Analysis) → is_some a ≡ false → a ≡ None
-none_is None e = refl
-none_is (Some a) e = absurd (cc)
-
-no_key : (a : Option Analysis) (k : Option (List ℕ)) → is_some a ≡ false → cond (is_none a) k None ≡ None → k ≡ None
-no_key None k e read = read
-no_key (Some a) k e read = absurd (cc)
-
-pub agree_read : (held : Contents) (t : Nodes) (what : Analyses) (paths : List (List ℕ)) → AreRight held t what → AreRead t what paths → AgreeOn paths (what_is held t) what
-agree_read held t what paths right read path there = by_test (is_some (what path))
-    (λ e. right path e)
-    (λ e. none_is (what path) e ∙ sym (nothing_at held (key_in (node_at t path)) (no_key (what path) (key_in (node_at t path)) e (read path there))))
+-- ---- trees with the same files
 
 -- the parts of a file
 key_of : (o : Option Node) → key_in o ≡ option_map (λ file. file.0) (file_in o)
@@ -86,21 +70,9 @@ module _ (held : Contents) (t new : Nodes) (alike : IsSearchedAlike t new) where
   pub what_same : (path : List ℕ) → what_is held new path ≡ what_is held t path
   what_same path = ap (λ k. option_map analysis (option_and_then held k)) (key_same path)
 
-  pub right_new : (what : Analyses) → AreRight held t what → AreRight held new what
-  right_new what right path there = right path there ∙ sym (what_same path)
+-- ---- the files that links lead to
 
-  -- what is read in the new tree of files that were read before
-  pub still_agree : (before after : Analyses) (paths : List (List ℕ)) → AgreeOn paths (what_is held t) before → KeepsAnalyses before after → AreRight held new after
-      → AgreeOn paths (what_is held t) after
-  still_agree before after paths agree keeps right path there = by_test (is_some (after path))
-      (λ e. right path e ∙ what_same path)
-      (λ e. by_test (is_some (before path))
-      (λ f. let z : true ≡ false = sym f ∙ ap is_some (sym (keeps path f)) ∙ e in absurd (cc))
-      (λ f. none_is (after path) e ∙ sym (none_is (before path) f) ∙ agree path there))
-
--- ---- the files behind links
-
--- what stands in the rows is said of the paths there
+-- the rows are about the paths there
 has_row : (rows : Rows) (path : List ℕ) → is_some (analysis_at rows path) ≡ true → is_in (keys_of rows) path ≡ true
 has_row [] path h = absurd (cc)
 has_row (e ∷ rows) path h = by_test (bytes_eq path e.0)
@@ -126,7 +98,7 @@ module _ (rows : Rows) (wanted_paths : List (List ℕ)) (all : HaveAnalyses (ana
       ap (λ keep. filter keep paths)
       (agree (λ path. is_none (analysis_at rows path)) (λ path. not (is_in wanted_paths path)) (λ path. none_not (analysis_at rows path) ∙ ap not (some_there path)))
 
--- ---- the files that are no libraries
+-- ---- the files that are not libraries
 
 module _ (what : Analyses) (rows : Rows) (wanted_paths reached_paths : List (List ℕ)) where
   all_agree : AgreeOn wanted_paths what (analysis_at rows) → AgreeOn reached_paths what (analysis_at rows) → AgreeOn (ascending (wanted_paths ++ reached_paths)) what (analysis_at rows)

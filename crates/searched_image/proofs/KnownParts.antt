@@ -1,12 +1,11 @@
--- The parts of an update, if contents are known, stamps are true and files of equal identity have equal content.
+-- The parts of an update, if contents are known.
 use Rattle.std.proofs.Common.{◌≡◌, ◌≤◌, ◌<◌, ◌+◌, ◌||◌, ℕ, true, false, List, length, Option, Some, None, sym, subst}
 use Rattle.std.specs.Map.{keys_of}
-use Rattle.stamped_files.specs.Files.{AreRead, AreRight, what_is}
 use Rattle.aux_cache.specs.declared.stamps.Stamp.{Stamp}
 use Rattle.elf_dynamic.specs.Begun.{lacks_one}
 use Rattle.hwcap_dirs.specs.declared.kinds.Place.{Place}
 use Rattle.found_files.proofs.Members.{is_in}
-use Rattle.found_files.specs.Analyses.{HaveAnalyses, KeepsAnalyses}
+use Rattle.found_files.specs.Analyses.{AgreeOn, HaveAnalyses, KeepsAnalyses}
 use Rattle.found_files.specs.Search.{dangling, reached, wanted}
 use Rattle.found_files.specs.Table.{analysis_at}
 use Rattle.settled_links.specs.Search.{IsSearchedAlike}
@@ -17,7 +16,8 @@ use Rattle.soname_links.specs.Marks.{blocked, mixed}
 use Rattle.soname_links.specs.Plan.{links, with_links}
 use Rattle.soname_links.specs.Settled.{IsSettled}
 use Rattle.stamped_files.specs.Opened.{opened_keys}
-use Rattle.stamped_files.specs.Stamped.{IfHonest, stamps_at, with_stamps}
+use Rattle.stamped_files.specs.Said.{said_in, stamps_said}
+use Rattle.stamped_files.specs.Stamped.{with_stamps}
 use Rattle.stamped_files.specs.State.{stamps_there, unread_paths}
 use Rattle.stamped_files.specs.declared.files.Files.{Files}
 use Rattle.image_tree.specs.declared.tree.TheConstants.{NODES_MAX}
@@ -25,39 +25,38 @@ use Rattle.tree_face.specs.Known.{IfKnown}
 use Rattle.tree_face.specs.Store.{Contents}
 use Rattle.image_tree.specs.Tree.{Nodes}
 use Rattle.searched_image.proofs.FoundParts as parts
-use Rattle.searched_image.proofs.StampsAgree.{same_new, true_new}
 use Rattle.searched_image.specs.Begun.{behind_keys, has_too_many_nodes, lacks_wanted}
 use Rattle.searched_image.specs.declared.following.Followed.{Followed}
 use Rattle.searched_image.specs.declared.search.Search.{Search}
 use Rattle.searched_image.specs.Found.{HasTooManyNodes, IsFound, IsSearched}
-use Rattle.searched_image.specs.Ldconfig.{places_in}
+use Rattle.searched_image.specs.Ldconfig.{places_in, said_wanted}
 
 -- what follows for each content
-pub honest_then : (known : Option Contents) (t : Nodes) (stamps : List Stamp) (P Q : Contents → Type 0) → ((held : Contents) → P held → Q held) → IfHonest known t stamps P → IfHonest known t stamps Q
-honest_then None t stamps P Q f p = tt
-honest_then (Some held) t stamps P Q f p = λ honest same. f held (p honest same)
+pub known_then : (known : Option Contents) (P Q : Contents → Type 0) → ((held : Contents) → P held → Q held) → IfKnown known P → IfKnown known Q
+known_then None P Q f p = tt
+known_then (Some held) P Q f p = f held p
 
-module _ (t : Nodes) (loaded : List Stamp) (search : Search) (read : AreRead t (analysis_at search.files.table) (wanted t search.dirs.places)) where
+module _ (t : Nodes) (loaded : List Stamp) (search : Search) where
   abbrev nodes_then : ℕ
   nodes_then = nodes_with t (links (analysis_at search.files.table) t search.dirs.places)
 
-  module _ (known : Option Contents) (s : IfHonest known t loaded (λ held. IsSearched held t loaded search)) where
-    pub none_lacks : IfHonest known t loaded (λ held. lacks_wanted held t loaded ≡ false)
-    none_lacks = honest_then known t loaded _ _ (λ held (s : IsSearched held t loaded search). s.none_lacks) s
+  module _ (known : Option Contents) (s : IfKnown known (λ held. IsSearched held t loaded search)) where
+    pub none_lacks : IfKnown known (λ held. lacks_wanted held t loaded ≡ false)
+    none_lacks = known_then known _ _ (λ held (s : IsSearched held t loaded search). s.none_lacks) s
 
-    pub few_nodes : nodes_then ≤ NODES_MAX → IfHonest known t loaded (λ held. has_too_many_nodes held t ≡ false)
-    few_nodes few = honest_then known t loaded _ _ (λ held s. parts.few_nodes held t loaded search s read few) s
+    pub few_nodes : nodes_then ≤ NODES_MAX → IfKnown known (λ held. has_too_many_nodes held t loaded ≡ false)
+    few_nodes few = known_then known _ _ (λ held s. parts.few_nodes held t loaded search s few) s
 
-    pub many_nodes : (nodes : ℕ) → (nodes ≡ nodes_then) × (NODES_MAX < nodes) → IfHonest known t loaded (λ held. has_too_many_nodes held t ≡ true)
-    many_nodes nodes many = honest_then known t loaded _ _ (λ held s. parts.many_nodes held t loaded search s read nodes many.0 many.1) s
+    pub many_nodes : (nodes : ℕ) → (nodes ≡ nodes_then) × (NODES_MAX < nodes) → IfKnown known (λ held. has_too_many_nodes held t loaded ≡ true)
+    many_nodes nodes many = known_then known _ _ (λ held s. parts.many_nodes held t loaded search s nodes many.0 many.1) s
 
-    pub too_large : (nodes : ℕ) → (nodes ≡ nodes_then) × (NODES_MAX < nodes) → IfHonest known t loaded (λ held. HasTooManyNodes held t loaded nodes)
-    too_large nodes many = honest_then known t loaded _ _ (λ held s. parts.too_large held t loaded search s read nodes many.0 many.1) s
+    pub too_large : (nodes : ℕ) → (nodes ≡ nodes_then) × (NODES_MAX < nodes) → IfKnown known (λ held. HasTooManyNodes held t loaded nodes)
+    too_large nodes many = known_then known _ _ (λ held s. parts.too_large held t loaded search s nodes many.0 many.1) s
 
-    pub settled : (new : Nodes) → IsSettled (analysis_at search.files.table) t search.dirs.places new → IfHonest known t loaded (λ held. IsSettled (what_is held t) t (places_in held t) new)
-    settled new still = honest_then known t loaded _ _ (λ held (s : IsSearched held t loaded search).
-        subst (λ (p : List Place). IsSettled (what_is held t) t p new) s.places
-        (settled_agrees t (analysis_at search.files.table) (what_is held t) search.dirs.places new (λ path there. sym (parts.agree_wanted held t loaded search s read path there)) still)) s
+    pub settled : (new : Nodes) → IsSettled (analysis_at search.files.table) t search.dirs.places new → IfKnown known (λ held. IsSettled (said_wanted held t loaded) t (places_in held t) new)
+    settled new still = known_then known _ _ (λ held (s : IsSearched held t loaded search).
+        subst (λ (p : List Place). IsSettled (said_wanted held t loaded) t p new) s.places
+        (settled_agrees t (analysis_at search.files.table) (said_wanted held t loaded) search.dirs.places new (λ path there. sym (parts.agree_wanted held t loaded search s path there)) still)) s
 
   module _ (all : HaveAnalyses (analysis_at search.files.table) (wanted t search.dirs.places))
       (only : (path : List ℕ) → is_in (keys_of search.files.table) path ≡ true → is_in (wanted t search.dirs.places) path ≡ true) (new : Nodes) (alike : IsSearchedAlike t new)
@@ -65,30 +64,24 @@ module _ (t : Nodes) (loaded : List Stamp) (search : Search) (read : AreRead t (
     abbrev here : List Stamp
     here = stamps_there loaded search.files
 
-    -- the files behind links that weren't read
+    -- the files that links lead to and that weren't read
     abbrev behind : List (List ℕ)
     behind = unread_paths search.files (reached new search.dirs.places)
 
-    pub behind_are : (known : Option Contents) → IfHonest known t loaded (λ held. IsSearched held t loaded search)
-        → IfHonest known t loaded (λ held. opened_keys held new here behind ≡ behind_keys held t loaded)
-    behind_are known s = honest_then known t loaded _ _ (λ held s. parts.behind_are held t loaded search s read all only new alike new_is) s
+    pub behind_are : (known : Option Contents) → IfKnown known (λ held. IsSearched held t loaded search)
+        → IfKnown known (λ held. opened_keys held new here behind ≡ behind_keys held t loaded)
+    behind_are known s = known_then known _ _ (λ held s. parts.behind_are held t loaded search s all only new alike new_is) s
 
     module _ (still : IsSettled (analysis_at search.files.table) t search.dirs.places new) (made : Survey) (followed : Followed) (files : Files)
         (plan : made.plan ≡ links (analysis_at search.files.table) t search.dirs.places) (few : nodes_then ≤ NODES_MAX)
         (b : made.blocked ≡ blocked (analysis_at search.files.table) t search.dirs.places) (m : made.mixed ≡ mixed (analysis_at search.files.table) t search.dirs.places)
-        (d : followed.dangling ≡ dangling new search.dirs.places)
-        (keeps : KeepsAnalyses (analysis_at search.files.table) (analysis_at files.table)) (read_all : AreRead new (analysis_at files.table) (reached new search.dirs.places))
+        (d : followed.dangling ≡ dangling new search.dirs.places) (keeps : KeepsAnalyses (analysis_at search.files.table) (analysis_at files.table))
         (more : (path : List ℕ) → is_in (keys_of files.table) path ≡ true → (is_in (keys_of search.files.table) path || is_in (reached new search.dirs.places) path) ≡ true) where
-      pub is_found : (known : Option Contents) → IfHonest known t loaded (λ held. IsSearched held t loaded search)
-          → IfHonest known new here (λ held. AreRight held new (analysis_at search.files.table) → AreRight held new (analysis_at files.table))
-          → IfHonest known new here (λ held. files.stamps ≡ with_stamps search.files.stamps (stamps_at held new behind))
+      pub is_found : (known : Option Contents) → IfKnown known (λ held. IsSearched held t loaded search)
+          → IfKnown known (λ held. AgreeOn behind (said_in held new here behind) (analysis_at files.table))
+          → IfKnown known (λ held. files.stamps ≡ with_stamps search.files.stamps (stamps_said new (said_in held new here behind) behind))
           → IfKnown known (λ held. files.begun ≡ search.files.begun + length (opened_keys held new here behind))
           → IfKnown known (λ held. lacks_one held (opened_keys held new here behind) ≡ false)
-          → IfHonest known t loaded (λ held. IsFound held t loaded (record { search = record search { files = files }; links = made; followed = followed }) new)
-      is_found None s right stamps begun none = tt
-      is_found (Some held) s right stamps begun none = λ honest same.
-          let found : IsSearched held t loaded search = s honest same in
-          let honest_new = true_new held t new alike here found.are_true in
-          let same_there = same_new held t new alike same in
-          parts.is_found held t loaded search found read all only new alike new_is made followed files still plan few b m d (right honest_new same_there) keeps read_all more same
-          (stamps honest_new same_there) begun none
+          → IfKnown known (λ held. IsFound held t loaded (record { search = record search { files = files }; links = made; followed = followed }) new)
+      is_found None s said stamps begun none = tt
+      is_found (Some held) s said stamps begun none = parts.is_found held t loaded search s all only new alike new_is made followed files still plan few b m d said keeps more stamps begun none

@@ -1,7 +1,6 @@
 -- What is found before the links are planned.
-use Rattle.std.proofs.Common.{◌≡◌, ◌+◌, ◌||◌, ◌++◌, false, List, [], Option, Some, None, ap, sym, subst, ◌∙◌, arith}
+use Rattle.std.proofs.Common.{◌≡◌, ◌+◌, ◌||◌, ◌++◌, false, List, [], length, Option, Some, None, ap, sym, subst, ◌∙◌, arith}
 use Rattle.std.proofs.lemmas.List.{append-nil}
-use Rattle.stamped_files.specs.Files.{AreRight}
 use Rattle.aux_cache.specs.declared.stamps.Stamp.{Stamp}
 use Rattle.elf_dynamic.specs.Begun.{lacks_one}
 use Rattle.hwcap_dirs.specs.Places.{absent, places}
@@ -9,18 +8,19 @@ use Rattle.hwcap_dirs.specs.declared.kinds.Place.{Place}
 use Rattle.ldso_conf.specs.Reading.{IsConfOf, conf_lacks}
 use Rattle.ldso_conf.specs.declared.kinds.Conf.{Conf}
 use Rattle.found_files.proofs.Unread.{none_read}
-use Rattle.found_files.specs.Analyses.{unread}
+use Rattle.found_files.specs.Analyses.{AgreeOn, unread}
 use Rattle.found_files.specs.Search.{wanted}
-use Rattle.found_files.specs.Table.{Rows, analysis_at}
-use Rattle.stamped_files.specs.Opened.{opened_keys, opens}
-use Rattle.stamped_files.specs.Stamped.{AreSame, AreTrue, IfHonest, StampTheSame, stamps_at, with_stamps}
+use Rattle.found_files.specs.Table.{analysis_at}
+use Rattle.stamped_files.specs.Opened.{opened_keys}
+use Rattle.stamped_files.specs.Said.{said_in, stamps_said}
+use Rattle.stamped_files.specs.Stamped.{StampTheSame, stamps_at, with_stamps}
 use Rattle.stamped_files.specs.State.{stamps_there, unread_paths}
 use Rattle.stamped_files.specs.declared.files.Files.{Files}
 use Rattle.tree_face.specs.Known.{IfKnown}
 use Rattle.tree_face.specs.Store.{Contents}
 use Rattle.image_tree.specs.Tree.{Nodes}
 use Rattle.searched_image.specs.Begun.{stamps_wanted, wanted_keys}
-use Rattle.searched_image.specs.Ldconfig.{conf_in, places_in, wanted_in}
+use Rattle.searched_image.specs.Ldconfig.{conf_in, places_in, said_wanted, wanted_in}
 use Rattle.searched_image.specs.Found.{IsSearched}
 use Rattle.searched_image.specs.declared.search.Search.{Search}
 
@@ -48,22 +48,23 @@ module _ (t : Nodes) (loaded : List Stamp) (conf : Conf) (found : List Place) (f
     keys_are = ap (λ l. opened_keys held t l (unread_paths first (wanted t found))) stamps_first ∙ ap (λ paths. opened_keys held t loaded paths) paths_are
 
     module _ (search : Search) (read : search.conf ≡ conf) (there : search.dirs.places ≡ found) (absent_are : search.dirs.absent ≡ absent t conf.dirs) where
-      is_searched : (AreRight held t (analysis_at first.table) → AreRight held t (analysis_at search.files.table))
-          → search.files.stamps ≡ with_stamps first.stamps (stamps_at held t (unread_paths first (wanted t found)))
-          → AreTrue held t (stamps_there loaded search.files)
+      is_searched : AgreeOn (unread_paths first (wanted t found)) (said_in held t (stamps_there loaded first) (unread_paths first (wanted t found))) (analysis_at search.files.table)
+          → search.files.stamps ≡ with_stamps first.stamps (stamps_said t (said_in held t (stamps_there loaded first) (unread_paths first (wanted t found))) (unread_paths first (wanted t found)))
           → StampTheSame (stamps_there loaded search.files) (stamps_there loaded first ++ stamps_at held t (unread_paths first (wanted t found)))
-          → search.files.begun ≡ first.begun + opens held t (stamps_there loaded first) (unread_paths first (wanted t found))
+          → search.files.begun ≡ first.begun + length (opened_keys held t (stamps_there loaded first) (unread_paths first (wanted t found)))
           → lacks_one held (opened_keys held t (stamps_there loaded first) (unread_paths first (wanted t found))) ≡ false → IsSearched held t loaded search
-      unfolding conf_in stamps_wanted
-      is_searched right stamps are_true stamped begun lacks =
-          let count = ap (λ l. opens held t l (unread_paths first (wanted t found))) stamps_first ∙ ap (λ paths. opens held t loaded paths) paths_are in
+      unfolding conf_in stamps_wanted said_wanted
+      is_searched said stamps stamped begun lacks =
+          let count = ap length keys_are in
           record {
             conf = subst (λ (x : Conf). IsConfOf x held t) (sym read) is;
             places = there ∙ places_are;
             absent_is = absent_are ∙ ap (absent t) is.dirs;
-            right = right (subst (λ (rows : Rows). AreRight held t (analysis_at rows)) (sym empty.table) (λ path there. absurd (cc)));
-            stamps = stamps ∙ ap (λ l. with_stamps l (stamps_at held t (unread_paths first (wanted t found)))) empty.stamps ∙ ap (λ paths. with_stamps [] (stamps_at held t paths)) paths_are;
-            are_true = are_true;
+            said = rw (stamps_first, paths_are) at said;
+            stamps = stamps
+                ∙ ap (λ l. with_stamps l (stamps_said t (said_in held t (stamps_there loaded first) (unread_paths first (wanted t found))) (unread_paths first (wanted t found)))) empty.stamps
+                ∙ ap (λ l. with_stamps [] (stamps_said t (said_in held t l (unread_paths first (wanted t found))) (unread_paths first (wanted t found)))) stamps_first
+                ∙ ap (λ paths. with_stamps [] (stamps_said t (said_in held t loaded paths) paths)) paths_are;
             stamped = subst (λ l. StampTheSame (stamps_there loaded search.files) l)
                 (ap (λ l. l ++ stamps_at held t (unread_paths first (wanted t found))) stamps_first ∙ ap (λ paths. loaded ++ stamps_at held t paths) paths_are) stamped;
             begun = omega (arith, begun, empty.begun, count);
@@ -79,17 +80,15 @@ module _ (t : Nodes) (loaded : List Stamp) (conf : Conf) (found : List Place) (f
 
   module _ (search : Search) (read : search.conf ≡ conf) (there : search.dirs.places ≡ found) (absent_are : search.dirs.absent ≡ absent t conf.dirs) where
     pub searched : (known : Option Contents) → IfKnown known (λ held. IsConfOf conf held t)
-        → IfHonest known t (stamps_there loaded first) (λ held. AreRight held t (analysis_at first.table) → AreRight held t (analysis_at search.files.table))
-        → IfHonest known t (stamps_there loaded first) (λ held. search.files.stamps ≡ with_stamps first.stamps (stamps_at held t (unread_paths first (wanted t found))))
-        → IfHonest known t (stamps_there loaded first) (λ held. AreTrue held t (stamps_there loaded search.files))
+        → IfKnown known (λ held. AgreeOn (unread_paths first (wanted t found)) (said_in held t (stamps_there loaded first) (unread_paths first (wanted t found))) (analysis_at search.files.table))
+        → IfKnown known (λ held. search.files.stamps
+        ≡ with_stamps first.stamps (stamps_said t (said_in held t (stamps_there loaded first) (unread_paths first (wanted t found))) (unread_paths first (wanted t found))))
         → IfKnown known (λ held. StampTheSame (stamps_there loaded search.files) (stamps_there loaded first ++ stamps_at held t (unread_paths first (wanted t found))))
-        → IfKnown known (λ held. AreSame held t t → search.files.begun ≡ first.begun + opens held t (stamps_there loaded first) (unread_paths first (wanted t found)))
+        → IfKnown known (λ held. search.files.begun ≡ first.begun + length (opened_keys held t (stamps_there loaded first) (unread_paths first (wanted t found))))
         → IfKnown known (λ held. lacks_one held (opened_keys held t (stamps_there loaded first) (unread_paths first (wanted t found))) ≡ false)
-        → IfHonest known t loaded (λ held. IsSearched held t loaded search)
-    searched None is right stamps are_true stamped begun lacks = tt
-    searched (Some held) is right stamps are_true stamped begun lacks = λ honest same.
-        let there_honest : AreTrue held t (stamps_there loaded first) = subst (AreTrue held t) (sym stamps_first) honest in
-        is_searched held is search read there absent_are (right there_honest same) (stamps there_honest same) (are_true there_honest same) stamped (begun same) lacks
+        → IfKnown known (λ held. IsSearched held t loaded search)
+    searched None is said stamps stamped begun lacks = tt
+    searched (Some held) is said stamps stamped begun lacks = is_searched held is search read there absent_are said stamps stamped begun lacks
 
 pub all_conf : (t : Nodes) (conf : Conf) (known : Option Contents) → IfKnown known (λ held. IsConfOf conf held t) → IfKnown known (λ held. conf_lacks held t ≡ false)
 all_conf t conf None is = tt

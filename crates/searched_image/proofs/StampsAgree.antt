@@ -50,13 +50,16 @@ module _ (held : Contents) (t new : Nodes) (alike : IsSearchedAlike t new) where
       ∙ ap (λ l. cons_option (unstamped_key stamps t path) (opened_by held new (stamps ++ l) paths)) (stamps_same (path ∷ []))
       ∙ ap (λ l. cons_option (unstamped_key stamps t path) l) (opened_same (stamps ++ stamps_at held t (path ∷ [])) paths)
 
-  -- files that are read first, and others that are read in the new tree
-  pub opens_both : AreSame held t t → (stamps : List Stamp) (xs ys : List (List ℕ)) → AreSorted ys
-      → opens held t stamps xs + length (opened_keys held new (stamps ++ stamps_at held t xs) ys) ≡ opens held t stamps (xs ++ ys)
-  opens_both same stamps xs ys sorted =
-      let first = opened_by_count held t same stamps xs in
-      let whole = opened_by_count held t same stamps (xs ++ ys) in
-      let parts : length (opened_by held t stamps (xs ++ ys)) ≡ length (opened_by held t stamps xs) + length (opened_by held t (stamps ++ stamps_at held t xs) ys) =
-      ap length (opened_append held t stamps xs ys) ∙ length-append (opened_by held t stamps xs) (opened_by held t (stamps ++ stamps_at held t xs) ys) in
-      let next = ap length (opened_are held new (stamps ++ stamps_at held t xs) ys sorted ∙ opened_same (stamps ++ stamps_at held t xs) ys) in
-      omega (arith, first, whole, parts, next)
+  pub keys_same : (stamps : List Stamp) (paths : List (List ℕ)) → AreSorted paths → opened_keys held new stamps paths ≡ opened_keys held t stamps paths
+  keys_same stamps paths sorted = opened_are held new stamps paths sorted ∙ opened_same stamps paths ∙ sym (opened_are held t stamps paths sorted)
+
+-- files that are read first, and others
+pub opens_both : (held : Contents) (t : Nodes) → AreSame held t t → (stamps : List Stamp) (xs ys : List (List ℕ)) → AreSorted xs → AreSorted ys
+    → length (opened_keys held t stamps xs) + length (opened_keys held t (stamps ++ stamps_at held t xs) ys) ≡ opens held t stamps (xs ++ ys)
+opens_both held t same stamps xs ys first next =
+    let whole = opened_by_count held t same stamps (xs ++ ys) in
+    let parts : length (opened_by held t stamps (xs ++ ys)) ≡ length (opened_by held t stamps xs) + length (opened_by held t (stamps ++ stamps_at held t xs) ys) =
+    ap length (opened_append held t stamps xs ys) ∙ length-append (opened_by held t stamps xs) (opened_by held t (stamps ++ stamps_at held t xs) ys) in
+    let one = ap length (opened_are held t stamps xs first) in
+    let other = ap length (opened_are held t (stamps ++ stamps_at held t xs) ys next) in
+    omega (arith, whole, parts, one, other)

@@ -1,18 +1,18 @@
 -- Which keys an update begins, in their order, and how many bytes it takes of their contents at most: those of the conf files, and of the
 -- library files of which no stamp says what they are.
-use Rattle.std.specs.Prelude.{◌+◌, ◌++◌, ◌||◌, ◌&&◌, ℕ, Bool, false, List, [], if◌then◌else◌, nat_lt, not, Some}
+use Rattle.std.specs.Prelude.{◌+◌, ◌++◌, ◌||◌, ◌&&◌, ℕ, Bool, false, List, [], if◌then◌else◌, length, nat_lt, not, Some}
 use Rattle.std.specs.List.{list_any}
 use Rattle.std.specs.Option.{option_map_or}
 use Rattle.aux_cache.specs.declared.stamps.Stamp.{Stamp}
 use Rattle.elf_dynamic.specs.Begun.{is_lacking, key_in, lacks_one, most_of, until_lacking}
 use Rattle.ldso_conf.specs.Reading.{conf_bytes, conf_keys, conf_lacks}
 use Rattle.soname_links.specs.Apply.{nodes_with}
-use Rattle.stamped_files.specs.Opened.{opened_keys, opens}
+use Rattle.stamped_files.specs.Opened.{opened_keys}
 use Rattle.stamped_files.specs.Stamped.{stamps_at}
 use Rattle.image_tree.specs.declared.tree.TheConstants.{NODES_MAX}
 use Rattle.tree_face.specs.Store.{Contents}
 use Rattle.image_tree.specs.Tree.{Nodes}
-use Rattle.searched_image.specs.Ldconfig.{behind_in, library_paths, links_in, planned_in, wanted_in}
+use Rattle.searched_image.specs.Ldconfig.{behind_in, links_in, wanted_in}
 
 -- the keys of the files with library names that are opened, if these stamps are loaded
 unfoldable pub wanted_keys : Contents → Nodes → List Stamp → List (List ℕ)
@@ -22,17 +22,17 @@ wanted_keys held t loaded = opened_keys held t loaded (wanted_in held t)
 unfoldable pub stamps_wanted : Contents → Nodes → List Stamp → List Stamp
 stamps_wanted held t loaded = loaded ++ stamps_at held t (wanted_in held t)
 
--- the keys of the files behind links that are opened
+-- the keys of those files that links lead to and that are opened
 unfoldable pub behind_keys : Contents → Nodes → List Stamp → List (List ℕ)
-behind_keys held t loaded = opened_keys held (planned_in held t) (stamps_wanted held t loaded) (behind_in held t)
+behind_keys held t loaded = opened_keys held t (stamps_wanted held t loaded) (behind_in held t loaded)
 
 -- how many library files are opened, if all are held
 abbrev pub opened_in : Contents → Nodes → List Stamp → ℕ
-opened_in held t loaded = opens held t loaded (library_paths held t)
+opened_in held t loaded = length (wanted_keys held t loaded) + length (behind_keys held t loaded)
 
 -- The planned tree has more nodes than a tree may have.
-abbrev pub has_too_many_nodes : Contents → Nodes → Bool
-has_too_many_nodes held t = nat_lt NODES_MAX (nodes_with t (links_in held t))
+abbrev pub has_too_many_nodes : Contents → Nodes → List Stamp → Bool
+has_too_many_nodes held t loaded = nat_lt NODES_MAX (nodes_with t (links_in held t loaded))
 
 -- ---- files that aren't held
 
@@ -41,7 +41,7 @@ lacks_wanted held t loaded = conf_lacks held t || lacks_one held (wanted_keys he
 
 -- a file that has to be begun isn't held; no link is followed in a planned tree with too many nodes
 unfoldable pub lacks_file : Contents → Nodes → List Stamp → Bool
-lacks_file held t loaded = lacks_wanted held t loaded || (not (has_too_many_nodes held t) && lacks_one held (behind_keys held t loaded))
+lacks_file held t loaded = lacks_wanted held t loaded || (not (has_too_many_nodes held t loaded) && lacks_one held (behind_keys held t loaded))
 
 -- whatever stamps say: a conf file that has to be begun, or some file of the tree, isn't held
 unfoldable pub lacks_some : Contents → Nodes → Bool
@@ -60,7 +60,7 @@ search_bytes held t loaded = conf_bytes held t + (if conf_lacks held t then 0 el
 
 -- The links are followed if all of these files are held and there is room for the links that are planned.
 abbrev pub ends_early : Contents → Nodes → List Stamp → Bool
-ends_early held t loaded = lacks_wanted held t loaded || has_too_many_nodes held t
+ends_early held t loaded = lacks_wanted held t loaded || has_too_many_nodes held t loaded
 
 unfoldable pub update_keys : Contents → Nodes → List Stamp → List (List ℕ)
 update_keys held t loaded = search_keys held t loaded ++ (if ends_early held t loaded then [] else until_lacking held (behind_keys held t loaded))

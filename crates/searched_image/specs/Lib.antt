@@ -2,4 +2,5 @@ pub mod Behind
 pub mod Begun
 pub mod Faults
 pub mod Found
+pub mod Laws
 pub mod Ldconfig

@@ -1,6 +1,5 @@
 //! All that an update finds.
 ghost use Rattle.std.specs.Prelude.{◌≡◌, ℕ, IfOk, IsErrOf, IsTrue, OnOk};
-ghost use Rattle.stamped_files.specs.Files.{what_is};
 ghost use Rattle.hwcap_dirs.specs.Places.{are_spelled};
 ghost use Rattle.found_files.specs.Best.{bests_of};
 ghost use Rattle.found_files.specs.Search.{followed};
@@ -9,10 +8,10 @@ ghost use Rattle.image_tree.specs.Tree.{IsTree};
 ghost use Rattle.settled_links.specs.Search.{IsSearchedAlike};
 ghost use Rattle.soname_links.specs.Settled.{IsSettled};
 ghost use Rattle.aux_cache.specs.Stamps.{HaveNames};
-ghost use Rattle.stamped_files.specs.Stamped.{IfHonest};
+ghost use Rattle.tree_face.specs.Known.{IfKnown};
 ghost use Rattle.searched_image.specs.Faults.{find_ending};
 ghost use Rattle.searched_image.specs.Found.{HasTooManyNodes, IsFound, ReadsFinding};
-ghost use Rattle.searched_image.specs.Ldconfig.{places_in};
+ghost use Rattle.searched_image.specs.Ldconfig.{places_in, said_wanted};
 
 use crate::fault::FindFault;
 use crate::following::{Followed, follow_links};
@@ -40,16 +39,16 @@ pub fn find<S: Store>(
     loaded: &Stamps,
 ) -> Result<Found, FindFault>
     requires names { HaveNames loaded.now }
-    ensures found { IfOk result (λ found. IfHonest (S.state store.old).held tree.old loaded.now (λ held. IsFound held tree.old loaded.now found tree.new)) }
+    ensures found { IfOk result (λ found. IfKnown (S.state store.old).held (λ held. IsFound held tree.old loaded.now found tree.new)) }
     ensures is_tree { OnOk result (IsTree tree.new) }
     ensures alike { OnOk result (IsSearchedAlike tree.old tree.new) }
-    ensures settled { OnOk result (IfHonest (S.state store.old).held tree.old loaded.now
-        (λ held. IsSettled (what_is held tree.old) tree.old (places_in held tree.old) tree.new)) }
+    ensures settled { OnOk result (IfKnown (S.state store.old).held
+        (λ held. IsSettled (said_wanted held tree.old loaded.now) tree.old (places_in held tree.old) tree.new)) }
     ensures links { IfOk result (λ found. found.followed.links ≡ followed tree.new found.search.dirs.places) }
     ensures bests { IfOk result (λ found. found.links.bests ≡ bests_of (analysis_at found.search.files.table) tree.new found.search.dirs.places) }
     ensures spelled { IfOk result (λ found. IsTrue (are_spelled found.search.dirs.places)) }
     ensures too_large { (nodes : ℕ) → IsErrOf result (FindFault.TooLarge nodes) →
-        IfHonest (S.state store.old).held tree.old loaded.now (λ held. HasTooManyNodes held tree.old loaded.now nodes) }
+        IfKnown (S.state store.old).held (λ held. HasTooManyNodes held tree.old loaded.now nodes) }
     ensures reads { ReadsFinding tree.old loaded.now (find_ending result) (S.state store.old) (S.state store.new) }
 {
     let mut search = search_image(alloc, tree, store, loaded)?;

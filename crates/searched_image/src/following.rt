@@ -3,17 +3,17 @@ ghost use Rattle.std.specs.Prelude.{◌≡◌, ◌+◌, ◌||◌, ℕ, List, tru
 ghost use Rattle.std.specs.List.{list_any};
 ghost use Rattle.std.specs.Map.{keys_of};
 ghost use Rattle.std.specs.Str.{bytes_eq};
-ghost use Rattle.stamped_files.specs.Files.{AreRead, AreRight};
+ghost use Rattle.stamped_files.specs.Files.{AreRead};
 ghost use Rattle.aux_cache.specs.Stamps.{HaveNames};
 ghost use Rattle.elf_dynamic.specs.Begun.{lacks_one};
-ghost use Rattle.found_files.specs.Analyses.{KeepsAnalyses};
+ghost use Rattle.found_files.specs.Analyses.{AgreeOn, KeepsAnalyses};
 ghost use Rattle.found_files.specs.Search.{dangling, followed, reached};
 ghost use Rattle.found_files.specs.Table.{analysis_at};
 ghost use Rattle.stamped_files.specs.Opened.{ReadsOpened};
-ghost use Rattle.stamped_files.specs.Stamped.{IfHonest, stamps_at, with_stamps};
-ghost use Rattle.stamped_files.specs.State.{stamps_there};
+ghost use Rattle.stamped_files.specs.Stamped.{with_stamps};
+ghost use Rattle.stamped_files.specs.State.{said_there};
 ghost use Rattle.tree_face.specs.Known.{IfKnown};
-ghost use Rattle.searched_image.specs.Behind.{opened_behind, unread_behind};
+ghost use Rattle.searched_image.specs.Behind.{made_behind, opened_behind, unread_behind};
 ghost use Rattle.searched_image.specs.Faults.{find_ending, is_store_fault};
 
 use crate::fault::FindFault;
@@ -47,14 +47,14 @@ pub fn follow_links<S: Store>(
     requires names { HaveNames loaded.now }
     ensures links { IfOk result (λ found. found.links ≡ followed tree.now dirs.now.places) }
     ensures dangling { IfOk result (λ found. found.dangling ≡ dangling tree.now dirs.now.places) }
-    ensures right { OnOk result (IfHonest (S.state store.old).held tree.now (stamps_there loaded.now files.old)
-        (λ held. AreRight held tree.now (analysis_at files.old.table) → AreRight held tree.now (analysis_at files.new.table))) }
+    ensures said { OnOk result (IfKnown (S.state store.old).held (λ held. AgreeOn (unread_behind files.old tree.now dirs.now)
+        (said_there held tree.now loaded.now files.old (unread_behind files.old tree.now dirs.now)) (analysis_at files.new.table))) }
     ensures kept { OnOk result (KeepsAnalyses (analysis_at files.old.table) (analysis_at files.new.table)) }
     ensures all { OnOk result (AreRead tree.now (analysis_at files.new.table) (reached tree.now dirs.now.places)) }
     ensures only { OnOk result ((path : List ℕ) → list_any (bytes_eq path) (keys_of files.new.table) ≡ true →
         (list_any (bytes_eq path) (keys_of files.old.table) || list_any (bytes_eq path) (reached tree.now dirs.now.places)) ≡ true) }
-    ensures stamps { OnOk result (IfHonest (S.state store.old).held tree.now (stamps_there loaded.now files.old)
-        (λ held. files.new.stamps ≡ with_stamps files.old.stamps (stamps_at held tree.now (unread_behind files.old tree.now dirs.now)))) }
+    ensures stamps { OnOk result (IfKnown (S.state store.old).held (λ held. files.new.stamps ≡ with_stamps files.old.stamps
+        (made_behind held loaded.now files.old tree.now dirs.now))) }
     ensures begun { OnOk result (IfKnown (S.state store.old).held (λ held. files.new.begun ≡ files.old.begun
         + length (opened_behind held loaded.now files.old tree.now dirs.now))) }
     ensures none_lacks { OnOk result (IfKnown (S.state store.old).held (λ held. lacks_one held (opened_behind held loaded.now files.old tree.now dirs.now) ≡ false)) }

@@ -1,4 +1,4 @@
-//! All that an update finds in an image: conf files, places, libraries, planned links, and the files behind links.
+//! All that an update finds in an image: conf files, places, libraries, planned links, and the files that links lead to.
 #![tactic(auto)]
 
 mod fault;

@@ -10,7 +10,7 @@ ghost use Rattle.found_files.specs.Analyses.{HaveAnalyses};
 ghost use Rattle.found_files.specs.Rows.{AreOfPlaces};
 ghost use Rattle.found_files.specs.Search.{wanted};
 ghost use Rattle.found_files.specs.Table.{analysis_at};
-ghost use Rattle.stamped_files.specs.Stamped.{IfHonest};
+ghost use Rattle.tree_face.specs.Known.{IfKnown};
 ghost use Rattle.searched_image.specs.Faults.{find_ending, is_store_fault};
 ghost use Rattle.searched_image.specs.Found.{IsSearched, ReadsSearch};
 
@@ -42,7 +42,7 @@ pub fn search_image<S: Store>(
     loaded: &Stamps,
 ) -> Result<Search, FindFault>
     requires names { HaveNames loaded.now }
-    ensures found { IfOk result (λ search. IfHonest (S.state store.old).held tree.now loaded.now (λ held. IsSearched held tree.now loaded.now search)) }
+    ensures found { IfOk result (λ search. IfKnown (S.state store.old).held (λ held. IsSearched held tree.now loaded.now search)) }
     ensures real { IfOk result (λ search. IsTrue (are_dirs tree.now search.dirs.places)) }
     ensures spelled { IfOk result (λ search. IsTrue (are_spelled search.dirs.places)) }
     ensures read { IfOk result (λ search. AreRead tree.now (analysis_at search.files.table) (wanted tree.now search.dirs.places)) }

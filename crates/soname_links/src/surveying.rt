@@ -40,6 +40,13 @@ struct Marked {
     mixed: Marks,
 }
 
+// A place with its number.
+#[derive(Drop)]
+struct Numbered<'a> {
+    number: u32,
+    place: &'a Place,
+}
+
 // Whether the best library of its soname wants a link.
 fn is_regarded(best: &Library<'_>) -> bool
     ensures { result ≡ is_regarded best.now }
@@ -118,24 +125,23 @@ fn planned(alloc: Global, number: u32, best: &Library<'_>, path: &[u8]) -> Resul
 fn add_wanted(
     alloc: Global,
     tree: &Tree,
-    number: u32,
-    place: &Place,
+    at: &Numbered<'_>,
     best: &Library<'_>,
     path: &mut Vec<u8>,
     found: &mut Marked,
 ) -> Result<(), NoMemory>
-    ensures plan { OnOk result (found.new.plan ≡ found.old.plan ++ filter_map (link_for tree.now number place.now) (best.now ∷ [])) }
-    ensures blocked { OnOk result (found.new.blocked ≡ found.old.blocked ++ filter_map (blocked_for tree.now number place.now) (best.now ∷ [])) }
+    ensures plan { OnOk result (found.new.plan ≡ found.old.plan ++ filter_map (link_for tree.now at.now.number at.now.place.now) (best.now ∷ [])) }
+    ensures blocked { OnOk result (found.new.blocked ≡ found.old.blocked ++ filter_map (blocked_for tree.now at.now.number at.now.place.now) (best.now ∷ [])) }
     ensures mixed { OnOk result (found.new.mixed ≡ found.old.mixed) }
 {
     if !is_regarded(best) {
         return Ok(());
     }
-    join_into(path, place.real.as_bytes(), best.soname)?;
+    join_into(path, at.place.real.as_bytes(), best.soname)?;
     match spot_at(tree, path, best.name) {
-        Spot::Blocked => found.blocked.push(mark(alloc, number, best.soname)?)?,
+        Spot::Blocked => found.blocked.push(mark(alloc, at.number, best.soname)?)?,
         Spot::Linked => {}
-        Spot::Free => found.plan.push(planned(alloc, number, best, path)?)?,
+        Spot::Free => found.plan.push(planned(alloc, at.number, best, path)?)?,
     }
     Ok(())
 }
@@ -144,18 +150,17 @@ fn add_wanted(
 fn add_links(
     alloc: Global,
     tree: &Tree,
-    number: u32,
-    place: &Place,
+    at: &Numbered<'_>,
     bests: &BestLibraries,
     found: &mut Marked,
 ) -> Result<(), NoMemory>
-    ensures plan { OnOk result (found.new.plan ≡ found.old.plan ++ filter_map (link_for tree.now number place.now) bests.now) }
-    ensures blocked { OnOk result (found.new.blocked ≡ found.old.blocked ++ filter_map (blocked_for tree.now number place.now) bests.now) }
+    ensures plan { OnOk result (found.new.plan ≡ found.old.plan ++ filter_map (link_for tree.now at.now.number at.now.place.now) bests.now) }
+    ensures blocked { OnOk result (found.new.blocked ≡ found.old.blocked ++ filter_map (blocked_for tree.now at.now.number at.now.place.now) bests.now) }
     ensures mixed { OnOk result (found.new.mixed ≡ found.old.mixed) }
 {
     let mut path = Vec::new(alloc);
     for best in bests.iter() {
-        add_wanted(alloc, tree, number, place, &best, &mut path, found)?;
+        add_wanted(alloc, tree, at, &best, &mut path, found)?;
     }
     Ok(())
 }
@@ -179,20 +184,19 @@ fn add_marks(
 fn add_place(
     alloc: Global,
     tree: &Tree,
-    number: u32,
-    place: &Place,
+    at: &Numbered<'_>,
     bests: &BestLibraries,
     mixed: &[Text],
     found: &mut Marked,
 ) -> Result<(), NoMemory>
-    ensures plan { OnOk result (found.new.plan ≡ found.old.plan ++ links_by tree.now number place.now bests.now) }
-    ensures blocked { OnOk result (found.new.blocked ≡ found.old.blocked ++ blocked_by tree.now number place.now bests.now) }
-    ensures mixed { OnOk result (found.new.mixed ≡ found.old.mixed ++ map (mark number) mixed.now) }
+    ensures plan { OnOk result (found.new.plan ≡ found.old.plan ++ links_by tree.now at.now.number at.now.place.now bests.now) }
+    ensures blocked { OnOk result (found.new.blocked ≡ found.old.blocked ++ blocked_by tree.now at.now.number at.now.place.now bests.now) }
+    ensures mixed { OnOk result (found.new.mixed ≡ found.old.mixed ++ map (mark at.now.number) mixed.now) }
 {
-    if is_plain(place) {
-        add_links(alloc, tree, number, place, bests, found)?;
+    if is_plain(at.place) {
+        add_links(alloc, tree, at, bests, found)?;
     }
-    add_marks(alloc, number, mixed, &mut found.mixed)?;
+    add_marks(alloc, at.number, mixed, &mut found.mixed)?;
     Ok(())
 }
 
@@ -218,15 +222,8 @@ fn marked_by(
     let mut number: u32 = 0;
     let there = bests.iter().zip(mixed.iter());
     for (place, (bests, mixed)) in dirs.places.as_slice().iter().zip(there) {
-        add_place(
-            alloc,
-            tree,
-            number,
-            place,
-            bests,
-            mixed.as_slice(),
-            &mut found,
-        )?;
+        let at = Numbered { number, place };
+        add_place(alloc, tree, &at, bests, mixed.as_slice(), &mut found)?;
         number = number.checked_add(1).ok_or(NoMemory)?;
     }
     Ok(found)

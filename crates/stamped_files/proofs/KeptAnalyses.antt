@@ -11,12 +11,11 @@ use Rattle.std.specs.Ordering.{nat_cmp}
 use Rattle.std.specs.Str.{bytes_eq}
 use Rattle.lib_types.proofs.SortedPairs.{by_test}
 use Rattle.lib_types.specs.declared.analysis.Analysis.{Analysis}
-use Rattle.tree_face.specs.Store.{Contents}
 use Rattle.image_tree.specs.Tree.{Nodes, node_at}
 use Rattle.found_files.specs.Analyses.{Analyses, KeepsAnalyses, unread}
 use Rattle.found_files.specs.FoundFile.{FoundFile, IsFileOf}
 use Rattle.found_files.specs.Table.{Rows, analysis_at, with_analysis}
-use Rattle.stamped_files.specs.Files.{AreRight, unread_key, what_is}
+use Rattle.stamped_files.specs.Files.{unread_key}
 use Rattle.elf_dynamic.specs.Begun.{key_in}
 use Rattle.stamped_files.specs.Reading.{is_in}
 use Rattle.stamped_files.specs.Stamped.{id_at, id_in}
@@ -45,16 +44,6 @@ kept_with rows path analysis none q there = by_test (bytes_eq q path)
     let same : q ≡ path = (bytes_eq-Decides q path).0 h in
     let z : false ≡ true = sym (ap is_some (ap (analysis_at rows) same ∙ none)) ∙ there in absurd (cc))
     (λ h. analysis_other rows path q analysis h)
-
-pub right_with : (held : Contents) (t : Nodes) (rows : Rows) (path : List ℕ) (analysis : Analysis) → what_is held t path ≡ Some analysis
-    → AreRight held t (analysis_at rows) → AreRight held t (analysis_at (with_analysis rows path analysis))
-right_with held t rows path analysis is right q there = by_test (bytes_eq q path)
-    (λ h.
-    let same : q ≡ path = (bytes_eq-Decides q path).0 h in
-    rw same (analysis_put rows path analysis ∙ sym is))
-    (λ h.
-    let other = analysis_other rows path q analysis h in
-    other ∙ right q (ap is_some (sym other) ∙ there))
 
 module _ (t : Nodes) where
   abbrev key_by : Nodes → List ℕ → Option Analysis → Option (List ℕ)
@@ -88,7 +77,7 @@ module _ (t : Nodes) where
       [ None ↦ λ a b. b | Some a ↦ λ b c. absurd (cc) ] h e in
       elim (is_none (new q)) as (λ b. cond b (key_in (node_at t q)) None ≡ None) [ true ↦ none | false ↦ refl ])
 
--- ---- the files behind the first
+-- ---- the files after the first
 
 -- texts that differ, in the other order
 pub turned : (a b : List ℕ) → bytes_eq a b ≡ false → bytes_eq b a ≡ false
@@ -108,7 +97,7 @@ unread_others what new path (q ∷ paths) same out = by_test (bytes_eq path q)
     let rest = unread_others what new path paths same (sym (ap (λ b. b || is_in paths path) h) ∙ out) in
     rw (same q (turned path q h)) (ap (λ l. cond (is_none (what q)) (q ∷ l) l) rest))
 
--- none of the texts behind one is the same
+-- none of the texts after one is the same
 pub not_behind : (path : List ℕ) (paths : List (List ℕ)) → IsStrictlySortedBy (slice_cmp nat_cmp) (path ∷ paths) → is_in paths path ≡ false
 unfolding IsStrictlySortedBy
 not_behind path paths sorted = later paths sorted.0

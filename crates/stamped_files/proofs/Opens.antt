@@ -69,7 +69,7 @@ module _ (held : Contents) (t : Nodes) (same : AreSame held t t) (stamps : List 
       ∙ ap (λ o. is_some (stamp_by (Some s.id) (option_map analysis o))) content
       ∙ library_too (id_at t p) s.id (what_is held t p) s is
 
-  -- all stamps at the turn of a file, and those of them that were made
+  -- all stamps at the turn of a file, and the stamps that were made
   record Made (all made : List Stamp) : Type 0 where
     stamped : (id : Id) → is_stamped all id ≡ (is_stamped stamps id || is_stamped made id)
     libraries : (id : Id) → is_stamped made id ≡ true → (q : List ℕ) → id_at t q ≡ Some id → is_some (stamp_at held t q) ≡ true

@@ -14,30 +14,32 @@ use Rattle.std.specs.Ordering.{nat_cmp}
 use Rattle.std.specs.Str.{bytes_eq}
 use Rattle.lib_types.proofs.SortedPairs.{by_test}
 use Rattle.lib_types.specs.Counts.{raised}
+use Rattle.aux_cache.specs.Stamps.{stamp_of}
 use Rattle.aux_cache.specs.declared.stamps.Stamp.{Stamp}
 use Rattle.elf_dynamic.proofs.BegunKeys.{keys_early, keys_then, none_lacks}
 use Rattle.elf_dynamic.specs.Begun.{ReadsBy, file_keys, is_lacking, key_in, lacks_one, until_lacking}
-use Rattle.found_files.specs.Analyses.{Analyses, KeepsAnalyses, unread}
+use Rattle.found_files.proofs.Members.{AreSorted}
+use Rattle.found_files.specs.Analyses.{AgreeOn, Analyses, KeepsAnalyses, unread}
 use Rattle.found_files.specs.Table.{analysis_at}
 use Rattle.image_tree.specs.Tree.{Nodes, node_at}
-use Rattle.image_tree.specs.declared.node.Id.{Id}
 use Rattle.tree_face.proofs.StoreUse.{IsPartial, raised-mono, reads_fewer, reads_none}
 use Rattle.tree_face.specs.Known.{IfKnown}
 use Rattle.tree_face.specs.Store.{Contents, StoreState}
 use Rattle.tree_face.specs.StoreUse.{Ending, Complete}
 use Rattle.stamped_files.proofs.KeptAnalyses.{not_behind, still_read, unread_others}
-use Rattle.stamped_files.proofs.Opened.{one_opened, opened_alike, opened_append, opened_are, opened_then}
+use Rattle.stamped_files.proofs.Opened.{made_are, one_opened, opened_alike, opened_append, opened_are, opened_then, said_are}
 use Rattle.stamped_files.proofs.Opens.{opened_count}
 use Rattle.stamped_files.specs.Files.{unread_key}
 use Rattle.stamped_files.specs.Opened.{ReadsOpenedBy, opened_keys, opens}
-use Rattle.stamped_files.specs.Reading.{HasOpened, HasRead, ReadsOne, is_in, is_stamped, keys_opened, opened_by}
-use Rattle.stamped_files.specs.Stamped.{AreSame, IfHonest, stamp_for, stamps_at, with_stamps}
+use Rattle.stamped_files.specs.Reading.{HasOpened, HasRead, ReadsOne, is_in, keys_opened, opened_by}
+use Rattle.stamped_files.specs.Said.{said_in, stamps_said}
+use Rattle.stamped_files.specs.Stamped.{AreSame, StampTheSame, stamp_for, stamps_at, with_stamps}
 use Rattle.stamped_files.specs.declared.files.Files.{Files}
 
 keeps_on : (table now new : List ℕ → Option _) → KeepsAnalyses table now → KeepsAnalyses now new → KeepsAnalyses table new
 keeps_on table now new first second q there = second q (ap is_some (first q there) ∙ there) ∙ first q there
 
--- ---- at most so many files
+-- ---- the largest number of files
 
 until_short : (held : Contents) (ks : List (List ℕ)) → length (until_lacking held ks) ≤ length ks
 until_short held [] = omega arith
@@ -73,10 +75,10 @@ module _ (t : Nodes) (loaded : List Stamp) (known : Option Contents) (all : List
   none_on ks more first next = elim known as (λ k. IfKnown k (λ held. lacks_one held ks ≡ false) → IfKnown k (λ held. lacks_one held more ≡ false)
       → IfKnown k (λ held. lacks_one held (ks ++ more) ≡ false)) [ None ↦ λ f g. tt | Some held ↦ λ f g. none_lacks held ks more f g ] first next
 
-  opened_on : (xs ys ks ls : List (List ℕ)) (a b c : Files) → IfKnown known (λ held. HasOpened held t loaded xs ks a b) → IfKnown known (λ held. HasOpened held t loaded ys ls b c)
+  opened_on : (xs ys ks ls : List (List ℕ)) (a b c : Files) → KeepsAnalyses (analysis_at b.table) (analysis_at c.table) → IfKnown known (λ held. HasOpened held t loaded xs ks a b) → IfKnown known (λ held. HasOpened held t loaded ys ls b c)
       → IfKnown known (λ held. HasOpened held t loaded (xs ++ ys) (ks ++ ls) a c)
-  opened_on xs ys ks ls a b c first next = elim known as (λ k. IfKnown k (λ held. HasOpened held t loaded xs ks a b) → IfKnown k (λ held. HasOpened held t loaded ys ls b c)
-      → IfKnown k (λ held. HasOpened held t loaded (xs ++ ys) (ks ++ ls) a c)) [ None ↦ λ f g. tt | Some held ↦ λ f g. opened_then held t loaded xs ys ks ls a b c f g ] first next
+  opened_on xs ys ks ls a b c keeps first next = elim known as (λ k. IfKnown k (λ held. HasOpened held t loaded xs ks a b) → IfKnown k (λ held. HasOpened held t loaded ys ls b c)
+      → IfKnown k (λ held. HasOpened held t loaded (xs ++ ys) (ks ++ ls) a c)) [ None ↦ λ f g. tt | Some held ↦ λ f g. opened_then held t loaded xs ys ks ls a b c keeps f g ] first next
 
   module _ (old now : Files) (before here : StoreState) (path : List ℕ) (rest : List (List ℕ)) (so_far : HasRead t loaded known all (path ∷ rest) old now before here) where
     abbrev at_turn : List (List ℕ)
@@ -100,7 +102,7 @@ module _ (t : Nodes) (loaded : List Stamp) (known : Option Contents) (all : List
       ahead = so_far.ahead ++ at_turn;
       keys = so_far.keys ++ one;
       whole = whole_with new read;
-      opened = opened_on so_far.ahead at_turn so_far.keys one old now new so_far.opened read.opened;
+      opened = opened_on so_far.ahead at_turn so_far.keys one old now new read.kept so_far.opened read.opened;
       reads = keys_then known so_far.keys one Complete before here after so_far.none_lacks so_far.reads reads;
       none_lacks = none_on so_far.keys one so_far.none_lacks read.none_lacks;
       begun = omega (arith, so_far.begun, read.begun, length-append so_far.keys one);
@@ -180,9 +182,12 @@ module _ (t : Nodes) (loaded : List Stamp) (known : Option Contents) (all : List
     pub all_rows : keys_of new.table ≡ keys_of old.table ++ todo
     all_rows = so_far.rows ∙ ap (λ l. keys_of old.table ++ l) paths_are
 
+    todo_sorted : AreSorted todo
+    todo_sorted = IsStrictlySortedBy-filter (slice_cmp nat_cmp) _ all sorted
+
     keys_all : (held : Contents) → HasOpened held t loaded so_far.ahead so_far.keys old new → so_far.keys ≡ opened_keys held t first todo
     keys_all held opened =
-        (opened_all held opened).keys_are ∙ sym (opened_are held t first todo (IsStrictlySortedBy-filter (slice_cmp nat_cmp) _ all sorted))
+        (opened_all held opened).keys_are ∙ sym (opened_are held t first todo todo_sorted)
 
     few_all : length so_far.keys ≤ length (file_keys t todo)
     few_all = rw (← paths_are) so_far.few
@@ -201,10 +206,13 @@ module _ (t : Nodes) (loaded : List Stamp) (known : Option Contents) (all : List
         by None opened lacks = tt
         by (Some held) opened lacks = f held opened lacks
 
-    pub all_stamps : IfHonest known t first (λ held. new.stamps ≡ with_stamps old.stamps (stamps_at held t todo))
-    all_stamps = with_known _ (λ held opened lacks are same. ((opened_all held opened).honest are same).stamps)
+    pub all_said : IfKnown known (λ held. AgreeOn todo (said_in held t first todo) (analysis_at new.table))
+    all_said = with_known _ (λ held opened lacks. said_are held t (analysis_at new.table) first todo todo_sorted (opened_all held opened).said)
 
-    pub all_stamped : IfKnown known (λ held. (id : Id) → is_stamped (loaded ++ new.stamps) id ≡ is_stamped (first ++ stamps_at held t todo) id)
+    pub all_stamps : IfKnown known (λ held. new.stamps ≡ with_stamps old.stamps (stamps_said t (said_in held t first todo) todo))
+    all_stamps = with_known _ (λ held opened lacks. (opened_all held opened).stamps ∙ ap (λ l. with_stamps old.stamps l) (sym (made_are held t first todo todo_sorted)))
+
+    pub all_stamped : IfKnown known (λ held. StampTheSame (loaded ++ new.stamps) (first ++ stamps_at held t todo))
     all_stamped = with_known _ (λ held opened lacks. (opened_all held opened).stamped)
 
     pub all_begun : IfKnown known (λ held. new.begun ≡ old.begun + length (opened_keys held t first todo))
@@ -213,7 +221,7 @@ module _ (t : Nodes) (loaded : List Stamp) (known : Option Contents) (all : List
     pub all_opens : IfKnown known (λ held. AreSame held t t → new.begun ≡ old.begun + opens held t first todo)
     all_opens = with_known _ (λ held opened lacks same.
         so_far.begun ∙ ap (λ keys. old.begun + length keys) (keys_all held opened)
-        ∙ ap (λ n. old.begun + n) (opened_count held t same first todo (IsStrictlySortedBy-filter (slice_cmp nat_cmp) _ all sorted)))
+        ∙ ap (λ n. old.begun + n) (opened_count held t same first todo todo_sorted))
 
     pub none_lacking : IfKnown known (λ held. lacks_one held (opened_keys held t first todo) ≡ false)
     none_lacking = with_known _ (λ held opened lacks. ap (lacks_one held) (sym (keys_all held opened)) ∙ lacks)
@@ -255,6 +263,7 @@ module _ (t : Nodes) (loaded : List Stamp) (known : Option Contents) (all : List
       unopened None = tt
       unopened (Some held) = record {
         keys_are = refl;
-        stamped = λ id. ap (λ l. is_stamped l id) (sym (append-nil (loaded ++ old.stamps)));
-        honest = λ are same. record { right = λ right. right; are_true = are; stamps = refl };
+        stamped = λ id. ap (λ l. stamp_of l id) (sym (append-nil (loaded ++ old.stamps)));
+        stamps = refl;
+        said = tt;
       }

@@ -1,11 +1,10 @@
 -- The reading of one file that has no analysis yet.
-use Rattle.std.proofs.Common.{◌≡◌, ◌+◌, ◌++◌, ◌||◌, ℕ, Bool, true, false, cond, List, [], ◌∷◌, length, refl, ap, sym, subst, ◌∙◌, arith, Option, Some, None, inl, inr, ⊎_elim}
+use Rattle.std.proofs.Common.{◌≡◌, ◌+◌, ◌++◌, ◌||◌, ℕ, true, false, cond, List, [], ◌∷◌, length, refl, ap, sym, subst, ◌∙◌, arith, Option, Some, None}
 use Rattle.std.proofs.lemmas.List.{append-nil, map-append}
 use Rattle.std.specs.List.{cons_option}
 use Rattle.std.specs.Map.{keys_of}
-use Rattle.std.specs.Option.{is_none, is_some, option_map, option_and_then}
-use Rattle.std.specs.Prelude.{◌⊎◌, IfSome, IsSomeAnd}
-use Rattle.aux_cache.proofs.Found.{first_of, is_same, same_is, stamp_of_both, stamp_of_put}
+use Rattle.std.specs.Option.{is_none, is_some, option_map, option_and_then, option_or}
+use Rattle.std.specs.Prelude.{IfSome, IsSomeAnd}
 use Rattle.aux_cache.specs.Stamps.{put, stamp_of}
 use Rattle.aux_cache.specs.declared.stamps.Stamp.{Stamp}
 use Rattle.elf_dynamic.specs.Analysis.{analysis}
@@ -19,47 +18,14 @@ use Rattle.lib_types.specs.declared.analysis.Analysis.{Analysis}
 use Rattle.lib_types.specs.declared.analysis.Analysis.TheVariants.{Lib, Not}
 use Rattle.tree_face.specs.Known.{IfKnown}
 use Rattle.tree_face.specs.Store.{Contents}
-use Rattle.stamped_files.proofs.KeptAnalyses.{analysis_other, had_none, kept_with, key_there, read_then, right_with}
+use Rattle.stamped_files.proofs.KeptAnalyses.{analysis_other, analysis_put, had_none, kept_with, key_there, read_then}
 use Rattle.stamped_files.proofs.Opened.{one_opened}
-use Rattle.stamped_files.proofs.Stamps.{stamp_by_id, stamp_by_says, stamped_more, stamped_twice}
+use Rattle.stamped_files.proofs.Stamps.{found_id, stamped_again, stamped_late, stamped_more}
 use Rattle.stamped_files.specs.Files.{unread_key, what_is}
-use Rattle.stamped_files.specs.Stamped.{AreSame, AreTrue, content_of, id_at, of_stamp, stamp_by, stamp_for, stamps_at, with_stamps}
-use Rattle.stamped_files.specs.Reading.{HasOpened, IsFoundBy, IsHonest, ReadsOne, is_stamped, keys_opened, key_opened, opened_by}
+use Rattle.stamped_files.specs.Said.{said_by}
+use Rattle.stamped_files.specs.Stamped.{StampTheSame, id_at, of_stamp, stamp_by, stamp_for, with_stamps}
+use Rattle.stamped_files.specs.Reading.{HasOpened, IsFoundBy, ReadsOne, keys_opened, key_opened, opened_by}
 use Rattle.stamped_files.specs.declared.files.Files.{Files}
-
--- ---- a stamp more that is true
-
-module _ (held : Contents) (t : Nodes) (loaded made : List Stamp) (path : List ℕ) (what : Analysis) (is : what_is held t path ≡ Some what) (are : AreTrue held t (loaded ++ made)) (same : AreSame held t t) where
-  -- a file with the identity of this one is what this one is
-  alike : (s : Stamp) → stamp_by (id_at t path) (Some what) ≡ Some s → (q : List ℕ) → id_at t q ≡ Some s.id → what_is held t q ≡ Some (of_stamp s)
-  alike s made_of q at =
-      let id : id_at t path ≡ Some s.id = stamp_by_id (id_at t path) what s made_of in
-      let content : content_of held t q ≡ content_of held t path = same path q (ap is_some id) (at ∙ sym id) in
-      ap (λ o. option_map analysis o) content ∙ is ∙ ap Some (stamp_by_says (id_at t path) what s made_of)
-
-  abbrev Says : List ℕ → Option Stamp → Type 0
-  Says q o = IfSome o (λ u. what_is held t q ≡ Some (of_stamp u))
-
-  true_with : (s : Stamp) → stamp_by (id_at t path) (Some what) ≡ Some s → AreTrue held t (loaded ++ put made s)
-  true_with s made_of q = by (id_at t q) refl (are q)
-    where
-      found : (i : Id) → stamp_of (loaded ++ put made s) i ≡ first_of (stamp_of loaded i) (cond (is_same i s.id) (Some s) (stamp_of made i))
-      found i = stamp_of_both loaded (put made s) i ∙ ap (λ o. first_of (stamp_of loaded i) o) (stamp_of_put made s i)
-
-      first : (i : Id) (l m : Option Stamp) (b : Bool) → id_at t q ≡ Some i → (b ≡ true → i ≡ s.id) → Says q (first_of l m) → Says q (first_of l (cond b (Some s) m))
-      first i (Some u) m b at is_it says = says
-      first i None m true at is_it says = alike s made_of q (at ∙ ap Some (is_it refl))
-      first i None m false at is_it says = says
-
-      by : (o : Option Id) → id_at t q ≡ o → Says q (option_and_then (stamp_of (loaded ++ made)) o) → Says q (option_and_then (stamp_of (loaded ++ put made s)) o)
-      by None at says = tt
-      by (Some i) at says =
-          subst (Says q) (sym (found i))
-          (first i (stamp_of loaded i) (stamp_of made i) (is_same i s.id) at (same_is i s.id) (subst (Says q) (stamp_of_both loaded made i) says))
-
-  pub true_more : (o : Option Stamp) → stamp_by (id_at t path) (Some what) ≡ o → AreTrue held t (loaded ++ with_stamps made (cons_option o []))
-  true_more None made_of = are
-  true_more (Some s) made_of = true_with s made_of
 
 -- ---- a file that gets an analysis
 
@@ -87,10 +53,10 @@ module _ (t : Nodes) (loaded : List Stamp) (path key : List ℕ) (old : Files) (
         ap (λ o. option_map analysis (option_and_then held o)) there
         ∙ elim (held key) as (λ o. IsSomeAnd o (λ bytes. analysis bytes ≡ a) → option_map analysis o ≡ Some a) [ None ↦ λ h. absurd h | Some bytes ↦ λ h. ap Some h ] c
 
-    -- it is what was found, if the stamp is true
-    what_found : (o : Option Stamp) → IsFoundBy (Some held) key o a before after → IfSome o (λ s. what_is held t path ≡ Some (of_stamp s)) → what_is held t path ≡ Some a
-    what_found None found says = content found.0
-    what_found (Some s) found says = says ∙ ap Some (sym found.0)
+    -- it is said to be what was found
+    found_said : (o : Option Stamp) → IsFoundBy (Some held) key o a before after → option_or (option_map of_stamp o) (what_is held t path) ≡ Some a
+    found_said None found = content found.0
+    found_said (Some s) found = ap Some (sym found.0)
 
     held_keys : (o : Option Stamp) → IsFoundBy (Some held) key o a before after → lacks_one held (key_opened o key) ≡ false
     held_keys None found = elim (held key) as (λ o. IsSomeAnd o (λ bytes. analysis bytes ≡ a) → (is_none o || false) ≡ false) [ None ↦ λ h. absurd h | Some bytes ↦ λ h. refl ] found.0
@@ -103,46 +69,51 @@ module _ (t : Nodes) (loaded : List Stamp) (path key : List ℕ) (old : Files) (
     stamp_of_id i (Some (Lib abi soname)) = refl
     stamp_of_id i (Some (Not defect)) = tt
 
-    found_some : (i : Id) (o : Option Stamp) → stamp_of here i ≡ o → IsFoundBy (Some held) key o a before after
-        → (what_is held t path ≡ Some a) ⊎ (is_stamped here i ≡ true)
-    found_some i None e found = inl (content found.0)
-    found_some i (Some s) e found = inr (ap is_some e)
+    -- a stamp of an identity without one is that of the content
+    new_stamp : (i : Id) → stamp_of here i ≡ None → what_is held t path ≡ Some a
+        → StampTheSame (loaded ++ with_stamps old.stamps (cons_option (stamp_by (Some i) (Some a)) [])) (here ++ cons_option (stamp_by (Some i) (what_is held t path)) [])
+    new_stamp i none is id =
+        stamped_more loaded old.stamps (stamp_by (Some i) (Some a))
+        (elim (stamp_by (Some i) (Some a)) as (λ o. IfSome o (λ s. s.id ≡ i) → IfSome o (λ s. stamp_of here s.id ≡ None))
+        [ None ↦ λ h. tt | Some s ↦ λ h. ap (stamp_of here) h ∙ none ] (stamp_of_id i (Some a))) id
+        ∙ ap (λ what. stamp_of (here ++ cons_option (stamp_by (Some i) what) []) id) (sym is)
 
-    -- by its content, or as the stamp says that is there
-    stamped_by : (id : Id) (i : Option Id) → IsFoundBy (Some held) key (option_and_then (stamp_of here) i) a before after
-        → is_stamped (here ++ cons_option (stamp_by i (Some a)) []) id ≡ is_stamped (here ++ cons_option (stamp_by i (what_is held t path)) []) id
-    stamped_by id None found = refl
-    stamped_by id (Some i) found =
-        ⊎_elim (λ is. ap (λ what. is_stamped (here ++ cons_option (stamp_by (Some i) what) []) id) (sym is))
-        (λ there.
-        stamped_twice here i (stamp_by (Some i) (Some a)) id there (stamp_of_id i (Some a))
-        ∙ sym (stamped_twice here i (stamp_by (Some i) (what_is held t path)) id there (stamp_of_id i (what_is held t path))))
-        (found_some i (stamp_of here i) refl found)
+    -- and one of an identity with a stamp is that stamp
+    same_stamp : (i : Id) (s : Stamp) → stamp_of here i ≡ Some s → a ≡ of_stamp s
+        → StampTheSame (loaded ++ with_stamps old.stamps (cons_option (stamp_by (Some i) (Some a)) [])) (here ++ cons_option (stamp_by (Some i) (what_is held t path)) [])
+    same_stamp i s there is id =
+        let at : i ≡ s.id = found_id here i s there in
+        ap (λ what. stamp_of (loaded ++ with_stamps old.stamps (cons_option (stamp_by (Some i) (Some what)) [])) id) is
+        ∙ ap (λ j. stamp_of (loaded ++ put old.stamps (record { id = j; abi = s.abi; soname = s.soname })) id) at
+        ∙ stamped_again loaded old.stamps s (ap (stamp_of here) (sym at) ∙ there) id
+        ∙ sym (stamped_late here i (stamp_by (Some i) (what_is held t path)) (ap is_some there) (stamp_of_id i (what_is held t path)) id)
+
+    stamped_by : (i : Option Id) → IsFoundBy (Some held) key (option_and_then (stamp_of here) i) a before after
+        → StampTheSame (loaded ++ with_stamps old.stamps (cons_option (stamp_by i (Some a)) [])) (here ++ cons_option (stamp_by i (what_is held t path)) [])
+    stamped_by None found id = ap (λ l. stamp_of l id) (sym (append-nil here))
+    stamped_by (Some i) found id = by (stamp_of here i) refl found id
+      where
+        by : (o : Option Stamp) → stamp_of here i ≡ o → IsFoundBy (Some held) key o a before after
+            → StampTheSame (loaded ++ with_stamps old.stamps (cons_option (stamp_by (Some i) (Some a)) [])) (here ++ cons_option (stamp_by (Some i) (what_is held t path)) [])
+        by None e found = new_stamp i e (content found.0)
+        by (Some s) e found = same_stamp i s e found.0
 
     module _ (new : Files) (found : IsFoundBy (Some held) key (stamp_for here t path) a before after) (table : new.table ≡ with_analysis old.table path a)
         (stamps : new.stamps ≡ with_stamps old.stamps (cons_option (stamp_by (id_at t path) (Some a)) [])) where
-      stamped_new : (id : Id) → is_stamped (loaded ++ new.stamps) id ≡ is_stamped (here ++ stamps_at held t (path ∷ [])) id
-      stamped_new id =
-          ap (λ l. is_stamped (loaded ++ l) id) stamps
-          ∙ stamped_more loaded old.stamps (stamp_by (id_at t path) (Some a)) id
-          ∙ stamped_by id (id_at t path) found
+      said_is : said_by held t here path ≡ Some a
+      said_is = found_said (stamp_for here t path) found
 
-      honest : AreTrue held t here → AreSame held t t → IsHonest held t loaded (path ∷ []) old new
-      honest are same =
-          let is : what_is held t path ≡ Some a = what_found (stamp_for here t path) found (are path) in
-          record {
-            right = rw table (right_with held t old.table path a is);
-            are_true = rw stamps (true_more held t loaded old.stamps path a is are same (stamp_by (id_at t path) (Some a)) refl);
-            stamps = stamps ∙ ap (λ what. with_stamps old.stamps (cons_option (stamp_by (id_at t path) what) [])) (sym is);
-          }
+      analysis_is : analysis_at new.table path ≡ Some a
+      analysis_is = rw table (analysis_put old.table path a)
 
       pub has_opened : HasOpened held t loaded (unread (analysis_at old.table) (path ∷ [])) (keys_opened t here (analysis_at old.table) path) old new
       has_opened =
           subst (λ (paths : List (List ℕ)). HasOpened held t loaded paths (keys_opened t here (analysis_at old.table) path) old new) (sym unread_one)
           (record {
             keys_are = one_opened held t here (analysis_at old.table) path ∙ ap (λ l. opened_by held t here l) unread_one;
-            stamped = stamped_new;
-            honest = honest;
+            stamped = λ id. ap (λ l. stamp_of (loaded ++ l) id) stamps ∙ stamped_by (id_at t path) found id;
+            stamps = stamps ∙ ap (λ what. with_stamps old.stamps (cons_option (stamp_by (id_at t path) what) [])) (sym said_is);
+            said = ((ap is_some analysis_is, analysis_is ∙ sym said_is), tt);
           })
 
   module _ (new : Files) (table : new.table ≡ with_analysis old.table path a) (stamps : new.stamps ≡ with_stamps old.stamps (cons_option (stamp_by (id_at t path) (Some a)) [])) where
@@ -188,20 +159,14 @@ module _ (t : Nodes) (loaded : List Stamp) (path : List ℕ) (old : Files) (ther
   pub none_opened : keys_opened t at_first (analysis_at old.table) path ≡ []
   none_opened = ap (λ b. cons_option (cond b (cond (is_none (stamp_for at_first t path)) (key_in (node_at t path)) None) None) []) has_one
 
-  no_stamps : (held : Contents) → stamps_at held t (unread (analysis_at old.table) (path ∷ [])) ≡ []
-  no_stamps held = ap (stamps_at held t) none_left
-
   nothing : (held : Contents) → HasOpened held t loaded (unread (analysis_at old.table) (path ∷ [])) (keys_opened t at_first (analysis_at old.table) path) old old
-  nothing held =
-      record {
-        keys_are = one_opened held t at_first (analysis_at old.table) path;
-        stamped = λ id. ap (λ l. is_stamped l id) (sym (append-nil at_first)) ∙ ap (λ l. is_stamped (at_first ++ l) id) (sym (no_stamps held));
-        honest = λ are same. record {
-          right = λ right. right;
-          are_true = are;
-          stamps = ap (λ l. with_stamps old.stamps l) (sym (no_stamps held));
-        };
-      }
+  nothing held = subst (λ (paths : List (List ℕ)). HasOpened held t loaded paths (keys_opened t at_first (analysis_at old.table) path) old old) (sym none_left)
+      (record {
+        keys_are = none_opened;
+        stamped = λ id. ap (λ l. stamp_of l id) (sym (append-nil at_first));
+        stamps = refl;
+        said = tt;
+      })
 
   if_known : (known : Option Contents) → IfKnown known (λ held. HasOpened held t loaded (unread (analysis_at old.table) (path ∷ [])) (keys_opened t at_first (analysis_at old.table) path) old old)
   if_known None = tt

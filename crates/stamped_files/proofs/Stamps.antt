@@ -12,7 +12,7 @@ use Rattle.lib_types.proofs.SortedPairs.{by_test}
 use Rattle.lib_types.specs.declared.analysis.Analysis.{Analysis}
 use Rattle.lib_types.specs.declared.analysis.Analysis.TheVariants.{Lib, Not}
 use Rattle.stamped_files.specs.Reading.{is_stamped}
-use Rattle.stamped_files.specs.Stamped.{of_stamp, stamp_by, with_stamps}
+use Rattle.stamped_files.specs.Stamped.{StampTheSame, of_stamp, stamp_by, with_stamps}
 
 -- ---- what is found
 
@@ -54,34 +54,57 @@ stamped_put xs s id = ap is_some (stamp_of_put xs s id) ∙ by (is_same id s.id)
     by true o = refl
     by false o = refl
 
--- a stamp more is put among those that were made, or stands behind all
-pub stamped_more : (loaded made : List Stamp) (o : Option Stamp) (id : Id) → is_stamped (loaded ++ with_stamps made (cons_option o [])) id ≡ is_stamped ((loaded ++ made) ++ cons_option o []) id
-stamped_more loaded made None id = ap (λ l. is_stamped l id) (sym (append-nil (loaded ++ made)))
-stamped_more loaded made (Some s) id =
-    stamped_both loaded (put made s) id
-    ∙ ap (λ b. is_stamped loaded id || b) (stamped_put made s id)
-    ∙ moved (is_stamped loaded id) (is_stamped made id) (is_same id s.id)
-    ∙ ap (λ b. b || is_stamped (s ∷ []) id) (sym (stamped_both loaded made id))
-    ∙ sym (stamped_both (loaded ++ made) (s ∷ []) id)
+-- a stamp that is found has the identity
+pub found_id : (xs : List Stamp) (id : Id) (s : Stamp) → stamp_of xs id ≡ Some s → id ≡ s.id
+found_id [] id s e = absurd (cc)
+found_id (x ∷ xs) id s e = by_test (is_same id x.id)
+    (λ here.
+    let first : Some x ≡ Some s = sym (ap (λ b. cond b (Some x) (stamp_of xs id)) here) ∙ e in
+    same_is id x.id here ∙ ap (λ o. (given s o).id) first)
+    (λ other. found_id xs id s (sym (ap (λ b. cond b (Some x) (stamp_of xs id)) other) ∙ e))
+
+-- a stamp of a new identity is put among those that were made: that is as if it came after all
+pub stamped_more : (loaded made : List Stamp) (o : Option Stamp) → IfSome o (λ s. stamp_of (loaded ++ made) s.id ≡ None)
+    → StampTheSame (loaded ++ with_stamps made (cons_option o [])) ((loaded ++ made) ++ cons_option o [])
+stamped_more loaded made None new id = ap (λ l. stamp_of l id) (sym (append-nil (loaded ++ made)))
+stamped_more loaded made (Some s) new id =
+    stamp_of_both loaded (put made s) id
+    ∙ ap (λ o. first_of (stamp_of loaded id) o) (stamp_of_put made s id)
+    ∙ by (stamp_of loaded id) (stamp_of made id) (is_same id s.id) (λ same. sym (stamp_of_both loaded made id) ∙ ap (λ i. stamp_of (loaded ++ made) i) (same_is id s.id same) ∙ new)
+    ∙ ap (λ o. first_of o (stamp_of (s ∷ []) id)) (sym (stamp_of_both loaded made id))
+    ∙ sym (stamp_of_both (loaded ++ made) (s ∷ []) id)
   where
-    moved : (a b c : Bool) → (a || (c || b)) ≡ ((a || b) || is_some (cond c (Some s) None))
-    moved true b c = refl
-    moved false true true = refl
-    moved false true false = refl
-    moved false false true = refl
-    moved false false false = refl
+    by : (a b : Option Stamp) (c : Bool) → (c ≡ true → first_of a b ≡ None) → first_of a (cond c (Some s) b) ≡ first_of (first_of a b) (cond c (Some s) None)
+    by (Some u) b c none = refl
+    by None None true none = refl
+    by None None false none = refl
+    by None (Some u) true none = let z : Some u ≡ None = none refl in absurd (cc)
+    by None (Some u) false none = refl
+
+-- the stamp of an identity that has this one is put among those that were made
+pub stamped_again : (loaded made : List Stamp) (s : Stamp) → stamp_of (loaded ++ made) s.id ≡ Some s → StampTheSame (loaded ++ put made s) (loaded ++ made)
+stamped_again loaded made s there id =
+    stamp_of_both loaded (put made s) id
+    ∙ ap (λ o. first_of (stamp_of loaded id) o) (stamp_of_put made s id)
+    ∙ by (stamp_of loaded id) (stamp_of made id) (is_same id s.id) (λ same. sym (stamp_of_both loaded made id) ∙ ap (λ i. stamp_of (loaded ++ made) i) (same_is id s.id same) ∙ there)
+    ∙ sym (stamp_of_both loaded made id)
+  where
+    by : (a b : Option Stamp) (c : Bool) → (c ≡ true → first_of a b ≡ Some s) → first_of a (cond c (Some s) b) ≡ first_of a b
+    by (Some u) b c is = refl
+    by None b true is = sym (is refl)
+    by None b false is = refl
+
+-- a stamp of that identity that comes after all doesn't count
+pub stamped_late : (stamps : List Stamp) (i : Id) (o : Option Stamp) → is_stamped stamps i ≡ true → IfSome o (λ s. s.id ≡ i) → StampTheSame (stamps ++ cons_option o []) stamps
+stamped_late stamps i None there of_it id = ap (λ l. stamp_of l id) (append-nil stamps)
+stamped_late stamps i (Some s) there of_it id =
+    stamp_of_both stamps (s ∷ []) id ∙ by (stamp_of stamps id) (is_same id s.id) (λ same. ap (λ k. is_stamped stamps k) (same_is id s.id same ∙ of_it) ∙ there)
+  where
+    by : (a : Option Stamp) (c : Bool) → (c ≡ true → is_some a ≡ true) → first_of a (cond c (Some s) None) ≡ a
+    by (Some u) c is = refl
+    by None true is = let z : false ≡ true = is refl in absurd (cc)
+    by None false is = refl
 
 -- a stamp of an identity that has one
 pub stamped_twice : (stamps : List Stamp) (i : Id) (o : Option Stamp) (id : Id) → is_stamped stamps i ≡ true → IfSome o (λ s. s.id ≡ i) → is_stamped (stamps ++ cons_option o []) id ≡ is_stamped stamps id
-stamped_twice stamps i None id there of_it = ap (λ l. is_stamped l id) (append-nil stamps)
-stamped_twice stamps i (Some s) id there of_it =
-    stamped_both stamps (s ∷ []) id
-    ∙ by_test (is_same id s.id)
-    (λ e.
-    let at : is_stamped stamps id ≡ true = ap (λ k. is_stamped stamps k) (same_is id s.id e ∙ of_it) ∙ there in
-    ap (λ b. b || is_stamped (s ∷ []) id) at ∙ sym at)
-    (λ e. ap (λ b. is_stamped stamps id || is_some (cond b (Some s) None)) e ∙ or_false (is_stamped stamps id))
-  where
-    or_false : (b : Bool) → (b || false) ≡ b
-    or_false true = refl
-    or_false false = refl
+stamped_twice stamps i o id there of_it = ap is_some (stamped_late stamps i o there of_it id)

@@ -1,8 +1,9 @@
 -- Stamps that are made of files are true of each tree with the same contents, and true stamps hide no file that isn't held.
 use Rattle.std.proofs.Common.{◌≡◌, ◌||◌, ◌++◌, ℕ, Bool, true, false, cond, List, [], ◌∷◌, Option, Some, None, refl, ap, sym, subst, ◌∙◌}
-use Rattle.std.specs.List.{cons_option, filter_map}
-use Rattle.std.specs.Option.{is_none, is_some, option_and_then, option_map}
+use Rattle.std.specs.List.{before_first, cons_option, filter_map}
+use Rattle.std.specs.Option.{is_none, is_some, option_and_then, option_map, option_or}
 use Rattle.std.specs.Prelude.{IfSome}
+use Rattle.std.specs.Str.{bytes_eq}
 use Rattle.aux_cache.proofs.Found.{first_of, is_same, same_is, stamp_of_both, stamp_of_put}
 use Rattle.aux_cache.specs.Stamps.{put, stamp_of}
 use Rattle.aux_cache.specs.declared.stamps.Stamp.{Stamp}
@@ -16,8 +17,9 @@ use Rattle.tree_face.specs.Store.{Contents}
 use Rattle.stamped_files.specs.Files.{what_is}
 use Rattle.stamped_files.proofs.Opened.{opened_are}
 use Rattle.stamped_files.proofs.Stamps.{stamp_by_id, stamp_by_says}
-use Rattle.stamped_files.specs.Opened.{opened_keys, stamps_before, unstamped_key}
+use Rattle.stamped_files.specs.Opened.{opened_keys, unstamped_key}
 use Rattle.stamped_files.specs.Reading.{opened_by}
+use Rattle.stamped_files.specs.Said.{said_by, said_in, stamps_before}
 use Rattle.stamped_files.specs.Stamped.{AreSame, AreTrue, content_of, id_at, of_stamp, stamp_at, stamp_by, stamp_for, stamps_at, stamps_of, with_stamps}
 
 -- ---- stamps that tell the truth, by identities
@@ -109,6 +111,22 @@ module _ (held : Contents) (u : Nodes) where
     pub true_made : (paths : List (List ℕ)) → AreTrue held u (stamps_of held t paths)
     true_made paths = are_true (stamps_of held t paths) (with_tell [] paths (λ id. tt))
 
+-- ---- what is said is what is
+
+module _ (held : Contents) (t : Nodes) where
+  -- by true stamps
+  said_true : (stamps : List Stamp) → AreTrue held t stamps → (path : List ℕ) → said_by held t stamps path ≡ what_is held t path
+  said_true stamps are path = by (stamp_for stamps t path) (are path)
+    where
+      by : (o : Option Stamp) → IfSome o (λ s. what_is held t path ≡ Some (of_stamp s)) → option_or (option_map of_stamp o) (what_is held t path) ≡ what_is held t path
+      by None says = refl
+      by (Some s) says = sym says
+
+  -- by the stamps that are loaded, if they are true, and those of the libraries read before, if files of equal identity have equal content
+  pub said_right : AreSame held t t → (loaded : List Stamp) → AreTrue held t loaded → (paths : List (List ℕ)) (path : List ℕ) → said_in held t loaded paths path ≡ what_is held t path
+  said_right same loaded are paths path =
+      said_true (stamps_before held t loaded paths path) (true_behind held t t same loaded (before_first (bytes_eq path) paths) are) path
+
 -- ---- files that aren't held
 
 module _ (held : Contents) where
@@ -121,7 +139,7 @@ module _ (held : Contents) where
   lacks_more (Some key) keys = refl
 
   module _ (t : Nodes) where
-    -- a file that a true stamp tells of is held
+    -- a file with a true stamp is held
     none_hidden : (o : Option Stamp) (key : Option (List ℕ)) → IfSome o (λ s. option_map analysis (option_and_then held key) ≡ Some (of_stamp s))
         → lacks (cond (is_none o) key None) ≡ lacks key
     none_hidden None key says = refl

@@ -1,5 +1,5 @@
 -- What the files of an image are, and which of them are read for its cache (ldconfig(8)).
-use Rattle.std.specs.Prelude.{◌≡◌, ℕ, true, List, if◌then◌else◌, Option, None, is_none, is_some}
+use Rattle.std.specs.Prelude.{◌≡◌, ℕ, true, List, if◌then◌else◌, Option, None, is_none}
 use Rattle.std.specs.List.{list_any}
 use Rattle.std.specs.Option.{option_map, option_and_then}
 use Rattle.std.specs.Str.{bytes_eq}
@@ -15,11 +15,7 @@ use Rattle.image_tree.specs.Tree.{Nodes, node_at}
 abbrev pub what_is : Contents → Nodes → Analyses
 what_is held t path = option_map analysis (option_and_then held (key_in (node_at t path)))
 
--- what is said of files is what they are
-abbrev pub AreRight : Contents → Nodes → Analyses → Type 0
-AreRight held t what = (path : List ℕ) → is_some (what path) ≡ true → what path ≡ what_is held t path
-
--- ---- the keys that are begun
+-- ---- the files that are opened
 
 -- the key of a file that has no analysis yet
 abbrev pub unread_key : Nodes → Analyses → List ℕ → Option (List ℕ)

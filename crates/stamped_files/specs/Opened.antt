@@ -1,22 +1,18 @@
 -- Which files are opened: those of which no stamp says what they are.
-use Rattle.std.specs.Prelude.{◌≡◌, ℕ, ◌+◌, true, List, ◌++◌, length, filter, if◌then◌else◌, Option, None, IsSomeAnd, option_map}
-use Rattle.std.specs.List.{before_first, filter_map}
+use Rattle.std.specs.Prelude.{◌≡◌, ℕ, ◌+◌, true, List, length, filter, if◌then◌else◌, Option, None, IsSomeAnd, option_map}
+use Rattle.std.specs.List.{filter_map}
 use Rattle.std.specs.Option.{is_none}
-use Rattle.std.specs.Str.{bytes_eq}
 use Rattle.aux_cache.specs.declared.stamps.Stamp.{Stamp}
 use Rattle.elf_dynamic.specs.Begun.{file_keys, key_in, lacks_one, most_of, until_lacking}
 use Rattle.image_tree.specs.Tree.{Nodes, node_at}
 use Rattle.tree_face.specs.Store.{Contents, StoreState}
 use Rattle.tree_face.specs.StoreUse.{Ending, ReadsFiles}
-use Rattle.stamped_files.specs.Stamped.{stamp_at, stamp_for, stamps_at, stamps_of}
+use Rattle.stamped_files.specs.Said.{stamps_before}
+use Rattle.stamped_files.specs.Stamped.{stamp_at, stamp_for, stamps_of}
 
 -- the key of the file at a path, if it has no identity, or one without a stamp
 abbrev pub unstamped_key : List Stamp → Nodes → List ℕ → Option (List ℕ)
 unstamped_key stamps t path = if is_none (stamp_for stamps t path) then key_in (node_at t path) else None
-
--- the stamps that are there at the turn of a file: these, and those of the libraries ahead of it
-abbrev pub stamps_before : Contents → Nodes → List Stamp → List (List ℕ) → List ℕ → List Stamp
-stamps_before held t stamps paths path = stamps ++ stamps_at held t (before_first (bytes_eq path) paths)
 
 -- The keys that are opened of the files at these paths: a file is opened at its turn, if no stamp of its identity is there.
 abbrev pub opened_keys : Contents → Nodes → List Stamp → List (List ℕ) → List (List ℕ)
@@ -37,7 +33,7 @@ ReadsOpened keys ending old new = ReadsOpenedBy old.held keys ending old new
 abbrev pub unstamped : List Stamp → Nodes → List (List ℕ) → List (List ℕ)
 unstamped stamps t paths = filter (λ path. is_none (stamp_for stamps t path)) paths
 
--- each of these files that is no library or has no identity, and of the libraries one for each identity
+-- each of these files that is not a library or has no identity, and of the libraries one for each identity
 abbrev pub opens : Contents → Nodes → List Stamp → List (List ℕ) → ℕ
 opens held t stamps paths =
     length (file_keys t (filter (λ path. is_none (stamp_at held t path)) (unstamped stamps t paths)))

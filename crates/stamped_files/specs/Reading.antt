@@ -1,5 +1,5 @@
 -- What private functions say of the reading of files, one by one.
-use Rattle.std.specs.Prelude.{◌≡◌, ◌≤◌, ◌+◌, ◌∷◌, ◌++◌, ℕ, Bool, true, false, List, [], length, Option, Some, None, is_none, is_some, if◌then◌else◌}
+use Rattle.std.specs.Prelude.{◌≡◌, ◌≤◌, ◌+◌, ◌∷◌, ◌++◌, ℕ, Bool, true, false, List, [], length, Option, Some, None, is_none, is_some, if◌then◌else◌, ⊤}
 use Rattle.std.specs.Cmp.Lexicographic.{slice_cmp}
 use Rattle.std.specs.List.{cons_option, list_any}
 use Rattle.std.specs.List.Sorted.{IsStrictlySortedBy}
@@ -20,9 +20,10 @@ use Rattle.tree_face.specs.Known.{IfKnown}
 use Rattle.tree_face.specs.Store.{Contents, StoreState}
 use Rattle.tree_face.specs.StoreUse.{Complete}
 use Rattle.stamped_files.specs.declared.files.Files.{Files}
-use Rattle.stamped_files.specs.Files.{AreRight, unread_key}
+use Rattle.stamped_files.specs.Files.{unread_key}
 use Rattle.stamped_files.specs.Opened.{unstamped_key}
-use Rattle.stamped_files.specs.Stamped.{AreSame, AreTrue, of_stamp, stamps_at, with_stamps}
+use Rattle.stamped_files.specs.Said.{said_by}
+use Rattle.stamped_files.specs.Stamped.{StampTheSame, id_at, of_stamp, stamp_by, stamps_at, with_stamps}
 
 abbrev pub is_in : List (List ℕ) → List ℕ → Bool
 is_in paths path = list_any (bytes_eq path) paths
@@ -34,7 +35,7 @@ abbrev pub IsFoundBy : Option Contents → List ℕ → Option Stamp → Analysi
 IsFoundBy known key (Some stamp) what before after = (what ≡ of_stamp stamp) × (after ≡ before)
 IsFoundBy known key None what before after = OfContent known key (λ bytes. analysis bytes ≡ what) × (after ≡ before + 1)
 
--- the key is opened, if there is no stamp
+-- the key is opened, unless there is a stamp
 abbrev pub key_opened : Option Stamp → List ℕ → List (List ℕ)
 key_opened stamp key = if is_none stamp then key ∷ [] else []
 
@@ -44,26 +45,34 @@ keys_opened t stamps what path = cons_option (if is_none (what path) then unstam
 
 -- ---- several files
 
--- the keys that are opened of files with different paths, file by file
+-- What is made of files with different paths, file by file: each comes with the stamps that are there at its turn.
+abbrev pub by_turn : {X : Type 0} → Contents → Nodes → (List Stamp → List ℕ → Option X) → List Stamp → List (List ℕ) → List X
+by_turn held t f stamps [] = []
+by_turn held t f stamps (path ∷ paths) = cons_option (f stamps path) (by_turn held t f (stamps ++ stamps_at held t (path ∷ [])) paths)
+
+-- the keys that are opened
 abbrev pub opened_by : Contents → Nodes → List Stamp → List (List ℕ) → List (List ℕ)
-opened_by held t stamps [] = []
-opened_by held t stamps (path ∷ paths) =
-    cons_option (unstamped_key stamps t path) (opened_by held t (stamps ++ stamps_at held t (path ∷ [])) paths)
+opened_by held t stamps paths = by_turn held t (λ (there : List Stamp) path. unstamped_key there t path) stamps paths
+
+-- the stamps that are made
+abbrev pub made_by : Contents → Nodes → List Stamp → List (List ℕ) → List Stamp
+made_by held t stamps paths = by_turn held t (λ (there : List Stamp) path. stamp_by (id_at t path) (said_by held t there path)) stamps paths
+
+-- each has the analysis that it is said to have
+abbrev pub AreSaid : Contents → Nodes → List Stamp → List (List ℕ) → Analyses → Type 0
+AreSaid held t stamps [] what = ⊤
+AreSaid held t stamps (path ∷ paths) what =
+    ((is_some (what path) ≡ true) × (what path ≡ said_by held t stamps path)) × AreSaid held t (stamps ++ stamps_at held t (path ∷ [])) paths what
 
 abbrev pub is_stamped : List Stamp → Id → Bool
 is_stamped stamps id = is_some (stamp_of stamps id)
 
--- what is left of the reading of files without analyses, if stamps are true and files of equal identity have equal content
-pub record IsHonest (held : Contents) (t : Nodes) (loaded : List Stamp) (paths : List (List ℕ)) (old new : Files) : Type 0 where
-  pub right : AreRight held t (analysis_at old.table) → AreRight held t (analysis_at new.table)
-  pub are_true : AreTrue held t (loaded ++ new.stamps)
-  pub stamps : new.stamps ≡ with_stamps old.stamps (stamps_at held t paths)
-
--- what is left of it whatever stamps say
+-- what is left when files without analyses were read
 pub record HasOpened (held : Contents) (t : Nodes) (loaded : List Stamp) (paths keys : List (List ℕ)) (old new : Files) : Type 0 where
   pub keys_are : keys ≡ opened_by held t (loaded ++ old.stamps) paths
-  pub stamped : (id : Id) → is_stamped (loaded ++ new.stamps) id ≡ is_stamped ((loaded ++ old.stamps) ++ stamps_at held t paths) id
-  pub honest : AreTrue held t (loaded ++ old.stamps) → AreSame held t t → IsHonest held t loaded paths old new
+  pub stamped : StampTheSame (loaded ++ new.stamps) ((loaded ++ old.stamps) ++ stamps_at held t paths)
+  pub stamps : new.stamps ≡ with_stamps old.stamps (made_by held t (loaded ++ old.stamps) paths)
+  pub said : AreSaid held t (loaded ++ old.stamps) paths (analysis_at new.table)
 
 -- what is left when a file was read
 pub record ReadsOne (t : Nodes) (loaded : List Stamp) (path : List ℕ) (known : Option Contents) (old new : Files) : Type 0 where
@@ -75,7 +84,7 @@ pub record ReadsOne (t : Nodes) (loaded : List Stamp) (path : List ℕ) (known :
   pub begun : new.begun ≡ old.begun + length (keys_opened t (loaded ++ old.stamps) (analysis_at old.table) path)
   pub none_lacks : IfKnown known (λ held. lacks_one held (keys_opened t (loaded ++ old.stamps) (analysis_at old.table) path) ≡ false)
 
--- what is left when the files at some paths were read, but for the rest of these
+-- what is left when the files at some paths were read, except the rest of these
 pub record HasRead (t : Nodes) (loaded : List Stamp) (known : Option Contents) (all rest : List (List ℕ)) (old new : Files) (before after : StoreState) : Type 0 where
   -- those so far that had no analysis, and the keys that were opened
   pub ahead : List (List ℕ)

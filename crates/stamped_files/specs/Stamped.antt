@@ -73,9 +73,9 @@ stamp_for stamps t path = option_and_then (stamp_of stamps) (id_at t path)
 abbrev pub AreTrue : Contents → Nodes → List Stamp → Type 0
 AreTrue held t stamps = (path : List ℕ) → IfSome (stamp_for stamps t path) (λ stamp. what_is held t path ≡ Some (of_stamp stamp))
 
--- the same identities have stamps
+-- each identity has the same stamp among both, or none
 abbrev pub StampTheSame : List Stamp → List Stamp → Type 0
-StampTheSame stamps others = (id : Id) → is_some (stamp_of stamps id) ≡ is_some (stamp_of others id)
+StampTheSame stamps others = (id : Id) → stamp_of stamps id ≡ stamp_of others id
 
 -- Trees are the same: two files of equal identity are both held, with equal content, or both not held.
 abbrev pub AreSame : Contents → Nodes → Nodes → Type 0

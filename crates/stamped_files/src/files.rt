@@ -9,16 +9,16 @@ ghost use Rattle.std.specs.Ordering.{nat_cmp};
 ghost use Rattle.aux_cache.specs.Stamps.{HaveNames, stamp_of};
 ghost use Rattle.elf_dynamic.specs.Begun.{ReadsKeys, file_keys, lacks_one};
 ghost use Rattle.elf_dynamic.specs.Faults.{analyse_ending};
-ghost use Rattle.found_files.specs.Analyses.{KeepsAnalyses, has_name};
+ghost use Rattle.found_files.specs.Analyses.{AgreeOn, KeepsAnalyses, has_name};
 ghost use Rattle.found_files.specs.FoundFile.{AreFilesOf, IsFileOf, paths_of};
 ghost use Rattle.found_files.specs.Table.{analysis_at, with_analysis};
 ghost use Rattle.lib_types.specs.Counts.{raised};
 ghost use Rattle.tree_face.specs.Known.{IfKnown};
-ghost use Rattle.stamped_files.specs.Files.{AreRead, AreRight};
+ghost use Rattle.stamped_files.specs.Files.{AreRead};
 ghost use Rattle.stamped_files.specs.Opened.{ReadsOpened, opened_keys, opens};
 ghost use Rattle.stamped_files.specs.Reading.{IsFoundBy, ReadsOne, key_opened, keys_opened};
-ghost use Rattle.stamped_files.specs.State.{stamps_there, unread_in};
-ghost use Rattle.stamped_files.specs.Stamped.{AreSame, AreTrue, IfHonest, StampTheSame, stamp_by, stamps_at, with_stamps};
+ghost use Rattle.stamped_files.specs.State.{made_there, said_there, stamps_there, unread_in};
+ghost use Rattle.stamped_files.specs.Stamped.{AreSame, StampTheSame, stamp_by, stamps_at, with_stamps};
 
 use crate::stamped::{keep, said};
 use aux_cache::{GatheredStamps, Stamps};
@@ -40,7 +40,7 @@ pub struct Files {
 }
 
 impl Files {
-    /// No files, with room for so many if there is memory for it.
+    /// No files, with room for `room` of them if there is memory for it.
     pub fn new(alloc: Global, room: usize) -> Files
         ensures table { result.table ≡ [] }
         ensures stamps { result.stamps ≡ [] }
@@ -128,10 +128,10 @@ fn read_file<S: Store>(
     }
 }
 
-/// Reads these files of the tree, in their order, each that has no analysis yet. A file is opened only if it has no identity, or one without a
-/// stamp: neither among those that are loaded, nor of a library that was read before. Their paths stand in the order of their bytes, each once.
-/// In the table those that were read stand in this order, behind what was there. The files carry all that is asked of the tree: it is there for
-/// the contract alone.
+/// Reads these files of the tree in the order of their paths, each that has no analysis yet. A file is opened only if it has no identity, or if
+/// there is no stamp of its identity: none that is loaded, and none of a library that was read before. The paths ascend by their bytes, each
+/// once. The table has them in this order, after those that it had. The files have all that is needed of the tree: it is there for the contract
+/// alone.
 pub fn read_files<S: Store>(
     alloc: Global,
     tree: &Tree,
@@ -143,15 +143,13 @@ pub fn read_files<S: Store>(
     requires sorted { IsStrictlySortedBy (slice_cmp nat_cmp) (paths_of found.items) }
     requires files { AreFilesOf tree.now found.items }
     requires names { HaveNames loaded.now }
-    ensures right { OnOk result (IfHonest (S.state store.old).held tree.now (stamps_there loaded.now files.old)
-        (λ held. AreRight held tree.now (analysis_at files.old.table) → AreRight held tree.now (analysis_at files.new.table))) }
+    ensures said { OnOk result (IfKnown (S.state store.old).held (λ held. AgreeOn (unread_in files.old found.entry.items)
+        (said_there held tree.now loaded.now files.old (unread_in files.old found.entry.items)) (analysis_at files.new.table))) }
     ensures kept { OnOk result (KeepsAnalyses (analysis_at files.old.table) (analysis_at files.new.table)) }
     ensures all { OnOk result (AreRead tree.now (analysis_at files.new.table) (paths_of found.entry.items)) }
     ensures rows { OnOk result (keys_of files.new.table ≡ keys_of files.old.table ++ unread_in files.old found.entry.items) }
-    ensures stamps { OnOk result (IfHonest (S.state store.old).held tree.now (stamps_there loaded.now files.old)
-        (λ held. files.new.stamps ≡ with_stamps files.old.stamps (stamps_at held tree.now (unread_in files.old found.entry.items)))) }
-    ensures are_true { OnOk result (IfHonest (S.state store.old).held tree.now (stamps_there loaded.now files.old)
-        (λ held. AreTrue held tree.now (stamps_there loaded.now files.new))) }
+    ensures stamps { OnOk result (IfKnown (S.state store.old).held (λ held. files.new.stamps ≡ with_stamps files.old.stamps
+        (made_there held tree.now loaded.now files.old (unread_in files.old found.entry.items)))) }
     ensures stamped { OnOk result (IfKnown (S.state store.old).held (λ held. StampTheSame (stamps_there loaded.now files.new)
         (stamps_there loaded.now files.old ++ stamps_at held tree.now (unread_in files.old found.entry.items)))) }
     ensures begun { OnOk result (IfKnown (S.state store.old).held (λ held. files.new.begun ≡ files.old.begun

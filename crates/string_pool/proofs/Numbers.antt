@@ -1,44 +1,12 @@
 -- Texts that are added to different texts, and their numbers.
-use Rattle.std.proofs.Common.{◌≡◌, ℕ, ◌+◌, ◌<◌, ◌≤◌, Bool, true, false, cond, not, ◌||◌, List, [], ◌∷◌, ◌++◌, length, filter, refl, sym, ap, subst, ◌∙◌, true≢false, arith, bytes_eq, if◌then◌else◌}
-use Rattle.std.proofs.lemmas.List.{append_assoc, append-nil, length-append}
-use Rattle.std.proofs.lemmas.List.Elements.{filter-append}
-use Rattle.std.proofs.lemmas.Bool.Decides.{same_from_decides, Decides-like}
+use Rattle.std.proofs.Common.{◌≡◌, ℕ, ◌+◌, ◌<◌, ◌≤◌, Bool, true, false, cond, not, ◌||◌, List, [], ◌∷◌, ◌++◌, length, refl, sym, ap, ◌∙◌, true≢false, arith, bytes_eq, if◌then◌else◌}
+use Rattle.std.proofs.lemmas.List.{length-append}
 use Rattle.std.proofs.lemmas.Slice.Eq.{bytes_eq-Decides}
 use Rattle.std.specs.List.{list_any, fold}
 use Rattle.indexmap.specs.IndexSet.{insert_key}
-use Rattle.string_pool.specs.Texts.{distinct, number_of}
-
-bytes_eq-sym : (xs ys : List ℕ) → bytes_eq xs ys ≡ bytes_eq ys xs
-bytes_eq-sym xs ys = same_from_decides (bytes_eq xs ys) (bytes_eq ys xs) (bytes_eq-Decides xs ys) (Decides-like (bytes_eq ys xs) sym sym (bytes_eq-Decides ys xs))
-
--- a string that differs from one is found as well without that one
-kept : (text other : List ℕ) (ts : List (List ℕ)) → bytes_eq text other ≡ false
-    → list_any (bytes_eq text) (filter (λ t. not (bytes_eq other t)) ts) ≡ list_any (bytes_eq text) ts
-kept text other [] _ = refl
-kept text other (t ∷ ts) apart = by (bytes_eq other t) refl (kept text other ts apart)
-  where
-    by : (b : Bool) → bytes_eq other t ≡ b
-        → list_any (bytes_eq text) (filter (λ x. not (bytes_eq other x)) ts) ≡ list_any (bytes_eq text) ts
-        → list_any (bytes_eq text) (cond (not b) (t ∷ filter (λ x. not (bytes_eq other x)) ts) (filter (λ x. not (bytes_eq other x)) ts)) ≡ (bytes_eq text t || list_any (bytes_eq text) ts)
-    by true e rest = rw (subst (λ x. bytes_eq text x ≡ false) ((bytes_eq-Decides other t).0 e) apart) rest
-    by false e rest = ap (λ b. bytes_eq text t || b) rest
-
--- one more text
-pub distinct_push : (ts : List (List ℕ)) (t : List ℕ) → distinct (ts ++ t ∷ []) ≡ insert_key bytes_eq (distinct ts) t
-distinct_push [] t = refl
-distinct_push (s ∷ ts) t = rw (distinct_push ts t) (by (bytes_eq t s) (list_any (bytes_eq t) (distinct ts)) refl refl)
-  where
-    by : (a b : Bool) → bytes_eq t s ≡ a → list_any (bytes_eq t) (distinct ts) ≡ b
-        → s ∷ filter (λ x. not (bytes_eq s x)) (insert_key bytes_eq (distinct ts) t) ≡ insert_key bytes_eq (s ∷ filter (λ x. not (bytes_eq s x)) (distinct ts)) t
-    by true true p q = rw (p, q) refl
-    by true false p q = rw (p, q) (ap (λ xs. s ∷ xs) (filter-append (λ x. not (bytes_eq s x)) (distinct ts) (t ∷ []) ∙ rw (bytes_eq-sym s t ∙ p) (append-nil (filter (λ x. not (bytes_eq s x)) (distinct ts)))))
-    by false true p q = rw (p, kept t s (distinct ts) p, q) refl
-    by false false p q = rw (p, kept t s (distinct ts) p, q) (ap (λ xs. s ∷ xs) (filter-append (λ x. not (bytes_eq s x)) (distinct ts) (t ∷ []) ∙ rw (bytes_eq-sym s t ∙ p) refl))
-
--- strings that are added one after the other
-pub distinct_append : (ts us : List (List ℕ)) → distinct (ts ++ us) ≡ fold (insert_key bytes_eq) (distinct ts) us
-distinct_append ts [] = ap distinct (append-nil ts)
-distinct_append ts (u ∷ us) = ap distinct (sym (append_assoc ts (u ∷ []) us)) ∙ distinct_append (ts ++ u ∷ []) us ∙ ap (λ xs. fold (insert_key bytes_eq) xs us) (distinct_push ts u)
+use Rattle.string_pool.specs.Texts.{number_of}
+use Rattle.text_set.proofs.Added.{distinct_folded}
+use Rattle.text_set.specs.Distinct.{distinct}
 
 -- a string is among those that it was added to
 pub among : (ts : List (List ℕ)) (t : List ℕ) → list_any (bytes_eq t) (insert_key bytes_eq ts t) ≡ true
@@ -147,4 +115,4 @@ length_all ts [] = omega arith
 length_all ts (u ∷ us) = omega (arith, length_insert ts u, length_all (insert_key bytes_eq ts u) us)
 
 pub length_distinct : (ts : List (List ℕ)) → length (distinct ts) ≤ length ts
-length_distinct ts = omega (arith, ap length (distinct_append [] ts), length_all [] ts)
+length_distinct ts = omega (arith, ap length (distinct_folded ts), length_all [] ts)

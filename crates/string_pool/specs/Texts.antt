@@ -1,12 +1,7 @@
 -- Different texts of a file, and where one of them is (the string tables of glibc's dl-cache.h).
-use Rattle.std.specs.Prelude.{◌≡◌, ℕ, ◌+◌, List, [], ◌∷◌, ◌++◌, length, take, drop, filter, not}
+use Rattle.std.specs.Prelude.{◌≡◌, ℕ, ◌+◌, List, [], ◌∷◌, ◌++◌, length, take, drop}
 use Rattle.std.specs.List.{position_or_len}
 use Rattle.std.specs.Str.{bytes_eq}
-
--- each text once, in the order of first use
-abbrev pub distinct : List (List ℕ) → List (List ℕ)
-distinct [] = []
-distinct (text ∷ texts) = text ∷ filter (λ other. not (bytes_eq text other)) (distinct texts)
 
 -- the number of a text: its index among these
 abbrev pub number_of : List (List ℕ) → List ℕ → ℕ

@@ -1,14 +1,15 @@
 //! A set of texts, for what was met before.
 #![tactic(auto)]
 
-ghost use Rattle.std.specs.Prelude.{◌≡◌, [], is_some, position, IfSome, OnOk, OnErr};
+ghost use Rattle.std.specs.Prelude.{◌≡◌, [], is_some, position, IfOk, IfSome, OnOk, OnErr};
 ghost use Rattle.std.specs.List.{list_any};
 ghost use Rattle.std.specs.Str.{bytes_eq};
 ghost use Rattle.indexmap.specs.IndexSet.{insert_key};
 ghost use Rattle.text_set.specs.At.{IsAt};
+ghost use Rattle.text_set.specs.Distinct.{distinct};
 
 use indexmap::IndexSet;
-use lib_types::{NoMemory, Text, TextRef};
+use lib_types::{NoMemory, Text, TextRef, Texts};
 use std::alloc::Global;
 use std::marker::Model;
 
@@ -62,4 +63,27 @@ impl TextSet {
         self.texts.insert(text)?;
         Ok(())
     }
+
+    /// The texts as a list.
+    pub fn into_texts(self, alloc: Global) -> Result<Texts, NoMemory>
+        ensures { IfOk result (λ texts. texts ≡ self) }
+    {
+        let mut texts = Texts::new(alloc);
+        for text in self.texts {
+            texts.push(text)?;
+        }
+        Ok(texts)
+    }
+}
+
+/// These texts, each once: of equal ones the first stays.
+#[tactic(auto, using(crate::proofs::Added::distinct_folded))]
+pub fn distinct(alloc: Global, texts: &Texts) -> Result<Texts, NoMemory>
+    ensures { IfOk result (λ once. once ≡ distinct texts.now) }
+{
+    let mut met = TextSet::new(alloc);
+    for text in texts.as_slice() {
+        met.insert(Text::copy_of(alloc, text.as_bytes())?)?;
+    }
+    met.into_texts(alloc)
 }

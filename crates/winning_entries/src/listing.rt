@@ -109,28 +109,41 @@ struct Counted {
     winners: IndexMap<Text, usize>,
 }
 
+/// A place with its number, and what is there: the best libraries of its folder and the links.
+#[derive(Drop)]
+struct Searched<'a> {
+    number: u32,
+    place: &'a Place,
+    files: &'a BestLibraries,
+    links: &'a FolderLinks,
+}
+
 // Adds the entries of a place's winners, which are counted as they come.
 fn add_entries(
     alloc: Global,
     tree: &Tree,
-    number: u32,
-    place: &Place,
+    searched: &Searched<'_>,
     winners: &Winners<'_>,
-    links: &FolderLinks,
     found: &mut Counted,
 ) -> Result<(), NoMemory>
-    requires { links.now ≡ folder_links tree.now place.now }
+    requires { searched.now.links.now ≡ folder_links tree.now searched.now.place.now }
     ensures count { OnOk result (found.new.count ≡ found.old.count + length winners.now) }
     ensures kept { OnOk result (found.new.count ≤ ENTRIES_MAX
-        → found.new.entries.items ≡ found.old.entries.items ++ map (entry_of tree.now number place.now) winners.now) }
+        → found.new.entries.items ≡ found.old.entries.items ++ map (entry_of tree.now searched.now.number searched.now.place.now) winners.now) }
     ensures winners { OnOk result (found.new.winners ≡ found.old.winners) }
 {
-    let mut by_name = LinksOf::new(alloc, tree, place, links);
+    let mut by_name = LinksOf::new(alloc, tree, searched.place, searched.links);
     found.entries.reserve(winners.most())?;
     for winner in winners.iter() {
         found.count = found.count.checked_add(1).ok_or(NoMemory)?;
         if found.count <= ENTRIES_MAX {
-            let entry = entry_of(alloc, number, place, &winner, &mut by_name)?;
+            let entry = entry_of(
+                alloc,
+                searched.number,
+                searched.place,
+                &winner,
+                &mut by_name,
+            )?;
             found.entries.push(entry)?;
         }
     }
@@ -142,21 +155,18 @@ fn add_place(
     alloc: Global,
     tree: &Tree,
     table: &Table,
-    number: u32,
-    place: &Place,
-    files: &BestLibraries,
-    links: &FolderLinks,
+    searched: &Searched<'_>,
     found: &mut Counted,
 ) -> Result<(), NoMemory>
-    requires files { files.now ≡ bests_in (analysis_at table.now) tree.now place.now }
-    requires links { links.now ≡ folder_links tree.now place.now }
-    ensures count { OnOk result (found.new.count ≡ found.old.count + length (entries_in (analysis_at table.now) tree.now number place.now)) }
+    requires files { searched.now.files.now ≡ bests_in (analysis_at table.now) tree.now searched.now.place.now }
+    requires links { searched.now.links.now ≡ folder_links tree.now searched.now.place.now }
+    ensures count { OnOk result (found.new.count ≡ found.old.count + length (entries_in (analysis_at table.now) tree.now searched.now.number searched.now.place.now)) }
     ensures kept { OnOk result (found.new.count ≤ ENTRIES_MAX
-        → found.new.entries.items ≡ found.old.entries.items ++ entries_in (analysis_at table.now) tree.now number place.now) }
+        → found.new.entries.items ≡ found.old.entries.items ++ entries_in (analysis_at table.now) tree.now searched.now.number searched.now.place.now) }
     ensures winners { OnOk result (found.new.winners ≡ found.old.winners) }
 {
-    let winners = winners_in(alloc, table, files, links)?;
-    add_entries(alloc, tree, number, place, &winners, links, found)
+    let winners = winners_in(alloc, table, searched.files, searched.links)?;
+    add_entries(alloc, tree, searched, &winners, found)
 }
 
 // Adds the entries of a place, or counts them past the limit.
@@ -164,24 +174,27 @@ fn take_place(
     alloc: Global,
     tree: &Tree,
     table: &Table,
-    number: u32,
-    place: &Place,
-    files: &BestLibraries,
-    links: &FolderLinks,
+    searched: &Searched<'_>,
     found: &mut Counted,
 ) -> Result<(), NoMemory>
-    requires files { files.now ≡ bests_in (analysis_at table.now) tree.now place.now }
-    requires links { links.now ≡ folder_links tree.now place.now }
+    requires files { searched.now.files.now ≡ bests_in (analysis_at table.now) tree.now searched.now.place.now }
+    requires links { searched.now.links.now ≡ folder_links tree.now searched.now.place.now }
     requires winners { AreCounts (analysis_at table.now) tree.now found.old.winners.entries }
-    ensures count { OnOk result (found.new.count ≡ found.old.count + length (entries_in (analysis_at table.now) tree.now number place.now)) }
+    ensures count { OnOk result (found.new.count ≡ found.old.count + length (entries_in (analysis_at table.now) tree.now searched.now.number searched.now.place.now)) }
     ensures kept { OnOk result (found.new.count ≤ ENTRIES_MAX
-        → found.new.entries.items ≡ found.old.entries.items ++ entries_in (analysis_at table.now) tree.now number place.now) }
+        → found.new.entries.items ≡ found.old.entries.items ++ entries_in (analysis_at table.now) tree.now searched.now.number searched.now.place.now) }
     ensures winners { OnOk result (AreCounts (analysis_at table.now) tree.now found.new.winners.entries) }
 {
     if found.count <= ENTRIES_MAX {
-        return add_place(alloc, tree, table, number, place, files, links, found);
+        return add_place(alloc, tree, table, searched, found);
     }
-    let count = count_in(alloc, table, files, links, &mut found.winners)?;
+    let count = count_in(
+        alloc,
+        table,
+        searched.files,
+        searched.links,
+        &mut found.winners,
+    )?;
     found.count = found.count.checked_add(count).ok_or(NoMemory)?;
     Ok(())
 }
@@ -208,8 +221,14 @@ fn found(
     };
     let mut number: u32 = 0;
     let there = bests.iter().zip(links.iter());
-    for (place, (bests, links)) in dirs.places.as_slice().iter().zip(there) {
-        take_place(alloc, tree, table, number, place, bests, links, &mut found)?;
+    for (place, (files, links)) in dirs.places.as_slice().iter().zip(there) {
+        let searched = Searched {
+            number,
+            place,
+            files,
+            links,
+        };
+        take_place(alloc, tree, table, &searched, &mut found)?;
         number = number.checked_add(1).ok_or(NoMemory)?;
     }
     Ok(found)

@@ -7,7 +7,8 @@ use Rattle.aux_cache.specs.declared.stamps.Stamp.{Stamp}
 use Rattle.image_tree.specs.Tree.{Nodes}
 use Rattle.loaded_image.specs.Session.{Loaded}
 use Rattle.ldconfig_core.specs.Outcome.{update_outcome}
-use Rattle.ldconfig_core.specs.Update.{IfHonestly, IsAnswer}
+use Rattle.ldconfig_core.specs.Update.{IsAnswer}
+use Rattle.tree_face.specs.Known.{IfKnown}
 use Rattle.tree_face.specs.Store.{StoreState}
 use Rattle.ldconfig_core.proofs.prepare.prepare.Goals as goal
 
@@ -37,7 +38,7 @@ returns-in_err-prepared-clause-answers g c =
     let after : StoreState = g.S.Store.state c.find.new.store in
     let same : c.from_residual-in_err-prepared.result ≡ Err c.in_err-prepared.field-0.0 = search rules in
     rw same
-    (subst (λ (s : Loaded). IfHonestly store.held s (λ held. IsAnswer {A = Prepared} (update_outcome held s) (Err c.in_err-prepared.field-0.0) store after)) c.image.view_is
+    (subst (λ (s : Loaded). IfKnown store.held (λ held. IsAnswer {A = Prepared} (update_outcome held s) (Err c.in_err-prepared.field-0.0) store after)) c.image.view_is
     (making_answers image c.in_ok-found.found c.find.new.tree c.in_ok-found.ensures.alike store.held c.in_ok-found.ensures.found Prepared store after c.in_err-prepared.field-0.0
     c.in_err-prepared.ensures.others (λ nodes bytes e. c.in_err-prepared.ensures.too_large nodes bytes (ap Err e)) (λ count e. c.in_err-prepared.ensures.too_many count (ap Err e))))
 

@@ -1,5 +1,5 @@
 use Rattle.std.proofs.Common.{◌≡◌, ◌||◌, ℕ, List, drop}
-use Rattle.ldd_resolve.specs.Listing.{is_among}
+use Rattle.rpath_search.specs.Searching.{is_among}
 use Rattle.ldd_resolve.proofs.names.add_names.Given as goal
 
 -- the names that are left give the rest

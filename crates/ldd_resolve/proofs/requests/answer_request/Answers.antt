@@ -1,6 +1,6 @@
 use Rattle.std.proofs.Common.{◌≡◌, true, false, Err, rules}
 use Rattle.rpath_search.specs.declared.fault.SearchFault.TheVariants.{NoMemory}
-use Rattle.ldd_resolve.specs.Listing.{is_among}
+use Rattle.rpath_search.specs.Searching.{is_among}
 use Rattle.ldd_resolve.specs.Requests.{IsAt, inputs_by}
 use Rattle.ldd_resolve.proofs.Advances.{gives_up_then}
 use Rattle.ldd_resolve.proofs.OneRequest.{begun_name, known_name, name_fails, same_paths, searched_name, sound_answer}

@@ -5,7 +5,7 @@ use Rattle.rpath_search.specs.declared.fault.SearchFault.TheVariants.{NoMemory}
 use Rattle.rpath_search.specs.declared.kinds.Env.{Env}
 use Rattle.ldd_resolve.specs.Loading.{Advances, IsSound}
 use Rattle.ldd_resolve.specs.Requests.{IsListed, record_with}
-use Rattle.ldd_resolve.specs.Resolving.{inputs_of, with_abi}
+use Rattle.ldd_resolve.specs.Resolving.{env_for, inputs_of}
 use Rattle.ldd_resolve.proofs.Advances.{gives_up}
 use Rattle.ldd_resolve.proofs.Objects.{failing, fails_as}
 use Rattle.ldd_resolve.proofs.resolving.load.Goals as goal
@@ -14,13 +14,13 @@ pub returns-in_err-env : goal.returns-in_err-env
 returns-in_err-env g c =
     let same : c.from_residual.result ≡ Err NoMemory = search rules in
     let st = g.S.Store.state c.args.store.now in
-    rw same (λ keys. gives_up (inputs_of c.args.tree.now (option_copied c.args.cache) (with_abi c.args.env.now c.args.program.object.abi)) (record_with c.args.program keys) st st.held)
+    rw same (λ keys. gives_up (inputs_of c.args.tree.now (option_copied c.args.cache) (env_for c.args.env.now c.args.program.object.abi)) (record_with c.args.program keys) st st.held)
 
 pub returns-in_err-loading : goal.returns-in_err-loading
 returns-in_err-loading g c =
     let same : c.from_residual-in_err-loading.result ≡ Err NoMemory = search rules in
     let st = g.S.Store.state c.args.store.now in
-    rw same (λ keys. gives_up (inputs_of c.args.tree.now (option_copied c.args.cache) (with_abi c.args.env.now c.args.program.object.abi)) (record_with c.args.program keys) st st.held)
+    rw same (λ keys. gives_up (inputs_of c.args.tree.now (option_copied c.args.cache) (env_for c.args.env.now c.args.program.object.abi)) (record_with c.args.program keys) st st.held)
 
 pub answer_all-requires-clause-sound : goal.answer_all-requires-clause-sound
 answer_all-requires-clause-sound g c =

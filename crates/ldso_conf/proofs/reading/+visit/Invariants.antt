@@ -8,7 +8,7 @@ use Rattle.ldso_conf.proofs.reading.+visit.Given as goal
 abbrev pub invariant-loop-step : goal.invariant-loop-step
 invariant-loop-step g l = record {
   deep : 0 < l.left;
-  done : IsDoneIn (g.S.Store.state l.fn.store).held (λ held. included l.tree held l.left l.fn.reader.read (l.fn.spelled, l.fn.real))
+  done : IsDoneIn (g.S.Store.state l.fn.store).held (λ held. included l.tree held l.left l.fn.reader.read (l.fn.file.spelled, l.fn.file.real))
       (λ held. asked (included l.tree held (l.left - 1)) l.reader.read l.step-iterator.rest.items) l.fn.reader l.reader (g.S.Store.state l.fn.store) (g.S.Store.state l.store);
   held : (g.S.Store.state l.store).held ≡ (g.S.Store.state l.fn.store).held;
   files : l.fn.reader.files ≤ l.reader.files;

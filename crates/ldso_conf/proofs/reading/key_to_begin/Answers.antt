@@ -8,7 +8,7 @@ use Rattle.ldso_conf.proofs.reading.key_to_begin.Goals as goal
 
 pub returns-then-was_read : goal.returns-then-was_read
 returns-then-was_read c =
-    let there : key_in (node_at c.args.tree.now c.args.real.now) ≡ Some c.in-Some.key.now = search rules in
-    let read : was_read c.args.reader.now.read c.args.real.now ≡ true = search rules in
-    let new : c.report-then-was_read.new.reader ≡ with_report c.args.reader.now (reported c.args.spelled.now Repeated) = search rules in
-    record { visits = repeated c.args.tree.now c.args.left c.args.reader.now (c.args.spelled.now, c.args.real.now) c.report-then-was_read.new.reader c.in-Some.key.now there read new }
+    let there : key_in (node_at c.args.tree.now c.args.file.now.real) ≡ Some c.in-Some.key.now = search rules in
+    let read : was_read c.args.reader.now.read c.args.file.now.real ≡ true = search rules in
+    let new : c.report-then-was_read.new.reader ≡ with_report c.args.reader.now (reported c.args.file.now.spelled Repeated) = search rules in
+    record { visits = repeated c.args.tree.now c.args.left c.args.reader.now (c.args.file.now.spelled, c.args.file.now.real) c.report-then-was_read.new.reader c.in-Some.key.now there read new }

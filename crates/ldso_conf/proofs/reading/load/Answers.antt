@@ -8,13 +8,13 @@ use Rattle.ldso_conf.proofs.reading.load.Goals as goal
 
 pub returns-in_default-clause-loads : goal.returns-in_default-clause-loads
 returns-in_default-clause-loads g c =
-    loads_large c.args.tree.now c.args.reader.now (c.args.spelled, c.args.real) c.args.key.now (g.S.Store.state c.args.store.now).held c.report.new.self c.new.result.items
-    (c.in_ok-report.ensures ∙ ap (λ r. with_report r (reported c.args.spelled TooLarge)) c.in_ok-count_file.ensures) c.new.ensures.items
+    loads_large c.args.tree.now c.args.reader.now (c.args.file.spelled, c.args.file.real) c.args.key.now (g.S.Store.state c.args.store.now).held c.report.new.self c.new.result.items
+    (c.in_ok-report.ensures ∙ ap (λ r. with_report r (reported c.args.file.spelled TooLarge)) c.in_ok-count_file.ensures) c.new.ensures.items
     (rw c.in_default.is at c.in_ok-content.ensures.content)
 
 pub returns-clause-loads : goal.returns-clause-loads
 returns-clause-loads g c =
-    loads_small c.args.tree.now c.args.reader.now (c.args.spelled, c.args.real) c.args.key.now (g.S.Store.state c.args.store.now).held c.in-Some.content c.add_read.new.self c.in_ok-steps_of.field-0.items
-    (c.in_ok-add_read.ensures ∙ ap (λ r. with_read r c.args.real) c.in_ok-count_file.ensures)
-    (c.in_ok-steps_of.ensures ∙ ap (λ file. steps_of c.args.tree.now file c.deref.result.now) c.as_bytes.ensures ∙ ap (steps_of c.args.tree.now c.args.spelled) c.deref.ensures.value)
+    loads_small c.args.tree.now c.args.reader.now (c.args.file.spelled, c.args.file.real) c.args.key.now (g.S.Store.state c.args.store.now).held c.in-Some.content c.add_read.new.self c.in_ok-steps_of.field-0.items
+    (c.in_ok-add_read.ensures ∙ ap (λ r. with_read r c.args.file.real) c.in_ok-count_file.ensures)
+    (c.in_ok-steps_of.ensures ∙ ap (λ file. steps_of c.args.tree.now file c.deref.result.now) c.as_bytes.ensures ∙ ap (steps_of c.args.tree.now c.args.file.spelled) c.deref.ensures.value)
     (rw c.in-Some.is at c.in_ok-content.ensures.content)

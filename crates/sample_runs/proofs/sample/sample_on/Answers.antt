@@ -3,7 +3,7 @@ use Rattle.sample_runs.proofs.Ended.{part, whole}
 use Rattle.sample_runs.proofs.sample.sample_on.Goals as goal
 
 pub returns-in-Err : goal.returns-in-Err
-returns-in-Err g c = (Err c.in-Err.fault, (c.in-Err.ensures.failed, (c.from.ensures, refl)))
+returns-in-Err g c = (Err c.in-Err.fault, ((c.in-Err.ensures.failed, c.in-Err.ensures.part), (c.from.ensures, refl)))
 
 pub returns-then-is_err : goal.returns-then-is_err
 returns-then-is_err g c =

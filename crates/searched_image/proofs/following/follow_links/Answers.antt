@@ -44,6 +44,11 @@ returns-clause-only g c =
     let is = those (analysis_at c.args.files.now.table) _ _ c.in_ok-found.ensures.paths in
     among_both (analysis_at c.args.files.now.table) (reached c.args.tree.now c.args.dirs.now.places) _ _ (rw is at c.in_ok-read_files.ensures.rows)
 
+pub returns-clause-said : goal.returns-clause-said
+returns-clause-said g c =
+    let is = those (analysis_at c.args.files.now.table) _ _ c.in_ok-found.ensures.paths in
+    rw is at c.in_ok-read_files.ensures.said
+
 pub returns-clause-stamps : goal.returns-clause-stamps
 returns-clause-stamps g c =
     let is = those (analysis_at c.args.files.now.table) _ _ c.in_ok-found.ensures.paths in

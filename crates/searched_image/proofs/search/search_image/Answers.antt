@@ -59,8 +59,8 @@ returns-clause-found g c =
     let read = c.in_ok-read_files.ensures in
     searched c.args.tree.now c.args.loaded.now c.in_ok-conf.conf c.in_ok-dirs.dirs.places first c.in_ok-dirs.ensures.places empty
     (record { conf = c.in_ok-conf.conf; dirs = c.in_ok-dirs.dirs; files = c.read_files.new.files }) refl refl c.in_ok-dirs.ensures.absent _ c.in_ok-conf.ensures.conf
-    (rw held at read.right) (rw (held, c.in_ok-found.ensures.paths) at read.stamps) (rw held at read.are_true) (rw (held, c.in_ok-found.ensures.paths) at read.stamped)
-    (rw (held, c.in_ok-found.ensures.paths) at read.opens) (rw (held, c.in_ok-found.ensures.paths) at read.none_lacks)
+    (rw (held, c.in_ok-found.ensures.paths) at read.said) (rw (held, c.in_ok-found.ensures.paths) at read.stamps) (rw (held, c.in_ok-found.ensures.paths) at read.stamped)
+    (rw (held, c.in_ok-found.ensures.paths) at read.begun) (rw (held, c.in_ok-found.ensures.paths) at read.none_lacks)
 
 pub returns-clause-reads : goal.returns-clause-reads
 returns-clause-reads g c =

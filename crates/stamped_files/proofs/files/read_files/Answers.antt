@@ -5,7 +5,7 @@ use Rattle.elf_dynamic.specs.declared.fault.AnalyseFault.TheVariants.{StoreFault
 use Rattle.elf_dynamic.specs.Faults.{analyse_ending}
 use Rattle.found_files.specs.FoundFile.{paths_of}
 use Rattle.tree_face.proofs.StoreUse.{IsPartial}
-use Rattle.stamped_files.proofs.ReadOn.{all_begun, all_few, all_most, all_opens, all_reads, all_rows, all_stamped, all_stamps, most_last, none_lacking, none_read, read_last, read_on}
+use Rattle.stamped_files.proofs.ReadOn.{all_begun, all_few, all_most, all_opens, all_reads, all_rows, all_said, all_stamped, all_stamps, most_last, none_lacking, none_read, read_last, read_on}
 use Rattle.stamped_files.specs.Reading.{HasRead}
 use Rattle.stamped_files.proofs.files.read_files.Goals.{In-None}
 use Rattle.stamped_files.proofs.files.read_files.Goals as goal
@@ -68,6 +68,9 @@ returns-clause-few g c = all_few _ _ _ _ c.requires.sorted _ _ _ _ (all_read g (
 
 pub returns-clause-most : goal.returns-clause-most
 returns-clause-most g c = all_most _ _ _ _ c.requires.sorted _ _ _ _ (all_read g (goal.at.returns-clause-most g c).In-None)
+
+pub returns-clause-said : goal.returns-clause-said
+returns-clause-said g c = all_said _ _ _ _ c.requires.sorted _ _ _ _ (all_read g (goal.at.returns-clause-said g c).In-None)
 
 pub returns-clause-stamps : goal.returns-clause-stamps
 returns-clause-stamps g c = all_stamps _ _ _ _ c.requires.sorted _ _ _ _ (all_read g (goal.at.returns-clause-stamps g c).In-None)

@@ -1,6 +1,6 @@
 use Rattle.std.proofs.Common.{◌≡◌, ◌∙◌, ◌||◌, ap, refl, rules}
 use Rattle.std.specs.Str.{bytes_eq}
-use Rattle.ldd_resolve.specs.Listing.{is_among}
+use Rattle.rpath_search.specs.Searching.{is_among}
 use Rattle.ldd_resolve.proofs.Standing.{among_inserted, on_ok}
 use Rattle.ldd_resolve.proofs.loading.Loading.add_name.Goals as goal
 

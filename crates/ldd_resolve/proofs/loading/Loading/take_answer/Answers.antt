@@ -1,8 +1,8 @@
 use Rattle.std.proofs.Common.{◌≡◌, ◌≤◌, ◌∙◌, false, [], suc, length, Some, None, ap, arith}
 use Rattle.std.proofs.lemmas.List.{length-append, length-set}
-use Rattle.ldd_resolve.specs.Listing.{is_among}
+use Rattle.rpath_search.specs.Searching.{is_among}
 use Rattle.ldd_resolve.specs.Loading.{HasOutcome, IsSoundAnswer}
-use Rattle.ldd_resolve.specs.declared.search.Answer.TheVariants as answer
+use Rattle.rpath_search.specs.declared.search.Answer.TheVariants as answer
 use Rattle.ldd_resolve.proofs.Answered.{found_stands, loaded_stands, missing_stands}
 use Rattle.ldd_resolve.proofs.Sound.{sound_more, sound_same}
 use Rattle.ldd_resolve.proofs.Standing.{on_ok, same_count}
