@@ -1,16 +1,16 @@
-"""Which parts of a file a reader of its ELF headers, dynamic section and string table can look at."""
+"""Finds the parts of a file that a reader of its ELF headers, dynamic section and string table can look at."""
 
 import os
 import struct
 
-# What is taken of each file, whatever it is.
+# The first part of each file, which is always taken.
 BEGIN = 4096
 PT_LOAD, PT_DYNAMIC, DT_STRTAB, DT_STRSZ = 1, 2, 5, 10
-# A file with more candidates for its string table than this is taken whole.
+# A file with more candidates for its string table is taken whole.
 MOST_TABLES = 64
-# A file with a longer dynamic section too.
+# So is a file with a longer dynamic section.
 LONGEST_SECTION = 2**24
-# By the class: where the file header has the place, the entry size and the number of the program headers; one of these; a dynamic entry.
+# By the class: the fields of the file header with the offset, size and number of program headers; a program header; its size; a dynamic entry.
 LAYOUTS = {1: ("<28xI10xHH", "<III4xI", 32, "<II"), 2: ("<32xQ14xHH", "<I4xQQ8xQ", 56, "<QQ")}
 
 
@@ -33,8 +33,8 @@ def entries_of(opened, at, length, entry):
 
 
 def looked_at(opened):
-    """Parts of an open file, as (start, end), in which lies whatever such a reader looks at: of several dynamic sections, string tables
-    or segments for one address each is taken. Raises ValueError if these can't be told."""
+    """Parts of an open file, as (start, end), that contain everything such a reader looks at. If there are several dynamic sections, string
+    tables or segments for one address, each is taken. Raises ValueError if the parts can't be found."""
     begin, size = os.pread(opened, BEGIN, 0), os.fstat(opened).st_size
     layout = LAYOUTS.get(begin[4] if len(begin) >= 64 else 0)
     if not begin.startswith(b"\x7fELF") or layout is None or begin[5] != 1:

@@ -3,10 +3,11 @@
 import struct
 from collections import namedtuple
 
-MAGIC = b"glibc-ld.so.cache1.1"
-EXTENSION_MAGIC, HWCAPS_TAG = 0xEAA42174, 1
-# The words that `ldconfig -p` has for flags, as far as this project's ABIs go.
-KINDS = {0x0003: "libc6", 0x0303: "libc6,x86-64", 0x0803: "libc6,x32", 0x0A03: "libc6,AArch64"}
+from image_facts import ABIS, CACHE_MAGIC, EXTENSION_MAGIC
+
+HWCAPS_TAG = 1
+# The words that `ldconfig -p` prints for the flags of an ABI.
+KINDS = {abi.flags: abi.words for abi in ABIS.values()}
 
 
 class Entry(namedtuple("Entry", "soname flags cap path")):
@@ -38,9 +39,9 @@ def caps_of(cache):
 
 
 def entries_of(cache):
-    """The entries of a cache in their order. Raises ValueError if it is none."""
+    """The entries of a cache in their order. Raises ValueError if the bytes are not a cache."""
     try:
-        if not cache.startswith(MAGIC):
+        if not cache.startswith(CACHE_MAGIC):
             raise ValueError("other first bytes")
         caps, entries = caps_of(cache), []
         for number in range(struct.unpack_from("<I", cache, 20)[0]):

@@ -1,7 +1,6 @@
-"""A plain reader of the scripts of `ldconfig batch`: lines that put a node of a tree, drop one, or update the image.
+"""A plain reader of the scripts of `ldconfig batch`: lines that put a node into a tree, drop one, or update the image.
 
-Written from the rules, those of docs/FORMATS.md; it shares nothing with the program. A tree is that of scripts/mtree_model.py, by whose
-reader of lines a `put` is read.
+It is written from docs/FORMATS.md and shares nothing with the program. Trees, and the lines of `put`, are those of scripts/mtree_model.py.
 """
 
 import re
@@ -10,13 +9,13 @@ import sys
 sys.dont_write_bytecode = True
 from mtree_model import KINDS, LONGEST_PATH, Faults, Node, Reader, decode, is_name  # noqa: E402
 
-# Of several faults of one line the first in this order counts.
+# Of several errors of one line the first in this order counts.
 ORDER = (*KINDS, "NotThere")
 UPDATE, EDIT = "update", "edit"
 
 
 class Bad(Exception):
-    """The kind of the first fault of a line."""
+    """The kind of the first error of a line."""
 
 
 class OneLine(Reader):
@@ -37,12 +36,12 @@ def names_in(word):
 
 
 def is_full(word):
-    """Whether a word is a full path, and not the root's: it has a slash behind its first character."""
+    """Whether a word is a full path, and not the root's: it has a slash after its first character."""
     return b"/" in word[1:] and bool(names_in(word))
 
 
 def put(tree, words):
-    """Puts what the words say. Gives the faults, and whether there is a node."""
+    """Puts what the words say. Returns the errors, and whether there is a node."""
     if not words:
         return {"BadLine"}, False
     reader = OneLine(tree)
@@ -52,7 +51,7 @@ def put(tree, words):
 
 
 def drop(tree, words):
-    """Removes the node of a path. Gives the faults."""
+    """Removes the node of a path. Returns the errors."""
     if len(words) != 1:
         return {"BadLine"}
     faults = Faults()
@@ -65,7 +64,7 @@ def drop(tree, words):
 
 
 def take(tree, line):
-    """Takes a line: edits the tree. Gives what it asked for, an edit, an update or nothing; raises Bad."""
+    """Takes a line: edits the tree. Returns what it asked for, an edit, an update or nothing; raises Bad."""
     words = [word for word in re.split(rb"[ \t]", line) if word]
     if not words or words[0].startswith(b"#"):
         return None
@@ -85,7 +84,7 @@ def take(tree, line):
 
 
 A = {(b"a",): ("file", b"a", None)}
-# Lines with a tree, and what they ask for or their fault, worked out by hand from the rules.
+# Lines with a tree, and what they ask for or their error, worked out by hand from the rules.
 ROWS = [
     (b"", {}, None), (b" \t", {}, None), (b" # c\\", {}, None), (b"update", {}, UPDATE), (b"\tupdate ", {}, UPDATE), (b"update\r", {}, "BadLine"), (b"update x", {}, "BadLine"),
     (b"update\\", {}, "BadLine"), (b"frob", {}, "BadLine"), (b"put", {}, "BadLine"), (b"put ./a type=dir", {}, EDIT), (b"put ./a type=dir\r", {}, "BadType"), (b"put ./a\\\\", {}, "BadLine"),

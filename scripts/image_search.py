@@ -1,20 +1,22 @@
 """Where an update looks in an image: the nodes of a manifest, where paths lead, the conf files, and the searched directories.
 
-Written from the rules, those of docs/FORMATS.md and docs/DECISIONS.md; it shares nothing with the program. `scripts/model` compares
-both on made images. A caller gives the contents of files by their keys, as pairs of bytes and what they are.
+It is written from docs/FORMATS.md and docs/DECISIONS.md and shares nothing with the program. `scripts/model` compares both on synthetic
+images. The caller supplies the contents of files by their keys, as pairs of the bytes and what they are.
 """
 
 import re
 from collections import namedtuple
 
-SYSTEM_DIRS = [b"/lib", b"/usr/lib", b"/lib64", b"/usr/lib64"]
-MOST_LINKS, LONGEST_PATH, LARGEST_CONF, MOST_DEPTH = 40, 4095, 2**20, 16
+from image_facts import LARGEST_CONF, LONGEST_PATH, MOST_DEPTH, MOST_LINKS, is_library_name
+from image_facts import SYSTEM_DIRS as SYSTEM_TEXTS
+
+SYSTEM_DIRS = [text.encode() for text in SYSTEM_TEXTS]
 
 # A directory, a file with its key and perhaps its identity (device, inode, ctime, size), or a link with its target.
 Node = namedtuple("Node", "kind text identity", defaults=(b"", None))
 # A file or a link by its name, with the soname and the ABI of its library.
 Library = namedtuple("Library", "name soname abi")
-Place = namedtuple("Place", "spelled real cap")
+Place = namedtuple("Place", "written real cap")
 
 # ---- images and paths
 
@@ -36,8 +38,8 @@ def components(text):
 
 
 class Image:
-    """The nodes by their paths. The contents by their keys, each with what it is: (ABI, DT_SONAME), or a defect. Perhaps stamps, which say
-    what a library is by its file's identity."""
+    """The nodes by their paths, the contents by their keys, and perhaps cached records by the identities of files. A content comes with what it
+    is: (ABI, DT_SONAME), or a defect."""
 
     def __init__(self, nodes, contents, stamps=None):
         self.nodes, self.contents, self.stamps, self.names = nodes, contents, stamps or {}, {b"/": set()}
@@ -59,7 +61,7 @@ class Image:
         return self.contents[self.nodes[file].text]
 
     def what(self, file):
-        """What a file is: by the stamp of its identity, or else by its content."""
+        """What a file is: by the cached record of its identity, or else by its content."""
         return self.stamps.get(self.nodes[file].identity) or self.content(file)[1]
 
     def target(self, path):
@@ -92,19 +94,14 @@ class Image:
         return place if self.kind(place) == "file" else None
 
     def named(self, folder, kind):
-        """What is of this kind in a folder and has a library name."""
+        """What is of this kind in a directory and has a library name."""
         return [join(folder, name) for name in self.children(folder) if is_library_name(name) and self.kind(join(folder, name)) == kind]
 
     def libraries(self, folder, kind):
-        """The libraries in a folder: files, or links to them. The soname is DT_SONAME, or the name of the file itself."""
+        """The libraries in a directory: files, or links to them. The soname is DT_SONAME, or the name of the file itself."""
         pairs = [(path, self.file(path)) for path in self.named(folder, kind)]
         found = [(last(path), last(file), self.what(file)) for path, file in pairs if file]
         return [Library(name, what[1] or own, what[0]) for name, own, what in found if isinstance(what, tuple)]
-
-
-def is_library_name(name):
-    unfinished = name.endswith((b".dpkg-new", b".dpkg-tmp", b".#prelink#"))
-    return name.startswith((b"lib", b"ld-")) and b".so" in name and b";" not in name and not unfinished
 
 
 def tokens(name):
@@ -120,7 +117,7 @@ def name_order(name):
 
 
 class Conf:
-    """What /etc/ld.so.conf gives: directories, and reports."""
+    """The directories that /etc/ld.so.conf names, and what is reported of it."""
 
     def __init__(self, image):
         self.image, self.dirs, self.reports, self.met = image, [], [], set()
@@ -128,24 +125,24 @@ class Conf:
         if real:
             self.visit(b"/etc/ld.so.conf", real, 0)
 
-    def visit(self, spelled, real, depth):
+    def visit(self, written, real, depth):
         is_file = self.image.kind(real) == "file"
         content = self.image.content(real)[0] if is_file else b""
         large = len(content) > LARGEST_CONF
         faults = (not is_file, "NotFile"), (real in self.met, "Repeated"), (depth > MOST_DEPTH, "TooDeep"), (large, "TooLarge")
         fault = next((kind for holds, kind in faults if holds), None)
         if fault:
-            self.reports.append((spelled, fault))
+            self.reports.append((written, fault))
             return
         self.met.add(real)
         for line in content.split(b"\n"):
             line = line.partition(b"#")[0].strip(b" \t\v\f\r")
             if line.startswith((b"include ", b"include\t")):
                 for pattern in re.split(rb"[ \t]+", line)[1:]:
-                    for text, place in self.results(spelled, pattern):
+                    for text, place in self.results(written, pattern):
                         self.visit(text, place, depth + 1)
             elif line.startswith((b"hwcap ", b"hwcap\t")):
-                self.reports.append((spelled, "Hwcap"))
+                self.reports.append((written, "Hwcap"))
             else:
                 self.directory(line)
 
@@ -163,7 +160,7 @@ class Conf:
                 self.dirs.append(text)
 
     def results(self, file, pattern):
-        """The texts that a pattern gives with the places to which they lead."""
+        """The texts that match a pattern, with the paths to which they lead."""
         texts = [b"" if pattern.startswith(b"/") else file[: file.rindex(b"/")]]
         for component in pattern.removeprefix(b"/").split(b"/"):
             texts = [text + b"/" + name for text in texts for name in self.choices(text, component)]

@@ -1,24 +1,23 @@
-"""A plain reader and writer of auxiliary caches: stamps of libraries, by the identities of their files.
+"""A plain reader and writer of auxiliary caches: cached records of libraries, by the identities of their files.
 
-Written from the format's rules, those of docs/FORMATS.md; it shares nothing with the program. Stamps are a dict from identities (device,
-inode, ctime, size) to what the files are: an ABI, and a DT_SONAME or None.
+It is written from docs/FORMATS.md and shares nothing with the program. Cached records are a dict from identities (device, inode, ctime,
+size) to what the files are: an ABI, and a DT_SONAME or None.
 """
 
 import struct
 import sys
 
 sys.dont_write_bytecode = True
-from made_elf import ABIS  # noqa: E402
+from image_facts import ABIS, LONGEST_NAME  # noqa: E402
+from image_facts import AUX_MAGIC as MAGIC  # noqa: E402
 
 AUX = "var/cache/ldconfig/aux-cache"
-MAGIC = b"glibc-ld.so.auxcache-1.0"
 HEADER, RECORD = len(MAGIC) + 8, 48
-LONGEST_NAME = 255
 ABI_OF = {kind[2]: abi for abi, kind in ABIS.items()}
 
 
 class Damaged(Exception):
-    """The first place at which a file is damaged."""
+    """The first place at which a file is corrupt."""
 
     def __init__(self, at):
         super().__init__(at)
@@ -40,7 +39,7 @@ def record_at(aux, index):
 
 
 def read(aux):
-    """The stamps of a file. Raises Damaged."""
+    """The cached records of a file. Raises Damaged."""
     if len(aux) < HEADER or not aux.startswith(MAGIC):
         raise Damaged(0)
     count, length = struct.unpack_from("<II", aux, len(MAGIC))
@@ -62,7 +61,7 @@ def read(aux):
 
 
 def loaded(aux):
-    """The stamps of what a slot holds, None being nothing, and the place of its damage, or None."""
+    """The cached records of a file's bytes (None if it doesn't exist), and the first place at which it is corrupt, or None."""
     try:
         return {} if aux is None else read(aux), None
     except Damaged as damaged:
@@ -70,7 +69,7 @@ def loaded(aux):
 
 
 def text(stamps):
-    """The file of these stamps."""
+    """The file of these cached records."""
     offsets, strings, records = {None: 0}, b"\0", b""
     for (device, inode, ctime, size), (abi, soname) in sorted(stamps.items()):
         if soname not in offsets:
@@ -91,7 +90,7 @@ def changed(at, value):
     return ONE[:at] + bytes([value]) + ONE[at + 1 :]
 
 
-# Files with the first place of their damage, None for none, worked out by hand from the rules.
+# Files with the first place at which they are corrupt, or None, worked out by hand from the rules.
 ROWS = [
     (ONE, None), (MAGIC + struct.pack("<IIB", 0, 1, 0), None), (b"", 0), (bytes(40), 0), (ONE[:31], 0), (changed(23, 49), 0), (ONE[:32], 24), (ONE[:-1], 24),
     (ONE + b"\0", 24), (changed(24, 2), 24), (changed(24, 0), 24), (changed(28, 10), 24), (MAGIC + bytes(8), 32), (changed(80, 1), 80), (changed(90, 1), 80),
@@ -104,5 +103,5 @@ def rows():
     """Which rows are read otherwise."""
     wrong = [f"{aux.hex()}: damaged at {loaded(aux)[1]}; wanted {at}" for aux, at in ROWS if loaded(aux)[1] != at]
     if text({(0, 7, 3, 251): ("x86-64", b"libz.so.1")}) != ONE or read(ONE) != {(0, 7, 3, 251): ("x86-64", b"libz.so.1")}:
-        wrong.append("the file of one stamp")
+        wrong.append("the file of one cached record")
     return wrong

@@ -1,8 +1,8 @@
-"""What an update of a folder comes to, for `scripts/update-image` and `scripts/check-image`. Nothing in the folder is changed here.
+"""Plans an update of a directory, for `scripts/update-image` and `scripts/check-image`. Nothing in the directory is changed here.
 
-The program reads image.mtree in the folder in which it runs, writes there, and follows no link. So it runs in a private folder, with
-copies of just the parts of files that it looks at: conf files, and the headers, dynamic sections and string tables of the libraries in
-the searched directories. docs/DECISIONS.md says why.
+The program reads and writes in the directory in which it runs, and follows no link. So it runs in a private directory, with copies of the
+parts of files that it looks at: conf files, and the headers, dynamic sections and string tables of the libraries in the search directories.
+docs/DECISIONS.md says why.
 """
 
 import contextlib
@@ -19,24 +19,28 @@ from pathlib import Path
 sys.dont_write_bytecode = True
 import mtree_model  # noqa: E402
 from elf_parts import looked_at  # noqa: E402
-from image_search import LARGEST_CONF, Conf, Image, Node, components, last, parent, searched  # noqa: E402
+from image_facts import LARGEST_CONF, LONGEST_CACHE  # noqa: E402
+from image_search import Conf, Image, Node, components, last, parent, searched  # noqa: E402
 
-TOP = Path(__file__).resolve().parent.parent
-PROGRAM = Path(os.environ.get("LDCONFIG") or TOP / "crates/ldconfig/out/ldconfig").absolute()
-MANIFEST = TOP / "scripts/manifest"
+HERE = Path(__file__).resolve().parent
+# scripts/install puts a link to the program beside this file. In the repository the program is where `rt` builds it.
+INSTALLED, BUILT = HERE / "ldconfig", HERE.parent / "crates/ldconfig/out/ldconfig"
+IS_INSTALLED = INSTALLED.is_symlink()
+PROGRAM = Path(os.environ.get("LDCONFIG") or (INSTALLED if IS_INSTALLED else BUILT)).absolute()
+MANIFEST = HERE / "manifest"
 CACHE, AUX = b"/etc/ld.so.cache", b"/var/cache/ldconfig/aux-cache"
 KINDS = {stat.S_IFLNK: "a symbolic link", stat.S_IFDIR: "a directory", stat.S_IFREG: "a regular file", stat.S_IFIFO: "a pipe"}
-# So much of a file is copied at once.
+# The number of bytes that are copied at once.
 PIECE = 2**20
-# No cache is longer.
-LONGEST_CACHE = 2**30
 
-# The report of the program, the planned links (their targets by their paths in the tree), the cache, the image with its searched places.
+HELP_EXCLUDE = "leave out of the tree what the shell pattern matches, with everything below: a path (/usr/share/*) if PATTERN has a slash, else a name"
+HELP_ONE_FILE_SYSTEM = "list each directory of another file system without its content (default: those directly below DIRECTORY)"
+# The program's report, the planned links (targets by paths in the tree), the cache, and the image with its search directories.
 Plan = namedtuple("Plan", "report links cache image places")
 
 
 class Trouble(Exception):
-    """Why it can't be done: a line for the error output, and the exit status."""
+    """An error: a line for the error output, and the exit status."""
 
     def __init__(self, line, status=1):
         super().__init__(line)
@@ -44,13 +48,13 @@ class Trouble(Exception):
 
 
 def check_outputs():
-    """Ends the script if it can't say anything. So no file that it opens comes to be an output."""
+    """Ends the script if a standard stream is closed. Otherwise a file that it opens could become its output."""
     if sys.stdin is None or sys.stdout is None or sys.stderr is None:
         sys.exit(f"{sys.argv[0]}: standard input, output or error output: closed")
 
 
 def shown(path):
-    """A path for a person: the escapes of a manifest leave no control byte that could reach a terminal."""
+    """A path for messages: the escapes of a manifest let no control byte reach a terminal."""
     return mtree_model.escape(os.fsencode(path)).decode()
 
 
@@ -58,11 +62,11 @@ def kind_of(mode):
     return KINDS.get(stat.S_IFMT(mode), "a special file")
 
 
-# ---- the folder
+# ---- the directory
 
 
 class Folder:
-    """A folder whose parts are reached from its open directory, part by part, so that no link is followed."""
+    """A directory whose parts are opened one by one from its open directory, so no link is followed."""
 
     def __init__(self, name):
         self.name = name
@@ -71,12 +75,12 @@ class Folder:
         self.path, self.opened = b"/", os.dup(self.root)
 
     def shown(self, path):
-        """A path of the folder with the folder's own, for a person."""
+        """A path in the directory, after the directory's own path, for messages."""
         return shown(self.name) if path in (b"", b"/") else shown(self.name).rstrip("/") + shown(path)
 
     @contextlib.contextmanager
     def naming(self, path):
-        """Names the path in a failing call."""
+        """Turns the error of a call into a message that names the path."""
         try:
             yield
         except OSError as error:
@@ -86,14 +90,14 @@ class Folder:
         raise Trouble(f"{self.shown(path)}: {kind_of(mode)} in place of {wanted}")
 
     def mode_at(self, path):
-        """The type and mode of what stands at a path, 0 if nothing does."""
+        """The type and mode of what is at a path, or 0."""
         try:
             return os.stat(last(path), dir_fd=self.directory(parent(path)), follow_symlinks=False).st_mode
         except FileNotFoundError:
             return 0
 
     def directory(self, path):
-        """The open directory at a path; it stays open up to the next call for another one."""
+        """The open directory at a path. It stays open until the next call for another one."""
         if path == self.path:
             return self.opened
         opened, place = os.dup(self.root), b""
@@ -126,15 +130,14 @@ class Folder:
         return self.refuse(path, mode, "a regular file")
 
     def target(self, path):
-        """The target of the link at a path, or None if nothing is there. Anything else is trouble."""
+        """The target of the link at a path, or None if nothing is there. Anything else is an error."""
         mode = self.mode_at(path)
         if mode and not stat.S_ISLNK(mode):
             self.refuse(path, mode, "a link")
         return os.readlink(last(path), dir_fd=self.directory(parent(path))) if mode else None
 
     def cache(self, most=LONGEST_CACHE):
-        """The bytes of the cache, and no more than so many and one; None if there is none, or a link in its place, which a new one
-        replaces."""
+        """The bytes of the cache, at most one more than `most`. None if it is missing, or is a link, which a new cache replaces."""
         with self.naming(CACHE):
             mode = self.mode_at(parent(CACHE)) and self.mode_at(CACHE)
             if not mode or stat.S_ISLNK(mode):
@@ -147,12 +150,12 @@ class Folder:
 
 
 def manifest_of(folder, options=()):
-    """The manifest of a folder by the script, with identities or not as the options say."""
+    """The manifest of a directory, as scripts/manifest writes it with these options."""
     command = [sys.executable, MANIFEST, *options, "--", folder.name]
     ran = subprocess.run(command, stdin=subprocess.DEVNULL, capture_output=True)
     sys.stderr.write(ran.stderr.decode(errors="replace"))
     if ran.returncode:
-        raise Trouble(f"{shown(folder.name)}: its manifest isn't whole; --exclude PATTERN leaves out what can't be read")
+        raise Trouble(f"{shown(folder.name)}: its manifest isn't complete; --exclude PATTERN leaves out what can't be read")
     return ran.stdout
 
 
@@ -161,7 +164,7 @@ def unescape(word):
 
 
 def node_of(line):
-    """The path and the node of a line as the script and the program write them, but for identities."""
+    """The path and the node of a line that scripts/manifest or the program wrote, without its identity."""
     path, kind, *words = line.split(b" ")
     path, kind = unescape(path[1:]), kind.removeprefix(b"type=").decode()
     if kind == "link":
@@ -178,36 +181,36 @@ class Manifest:
             self.lines = set(text.split(b"\n"))
             self.nodes = dict(map(node_of, text.split(b"\n")[2:-1]))
             return
-        # Of a text that can't be read the program says what is wrong.
+        # If the text is malformed, the program reports it.
         with contextlib.suppress(mtree_model.Bad):
             self.tree = mtree_model.read(text)
             self.lines = set(mtree_model.canonical(self.tree).split(b"\n"))
             self.nodes = {b"/" + b"/".join(path): Node(*node) for path, node in self.tree.items()}
 
     def links_added(self, text):
-        """The links which a canonical text has, and this one hasn't: their targets by their paths."""
+        """The links that a canonical text has and this one lacks: their targets by their paths."""
         if text == self.text:
             return {}
         added = dict(map(node_of, (line for line in text.split(b"\n") if line not in self.lines)))
         if any(node.kind != "link" for node in added.values()):
-            raise Trouble("the program's manifest has other new lines than links; nothing was changed")
+            raise Trouble("the program's manifest has new lines that are not links; nothing was changed")
         return {path: node.text for path, node in added.items()}
 
 
-# ---- the private folder
+# ---- the private directory
 
 
 class Copies:
-    """Copies of an image's files in the private folder, by their keys: of each file's length, with the parts that are looked at."""
+    """Copies of an image's files in the private directory, by their keys. Each has the file's length and the parts that are looked at."""
 
     def __init__(self, folder, work):
         self.folder, self.work, self.made = folder, Path(work), set()
 
     def copy(self, key, parts_of):
-        """Copies these parts of a file, and gives the place of the copy."""
+        """Copies these parts of a file, and returns the place of the copy."""
         names = components(key)
         place, path = self.work / os.fsdecode(b"/".join(names)), b"/" + b"/".join(names)
-        # A key with `..` the program refuses, and says so.
+        # The program rejects a key with `..`.
         if b".." in names or (key, parts_of) in self.made:
             return place
         with self.folder.naming(path):
@@ -223,14 +226,14 @@ class Copies:
         self.copy(key, library_parts)
 
     def __getitem__(self, key):
-        """A conf file's bytes, as far as they are read."""
+        """The bytes of a conf file that the program reads."""
         place = self.copy(key, conf_parts)
         with open(place if place.exists() else os.devnull, "rb") as file:
             return file.read(LARGEST_CONF + 1), None
 
 
 def conf_parts(_opened):
-    """What is looked at of a conf file: one that is longer isn't read."""
+    """The part of a conf file that is looked at: the program reads no longer one."""
     return [(0, LARGEST_CONF + 1)]
 
 
@@ -243,11 +246,11 @@ def library_parts(opened):
 
 @contextlib.contextmanager
 def private(work):
-    """Names the private folder in a failing call."""
+    """Turns the error of a call into a message that names the private directory."""
     try:
         yield
     except OSError as error:
-        raise Trouble(f"{shown(work)}, a private folder (TMPDIR says where): {error.strerror}") from error
+        raise Trouble(f"{shown(work)}, a private directory (TMPDIR says where): {error.strerror}") from error
 
 
 def copy_parts(source, copy, parts):
@@ -261,7 +264,7 @@ def copy_parts(source, copy, parts):
 
 
 def next_data(opened, at):
-    """The place from here on at which a file has data, or its end."""
+    """The first offset from here at which a file has data, or its end."""
     try:
         return os.lseek(opened, at, os.SEEK_DATA)
     except (OSError, OverflowError):
@@ -269,22 +272,22 @@ def next_data(opened, at):
 
 
 def copy_looked_at(image, folder, work):
-    """Copies what an update of this image looks at, and gives the searched places."""
+    """Copies what an update of this image looks at, and returns the search directories."""
     image.contents = copies = Copies(folder, work)
     places, _ = searched(image, Conf(image).dirs)
     for place in sorted({place.real for place in places}):
-        behind = [file for link in image.named(place, "link") if (file := image.file(link))]
-        for file in image.named(place, "file") + behind:
+        linked = [file for link in image.named(place, "link") if (file := image.file(link))]
+        for file in image.named(place, "file") + linked:
             copies.library(image.nodes[file].text)
     return places
 
 
 def run_program(work, command="update"):
-    """Runs the program in a folder, and gives what it wrote. A status other than 0 is trouble: its lines are passed on."""
+    """Runs the program in a directory, and returns its output. If its status isn't 0, its lines are passed on as an error."""
     try:
         ran = subprocess.run([PROGRAM, command], cwd=work, stdin=subprocess.DEVNULL, capture_output=True)
     except OSError as error:
-        raise Trouble(f"{PROGRAM}: {error.strerror}; scripts/first-run makes it") from error
+        raise Trouble(f"{PROGRAM}: {error.strerror}" + ("" if IS_INSTALLED else "; scripts/first-run makes it")) from error
     sys.stderr.write(ran.stderr.decode(errors="replace"))
     if ran.returncode:
         sys.stdout.write(ran.stdout.decode(errors="replace"))
@@ -294,7 +297,7 @@ def run_program(work, command="update"):
 
 
 def plan_of(folder, manifest):
-    """What an update of a folder with this manifest comes to."""
+    """The plan of an update of a directory with this manifest."""
     image = Image(manifest.nodes, {})
     with private(tempfile.gettempdir()), tempfile.TemporaryDirectory(prefix="update-image.") as work:
         places = copy_looked_at(image, folder, work)

@@ -1,10 +1,8 @@
-"""Makes shared objects with a DT_SONAME, or without one, and nothing else in them; or such that need others."""
+"""Makes synthetic shared objects: with or without a DT_SONAME and nothing else in them, or with DT_NEEDED entries."""
 
 import struct
 
-# machine, class, flags of a cache, and the words that ldconfig prints for these
-ABIS = {"i386": (3, 1, 0x0003, "libc6"), "x86-64": (62, 2, 0x0303, "libc6,x86-64"), "x32": (62, 1, 0x0803, "libc6,x32")}
-ABIS["aarch64"] = (183, 2, 0x0A03, "libc6,AArch64")
+from image_facts import ABIS
 
 
 def elf(abi, soname=None, kind=3):

@@ -1,20 +1,18 @@
 #!/usr/bin/env python3
 """A plain reader of manifests (mtree(5), as docs/FORMATS.md has it), for comparison with the program.
 
-It is written from the format's rules, each where it stands, with whole lines and words, and shares nothing with the
-program. `read` gives a text's tree, or raises the first fault; `canonical` writes a tree. Run by itself it reads a table of
-texts whose trees and faults were written down from the rules by hand.
+It is written from the format's rules, one after the other, with whole lines and words, and shares nothing with the program. `read` returns
+a text's tree, or raises the first error; `canonical` writes a tree. Run by itself, it reads a table of texts whose trees and errors were
+worked out from the rules by hand.
 """
 
 import re
 import sys
 from typing import NamedTuple
 
-LONGEST_TEXT = 2**26
-MOST_NODES = 2**20
-LONGEST_NAME = 255
-LONGEST_PATH = LONGEST_TARGET = LONGEST_KEY = 4095
-# Of several faults of one line the first in this order counts.
+from image_facts import LONGEST_KEY, LONGEST_MANIFEST, LONGEST_NAME, LONGEST_PATH, LONGEST_TARGET, MOST_NODES
+
+# Of several errors of one line the first in this order counts.
 KINDS = ("BadEscape", "BadLine", "BadNumber", "BadType", "NoTarget", "Clash", "TooMany")
 NODES = {b"file", b"dir", b"link"}
 NO_NODES = {b"block", b"char", b"fifo", b"socket"}
@@ -25,7 +23,7 @@ ESCAPED = {b"s": b" ", b"t": b"\t", b"n": b"\n", b"\\": b"\\", b"#": b"#"}
 
 
 class Bad(Exception):
-    """A text that is no manifest: the number of its first bad line and the kind, or TooLong."""
+    """A malformed text: the number of its first malformed line and the kind, or TooLong."""
 
     def __init__(self, kind, line=None):
         super().__init__(kind)
@@ -45,7 +43,7 @@ class Node(NamedTuple):
 
 
 class Faults(set):
-    """The kinds of all faults of one line."""
+    """The kinds of all errors of one line."""
 
     def unless(self, holds, kind):
         if not holds:
@@ -55,7 +53,7 @@ class Faults(set):
 def joined_lines(text):
     """The lines with the number of their first physical line: one that ends in a backslash goes on in the next, in comments too."""
     *physical, last = text.split(b"\n")
-    # A carriage return counts before a line feed only.
+    # A carriage return is removed only before a line feed.
     physical = [line.removesuffix(b"\r") for line in physical] + [last]
     joined, number = b"", 1
     for at, line in enumerate(physical, 1):
@@ -91,7 +89,7 @@ def decode(text, faults):
 
 
 def keywords(words, faults):
-    """The values of the known keywords, of which later ones override earlier ones; each is checked where it stands."""
+    """The values of the known keywords, of which later ones override earlier ones. Each is checked when it is read."""
     values = {}
     for word in words:
         key, equals, value = word.partition(b"=")
@@ -125,7 +123,7 @@ class Reader:
         self.opened = []
 
     def line(self, words):
-        """Reads one line, and gives its faults."""
+        """Reads one line, and returns its errors."""
         faults = Faults()
         first, *others = words
         if first.startswith(b"#"):
@@ -172,7 +170,7 @@ class Reader:
         return Node("file", values.get(b"contents", whole[1:]), identity)
 
     def put(self, path, node, faults):
-        """Puts a node, or replaces the one that is there: nothing stands below a file or a link."""
+        """Puts a node, or replaces the one that is there. Nothing can be below a file or a link."""
         above = [path[:count] for count in range(1, len(path))]
         faults.unless(all(self.tree[folder].kind == "dir" for folder in above if folder in self.tree), "Clash")
         faults.unless(node.kind == "dir" or path not in self.has_below, "Clash")
@@ -184,7 +182,7 @@ class Reader:
 
 def read(text):
     """The tree of a text: the nodes by the names of their paths, in the tree's order."""
-    if len(text) > LONGEST_TEXT:
+    if len(text) > LONGEST_MANIFEST:
         raise Bad("TooLong")
     reader = Reader()
     for number, line in joined_lines(text):
@@ -366,7 +364,7 @@ def table():
         (b"./a/b\n./a type=link link=x", (2, "Clash")),
         (b"./a type=link link=b\n./a/b/c", (2, "Clash")),
         (b"./a.b\n./a/b\n./ab", files((b"a", b"b"), (b"a.b",), (b"ab",))),
-        # Several faults of one line.
+        # Several errors of one line.
         (b"/a size=x type=pear link=\\q", (1, "BadEscape")),
         (b"/a size=x type=pear", (1, "BadLine")),
         (b"a size=x type=pear", (1, "BadNumber")),

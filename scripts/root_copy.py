@@ -1,9 +1,8 @@
 """Copies the part of a root tree in which ldconfig looks for libraries: conf files, directories, libraries and links.
 
-`copy_root` copies what /etc/ld.so.conf, its includes and the system folders lead to, with the links on the way. Of each of
-these directories the files with names like those of libraries, all links, and the directories below are taken (of these the names
-alone, but for glibc-hwcaps and the older subdirectories for processors). Files are hard links where that can be, so nothing may be
-written into them.
+`copy_root` copies everything that /etc/ld.so.conf, its includes and the system directories lead to, with the links on the way. It takes
+the files with library names, all links, and the subdirectories of each of these directories. Subdirectories are copied without content,
+except for glibc-hwcaps and the older subdirectories for processors. Files are hard links if possible, so nothing may be written into them.
 """
 
 import fnmatch
@@ -13,31 +12,16 @@ import shutil
 import stat
 import struct
 
-SYSTEM_DIRS = ["/lib", "/usr/lib", "/lib64", "/usr/lib64"]
+from image_facts import MOST_LINKS, SYSTEM_DIRS, is_like_library
+
 # Debian's ldconfig has these too.
 DEBIAN_DIRS = ["/lib/*-linux-gnu*", "/usr/lib/*-linux-gnu*"]
-MOST_LINKS = 40
 # Subdirectories for processors and platforms that ldconfig and the loader knew before glibc 2.37.
 OLDER_CAPS = {"tls", "haswell", "xeon_phi", "avx512_1", "x86_64", "i386", "i486", "i586", "i686", "sse2", "atomics", "aarch64"}
 
 
-def is_unfinished(name):
-    """Whether a file of this name is one that dpkg, rpm or prelink have not put in place yet."""
-    return name.endswith((".dpkg-new", ".dpkg-tmp", ".#prelink#")) or ";" in name
-
-
-def is_like_library(name):
-    """Whether ldconfig takes a file of this name for a library's, if it doesn't ask whether it is unfinished."""
-    return name.startswith(("lib", "ld-")) and ".so" in name
-
-
-def is_library_name(name):
-    """Whether ldconfig(8) takes a file of this name for a library's."""
-    return is_like_library(name) and not is_unfinished(name)
-
-
 def mode_at(root, place):
-    """What stands at a place below the root, 0 if nothing does."""
+    """The mode of what is at a path below the root, or 0."""
     try:
         return os.lstat(root + (place or "/")).st_mode
     except OSError:
@@ -73,14 +57,14 @@ def resolve(root, text, passed=lambda place: None):
 
 
 class Copy:
-    """A copy of some of a root tree in a folder."""
+    """A copy of some of a root tree in a directory."""
 
     def __init__(self, root, folder):
         self.root, self.folder = str(root).rstrip("/"), str(folder)
         self.listed = set()
 
     def take(self, place):
-        """Copies what stands at a place: a link, the name of a directory, or a file."""
+        """Copies what is at a path: a link, a directory without content, or a file."""
         source, mode = self.root + place, mode_at(self.root, place)
         if os.path.lexists(self.folder + place):
             return
@@ -96,7 +80,7 @@ class Copy:
                 shutil.copy2(source, self.folder + place)
 
     def walk(self, text):
-        """Copies all on the way of a text and what it leads to. Gives the place."""
+        """Copies everything on the way of a text, and what it leads to. Returns the path."""
         place = resolve(self.root, text, self.take)
         if place and place != "/":
             self.take(place)
@@ -126,7 +110,7 @@ class Copy:
             self.directory(f"{text}/glibc-hwcaps/{name}")
 
     def results(self, pattern):
-        """The texts that a pattern gives."""
+        """The texts that match a pattern."""
         texts = [""]
         for part in filter(None, pattern.split("/")):
             plain = not set("*?[") & set(part)
@@ -152,7 +136,7 @@ class Copy:
 
 
 def copy_root(root, folder):
-    """Copies what ldconfig looks at in a root tree into a folder."""
+    """Copies what ldconfig looks at in a root tree into a directory."""
     copy = Copy(root, folder)
     copy.conf("/etc/ld.so.conf", set())
     for text in SYSTEM_DIRS + [text for pattern in DEBIAN_DIRS for text in copy.results(pattern)]:

@@ -1,5 +1,5 @@
-"""A program that runs call by call of the system, for `scripts/crash`: what each call is, which one fails, writes less or is left out, and
-before which one the program is stopped. By ptrace(2), on x86-64 alone.
+"""Runs a program system call by system call, for `scripts/crash`. Any call can be read, fail, write less or be left out, and the program can
+be killed before any call. It uses ptrace(2), on x86-64 only.
 """
 
 import ctypes
@@ -12,10 +12,10 @@ import sys
 from dataclasses import dataclass, field
 
 TRACE_ME, PEEK, GET_REGISTERS, SET_REGISTERS, GO_ON, TO_CALL, SET_OPTIONS = 0, 2, 12, 13, 7, 24, 0x4200
-# Stops at calls are told from other ones; a traced program doesn't outlive this one.
+# Options of ptrace: stops at calls are marked, and a traced program ends with this one.
 OPTIONS = 0x1 | 0x100000
 AT_CALL = signal.SIGTRAP | 0x80
-# Where these stand among the 27 registers.
+# The positions of these among the 27 registers.
 COUNT, RESULT, NUMBER = 12, 10, 15
 ARGUMENTS = (14, 13, 12, 7, 9, 8)
 REGISTERS = struct.Struct("27Q")
@@ -30,7 +30,7 @@ NAMES = {
     316: "renameat2", 318: "getrandom", 332: "statx", 334: "rseq", 60: "exit", 302: "prlimit64", 131: "sigaltstack", 13: "rt_sigaction",
     14: "rt_sigprocmask", 21: "access", 39: "getpid", 158: "arch_prctl", 218: "set_tid_address", 273: "set_robust_list", 439: "faccessat2",
 }  # fmt: skip
-# Those whose first arguments are a folder and a path from there, a path, and an open file.
+# Calls whose first arguments are a directory and a path from there, a path, and an open file.
 FROM_FOLDER = {"openat", "mkdirat", "newfstatat", "unlinkat", "statx", "fchmodat", "faccessat2"}
 ALONE = {
     "open", "stat", "lstat", "mkdir", "unlink", "rename", "chmod", "chown", "truncate", "link", "symlink", "readlink", "access", "execve",
@@ -47,23 +47,23 @@ libc.ptrace.argtypes = (ctypes.c_long, ctypes.c_long, ctypes.c_void_p, ctypes.c_
 
 @dataclass
 class Call:
-    """A call of the system. Paths are whole: what is reached by an open folder has the folder's path before it."""
+    """A call of the system. Paths are whole: what is reached by an open directory has the directory's path before it."""
 
     name: str
     # How many calls of this name came before it.
     turn: int
     arguments: tuple
-    # The path that it names, or of the file that is open under the number that it names; and the second path of a renaming or a link.
+    # The path in its arguments, or the path of the open file in them, and the second path of a rename or a link.
     path: str = ""
     other: str = ""
     # Whether the path is that of an open file.
     by_number: bool = False
-    # The inode of the open file that it is about, and at which offset a writing begins.
+    # The inode of the open file in its arguments, and the offset at which it writes.
     inode: int = 0
     offset: int = 0
     data: bytes = b""
     result: int = None
-    # Whether something was done to it.
+    # Whether the call was changed.
     is_changed: bool = False
 
     def __str__(self):
@@ -72,7 +72,7 @@ class Call:
 
 @dataclass
 class Run:
-    """What a run came to. The status of one that a signal has ended is 128 and the signal."""
+    """The result of a run. If a signal has ended it, the status is 128 plus the signal."""
 
     status: int = None
     said: bytes = b""
@@ -80,7 +80,7 @@ class Run:
 
 
 class Fails:
-    """The call isn't made, and fails so."""
+    """The call isn't made, and fails with this error."""
 
     def __init__(self, number):
         self.number = number
@@ -90,7 +90,7 @@ class Fails:
 
 
 class Writes:
-    """The call writes at most so many bytes."""
+    """The call writes at most this many bytes."""
 
     def __init__(self, count):
         self.count = count
@@ -100,7 +100,7 @@ class Writes:
 
 
 class Seems:
-    """The call isn't made, and seems to be done."""
+    """The call isn't made, and seems to succeed."""
 
     def __str__(self):
         return "is left out"
@@ -122,11 +122,11 @@ def ptrace(request, pid, address=None, data=None):
 
 
 class Traced:
-    """One run of a program in a folder, with its standard output in a file."""
+    """One run of a program in a directory, with its standard output in a file."""
 
     def __init__(self, words, folder, output, act=None):
         self.words, self.folder, self.output = words, folder, output
-        # Says before each call what is done to it: None if nothing is.
+        # Decides before each call how it is changed, or None.
         self.act = act or (lambda call: None)
         self.turns = {}
 
@@ -165,7 +165,7 @@ class Traced:
             pass
 
     def wait(self):
-        """The signal at which the program stands, or None with its status if it has ended."""
+        """The signal at which the program has stopped, or None with its status if it has ended."""
         _, status = os.waitpid(self.pid, 0)
         if os.WIFSTOPPED(status):
             return os.WSTOPSIG(status), None
@@ -230,7 +230,7 @@ class Traced:
             self.note_done(call)
 
     def note_done(self, call):
-        """What is known only behind the call: which file was opened, how much was written."""
+        """What is known only after the call: which file was opened, how much was written."""
         if call.name in ("open", "openat"):
             call.inode = self.inode_of(call.result)
         elif call.name in ("write", "pwrite64"):
@@ -264,7 +264,7 @@ class Traced:
         return call
 
     def whole(self, folder, path):
-        """A path from a folder's number, with the paths of open folders in the place of their numbers."""
+        """A path from a directory's number, with the paths of open directories in the place of their numbers."""
         if path.startswith("/proc/self/fd/"):
             number, _, rest = path.removeprefix("/proc/self/fd/").partition("/")
             return os.path.normpath(f"{self.path_of(int(number))}/{rest}") if rest else f"{path}"

@@ -1,18 +1,18 @@
-"""What a crash of the machine may leave of a folder, for `scripts/crash`: a record of the calls that a program made there, of whose
-changes those that weren't flushed are kept or lost.
+"""What a crash of the machine may leave of a directory, for `scripts/crash`. It is derived from a record of the calls that a program made
+there: changes that weren't flushed are kept or lost.
 
-A file's bytes are flushed by a sync of the file, the names in a folder by one of the folder. Of what isn't flushed, each name made,
-renamed or removed is there or not, whatever the others are, and a file has the bytes that were flushed, all bytes, half of them, or
-zeros in their place. A renaming is whole. That is less than what file systems with a journal give.
+An fsync of a file flushes its bytes, and an fsync of a directory flushes the names in it. Each unflushed creation, rename or removal of a
+name is kept or lost, independently of the others. A file with unflushed bytes has the flushed bytes only, all bytes, half of the unflushed
+bytes, or zeros in their place. A rename is atomic. File systems with a journal guarantee more.
 """
 
 import itertools
 import os
 from dataclasses import dataclass, field
 
-# So many names may be changed in folders that weren't flushed: twice as many states for each.
+# The largest number of unflushed changes of names: each doubles the number of states.
 MOST_OPEN = 12
-# These change nothing that is recorded, if they are made below the folder: modes and owners aren't.
+# Calls below the directory that change nothing that is recorded: modes and owners aren't.
 LOOKS = {
     "read", "close", "stat", "fstat", "lstat", "lseek", "pread64", "flock", "fchmod", "fchown", "chmod", "getdents64", "newfstatat",
     "statx", "access", "faccessat2", "readlink", "fchmodat", "mmap",
@@ -27,7 +27,7 @@ class Unknown(Exception):
 @dataclass(eq=False)
 class File:
     flushed: bytes = b""
-    # What was written since: offsets and bytes, or a length alone.
+    # Writes after the last flush: offsets and bytes, or a length alone.
     written: list = field(default_factory=list)
 
     def content(self):
@@ -56,7 +56,7 @@ class Folder:
 
 @dataclass(eq=False)
 class Change:
-    """A change of names: those that go, and those that come with what has them. Each is a folder and a name."""
+    """A change of names: the names that are removed, and those that are added with their files. Each is a directory and a name."""
 
     gone: tuple
     come: tuple
@@ -73,17 +73,17 @@ class Change:
 
 
 class Record:
-    """The folder as its calls have changed it so far."""
+    """The directory as its calls have changed it so far."""
 
     def __init__(self, root):
         self.root_path = os.path.realpath(root)
-        # What has which inode.
+        # Files and directories by their inodes.
         self.nodes = {}
         self.changes = []
         self.root = self.taken_in(self.root_path)
 
     def taken_in(self, path):
-        """What stands there before the first call, which is flushed."""
+        """What is there before the first call, which is flushed."""
         if os.path.isdir(path):
             node = Folder()
             for name in os.listdir(path):
@@ -99,7 +99,7 @@ class Record:
         return path == self.root_path or path.startswith(self.root_path + "/")
 
     def place(self, path):
-        """The folder of a path, and its name there."""
+        """The directory of a path, and its name there."""
         *folders, name = path.removeprefix(self.root_path).strip("/").split("/")
         node = self.root
         for part in folders:
@@ -171,7 +171,7 @@ class Record:
         self.change(self.place(call.path), (), None)
 
     def left(self):
-        """What a crash may leave: each a set of paths with their contents, None for a folder."""
+        """What a crash may leave: each a set of paths with their contents, None for a directory."""
         if len(self.changes) > MOST_OPEN:
             raise Unknown(f"{len(self.changes)} changes of names that aren't flushed")
         states = set()

@@ -1,0 +1,15 @@
+# fish completion for ldconfig-image
+complete -c ldconfig-image -f
+complete -c ldconfig-image -n __fish_use_subcommand -a update -d 'Plan links and write the cache'
+complete -c ldconfig-image -n __fish_use_subcommand -a batch -d 'Take edits and updates from the input'
+complete -c ldconfig-image -n __fish_use_subcommand -a sample -d 'Update synthetic images in memory'
+complete -c ldconfig-image -n __fish_use_subcommand -a print -d 'Print the cache'
+complete -c ldconfig-image -n __fish_use_subcommand -s p -d 'Print the cache'
+complete -c ldconfig-image -n __fish_use_subcommand -a lookup -d 'Print the path that the loader takes for a name'
+complete -c ldconfig-image -n __fish_use_subcommand -a resolve -d 'List the libraries that a program loads'
+complete -c ldconfig-image -n '__fish_seen_subcommand_from update batch' -l tag -x -d 'Number in the names of temporary files'
+complete -c ldconfig-image -n '__fish_seen_subcommand_from lookup' -l abi -x -a 'i386 x86-64 x32 aarch64' -d 'ABI of the program'
+complete -c ldconfig-image -n '__fish_seen_subcommand_from lookup resolve' -l caps -x -d 'Hwcaps names between colons'
+complete -c ldconfig-image -n '__fish_seen_subcommand_from resolve' -l library-path -x -d 'Directories between colons'
+complete -c ldconfig-image -n '__fish_seen_subcommand_from resolve' -l platform -x -d 'Value of $PLATFORM'
+complete -c ldconfig-image -n '__fish_seen_subcommand_from resolve' -l secure -d 'As in secure execution'

@@ -1,0 +1,10 @@
+# fish completion for update-image
+complete -c update-image -f -a '(__fish_complete_directories)'
+complete -c update-image -l dry-run -d 'Change nothing, and write what would change'
+complete -c update-image -l manifest -r -F -d 'Read the tree from a manifest, and add lines to it'
+complete -c update-image -l exclude -x -d 'Leave out what the shell pattern matches'
+complete -c update-image -l one-file-system -d 'List directories of other file systems without content'
+complete -c update-image -l links-only -d 'Make the links and not the cache'
+complete -c update-image -l cache-only -d 'Make the cache and not the links'
+complete -c update-image -l verbose -d 'Write each search directory and each change'
+complete -c update-image -l help -d 'Show the help text'

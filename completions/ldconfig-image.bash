@@ -1,0 +1,32 @@
+# bash completion for ldconfig-image, image-manifest, update-image and check-image
+_ldconfig_image() {
+    local command=${1##*/} current=$2 previous=$3 words=
+    COMPREPLY=()
+    case $command:$previous in
+    ldconfig-image:--abi) words='i386 x86-64 x32 aarch64' ;;
+    ldconfig-image:--caps) words='x86-64-v2 x86-64-v3 x86-64-v4' ;;
+    *:--manifest | *:-o) compopt -o filenames; mapfile -t COMPREPLY < <(compgen -f -- "$current"); return ;;
+    *:--exclude | *:--tag | *:--platform | *:--library-path) return ;;
+    esac
+    if [ -z "$words" ]; then
+        case $command:$current in
+        ldconfig-image:*)
+            if [ "$COMP_CWORD" = 1 ]; then
+                words='update batch sample print -p lookup resolve'
+            else
+                case ${COMP_WORDS[1]} in
+                update | batch) words='--tag' ;;
+                lookup) words='--abi --caps' ;;
+                resolve) words='--caps --library-path --platform --secure' ;;
+                esac
+            fi
+            ;;
+        image-manifest:-*) words='-o --identities --exclude --one-file-system --no-one-file-system --help' ;;
+        update-image:-*) words='--dry-run --manifest --exclude --one-file-system --links-only --cache-only --verbose --help' ;;
+        check-image:-*) words='--manifest --exclude --one-file-system --help' ;;
+        *) compopt -o filenames; mapfile -t COMPREPLY < <(compgen -d -- "$current"); return ;;
+        esac
+    fi
+    mapfile -t COMPREPLY < <(compgen -W "$words" -- "$current")
+}
+complete -F _ldconfig_image ldconfig-image image-manifest update-image check-image
