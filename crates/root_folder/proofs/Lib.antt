@@ -1,0 +1,6 @@
+pub mod Crash
+pub mod Dirs
+pub mod Moments
+pub mod Put
+pub mod Walk
+pub mod Whole

@@ -1,0 +1,6 @@
+-- Which calls of a directory in memory fail on demand.
+use Rattle.tree_face.specs.Failures.{Plan}
+use Rattle.root_folder.specs.declared.memory.failures.Failures.{Failures}
+
+abbrev pub plan_of : Failures → Plan
+plan_of f = record { fail = f.fail.items; next = f.calls; left = f.stop }

@@ -1,0 +1,8 @@
+pub mod Crash
+pub mod Failures
+pub mod Folder
+pub mod Found
+pub mod MemFolder
+pub mod Past
+pub mod PastLaws
+pub mod Whole
