@@ -178,7 +178,7 @@ fn is_old_or_new(
         || (failing >= publishing && has(alloc, disk, slot, Some(new)))
 }
 
-// Whether these are the first calls of an update, so many.
+// Whether these are the first calls of an update.
 fn are_first(
     alloc: Global,
     update: &Update<'_>,
@@ -253,7 +253,7 @@ fn is_readable(alloc: Global, devices: &mut Devices) -> bool {
     devices.disk.read(alloc, Slot::Cache).is_ok()
 }
 
-// Runs an update whose disk stops after so many calls, and goes on behind it.
+// Runs an update whose disk stops after this number of calls, and then a further update.
 fn assert_stops(
     rt: &impl Abort,
     alloc: Global,
