@@ -11,11 +11,11 @@ use Rattle.ldd_resolve.specs.declared.kinds.ResolveFault.TheVariants as resolvin
 use Rattle.elf_dynamic.specs.declared.kinds.Object.{Object}
 use Rattle.lib_types.specs.declared.analysis.Defect.{Defect}
 use Rattle.rpath_search.specs.declared.kinds.Env.{Env}
-use Rattle.loaded_image.specs.Reading.{ReadsContent, ReadsImage}
-use Rattle.loaded_image.specs.declared.fault.LoadFault.{LoadFault}
-use Rattle.loaded_image.specs.declared.fault.SlotFault.{SlotFault}
-use Rattle.loaded_image.specs.declared.reading.ReadImage.{ReadImage}
-use Rattle.loaded_image.specs.declared.reading.TreeSource.TheVariants as sources
+use Rattle.image_session.specs.Reading.{ReadsContent, ReadsImage}
+use Rattle.image_session.specs.declared.fault.LoadFault.{LoadFault}
+use Rattle.image_session.specs.declared.fault.SlotFault.{SlotFault}
+use Rattle.image_session.specs.declared.reading.ReadImage.{ReadImage}
+use Rattle.image_session.specs.declared.reading.TreeSource.TheVariants as sources
 use Rattle.tree_face.proofs.StoreUse.{reads_all}
 use Rattle.tree_face.specs.declared.disk.Slot.TheVariants as slots
 use Rattle.tree_face.specs.Disk.{Content}

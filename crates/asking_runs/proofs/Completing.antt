@@ -15,14 +15,14 @@ use Rattle.ldd_resolve.specs.Resolving.{BeginsBy, BeginsFor, IfBadProgram, IsBad
 use Rattle.ldd_resolve.specs.declared.kinds.Item.{Item}
 use Rattle.ldd_resolve.specs.declared.kinds.ResolveFault.{ResolveFault}
 use Rattle.ldd_resolve.specs.declared.kinds.ResolveFault.TheVariants as resolving
-use Rattle.loaded_image.specs.Manifest.{HasTree, Manifest, Empty, Faulty, manifest_of}
-use Rattle.loaded_image.specs.Reading.{ReadsContent, ReadsImage}
-use Rattle.loaded_image.specs.declared.fault.LoadFault.{LoadFault}
-use Rattle.loaded_image.specs.declared.fault.LoadFault.TheVariants as loading
-use Rattle.loaded_image.specs.declared.fault.SlotFault.{SlotFault}
-use Rattle.loaded_image.specs.declared.fault.SlotFault.TheVariants as slot_faults
-use Rattle.loaded_image.specs.declared.reading.ReadImage.{ReadImage}
-use Rattle.loaded_image.specs.declared.reading.TreeSource.TheVariants as sources
+use Rattle.image_session.specs.Manifest.{HasTree, Manifest, Empty, Faulty, manifest_of}
+use Rattle.image_session.specs.Reading.{ReadsContent, ReadsImage}
+use Rattle.image_session.specs.declared.fault.LoadFault.{LoadFault}
+use Rattle.image_session.specs.declared.fault.LoadFault.TheVariants as loading
+use Rattle.image_session.specs.declared.fault.SlotFault.{SlotFault}
+use Rattle.image_session.specs.declared.fault.SlotFault.TheVariants as slot_faults
+use Rattle.image_session.specs.declared.reading.ReadImage.{ReadImage}
+use Rattle.image_session.specs.declared.reading.TreeSource.TheVariants as sources
 use Rattle.tree_face.specs.declared.disk.Slot.TheVariants as slots
 use Rattle.tree_face.specs.Disk.{Content, DiskContent}
 use Rattle.tree_face.specs.Known.{IfKnown}

@@ -7,8 +7,8 @@ use Rattle.tree_face.specs.Disk.{Content}
 use Rattle.tree_face.specs.Known.{IfKnown}
 use Rattle.command_status.specs.Ending.{AnswerText, EndsAs}
 use Rattle.command_status.specs.declared.status.Status.{Status}
-use Rattle.loaded_image.specs.Reading.{ReadsContent}
-use Rattle.loaded_image.specs.declared.fault.SlotFault.{SlotFault}
+use Rattle.image_session.specs.Reading.{ReadsContent}
+use Rattle.image_session.specs.declared.fault.SlotFault.{SlotFault}
 use Rattle.asking_runs.specs.Cache.{cache_in}
 use Rattle.asking_runs.specs.Complete.{Completes}
 use Rattle.asking_runs.specs.Faults.{of_cache}

@@ -4,7 +4,7 @@ use Rattle.std.specs.Ordering.{is_lt}
 use Rattle.cache_reader.specs.Cache.{CachedEntry, defect, read}
 use Rattle.cache_reader.specs.declared.defect.CacheDefect.{CacheDefect}
 use Rattle.cache_reader.specs.declared.defect.CacheDefect.TheVariants.{Unsorted}
-use Rattle.loaded_image.specs.declared.fault.SlotFault.{SlotFault}
+use Rattle.image_session.specs.declared.fault.SlotFault.{SlotFault}
 use Rattle.name_order.specs.Order.{token_order}
 use Rattle.tree_face.specs.Disk.{Content}
 use Rattle.asking_runs.specs.Faults.{of_slot}

@@ -4,8 +4,8 @@ use Rattle.command_status.specs.Status.{of_load, of_resolve}
 use Rattle.command_status.specs.Usage.{load_no_usage, resolve_no_usage}
 use Rattle.command_status.specs.declared.status.Status.{Status}
 use Rattle.command_status.specs.declared.status.Status.TheVariants as statuses
-use Rattle.loaded_image.specs.declared.fault.SlotFault.{SlotFault}
-use Rattle.loaded_image.specs.declared.fault.SlotFault.TheVariants as slot_faults
+use Rattle.image_session.specs.declared.fault.SlotFault.{SlotFault}
+use Rattle.image_session.specs.declared.fault.SlotFault.TheVariants as slot_faults
 use Rattle.asking_runs.specs.declared.fault.CacheFault.{CacheFault}
 use Rattle.asking_runs.specs.declared.fault.CacheFault.TheVariants as caches
 use Rattle.asking_runs.specs.declared.fault.ListFault.{ListFault}

@@ -18,11 +18,11 @@ use Rattle.tree_face.specs.Disk.{Content, Slots}
 use Rattle.tree_face.specs.Known.{IfKnown}
 use Rattle.tree_face.specs.Store.{Contents, StoreState}
 use Rattle.image_tree.specs.Tree.{Nodes}
-use Rattle.loaded_image.specs.Manifest.{HasTree, manifest_of}
-use Rattle.loaded_image.specs.Reading.{ReadsImage}
-use Rattle.loaded_image.specs.declared.fault.LoadFault.{LoadFault}
-use Rattle.loaded_image.specs.declared.reading.ReadImage.{ReadImage}
-use Rattle.loaded_image.specs.declared.reading.TreeSource.TheVariants as sources
+use Rattle.image_session.specs.Manifest.{HasTree, manifest_of}
+use Rattle.image_session.specs.Reading.{ReadsImage}
+use Rattle.image_session.specs.declared.fault.LoadFault.{LoadFault}
+use Rattle.image_session.specs.declared.reading.ReadImage.{ReadImage}
+use Rattle.image_session.specs.declared.reading.TreeSource.TheVariants as sources
 use Rattle.command_status.specs.Ending.{AnswerText, EndsAs}
 use Rattle.command_status.specs.declared.status.Status.{Status}
 use Rattle.command_status.specs.declared.status.Status.TheVariants.{Done, Missing, NoMemory}

@@ -8,7 +8,7 @@ use crate::fault::CacheFault;
 use cache_lookup::{Sorted, sorted};
 use cache_reader::{CacheDefect, CacheView};
 use lib_types::Text;
-use loaded_image::SlotFault;
+use image_session::SlotFault;
 
 /// The bytes of the cache, by what was read of its slot.
 pub(crate) fn cache_in(read: &Result<Option<Text>, SlotFault>) -> Result<&[u8], CacheFault>

@@ -9,7 +9,7 @@ use cache_reader::CacheDefect;
 use command_status::{Fault, Status};
 use ldd_resolve::ResolveFault;
 use lib_types::NoMemory;
-use loaded_image::{LoadFault, SlotFault};
+use image_session::{LoadFault, SlotFault};
 
 /// Why the cache isn't asked.
 #[derive(Clone, Copy, Debug, PartialEq, Eq)]

@@ -15,7 +15,7 @@ use cache_lookup::{Counted, Sorted};
 use command_status::{Answer, Status, end};
 use commands::Lookup;
 use lib_types::{Failed, Text};
-use loaded_image::{SlotFault, read_slot};
+use image_session::{SlotFault, read_slot};
 use std::alloc::Global;
 use tree_face::{Disk, Sink, Slot, put_all};
 

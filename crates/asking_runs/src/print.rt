@@ -12,7 +12,7 @@ use crate::fault::CacheFault;
 use cache_reader::CacheView;
 use command_status::{Answer, Status, end};
 use lib_types::{Failed, Text};
-use loaded_image::{SlotFault, read_slot};
+use image_session::{SlotFault, read_slot};
 use std::alloc::Global;
 use tree_face::{Disk, Sink, Slot};
 

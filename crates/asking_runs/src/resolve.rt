@@ -12,7 +12,7 @@ use command_status::{Answer, Status, end};
 use commands::Resolve;
 use ldd_resolve::{Listing, listing_text};
 use lib_types::{Abi, Failed, Text};
-use loaded_image::{LoadFault, ReadImage, TreeSource, read_image};
+use image_session::{LoadFault, ReadImage, TreeSource, read_image};
 use rpath_search::Env;
 use std::alloc::Global;
 use tree_face::{Disk, Sink, Store, Tree, put_all};

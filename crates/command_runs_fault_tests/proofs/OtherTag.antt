@@ -3,8 +3,8 @@ use Rattle.std.proofs.Common.{◌≡◌, [], Result, Ok, Err, refl, ap, ◌∙�
 use Rattle.devices.specs.Devices.{DeviceStates}
 use Rattle.tree_face.specs.declared.disk.Slot.{Slot}
 use Rattle.tree_face.specs.declared.disk.Tag.{Tag}
-use Rattle.loaded_image.specs.declared.fault.LoadFault.{LoadFault}
-use Rattle.loaded_image.specs.Session.{Loaded}
+use Rattle.image_session.specs.declared.fault.LoadFault.{LoadFault}
+use Rattle.image_session.specs.Session.{Loaded}
 use Rattle.command_status.specs.declared.status.Status.{Status}
 use Rattle.update_runs.specs.Update.{States}
 use Rattle.script_runs.specs.declared.fault.LineFault.{LineFault}

@@ -1,7 +1,7 @@
 -- No fault of a part is that of arguments which are those of no command.
 use Rattle.std.specs.Prelude.{◌≡◌}
-use Rattle.loaded_image.specs.declared.fault.LoadFault.{LoadFault}
-use Rattle.loaded_image.specs.declared.fault.LoadFault.TheVariants as loading
+use Rattle.image_session.specs.declared.fault.LoadFault.{LoadFault}
+use Rattle.image_session.specs.declared.fault.LoadFault.TheVariants as loading
 use Rattle.ldd_resolve.specs.declared.kinds.ResolveFault.{ResolveFault}
 use Rattle.ldd_resolve.specs.declared.kinds.ResolveFault.TheVariants as resolving
 use Rattle.command_status.specs.Status.{of_load, of_resolve}

@@ -8,7 +8,7 @@ use crate::output::put_fault_line;
 use crate::status::Status;
 use ldd_resolve::ResolveFault;
 use lib_types::Failed;
-use loaded_image::LoadFault;
+use image_session::LoadFault;
 use tree_face::Sink;
 
 /// What a command answers that only asks. It may be written in pieces.

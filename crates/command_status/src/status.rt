@@ -12,7 +12,7 @@ use cache_reader::CacheDefect;
 use ldconfig_core::UpdateFault;
 use ldd_resolve::ResolveFault;
 use lib_types::Defect;
-use loaded_image::LoadFault;
+use image_session::LoadFault;
 use mtree_manifest::{LineKind, ManifestFault};
 
 /// Why a line of a script isn't taken.

@@ -1,6 +1,6 @@
 -- What holds of updates, whichever command is run.
 use Rattle.ldconfig_core.proofs.OneText.{one_update, one_written, some_texts}
-use Rattle.searched_image.proofs.Honest.{said_law, stamps_true}
+use Rattle.library_search.proofs.Honest.{said_law, stamps_true}
 use Rattle.ldconfig_cli.specs.Laws.{UpdateLaws}
 
 pub laws : UpdateLaws

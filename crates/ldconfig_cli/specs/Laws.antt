@@ -2,11 +2,11 @@
 use Rattle.std.specs.Prelude.{◌≡◌}
 use Rattle.image_tree.specs.Tree.{Nodes}
 use Rattle.ldconfig_core.specs.Texts.{AreAlike, AreTextsOf, UpdateTexts}
-use Rattle.loaded_image.specs.Session.{Loaded}
+use Rattle.image_session.specs.Session.{Loaded}
 use Rattle.script_runs.specs.Course.{IsHonest}
-use Rattle.searched_image.specs.Laws.{IsSaidRight}
-use Rattle.searched_image.specs.Ldconfig.{stamps_in}
-use Rattle.stamped_files.specs.Stamped.{AreSame, AreTrue}
+use Rattle.library_search.specs.Laws.{IsSaidRight}
+use Rattle.library_search.specs.Ldconfig.{stamps_in}
+use Rattle.file_stamps.specs.Stamped.{AreSame, AreTrue}
 use Rattle.tree_face.specs.Store.{Contents}
 
 pub record UpdateLaws : Type 0 where

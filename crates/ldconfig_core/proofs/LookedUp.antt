@@ -14,11 +14,11 @@ use Rattle.std.specs.Str.{bytes_eq}
 use Rattle.std.specs.declared.cmp.Ordering.{Ordering}
 use Rattle.std.specs.declared.cmp.Ordering.TheVariants.{Less, Equal, Greater}
 use Rattle.aux_cache.specs.declared.stamps.Stamp.{Stamp}
-use Rattle.winning_entries.proofs.Led.{walk_by, walk_same}
-use Rattle.winning_entries.proofs.OneEach.{turned}
-use Rattle.winning_entries.specs.Entries.{AreEntriesOf, entry_order}
-use Rattle.winning_entries.specs.Led.{is_entry_of, path_among}
-use Rattle.winning_entries.specs.Walk.{first_value, in_turn, is_same_abi, is_same_cap}
+use Rattle.cache_entries.proofs.Led.{walk_by, walk_same}
+use Rattle.cache_entries.proofs.OneEach.{turned}
+use Rattle.cache_entries.specs.Entries.{AreEntriesOf, entry_order}
+use Rattle.cache_entries.specs.Led.{is_entry_of, path_among}
+use Rattle.cache_entries.specs.Walk.{first_value, in_turn, is_same_abi, is_same_cap}
 use Rattle.cache_layout.specs.Layout.{is_named, name_index}
 use Rattle.cache_lookup.specs.Scan.{AreDescending, chosen, first_for, is_candidate, is_for, is_plain, path_at, scan, uses}
 use Rattle.cache_reader.specs.Cache.{CachedEntry, cap_of, entry_at, hwcap, indexes, name_offsets, read, text_at}
@@ -31,7 +31,7 @@ use Rattle.lib_types.specs.declared.entry.Entry.{Entry}
 use Rattle.name_order.specs.Order.{token_order}
 use Rattle.tree_face.specs.Store.{Contents}
 use Rattle.image_tree.specs.Tree.{Nodes}
-use Rattle.searched_image.specs.Ldconfig.{entries_in, places_in, planned_in, said_files, walk_in}
+use Rattle.library_search.specs.Ldconfig.{entries_in, places_in, planned_in, said_files, walk_in}
 use Rattle.ldconfig_core.specs.Lookup.{FindsAsSearched}
 
 -- ---- the index of an item, and the item

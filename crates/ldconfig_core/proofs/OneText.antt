@@ -3,9 +3,9 @@ use Rattle.std.proofs.Common.{◌≡◌, ℕ, Bool, nat_lt, List, [], ◌∷◌,
 use Rattle.aux_cache.specs.AuxText.{aux_text}
 use Rattle.aux_cache.specs.declared.stamps.Stamp.{Stamp}
 use Rattle.image_tree.specs.Tree.{Nodes}
-use Rattle.winning_entries.proofs.InOneOrder.{one_list_is}
-use Rattle.winning_entries.proofs.Single.{one_list}
-use Rattle.winning_entries.specs.Entries.{AreEntriesOf}
+use Rattle.cache_entries.proofs.InOneOrder.{one_list_is}
+use Rattle.cache_entries.proofs.Single.{one_list}
+use Rattle.cache_entries.specs.Entries.{AreEntriesOf}
 use Rattle.cache_writer.specs.CacheText.{cache_text}
 use Rattle.cache_writer.specs.declared.writer.TheConstants.{ENTRIES_MAX}
 use Rattle.elf_dynamic.specs.Begun.{lacks_one}
@@ -14,16 +14,16 @@ use Rattle.ldso_conf.specs.Reading.{conf_lacks}
 use Rattle.soname_links.specs.Apply.{nodes_with}
 use Rattle.soname_links.specs.declared.kinds.Planned.{Planned}
 use Rattle.soname_links.specs.Plan.{with_links}
-use Rattle.stamped_files.specs.Stamped.{AreSame, AreTrue}
+use Rattle.file_stamps.specs.Stamped.{AreSame, AreTrue}
 use Rattle.lib_types.specs.declared.entry.Entry.{Entry}
 use Rattle.tree_face.specs.Store.{Contents}
 use Rattle.update_report.specs.Report.{report_text}
-use Rattle.searched_image.proofs.Honest.{said_law}
-use Rattle.searched_image.specs.Begun.{behind_keys, wanted_keys}
-use Rattle.searched_image.specs.Laws.{IsSaidRight}
-use Rattle.searched_image.specs.Ldconfig.{entries_in, links_in, places_in, planned_in, said_files, stamps_in}
+use Rattle.library_search.proofs.Honest.{said_law}
+use Rattle.library_search.specs.Begun.{behind_keys, wanted_keys}
+use Rattle.library_search.specs.Laws.{IsSaidRight}
+use Rattle.library_search.specs.Ldconfig.{entries_in, links_in, places_in, planned_in, said_files, stamps_in}
 use Rattle.ldconfig_core.specs.Outcome.{Lacking, Outcome, Refusal, TooLarge, TooMany, first_refusal, is_too_long, manifest_with, new_manifest, size_of, update_outcome}
-use Rattle.loaded_image.specs.Session.{Loaded}
+use Rattle.image_session.specs.Session.{Loaded}
 use Rattle.ldconfig_core.specs.Settled.{AreCachesAgain, AreSettled}
 use Rattle.ldconfig_core.specs.Texts.{AreAlike, AreTextsOf, UpdateTexts, said_with}
 

@@ -5,10 +5,10 @@ use Rattle.elf_dynamic.specs.Begun.{lacks_one}
 use Rattle.ldso_conf.specs.Reading.{conf_lacks}
 use Rattle.soname_links.specs.Apply.{nodes_with}
 use Rattle.tree_face.specs.Store.{Contents}
-use Rattle.searched_image.specs.Begun.{behind_keys, has_too_many_nodes, lacks_file, lacks_wanted, wanted_keys}
-use Rattle.searched_image.specs.Ldconfig.{entries_in, links_in, planned_in}
+use Rattle.library_search.specs.Begun.{behind_keys, has_too_many_nodes, lacks_file, lacks_wanted, wanted_keys}
+use Rattle.library_search.specs.Ldconfig.{entries_in, links_in, planned_in}
 use Rattle.ldconfig_core.specs.Outcome.{Outcome, Lacking, TooLarge, TooMany, Writes, is_too_long, new_manifest, size_of, update_outcome}
-use Rattle.loaded_image.specs.Session.{Loaded}
+use Rattle.image_session.specs.Session.{Loaded}
 
 both_false : (a b : Bool) → (a || b) ≡ false → (a ≡ false) × (b ≡ false)
 both_false true b h = absurd (cc)

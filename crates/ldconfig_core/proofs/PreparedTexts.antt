@@ -2,7 +2,7 @@
 use Rattle.std.proofs.Common.{◌≡◌, ◌⊎◌, inl, inr, ◌≤◌, ◌<◌, ◌+◌, ℕ, true, false, nat_lt, List, length, Option, Some, None, Err, refl, ap, sym, subst, ◌∙◌, arith}
 use Rattle.std.proofs.lemmas.List.Sorted.{length_permutation}
 use Rattle.aux_cache.specs.AuxText.{aux_text}
-use Rattle.winning_entries.specs.Entries.{AreEntriesOf}
+use Rattle.cache_entries.specs.Entries.{AreEntriesOf}
 use Rattle.cache_writer.specs.declared.writer.TheConstants.{ENTRIES_MAX}
 use Rattle.lib_types.specs.declared.entry.Entry.{Entry}
 use Rattle.tree_face.proofs.StoreUse.{reads_all}
@@ -13,24 +13,24 @@ use Rattle.image_tree.specs.Tree.{Nodes, IsTree}
 use Rattle.update_report.specs.Report.{report_text}
 use Rattle.ldconfig_core.proofs.LookedUp.{names_descend, searched}
 use Rattle.ldconfig_core.proofs.OutcomeRows as rows
-use Rattle.searched_image.proofs.Honest.{said_law}
-use Rattle.searched_image.proofs.Limits.{over, within}
+use Rattle.library_search.proofs.Honest.{said_law}
+use Rattle.library_search.proofs.Limits.{over, within}
 use Rattle.ldconfig_core.specs.declared.fault.UpdateFault.{UpdateFault}
 use Rattle.ldconfig_core.specs.declared.fault.UpdateFault.TheVariants as faults
-use Rattle.searched_image.specs.Begun.{lacks_file, opened_in, update_bytes, update_keys}
-use Rattle.searched_image.specs.Faults.{find_ending}
-use Rattle.searched_image.specs.Found.{HasTooManyNodes, IsFound, ReadsFinding}
-use Rattle.searched_image.specs.Laws.{IsSaidRight}
+use Rattle.library_search.specs.Begun.{lacks_file, opened_in, update_bytes, update_keys}
+use Rattle.library_search.specs.Faults.{find_ending}
+use Rattle.library_search.specs.Found.{HasTooManyNodes, IsFound, ReadsFinding}
+use Rattle.library_search.specs.Laws.{IsSaidRight}
 use Rattle.ldso_conf.specs.Reading.{conf_keys}
-use Rattle.searched_image.specs.declared.fault.FindFault.{FindFault}
-use Rattle.searched_image.specs.declared.fault.FindFault.TheVariants as finding
-use Rattle.searched_image.specs.declared.finding.Found.{Found}
+use Rattle.library_search.specs.declared.fault.FindFault.{FindFault}
+use Rattle.library_search.specs.declared.fault.FindFault.TheVariants as finding
+use Rattle.library_search.specs.declared.finding.Found.{Found}
 use Rattle.ldconfig_core.specs.declared.prepare.Prepared.{Prepared}
 use Rattle.ldconfig_core.specs.Faults.{is_of_making, of_finding}
-use Rattle.searched_image.specs.Ldconfig.{conf_in, entries_in, places_in, planned_in, said_wanted, stamps_in}
-use Rattle.loaded_image.specs.Aux.{stamps_of_slot}
-use Rattle.loaded_image.specs.Session.{Loaded}
-use Rattle.settled_links.specs.Search.{IsSearchedAlike}
+use Rattle.library_search.specs.Ldconfig.{conf_in, entries_in, places_in, planned_in, said_wanted, stamps_in}
+use Rattle.image_session.specs.Aux.{stamps_of_slot}
+use Rattle.image_session.specs.Session.{Loaded}
+use Rattle.planned_tree.specs.Search.{IsSearchedAlike}
 use Rattle.soname_links.specs.Settled.{IsSettled}
 use Rattle.ldconfig_core.proofs.SettledImage.{are_settled}
 use Rattle.ldconfig_core.specs.Lookup.{FindsAsSearched}

@@ -4,10 +4,10 @@ use Rattle.std.specs.List.{filter_map, list_any}
 use Rattle.std.specs.Str.{bytes_eq}
 use Rattle.aux_cache.specs.AuxText.{aux_text}
 use Rattle.aux_cache.specs.declared.stamps.Stamp.{Stamp}
-use Rattle.winning_entries.specs.Entries.{AreEntriesOf, found}
+use Rattle.cache_entries.specs.Entries.{AreEntriesOf, found}
 use Rattle.cache_writer.specs.CacheText.{cache_text}
 use Rattle.cache_writer.specs.declared.writer.TheConstants.{ENTRIES_MAX}
-use Rattle.stamped_files.specs.Files.{what_is}
+use Rattle.file_stamps.specs.Files.{what_is}
 use Rattle.elf_dynamic.specs.Begun.{file_keys, key_in, lacks_one}
 use Rattle.hwcap_dirs.specs.Places.{places}
 use Rattle.ldso_conf.specs.Reading.{conf_lacks, is_missing, reading, reading_of}
@@ -15,26 +15,26 @@ use Rattle.lib_types.specs.declared.entry.Entry.{Entry}
 use Rattle.found_files.specs.Analyses.{Analyses}
 use Rattle.found_files.specs.Order.{ascending}
 use Rattle.found_files.specs.Search.{reached, wanted}
-use Rattle.settled_links.proofs.Agree.{agree}
-use Rattle.settled_links.specs.Search.{IsSearchedAlike}
+use Rattle.planned_tree.proofs.Agree.{agree}
+use Rattle.planned_tree.specs.Search.{IsSearchedAlike}
 use Rattle.soname_links.specs.Apply.{nodes_with}
 use Rattle.soname_links.specs.declared.kinds.Planned.{Planned}
 use Rattle.soname_links.specs.Plan.{links, with_links}
 use Rattle.soname_links.specs.Settled.{IsSettled}
-use Rattle.stamped_files.proofs.Truth.{same_in, same_over, true_in}
-use Rattle.stamped_files.specs.Said.{stamps_said}
-use Rattle.stamped_files.specs.Stamped.{AreSame, AreTrue, content_of, id_at, stamp_by, with_stamps}
+use Rattle.file_stamps.proofs.Truth.{same_in, same_over, true_in}
+use Rattle.file_stamps.specs.Said.{stamps_said}
+use Rattle.file_stamps.specs.Stamped.{AreSame, AreTrue, content_of, id_at, stamp_by, with_stamps}
 use Rattle.image_tree.specs.declared.tree.TheConstants.{NODES_MAX}
 use Rattle.tree_face.specs.Store.{Contents}
 use Rattle.image_tree.specs.Tree.{Nodes, IsTree, node_at}
-use Rattle.searched_image.proofs.FilesAgree.{content_same, id_same, key_same, what_same}
-use Rattle.searched_image.proofs.Honest.{behind_lack, said_is, stamps_true, wanted_is, wanted_lack}
+use Rattle.library_search.proofs.FilesAgree.{content_same, id_same, key_same, what_same}
+use Rattle.library_search.proofs.Honest.{behind_lack, said_is, stamps_true, wanted_is, wanted_lack}
 use Rattle.ldconfig_core.proofs.OneText.{one_entries}
-use Rattle.searched_image.proofs.Limits.{within}
-use Rattle.searched_image.specs.Begun.{behind_keys, has_too_many_nodes, wanted_keys}
-use Rattle.searched_image.specs.Ldconfig.{behind_in, conf_in, entries_in, library_paths, links_in, places_in, planned_in, reached_in, said_files, said_wanted, stamps_in, wanted_in}
+use Rattle.library_search.proofs.Limits.{within}
+use Rattle.library_search.specs.Begun.{behind_keys, has_too_many_nodes, wanted_keys}
+use Rattle.library_search.specs.Ldconfig.{behind_in, conf_in, entries_in, library_paths, links_in, places_in, planned_in, reached_in, said_files, said_wanted, stamps_in, wanted_in}
 use Rattle.ldconfig_core.specs.Outcome.{Lacking, TooLarge, TooMany, Writes, first_refusal, is_too_long, manifest_with, new_manifest, size_of, update_outcome}
-use Rattle.loaded_image.specs.Session.{Loaded}
+use Rattle.image_session.specs.Session.{Loaded}
 use Rattle.ldconfig_core.specs.Settled.{AreCachesAgain, AreSettled}
 use Rattle.ldconfig_core.specs.Stages.{stored_image}
 use Rattle.ldconfig_core.specs.Texts.{AreTextsOf, UpdateTexts}

@@ -5,9 +5,9 @@ use Rattle.atomic_replace.specs.Replace.{Write}
 use Rattle.tree_face.specs.declared.disk.Slot.TheVariants.{Manifest, Cache, Aux}
 use Rattle.tree_face.specs.Disk.{Content, DiskContent, Slots}
 use Rattle.image_tree.specs.Tree.{Nodes}
-use Rattle.loaded_image.specs.Manifest as manifests
-use Rattle.loaded_image.specs.Manifest.{Empty, Faulty, HasTree, manifest_of}
-use Rattle.loaded_image.specs.Session.{Loaded, image_with}
+use Rattle.image_session.specs.Manifest as manifests
+use Rattle.image_session.specs.Manifest.{Empty, Faulty, HasTree, manifest_of}
+use Rattle.image_session.specs.Session.{Loaded, image_with}
 use Rattle.replaced_slots.specs.Replaced.{IsOfWrites, Replaces}
 use Rattle.ldconfig_core.specs.Repair.{IsImageIn, slots_after}
 use Rattle.ldconfig_core.specs.Texts.{UpdateTexts, of_manifest, writes_of}

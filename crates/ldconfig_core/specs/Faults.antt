@@ -1,9 +1,9 @@
 -- Why an image isn't updated, by the faults of its parts.
 use Rattle.std.specs.Prelude.{Bool, true, false}
-use Rattle.searched_image.specs.declared.fault.FindFault.{FindFault}
-use Rattle.searched_image.specs.declared.fault.FindFault.TheVariants as finding
-use Rattle.winning_entries.specs.declared.fault.EntryFault.{EntryFault}
-use Rattle.winning_entries.specs.declared.fault.EntryFault.TheVariants as entering
+use Rattle.library_search.specs.declared.fault.FindFault.{FindFault}
+use Rattle.library_search.specs.declared.fault.FindFault.TheVariants as finding
+use Rattle.cache_entries.specs.declared.fault.EntryFault.{EntryFault}
+use Rattle.cache_entries.specs.declared.fault.EntryFault.TheVariants as entering
 use Rattle.ldconfig_core.specs.declared.fault.UpdateFault.{UpdateFault}
 use Rattle.ldconfig_core.specs.declared.fault.UpdateFault.TheVariants as updating
 

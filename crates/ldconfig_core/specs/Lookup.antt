@@ -6,7 +6,7 @@ use Rattle.cache_reader.specs.Cache.{read}
 use Rattle.lib_types.specs.declared.abi.Abi.{Abi}
 use Rattle.tree_face.specs.Store.{Contents}
 use Rattle.image_tree.specs.Tree.{Nodes}
-use Rattle.searched_image.specs.Ldconfig.{walk_in}
+use Rattle.library_search.specs.Ldconfig.{walk_in}
 
 -- For each name, ABI and list of hwcaps names the loader finds by the cache what the search of the directories finds: this path, or none.
 abbrev pub FindsAsSearched : Contents → Nodes → List Stamp → List ℕ → Type 0

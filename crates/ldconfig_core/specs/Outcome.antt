@@ -9,9 +9,9 @@ use Rattle.soname_links.specs.Apply.{nodes_with}
 use Rattle.soname_links.specs.declared.kinds.Planned.{Planned}
 use Rattle.tree_face.specs.Store.{Contents}
 use Rattle.image_tree.specs.Tree.{Nodes}
-use Rattle.loaded_image.specs.Session.{Loaded}
-use Rattle.searched_image.specs.Begun.{behind_keys, has_too_many_nodes, wanted_keys}
-use Rattle.searched_image.specs.Ldconfig.{entries_in, links_in, planned_in}
+use Rattle.image_session.specs.Session.{Loaded}
+use Rattle.library_search.specs.Begun.{behind_keys, has_too_many_nodes, wanted_keys}
+use Rattle.library_search.specs.Ldconfig.{entries_in, links_in, planned_in}
 
 pub data Outcome : Type 0 where
   -- the content of a conf file, or of a library file that is opened, isn't held

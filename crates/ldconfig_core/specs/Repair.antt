@@ -2,8 +2,8 @@
 use Rattle.replaced_slots.specs.Replaced.{IsOfWrites}
 use Rattle.std.specs.Prelude.{◌≡◌, ◌⊎◌, ℕ, true, List, [], ◌∷◌, Some}
 use Rattle.atomic_replace.specs.Replace.{Write}
-use Rattle.loaded_image.specs.Manifest.{HasTree, manifest_of}
-use Rattle.loaded_image.specs.Session.{Loaded, image_with}
+use Rattle.image_session.specs.Manifest.{HasTree, manifest_of}
+use Rattle.image_session.specs.Session.{Loaded, image_with}
 use Rattle.tree_face.specs.declared.disk.Slot.{Slot}
 use Rattle.tree_face.specs.Disk.{Content, DiskState, Slots, slot_of, with_slot}
 

@@ -1,10 +1,10 @@
 -- What an update leaves is settled: an update of it finds the same, plans no link and writes the same caches.
 use Rattle.std.specs.Prelude.{◌≡◌, ℕ, false, List, [], Option, Some, None, IfSome}
-use Rattle.loaded_image.specs.Manifest.{HasTree, manifest_of}
-use Rattle.loaded_image.specs.Session.{Loaded}
-use Rattle.searched_image.specs.Ldconfig.{conf_in, entries_in, links_in, places_in, planned_in, reached_in, stamps_in, wanted_in}
+use Rattle.image_session.specs.Manifest.{HasTree, manifest_of}
+use Rattle.image_session.specs.Session.{Loaded}
+use Rattle.library_search.specs.Ldconfig.{conf_in, entries_in, links_in, places_in, planned_in, reached_in, stamps_in, wanted_in}
 use Rattle.aux_cache.specs.declared.stamps.Stamp.{Stamp}
-use Rattle.stamped_files.specs.Stamped.{AreSame, AreTrue, content_of, id_at}
+use Rattle.file_stamps.specs.Stamped.{AreSame, AreTrue, content_of, id_at}
 use Rattle.tree_face.specs.Store.{Contents}
 use Rattle.ldconfig_core.specs.Outcome.{Writes, new_manifest, update_outcome}
 use Rattle.ldconfig_core.specs.Texts.{AreTextsOf, UpdateTexts}

@@ -2,8 +2,8 @@
 use Rattle.std.specs.Prelude.{◌≡◌, ◌≤◌, ◌<◌, ℕ, Bool, true, false, List, length, map, Option, Some, None, IfSome}
 use Rattle.std.specs.List.{filter_map}
 use Rattle.std.specs.Map.{keys_of}
-use Rattle.winning_entries.specs.Entries as entries
-use Rattle.winning_entries.specs.Entries.{AreEntriesOf}
+use Rattle.cache_entries.specs.Entries as entries
+use Rattle.cache_entries.specs.Entries.{AreEntriesOf}
 use Rattle.cache_reader.specs.Cache.{defect, read}
 use Rattle.cache_writer.specs.CacheText.{cache_text, hwcaps_names}
 use Rattle.cache_writer.specs.ReadBack.{as_read}
@@ -15,15 +15,15 @@ use Rattle.soname_links.specs.declared.kinds.Planned.{Planned}
 use Rattle.image_tree.specs.Tree.{Nodes}
 use Rattle.update_report.specs.Report.{Said, report_text}
 use Rattle.update_report.specs.Skips.{skip_at}
-use Rattle.searched_image.specs.declared.finding.Found.{Found}
+use Rattle.library_search.specs.declared.finding.Found.{Found}
 use Rattle.ldconfig_core.specs.declared.prepare.Prepared.{Prepared}
 use Rattle.ldconfig_core.specs.Outcome.{is_too_long, manifest_with, size_of}
-use Rattle.loaded_image.specs.Session.{Loaded}
-use Rattle.loaded_image.specs.Aux.{stamps_of_slot}
+use Rattle.image_session.specs.Session.{Loaded}
+use Rattle.image_session.specs.Aux.{stamps_of_slot}
 use Rattle.aux_cache.specs.AuxFile.{damage}
 use Rattle.aux_cache.specs.AuxText.{aux_text}
 use Rattle.aux_cache.specs.declared.stamps.Stamp.{Stamp}
-use Rattle.loaded_image.specs.Manifest.{HasTree, manifest_of}
+use Rattle.image_session.specs.Manifest.{HasTree, manifest_of}
 use Rattle.ldconfig_core.specs.Texts.{UpdateTexts, manifest_bytes}
 
 -- an image of this tree and these stamps, of which all is stored

@@ -3,7 +3,7 @@ use Rattle.std.specs.Prelude.{◌≡◌, ℕ, List, [], ◌∷◌, ◌++◌, map
 use Rattle.std.specs.declared.alloc.Global.{Global}
 use Rattle.std.specs.List.{filter_map}
 use Rattle.atomic_replace.specs.Replace.{Write}
-use Rattle.winning_entries.specs.Entries.{AreEntriesOf}
+use Rattle.cache_entries.specs.Entries.{AreEntriesOf}
 use Rattle.cache_lookup.specs.Scan.{AreDescending}
 use Rattle.cache_reader.specs.Cache.{defect, read}
 use Rattle.cache_writer.specs.CacheText.{cache_text, hwcaps_names}
@@ -17,11 +17,11 @@ use Rattle.tree_face.specs.declared.disk.Slot.TheVariants.{Manifest, Cache, Aux}
 use Rattle.tree_face.specs.Store.{Contents}
 use Rattle.update_report.specs.Report.{Said, report_text}
 use Rattle.update_report.specs.Skips.{skip_at}
-use Rattle.searched_image.specs.Begun.{opened_in}
-use Rattle.searched_image.specs.Ldconfig.{conf_in, entries_in, library_files, links_in, places_in, planned_in, said_files, said_wanted, stamps_in}
+use Rattle.library_search.specs.Begun.{opened_in}
+use Rattle.library_search.specs.Ldconfig.{conf_in, entries_in, library_files, links_in, places_in, planned_in, said_files, said_wanted, stamps_in}
 use Rattle.ldconfig_core.specs.Outcome.{new_manifest}
-use Rattle.loaded_image.specs.Aux.{stamps_of_slot}
-use Rattle.loaded_image.specs.Session.{Loaded}
+use Rattle.image_session.specs.Aux.{stamps_of_slot}
+use Rattle.image_session.specs.Session.{Loaded}
 use Rattle.aux_cache.specs.AuxFile.{damage}
 use Rattle.aux_cache.specs.AuxText.{aux_text}
 use Rattle.aux_cache.specs.declared.stamps.Stamp.{Stamp}

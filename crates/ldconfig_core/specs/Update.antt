@@ -7,20 +7,20 @@ use Rattle.tree_face.specs.Disk.{DiskState}
 use Rattle.tree_face.specs.Known.{IfKnown}
 use Rattle.tree_face.specs.Store.{Contents, StoreState}
 use Rattle.tree_face.specs.StoreUse.{Ending, Complete, DeviceFailed, GaveUp}
-use Rattle.searched_image.specs.Begun.{opened_in, update_keys}
-use Rattle.searched_image.specs.Laws.{IsSaidRight}
-use Rattle.searched_image.specs.Found.{ReadsFinding}
+use Rattle.library_search.specs.Begun.{opened_in, update_keys}
+use Rattle.library_search.specs.Laws.{IsSaidRight}
+use Rattle.library_search.specs.Found.{ReadsFinding}
 use Rattle.ldso_conf.specs.Reading.{conf_keys}
 use Rattle.ldconfig_core.specs.declared.fault.UpdateFault.{UpdateFault}
 use Rattle.ldconfig_core.specs.declared.fault.UpdateFault.TheVariants as faults
 use Rattle.ldconfig_core.specs.declared.report.Report.{Report}
-use Rattle.loaded_image.specs.Aux.{stamps_of_slot}
-use Rattle.searched_image.specs.Ldconfig.{entries_in, links_in, stamps_in}
+use Rattle.image_session.specs.Aux.{stamps_of_slot}
+use Rattle.library_search.specs.Ldconfig.{entries_in, links_in, stamps_in}
 use Rattle.ldconfig_core.specs.Lookup.{FindsAsSearched}
 use Rattle.ldconfig_core.specs.Outcome.{Outcome, Lacking, TooLarge, TooMany, Writes, new_manifest, update_outcome}
 use Rattle.replaced_slots.specs.Replaced.{KeepsRestMade, WritesAll, WritesPart}
-use Rattle.loaded_image.specs.Session.{Loaded}
-use Rattle.stamped_files.specs.Stamped.{AreSame, AreTrue, IfHonest}
+use Rattle.image_session.specs.Session.{Loaded}
+use Rattle.file_stamps.specs.Stamped.{AreSame, AreTrue, IfHonest}
 use Rattle.ldconfig_core.specs.Settled.{AreSettled, IfReads, planned_image}
 use Rattle.ldconfig_core.specs.Texts.{AreTexts, AreTextsOf, UpdateTexts, update_slots, writes_of}
 

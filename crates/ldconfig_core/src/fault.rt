@@ -5,10 +5,10 @@ ghost use Rattle.ldconfig_core.specs.declared.fault.UpdateFault.TheVariants as u
 
 use atomic_replace::DiskFault;
 use lib_types::NoMemory;
-use searched_image::FindFault;
+use library_search::FindFault;
 use std::alloc::{AllocError, AllocFailed};
 use thiserror::Error;
-use winning_entries::EntryFault;
+use cache_entries::EntryFault;
 
 /// Why an image isn't updated.
 #[derive(Clone, Copy, Debug, PartialEq, Eq, Error)]

@@ -11,7 +11,7 @@ use crate::prepare::{Prepared, prepare};
 use crate::report::Report;
 use atomic_replace::DiskFault;
 use aux_cache::Stamps;
-use loaded_image::Session;
+use image_session::Session;
 use replaced_slots::{SlotWrite, replace_slots};
 use std::alloc::Global;
 use tree_face::{Disk, Slot, Store, Tag, Tree};

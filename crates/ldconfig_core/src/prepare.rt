@@ -3,7 +3,7 @@ ghost use Rattle.std.specs.Prelude.{◌≡◌, ℕ, false, true, length, IfErr, 
 ghost use Rattle.aux_cache.specs.AuxFile.{damage};
 ghost use Rattle.aux_cache.specs.AuxText.{aux_text};
 ghost use Rattle.aux_cache.specs.Stamps.{HaveNames};
-ghost use Rattle.loaded_image.specs.Aux.{stamps_of_slot};
+ghost use Rattle.image_session.specs.Aux.{stamps_of_slot};
 ghost use Rattle.found_files.specs.Best.{bests_of};
 ghost use Rattle.found_files.specs.Search.{followed};
 ghost use Rattle.found_files.specs.Table.{analysis_at};
@@ -20,14 +20,14 @@ use crate::fault::UpdateFault;
 use crate::report::Report;
 use aux_cache::{STAMPS_MAX, Stamps};
 use lib_types::{Entries, NoMemory};
-use loaded_image::Session;
+use image_session::Session;
 use mtree_manifest::TEXT_MAX;
-use searched_image::{Found, find};
+use library_search::{Found, find};
 use soname_links::kinds::Plan;
 use std::alloc::Global;
 use tree_face::{Store, Tree};
 use update_report::{Findings, report, skips_in};
-use winning_entries::entries_by;
+use cache_entries::entries_by;
 
 /// What an update is about to write, and its report.
 #[derive(Drop)]

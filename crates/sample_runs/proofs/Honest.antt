@@ -15,12 +15,12 @@ use Rattle.image_tree.specs.declared.node.Id.{Id}
 use Rattle.image_tree.specs.declared.node.Node.{Node}
 use Rattle.image_tree.specs.declared.node.Node.TheVariants.{Dir, File, Link}
 use Rattle.ldconfig_core.specs.Settled.{planned_image}
-use Rattle.loaded_image.specs.Edit.{without_node}
-use Rattle.loaded_image.specs.Session.{Loaded}
-use Rattle.searched_image.proofs.Honest.{none_true, said_law, stamps_true}
-use Rattle.searched_image.specs.Laws.{IsSaidRight}
-use Rattle.searched_image.specs.Ldconfig.{links_in, planned_in, stamps_in}
-use Rattle.stamped_files.specs.Stamped.{AreSame, AreTrue, content_of, id_at, id_in}
+use Rattle.image_session.specs.Edit.{without_node}
+use Rattle.image_session.specs.Session.{Loaded}
+use Rattle.library_search.proofs.Honest.{none_true, said_law, stamps_true}
+use Rattle.library_search.specs.Laws.{IsSaidRight}
+use Rattle.library_search.specs.Ldconfig.{links_in, planned_in, stamps_in}
+use Rattle.file_stamps.specs.Stamped.{AreSame, AreTrue, content_of, id_at, id_in}
 use Rattle.tree_face.specs.Store.{Contents}
 use Rattle.sample_runs.specs.declared.files.SampleFile.{SampleFile}
 use Rattle.sample_runs.specs.Files.{files_from, has_hwcaps_file, hwcaps_path, is_replaced, key, library_path, next, sample_files}

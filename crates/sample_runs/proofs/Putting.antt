@@ -1,8 +1,8 @@
 -- What putting and removing a node make of an image.
 use Rattle.std.proofs.Common.{◌≡◌, ℕ, List, Ok, rules}
 use Rattle.image_tree.specs.declared.node.Node.{Node}
-use Rattle.loaded_image.specs.Edit.{drop_result, put_result, with_node, without_node}
-use Rattle.loaded_image.specs.Session.{Loaded}
+use Rattle.image_session.specs.Edit.{drop_result, put_result, with_node, without_node}
+use Rattle.image_session.specs.Session.{Loaded}
 
 -- a node that is put is there
 pub is_put : (image new : Loaded) (path : List ℕ) (node : Node) → put_result image path node ≡ Ok new → new ≡ with_node image path node

@@ -3,9 +3,9 @@ use Rattle.std.proofs.Common.{◌≡◌, ℕ, true, List, [], ◌∷◌, Option,
 use Rattle.ldconfig_core.specs.Repair.{slots_after}
 use Rattle.ldconfig_core.specs.Settled.{planned_image}
 use Rattle.ldconfig_core.specs.Texts.{UpdateTexts, writes_of}
-use Rattle.loaded_image.specs.Session.{Loaded}
+use Rattle.image_session.specs.Session.{Loaded}
 use Rattle.replaced_slots.specs.Replaced.{calls_of}
-use Rattle.searched_image.specs.Begun.{lacks_some}
+use Rattle.library_search.specs.Begun.{lacks_some}
 use Rattle.tree_face.proofs.Follows.{follow, follow_part, part_of, part_whole}
 use Rattle.tree_face.proofs.Known.{relates_by, relates_on}
 use Rattle.tree_face.specs.Disk.{DiskContent, DiskState}

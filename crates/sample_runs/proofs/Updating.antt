@@ -9,9 +9,9 @@ use Rattle.ldconfig_core.specs.Repair.{slots_after}
 use Rattle.ldconfig_core.specs.Texts.{AreTextsOf, UpdateTexts, writes_of}
 use Rattle.ldconfig_core.specs.Update.{IsUpdated, Updates, update_ending}
 use Rattle.lib_types.specs.Counts.{HasRisen}
-use Rattle.loaded_image.specs.Session.{Loaded}
+use Rattle.image_session.specs.Session.{Loaded}
 use Rattle.replaced_slots.specs.Replaced.{calls_of}
-use Rattle.searched_image.specs.Begun.{lacks_file, update_bytes}
+use Rattle.library_search.specs.Begun.{lacks_file, update_bytes}
 use Rattle.tree_face.proofs.Follows.{part_whole}
 use Rattle.tree_face.proofs.Known.{relates_by}
 use Rattle.tree_face.specs.Disk.{DiskContent, DiskState, KeepsAll}

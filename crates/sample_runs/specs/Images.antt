@@ -4,8 +4,8 @@ use Rattle.image_tree.specs.declared.node.Id.{Id}
 use Rattle.image_tree.specs.declared.node.Node.{Node}
 use Rattle.image_tree.specs.declared.node.Node.TheVariants.{File}
 use Rattle.ldconfig_core.specs.Settled.{planned_image}
-use Rattle.loaded_image.specs.Edit.{with_node, without_node}
-use Rattle.loaded_image.specs.Session.{Loaded, image_with}
+use Rattle.image_session.specs.Edit.{with_node, without_node}
+use Rattle.image_session.specs.Session.{Loaded, image_with}
 use Rattle.tree_face.specs.Store.{Contents}
 use Rattle.sample_runs.specs.declared.files.SampleFile.{SampleFile}
 use Rattle.sample_runs.specs.Files.{content, has_hwcaps_file, hwcaps_path, is_replaced, key, library_path, sample_files}

@@ -12,7 +12,7 @@ use Rattle.tree_face.specs.Store.{Contents, StoreState}
 use Rattle.tree_face.specs.Stream.{SinkState}
 use Rattle.sample_runs.specs.declared.fault.SampleFault.{SampleFault}
 use Rattle.sample_runs.specs.Faults.{of_sample}
-use Rattle.searched_image.specs.Laws.{IsSaidRight}
+use Rattle.library_search.specs.Laws.{IsSaidRight}
 use Rattle.sample_runs.specs.Images.{first_image, second_image}
 use Rattle.sample_runs.specs.Text.{sample_text}
 use Rattle.sample_runs.specs.Updates.{AreWritten, ReadsTwice, SampleFails, UsesSample}

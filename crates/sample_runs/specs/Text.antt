@@ -5,9 +5,9 @@ use Rattle.std.specs.Option.{is_none, is_some, option_map_or}
 use Rattle.cache_lookup.specs.Scan.{scan}
 use Rattle.cache_reader.specs.Cache.{CachedEntry, read}
 use Rattle.lib_types.specs.declared.abi.Abi.TheVariants.{X86_64}
-use Rattle.loaded_image.specs.Session.{Loaded}
-use Rattle.searched_image.specs.Begun.{opened_in}
-use Rattle.searched_image.specs.Ldconfig.{entries_in, links_in}
+use Rattle.image_session.specs.Session.{Loaded}
+use Rattle.library_search.specs.Begun.{opened_in}
+use Rattle.library_search.specs.Ldconfig.{entries_in, links_in}
 use Rattle.tree_face.specs.Store.{Contents}
 use Rattle.update_world.specs.Turns.{readings_behind}
 use Rattle.update_world.specs.declared.post.Post.{Post}

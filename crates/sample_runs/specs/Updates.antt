@@ -4,11 +4,11 @@ use Rattle.ldconfig_core.specs.Repair.{slots_after}
 use Rattle.ldconfig_core.specs.Settled.{planned_image}
 use Rattle.ldconfig_core.specs.Texts.{AreTextsOf, UpdateTexts, update_slots, writes_of}
 use Rattle.lib_types.specs.Counts.{HasRisen}
-use Rattle.loaded_image.specs.Session.{Loaded}
+use Rattle.image_session.specs.Session.{Loaded}
 use Rattle.replaced_slots.specs.Replaced.{calls_of, slots_of}
-use Rattle.searched_image.specs.Begun.{lacks_some, opened_in, update_keys}
-use Rattle.searched_image.specs.Laws.{IsSaidRight}
-use Rattle.searched_image.specs.Ldconfig.{entries_in, links_in}
+use Rattle.library_search.specs.Begun.{lacks_some, opened_in, update_keys}
+use Rattle.library_search.specs.Laws.{IsSaidRight}
+use Rattle.library_search.specs.Ldconfig.{entries_in, links_in}
 use Rattle.tree_face.specs.declared.disk.Slot.{Slot}
 use Rattle.tree_face.specs.declared.disk.Slot.TheVariants.{Cache}
 use Rattle.tree_face.specs.declared.disk.Tag.{Tag}

@@ -1,13 +1,13 @@
 //! The images of a sample of which updates are made.
 ghost use Rattle.std.specs.Prelude.{◌≡◌, fold, IfOk, OnOk};
-ghost use Rattle.loaded_image.specs.Edit.{with_node};
+ghost use Rattle.image_session.specs.Edit.{with_node};
 ghost use Rattle.sample_runs.specs.Files.{sample_files};
 ghost use Rattle.sample_runs.specs.Images.{all_replaced, empty_image, first_image, node_of, with_files, with_newer, with_replaced};
 
 use crate::files::{SampleFile, content, hwcaps_path, key, library_path};
 use aux_cache::Stamps;
 use lib_types::{NoMemory, Text};
-use loaded_image::Session;
+use image_session::Session;
 use std::alloc::Global;
 use tree_face::{Id, Node, Tree, is_node, is_path};
 

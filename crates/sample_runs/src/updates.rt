@@ -8,7 +8,7 @@ ghost use Rattle.sample_runs.specs.Updates.{Goes, ReadFails, UpdateFails, Update
 
 use crate::fault::SampleFault;
 use lib_types::Text;
-use loaded_image::Session;
+use image_session::Session;
 use std::alloc::Global;
 use tree_face::{Disk, DiskRead, Slot, Store, Tag};
 

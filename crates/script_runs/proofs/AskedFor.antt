@@ -4,7 +4,7 @@ use Rattle.std.specs.List.{Contains}
 use Rattle.std.proofs.lemmas.List.Elements.{All-cons, All-contains_itself, All-head, All-nil, All-weaker, Contains-append_right}
 use Rattle.ldconfig_core.specs.Outcome.{Lacking, Outcome, TooLarge, TooMany, Writes, update_outcome}
 use Rattle.ldconfig_core.specs.Settled.{planned_image}
-use Rattle.loaded_image.specs.Session.{Loaded}
+use Rattle.image_session.specs.Session.{Loaded}
 use Rattle.manifest_words.specs.declared.fault.LineKind.{LineKind}
 use Rattle.script_lines.specs.Script.{line_of}
 use Rattle.script_lines.specs.declared.line.ScriptLine.{ScriptLine}

@@ -4,9 +4,9 @@ use Rattle.devices.specs.Devices.{IfBothKnown}
 use Rattle.ldconfig_core.specs.Repair.{IsImageIn}
 use Rattle.ldconfig_core.specs.declared.fault.UpdateFault.{UpdateFault}
 use Rattle.ldconfig_core.specs.declared.fault.UpdateFault.TheVariants as updating
-use Rattle.loaded_image.specs.Session.{Loaded}
-use Rattle.loaded_image.specs.declared.fault.LoadFault.{LoadFault}
-use Rattle.loaded_image.specs.declared.fault.LoadFault.TheVariants as loading
+use Rattle.image_session.specs.Session.{Loaded}
+use Rattle.image_session.specs.declared.fault.LoadFault.{LoadFault}
+use Rattle.image_session.specs.declared.fault.LoadFault.TheVariants as loading
 use Rattle.tree_face.specs.Disk.{DiskContent}
 use Rattle.tree_face.specs.Store.{Contents}
 use Rattle.command_status.specs.Status.{of_load}

@@ -10,7 +10,7 @@ use Rattle.ldconfig_core.specs.Update.{IsUpdated, Updates}
 use Rattle.ldconfig_core.specs.declared.fault.UpdateFault.{UpdateFault}
 use Rattle.ldconfig_core.specs.declared.fault.UpdateFault.TheVariants as updating
 use Rattle.ldconfig_core.specs.declared.report.Report.{Report}
-use Rattle.loaded_image.specs.Session.{Loaded}
+use Rattle.image_session.specs.Session.{Loaded}
 use Rattle.manifest_words.specs.declared.fault.LineKind.{LineKind}
 use Rattle.replaced_slots.proofs.CrashesOneByOne.{leaves_on, nothing_left}
 use Rattle.replaced_slots.specs.Replaced.{IsOfWrites, LeavesOnlyWritten, calls_of}

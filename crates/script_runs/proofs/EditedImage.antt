@@ -1,9 +1,9 @@
 -- What a line makes of a session if it asks for no update.
 use Rattle.std.proofs.Common.{◌≡◌, ◌⊎◌, Bool, true, false, Some, None, is_some, Result, Ok, Err, if◌then◌else◌, refl, inl, inr}
 use Rattle.image_tree.specs.Tree.{clashes, has_no_room, node_at}
-use Rattle.loaded_image.specs.Edit.{with_node, without_node}
-use Rattle.loaded_image.specs.Session.{Loaded}
-use Rattle.loaded_image.specs.declared.fault.EditFault.TheVariants as editing
+use Rattle.image_session.specs.Edit.{with_node, without_node}
+use Rattle.image_session.specs.Session.{Loaded}
+use Rattle.image_session.specs.declared.fault.EditFault.TheVariants as editing
 use Rattle.manifest_words.specs.declared.fault.LineKind.{LineKind}
 use Rattle.script_lines.specs.declared.line.ScriptLine.{ScriptLine}
 use Rattle.script_lines.specs.declared.line.ScriptLine.TheVariants as asking

@@ -16,14 +16,14 @@ use Rattle.ldconfig_core.specs.Outcome.{Lacking, Outcome, TooLarge, TooMany, Wri
 use Rattle.ldconfig_core.specs.Repair.{IsImageIn, slots_after}
 use Rattle.ldconfig_core.specs.Settled.{IfReads, planned_image}
 use Rattle.ldconfig_core.specs.Texts.{UpdateTexts, writes_of}
-use Rattle.loaded_image.specs.Aux.{stamps_of_slot}
-use Rattle.loaded_image.specs.Manifest.{HasTree, manifest_of}
-use Rattle.loaded_image.specs.Session.{Loaded, image_with}
+use Rattle.image_session.specs.Aux.{stamps_of_slot}
+use Rattle.image_session.specs.Manifest.{HasTree, manifest_of}
+use Rattle.image_session.specs.Session.{Loaded, image_with}
 use Rattle.manifest_words.specs.declared.fault.LineKind.{LineKind}
 use Rattle.script_lines.specs.Script.{line_of}
 use Rattle.script_lines.specs.declared.line.ScriptLine.{ScriptLine}
 use Rattle.script_lines.specs.declared.line.ScriptLine.TheVariants as asking
-use Rattle.searched_image.specs.Ldconfig.{links_in, planned_in}
+use Rattle.library_search.specs.Ldconfig.{links_in, planned_in}
 use Rattle.soname_links.specs.declared.kinds.Planned.{Planned}
 use Rattle.tree_face.specs.Disk.{DiskContent, Slots}
 use Rattle.tree_face.specs.Store.{Contents}

@@ -4,15 +4,15 @@ use Rattle.std.proofs.lemmas.List.Elements.{All-cons, All-head, All-nil, All-tai
 use Rattle.ldconfig_core.specs.Outcome.{Lacking, Outcome, TooLarge, TooMany, Writes, update_outcome}
 use Rattle.ldconfig_core.specs.Settled.{planned_image}
 use Rattle.image_tree.specs.Tree.{Nodes}
-use Rattle.loaded_image.specs.Session.{Loaded}
+use Rattle.image_session.specs.Session.{Loaded}
 use Rattle.manifest_words.specs.declared.fault.LineKind.{LineKind}
 use Rattle.script_lines.specs.Script.{line_of}
 use Rattle.script_lines.specs.declared.line.ScriptLine.{ScriptLine}
 use Rattle.script_lines.specs.declared.line.ScriptLine.TheVariants as asking
 use Rattle.aux_cache.specs.declared.stamps.Stamp.{Stamp}
-use Rattle.searched_image.proofs.Honest.{stamps_true}
-use Rattle.searched_image.specs.Ldconfig.{stamps_in}
-use Rattle.stamped_files.specs.Stamped.{AreSame, AreTrue}
+use Rattle.library_search.proofs.Honest.{stamps_true}
+use Rattle.library_search.specs.Ldconfig.{stamps_in}
+use Rattle.file_stamps.specs.Stamped.{AreSame, AreTrue}
 use Rattle.tree_face.specs.Known.{IfKnown}
 use Rattle.tree_face.specs.Store.{Contents}
 use Rattle.script_runs.specs.Course.{AreHonest, Course, IsHonest, course, course_by, course_of_update, goes_on, trees_of}

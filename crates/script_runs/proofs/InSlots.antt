@@ -1,8 +1,8 @@
 -- The session that is loaded is that of the slots.
 use Rattle.std.proofs.Common.{Some, ap, sym, ◌∙◌}
 use Rattle.ldconfig_core.specs.Repair.{IsImageIn}
-use Rattle.loaded_image.specs.Manifest.{manifest_of}
-use Rattle.loaded_image.specs.Session.{IsLoaded, Loaded, image_with}
+use Rattle.image_session.specs.Manifest.{manifest_of}
+use Rattle.image_session.specs.Session.{IsLoaded, Loaded, image_with}
 use Rattle.tree_face.specs.Disk.{DiskContent}
 
 pub image_is : (a : DiskContent) (s : Loaded) → IsLoaded (Some a) s → IsImageIn a.now s

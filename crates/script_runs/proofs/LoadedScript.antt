@@ -3,10 +3,10 @@ use Rattle.std.proofs.Common.{◌≡◌, ◌⊎◌, ◌≤◌, ℕ, Bool, true, 
 use Rattle.devices.specs.Devices.{IfBothKnown}
 use Rattle.ldconfig_core.proofs.WrittenSlots.{one_image}
 use Rattle.ldconfig_core.specs.Repair.{IsImageIn}
-use Rattle.loaded_image.specs.Manifest.{Empty, Faulty, HasTree, manifest_of}
-use Rattle.loaded_image.specs.Session.{IsLoad, IsLoaded, Loaded, Loads}
-use Rattle.loaded_image.specs.declared.fault.LoadFault.{LoadFault}
-use Rattle.loaded_image.specs.declared.fault.LoadFault.TheVariants as loading
+use Rattle.image_session.specs.Manifest.{Empty, Faulty, HasTree, manifest_of}
+use Rattle.image_session.specs.Session.{IsLoad, IsLoaded, Loaded, Loads}
+use Rattle.image_session.specs.declared.fault.LoadFault.{LoadFault}
+use Rattle.image_session.specs.declared.fault.LoadFault.TheVariants as loading
 use Rattle.tree_face.specs.Crash.{HasMoments}
 use Rattle.tree_face.specs.Disk.{Content, DiskContent, DiskState, KeepsAll, slot_of}
 use Rattle.tree_face.specs.declared.disk.DoneCall.{DoneCall}

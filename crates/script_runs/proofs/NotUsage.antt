@@ -1,8 +1,8 @@
 -- No update and no script ends with the status of arguments that are none's.
 use Rattle.std.proofs.Common.{◌≡◌, List, ℕ, Result, Ok, Err, Vec, Global, sym, ◌∙◌}
-use Rattle.loaded_image.specs.Session.{Loaded}
-use Rattle.loaded_image.specs.declared.fault.LoadFault.{LoadFault}
-use Rattle.loaded_image.specs.declared.fault.LoadFault.TheVariants as loading
+use Rattle.image_session.specs.Session.{Loaded}
+use Rattle.image_session.specs.declared.fault.LoadFault.{LoadFault}
+use Rattle.image_session.specs.declared.fault.LoadFault.TheVariants as loading
 use Rattle.ldconfig_core.specs.declared.fault.UpdateFault.{UpdateFault}
 use Rattle.ldconfig_core.specs.declared.fault.UpdateFault.TheVariants as updating
 use Rattle.tree_face.specs.Stream.{SourceState}

@@ -1,6 +1,6 @@
 -- An update is the run of the script of the one line `update`.
 use Rattle.std.proofs.Common.{Result, Ok, Err, refl, inl}
-use Rattle.loaded_image.specs.Session.{Loaded}
+use Rattle.image_session.specs.Session.{Loaded}
 use Rattle.tree_face.specs.declared.disk.Tag.{Tag}
 use Rattle.update_runs.specs.Update.{States, UpdatesTo}
 use Rattle.update_runs.specs.declared.fault.UpdatingFault.{UpdatingFault}

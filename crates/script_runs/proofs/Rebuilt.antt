@@ -12,11 +12,11 @@ use Rattle.ldconfig_core.specs.declared.fault.UpdateFault.{UpdateFault}
 use Rattle.ldconfig_core.specs.declared.fault.UpdateFault.TheVariants as updating
 use Rattle.ldconfig_core.specs.declared.report.Report.{Report}
 use Rattle.lib_types.specs.Counts.{HasRisen}
-use Rattle.loaded_image.specs.Session.{Loaded}
+use Rattle.image_session.specs.Session.{Loaded}
 use Rattle.manifest_words.specs.declared.fault.LineKind.{LineKind}
 use Rattle.replaced_slots.specs.Replaced.{FailsToReplace, Replaces}
 use Rattle.script_lines.specs.Script.{line_of}
-use Rattle.searched_image.specs.Begun.{lacks_file, update_bytes, update_keys}
+use Rattle.library_search.specs.Begun.{lacks_file, update_bytes, update_keys}
 use Rattle.script_lines.specs.declared.line.ScriptLine.{ScriptLine}
 use Rattle.script_lines.specs.declared.line.ScriptLine.TheVariants as asking
 use Rattle.tree_face.proofs.Follows.{follow}

@@ -11,13 +11,13 @@ use Rattle.ldconfig_core.specs.Outcome.{Writes, update_outcome}
 use Rattle.ldconfig_core.specs.Repair.{IsImageIn}
 use Rattle.ldconfig_core.specs.Settled.{AreCachesAgain, AreSettled, IfReads, planned_image}
 use Rattle.ldconfig_core.specs.Texts.{AreAlike, AreTextsOf, UpdateTexts, writes_of}
-use Rattle.loaded_image.specs.Aux.{stamps_of_slot}
-use Rattle.loaded_image.specs.Manifest.{manifest_of}
-use Rattle.loaded_image.specs.Session.{IsLoaded, Loaded, image_with}
-use Rattle.loaded_image.specs.declared.fault.LoadFault.{LoadFault}
+use Rattle.image_session.specs.Aux.{stamps_of_slot}
+use Rattle.image_session.specs.Manifest.{manifest_of}
+use Rattle.image_session.specs.Session.{IsLoaded, Loaded, image_with}
+use Rattle.image_session.specs.declared.fault.LoadFault.{LoadFault}
 use Rattle.replaced_slots.specs.Replaced.{IsOfWrites}
-use Rattle.searched_image.specs.Ldconfig.{planned_in, stamps_in}
-use Rattle.stamped_files.specs.Stamped.{AreSame, AreTrue}
+use Rattle.library_search.specs.Ldconfig.{planned_in, stamps_in}
+use Rattle.file_stamps.specs.Stamped.{AreSame, AreTrue}
 use Rattle.tree_face.specs.Disk.{Content, DiskContent, DiskState, Slots, slot_of}
 use Rattle.tree_face.specs.Store.{Contents}
 use Rattle.tree_face.specs.declared.disk.Slot.{Slot}

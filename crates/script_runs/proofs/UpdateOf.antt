@@ -5,8 +5,8 @@ use Rattle.ldconfig_core.specs.Outcome.{Writes, update_outcome}
 use Rattle.ldconfig_core.specs.Settled.{unstamped_image}
 use Rattle.ldconfig_core.specs.Texts.{AreTextsOf, UpdateTexts}
 use Rattle.ldconfig_core.specs.Update.{AreUpdateTexts}
-use Rattle.loaded_image.specs.Session.{Loaded}
-use Rattle.searched_image.proofs.Honest.{none_true}
+use Rattle.image_session.specs.Session.{Loaded}
+use Rattle.library_search.proofs.Honest.{none_true}
 use Rattle.tree_face.specs.Known.{IfKnown}
 use Rattle.tree_face.specs.Store.{Contents}
 use Rattle.script_runs.specs.Course.{IsHonest}

@@ -7,12 +7,12 @@ use Rattle.ldconfig_core.specs.Outcome.{Lacking, Outcome, TooLarge, TooMany, Wri
 use Rattle.ldconfig_core.specs.Settled.{planned_image}
 use Rattle.ldconfig_core.specs.declared.fault.UpdateFault.{UpdateFault}
 use Rattle.ldconfig_core.specs.declared.fault.UpdateFault.TheVariants as updating
-use Rattle.loaded_image.specs.Session.{Loaded}
+use Rattle.image_session.specs.Session.{Loaded}
 use Rattle.manifest_words.specs.declared.fault.LineKind.{LineKind}
 use Rattle.script_lines.specs.Script.{line_of}
 use Rattle.script_lines.specs.declared.line.ScriptLine.{ScriptLine}
 use Rattle.script_lines.specs.declared.line.ScriptLine.TheVariants as asking
-use Rattle.stamped_files.specs.Stamped.{AreSame, AreTrue}
+use Rattle.file_stamps.specs.Stamped.{AreSame, AreTrue}
 use Rattle.tree_face.specs.Store.{Contents}
 use Rattle.update_runs.specs.declared.fault.UpdatingFault.TheVariants.{Update}
 use Rattle.script_runs.specs.declared.fault.LineFault.{LineFault}

@@ -6,10 +6,10 @@ use Rattle.ldconfig_core.specs.Outcome.{Writes, update_outcome}
 use Rattle.ldconfig_core.specs.Settled.{AreCachesAgain}
 use Rattle.ldconfig_core.specs.Texts.{AreAlike, AreTexts, AreTextsOf, UpdateTexts, writes_of}
 use Rattle.ldconfig_core.specs.declared.fault.UpdateFault.TheVariants as updating
-use Rattle.loaded_image.specs.Session.{Loaded}
+use Rattle.image_session.specs.Session.{Loaded}
 use Rattle.atomic_replace.specs.Replace.{StopsAt, call_by}
 use Rattle.replaced_slots.specs.Replaced.{IsOfWrites, LeavesOnlyWritten, calls_of}
-use Rattle.searched_image.specs.Ldconfig.{planned_in, stamps_in}
+use Rattle.library_search.specs.Ldconfig.{planned_in, stamps_in}
 use Rattle.tree_face.specs.declared.disk.Slot.{Slot}
 use Rattle.tree_face.specs.Disk.{Content, DiskState}
 use Rattle.tree_face.specs.declared.disk.DoneCall.{DoneCall}

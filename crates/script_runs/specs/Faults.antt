@@ -1,8 +1,8 @@
 -- Why a script ends, by the faults of its lines.
 use Rattle.std.specs.Prelude.{ℕ, Result, Ok, Err}
-use Rattle.loaded_image.specs.Session.{Loaded}
-use Rattle.loaded_image.specs.declared.fault.EditFault.{EditFault}
-use Rattle.loaded_image.specs.declared.fault.EditFault.TheVariants as editing
+use Rattle.image_session.specs.Session.{Loaded}
+use Rattle.image_session.specs.declared.fault.EditFault.{EditFault}
+use Rattle.image_session.specs.declared.fault.EditFault.TheVariants as editing
 use Rattle.command_status.specs.declared.status.ScriptKind.TheVariants as script
 use Rattle.command_status.specs.declared.status.Status.{Status}
 use Rattle.command_status.specs.declared.status.Status.TheVariants as statuses

@@ -13,13 +13,13 @@ use Rattle.ldconfig_core.specs.declared.fault.UpdateFault.{UpdateFault}
 use Rattle.ldconfig_core.specs.declared.fault.UpdateFault.TheVariants as updating
 use Rattle.ldso_conf.specs.Reading.{conf_keys}
 use Rattle.lib_types.specs.Counts.{HasRisen}
-use Rattle.loaded_image.specs.Aux.{stamps_of_slot}
-use Rattle.loaded_image.specs.Manifest.{HasTree, manifest_of}
-use Rattle.loaded_image.specs.Session.{Loaded}
-use Rattle.searched_image.specs.Begun.{opened_in, update_keys}
-use Rattle.searched_image.specs.Laws.{IsSaidRight}
-use Rattle.searched_image.specs.Ldconfig.{stamps_in}
-use Rattle.stamped_files.specs.Stamped.{AreSame, AreTrue}
+use Rattle.image_session.specs.Aux.{stamps_of_slot}
+use Rattle.image_session.specs.Manifest.{HasTree, manifest_of}
+use Rattle.image_session.specs.Session.{Loaded}
+use Rattle.library_search.specs.Begun.{opened_in, update_keys}
+use Rattle.library_search.specs.Laws.{IsSaidRight}
+use Rattle.library_search.specs.Ldconfig.{stamps_in}
+use Rattle.file_stamps.specs.Stamped.{AreSame, AreTrue}
 use Rattle.tree_face.specs.Disk.{DiskContent, Slots}
 use Rattle.tree_face.specs.Follows.{IsFollowedBy, IsFollowedByPart}
 use Rattle.tree_face.specs.Known.{IfKnown, Relates}

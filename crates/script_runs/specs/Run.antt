@@ -2,8 +2,8 @@
 use Rattle.std.specs.Prelude.{◌≡◌, ◌⊎◌, ◌+◌, ℕ, List, [], ◌∷◌, codes, Result, Ok, Err}
 use Rattle.std.specs.List.{slice_split}
 use Rattle.conf_patterns.specs.Bytes.{is_in}
-use Rattle.loaded_image.specs.Edit.{drop_result, put_entry_result}
-use Rattle.loaded_image.specs.Session.{Loaded}
+use Rattle.image_session.specs.Edit.{drop_result, put_entry_result}
+use Rattle.image_session.specs.Session.{Loaded}
 use Rattle.manifest_words.specs.declared.fault.LineKind.{LineKind}
 use Rattle.script_lines.specs.Script.{line_of}
 use Rattle.script_lines.specs.declared.line.ScriptLine.{ScriptLine}

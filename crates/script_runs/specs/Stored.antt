@@ -5,10 +5,10 @@ use Rattle.devices.specs.Devices.{IfBothKnown}
 use Rattle.ldconfig_core.specs.Outcome.{new_manifest}
 use Rattle.ldconfig_core.specs.Repair.{IsImageIn, LeavesOnly, MightBeLeft}
 use Rattle.lib_types.specs.Counts.{HasRisen}
-use Rattle.loaded_image.specs.Session.{IsLoaded, Loaded, Loads}
-use Rattle.loaded_image.specs.declared.fault.LoadFault.{LoadFault}
-use Rattle.loaded_image.specs.declared.fault.LoadFault.TheVariants as loading
-use Rattle.stamped_files.specs.Stamped.{AreSame, AreTrue}
+use Rattle.image_session.specs.Session.{IsLoaded, Loaded, Loads}
+use Rattle.image_session.specs.declared.fault.LoadFault.{LoadFault}
+use Rattle.image_session.specs.declared.fault.LoadFault.TheVariants as loading
+use Rattle.file_stamps.specs.Stamped.{AreSame, AreTrue}
 use Rattle.tree_face.specs.declared.disk.Slot.{Slot}
 use Rattle.tree_face.specs.declared.disk.Tag.{Tag}
 use Rattle.tree_face.specs.Disk.{Content, DiskContent, DiskState, Slots}

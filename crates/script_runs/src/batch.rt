@@ -8,7 +8,7 @@ ghost use Rattle.update_runs.specs.Update.{states};
 
 use crate::lines::run_lines;
 use command_status::{Status, put_fault_line};
-use loaded_image::Session;
+use image_session::Session;
 use std::mem::forget;
 use tree_face::{Disk, ReadFault, Sink, Source, Store, read_all};
 use update_runs::Updater;

@@ -3,7 +3,7 @@ ghost use Rattle.std.specs.Prelude.{◌≡◌};
 ghost use Rattle.script_runs.specs.Faults.{numbered, of_edit, of_script};
 
 use command_status::{ScriptKind, Status};
-use loaded_image::EditFault;
+use image_session::EditFault;
 use update_runs::UpdatingFault;
 
 /// Why a line of a script isn't done.

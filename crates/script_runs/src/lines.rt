@@ -6,13 +6,13 @@ ghost use Rattle.script_lines.specs.Script.{IsProper, line_of};
 ghost use Rattle.script_runs.specs.Faults.{edited};
 ghost use Rattle.script_runs.specs.Run.{DoesLineOrNothing, RunsLines, TakesLine, lines_of};
 ghost use Rattle.update_runs.specs.Update.{states};
-ghost use Rattle.loaded_image.specs.Edit.{drop_result, put_entry_result};
+ghost use Rattle.image_session.specs.Edit.{drop_result, put_entry_result};
 
 use crate::fault::{LineFault, ScriptFault};
 use command_status::ScriptKind;
 use conf_patterns::parts::split;
 use lib_types::Text;
-use loaded_image::Session;
+use image_session::Session;
 use mtree_manifest::EntryLineFault;
 use script_lines::{ScriptLine, read_line};
 use tree_face::{Disk, Node, Sink, Store};

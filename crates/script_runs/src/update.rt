@@ -7,7 +7,7 @@ ghost use Rattle.tree_face.specs.Stream.{SourceState};
 ghost use Rattle.update_runs.specs.Update.{states};
 
 use command_status::{Status, put_fault_line};
-use loaded_image::Session;
+use image_session::Session;
 use std::mem::forget;
 use tree_face::{Disk, Sink, Store};
 use update_runs::{Updater, update_once};

@@ -3,7 +3,7 @@ ghost use Rattle.std.specs.Prelude.{◌≡◌};
 
 use found_files::PlaceBests;
 use lib_types::{NoMemory, Seq, Text};
-pub use winning_entries::EntryFault;
+pub use cache_entries::EntryFault;
 
 /// A link that is planned.
 #[derive(Drop)]

@@ -1,5 +1,5 @@
 //! The links that are planned for an image, and what is reported of its sonames. The crates below are passed on: the files of
-//! the searched places (`found_files`) and the entries of a cache (`winning_entries`).
+//! the searched places (`found_files`) and the entries of a cache (`cache_entries`).
 #![tactic(auto)]
 
 mod applying;

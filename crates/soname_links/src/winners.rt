@@ -1,6 +1,6 @@
 //! The entries of a cache, of a tree whose links weren't followed and whose libraries weren't compared yet.
 ghost use Rattle.std.specs.Prelude.{◌≤◌, All, IfErr, IfOk, IsTrue, length};
-ghost use Rattle.winning_entries.specs.Entries.{found, is_fit, AreEntriesOf, IsEntryFault, IsOnlyListOf};
+ghost use Rattle.cache_entries.specs.Entries.{found, is_fit, AreEntriesOf, IsEntryFault, IsOnlyListOf};
 ghost use Rattle.cache_writer.specs.declared.writer.TheConstants.{ENTRIES_MAX};
 ghost use Rattle.hwcap_dirs.specs.Places.{are_spelled};
 ghost use Rattle.found_files.specs.Table.{analysis_at};
@@ -12,7 +12,7 @@ use hwcap_dirs::Dirs;
 use lib_types::Entries;
 use std::alloc::Global;
 use tree_face::Tree;
-use winning_entries::{EntryFault, entries_by};
+use cache_entries::{EntryFault, entries_by};
 
 /// The entries of a cache, one for each place and soname with a winner. The tree is one that has all planned links.
 #[tactic(auto, using(found_files::proofs::NoOtherFiles::bests_agree))]

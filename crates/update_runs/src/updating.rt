@@ -2,7 +2,7 @@
 ghost use Rattle.update_runs.specs.Update.{UpdatesTo, states};
 
 use crate::fault::UpdatingFault;
-use loaded_image::Session;
+use image_session::Session;
 use std::alloc::Global;
 use tree_face::{Disk, Sink, Store, Tag, put_all};
 

@@ -1,4 +1,4 @@
-use Rattle.winning_entries.proofs.Fit.{caps_fit, few_fit, no_nul_fits, paths_fit, sonames_fit}
+use Rattle.cache_entries.proofs.Fit.{caps_fit, few_fit, no_nul_fits, paths_fit, sonames_fit}
 use Rattle.ldconfig_core.proofs.prepare.make.Goals as goal
 
 pub write-requires-clause-few : goal.write-requires-clause-few

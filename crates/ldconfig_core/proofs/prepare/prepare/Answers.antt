@@ -1,11 +1,11 @@
 use Rattle.std.proofs.Common.{rules, ◌≡◌, ℕ, Bool, List, Option, Err, ap, subst}
 use Rattle.ldconfig_core.proofs.PreparedTexts.{finding_answers, finding_ends, making_answers, making_ends, settled_by, update_texts, updated_is, writes_is}
-use Rattle.searched_image.specs.declared.finding.Found.{Found}
+use Rattle.library_search.specs.declared.finding.Found.{Found}
 use Rattle.ldconfig_core.specs.declared.prepare.Prepared.{Prepared}
 use Rattle.ldconfig_core.specs.Faults.{of_finding}
 use Rattle.aux_cache.specs.declared.stamps.Stamp.{Stamp}
 use Rattle.image_tree.specs.Tree.{Nodes}
-use Rattle.loaded_image.specs.Session.{Loaded}
+use Rattle.image_session.specs.Session.{Loaded}
 use Rattle.ldconfig_core.specs.Outcome.{update_outcome}
 use Rattle.ldconfig_core.specs.Update.{IsAnswer}
 use Rattle.tree_face.specs.Known.{IfKnown}

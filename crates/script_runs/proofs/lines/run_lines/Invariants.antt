@@ -1,5 +1,5 @@
 use Rattle.std.proofs.Common.{◌+◌, Result}
-use Rattle.loaded_image.specs.Session.{Loaded}
+use Rattle.image_session.specs.Session.{Loaded}
 use Rattle.update_runs.specs.Update.{States, states}
 use Rattle.script_runs.specs.declared.fault.ScriptFault.{ScriptFault}
 use Rattle.script_runs.specs.Run.{RunsLines, lines_of}

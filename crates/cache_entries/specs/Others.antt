@@ -1,0 +1,25 @@
+-- What private functions say of the links of a place that may win a soname.
+use Rattle.std.specs.Prelude.{◌≡◌, ℕ, Bool, true, false, List, filter}
+use Rattle.std.specs.List.{find}
+use Rattle.std.specs.Option.{is_some}
+use Rattle.found_files.specs.Best.{has_soname}
+use Rattle.found_files.specs.Library.{Library}
+use Rattle.cache_entries.specs.Winner.{has_own_name, named_links, other_links}
+
+-- one of the files has the soname
+abbrev pub has_file : List Library → List ℕ → Bool
+has_file files soname = is_some (find (has_soname soname) files)
+
+-- these files have no other sonames than those
+abbrev pub AreAmong : List Library → List Library → Type 0
+AreAmong left files = (soname : List ℕ) → has_file left soname ≡ true → has_file files soname ≡ true
+
+-- the link is looked up by its own name, and a file has that soname
+pub record IsPassed (files : List Library) (link : Library) : Type 0 where
+  pub own : has_own_name link ≡ true
+  pub there : has_file files link.name ≡ true
+
+-- of these links at least all that are looked up by sonames which no file has
+pub record HaveOthers (files links kept : List Library) : Type 0 where
+  pub own : (soname : List ℕ) → has_file files soname ≡ false → filter (has_soname soname) (named_links kept) ≡ filter (has_soname soname) (named_links links)
+  pub others : other_links kept ≡ other_links links

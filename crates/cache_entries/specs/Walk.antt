@@ -1,0 +1,52 @@
+-- Where the library of a soname is, by a search of the places that knows no cache: in their order those for the loader's first hwcaps name
+-- (ld.so(8): glibc-hwcaps subdirectories), then those for its next one, and the directories themselves last. That is the order of what a
+-- loader finds by its cache; the directories of a library path it searches one by one, each with its subdirectories first.
+use Rattle.std.specs.Prelude.{ℕ, Bool, List, [], ◌∷◌, ◌++◌, filter, if◌then◌else◌, map, nat_eq, Option, Some, None}
+use Rattle.std.specs.Option.{option_and_then, option_eq, option_or}
+use Rattle.std.specs.Str.{bytes_eq}
+use Rattle.hwcap_dirs.specs.declared.kinds.Place.{Place}
+use Rattle.lib_types.specs.Abi.{flags_of}
+use Rattle.lib_types.specs.declared.abi.Abi.{Abi}
+use Rattle.found_files.specs.Analyses.{Analyses}
+use Rattle.found_files.specs.Libraries.{libraries_in}
+use Rattle.found_files.specs.Library.{Library}
+use Rattle.image_tree.specs.Paths.{join}
+use Rattle.image_tree.specs.Tree.{Nodes}
+use Rattle.cache_entries.specs.Entries.{entry_name}
+use Rattle.cache_entries.specs.Winner.{links_to_libraries, winner}
+
+-- the first value that one of these items has
+abbrev pub first_value : {X Y : Type 0} → (X → Option Y) → List X → Option Y
+first_value f [] = None
+first_value f (x ∷ xs) = option_or (f x) (first_value f xs)
+
+-- ---- one place
+
+-- the same hwcaps name, or none in both
+abbrev pub is_same_cap : Option (List ℕ) → Option (List ℕ) → Bool
+is_same_cap = option_eq bytes_eq
+
+abbrev pub is_same_abi : Abi → Abi → Bool
+is_same_abi abi other = nat_eq (flags_of abi) (flags_of other)
+
+-- the path of a place's winner, which counts if the winner has the ABI
+abbrev pub path_for : Nodes → Abi → Place → Library → Option (List ℕ)
+path_for t abi place winner = if is_same_abi winner.abi abi then Some (join place.spelled (entry_name t place winner)) else None
+
+-- the path in a place: that of the soname's winner
+abbrev pub path_in : Analyses → Nodes → List ℕ → Abi → Place → Option (List ℕ)
+path_in what t soname abi place = option_and_then (path_for t abi place) (winner (libraries_in what t place) (links_to_libraries what t place) soname)
+
+-- ---- all places
+
+-- the first path in the places with this hwcaps name, or in those that are no subdirectories for processors
+abbrev pub path_with : Analyses → Nodes → List Place → List ℕ → Abi → Option (List ℕ) → Option (List ℕ)
+path_with what t places soname abi cap = first_value (path_in what t soname abi) (filter (λ place. is_same_cap place.cap cap) places)
+
+-- hwcaps names in the caller's order, and then none
+abbrev pub in_turn : List (List ℕ) → List (Option (List ℕ))
+in_turn caps = map (λ cap. Some cap) caps ++ None ∷ []
+
+-- The first path for the caller's hwcaps names in their order, and then for none.
+unfoldable pub walk : Analyses → Nodes → List Place → List ℕ → Abi → List (List ℕ) → Option (List ℕ)
+walk what t places soname abi caps = first_value (path_with what t places soname abi) (in_turn caps)

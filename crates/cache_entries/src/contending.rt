@@ -1,0 +1,62 @@
+//! The links of a place that may win a soname.
+ghost use Rattle.std.specs.List.{filter_map};
+ghost use Rattle.std.specs.Prelude.{◌≡◌, true, IfOk, IsTrue};
+ghost use Rattle.found_files.specs.Table.{analysis_at};
+ghost use Rattle.cache_entries.specs.Others.{has_file, AreAmong, HaveOthers, IsPassed};
+ghost use Rattle.cache_entries.specs.Winner.{linked};
+
+use crate::winner::{has_own_name, linked};
+use found_files::{BestIter, BestLibraries, FollowedLinks, Library, Table};
+use lib_types::{NoMemory, compare_bytes};
+use std::alloc::Global;
+use std::cmp::Ordering;
+
+// Whether one of the files that are left has this soname. Those of lower sonames are passed by: links are asked for nearly in the order of
+// theirs.
+#[tactic(auto, using(crate::proofs::Others::all_among, crate::proofs::Others::rest_among, crate::proofs::Others::first_there))]
+fn reaches(left: &mut BestIter<'_>, soname: &[u8]) -> bool
+    ensures left { AreAmong left.new left.old }
+    ensures found { IsTrue result → has_file left.old soname.now ≡ true }
+{
+    while let Some(file) = left.first() {
+        match compare_bytes(file.soname, soname) {
+            Ordering::Less => {
+                left.next();
+            }
+            Ordering::Equal => return true,
+            Ordering::Greater => return false,
+        }
+    }
+    false
+}
+
+// Whether the link loses to one of the files that are left.
+fn is_passed(left: &mut BestIter<'_>, link: &Library<'_>) -> bool
+    ensures left { AreAmong left.new left.old }
+    ensures passed { IsTrue result → IsPassed left.old link.now }
+{
+    has_own_name(link) && reaches(left, link.name)
+}
+
+/// The libraries to which the links of a place lead, but for those that lose to a file: most links have the soname of a file beside them
+/// as their name, so few are left to be sorted. One that loses may be left.
+#[tactic(auto, using(crate::proofs::Others::all_among, crate::proofs::Others::among_both, crate::proofs::Others::all_kept))]
+pub(crate) fn contenders<'a>(
+    alloc: Global,
+    table: &'a Table,
+    files: &BestLibraries,
+    links: &'a FollowedLinks,
+) -> Result<Vec<Library<'a>>, NoMemory>
+    ensures { IfOk result (λ kept. HaveOthers files.now (filter_map (linked (analysis_at table.now)) links.now) kept.items) }
+{
+    let mut kept = Vec::new(alloc);
+    let mut left = files.iter();
+    for link in links.iter() {
+        if let Some(library) = linked(table, &link) {
+            if !is_passed(&mut left, &library) {
+                kept.push(library)?;
+            }
+        }
+    }
+    Ok(kept)
+}

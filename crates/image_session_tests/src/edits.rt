@@ -1,0 +1,61 @@
+//! Rows of edits.
+use crate::loads::disk;
+use crate::shown::shown;
+use lib_types::NoMemory;
+use image_session::{EditFault, Session};
+use std::alloc::Global;
+use table_rows::{Row, Said, Trial, divide, text};
+
+/// A row has the texts of an image, the lines that edit it one after another, the result of each, and the image after them.
+pub(crate) struct Edits;
+
+// Adds the result of an edit as a line.
+fn put_result(
+    alloc: Global,
+    results: &mut Vec<u8>,
+    outcome: Result<(), EditFault>,
+) -> Result<(), NoMemory> {
+    match outcome {
+        Ok(()) => results.extend_from_slice(b"Ok\n")?,
+        Err(EditFault::NoMemory) => return Err(NoMemory),
+        Err(fault) => {
+            let name = format!(in alloc; "{fault:?}\n")?;
+            results.extend_from_slice(name.as_bytes())?;
+        }
+    }
+    Ok(())
+}
+
+// Edits the image by each of the lines, and gives the results.
+fn edit_all(alloc: Global, image: &mut Session, lines: &[u8]) -> Result<Vec<u8>, NoMemory> {
+    let mut results = Vec::new(alloc);
+    let mut rest = lines;
+    for _ in 0..lines.len() {
+        if rest.is_empty() {
+            break;
+        }
+        let (line, behind) = divide(b'\n', rest);
+        put_result(alloc, &mut results, image.edit(alloc, line))?;
+        rest = behind;
+    }
+    Ok(results)
+}
+
+impl Trial for Edits {
+    fn words() -> &'static [&'static [u8]] {
+        &[b"manifest", b"aux", b"edits", b"results", b"image"]
+    }
+
+    // A body that always returns NoMemory meets the contract; the rows refuse it.
+    fn is_right(alloc: Global, row: Row<'_>, said: &mut Said) -> Result<bool, NoMemory> {
+        let mut disk = disk(alloc, row)?;
+        let Ok(mut image) = Session::load(alloc, &mut disk) else {
+            said.say(b"not loaded", b"")?;
+            return Ok(false);
+        };
+        let results = edit_all(alloc, &mut image, &text(alloc, row, b"edits")?)?;
+        let same = said.is_same(b"results", &text(alloc, row, b"results")?, &results)?;
+        let got = shown(alloc, &image)?;
+        Ok(said.is_same(b"image", &text(alloc, row, b"image")?, &got)? && same)
+    }
+}

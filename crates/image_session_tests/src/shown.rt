@@ -1,0 +1,44 @@
+//! An image that is loaded, as text.
+use aux_cache::Stamp;
+use lib_types::NoMemory;
+use image_session::Session;
+use std::alloc::Global;
+
+// Adds the line of a stamp: device, inode, ctime, size, ABI and soname (`-` for none).
+fn put_stamp(alloc: Global, text: &mut Vec<u8>, stamp: &Stamp) -> Result<(), NoMemory> {
+    let Stamp { id, abi, soname } = stamp;
+    let shown = format!(in alloc;
+        "stamp {} {} {} {} {abi:?} ",
+        id.dev, id.inode, id.ctime, id.size
+    )?;
+    text.extend_from_slice(shown.as_bytes())?;
+    match soname {
+        Some(soname) => text.extend_from_slice(soname.as_bytes())?,
+        None => text.push(b'-')?,
+    }
+    text.push(b'\n')?;
+    Ok(())
+}
+
+// Adds the line of the auxiliary cache's damage, if there is one.
+fn put_damage(alloc: Global, text: &mut Vec<u8>, damaged: Option<u64>) -> Result<(), NoMemory> {
+    if let Some(at) = damaged {
+        let shown = format!(in alloc; "damaged {at}\n")?;
+        text.extend_from_slice(shown.as_bytes())?;
+    }
+    Ok(())
+}
+
+/// The mark, the damage, the stamps, and the tree as a manifest.
+pub(crate) fn shown(alloc: Global, image: &Session) -> Result<Vec<u8>, NoMemory> {
+    let mut text = Vec::new(alloc);
+    if image.edited {
+        text.extend_from_slice(b"edited\n")?;
+    }
+    put_damage(alloc, &mut text, image.damaged)?;
+    for stamp in image.stamps.as_slice() {
+        put_stamp(alloc, &mut text, stamp)?;
+    }
+    text.extend_from_slice(&mtree_manifest::write(alloc, &image.tree)?)?;
+    Ok(text)
+}

@@ -1,0 +1,99 @@
+-- What is read whatever stamps say: only a file of the tree that isn't held ends the reading beside the device's faults.
+use Rattle.std.proofs.Common.{◌≡◌, ◌||◌, ℕ, Bool, true, false, cond, List, [], ◌∷◌, Option, Some, None, refl, ap, sym, ◌∙◌}
+use Rattle.std.proofs.lemmas.Bool.{or_left, or_right}
+use Rattle.std.specs.List.{cons_option, filter_map, list_any}
+use Rattle.std.specs.Map.{lookup}
+use Rattle.std.specs.Option.{is_none, option_map_or}
+use Rattle.std.specs.Prelude.{IsSomeAnd}
+use Rattle.aux_cache.specs.declared.stamps.Stamp.{Stamp}
+use Rattle.elf_dynamic.specs.Begun.{is_lacking, key_in, lacks_one}
+use Rattle.image_tree.specs.declared.node.Node.{Node}
+use Rattle.image_tree.specs.Tree.{Nodes, node_at}
+use Rattle.ldso_conf.specs.Reading.{conf_lacks}
+use Rattle.lib_types.proofs.SortedPairs.{by_test}
+use Rattle.planned_tree.specs.Search.{IsSearchedAlike}
+use Rattle.file_stamps.specs.Opened.{ReadsOpenedBy, opened_keys, unstamped_key}
+use Rattle.file_stamps.specs.Said.{stamps_before}
+use Rattle.file_stamps.specs.Stamped.{stamp_for}
+use Rattle.tree_face.proofs.StoreUse.{reads_fewer, reads_then}
+use Rattle.tree_face.specs.Store.{Contents, StoreState}
+use Rattle.tree_face.specs.StoreUse.{Ending, Complete, ReadsFiles}
+use Rattle.library_search.proofs.FilesAgree.{key_same}
+use Rattle.library_search.proofs.KeysBegun.{SearchBy}
+use Rattle.library_search.specs.Begun.{lacks_some, lacks_wanted, wanted_keys}
+use Rattle.library_search.specs.Ldconfig.{wanted_in}
+
+-- ---- a file of the tree
+
+module _ (held : Contents) where
+  abbrev is_missing : List ℕ × Node → Bool
+  is_missing entry = option_map_or (is_lacking held) (key_in (Some entry.1)) false
+
+  missing_by : (k : Option (List ℕ)) (key : List ℕ) → k ≡ Some key → is_lacking held key ≡ true → option_map_or (is_lacking held) k false ≡ true
+  missing_by k key e lacks = ap (λ k. option_map_or (is_lacking held) k false) e ∙ lacks
+
+  node_missing : (test : List ℕ → Bool) (t : Nodes) (key : List ℕ) → key_in (lookup test t) ≡ Some key → is_lacking held key ≡ true → list_any is_missing t ≡ true
+  node_missing test [] key e lacks = absurd (cc)
+  node_missing test (entry ∷ t) key e lacks = by_test (test entry.0)
+      (λ f. or_left (is_missing entry) (list_any is_missing t) (missing_by (key_in (Some entry.1)) key (rw f at e) lacks))
+      (λ f. or_right (is_missing entry) (list_any is_missing t) (node_missing test t key (rw f at e) lacks))
+
+  module _ (t : Nodes) (key_at : List ℕ → Option (List ℕ)) (of_file : (path key : List ℕ) → key_at path ≡ Some key → key_in (node_at t path) ≡ Some key) where
+    keys_missing : (paths : List (List ℕ)) → lacks_one held (filter_map key_at paths) ≡ true → list_any is_missing t ≡ true
+    keys_missing [] lacks = absurd (cc)
+    keys_missing (path ∷ paths) lacks = by (keys_missing paths) (key_at path) refl lacks
+      where
+        by : (lacks_one held (filter_map key_at paths) ≡ true → list_any is_missing t ≡ true) → (o : Option (List ℕ)) → key_at path ≡ o
+            → lacks_one held (cons_option o (filter_map key_at paths)) ≡ true → list_any is_missing t ≡ true
+        by later None e lacks = later lacks
+        by later (Some key) e lacks = by_test (is_lacking held key)
+            (λ f. node_missing _ t key (of_file path key e) f)
+            (λ f. later (sym (ap (λ b. b || lacks_one held (filter_map key_at paths)) f) ∙ lacks))
+
+of_test : (b : Bool) (k : Option (List ℕ)) (key : List ℕ) → cond b k None ≡ Some key → k ≡ Some key
+of_test true k key e = e
+of_test false k key e = absurd (cc)
+
+module _ (held : Contents) (t : Nodes) where
+  missing_some : list_any (is_missing held) t ≡ true → lacks_some held t ≡ true
+  unfolding lacks_some
+  missing_some = or_right (conf_lacks held t) (list_any (is_missing held) t)
+
+  conf_some : conf_lacks held t ≡ true → lacks_some held t ≡ true
+  unfolding lacks_some
+  conf_some = or_left (conf_lacks held t) (list_any (is_missing held) t)
+
+  -- a file that is opened in a tree with the same files
+  opened_some : (new : Nodes) (stamps : List Stamp) (paths : List (List ℕ)) → ((path : List ℕ) → key_in (node_at new path) ≡ key_in (node_at t path))
+      → lacks_one held (opened_keys held new stamps paths) ≡ true → lacks_some held t ≡ true
+  opened_some new stamps paths same lacks =
+      missing_some (keys_missing held t (λ path. unstamped_key (stamps_before held new stamps paths path) new path)
+      (λ path key e. sym (same path) ∙ of_test (is_none (stamp_for (stamps_before held new stamps paths path) new path)) (key_in (node_at new path)) key e) paths lacks)
+
+  wanted_some : (loaded : List Stamp) → lacks_wanted held t loaded ≡ true → lacks_some held t ≡ true
+  unfolding wanted_keys
+  wanted_some loaded lacks = by_test (conf_lacks held t)
+      (λ e. conf_some e)
+      (λ e. opened_some t loaded (wanted_in held t) (λ path. refl) (sym (ap (λ b. b || lacks_one held (wanted_keys held t loaded)) e) ∙ lacks))
+
+-- ---- the reading
+
+-- the reading in a store that holds this
+abbrev pub AnyBy : Nodes → Option Contents → Ending → StoreState → StoreState → Type 0
+AnyBy t known e a b = ReadsFiles (IsSomeAnd known (λ held. lacks_some held t ≡ true)) None None e a b
+
+module _ (t : Nodes) (loaded : List Stamp) (e : Ending) where
+  pub search_any : (known : Option Contents) (a b : StoreState) → SearchBy t loaded known e a b → AnyBy t known e a b
+  search_any None a b reads = reads
+  search_any (Some held) a b reads = reads_fewer _ _ _ _ e a b (wanted_some held t loaded) reads
+
+  behind_any : (known : Option Contents) (new : Nodes) (stamps : List Stamp) (paths : List (List ℕ)) (b c : StoreState) → IsSearchedAlike t new
+      → ReadsOpenedBy known (λ held. opened_keys held new stamps paths) e b c → AnyBy t known e b c
+  behind_any None new stamps paths b c alike reads = reads
+  behind_any (Some held) new stamps paths b c alike reads = reads_fewer _ _ _ _ e b c (opened_some held t new stamps paths (key_same held t new alike)) reads
+
+pub update_any : (t : Nodes) (loaded : List Stamp) (e : Ending) (known : Option Contents) (new : Nodes) (stamps : List Stamp) (paths : List (List ℕ)) (a b c : StoreState) → IsSearchedAlike t new
+    → SearchBy t loaded known Complete a b → ReadsOpenedBy known (λ held. opened_keys held new stamps paths) e b c → AnyBy t known e a c
+update_any t loaded e known new stamps paths a b c alike first next =
+    let some : Type 0 = IsSomeAnd known (λ held. lacks_some held t ≡ true) in
+    reads_then e a b c some some some None None None None (λ lacks. lacks) (search_any t loaded Complete known a b first) (behind_any t loaded e known new stamps paths b c alike next)

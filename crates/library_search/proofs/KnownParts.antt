@@ -1,0 +1,87 @@
+-- The parts of an update, if contents are known.
+use Rattle.std.proofs.Common.{◌≡◌, ◌≤◌, ◌<◌, ◌+◌, ◌||◌, ℕ, true, false, List, length, Option, Some, None, sym, subst}
+use Rattle.std.specs.Map.{keys_of}
+use Rattle.aux_cache.specs.declared.stamps.Stamp.{Stamp}
+use Rattle.elf_dynamic.specs.Begun.{lacks_one}
+use Rattle.hwcap_dirs.specs.declared.kinds.Place.{Place}
+use Rattle.found_files.proofs.Members.{is_in}
+use Rattle.found_files.specs.Analyses.{AgreeOn, HaveAnalyses, KeepsAnalyses}
+use Rattle.found_files.specs.Search.{dangling, reached, wanted}
+use Rattle.found_files.specs.Table.{analysis_at}
+use Rattle.planned_tree.specs.Search.{IsSearchedAlike}
+use Rattle.soname_links.proofs.NoOtherFiles.{settled_agrees}
+use Rattle.soname_links.specs.Apply.{nodes_with}
+use Rattle.soname_links.specs.declared.kinds.Survey.{Survey}
+use Rattle.soname_links.specs.Marks.{blocked, mixed}
+use Rattle.soname_links.specs.Plan.{links, with_links}
+use Rattle.soname_links.specs.Settled.{IsSettled}
+use Rattle.file_stamps.specs.Opened.{opened_keys}
+use Rattle.file_stamps.specs.Said.{said_in, stamps_said}
+use Rattle.file_stamps.specs.Stamped.{with_stamps}
+use Rattle.file_stamps.specs.State.{stamps_there, unread_paths}
+use Rattle.file_stamps.specs.declared.files.Files.{Files}
+use Rattle.image_tree.specs.declared.tree.TheConstants.{NODES_MAX}
+use Rattle.tree_face.specs.Known.{IfKnown}
+use Rattle.tree_face.specs.Store.{Contents}
+use Rattle.image_tree.specs.Tree.{Nodes}
+use Rattle.library_search.proofs.FoundParts as parts
+use Rattle.library_search.specs.Begun.{behind_keys, has_too_many_nodes, lacks_wanted}
+use Rattle.library_search.specs.declared.following.Followed.{Followed}
+use Rattle.library_search.specs.declared.search.Search.{Search}
+use Rattle.library_search.specs.Found.{HasTooManyNodes, IsFound, IsSearched}
+use Rattle.library_search.specs.Ldconfig.{places_in, said_wanted}
+
+-- what follows for each content
+pub known_then : (known : Option Contents) (P Q : Contents → Type 0) → ((held : Contents) → P held → Q held) → IfKnown known P → IfKnown known Q
+known_then None P Q f p = tt
+known_then (Some held) P Q f p = f held p
+
+module _ (t : Nodes) (loaded : List Stamp) (search : Search) where
+  abbrev nodes_then : ℕ
+  nodes_then = nodes_with t (links (analysis_at search.files.table) t search.dirs.places)
+
+  module _ (known : Option Contents) (s : IfKnown known (λ held. IsSearched held t loaded search)) where
+    pub none_lacks : IfKnown known (λ held. lacks_wanted held t loaded ≡ false)
+    none_lacks = known_then known _ _ (λ held (s : IsSearched held t loaded search). s.none_lacks) s
+
+    pub few_nodes : nodes_then ≤ NODES_MAX → IfKnown known (λ held. has_too_many_nodes held t loaded ≡ false)
+    few_nodes few = known_then known _ _ (λ held s. parts.few_nodes held t loaded search s few) s
+
+    pub many_nodes : (nodes : ℕ) → (nodes ≡ nodes_then) × (NODES_MAX < nodes) → IfKnown known (λ held. has_too_many_nodes held t loaded ≡ true)
+    many_nodes nodes many = known_then known _ _ (λ held s. parts.many_nodes held t loaded search s nodes many.0 many.1) s
+
+    pub too_large : (nodes : ℕ) → (nodes ≡ nodes_then) × (NODES_MAX < nodes) → IfKnown known (λ held. HasTooManyNodes held t loaded nodes)
+    too_large nodes many = known_then known _ _ (λ held s. parts.too_large held t loaded search s nodes many.0 many.1) s
+
+    pub settled : (new : Nodes) → IsSettled (analysis_at search.files.table) t search.dirs.places new → IfKnown known (λ held. IsSettled (said_wanted held t loaded) t (places_in held t) new)
+    settled new still = known_then known _ _ (λ held (s : IsSearched held t loaded search).
+        subst (λ (p : List Place). IsSettled (said_wanted held t loaded) t p new) s.places
+        (settled_agrees t (analysis_at search.files.table) (said_wanted held t loaded) search.dirs.places new (λ path there. sym (parts.agree_wanted held t loaded search s path there)) still)) s
+
+  module _ (all : HaveAnalyses (analysis_at search.files.table) (wanted t search.dirs.places))
+      (only : (path : List ℕ) → is_in (keys_of search.files.table) path ≡ true → is_in (wanted t search.dirs.places) path ≡ true) (new : Nodes) (alike : IsSearchedAlike t new)
+      (new_is : new ≡ with_links t (links (analysis_at search.files.table) t search.dirs.places)) where
+    abbrev here : List Stamp
+    here = stamps_there loaded search.files
+
+    -- the files that links lead to and that weren't read
+    abbrev behind : List (List ℕ)
+    behind = unread_paths search.files (reached new search.dirs.places)
+
+    pub behind_are : (known : Option Contents) → IfKnown known (λ held. IsSearched held t loaded search)
+        → IfKnown known (λ held. opened_keys held new here behind ≡ behind_keys held t loaded)
+    behind_are known s = known_then known _ _ (λ held s. parts.behind_are held t loaded search s all only new alike new_is) s
+
+    module _ (still : IsSettled (analysis_at search.files.table) t search.dirs.places new) (made : Survey) (followed : Followed) (files : Files)
+        (plan : made.plan ≡ links (analysis_at search.files.table) t search.dirs.places) (few : nodes_then ≤ NODES_MAX)
+        (b : made.blocked ≡ blocked (analysis_at search.files.table) t search.dirs.places) (m : made.mixed ≡ mixed (analysis_at search.files.table) t search.dirs.places)
+        (d : followed.dangling ≡ dangling new search.dirs.places) (keeps : KeepsAnalyses (analysis_at search.files.table) (analysis_at files.table))
+        (more : (path : List ℕ) → is_in (keys_of files.table) path ≡ true → (is_in (keys_of search.files.table) path || is_in (reached new search.dirs.places) path) ≡ true) where
+      pub is_found : (known : Option Contents) → IfKnown known (λ held. IsSearched held t loaded search)
+          → IfKnown known (λ held. AgreeOn behind (said_in held new here behind) (analysis_at files.table))
+          → IfKnown known (λ held. files.stamps ≡ with_stamps search.files.stamps (stamps_said new (said_in held new here behind) behind))
+          → IfKnown known (λ held. files.begun ≡ search.files.begun + length (opened_keys held new here behind))
+          → IfKnown known (λ held. lacks_one held (opened_keys held new here behind) ≡ false)
+          → IfKnown known (λ held. IsFound held t loaded (record { search = record search { files = files }; links = made; followed = followed }) new)
+      is_found None s said stamps begun none = tt
+      is_found (Some held) s said stamps begun none = parts.is_found held t loaded search s all only new alike new_is made followed files still plan few b m d said keeps more stamps begun none

@@ -1,0 +1,22 @@
+-- The files that links with library names lead to and that are still to be read.
+use Rattle.std.specs.Prelude.{ℕ, List}
+use Rattle.aux_cache.specs.declared.stamps.Stamp.{Stamp}
+use Rattle.found_files.specs.Search.{reached}
+use Rattle.hwcap_dirs.specs.declared.kinds.Dirs.{Dirs}
+use Rattle.image_tree.specs.Tree.{Nodes}
+use Rattle.file_stamps.specs.Opened.{opened_keys}
+use Rattle.file_stamps.specs.State.{made_there, stamps_there, unread_paths}
+use Rattle.file_stamps.specs.declared.files.Files.{Files}
+use Rattle.tree_face.specs.Store.{Contents}
+
+-- the paths of those that have no analysis yet
+abbrev pub unread_behind : Files → Nodes → Dirs → List (List ℕ)
+unread_behind files t dirs = unread_paths files (reached t dirs.places)
+
+-- the keys of those that are opened
+abbrev pub opened_behind : Contents → List Stamp → Files → Nodes → Dirs → List (List ℕ)
+opened_behind held loaded files t dirs = opened_keys held t (stamps_there loaded files) (unread_behind files t dirs)
+
+-- the stamps that are made of them
+abbrev pub made_behind : Contents → List Stamp → Files → Nodes → Dirs → List Stamp
+made_behind held loaded files t dirs = made_there held t loaded files (unread_behind files t dirs)

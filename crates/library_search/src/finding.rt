@@ -1,0 +1,62 @@
+//! All that an update finds.
+ghost use Rattle.std.specs.Prelude.{◌≡◌, ℕ, IfOk, IsErrOf, IsTrue, OnOk};
+ghost use Rattle.hwcap_dirs.specs.Places.{are_spelled};
+ghost use Rattle.found_files.specs.Best.{bests_of};
+ghost use Rattle.found_files.specs.Search.{followed};
+ghost use Rattle.found_files.specs.Table.{analysis_at};
+ghost use Rattle.image_tree.specs.Tree.{IsTree};
+ghost use Rattle.planned_tree.specs.Search.{IsSearchedAlike};
+ghost use Rattle.soname_links.specs.Settled.{IsSettled};
+ghost use Rattle.aux_cache.specs.Stamps.{HaveNames};
+ghost use Rattle.tree_face.specs.Known.{IfKnown};
+ghost use Rattle.library_search.specs.Faults.{find_ending};
+ghost use Rattle.library_search.specs.Found.{HasTooManyNodes, IsFound, ReadsFinding};
+ghost use Rattle.library_search.specs.Ldconfig.{places_in, said_wanted};
+
+use crate::fault::FindFault;
+use crate::following::{Followed, follow_links};
+use crate::search::{Search, search_image};
+use aux_cache::Stamps;
+use planned_tree::plan_links;
+use soname_links::Survey;
+use std::alloc::Global;
+use tree_face::{Store, Tree};
+
+/// All that an update finds. The files are all library files.
+#[derive(Drop)]
+pub struct Found {
+    pub search: Search,
+    pub links: Survey,
+    pub followed: Followed,
+}
+
+/// Looks through an image, and puts the planned links into its tree. Of the library files only those are opened of which no stamp says what
+/// they are: none that is loaded, and none of a library that was read before.
+pub fn find<S: Store>(
+    alloc: Global,
+    tree: &mut Tree,
+    store: &mut S,
+    loaded: &Stamps,
+) -> Result<Found, FindFault>
+    requires names { HaveNames loaded.now }
+    ensures found { IfOk result (λ found. IfKnown (S.state store.old).held (λ held. IsFound held tree.old loaded.now found tree.new)) }
+    ensures is_tree { OnOk result (IsTree tree.new) }
+    ensures alike { OnOk result (IsSearchedAlike tree.old tree.new) }
+    ensures settled { OnOk result (IfKnown (S.state store.old).held
+        (λ held. IsSettled (said_wanted held tree.old loaded.now) tree.old (places_in held tree.old) tree.new)) }
+    ensures links { IfOk result (λ found. found.followed.links ≡ followed tree.new found.search.dirs.places) }
+    ensures bests { IfOk result (λ found. found.links.bests ≡ bests_of (analysis_at found.search.files.table) tree.new found.search.dirs.places) }
+    ensures spelled { IfOk result (λ found. IsTrue (are_spelled found.search.dirs.places)) }
+    ensures too_large { (nodes : ℕ) → IsErrOf result (FindFault.TooLarge nodes) →
+        IfKnown (S.state store.old).held (λ held. HasTooManyNodes held tree.old loaded.now nodes) }
+    ensures reads { ReadsFinding tree.old loaded.now (find_ending result) (S.state store.old) (S.state store.new) }
+{
+    let mut search = search_image(alloc, tree, store, loaded)?;
+    let links = plan_links(alloc, tree, &search.dirs, &search.files.table)?;
+    let followed = follow_links(alloc, tree, store, loaded, &search.dirs, &mut search.files)?;
+    Ok(Found {
+        search,
+        links,
+        followed,
+    })
+}

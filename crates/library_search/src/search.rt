@@ -1,0 +1,63 @@
+//! What is found in an image before its links are planned.
+ghost use Rattle.std.specs.Prelude.{◌≡◌, ℕ, List, true, IfErr, IfOk, IsTrue};
+ghost use Rattle.std.specs.List.{list_any};
+ghost use Rattle.std.specs.Map.{keys_of};
+ghost use Rattle.std.specs.Str.{bytes_eq};
+ghost use Rattle.file_stamps.specs.Files.{AreRead};
+ghost use Rattle.aux_cache.specs.Stamps.{HaveNames};
+ghost use Rattle.hwcap_dirs.specs.Places.{are_dirs, are_spelled};
+ghost use Rattle.found_files.specs.Analyses.{HaveAnalyses};
+ghost use Rattle.found_files.specs.Rows.{AreOfPlaces};
+ghost use Rattle.found_files.specs.Search.{wanted};
+ghost use Rattle.found_files.specs.Table.{analysis_at};
+ghost use Rattle.tree_face.specs.Known.{IfKnown};
+ghost use Rattle.library_search.specs.Faults.{find_ending, is_store_fault};
+ghost use Rattle.library_search.specs.Found.{IsSearched, ReadsSearch};
+
+use crate::fault::FindFault;
+use aux_cache::Stamps;
+use found_files::wanted_files;
+use hwcap_dirs::{Dirs, order};
+use ldso_conf::{Conf, read_conf};
+use file_stamps::{Files, read_files};
+use std::alloc::Global;
+use tree_face::{Store, Tree};
+
+/// What is found in an image before its links are planned.
+#[derive(Drop)]
+pub struct Search {
+    pub conf: Conf,
+    /// Where libraries are looked for.
+    pub dirs: Dirs,
+    /// What the files with library names there are.
+    pub files: Files,
+}
+
+/// Reads the conf files, and then the files with library names in the places. Of the latter only those are opened of which no stamp says what
+/// they are.
+pub fn search_image<S: Store>(
+    alloc: Global,
+    tree: &Tree,
+    store: &mut S,
+    loaded: &Stamps,
+) -> Result<Search, FindFault>
+    requires names { HaveNames loaded.now }
+    ensures found { IfOk result (λ search. IfKnown (S.state store.old).held (λ held. IsSearched held tree.now loaded.now search)) }
+    ensures real { IfOk result (λ search. IsTrue (are_dirs tree.now search.dirs.places)) }
+    ensures spelled { IfOk result (λ search. IsTrue (are_spelled search.dirs.places)) }
+    ensures read { IfOk result (λ search. AreRead tree.now (analysis_at search.files.table) (wanted tree.now search.dirs.places)) }
+    ensures all { IfOk result (λ search. HaveAnalyses (analysis_at search.files.table) (wanted tree.now search.dirs.places)) }
+    ensures only { IfOk result (λ search. (path : List ℕ) → list_any (bytes_eq path) (keys_of search.files.table) ≡ true →
+        list_any (bytes_eq path) (wanted tree.now search.dirs.places) ≡ true) }
+    ensures rows { IfOk result (λ search. AreOfPlaces tree.now search.dirs.places search.files.table) }
+    ensures reads { ReadsSearch tree.now loaded.now (find_ending result) (S.state store.old) (S.state store.new) }
+    ensures others { IfErr result (λ fault. is_store_fault fault ≡ true) }
+{
+    tree.know();
+    let conf = read_conf(alloc, tree, store)?;
+    let dirs = order(alloc, tree, &conf.dirs)?;
+    let found = wanted_files(alloc, tree, &dirs)?;
+    let mut files = Files::new(alloc, found.len());
+    read_files(alloc, tree, store, loaded, found, &mut files)?;
+    Ok(Search { conf, dirs, files })
+}
