@@ -1,7 +1,7 @@
 -- A command that only asks, by what it reads, what is answered of that, and how it ends.
 use Rattle.std.proofs.Common.{◌≡◌, ℕ, List, Option, Some, None, Result, Ok, Err, inr, refl, subst}
 use Rattle.std.specs.Result.{result_map_both}
-use Rattle.devices.specs.Devices.{DeviceStates}
+use Rattle.commands.specs.Devices.{DeviceStates}
 use Rattle.cache_reader.specs.Cache.{CachedEntry}
 use Rattle.commands.specs.declared.kinds.Resolve.{Resolve}
 use Rattle.image_tree.specs.Tree.{Nodes}

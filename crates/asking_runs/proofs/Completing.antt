@@ -3,7 +3,7 @@ use Rattle.std.proofs.Common.{◌≡◌, ◌⊎◌, ◌∷◌, [], ℕ, List, Bo
 use Rattle.std.proofs.lemmas.Bool.{true≢false}
 use Rattle.std.specs.Prelude.{IfOk, if◌then◌else◌, not}
 use Rattle.std.specs.Result.{result_map_both}
-use Rattle.devices.specs.Devices.{DeviceStates, IfBothKnown}
+use Rattle.commands.specs.Devices.{DeviceStates, IfBothKnown}
 use Rattle.elf_dynamic.specs.Begun.{file_keys, lacks_one}
 use Rattle.elf_dynamic.specs.declared.kinds.Object.{Object}
 use Rattle.cache_reader.specs.Cache.{CachedEntry}

@@ -4,7 +4,7 @@ use Rattle.cache_lookup.specs.Scan.{scan}
 use Rattle.cache_reader.specs.Cache.{CachedEntry}
 use Rattle.cache_reader.specs.declared.defect.CacheDefect.{CacheDefect}
 use Rattle.commands.specs.declared.kinds.Lookup.{Lookup}
-use Rattle.devices.specs.Devices.{DeviceStates}
+use Rattle.commands.specs.Devices.{DeviceStates}
 use Rattle.update_report.specs.Lines.{line}
 use Rattle.command_status.specs.Ending.{AnswerText}
 use Rattle.command_status.specs.declared.status.Status.{Status}

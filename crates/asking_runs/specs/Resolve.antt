@@ -5,7 +5,7 @@ use Rattle.std.specs.Result.{result_map_both}
 use Rattle.cache_reader.specs.Cache.{CachedEntry}
 use Rattle.cache_reader.specs.declared.defect.CacheDefect.{CacheDefect}
 use Rattle.commands.specs.declared.kinds.Resolve.{Resolve}
-use Rattle.devices.specs.Devices.{DeviceStates, IfBothKnown}
+use Rattle.commands.specs.Devices.{DeviceStates, IfBothKnown}
 use Rattle.elf_dynamic.specs.Begun.{lacks_one}
 use Rattle.elf_dynamic.specs.declared.kinds.Object.{Object}
 use Rattle.ldd_resolve.specs.Printed.{listing_text}

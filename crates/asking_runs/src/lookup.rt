@@ -2,7 +2,7 @@
 ghost use Rattle.std.specs.Prelude.{◌≡◌, option_map};
 ghost use Rattle.std.specs.Result.{result_map_both};
 ghost use Rattle.cache_lookup.specs.Scan.{AreDescending, scan};
-ghost use Rattle.devices.specs.Devices.{states};
+ghost use Rattle.commands.specs.Devices.{states};
 ghost use Rattle.tree_face.specs.Store.{StoreState};
 ghost use Rattle.tree_face.specs.Stream.{SourceState, TakesAll};
 ghost use Rattle.update_report.specs.Lines.{line};

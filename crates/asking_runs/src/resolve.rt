@@ -1,7 +1,7 @@
 //! The command `resolve`.
 ghost use Rattle.std.specs.Prelude.{◌≡◌};
 ghost use Rattle.std.specs.Option.{option_copied};
-ghost use Rattle.devices.specs.Devices.{states};
+ghost use Rattle.commands.specs.Devices.{states};
 ghost use Rattle.tree_face.specs.Stream.{SourceState};
 ghost use Rattle.asking_runs.specs.Resolve.{AnswersImage, ListsProgram, ListsWith, ResolveRun, cache_of, env_of, is_whole, listed_answer};
 

@@ -1,2 +1,5 @@
 pub mod Calls
+pub mod CallsOneByOne
+pub mod CrashesOneByOne
+pub mod OneByOne
 mod Stages

@@ -1,3 +1,4 @@
+pub mod OneByOne
 pub mod Order
 pub mod Replace
 pub mod Step

@@ -1,12 +1,14 @@
-//! The replacement of a slot's content, which leaves the old content or the new one, and no other.
+//! The replacement of the content of one slot, which leaves the old content or the new one, and of several, one after the other.
 #![tactic(auto)]
 
 mod fault;
 mod progress;
+mod slots;
 #[cfg(test)]
 mod tests;
 mod updater;
 
 pub use fault::DiskFault;
 pub use progress::Progress;
+pub use slots::{SlotWrite, replace_slots};
 pub use updater::Updater;

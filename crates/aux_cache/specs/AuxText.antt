@@ -2,7 +2,7 @@
 use Rattle.std.specs.Prelude.{ℕ, List, [], ◌∷◌, ◌++◌, length, map, flat_map, unwrap_or}
 use Rattle.lib_types.specs.Abi.{flags_of}
 use Rattle.cache_layout.specs.Layout.{laid_out}
-use Rattle.text_set.specs.Distinct.{distinct}
+use Rattle.string_pool.specs.Distinct.{distinct}
 use Rattle.string_pool.specs.InOrder.{table_of, place_of}
 use Rattle.aux_cache.specs.AuxLayout.{magic, header_fields, record_fields}
 use Rattle.aux_cache.specs.declared.stamps.Stamp.{Stamp}

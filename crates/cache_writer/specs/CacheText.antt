@@ -10,7 +10,7 @@ use Rattle.std.specs.Str.{bytes_eq}
 use Rattle.byteorder.specs.Endian.{little_bytes}
 use Rattle.lib_types.specs.declared.entry.Entry.{Entry}
 use Rattle.lib_types.specs.Abi.{flags_of}
-use Rattle.text_set.specs.Distinct.{distinct}
+use Rattle.string_pool.specs.Distinct.{distinct}
 use Rattle.string_pool.specs.InOrder.{table_of, place_of}
 use Rattle.cache_layout.specs.Layout.{laid_out, magic, header_fields, header_size, little_endian, entry_fields, entry_size, named_hwcap, extension_magic, directory_fields, directory_size, section_fields, section_size, generator_tag, names_tag}
 

@@ -2,7 +2,7 @@
 ghost use Rattle.std.specs.Prelude.{◌≡◌, ◌*◌, ◌^◌, ◌≤◌, ◌<◌, ◌+◌, [], length, map, flat_map, fold, All, IfOk, OnOk, bytes_eq};
 ghost use Rattle.indexmap.specs.IndexSet.{insert_key};
 ghost use Rattle.string_pool.specs.Texts.{number_of};
-ghost use Rattle.text_set.specs.Distinct.{distinct};
+ghost use Rattle.string_pool.specs.Distinct.{distinct};
 ghost use Rattle.cache_writer.specs.CacheText.{own_strings};
 ghost use Rattle.cache_writer.specs.Numbers.{AreAmong, HasNumbers};
 ghost use Rattle.cache_writer.specs.declared.writer.TheConstants.{ENTRIES_MAX};

@@ -2,7 +2,7 @@
 use Rattle.commands.specs.declared.kinds.Command.{Command}
 use Rattle.commands.specs.declared.kinds.Command.TheVariants as commands
 use Rattle.command_status.specs.declared.status.Status.{Status}
-use Rattle.devices.specs.Devices.{DeviceStates}
+use Rattle.commands.specs.Devices.{DeviceStates}
 use Rattle.asking_runs.specs.Lookup.{LookupRun}
 use Rattle.asking_runs.specs.Print.{PrintRun}
 use Rattle.asking_runs.specs.Resolve.{ResolveRun}

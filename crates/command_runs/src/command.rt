@@ -1,13 +1,12 @@
 //! The commands.
 ghost use Rattle.std.specs.Prelude.{◌≡◌};
-ghost use Rattle.devices.specs.Devices.{states_in, states_left};
+ghost use Rattle.commands.specs.Devices.{states_in, states_left};
 ghost use Rattle.command_runs.specs.Commands.{RunsCommand};
 ghost use Rattle.command_status.specs.Status.{EndsWith};
 
 use asking_runs::{run_lookup, run_print, run_resolve};
 use command_status::{Status, put_fault_line};
-use commands::Command;
-use devices::Devices;
+use commands::{Command, Devices};
 use sample_runs::run_sample;
 use script_runs::{run_batch, run_update};
 use std::alloc::Global;

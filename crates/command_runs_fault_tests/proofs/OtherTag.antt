@@ -1,6 +1,6 @@
 -- What a command leaves of the temporary files of another tag than its own.
 use Rattle.std.proofs.Common.{◌≡◌, [], Result, Ok, Err, refl, ap, ◌∙◌, inl, inr}
-use Rattle.devices.specs.Devices.{DeviceStates}
+use Rattle.commands.specs.Devices.{DeviceStates}
 use Rattle.tree_face.specs.declared.disk.Slot.{Slot}
 use Rattle.tree_face.specs.declared.disk.Tag.{Tag}
 use Rattle.image_session.specs.declared.fault.LoadFault.{LoadFault}

@@ -354,7 +354,7 @@ fn update_into(alloc: Global, devices: &mut Devices, out: &mut NarrowSink) -> St
     run_command(
         alloc,
         Command::Update { tag: Tag(0) },
-        devices::Devices {
+        commands::Devices {
             store: &mut devices.store,
             disk: &mut devices.disk,
             source: &mut devices.input,

@@ -1,8 +1,7 @@
 //! Several updaters at one disk: each has temporary files of its own.
 use command_runs::{Status, run_command};
 use command_runs_fixture::{LIBZ_MANIFEST, ONE_CACHE, has, image, libz_held, make_devices};
-use commands::Command;
-use devices::Devices;
+use commands::{Command, Devices};
 use std::alloc::Global;
 use std::test::Fail;
 use tree_face::{Disk, Slot, Tag};

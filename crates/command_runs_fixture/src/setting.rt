@@ -142,7 +142,7 @@ pub fn run_update(alloc: Global, devices: &mut Devices) -> Status {
     run_command(
         alloc,
         Command::Update { tag: Tag(0) },
-        devices::Devices {
+        commands::Devices {
             store: &mut devices.store,
             disk: &mut devices.disk,
             source: &mut devices.input,
@@ -156,7 +156,7 @@ pub fn run_script(alloc: Global, devices: &mut Devices) -> Status {
     run_command(
         alloc,
         Command::Batch { tag: Tag(0) },
-        devices::Devices {
+        commands::Devices {
             store: &mut devices.store,
             disk: &mut devices.disk,
             source: &mut devices.input,

@@ -15,7 +15,7 @@ use Rattle.hwcap_dirs.specs.declared.kinds.Place.{Place}
 use Rattle.lib_types.proofs.SortedPairs.{by_test}
 use Rattle.image_tree.specs.Tree.{Nodes}
 use Rattle.indexmap.specs.IndexSet.{insert_key}
-use Rattle.text_set.proofs.Added.{distinct_push}
+use Rattle.string_pool.proofs.Distinct.{distinct_push}
 use Rattle.found_files.proofs.EachOnce.{ascending_alike, each_alike, taken_made}
 use Rattle.found_files.proofs.InOrder.{any_ascending}
 use Rattle.found_files.specs.Order.{ascending}

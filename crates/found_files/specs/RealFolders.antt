@@ -3,7 +3,7 @@ use Rattle.std.specs.Prelude.{◌≡◌, ◌⊎◌, ℕ, List, [], ◌∷◌, �
 use Rattle.std.specs.List.{slice_get}
 use Rattle.std.specs.Str.{bytes_eq}
 use Rattle.indexmap.specs.IndexSet.{insert_key}
-use Rattle.text_set.specs.Distinct.{distinct}
+use Rattle.string_pool.specs.Distinct.{distinct}
 use Rattle.found_files.specs.Shared.{taken, AreRows}
 use Rattle.found_files.specs.declared.reals.RealFolders.{RealFolders}
 

@@ -11,7 +11,7 @@ use crate::kinds::{Dirs, Place, Places};
 use lib_types::{NoMemory, Text, Texts};
 use path_walk::{Mode, WalkFault, join, resolve};
 use std::alloc::Global;
-use text_set::TextSet;
+use string_pool::TextSet;
 use tree_face::{Kind, Tree};
 
 // The places so far, and the directories that were met.

@@ -10,7 +10,7 @@ ghost use Rattle.ldconfig.specs.Start.{code_of};
 use advice::{OUT_OF_MEMORY, advice, written_before};
 use command_runs::Status;
 use device_rules::RunId;
-use devices::Devices;
+use commands::Devices;
 use image_folder::HeldFile;
 use ldconfig_cli::{Arguments, run_on};
 use lib_types::NoMemory;

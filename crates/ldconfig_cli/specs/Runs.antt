@@ -5,7 +5,7 @@ use Rattle.std.specs.String.{string_bytes}
 use Rattle.command_runs.specs.Commands.{RunsCommand}
 use Rattle.command_status.specs.declared.status.Status.{Status}
 use Rattle.command_status.specs.declared.status.Status.TheVariants.{NoMemory, Usage}
-use Rattle.devices.specs.Devices.{DeviceStates, states}
+use Rattle.commands.specs.Devices.{DeviceStates, states}
 use Rattle.command_words.specs.Language.{verb_in}
 use Rattle.command_words.specs.Words.{command_in}
 use Rattle.commands.specs.declared.kinds.Command.{Command}

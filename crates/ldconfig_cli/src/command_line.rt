@@ -1,14 +1,13 @@
 //! The top call.
 ghost use Rattle.std.specs.Prelude.{◌≡◌};
 ghost use Rattle.command_words.specs.Words.{command_in};
-ghost use Rattle.devices.specs.Devices.{states, states_in, states_left};
+ghost use Rattle.commands.specs.Devices.{states, states_in, states_left};
 ghost use Rattle.ldconfig_cli.specs.Laws.{UpdateLaws};
 ghost use Rattle.ldconfig_cli.specs.Runs.{Runs, RunsArguments};
 
 use crate::arguments::Arguments;
 use command_runs::{Status, refuse_arguments, run_command};
-use commands::Command;
-use devices::Devices;
+use commands::{Command, Devices};
 use std::alloc::Global;
 use tree_face::{Disk, Sink, Source, Store};
 

@@ -3,8 +3,7 @@ use command_runs::{Status, run_command};
 use command_runs_fixture::{
     LIBZ_MANIFEST, LIBZ_REPORT, NO_STAMPS, ONE_CACHE, copy, has, libz_held,
 };
-use commands::Command;
-use devices::Devices;
+use commands::{Command, Devices};
 use std::alloc::Global;
 use std::test::Fail;
 use tree_face::{Slot, SureDisk, SureSink, SureSource, SureStore, Tag};

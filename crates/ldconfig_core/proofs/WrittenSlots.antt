@@ -8,7 +8,7 @@ use Rattle.image_tree.specs.Tree.{Nodes}
 use Rattle.image_session.specs.Manifest as manifests
 use Rattle.image_session.specs.Manifest.{Empty, Faulty, HasTree, manifest_of}
 use Rattle.image_session.specs.Session.{Loaded, image_with}
-use Rattle.replaced_slots.specs.Replaced.{IsOfWrites, Replaces}
+use Rattle.atomic_replace.specs.OneByOne.{IsOfWrites, Replaces}
 use Rattle.ldconfig_core.specs.Repair.{IsImageIn, slots_after}
 use Rattle.ldconfig_core.specs.Texts.{UpdateTexts, of_manifest, writes_of}
 

@@ -1,5 +1,5 @@
 -- What an update makes of the image that a crash has left.
-use Rattle.replaced_slots.specs.Replaced.{IsOfWrites}
+use Rattle.atomic_replace.specs.OneByOne.{IsOfWrites}
 use Rattle.std.specs.Prelude.{◌≡◌, ◌⊎◌, ℕ, true, List, [], ◌∷◌, Some}
 use Rattle.atomic_replace.specs.Replace.{Write}
 use Rattle.image_session.specs.Manifest.{HasTree, manifest_of}

@@ -18,7 +18,7 @@ use Rattle.image_session.specs.Aux.{stamps_of_slot}
 use Rattle.library_search.specs.Ldconfig.{entries_in, links_in, stamps_in}
 use Rattle.ldconfig_core.specs.Lookup.{FindsAsSearched}
 use Rattle.ldconfig_core.specs.Outcome.{Outcome, Lacking, TooLarge, TooMany, Writes, new_manifest, update_outcome}
-use Rattle.replaced_slots.specs.Replaced.{KeepsRestMade, WritesAll, WritesPart}
+use Rattle.atomic_replace.specs.OneByOne.{KeepsRestMade, WritesAll, WritesPart}
 use Rattle.image_session.specs.Session.{Loaded}
 use Rattle.file_stamps.specs.Stamped.{AreSame, AreTrue, IfHonest}
 use Rattle.ldconfig_core.specs.Settled.{AreSettled, IfReads, planned_image}

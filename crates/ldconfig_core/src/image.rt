@@ -1,7 +1,7 @@
 //! The update of an image.
 ghost use Rattle.std.specs.Prelude.{◌≡◌, ◌≤◌, OnOk, IfErr};
 ghost use Rattle.aux_cache.specs.Stamps.{HaveNames};
-ghost use Rattle.replaced_slots.specs.Replaced.{KeepsRestMade, WritesAll, WritesPart};
+ghost use Rattle.atomic_replace.specs.OneByOne.{KeepsRestMade, WritesAll, WritesPart};
 ghost use Rattle.ldconfig_core.specs.Stages.{stored_image, texts_of};
 ghost use Rattle.ldconfig_core.specs.Texts.{update_slots, writes_of};
 ghost use Rattle.ldconfig_core.specs.Update.{Updates};
@@ -9,10 +9,9 @@ ghost use Rattle.ldconfig_core.specs.Update.{Updates};
 use crate::fault::UpdateFault;
 use crate::prepare::{Prepared, prepare};
 use crate::report::Report;
-use atomic_replace::DiskFault;
+use atomic_replace::{DiskFault, SlotWrite, replace_slots};
 use aux_cache::Stamps;
 use image_session::Session;
-use replaced_slots::{SlotWrite, replace_slots};
 use std::alloc::Global;
 use tree_face::{Disk, Slot, Store, Tag, Tree};
 

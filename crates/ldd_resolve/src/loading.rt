@@ -19,7 +19,7 @@ use lib_types::{NoMemory, Text, Texts};
 use rpath_search::{Answer, Env, Found, LoadedFiles, Loaders, Owner, folder_of, is_library};
 use std::alloc::Global;
 use std::collections::VecDeque;
-use text_set::TextSet;
+use string_pool::TextSet;
 
 /// What was loaded and listed so far.
 #[derive(Drop)]

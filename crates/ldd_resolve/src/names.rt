@@ -8,7 +8,7 @@ ghost use Rattle.ldd_resolve.specs.Loading.{IsNamedAt};
 use crate::kinds::Member;
 use lib_types::{NoMemory, Text, Texts};
 use std::alloc::Global;
-use text_set::TextSet;
+use string_pool::TextSet;
 
 fn has_name(names: &Texts, name: &[u8]) -> bool
     ensures { result ≡ has_name names.now name.now }

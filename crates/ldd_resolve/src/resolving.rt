@@ -20,7 +20,7 @@ use lib_types::{Abi, NoMemory, Text};
 use path_walk::file_at;
 use rpath_search::{Env, Found, SearchFault, from_root, key_at};
 use std::alloc::Global;
-use text_set::distinct;
+use string_pool::distinct;
 use tree_face::{Store, Tree};
 
 // The same for programs of another ABI, with each hwcaps name once: of a repeated one the first counts.

@@ -7,7 +7,7 @@ use crate::kinds::{Conf, ConfKind, ConfReport, ConfReports};
 use lib_types::{NoMemory, Text, Texts};
 use std::alloc::Global;
 use std::marker::Model;
-use text_set::TextSet;
+use string_pool::TextSet;
 use tree_face::PATH_MAX;
 
 /// What has been read so far. Every directory has at most 4095 bytes, whatever a store holds.

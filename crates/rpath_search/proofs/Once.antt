@@ -8,7 +8,7 @@ use Rattle.lib_types.specs.declared.abi.Abi.{Abi}
 use Rattle.image_tree.specs.Tree.{Nodes}
 use Rattle.tree_face.specs.Known.{IfKnown}
 use Rattle.tree_face.specs.Store.{Contents}
-use Rattle.text_set.specs.Distinct.{distinct}
+use Rattle.string_pool.specs.Distinct.{distinct}
 use Rattle.rpath_search.specs.Search.{first_good, is_good}
 
 module _ (good : List ℕ → Bool) where

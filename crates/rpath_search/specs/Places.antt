@@ -5,7 +5,7 @@ use Rattle.std.specs.Option.{option_map_or}
 use Rattle.conf_patterns.specs.Bytes.{is_in, slashes, without_end}
 use Rattle.hwcap_dirs.specs.Places.{system_dirs}
 use Rattle.lib_types.specs.Abi.{lib_of}
-use Rattle.text_set.specs.Distinct.{distinct}
+use Rattle.string_pool.specs.Distinct.{distinct}
 use Rattle.origin_expand.specs.Tokens.{expanded, value_of}
 use Rattle.image_tree.specs.Paths.{is_below, is_slash, root}
 use Rattle.rpath_search.specs.declared.kinds.Env.{Env}

@@ -11,7 +11,7 @@ use crate::loaders::Loaders;
 use crate::paths::from_root;
 use lib_types::{NoMemory, Texts, has_byte};
 use std::alloc::Global;
-use text_set::distinct;
+use string_pool::distinct;
 
 // The objects of a chain, the program first.
 fn loaders_of(alloc: Global, env: &Env, owners: &[Owner]) -> Result<Loaders, NoMemory>

@@ -5,7 +5,7 @@ ghost use Rattle.elf_dynamic.specs.Begun.{ReadsBy, file_keys, key_in, lacks_one}
 ghost use Rattle.elf_dynamic.specs.Faults.{HasName};
 ghost use Rattle.tree_face.specs.Known.{IfKnown};
 ghost use Rattle.image_tree.specs.Tree.{node_at};
-ghost use Rattle.text_set.specs.Distinct.{distinct};
+ghost use Rattle.string_pool.specs.Distinct.{distinct};
 ghost use Rattle.rpath_search.specs.Candidates.{IsInside, paths_left};
 ghost use Rattle.rpath_search.specs.Faults.{search_ending};
 ghost use Rattle.rpath_search.specs.Search.{IsFound, Searches, first_good, is_library, library_at};
@@ -20,7 +20,7 @@ use elf_dynamic::{ObjectFault, object};
 use lib_types::{Abi, Text, Texts};
 use path_walk::file_at;
 use std::alloc::Global;
-use text_set::TextSet;
+use string_pool::TextSet;
 use tree_face::{Node, Store, Tree};
 
 const ET_EXEC: u16 = 2;

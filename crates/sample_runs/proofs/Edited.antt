@@ -4,7 +4,7 @@ use Rattle.ldconfig_core.specs.Outcome.{manifest_with, new_manifest}
 use Rattle.ldconfig_core.specs.Texts.{AreTextsOf, UpdateTexts, of_manifest, update_slots, writes_of}
 use Rattle.image_session.specs.Session.{Loaded}
 use Rattle.mtree_manifest.specs.Canon.{canon}
-use Rattle.replaced_slots.specs.Replaced.{slots_of}
+use Rattle.atomic_replace.specs.OneByOne.{slots_of}
 use Rattle.library_search.specs.Ldconfig.{links_in, planned_in}
 use Rattle.tree_face.specs.declared.disk.Slot.TheVariants.{Cache, Aux}
 use Rattle.tree_face.specs.Store.{Contents}

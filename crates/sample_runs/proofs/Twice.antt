@@ -4,7 +4,7 @@ use Rattle.ldconfig_core.specs.Repair.{slots_after}
 use Rattle.ldconfig_core.specs.Settled.{planned_image}
 use Rattle.ldconfig_core.specs.Texts.{UpdateTexts, writes_of}
 use Rattle.image_session.specs.Session.{Loaded}
-use Rattle.replaced_slots.specs.Replaced.{calls_of}
+use Rattle.atomic_replace.specs.OneByOne.{calls_of}
 use Rattle.library_search.specs.Begun.{lacks_some}
 use Rattle.tree_face.proofs.Follows.{follow, follow_part, part_of, part_whole}
 use Rattle.tree_face.proofs.Known.{relates_by, relates_on}

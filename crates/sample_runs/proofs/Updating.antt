@@ -10,7 +10,7 @@ use Rattle.ldconfig_core.specs.Texts.{AreTextsOf, UpdateTexts, writes_of}
 use Rattle.ldconfig_core.specs.Update.{IsUpdated, Updates, update_ending}
 use Rattle.lib_types.specs.Counts.{HasRisen}
 use Rattle.image_session.specs.Session.{Loaded}
-use Rattle.replaced_slots.specs.Replaced.{calls_of}
+use Rattle.atomic_replace.specs.OneByOne.{calls_of}
 use Rattle.library_search.specs.Begun.{lacks_file, update_bytes}
 use Rattle.tree_face.proofs.Follows.{part_whole}
 use Rattle.tree_face.proofs.Known.{relates_by}

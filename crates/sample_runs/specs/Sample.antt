@@ -4,7 +4,7 @@ use Rattle.command_status.specs.declared.status.Status.{Status}
 use Rattle.command_status.specs.declared.status.Status.TheVariants.{Done, OutputFault}
 use Rattle.ldconfig_core.specs.Texts.{AreTextsOf, UpdateTexts, update_slots, writes_of}
 use Rattle.lib_types.specs.Counts.{HasRisen}
-use Rattle.replaced_slots.specs.Replaced.{slots_of}
+use Rattle.atomic_replace.specs.OneByOne.{slots_of}
 use Rattle.tree_face.specs.Disk.{DiskState}
 use Rattle.tree_face.specs.Follows.{IsFollowedBy, IsFollowedByPart}
 use Rattle.tree_face.specs.Known.{IfKnown, Relates}

@@ -5,7 +5,7 @@ use Rattle.ldconfig_core.specs.Settled.{planned_image}
 use Rattle.ldconfig_core.specs.Texts.{AreTextsOf, UpdateTexts, update_slots, writes_of}
 use Rattle.lib_types.specs.Counts.{HasRisen}
 use Rattle.image_session.specs.Session.{Loaded}
-use Rattle.replaced_slots.specs.Replaced.{calls_of, slots_of}
+use Rattle.atomic_replace.specs.OneByOne.{calls_of, slots_of}
 use Rattle.library_search.specs.Begun.{lacks_some, opened_in, update_keys}
 use Rattle.library_search.specs.Laws.{IsSaidRight}
 use Rattle.library_search.specs.Ldconfig.{entries_in, links_in}

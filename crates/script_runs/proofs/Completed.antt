@@ -1,6 +1,6 @@
 -- A script whose lines can all be done is done, unless a device fails or memory is out.
 use Rattle.std.proofs.Common.{◌≡◌, ◌⊎◌, ℕ, List, Option, Some, None, Result, Ok, Err, refl, sym, ◌∙◌, inl, inr}
-use Rattle.devices.specs.Devices.{IfBothKnown}
+use Rattle.commands.specs.Devices.{IfBothKnown}
 use Rattle.ldconfig_core.specs.Repair.{IsImageIn}
 use Rattle.ldconfig_core.specs.declared.fault.UpdateFault.{UpdateFault}
 use Rattle.ldconfig_core.specs.declared.fault.UpdateFault.TheVariants as updating

@@ -12,8 +12,8 @@ use Rattle.ldconfig_core.specs.declared.fault.UpdateFault.TheVariants as updatin
 use Rattle.ldconfig_core.specs.declared.report.Report.{Report}
 use Rattle.image_session.specs.Session.{Loaded}
 use Rattle.manifest_words.specs.declared.fault.LineKind.{LineKind}
-use Rattle.replaced_slots.proofs.CrashesOneByOne.{leaves_on, nothing_left}
-use Rattle.replaced_slots.specs.Replaced.{IsOfWrites, LeavesOnlyWritten, calls_of}
+use Rattle.atomic_replace.proofs.CrashesOneByOne.{leaves_on, nothing_left}
+use Rattle.atomic_replace.specs.OneByOne.{IsOfWrites, LeavesOnlyWritten, calls_of}
 use Rattle.script_lines.specs.Script.{line_of}
 use Rattle.script_lines.specs.declared.line.ScriptLine.{ScriptLine}
 use Rattle.script_lines.specs.declared.line.ScriptLine.TheVariants as asking

@@ -2,7 +2,7 @@
 use Rattle.std.proofs.Common.{◌≡◌, ◌⊎◌, ℕ, List, [], ◌∷◌, Some, refl, ap, subst, sym, ◌∙◌, inl, inr}
 use Rattle.atomic_replace.specs.Replace.{IsWritten, Write}
 use Rattle.ldconfig_core.specs.Repair.{OldOrNew}
-use Rattle.replaced_slots.specs.Replaced.{FailsToReplace}
+use Rattle.atomic_replace.specs.OneByOne.{FailsToReplace}
 use Rattle.tree_face.specs.declared.disk.Slot.{Slot}
 use Rattle.tree_face.specs.declared.disk.Slot.TheVariants.{Manifest, Cache, Aux}
 use Rattle.tree_face.specs.Disk.{DiskContent, Slots, slot_of, with_slot}

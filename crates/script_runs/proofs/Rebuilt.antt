@@ -14,7 +14,7 @@ use Rattle.ldconfig_core.specs.declared.report.Report.{Report}
 use Rattle.lib_types.specs.Counts.{HasRisen}
 use Rattle.image_session.specs.Session.{Loaded}
 use Rattle.manifest_words.specs.declared.fault.LineKind.{LineKind}
-use Rattle.replaced_slots.specs.Replaced.{FailsToReplace, Replaces}
+use Rattle.atomic_replace.specs.OneByOne.{FailsToReplace, Replaces}
 use Rattle.script_lines.specs.Script.{line_of}
 use Rattle.library_search.specs.Begun.{lacks_file, update_bytes, update_keys}
 use Rattle.script_lines.specs.declared.line.ScriptLine.{ScriptLine}

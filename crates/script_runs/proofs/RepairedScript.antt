@@ -15,7 +15,7 @@ use Rattle.image_session.specs.Aux.{stamps_of_slot}
 use Rattle.image_session.specs.Manifest.{manifest_of}
 use Rattle.image_session.specs.Session.{IsLoaded, Loaded, image_with}
 use Rattle.image_session.specs.declared.fault.LoadFault.{LoadFault}
-use Rattle.replaced_slots.specs.Replaced.{IsOfWrites}
+use Rattle.atomic_replace.specs.OneByOne.{IsOfWrites}
 use Rattle.library_search.specs.Ldconfig.{planned_in, stamps_in}
 use Rattle.file_stamps.specs.Stamped.{AreSame, AreTrue}
 use Rattle.tree_face.specs.Disk.{Content, DiskContent, DiskState, Slots, slot_of}
@@ -24,7 +24,7 @@ use Rattle.tree_face.specs.declared.disk.Slot.{Slot}
 use Rattle.tree_face.specs.declared.disk.Tag.{Tag}
 use Rattle.tree_face.specs.declared.disk.Slot.TheVariants.{Manifest, Aux}
 use Rattle.command_status.specs.declared.status.Status.{Status}
-use Rattle.devices.specs.Devices.{IfBothKnown}
+use Rattle.commands.specs.Devices.{IfBothKnown}
 use Rattle.script_runs.specs.declared.fault.ScriptFault.{ScriptFault}
 use Rattle.script_runs.proofs.InSlots.{image_is}
 use Rattle.script_runs.proofs.AskedFor.{AreAsked, are_asked, contains_first, contains_later}

@@ -1,7 +1,7 @@
 -- The command `batch`: the input is read to its end, and the script that it is is run on the session in the slots.
 use Rattle.std.specs.Prelude.{◌≡◌, ℕ, Vec, Result, Ok, Err, IfOk}
 use Rattle.std.specs.declared.alloc.Global.{Global}
-use Rattle.devices.specs.Devices.{DeviceStates}
+use Rattle.commands.specs.Devices.{DeviceStates}
 use Rattle.tree_face.specs.Stream.{ReadsAll, SinkState, SourceState}
 use Rattle.tree_face.specs.declared.disk.Tag.{Tag}
 use Rattle.tree_face.specs.declared.stream.ReadFault.{ReadFault}

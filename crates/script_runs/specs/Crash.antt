@@ -8,7 +8,7 @@ use Rattle.ldconfig_core.specs.Texts.{AreAlike, AreTexts, AreTextsOf, UpdateText
 use Rattle.ldconfig_core.specs.declared.fault.UpdateFault.TheVariants as updating
 use Rattle.image_session.specs.Session.{Loaded}
 use Rattle.atomic_replace.specs.Replace.{StopsAt, call_by}
-use Rattle.replaced_slots.specs.Replaced.{IsOfWrites, LeavesOnlyWritten, calls_of}
+use Rattle.atomic_replace.specs.OneByOne.{IsOfWrites, LeavesOnlyWritten, calls_of}
 use Rattle.library_search.specs.Ldconfig.{planned_in, stamps_in}
 use Rattle.tree_face.specs.declared.disk.Slot.{Slot}
 use Rattle.tree_face.specs.Disk.{Content, DiskState}

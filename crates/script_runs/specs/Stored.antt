@@ -1,7 +1,7 @@
 -- A script of the session that is loaded from the slots: its run, what it leaves, and what a crash of it leaves.
 use Rattle.std.specs.Prelude.{◌≡◌, ◌⊎◌, ℕ, true, List, [], ◌∷◌, codes, Option, Result, Ok, Err, IfOk, ⊤}
 use Rattle.std.specs.List.{Contains}
-use Rattle.devices.specs.Devices.{IfBothKnown}
+use Rattle.commands.specs.Devices.{IfBothKnown}
 use Rattle.ldconfig_core.specs.Outcome.{new_manifest}
 use Rattle.ldconfig_core.specs.Repair.{IsImageIn, LeavesOnly, MightBeLeft}
 use Rattle.lib_types.specs.Counts.{HasRisen}

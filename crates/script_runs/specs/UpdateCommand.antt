@@ -1,6 +1,6 @@
 -- The command `update`: what a script of the one line `update` does, of the session in the slots.
 use Rattle.std.specs.Prelude.{◌≡◌}
-use Rattle.devices.specs.Devices.{DeviceStates}
+use Rattle.commands.specs.Devices.{DeviceStates}
 use Rattle.tree_face.specs.Stream.{SinkState}
 use Rattle.tree_face.specs.declared.disk.Tag.{Tag}
 use Rattle.command_status.specs.Status.{EndsWith}

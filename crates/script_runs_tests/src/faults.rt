@@ -134,7 +134,7 @@ fn run_into(alloc: Global, devices: &mut Devices, out: &mut NarrowSink) -> Statu
     run_command(
         alloc,
         Command::Batch { tag: Tag(0) },
-        devices::Devices {
+        commands::Devices {
             store: &mut devices.store,
             disk: &mut devices.disk,
             source: &mut devices.input,

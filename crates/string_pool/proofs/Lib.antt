@@ -1,3 +1,5 @@
 mod Adding
+pub mod At
+pub mod Distinct
 pub mod InOrder
 pub mod Numbers

@@ -5,8 +5,8 @@ use Rattle.std.proofs.lemmas.Slice.Eq.{bytes_eq-Decides}
 use Rattle.std.specs.List.{list_any, fold}
 use Rattle.indexmap.specs.IndexSet.{insert_key}
 use Rattle.string_pool.specs.Texts.{number_of}
-use Rattle.text_set.proofs.Added.{distinct_folded}
-use Rattle.text_set.specs.Distinct.{distinct}
+use Rattle.string_pool.proofs.Distinct.{distinct_folded}
+use Rattle.string_pool.specs.Distinct.{distinct}
 
 -- a string is among those that it was added to
 pub among : (ts : List (List ℕ)) (t : List ℕ) → list_any (bytes_eq t) (insert_key bytes_eq ts t) ≡ true

@@ -1,3 +1,5 @@
+pub mod At
+pub mod Distinct
 pub mod InOrder
 pub mod Kept
 pub mod Texts

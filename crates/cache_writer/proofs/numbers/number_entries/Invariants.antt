@@ -1,6 +1,6 @@
 use Rattle.std.proofs.Common.{◌≡◌, flat_map, map, take}
 use Rattle.std.specs.List.{All}
-use Rattle.text_set.specs.Distinct.{distinct}
+use Rattle.string_pool.specs.Distinct.{distinct}
 use Rattle.cache_writer.specs.CacheText.{own_strings}
 use Rattle.cache_writer.specs.Numbers.{HasNumbers}
 use Rattle.cache_writer.proofs.numbers.number_entries.Given as goal

@@ -1,6 +1,6 @@
 use Rattle.std.proofs.Common.{◌≡◌, ◌==◌, ◌∙◌, ◌-◌, false, length, subst, IfOk, rules}
 use Rattle.std.specs.Option.{option_copied}
-use Rattle.text_set.specs.Distinct.{distinct}
+use Rattle.string_pool.specs.Distinct.{distinct}
 use Rattle.rpath_search.specs.Candidates.{all_paths, paths_left}
 use Rattle.rpath_search.specs.Listed.{reach_in}
 use Rattle.rpath_search.specs.Loaders.{reach_at}

@@ -1,0 +1,72 @@
+-- A list of slots, replaced item by item.
+use Rattle.std.proofs.Common.{◌≡◌, ◌==◌, ◌&&◌, ◌<◌, ◌≤◌, ◌+◌, Bool, ℕ, true, false, ◌||◌, length, drop, get_or, add-one, List, [], ◌∷◌, ◌++◌, map, refl, sym, ap, subst, ◌∙◌, append_assoc, append-nil}
+use Rattle.std.proofs.Math.ListN.{drop_of_length-le}
+use Rattle.std.proofs.Common.{drop-cons}
+use Rattle.std.specs.List.{list_any}
+use Rattle.atomic_replace.specs.declared.fault.DiskFault.{DiskFault}
+use Rattle.atomic_replace.specs.Replace.{Write}
+use Rattle.tree_face.specs.declared.disk.Slot.{Slot}
+use Rattle.tree_face.specs.declared.disk.Slot.TheVariants.{Manifest, Cache, Aux}
+use Rattle.tree_face.specs.declared.disk.Tag.{Tag}
+use Rattle.tree_face.specs.Disk.{DiskState, KeepsOthersMade, slot_eq}
+use Rattle.atomic_replace.proofs.CallsOneByOne.{nothing_written, part_first, part_second, rest_made, rest_on, rest_same, writes_on}
+use Rattle.atomic_replace.specs.OneByOne.{HasReplaced, KeepsRestMade, WritesAll, WritesPart, slots_of, writes_in}
+use Rattle.atomic_replace.specs.declared.slots.SlotWrite.{SlotWrite}
+
+itself : (slot : Slot) → slot_eq slot slot ≡ true
+itself Manifest = refl
+itself Cache = refl
+itself Aux = refl
+
+-- a slot of the list is among its slots
+among : (done : List Write) (w : Write) (rest : List Write) → list_any (slot_eq w.0) (slots_of (done ++ w ∷ rest)) ≡ true
+among [] w rest = ap (λ b. b || list_any (slot_eq w.0) (slots_of rest)) (itself w.0)
+among (x ∷ done) w rest = ap (λ b. slot_eq w.0 x.0 || b) (among done w rest) ∙ or_true (slot_eq w.0 x.0)
+  where
+    or_true : (b : _) → (b || true) ≡ true
+    or_true true = refl
+    or_true false = refl
+
+module _ (tag : Tag) (all : List Write) where
+  pub starts : (s : DiskState) → HasReplaced tag all all s s
+  starts s = record { done = []; parts = refl; written = nothing_written tag s; made = rest_same tag.0 (slots_of all) s }
+
+  pub goes_on : (w : Write) (rest : List Write) (a b c : DiskState) → HasReplaced tag all (w ∷ rest) a b → WritesAll tag (w ∷ []) b c → KeepsOthersMade tag.0 w.0 b c
+      → HasReplaced tag all rest a c
+  goes_on w rest a b c so_far one kept = record {
+    done = so_far.done ++ w ∷ [];
+    parts = so_far.parts ∙ sym (append_assoc so_far.done (w ∷ []) rest);
+    written = writes_on tag so_far.done (w ∷ []) a b c so_far.written one;
+    made = rest_on tag.0 (slots_of all) a b c so_far.made
+        (rest_made tag.0 (slots_of all) w.0 (ap (λ l. list_any (slot_eq w.0) (slots_of l)) so_far.parts ∙ among so_far.done w rest) b c kept);
+  }
+
+  pub stops : (w : Write) (rest : List Write) (fault : DiskFault) (a b c : DiskState) → HasReplaced tag all (w ∷ rest) a b → WritesPart tag (w ∷ []) fault b c
+      → WritesPart tag all fault a c
+  stops w rest fault a b c so_far part =
+      subst (λ l. WritesPart tag l fault a c) (sym so_far.parts)
+      (part_second tag so_far.done (w ∷ rest) a b c fault so_far.written (part_first tag (w ∷ []) rest b c c fault part))
+
+  pub stops_made : (w : Write) (rest : List Write) (a b c : DiskState) → HasReplaced tag all (w ∷ rest) a b → KeepsOthersMade tag.0 w.0 b c
+      → KeepsRestMade tag.0 (slots_of all) a c
+  stops_made w rest a b c so_far kept = rest_on tag.0 (slots_of all) a b c so_far.made
+      (rest_made tag.0 (slots_of all) w.0 (ap (λ l. list_any (slot_eq w.0) (slots_of l)) so_far.parts ∙ among so_far.done w rest) b c kept)
+
+  pub ends : (a b : DiskState) → HasReplaced tag all [] a b → WritesAll tag all a b
+  ends a b so_far = subst (λ l. WritesAll tag l a b) (sym (so_far.parts ∙ append-nil so_far.done)) so_far.written
+
+-- temporary files of fewer slots change
+pub rest_more : (tag : ℕ) (few many : List Slot) → ((s : Slot) → list_any (slot_eq s) many ≡ false → list_any (slot_eq s) few ≡ false) → (a b : DiskState)
+    → KeepsRestMade tag few a b → KeepsRestMade tag many a b
+rest_more tag few many fewer a b kept = λ t s h. kept t s (by (t == tag) s h)
+  where
+    by : (same : Bool) (s : Slot) → same && list_any (slot_eq s) many ≡ false → same && list_any (slot_eq s) few ≡ false
+    by true s h = fewer s h
+    by false s h = refl
+
+-- the next item of a list that is passed
+pub next_is : (writes : List SlotWrite) (i : ℕ) (d : SlotWrite) → i < length writes →
+    writes_in (drop i writes) ≡ ((get_or writes i d).slot, (get_or writes i d).bytes.now) ∷ writes_in (drop (i + 1) writes)
+next_is writes i d less =
+    let step : drop i writes ≡ get_or writes i d ∷ drop (i + 1) writes = rw (drop-cons writes i d less, add-one) refl in
+    ap writes_in step

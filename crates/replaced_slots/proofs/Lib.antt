@@ -1,3 +1,0 @@
-pub mod CallsOneByOne
-pub mod CrashesOneByOne
-pub mod Listed

@@ -1,8 +1,0 @@
-use Rattle.std.proofs.Common.{drop}
-use Rattle.replaced_slots.specs.Replaced.{HasReplaced, writes_in}
-use Rattle.replaced_slots.proofs.replace_slots.Given as goal
-
--- those in front are replaced
-abbrev pub invariant-loop-write : goal.invariant-loop-write
-invariant-loop-write g l =
-    HasReplaced l.tag (writes_in l.fn.writes) (writes_in (drop l.write-index l.fn.writes)) (g.D.Disk.state l.fn.disk) (g.D.Disk.state l.disk)

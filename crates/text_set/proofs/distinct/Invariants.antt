@@ -1,9 +1,0 @@
-use Rattle.std.proofs.Common.{◌≡◌, bytes_eq, drop}
-use Rattle.std.specs.List.{fold}
-use Rattle.indexmap.specs.IndexSet.{insert_key}
-use Rattle.text_set.specs.Distinct.{distinct}
-use Rattle.text_set.proofs.distinct.Given as goal
-
--- the texts that are left give the rest
-abbrev pub invariant-loop-text : goal.invariant-loop-text
-invariant-loop-text l = fold (insert_key bytes_eq) l.met (drop l.text-index l.texts) ≡ distinct l.texts
