@@ -1,6 +1,5 @@
 -- A list of slots, replaced item by item.
-use Rattle.std.proofs.Common.{◌≡◌, ◌==◌, ◌&&◌, ◌<◌, ◌≤◌, ◌+◌, Bool, ℕ, true, false, ◌||◌, length, drop, get_or, add-one, List, [], ◌∷◌, ◌++◌, map, refl, sym, ap, subst, ◌∙◌, append_assoc, append-nil}
-use Rattle.std.proofs.Math.ListN.{drop_of_length-le}
+use Rattle.std.proofs.Common.{◌≡◌, ◌==◌, ◌&&◌, ◌<◌, ◌+◌, Bool, ℕ, true, false, ◌||◌, length, drop, get_or, add-one, List, [], ◌∷◌, ◌++◌, refl, sym, ap, subst, ◌∙◌, append_assoc, append-nil}
 use Rattle.std.proofs.Common.{drop-cons}
 use Rattle.std.specs.List.{list_any}
 use Rattle.atomic_replace.specs.declared.fault.DiskFault.{DiskFault}

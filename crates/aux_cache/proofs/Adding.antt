@@ -13,7 +13,7 @@ use Rattle.string_pool.specs.Texts.{number_of}
 use Rattle.string_pool.specs.InOrder.{table_of}
 use Rattle.string_pool.proofs.Numbers.{among, among_more, among_all, number_more, length_distinct}
 use Rattle.string_pool.proofs.InOrder.{length_table_insert}
-use Rattle.string_pool.proofs.Distinct.{distinct_folded, distinct_push}
+use Rattle.string_pool.proofs.WithoutRepeats.{distinct_folded, distinct_push}
 use Rattle.string_pool.specs.Distinct.{distinct}
 use Rattle.aux_cache.specs.AuxText.{soname_of, strings}
 use Rattle.aux_cache.specs.Numbers.{HasNumber}

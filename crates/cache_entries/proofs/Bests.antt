@@ -4,12 +4,12 @@ use Rattle.std.specs.List.{cons_option, filter, fold}
 use Rattle.std.specs.Option.{is_some}
 use Rattle.std.specs.Str.{bytes_eq}
 use Rattle.lib_types.proofs.SortedPairs.{by_test}
-use Rattle.found_files.proofs.InOrder.{ascending_sorted, in_ascending}
-use Rattle.found_files.proofs.Members.{is_in}
-use Rattle.found_files.proofs.Named.{best_has}
-use Rattle.found_files.specs.Best.{best, bests, better, has_soname, is_preferred, sonames}
-use Rattle.found_files.specs.Library.{Library}
-use Rattle.found_files.specs.Pick.{is_better_by}
+use Rattle.string_pool.proofs.InByteOrder.{ascending_sorted, in_ascending}
+use Rattle.string_pool.proofs.Members.{is_in}
+use Rattle.place_libraries.proofs.Named.{best_has}
+use Rattle.place_libraries.specs.Best.{best, bests, better, has_soname, is_preferred, sonames}
+use Rattle.place_libraries.specs.Library.{Library}
+use Rattle.place_libraries.specs.Pick.{is_better_by}
 use Rattle.cache_entries.proofs.OneEach.{none_left, one_left, turned}
 use Rattle.cache_entries.proofs.Single.{winner_has}
 use Rattle.cache_entries.specs.Winner.{named_links, or_else, other_links, winner, winners_among}

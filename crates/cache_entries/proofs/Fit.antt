@@ -29,19 +29,19 @@ use Rattle.image_tree.specs.Tree.{Nodes, IsTree, children_of, kind_at, node_at}
 use Rattle.image_tree.specs.declared.node.Node.{Node}
 use Rattle.image_tree.specs.declared.node.Node.TheVariants as node
 use Rattle.hwcap_dirs.proofs.Children.{children_named}
-use Rattle.found_files.proofs.FoundIn.{found_file}
-use Rattle.found_files.proofs.Last.{named_last}
-use Rattle.found_files.proofs.Named.{at_named, best_meets, has_names, libraries_named}
-use Rattle.found_files.specs.Best.{best, sonames}
+use Rattle.library_files.proofs.FoundIn.{found_file}
+use Rattle.path_walk.proofs.Last.{named_last}
+use Rattle.place_libraries.proofs.Named.{at_named, best_meets, has_names, libraries_named}
+use Rattle.place_libraries.specs.Best.{best, sonames}
 use Rattle.cache_entries.specs.Entries.{AreEntriesOf, entries_in, entry_name, entry_of, found, is_by_soname, is_fit}
-use Rattle.found_files.specs.Libraries.{libraries_in}
-use Rattle.found_files.specs.Places.{by_place}
+use Rattle.place_libraries.specs.Libraries.{libraries_in}
+use Rattle.library_files.specs.Places.{by_place}
 use Rattle.path_walk.specs.Files.{file_at, is_file}
-use Rattle.found_files.specs.Search.{followed_by, followed_in, link_with}
-use Rattle.found_files.specs.Link.{FollowedLink}
-use Rattle.found_files.specs.Analyses.{Analyses, HaveNames}
+use Rattle.library_files.specs.Search.{followed_by, followed_in, link_with}
+use Rattle.library_files.specs.Link.{FollowedLink}
+use Rattle.file_table.specs.Analyses.{Analyses, HaveNames}
 use Rattle.cache_entries.specs.Winner.{has_own_name, library_behind, linked, links_to_libraries, named, named_links, or_else, other_links, unnamed, winner, winners_in}
-use Rattle.found_files.specs.Library.{Library}
+use Rattle.place_libraries.specs.Library.{Library}
 
 -- ---- the libraries behind links
 

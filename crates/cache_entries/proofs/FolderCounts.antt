@@ -6,7 +6,7 @@ use Rattle.std.specs.Str.{bytes_eq}
 use Rattle.indexmap.specs.IndexMap.{insert_entry}
 use Rattle.lib_types.proofs.SortedPairs.{by_test}
 use Rattle.image_tree.specs.Tree.{Nodes}
-use Rattle.found_files.specs.Analyses.{Analyses}
+use Rattle.file_table.specs.Analyses.{Analyses}
 use Rattle.cache_entries.specs.Counts.{AreCounts, winners_at}
 
 module _ (what : Analyses) (t : Nodes) (folder : List ℕ) where

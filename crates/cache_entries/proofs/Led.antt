@@ -22,11 +22,11 @@ use Rattle.lib_types.specs.declared.abi.Abi.{Abi}
 use Rattle.lib_types.specs.declared.entry.Entry.{Entry}
 use Rattle.name_order.proofs.Total.{name_order-total}
 use Rattle.name_order.specs.Order.{name_order}
-use Rattle.found_files.specs.Analyses.{Analyses}
-use Rattle.found_files.specs.Best.{has_soname}
-use Rattle.found_files.specs.Libraries.{libraries_in}
-use Rattle.found_files.specs.Library.{Library}
-use Rattle.found_files.specs.Places.{by_place}
+use Rattle.file_table.specs.Analyses.{Analyses}
+use Rattle.place_libraries.specs.Best.{has_soname}
+use Rattle.place_libraries.specs.Libraries.{libraries_in}
+use Rattle.place_libraries.specs.Library.{Library}
+use Rattle.library_files.specs.Places.{by_place}
 use Rattle.image_tree.specs.Tree.{Nodes}
 use Rattle.cache_entries.proofs.Bests.{one_winner}
 use Rattle.cache_entries.proofs.InOneOrder.{one_list_is, sorted_cons}

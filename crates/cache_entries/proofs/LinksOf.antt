@@ -11,10 +11,10 @@ use Rattle.image_tree.specs.Paths.{join}
 use Rattle.image_tree.specs.Tree.{Nodes, children_of, node_at}
 use Rattle.image_tree.specs.declared.node.Node.{Node}
 use Rattle.image_tree.specs.declared.node.Node.TheVariants as node
-use Rattle.found_files.proofs.InOrder.{same_text}
-use Rattle.found_files.specs.Link.{FollowedLink}
-use Rattle.found_files.specs.Places.{is_link_to, links_to}
-use Rattle.found_files.specs.Search.{followed_by, followed_in, link_with}
+use Rattle.string_pool.proofs.InByteOrder.{same_text}
+use Rattle.library_files.specs.Link.{FollowedLink}
+use Rattle.library_files.specs.Places.{is_link_to, links_to}
+use Rattle.library_files.specs.Search.{followed_by, followed_in, link_with}
 use Rattle.path_walk.specs.Files.{file_at}
 use Rattle.cache_entries.specs.LinksOf.{AreLeftOf, AreLinked, Folder, IsLinked, IsTargetAmong}
 

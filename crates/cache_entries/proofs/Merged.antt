@@ -12,12 +12,12 @@ use Rattle.std.specs.Ordering.{is_eq, match_ordering, nat_cmp}
 use Rattle.std.specs.Str.{bytes_eq}
 use Rattle.std.specs.declared.cmp.Ordering.TheVariants.{Less, Equal, Greater}
 use Rattle.lib_types.proofs.SortedPairs.{by_ordering, by_test, flipped}
-use Rattle.found_files.proofs.InOrder.{ascending_sorted, same_text}
-use Rattle.found_files.proofs.Members.{AreSorted, itself}
-use Rattle.found_files.proofs.Named.{best_has}
-use Rattle.found_files.proofs.Ordered.{all_below}
-use Rattle.found_files.specs.Best.{best, better, bests, has_soname, sonames}
-use Rattle.found_files.specs.Library.{Library}
+use Rattle.string_pool.proofs.InByteOrder.{ascending_sorted, same_text}
+use Rattle.string_pool.proofs.Members.{AreSorted, itself}
+use Rattle.place_libraries.proofs.Named.{best_has}
+use Rattle.string_pool.proofs.Ordered.{all_below}
+use Rattle.place_libraries.specs.Best.{best, better, bests, has_soname, sonames}
+use Rattle.place_libraries.specs.Library.{Library}
 use Rattle.cache_entries.proofs.Bests.{names_of, one_best, one_winner}
 use Rattle.cache_entries.proofs.OneEach.{find_first}
 use Rattle.cache_entries.proofs.Single.{winner_has}

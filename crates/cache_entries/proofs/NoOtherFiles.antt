@@ -7,12 +7,13 @@ use Rattle.std.specs.Str.{bytes_eq}
 use Rattle.hwcap_dirs.specs.declared.kinds.Place.{Place}
 use Rattle.image_tree.specs.Tree.{Nodes}
 use Rattle.path_walk.specs.Names.{last}
-use Rattle.found_files.proofs.Members.{is_in, itself}
-use Rattle.found_files.proofs.NoOtherFiles.{agree_first, agree_in_order, agree_later, by_place_same, libraries_agree}
-use Rattle.found_files.specs.Analyses.{Analyses, AgreeOn}
-use Rattle.found_files.specs.Libraries.{libraries_in, library_by}
-use Rattle.found_files.specs.Search.{files_of, folder_links, followed, followed_in, reached, wanted}
-use Rattle.found_files.specs.Link.{FollowedLink}
+use Rattle.string_pool.proofs.Members.{is_in, itself}
+use Rattle.file_table.proofs.Agreeing.{agree_first, agree_in_order, agree_later}
+use Rattle.place_libraries.proofs.NoOtherFiles.{by_place_same, libraries_agree}
+use Rattle.file_table.specs.Analyses.{Analyses, AgreeOn}
+use Rattle.place_libraries.specs.Libraries.{libraries_in, library_by}
+use Rattle.library_files.specs.Search.{files_of, folder_links, followed, followed_in, reached, wanted}
+use Rattle.library_files.specs.Link.{FollowedLink}
 use Rattle.cache_entries.specs.Entries.{entry_of, found}
 use Rattle.cache_entries.specs.Winner.{library_behind, linked, links_to_libraries, winners_among, winners_in}
 

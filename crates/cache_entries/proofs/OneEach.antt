@@ -7,9 +7,9 @@ use Rattle.std.specs.List.{cons_option, filter, filter_map, find, slice_get}
 use Rattle.std.specs.Ordering.{nat_cmp}
 use Rattle.std.specs.Str.{bytes_eq}
 use Rattle.lib_types.proofs.SortedPairs.{by_test}
-use Rattle.found_files.proofs.Members.{AreSorted, is_in, none_below}
-use Rattle.found_files.specs.Best.{has_soname}
-use Rattle.found_files.specs.Library.{Library}
+use Rattle.string_pool.proofs.Members.{AreSorted, is_in, none_below}
+use Rattle.place_libraries.specs.Best.{has_soname}
+use Rattle.place_libraries.specs.Library.{Library}
 
 pub turned : (x z : List ℕ) → bytes_eq z x ≡ bytes_eq x z
 turned x z = by_test (bytes_eq x z)

@@ -7,9 +7,9 @@ use Rattle.std.specs.Ordering.{nat_cmp}
 use Rattle.std.specs.declared.cmp.Ordering.TheVariants.{Equal}
 use Rattle.std.specs.Str.{bytes_eq}
 use Rattle.lib_types.proofs.SortedPairs.{by_test}
-use Rattle.found_files.proofs.InOrder.{same_text}
-use Rattle.found_files.specs.Best.{has_soname}
-use Rattle.found_files.specs.Library.{Library}
+use Rattle.string_pool.proofs.InByteOrder.{same_text}
+use Rattle.place_libraries.specs.Best.{has_soname}
+use Rattle.place_libraries.specs.Library.{Library}
 use Rattle.cache_entries.specs.Others.{has_file, AreAmong, HaveOthers, IsPassed}
 use Rattle.cache_entries.specs.Winner.{named, named_links, other_links, unnamed}
 

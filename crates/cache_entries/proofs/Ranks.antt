@@ -5,19 +5,19 @@ use Rattle.std.specs.List.{cons_option, filter, filter_map, fold}
 use Rattle.std.specs.Map.{keys_of}
 use Rattle.std.specs.Option.{option_map}
 use Rattle.std.specs.Str.{bytes_eq}
-use Rattle.found_files.proofs.InOrder.{ascending_sorted, in_ascending}
-use Rattle.found_files.proofs.Members.{is_in, same_members}
-use Rattle.found_files.proofs.Ordered.{by_keys, filtered_same}
-use Rattle.found_files.proofs.Either.{swapped}
-use Rattle.found_files.specs.Best.{best, better, has_soname, is_preferred, sonames}
-use Rattle.found_files.specs.Order.{ascending}
-use Rattle.found_files.proofs.Gathered.{gathered_keyed, keys_keyed}
-use Rattle.found_files.specs.Sonames.{AreGathered, found_at}
-use Rattle.found_files.specs.Pick.{best_with, better_by}
+use Rattle.string_pool.proofs.InByteOrder.{ascending_sorted, in_ascending}
+use Rattle.string_pool.proofs.Members.{is_in, same_members}
+use Rattle.string_pool.proofs.Ordered.{by_keys, filtered_same}
+use Rattle.string_pool.proofs.Either.{swapped}
+use Rattle.place_libraries.specs.Best.{best, better, has_soname, is_preferred, sonames}
+use Rattle.string_pool.specs.Order.{ascending}
+use Rattle.place_libraries.proofs.Gathered.{gathered_keyed, keys_keyed}
+use Rattle.place_libraries.specs.Sonames.{AreGathered, found_at}
+use Rattle.place_libraries.specs.Pick.{best_with, better_by}
 use Rattle.cache_entries.proofs.Bests.{names_of}
 use Rattle.cache_entries.specs.Ranked.{by_sonames, is_before, libraries_of, ranked_link, soname_of}
 use Rattle.cache_entries.specs.Winner.{has_own_name, named_links, or_else, other_links, winner, winners_among}
-use Rattle.found_files.specs.Library.{Library}
+use Rattle.place_libraries.specs.Library.{Library}
 use Rattle.cache_entries.specs.declared.winner.Class.{Class}
 use Rattle.cache_entries.specs.declared.winner.Class.TheVariants.{Named, Other}
 use Rattle.cache_entries.specs.declared.winner.Ranked.{Ranked}

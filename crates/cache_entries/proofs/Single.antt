@@ -14,15 +14,15 @@ use Rattle.name_order.proofs.Total.{name_order-exact}
 use Rattle.name_order.specs.Order.{name_order}
 use Rattle.image_tree.proofs.Below.{nat_cmp_equal}
 use Rattle.image_tree.specs.Tree.{Nodes}
-use Rattle.found_files.proofs.Named.{best_has}
+use Rattle.place_libraries.proofs.Named.{best_has}
 use Rattle.cache_entries.proofs.Sorts.{one_sorted}
-use Rattle.found_files.specs.Best.{best}
+use Rattle.place_libraries.specs.Best.{best}
 use Rattle.cache_entries.specs.Entries.{AreEntriesOf, cap_of, entries_in, entry_of, entry_order, entry_order-total, flags_in, found, has_no_cap}
-use Rattle.found_files.specs.Libraries.{libraries_in}
-use Rattle.found_files.specs.Places.{by_place}
-use Rattle.found_files.specs.Analyses.{Analyses}
+use Rattle.place_libraries.specs.Libraries.{libraries_in}
+use Rattle.library_files.specs.Places.{by_place}
+use Rattle.file_table.specs.Analyses.{Analyses}
 use Rattle.cache_entries.specs.Winner.{links_to_libraries, named_links, or_else, other_links, winner}
-use Rattle.found_files.specs.Library.{Library}
+use Rattle.place_libraries.specs.Library.{Library}
 
 -- ---- the winner of a soname has that soname
 

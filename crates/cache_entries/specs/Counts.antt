@@ -3,12 +3,12 @@ use Rattle.std.specs.Prelude.{◌≡◌, ℕ, List, length}
 use Rattle.std.specs.List.{AllByRecursion, filter_map}
 use Rattle.hwcap_dirs.specs.declared.kinds.Place.{Place}
 use Rattle.image_tree.specs.Tree.{Nodes}
-use Rattle.found_files.specs.Analyses.{Analyses}
-use Rattle.found_files.specs.Best.{bests_in}
-use Rattle.found_files.specs.Libraries.{libraries_at}
-use Rattle.found_files.specs.Library.{Library}
-use Rattle.found_files.specs.Search.{folder_links, followed_in}
-use Rattle.found_files.specs.declared.links.FolderLinks.{FolderLinks}
+use Rattle.file_table.specs.Analyses.{Analyses}
+use Rattle.place_libraries.specs.Best.{bests_in}
+use Rattle.place_libraries.specs.Libraries.{libraries_at}
+use Rattle.place_libraries.specs.Library.{Library}
+use Rattle.library_files.specs.Search.{folder_links, followed_in}
+use Rattle.library_files.specs.declared.links.FolderLinks.{FolderLinks}
 use Rattle.cache_entries.specs.Winner.{linked, winners_among, winners_in}
 
 -- the winners of the places that are this folder

@@ -17,13 +17,13 @@ use Rattle.name_order.specs.Order.{name_order}
 use Rattle.image_tree.specs.Paths.{join}
 use Rattle.image_tree.specs.Node.{has_no_nul}
 use Rattle.image_tree.specs.Tree.{Nodes}
-use Rattle.found_files.specs.Best.{is_own}
-use Rattle.found_files.specs.Places.{by_place, is_plain, links_to}
-use Rattle.found_files.specs.Analyses.{Analyses}
+use Rattle.place_libraries.specs.Best.{is_own}
+use Rattle.library_files.specs.Places.{by_place, is_plain, links_to}
+use Rattle.file_table.specs.Analyses.{Analyses}
 use Rattle.cache_entries.specs.Winner.{winners_in}
 use Rattle.cache_entries.specs.declared.fault.EntryFault.{EntryFault}
 use Rattle.cache_entries.specs.declared.fault.EntryFault.TheVariants.{TooMany, NoMemory}
-use Rattle.found_files.specs.Library.{Library}
+use Rattle.place_libraries.specs.Library.{Library}
 
 -- the soname leads to the winner: it is its name, or a link with its name as its text is there
 abbrev pub is_by_soname : Nodes → Place → Library → Bool

@@ -4,7 +4,7 @@ use Rattle.std.specs.Str.{bytes_eq}
 use Rattle.hwcap_dirs.specs.declared.kinds.Place.{Place}
 use Rattle.lib_types.specs.declared.abi.Abi.{Abi}
 use Rattle.lib_types.specs.declared.entry.Entry.{Entry}
-use Rattle.found_files.specs.Analyses.{Analyses}
+use Rattle.file_table.specs.Analyses.{Analyses}
 use Rattle.image_tree.specs.Tree.{Nodes}
 use Rattle.cache_entries.specs.Walk.{is_same_abi, is_same_cap, path_with}
 

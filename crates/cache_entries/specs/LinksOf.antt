@@ -4,7 +4,7 @@ use Rattle.std.specs.List.{AllByRecursion}
 use Rattle.image_tree.specs.Paths.{join}
 use Rattle.image_tree.specs.Tree.{Nodes, node_at}
 use Rattle.image_tree.specs.declared.node.Node.TheVariants.{Link}
-use Rattle.found_files.specs.Link.{FollowedLink}
+use Rattle.library_files.specs.Link.{FollowedLink}
 
 -- a folder of a tree
 pub record Folder : Type 0 where

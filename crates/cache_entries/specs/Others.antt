@@ -2,8 +2,8 @@
 use Rattle.std.specs.Prelude.{◌≡◌, ℕ, Bool, true, false, List, filter}
 use Rattle.std.specs.List.{find}
 use Rattle.std.specs.Option.{is_some}
-use Rattle.found_files.specs.Best.{has_soname}
-use Rattle.found_files.specs.Library.{Library}
+use Rattle.place_libraries.specs.Best.{has_soname}
+use Rattle.place_libraries.specs.Library.{Library}
 use Rattle.cache_entries.specs.Winner.{has_own_name, named_links, other_links}
 
 -- one of the files has the soname

@@ -1,9 +1,9 @@
 -- What private functions say of the links of a place, each with its class.
 use Rattle.std.specs.Prelude.{ℕ, Bool, List, ◌&&◌, ◌||◌, map, nat_eq, nat_lt, if◌then◌else◌}
 use Rattle.std.specs.Map.{values_of}
-use Rattle.found_files.specs.Best.{is_preferred}
+use Rattle.place_libraries.specs.Best.{is_preferred}
 use Rattle.cache_entries.specs.Winner.{has_own_name}
-use Rattle.found_files.specs.Library.{Library}
+use Rattle.place_libraries.specs.Library.{Library}
 use Rattle.cache_entries.specs.declared.winner.Class.{Class}
 use Rattle.cache_entries.specs.declared.winner.Class.TheVariants.{Named, Other}
 use Rattle.cache_entries.specs.declared.winner.Ranked.{Ranked}

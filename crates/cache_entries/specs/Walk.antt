@@ -7,9 +7,9 @@ use Rattle.std.specs.Str.{bytes_eq}
 use Rattle.hwcap_dirs.specs.declared.kinds.Place.{Place}
 use Rattle.lib_types.specs.Abi.{flags_of}
 use Rattle.lib_types.specs.declared.abi.Abi.{Abi}
-use Rattle.found_files.specs.Analyses.{Analyses}
-use Rattle.found_files.specs.Libraries.{libraries_in}
-use Rattle.found_files.specs.Library.{Library}
+use Rattle.file_table.specs.Analyses.{Analyses}
+use Rattle.place_libraries.specs.Libraries.{libraries_in}
+use Rattle.place_libraries.specs.Library.{Library}
 use Rattle.image_tree.specs.Paths.{join}
 use Rattle.image_tree.specs.Tree.{Nodes}
 use Rattle.cache_entries.specs.Entries.{entry_name}

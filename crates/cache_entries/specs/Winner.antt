@@ -4,12 +4,12 @@ use Rattle.std.specs.List.{ends_with, filter_map, starts_with}
 use Rattle.hwcap_dirs.specs.declared.kinds.Place.{Place}
 use Rattle.image_tree.specs.Tree.{Nodes}
 use Rattle.path_walk.specs.Names.{last}
-use Rattle.found_files.specs.Best.{best, is_own, sonames}
-use Rattle.found_files.specs.Libraries.{libraries_in, library_at}
-use Rattle.found_files.specs.Search.{followed_in}
-use Rattle.found_files.specs.Analyses.{Analyses}
-use Rattle.found_files.specs.Library.{Library}
-use Rattle.found_files.specs.Link.{FollowedLink}
+use Rattle.place_libraries.specs.Best.{best, is_own, sonames}
+use Rattle.place_libraries.specs.Libraries.{libraries_in, library_at}
+use Rattle.library_files.specs.Search.{followed_in}
+use Rattle.file_table.specs.Analyses.{Analyses}
+use Rattle.place_libraries.specs.Library.{Library}
+use Rattle.library_files.specs.Link.{FollowedLink}
 
 -- ---- links to libraries
 

@@ -1,12 +1,14 @@
 //! The links of a place that may win a soname.
 ghost use Rattle.std.specs.List.{filter_map};
 ghost use Rattle.std.specs.Prelude.{◌≡◌, true, IfOk, IsTrue};
-ghost use Rattle.found_files.specs.Table.{analysis_at};
+ghost use Rattle.file_table.specs.Table.{analysis_at};
 ghost use Rattle.cache_entries.specs.Others.{has_file, AreAmong, HaveOthers, IsPassed};
 ghost use Rattle.cache_entries.specs.Winner.{linked};
 
 use crate::winner::{has_own_name, linked};
-use found_files::{BestIter, BestLibraries, FollowedLinks, Library, Table};
+use file_table::Table;
+use library_files::FollowedLinks;
+use place_libraries::{BestIter, BestLibraries, Library};
 use lib_types::{NoMemory, compare_bytes};
 use std::alloc::Global;
 use std::cmp::Ordering;

@@ -1,10 +1,12 @@
 //! How many winners places have.
 ghost use Rattle.std.specs.Prelude.{◌≡◌, IfOk, length};
-ghost use Rattle.found_files.specs.Table.{analysis_at};
+ghost use Rattle.file_table.specs.Table.{analysis_at};
 ghost use Rattle.cache_entries.specs.Counts.{CountsEach};
 
 use crate::winners::{Winners, winners_in};
-use found_files::{BestLibraries, FolderLinks, Table};
+use file_table::Table;
+use library_files::FolderLinks;
+use place_libraries::BestLibraries;
 use indexmap::IndexMap;
 use lib_types::{NoMemory, Text, TextRef};
 use std::alloc::Global;

@@ -1,11 +1,11 @@
 //! Where the names in a folder lead, by the links that were followed there.
 ghost use Rattle.std.specs.Prelude.{◌≡◌, IfOk, IfSome};
 ghost use Rattle.image_tree.specs.Paths.{join};
-ghost use Rattle.found_files.specs.Places.{links_to};
-ghost use Rattle.found_files.specs.Search.{folder_links};
+ghost use Rattle.library_files.specs.Places.{links_to};
+ghost use Rattle.library_files.specs.Search.{folder_links};
 ghost use Rattle.cache_entries.specs.LinksOf.{AreLeftOf, IsTargetAmong};
 
-use found_files::{FolderLinks, FollowedIter, links_to};
+use library_files::{FolderLinks, FollowedIter, links_to};
 use hwcap_dirs::Place;
 use lib_types::{NoMemory, are_same, compare_bytes};
 use path_walk::join_into;

@@ -2,11 +2,11 @@
 ghost use Rattle.std.specs.Prelude.{◌≡◌, ◌≤◌, ◌+◌, ◌++◌, All, IfErr, IfOk, IsTrue, OnOk, length, map};
 ghost use Rattle.cache_writer.specs.declared.writer.TheConstants.{ENTRIES_MAX};
 ghost use Rattle.hwcap_dirs.specs.Places.{are_spelled};
-ghost use Rattle.found_files.specs.Best.{bests_in, bests_of};
-ghost use Rattle.found_files.specs.Search.{folder_links, followed};
+ghost use Rattle.place_libraries.specs.Best.{bests_in, bests_of};
+ghost use Rattle.library_files.specs.Search.{folder_links, followed};
 ghost use Rattle.cache_entries.specs.Entries.{cap_of, entries_in, entry_of, entry_order, found, is_by_soname, is_fit, AreEntriesOf, IsEntryFault, IsOnlyListOf};
 ghost use Rattle.cache_entries.specs.Led.{LeadAsSearched};
-ghost use Rattle.found_files.specs.Table.{analysis_at};
+ghost use Rattle.file_table.specs.Table.{analysis_at};
 ghost use Rattle.cache_entries.specs.Counts.{AreCounts};
 ghost use Rattle.cache_entries.specs.Parts.{IsCountFault};
 
@@ -15,9 +15,9 @@ use crate::fault::EntryFault;
 use crate::links_of::LinksOf;
 use crate::winners::{Winners, winners_in};
 use cache_writer::ENTRIES_MAX;
-use found_files::{
-    BestLibraries, FolderLinks, Library, PlaceBests, PlaceLinks, Table, is_own, is_plain,
-};
+use file_table::Table;
+use library_files::{FolderLinks, PlaceLinks, is_plain};
+use place_libraries::{BestLibraries, Library, PlaceBests, is_own};
 use hwcap_dirs::{Dirs, Place};
 use indexmap::IndexMap;
 use lib_types::{Entries, Entry, NoMemory, Seq, Text};
@@ -200,7 +200,7 @@ fn take_place(
 }
 
 // All entries, place by place.
-#[tactic(auto, unfolding(crate::specs::Entries::found, found_files::specs::Best::bests_of, found_files::specs::Search::followed))]
+#[tactic(auto, unfolding(crate::specs::Entries::found, place_libraries::specs::Best::bests_of, library_files::specs::Search::followed))]
 fn found(
     alloc: Global,
     tree: &Tree,

@@ -1,16 +1,15 @@
 //! The links of a place: the libraries to which they lead, and which of them win.
 ghost use Rattle.std.specs.Prelude.{◌≡◌, [], map, unwrap_or, IfOk};
-ghost use Rattle.found_files.specs.Libraries.{library_at};
-ghost use Rattle.found_files.specs.Pick.{better_by};
+ghost use Rattle.place_libraries.specs.Libraries.{library_at};
+ghost use Rattle.place_libraries.specs.Pick.{better_by};
 ghost use Rattle.cache_entries.specs.Ranked.{by_sonames, is_before, libraries_of, rank_of, ranked_link, soname_of};
 ghost use Rattle.cache_entries.specs.Winner.{has_own_name, is_dev_name, linked, winners_among};
-ghost use Rattle.found_files.specs.Table.{analysis_at};
+ghost use Rattle.file_table.specs.Table.{analysis_at};
 ghost use Rattle.path_walk.specs.Names.{last};
 
-use found_files::{
-    BestLibraries, BySoname, FollowedLink, Gather, Library, Table, gather_by_soname, is_own,
-    is_preferred,
-};
+use file_table::Table;
+use library_files::FollowedLink;
+use place_libraries::{BestLibraries, BySoname, Gather, Library, gather_by_soname, is_own, is_preferred};
 use lib_types::{Analysis, NoMemory, Text};
 use path_walk::parted;
 use std::alloc::Global;

@@ -3,15 +3,17 @@ ghost use Rattle.std.specs.List.{slice_get};
 ghost use Rattle.std.specs.Prelude.{◌≡◌, IfOk};
 ghost use Rattle.hwcap_dirs.specs.declared.kinds.Place.{Place};
 ghost use Rattle.image_tree.specs.Tree.{Nodes};
-ghost use Rattle.found_files.specs.Best.{bests_in};
-ghost use Rattle.found_files.specs.Search.{folder_links};
-ghost use Rattle.found_files.specs.Table.{analysis_at};
+ghost use Rattle.place_libraries.specs.Best.{bests_in};
+ghost use Rattle.library_files.specs.Search.{folder_links};
+ghost use Rattle.file_table.specs.Table.{analysis_at};
 ghost use Rattle.cache_entries.specs.Merged.{turn};
 ghost use Rattle.cache_entries.specs.Winner.{winners_in};
 
 use crate::contending::contenders;
 use crate::winner::link_winners;
-use found_files::{BestIter, BestLibraries, FolderLinks, Library, Table};
+use file_table::Table;
+use library_files::FolderLinks;
+use place_libraries::{BestIter, BestLibraries, Library};
 use lib_types::{NoMemory, compare_bytes};
 use std::alloc::Global;
 use std::cmp::Ordering;
@@ -27,7 +29,7 @@ pub(crate) struct Winners<'a> {
 
 impl<'a> Model for Winners<'a> {
     ghost use Rattle.std.specs.Prelude.{List};
-    ghost use Rattle.found_files.specs.Library.{Library};
+    ghost use Rattle.place_libraries.specs.Library.{Library};
     ghost use Rattle.cache_entries.specs.Merged.{merged};
 
     ghost Value = { List Library };
@@ -62,7 +64,7 @@ pub(crate) struct InTurn<'a> {
 
 impl<'a> Model for InTurn<'a> {
     ghost use Rattle.std.specs.Prelude.{List};
-    ghost use Rattle.found_files.specs.Library.{Library};
+    ghost use Rattle.place_libraries.specs.Library.{Library};
     ghost use Rattle.cache_entries.specs.Merged.{merged};
 
     ghost Value = { List Library };

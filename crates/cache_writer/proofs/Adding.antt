@@ -9,7 +9,7 @@ use Rattle.indexmap.specs.IndexSet.{insert_key}
 use Rattle.lib_types.specs.declared.entry.Entry.{Entry}
 use Rattle.string_pool.specs.Texts.{number_of}
 use Rattle.string_pool.proofs.Numbers.{among, among_more, among_all, number_more, number_stays, length_distinct}
-use Rattle.string_pool.proofs.Distinct.{distinct_append}
+use Rattle.string_pool.proofs.WithoutRepeats.{distinct_append}
 use Rattle.string_pool.specs.Distinct.{distinct}
 use Rattle.cache_writer.specs.CacheText.{own_strings}
 use Rattle.cache_writer.specs.Numbers.{HasOwn, HasNumbers, AreAmong}

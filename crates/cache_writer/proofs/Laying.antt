@@ -9,7 +9,7 @@ use Rattle.lib_types.specs.Name.{is_name}
 use Rattle.lib_types.specs.declared.name.TheConstants.{NAME_MAX}
 use Rattle.string_pool.specs.Distinct.{distinct}
 use Rattle.string_pool.specs.InOrder.{table_of}
-use Rattle.string_pool.proofs.Distinct.{distinct_append}
+use Rattle.string_pool.proofs.WithoutRepeats.{distinct_append}
 use Rattle.string_pool.proofs.InOrder.{length_table_insert}
 use Rattle.cache_writer.specs.CacheText.{hwcaps_names, own_strings, strings}
 use Rattle.cache_writer.specs.Numbers.{HasOwn, HasNumbers, AreAmong}

@@ -12,9 +12,9 @@ use Rattle.std.specs.Str.{bytes_eq}
 use Rattle.lib_types.proofs.SortedPairs.{by_test}
 use Rattle.lib_types.specs.declared.analysis.Analysis.{Analysis}
 use Rattle.image_tree.specs.Tree.{Nodes, node_at}
-use Rattle.found_files.specs.Analyses.{Analyses, KeepsAnalyses, unread}
-use Rattle.found_files.specs.FoundFile.{FoundFile, IsFileOf}
-use Rattle.found_files.specs.Table.{Rows, analysis_at, with_analysis}
+use Rattle.file_table.specs.Analyses.{Analyses, KeepsAnalyses, unread}
+use Rattle.library_files.specs.FoundFile.{FoundFile, IsFileOf}
+use Rattle.file_table.specs.Table.{Rows, analysis_at, with_analysis}
 use Rattle.file_stamps.specs.Files.{unread_key}
 use Rattle.elf_dynamic.specs.Begun.{key_in}
 use Rattle.file_stamps.specs.Reading.{is_in}

@@ -15,9 +15,9 @@ use Rattle.aux_cache.proofs.Found.{first_of, stamp_of_both}
 use Rattle.aux_cache.specs.Stamps.{put, stamp_of}
 use Rattle.aux_cache.specs.declared.stamps.Stamp.{Stamp}
 use Rattle.elf_dynamic.specs.Begun.{key_in}
-use Rattle.found_files.proofs.Members.{AreSorted, itself}
-use Rattle.found_files.specs.Analyses.{AgreeOn, Analyses, KeepsAnalyses, unread}
-use Rattle.found_files.specs.Table.{analysis_at}
+use Rattle.string_pool.proofs.Members.{AreSorted, itself}
+use Rattle.file_table.specs.Analyses.{AgreeOn, Analyses, KeepsAnalyses, unread}
+use Rattle.file_table.specs.Table.{analysis_at}
 use Rattle.image_tree.specs.Tree.{Nodes, node_at}
 use Rattle.image_tree.specs.declared.node.Id.{Id}
 use Rattle.lib_types.proofs.SortedPairs.{by_test}

@@ -11,7 +11,7 @@ use Rattle.aux_cache.specs.Stamps.{IsSortedById, put, stamp_of}
 use Rattle.aux_cache.specs.declared.stamps.Stamp.{Stamp}
 use Rattle.elf_dynamic.specs.Analysis.{analysis}
 use Rattle.elf_dynamic.specs.Begun.{file_keys, key_in}
-use Rattle.found_files.proofs.Members.{AreSorted}
+use Rattle.string_pool.proofs.Members.{AreSorted}
 use Rattle.image_tree.specs.Tree.{Nodes, node_at}
 use Rattle.image_tree.specs.declared.node.Id.{Id}
 use Rattle.image_tree.specs.declared.node.Node.{Node}

@@ -18,9 +18,9 @@ use Rattle.aux_cache.specs.Stamps.{stamp_of}
 use Rattle.aux_cache.specs.declared.stamps.Stamp.{Stamp}
 use Rattle.elf_dynamic.proofs.BegunKeys.{keys_early, keys_then, none_lacks}
 use Rattle.elf_dynamic.specs.Begun.{ReadsBy, file_keys, is_lacking, key_in, lacks_one, until_lacking}
-use Rattle.found_files.proofs.Members.{AreSorted}
-use Rattle.found_files.specs.Analyses.{AgreeOn, Analyses, KeepsAnalyses, unread}
-use Rattle.found_files.specs.Table.{analysis_at}
+use Rattle.string_pool.proofs.Members.{AreSorted}
+use Rattle.file_table.specs.Analyses.{AgreeOn, Analyses, KeepsAnalyses, unread}
+use Rattle.file_table.specs.Table.{analysis_at}
 use Rattle.image_tree.specs.Tree.{Nodes, node_at}
 use Rattle.tree_face.proofs.StoreUse.{IsPartial, raised-mono, reads_fewer, reads_none}
 use Rattle.tree_face.specs.Known.{IfKnown}

@@ -9,9 +9,9 @@ use Rattle.aux_cache.specs.Stamps.{put, stamp_of}
 use Rattle.aux_cache.specs.declared.stamps.Stamp.{Stamp}
 use Rattle.elf_dynamic.specs.Analysis.{analysis}
 use Rattle.elf_dynamic.specs.Begun.{key_in, lacks_one}
-use Rattle.found_files.proofs.Copied.{put_last}
-use Rattle.found_files.specs.Analyses.{unread}
-use Rattle.found_files.specs.Table.{analysis_at, with_analysis}
+use Rattle.file_table.proofs.Copied.{put_last}
+use Rattle.file_table.specs.Analyses.{unread}
+use Rattle.file_table.specs.Table.{analysis_at, with_analysis}
 use Rattle.image_tree.specs.Tree.{Nodes, node_at}
 use Rattle.image_tree.specs.declared.node.Id.{Id}
 use Rattle.lib_types.specs.declared.analysis.Analysis.{Analysis}

@@ -9,7 +9,7 @@ use Rattle.aux_cache.specs.Stamps.{put, stamp_of}
 use Rattle.aux_cache.specs.declared.stamps.Stamp.{Stamp}
 use Rattle.elf_dynamic.specs.Analysis.{analysis}
 use Rattle.elf_dynamic.specs.Begun.{file_keys, is_lacking, key_in, lacks_one}
-use Rattle.found_files.proofs.Members.{AreSorted}
+use Rattle.string_pool.proofs.Members.{AreSorted}
 use Rattle.image_tree.specs.Tree.{Nodes, node_at}
 use Rattle.image_tree.specs.declared.node.Id.{Id}
 use Rattle.lib_types.specs.declared.analysis.Analysis.{Analysis}

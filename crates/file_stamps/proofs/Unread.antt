@@ -5,8 +5,8 @@ use Rattle.std.specs.List.{list_any}
 use Rattle.std.specs.Option.{is_none}
 use Rattle.std.specs.Str.{bytes_eq}
 use Rattle.lib_types.proofs.SortedPairs.{by_test}
-use Rattle.found_files.proofs.Members.{kept_in}
-use Rattle.found_files.specs.Analyses.{Analyses, KeepsAnalyses, unread}
+use Rattle.string_pool.proofs.Members.{kept_in}
+use Rattle.file_table.specs.Analyses.{Analyses, KeepsAnalyses, unread}
 use Rattle.image_tree.specs.Tree.{Nodes}
 use Rattle.file_stamps.proofs.KeptAnalyses.{still_read}
 use Rattle.file_stamps.specs.Files.{AreRead}

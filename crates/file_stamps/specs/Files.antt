@@ -5,7 +5,7 @@ use Rattle.std.specs.Option.{option_map, option_and_then}
 use Rattle.std.specs.Str.{bytes_eq}
 use Rattle.elf_dynamic.specs.Analysis.{analysis}
 use Rattle.elf_dynamic.specs.Begun.{key_in}
-use Rattle.found_files.specs.Analyses.{Analyses}
+use Rattle.file_table.specs.Analyses.{Analyses}
 use Rattle.tree_face.specs.Store.{Contents}
 use Rattle.image_tree.specs.Tree.{Nodes, node_at}
 

@@ -11,8 +11,8 @@ use Rattle.aux_cache.specs.declared.stamps.Stamp.{Stamp}
 use Rattle.elf_dynamic.specs.Analysis.{analysis}
 use Rattle.elf_dynamic.specs.Begun.{ReadsBy, file_keys, lacks_one}
 use Rattle.elf_headers.specs.Reading.{OfContent}
-use Rattle.found_files.specs.Analyses.{Analyses, KeepsAnalyses, unread}
-use Rattle.found_files.specs.Table.{analysis_at}
+use Rattle.file_table.specs.Analyses.{Analyses, KeepsAnalyses, unread}
+use Rattle.file_table.specs.Table.{analysis_at}
 use Rattle.image_tree.specs.declared.node.Id.{Id}
 use Rattle.image_tree.specs.Tree.{Nodes}
 use Rattle.lib_types.specs.declared.analysis.Analysis.{Analysis}

@@ -5,7 +5,7 @@ use Rattle.std.specs.List.{before_first, filter_map}
 use Rattle.std.specs.Option.{option_map, option_or}
 use Rattle.std.specs.Str.{bytes_eq}
 use Rattle.aux_cache.specs.declared.stamps.Stamp.{Stamp}
-use Rattle.found_files.specs.Analyses.{Analyses}
+use Rattle.file_table.specs.Analyses.{Analyses}
 use Rattle.image_tree.specs.Tree.{Nodes}
 use Rattle.tree_face.specs.Store.{Contents}
 use Rattle.file_stamps.specs.Files.{what_is}

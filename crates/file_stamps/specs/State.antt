@@ -1,9 +1,9 @@
 -- What is there before files are read.
 use Rattle.std.specs.Prelude.{ℕ, List, ◌++◌}
 use Rattle.aux_cache.specs.declared.stamps.Stamp.{Stamp}
-use Rattle.found_files.specs.Analyses.{Analyses, unread}
-use Rattle.found_files.specs.FoundFile.{FoundFile, paths_of}
-use Rattle.found_files.specs.Table.{analysis_at}
+use Rattle.file_table.specs.Analyses.{Analyses, unread}
+use Rattle.library_files.specs.FoundFile.{FoundFile, paths_of}
+use Rattle.file_table.specs.Table.{analysis_at}
 use Rattle.image_tree.specs.Tree.{Nodes}
 use Rattle.tree_face.specs.Store.{Contents}
 use Rattle.file_stamps.specs.Said.{said_in, stamps_said}

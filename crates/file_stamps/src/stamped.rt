@@ -3,7 +3,7 @@ ghost use Rattle.std.specs.Prelude.{◌≡◌, ◌++◌, [], IfOk, IfSome, IsTru
 ghost use Rattle.std.specs.List.{cons_option};
 ghost use Rattle.std.specs.Option.{option_and_then, option_copied, option_map};
 ghost use Rattle.aux_cache.specs.Stamps.{HasName, HaveNames, stamp_of};
-ghost use Rattle.found_files.specs.Analyses.{has_name};
+ghost use Rattle.file_table.specs.Analyses.{has_name};
 ghost use Rattle.file_stamps.specs.Stamped.{of_stamp, stamp_by, stamp_with, with_stamps};
 
 use aux_cache::{GatheredStamps, Stamp, Stamps};

@@ -12,9 +12,9 @@ use Rattle.elf_dynamic.specs.Begun.{file_keys, key_in, lacks_one}
 use Rattle.hwcap_dirs.specs.Places.{places}
 use Rattle.ldso_conf.specs.Reading.{conf_lacks, is_missing, reading, reading_of}
 use Rattle.lib_types.specs.declared.entry.Entry.{Entry}
-use Rattle.found_files.specs.Analyses.{Analyses}
-use Rattle.found_files.specs.Order.{ascending}
-use Rattle.found_files.specs.Search.{reached, wanted}
+use Rattle.file_table.specs.Analyses.{Analyses}
+use Rattle.string_pool.specs.Order.{ascending}
+use Rattle.library_files.specs.Search.{reached, wanted}
 use Rattle.planned_tree.proofs.Agree.{agree}
 use Rattle.planned_tree.specs.Search.{IsSearchedAlike}
 use Rattle.soname_links.specs.Apply.{nodes_with}

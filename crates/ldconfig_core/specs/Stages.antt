@@ -9,8 +9,8 @@ use Rattle.cache_writer.specs.CacheText.{cache_text, hwcaps_names}
 use Rattle.cache_writer.specs.ReadBack.{as_read}
 use Rattle.cache_writer.specs.declared.writer.TheConstants.{ENTRIES_MAX}
 use Rattle.lib_types.specs.declared.entry.Entry.{Entry}
-use Rattle.found_files.specs.Order.{ascending}
-use Rattle.found_files.specs.Table.{analysis_at}
+use Rattle.string_pool.specs.Order.{ascending}
+use Rattle.file_table.specs.Table.{analysis_at}
 use Rattle.soname_links.specs.declared.kinds.Planned.{Planned}
 use Rattle.image_tree.specs.Tree.{Nodes}
 use Rattle.update_report.specs.Report.{Said, report_text}

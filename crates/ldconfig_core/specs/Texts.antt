@@ -10,7 +10,7 @@ use Rattle.cache_writer.specs.CacheText.{cache_text, hwcaps_names}
 use Rattle.cache_writer.specs.ReadBack.{as_read}
 use Rattle.hwcap_dirs.specs.Places.{absent}
 use Rattle.lib_types.specs.declared.entry.Entry.{Entry}
-use Rattle.found_files.specs.Search.{dangling}
+use Rattle.library_files.specs.Search.{dangling}
 use Rattle.soname_links.specs.Marks.{blocked, mixed}
 use Rattle.tree_face.specs.declared.disk.Slot.{Slot}
 use Rattle.tree_face.specs.declared.disk.Slot.TheVariants.{Manifest, Cache, Aux}

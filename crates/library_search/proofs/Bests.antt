@@ -5,14 +5,15 @@ use Rattle.file_stamps.specs.Files.{AreRead}
 use Rattle.elf_dynamic.specs.Begun.{key_in}
 use Rattle.hwcap_dirs.specs.declared.kinds.Place.{Place}
 use Rattle.lib_types.specs.declared.analysis.Analysis.{Analysis}
-use Rattle.found_files.proofs.Analysed.{bests_stay, wanted_are_files}
-use Rattle.found_files.proofs.Children.{file_there}
-use Rattle.found_files.specs.Analyses.{Analyses, HaveAnalyses, KeepsAnalyses}
-use Rattle.found_files.specs.Best.{bests, bests_of}
-use Rattle.found_files.specs.Children.{is_file_node}
-use Rattle.found_files.specs.Libraries.{libraries_in}
-use Rattle.found_files.specs.Library.{Library}
-use Rattle.found_files.specs.Search.{wanted}
+use Rattle.place_libraries.proofs.NoOtherFiles.{bests_stay}
+use Rattle.library_files.proofs.WantedFiles.{wanted_are_files}
+use Rattle.library_files.proofs.Children.{file_there}
+use Rattle.file_table.specs.Analyses.{Analyses, HaveAnalyses, KeepsAnalyses}
+use Rattle.place_libraries.specs.Best.{bests, bests_of}
+use Rattle.library_files.specs.Children.{is_file_node}
+use Rattle.place_libraries.specs.Libraries.{libraries_in}
+use Rattle.place_libraries.specs.Library.{Library}
+use Rattle.library_files.specs.Search.{wanted}
 use Rattle.soname_links.specs.Settled.{IsSettled}
 use Rattle.image_tree.specs.declared.node.Node.{Node}
 use Rattle.image_tree.specs.declared.node.Node.TheVariants as node

@@ -15,12 +15,12 @@ use Rattle.elf_dynamic.specs.Begun.{key_in}
 use Rattle.hwcap_dirs.specs.declared.kinds.Place.{Place}
 use Rattle.lib_types.proofs.SortedPairs.{by_test}
 use Rattle.lib_types.specs.declared.analysis.Analysis.{Analysis}
-use Rattle.found_files.proofs.InOrder.{ascending_sorted, in_ascending}
-use Rattle.found_files.proofs.Members.{is_in}
-use Rattle.found_files.specs.Analyses.{AgreeOn, Analyses, HaveAnalyses, unread}
-use Rattle.found_files.specs.Order.{ascending}
-use Rattle.found_files.specs.Search.{reached, wanted}
-use Rattle.found_files.specs.Table.{Rows, analysis_at}
+use Rattle.string_pool.proofs.InByteOrder.{ascending_sorted, in_ascending}
+use Rattle.string_pool.proofs.Members.{is_in}
+use Rattle.file_table.specs.Analyses.{AgreeOn, Analyses, HaveAnalyses, unread}
+use Rattle.string_pool.specs.Order.{ascending}
+use Rattle.library_files.specs.Search.{reached, wanted}
+use Rattle.file_table.specs.Table.{Rows, analysis_at}
 use Rattle.planned_tree.proofs.Agree.{agree}
 use Rattle.planned_tree.specs.Search.{IsSearchedAlike, file_in}
 use Rattle.file_stamps.specs.Stamped.{content_of, id_at, id_in}

@@ -11,12 +11,12 @@ use Rattle.aux_cache.specs.Stamps.{put}
 use Rattle.aux_cache.specs.declared.stamps.Stamp.{Stamp}
 use Rattle.elf_dynamic.specs.Begun.{lacks_one}
 use Rattle.lib_types.proofs.SortedPairs.{by_test}
-use Rattle.found_files.proofs.Members.{AreSorted, is_in, kept_in}
-use Rattle.found_files.proofs.Unread.{unread_sorted}
-use Rattle.found_files.specs.Analyses.{AgreeOn, Analyses, HaveAnalyses, KeepsAnalyses}
-use Rattle.found_files.specs.Order.{ascending}
-use Rattle.found_files.specs.Search.{dangling, reached, wanted}
-use Rattle.found_files.specs.Table.{analysis_at}
+use Rattle.string_pool.proofs.Members.{AreSorted, is_in, kept_in}
+use Rattle.file_table.proofs.Unread.{unread_sorted}
+use Rattle.file_table.specs.Analyses.{AgreeOn, Analyses, HaveAnalyses, KeepsAnalyses}
+use Rattle.string_pool.specs.Order.{ascending}
+use Rattle.library_files.specs.Search.{dangling, reached, wanted}
+use Rattle.file_table.specs.Table.{analysis_at}
 use Rattle.ldso_conf.specs.Reading.{conf_keys}
 use Rattle.planned_tree.specs.Search.{IsSearchedAlike}
 use Rattle.soname_links.proofs.NoOtherFiles.{blocked_agree, links_agree, mixed_agree}

@@ -10,10 +10,10 @@ use Rattle.std.specs.Str.{bytes_eq}
 use Rattle.aux_cache.specs.Stamps.{stamp_of}
 use Rattle.aux_cache.specs.declared.stamps.Stamp.{Stamp}
 use Rattle.elf_dynamic.specs.Begun.{file_keys, lacks_one}
-use Rattle.found_files.proofs.Members.{AreSorted}
-use Rattle.found_files.specs.Analyses.{Analyses}
-use Rattle.found_files.specs.Order.{ascending}
-use Rattle.found_files.specs.Search.{reached}
+use Rattle.string_pool.proofs.Members.{AreSorted}
+use Rattle.file_table.specs.Analyses.{Analyses}
+use Rattle.string_pool.specs.Order.{ascending}
+use Rattle.library_files.specs.Search.{reached}
 use Rattle.image_tree.specs.declared.node.Id.{Id}
 use Rattle.image_tree.specs.Tree.{Nodes}
 use Rattle.planned_tree.proofs.Agree.{agree}

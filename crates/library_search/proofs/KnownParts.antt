@@ -4,10 +4,10 @@ use Rattle.std.specs.Map.{keys_of}
 use Rattle.aux_cache.specs.declared.stamps.Stamp.{Stamp}
 use Rattle.elf_dynamic.specs.Begun.{lacks_one}
 use Rattle.hwcap_dirs.specs.declared.kinds.Place.{Place}
-use Rattle.found_files.proofs.Members.{is_in}
-use Rattle.found_files.specs.Analyses.{AgreeOn, HaveAnalyses, KeepsAnalyses}
-use Rattle.found_files.specs.Search.{dangling, reached, wanted}
-use Rattle.found_files.specs.Table.{analysis_at}
+use Rattle.string_pool.proofs.Members.{is_in}
+use Rattle.file_table.specs.Analyses.{AgreeOn, HaveAnalyses, KeepsAnalyses}
+use Rattle.library_files.specs.Search.{dangling, reached, wanted}
+use Rattle.file_table.specs.Table.{analysis_at}
 use Rattle.planned_tree.specs.Search.{IsSearchedAlike}
 use Rattle.soname_links.proofs.NoOtherFiles.{settled_agrees}
 use Rattle.soname_links.specs.Apply.{nodes_with}

@@ -5,10 +5,10 @@ use Rattle.std.specs.List.{list_any}
 use Rattle.std.specs.Map.{keys_of}
 use Rattle.std.specs.Option.{is_some}
 use Rattle.std.specs.Str.{bytes_eq}
-use Rattle.found_files.proofs.Unread.{none_read}
-use Rattle.found_files.specs.Analyses.{Analyses, HaveAnalyses, unread}
-use Rattle.found_files.specs.Rows.{analysed}
-use Rattle.found_files.specs.Table.{Rows, analysis_at}
+use Rattle.file_table.proofs.Unread.{none_read}
+use Rattle.file_table.specs.Analyses.{Analyses, HaveAnalyses, unread}
+use Rattle.file_table.specs.Analyses.{analysed}
+use Rattle.file_table.specs.Table.{Rows, analysis_at}
 
 -- if each of these paths has an analysis, none is left out
 all_analysed : (what : Analyses) (paths : List (List ℕ)) → HaveAnalyses what paths → analysed what paths ≡ paths

@@ -7,8 +7,8 @@ use Rattle.std.specs.Option.{option_and_then, option_map, option_or}
 use Rattle.std.specs.Str.{bytes_eq}
 use Rattle.aux_cache.specs.Stamps.{stamp_of}
 use Rattle.aux_cache.specs.declared.stamps.Stamp.{Stamp}
-use Rattle.found_files.proofs.Members.{is_in, itself}
-use Rattle.found_files.specs.Analyses.{AgreeOn, Analyses}
+use Rattle.string_pool.proofs.Members.{is_in, itself}
+use Rattle.file_table.specs.Analyses.{AgreeOn, Analyses}
 use Rattle.image_tree.specs.Tree.{Nodes}
 use Rattle.planned_tree.specs.Search.{IsSearchedAlike}
 use Rattle.file_stamps.proofs.Opened.{before_behind, before_front, more_alike, said_alike}

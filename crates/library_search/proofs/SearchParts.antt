@@ -7,10 +7,10 @@ use Rattle.hwcap_dirs.specs.Places.{absent, places}
 use Rattle.hwcap_dirs.specs.declared.kinds.Place.{Place}
 use Rattle.ldso_conf.specs.Reading.{IsConfOf, conf_lacks}
 use Rattle.ldso_conf.specs.declared.kinds.Conf.{Conf}
-use Rattle.found_files.proofs.Unread.{none_read}
-use Rattle.found_files.specs.Analyses.{AgreeOn, unread}
-use Rattle.found_files.specs.Search.{wanted}
-use Rattle.found_files.specs.Table.{analysis_at}
+use Rattle.file_table.proofs.Unread.{none_read}
+use Rattle.file_table.specs.Analyses.{AgreeOn, unread}
+use Rattle.library_files.specs.Search.{wanted}
+use Rattle.file_table.specs.Table.{analysis_at}
 use Rattle.file_stamps.specs.Opened.{opened_keys}
 use Rattle.file_stamps.specs.Said.{said_in, stamps_said}
 use Rattle.file_stamps.specs.Stamped.{StampTheSame, stamps_at, with_stamps}

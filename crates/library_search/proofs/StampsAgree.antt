@@ -7,7 +7,7 @@ use Rattle.aux_cache.specs.Stamps.{stamp_of}
 use Rattle.aux_cache.specs.declared.stamps.Stamp.{Stamp}
 use Rattle.file_stamps.specs.Files.{what_is}
 use Rattle.elf_dynamic.specs.Begun.{key_in}
-use Rattle.found_files.proofs.Members.{AreSorted}
+use Rattle.string_pool.proofs.Members.{AreSorted}
 use Rattle.image_tree.specs.Tree.{Nodes, node_at}
 use Rattle.planned_tree.proofs.Agree.{agree}
 use Rattle.planned_tree.specs.Search.{IsSearchedAlike}

@@ -1,7 +1,7 @@
 -- The files that links with library names lead to and that are still to be read.
 use Rattle.std.specs.Prelude.{ℕ, List}
 use Rattle.aux_cache.specs.declared.stamps.Stamp.{Stamp}
-use Rattle.found_files.specs.Search.{reached}
+use Rattle.library_files.specs.Search.{reached}
 use Rattle.hwcap_dirs.specs.declared.kinds.Dirs.{Dirs}
 use Rattle.image_tree.specs.Tree.{Nodes}
 use Rattle.file_stamps.specs.Opened.{opened_keys}

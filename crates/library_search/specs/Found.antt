@@ -8,10 +8,10 @@ use Rattle.aux_cache.specs.declared.stamps.Stamp.{Stamp}
 use Rattle.elf_dynamic.specs.Begun.{lacks_one}
 use Rattle.hwcap_dirs.specs.Places.{absent}
 use Rattle.ldso_conf.specs.Reading.{IsConfOf, conf_keys}
-use Rattle.found_files.specs.Analyses.{AgreeOn}
-use Rattle.found_files.specs.Order.{ascending}
-use Rattle.found_files.specs.Search.{dangling}
-use Rattle.found_files.specs.Table.{analysis_at}
+use Rattle.file_table.specs.Analyses.{AgreeOn}
+use Rattle.string_pool.specs.Order.{ascending}
+use Rattle.library_files.specs.Search.{dangling}
+use Rattle.file_table.specs.Table.{analysis_at}
 use Rattle.soname_links.specs.Apply.{nodes_with}
 use Rattle.soname_links.specs.Marks.{blocked, mixed}
 use Rattle.file_stamps.specs.Said.{stamps_said}

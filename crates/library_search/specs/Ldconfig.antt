@@ -11,9 +11,9 @@ use Rattle.hwcap_dirs.specs.Places.{places}
 use Rattle.ldso_conf.specs.Reading.{Reading, reading}
 use Rattle.lib_types.specs.declared.abi.Abi.{Abi}
 use Rattle.lib_types.specs.declared.entry.Entry.{Entry}
-use Rattle.found_files.specs.Analyses.{Analyses}
-use Rattle.found_files.specs.Order.{ascending}
-use Rattle.found_files.specs.Search.{reached, wanted}
+use Rattle.file_table.specs.Analyses.{Analyses}
+use Rattle.string_pool.specs.Order.{ascending}
+use Rattle.library_files.specs.Search.{reached, wanted}
 use Rattle.soname_links.specs.declared.kinds.Planned.{Planned}
 use Rattle.soname_links.specs.Plan.{links, with_links}
 use Rattle.file_stamps.specs.Said.{said_in, stamps_said}

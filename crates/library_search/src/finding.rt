@@ -1,9 +1,9 @@
 //! All that an update finds.
 ghost use Rattle.std.specs.Prelude.{◌≡◌, ℕ, IfOk, IsErrOf, IsTrue, OnOk};
 ghost use Rattle.hwcap_dirs.specs.Places.{are_spelled};
-ghost use Rattle.found_files.specs.Best.{bests_of};
-ghost use Rattle.found_files.specs.Search.{followed};
-ghost use Rattle.found_files.specs.Table.{analysis_at};
+ghost use Rattle.place_libraries.specs.Best.{bests_of};
+ghost use Rattle.library_files.specs.Search.{followed};
+ghost use Rattle.file_table.specs.Table.{analysis_at};
 ghost use Rattle.image_tree.specs.Tree.{IsTree};
 ghost use Rattle.planned_tree.specs.Search.{IsSearchedAlike};
 ghost use Rattle.soname_links.specs.Settled.{IsSettled};

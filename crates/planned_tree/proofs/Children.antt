@@ -21,8 +21,8 @@ use Rattle.image_tree.specs.declared.tree.Kind.TheVariants as kinds
 use Rattle.planned_tree.proofs.Alike.{IsAlike, IsSame, IsSpot, same_dir, turned}
 use Rattle.soname_links.specs.Plan.{is_taken}
 use Rattle.soname_links.proofs.Named.{is_dir_kind}
-use Rattle.found_files.proofs.Last.{last_joined}
-use Rattle.found_files.proofs.Members.{is_in, kept_in, same_members}
+use Rattle.path_walk.proofs.Last.{last_joined}
+use Rattle.string_pool.proofs.Members.{is_in, kept_in, same_members}
 use Rattle.planned_tree.proofs.There.{child_there, there_child}
 
 -- not a link with a library name

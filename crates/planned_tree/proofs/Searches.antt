@@ -4,7 +4,7 @@ use Rattle.hwcap_dirs.specs.Places.{are_dirs}
 use Rattle.hwcap_dirs.specs.declared.kinds.Place.{Place}
 use Rattle.soname_links.proofs.Rooms.{have_room}
 use Rattle.soname_links.specs.Plan.{links, with_links}
-use Rattle.found_files.specs.Analyses.{Analyses, HaveNames}
+use Rattle.file_table.specs.Analyses.{Analyses, HaveNames}
 use Rattle.soname_links.specs.declared.kinds.Planned.{Planned}
 use Rattle.image_tree.specs.Tree.{Nodes, IsTree}
 use Rattle.planned_tree.proofs.Alike.{IsAlike, same_file}

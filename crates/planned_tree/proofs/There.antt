@@ -29,8 +29,8 @@ use Rattle.image_tree.specs.Tree.{Nodes, children_of, has_below, is_entry, kind_
 use Rattle.image_tree.specs.declared.node.Node.{Node}
 use Rattle.image_tree.specs.declared.node.Node.TheVariants as node
 use Rattle.image_tree.specs.declared.tree.Kind.TheVariants as kinds
-use Rattle.found_files.proofs.Last.{last_joined}
-use Rattle.found_files.proofs.Members.{is_in}
+use Rattle.path_walk.proofs.Last.{last_joined}
+use Rattle.string_pool.proofs.Members.{is_in}
 
 -- ---- the first name of a text
 

@@ -13,7 +13,7 @@ use Rattle.path_walk.specs.declared.walk.Mode.{Mode}
 use Rattle.path_walk.specs.declared.walk.Mode.TheVariants.{Plain}
 use Rattle.path_walk.specs.declared.walk.TheConstants.{LINKS_MAX}
 use Rattle.path_walk.specs.declared.walk.WalkFault.TheVariants.{Absent}
-use Rattle.found_files.proofs.Last.{last_alone}
+use Rattle.path_walk.proofs.Last.{last_alone}
 use Rattle.planned_tree.proofs.Alike.{IsAlike, IsSame, IsSpot}
 use Rattle.planned_tree.proofs.Alone.{AreAlone, IsAlone, both_alone, components_alone}
 use Rattle.soname_links.specs.Plan.{is_taken}

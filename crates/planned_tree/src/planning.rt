@@ -1,8 +1,8 @@
 //! The links that are planned, and the tree with them.
 ghost use Rattle.std.specs.Prelude.{◌≡◌, ◌<◌, ◌≤◌, ℕ, IfOk, IsErrOf, IsTrue};
 ghost use Rattle.hwcap_dirs.specs.Places.{are_dirs};
-ghost use Rattle.found_files.specs.Best.{bests_of};
-ghost use Rattle.found_files.specs.Rows.{AreOfPlaces};
+ghost use Rattle.place_libraries.specs.Best.{bests_of};
+ghost use Rattle.place_libraries.specs.Rows.{AreOfPlaces};
 ghost use Rattle.soname_links.specs.Apply.{nodes_with};
 ghost use Rattle.soname_links.specs.Marks.{blocked, mixed};
 ghost use Rattle.soname_links.specs.Plan.{links, with_links};
@@ -10,9 +10,9 @@ ghost use Rattle.soname_links.specs.Settled.{IsSettled};
 ghost use Rattle.image_tree.specs.Tree.{IsTree};
 ghost use Rattle.image_tree.specs.declared.tree.TheConstants.{NODES_MAX};
 ghost use Rattle.planned_tree.specs.Search.{IsSearchedAlike};
-ghost use Rattle.found_files.specs.Table.{analysis_at};
+ghost use Rattle.file_table.specs.Table.{analysis_at};
 
-use found_files::Table;
+use file_table::Table;
 use hwcap_dirs::Dirs;
 use soname_links::{ApplyFault, Survey, apply, survey};
 use std::alloc::Global;

@@ -11,14 +11,14 @@ use Rattle.std.specs.Ordering.{nat_cmp}
 use Rattle.std.specs.Str.{bytes_eq}
 use Rattle.lib_types.proofs.SortedPairs.{by_test}
 use Rattle.lib_types.specs.Abi.{flags_of}
-use Rattle.found_files.proofs.InOrder.{ascending_sorted, in_ascending}
+use Rattle.string_pool.proofs.InByteOrder.{ascending_sorted, in_ascending}
 use Rattle.soname_links.proofs.Grouped.{best_grouped}
-use Rattle.found_files.proofs.Members.{is_in, kept_in, same_members}
-use Rattle.found_files.specs.Best.{best, has_soname, is_preferred, sonames}
+use Rattle.string_pool.proofs.Members.{is_in, kept_in, same_members}
+use Rattle.place_libraries.specs.Best.{best, has_soname, is_preferred, sonames}
 use Rattle.soname_links.specs.Marks.{is_odd, mixed_among, odd_soname}
 use Rattle.soname_links.specs.Survey.{group_at, group_with, groups, grown, mixed_soname, with_library}
 use Rattle.soname_links.specs.declared.groups.Group.{Group}
-use Rattle.found_files.specs.Library.{Library}
+use Rattle.place_libraries.specs.Library.{Library}
 
 -- ---- the libraries of one soname
 

@@ -12,7 +12,7 @@ use Rattle.hwcap_dirs.specs.declared.kinds.Place.{Place}
 use Rattle.lib_types.proofs.Bools.{not_true}
 use Rattle.lib_types.proofs.SortedPairs.{by_test}
 use Rattle.path_walk.proofs.KindsAt.{at_path}
-use Rattle.found_files.specs.Analyses.{Analyses, HaveNames}
+use Rattle.file_table.specs.Analyses.{Analyses, HaveNames}
 use Rattle.image_tree.proofs.Above.{clash_below, found_passes}
 use Rattle.image_tree.proofs.Below.{not_root}
 use Rattle.image_tree.proofs.Clear.{none_put}

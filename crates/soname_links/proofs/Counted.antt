@@ -15,13 +15,13 @@ use Rattle.image_tree.specs.Tree as tree
 use Rattle.image_tree.specs.Tree.{Nodes, IsPathSorted, node_at}
 use Rattle.image_tree.specs.declared.node.Node.{Node}
 use Rattle.image_tree.specs.declared.node.Node.TheVariants.{Link}
-use Rattle.found_files.proofs.Ordered.{filtered_same, keys_put, keys_stay}
+use Rattle.string_pool.proofs.Ordered.{filtered_same, keys_put, keys_stay}
 use Rattle.soname_links.proofs.Put.{put_here, put_other}
 use Rattle.soname_links.specs.Apply.{new_path, nodes_with}
-use Rattle.found_files.specs.Order.{ascending}
+use Rattle.string_pool.specs.Order.{ascending}
 use Rattle.soname_links.specs.Plan.{with_link, with_links}
 use Rattle.soname_links.specs.declared.kinds.Planned.{Planned}
-use Rattle.found_files.proofs.InOrder.{count_more}
+use Rattle.string_pool.proofs.InByteOrder.{count_more}
 
 -- ---- the nodes
 

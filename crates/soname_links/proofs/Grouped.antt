@@ -4,14 +4,14 @@ use Rattle.std.proofs.lemmas.Cmp.{nat_list_cmp_total}
 use Rattle.std.specs.List.{cons_option, filter, filter_map, fold}
 use Rattle.std.specs.Map.{keys_of}
 use Rattle.std.specs.Option.{option_map}
-use Rattle.found_files.proofs.Ordered.{by_entries, filtered_same}
-use Rattle.found_files.proofs.Gathered.{gathered_keyed, keys_keyed}
-use Rattle.found_files.specs.Sonames.{AreGathered, AreOrdered, found_at}
-use Rattle.found_files.specs.Best.{best, bests, better, has_soname, is_preferred, sonames}
-use Rattle.found_files.specs.Order.{ascending}
+use Rattle.string_pool.proofs.Ordered.{by_entries, filtered_same}
+use Rattle.place_libraries.proofs.Gathered.{gathered_keyed, keys_keyed}
+use Rattle.place_libraries.specs.Sonames.{AreGathered, AreOrdered, found_at}
+use Rattle.place_libraries.specs.Best.{best, bests, better, has_soname, is_preferred, sonames}
+use Rattle.string_pool.specs.Order.{ascending}
 use Rattle.soname_links.specs.Survey.{group_at, group_with, groups, keyed, with_library}
 use Rattle.soname_links.specs.declared.groups.Group.{Group}
-use Rattle.found_files.specs.Library.{Library}
+use Rattle.place_libraries.specs.Library.{Library}
 
 abbrev pub Grouped : Type 0
 Grouped = List (List ℕ × Group)

@@ -1,7 +1,7 @@
 -- Places that are gone over with what there is for each.
 use Rattle.std.proofs.Common.{◌≡◌, ℕ, ◌+◌, List, [], ◌∷◌, ◌++◌, map, refl, ap}
 use Rattle.hwcap_dirs.specs.declared.kinds.Place.{Place}
-use Rattle.found_files.specs.Places.{by_place}
+use Rattle.library_files.specs.Places.{by_place}
 use Rattle.soname_links.specs.Survey.{by_place_with}
 
 -- what they give by items that are made of them

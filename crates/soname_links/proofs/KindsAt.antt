@@ -18,8 +18,8 @@ use Rattle.image_tree.specs.declared.tree.Kind.TheVariants.{Absent, Dir, File, L
 use Rattle.soname_links.proofs.Put.{any_put, put_here, put_other}
 use Rattle.soname_links.specs.Plan.{is_taken}
 use Rattle.path_walk.specs.Files.{is_file}
-use Rattle.found_files.specs.Children.{is_file_node}
-use Rattle.found_files.specs.Search.{file_in}
+use Rattle.library_files.specs.Children.{is_file_node}
+use Rattle.library_files.specs.Search.{file_in}
 
 -- no node, or a link
 abbrev pub is_open : Option Node → Bool

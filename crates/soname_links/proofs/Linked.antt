@@ -19,12 +19,12 @@ use Rattle.image_tree.specs.Tree as tree
 use Rattle.image_tree.specs.Tree.{Nodes, IsPathSorted, children_of, clashes, kind_at, names_below, node_at, of_dir}
 use Rattle.image_tree.specs.declared.node.Node.TheVariants as node
 use Rattle.image_tree.specs.declared.tree.Kind.TheVariants.{Dir}
-use Rattle.found_files.proofs.Members.{AreSorted, left_out, same_left}
-use Rattle.found_files.proofs.Ordered.{filtered_same}
+use Rattle.string_pool.proofs.Members.{AreSorted, left_out, same_left}
+use Rattle.string_pool.proofs.Ordered.{filtered_same}
 use Rattle.soname_links.proofs.Put.{above_found, is_other, names_same, others_same}
 use Rattle.path_walk.specs.Files.{is_file}
-use Rattle.found_files.specs.Children.{is_file_node}
-use Rattle.found_files.specs.Search.{file_in}
+use Rattle.library_files.specs.Children.{is_file_node}
+use Rattle.library_files.specs.Search.{file_in}
 use Rattle.soname_links.proofs.KindsAt.{dir_kept, file_in_same, file_node, is_open, no_file, none_above, some_file}
 
 not_false : (b : Bool) → not b ≡ false → b ≡ true

@@ -8,12 +8,12 @@ use Rattle.lib_types.proofs.Bools.{not_true}
 use Rattle.lib_types.proofs.SortedPairs.{by_test}
 use Rattle.image_tree.specs.Paths.{join}
 use Rattle.image_tree.specs.Tree.{Nodes, kind_at}
-use Rattle.found_files.specs.Best.{best, sonames}
-use Rattle.found_files.specs.Libraries.{libraries_in}
-use Rattle.found_files.specs.Places.{by_place, is_plain, links_to}
+use Rattle.place_libraries.specs.Best.{best, sonames}
+use Rattle.place_libraries.specs.Libraries.{libraries_in}
+use Rattle.library_files.specs.Places.{by_place, is_plain, links_to}
 use Rattle.soname_links.specs.Plan.{is_blocked, is_regarded, link_for, links, links_in}
-use Rattle.found_files.specs.Analyses.{Analyses}
-use Rattle.found_files.specs.Library.{Library}
+use Rattle.file_table.specs.Analyses.{Analyses}
+use Rattle.place_libraries.specs.Library.{Library}
 use Rattle.soname_links.specs.declared.kinds.Planned.{Planned}
 
 -- the link is planned for this library

@@ -12,15 +12,15 @@ use Rattle.image_tree.specs.declared.path.TheConstants.{PATH_MAX}
 use Rattle.image_tree.specs.declared.tree.Kind.{Kind}
 use Rattle.image_tree.specs.declared.tree.Kind.TheVariants as kinds
 use Rattle.path_walk.proofs.Linked.{folder_of_dir}
-use Rattle.found_files.proofs.Named.{best_named}
+use Rattle.place_libraries.proofs.Named.{best_named}
 use Rattle.soname_links.proofs.Joined.{path_of_name}
 use Rattle.soname_links.proofs.Links.{IsLinkFor, all_links}
 use Rattle.soname_links.specs.Apply.{is_link, is_plan}
-use Rattle.found_files.specs.Best.{best}
-use Rattle.found_files.specs.Libraries.{libraries_in}
+use Rattle.place_libraries.specs.Best.{best}
+use Rattle.place_libraries.specs.Libraries.{libraries_in}
 use Rattle.soname_links.specs.Plan.{is_taken, links}
-use Rattle.found_files.specs.Analyses.{Analyses, HaveNames}
-use Rattle.found_files.specs.Library.{Library}
+use Rattle.file_table.specs.Analyses.{Analyses, HaveNames}
+use Rattle.place_libraries.specs.Library.{Library}
 use Rattle.soname_links.specs.declared.kinds.Planned.{Planned}
 
 short : (n : ℕ) → nat_lt PATH_MAX n ≡ false → nat_le n PATH_MAX ≡ true

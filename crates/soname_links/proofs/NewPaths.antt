@@ -6,9 +6,9 @@ use Rattle.std.specs.List.{cons_option, filter_map, list_any}
 use Rattle.std.specs.Option.{is_none, is_some}
 use Rattle.std.specs.Str.{bytes_eq}
 use Rattle.lib_types.proofs.SortedPairs.{by_test}
-use Rattle.found_files.proofs.Counted.{count_few, count_next, unless_there}
-use Rattle.found_files.proofs.Members.{is_in}
-use Rattle.found_files.specs.Order.{ascending}
+use Rattle.string_pool.proofs.Counted.{count_few, count_next, unless_there}
+use Rattle.string_pool.proofs.Members.{is_in}
+use Rattle.string_pool.specs.Order.{ascending}
 use Rattle.image_tree.specs.Tree.{Nodes, node_at}
 use Rattle.soname_links.specs.Apply.{is_at_path, is_last_new, new_path, new_paths}
 use Rattle.soname_links.specs.declared.kinds.Planned.{Planned}

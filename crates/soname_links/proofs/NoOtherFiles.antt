@@ -3,12 +3,12 @@ use Rattle.std.proofs.Common.{◌≡◌, ℕ, cond, List, [], map, sym, subst, �
 use Rattle.std.specs.List.{filter_map}
 use Rattle.hwcap_dirs.specs.declared.kinds.Place.{Place}
 use Rattle.image_tree.specs.Tree.{Nodes}
-use Rattle.found_files.proofs.NoOtherFiles.{by_place_same, libraries_agree}
-use Rattle.found_files.specs.Analyses.{Analyses, AgreeOn}
-use Rattle.found_files.specs.Best.{bests}
-use Rattle.found_files.specs.Libraries.{libraries_in}
-use Rattle.found_files.specs.Places.{is_plain}
-use Rattle.found_files.specs.Search.{wanted}
+use Rattle.place_libraries.proofs.NoOtherFiles.{by_place_same, libraries_agree}
+use Rattle.file_table.specs.Analyses.{Analyses, AgreeOn}
+use Rattle.place_libraries.specs.Best.{bests}
+use Rattle.place_libraries.specs.Libraries.{libraries_in}
+use Rattle.library_files.specs.Places.{is_plain}
+use Rattle.library_files.specs.Search.{wanted}
 use Rattle.soname_links.specs.Marks.{blocked, blocked_for, mark, mixed, mixed_among}
 use Rattle.soname_links.specs.Plan.{link_for, links}
 use Rattle.soname_links.specs.Settled.{IsSettled}

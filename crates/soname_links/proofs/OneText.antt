@@ -13,14 +13,14 @@ use Rattle.image_tree.specs.Tree.{Nodes, IsTree, children_of, kind_at}
 use Rattle.path_walk.proofs.Linked.{folder_of_dir}
 use Rattle.soname_links.proofs.Joined.{join_same}
 use Rattle.soname_links.proofs.Links.{IsLinkFor, all_links}
-use Rattle.found_files.proofs.Named.{best_has, best_named}
+use Rattle.place_libraries.proofs.Named.{best_has, best_named}
 use Rattle.soname_links.proofs.Named.{is_dir_kind}
 use Rattle.soname_links.proofs.Stays.{are_same, is_same_link}
-use Rattle.found_files.specs.Best.{best}
-use Rattle.found_files.specs.Libraries.{libraries_in, library_in}
+use Rattle.place_libraries.specs.Best.{best}
+use Rattle.place_libraries.specs.Libraries.{libraries_in, library_in}
 use Rattle.soname_links.specs.Plan.{links}
-use Rattle.found_files.specs.Analyses.{Analyses, HaveNames}
-use Rattle.found_files.specs.Library.{Library}
+use Rattle.file_table.specs.Analyses.{Analyses, HaveNames}
+use Rattle.place_libraries.specs.Library.{Library}
 use Rattle.soname_links.specs.declared.kinds.Planned.{Planned}
 
 module _ (what : Analyses) (named : HaveNames what) (t : Nodes) (tree : IsTree t) where

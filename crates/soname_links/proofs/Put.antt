@@ -11,7 +11,7 @@ use Rattle.std.specs.Str.{bytes_eq}
 use Rattle.std.specs.declared.cmp.Ordering.TheVariants.{Less, Equal, Greater}
 use Rattle.lib_types.proofs.Bools.{and_false}
 use Rattle.lib_types.proofs.SortedPairs.{by_ordering, by_test, put_step}
-use Rattle.found_files.proofs.Either.{swapped, twice}
+use Rattle.string_pool.proofs.Either.{swapped, twice}
 use Rattle.image_tree.proofs.Above.{found_any}
 use Rattle.image_tree.proofs.Below.{exact}
 use Rattle.image_tree.proofs.Order.{path_total}

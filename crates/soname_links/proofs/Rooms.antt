@@ -10,12 +10,12 @@ use Rattle.name_order.specs.LibraryName.{is_library_name}
 use Rattle.path_walk.proofs.KindsAt.{dir_above}
 use Rattle.path_walk.proofs.Linked.{folder_of_dir}
 use Rattle.path_walk.specs.Names.{last}
-use Rattle.found_files.proofs.Last.{last_joined}
-use Rattle.found_files.proofs.Named.{best_named}
-use Rattle.found_files.specs.Best.{best, is_own}
-use Rattle.found_files.specs.Libraries.{libraries_in}
-use Rattle.found_files.specs.Analyses.{Analyses, HaveNames}
-use Rattle.found_files.specs.Library.{Library}
+use Rattle.path_walk.proofs.Last.{last_joined}
+use Rattle.place_libraries.proofs.Named.{best_named}
+use Rattle.place_libraries.specs.Best.{best, is_own}
+use Rattle.place_libraries.specs.Libraries.{libraries_in}
+use Rattle.file_table.specs.Analyses.{Analyses, HaveNames}
+use Rattle.place_libraries.specs.Library.{Library}
 use Rattle.image_tree.proofs.Below.{below_from, below_is}
 use Rattle.image_tree.specs.Paths.{is_below, is_path, join, root, stem}
 use Rattle.image_tree.specs.Tree.{Nodes, IsTree, kind_at}

@@ -16,15 +16,15 @@ use Rattle.soname_links.proofs.Links.{all_links, link_is}
 use Rattle.soname_links.proofs.Named.{is_dir_kind}
 use Rattle.soname_links.proofs.Stays.{IsReady, are_open, dirs_stay, files_stay, link_stays, links_there, taken_stay}
 use Rattle.soname_links.specs.Apply.{are_clear, is_link, is_plan}
-use Rattle.found_files.specs.Best.{best, bests, sonames}
-use Rattle.found_files.specs.Libraries.{libraries_in, library_at}
-use Rattle.found_files.specs.Order.{ascending}
-use Rattle.found_files.specs.Places.{by_place, is_link_to, is_plain, links_to}
+use Rattle.place_libraries.specs.Best.{best, bests, sonames}
+use Rattle.place_libraries.specs.Libraries.{libraries_in, library_at}
+use Rattle.string_pool.specs.Order.{ascending}
+use Rattle.library_files.specs.Places.{by_place, is_link_to, is_plain, links_to}
 use Rattle.soname_links.specs.Plan.{is_blocked, is_regarded, is_taken, link_for, links, links_in, with_links}
-use Rattle.found_files.specs.Search.{files_in, wanted}
+use Rattle.library_files.specs.Search.{files_in, wanted}
 use Rattle.soname_links.specs.Settled.{IsSettled, Settles}
-use Rattle.found_files.specs.Analyses.{Analyses, HaveNames}
-use Rattle.found_files.specs.Library.{Library}
+use Rattle.file_table.specs.Analyses.{Analyses, HaveNames}
+use Rattle.place_libraries.specs.Library.{Library}
 use Rattle.soname_links.specs.declared.kinds.Planned.{Planned}
 use Rattle.soname_links.proofs.OneText.{all_same, one_text}
 

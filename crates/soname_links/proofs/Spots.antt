@@ -6,7 +6,7 @@ use Rattle.image_tree.specs.declared.node.Node.{Node}
 use Rattle.image_tree.specs.declared.node.Node.TheVariants as nodes
 use Rattle.image_tree.specs.declared.path.TheConstants.{PATH_MAX}
 use Rattle.path_walk.proofs.KindsAt.{kind_of_node}
-use Rattle.found_files.specs.Places.{is_link_to}
+use Rattle.library_files.specs.Places.{is_link_to}
 use Rattle.soname_links.specs.Plan.{is_taken}
 use Rattle.soname_links.specs.Survey.{spot_at, spot_by}
 use Rattle.soname_links.specs.declared.surveying.Spot.TheVariants.{Blocked, Linked, Free}

@@ -14,9 +14,9 @@ use Rattle.soname_links.proofs.KindsAt.{dir_kept, is_open, open_kept, taken_kept
 use Rattle.soname_links.proofs.Linked.{files_give}
 use Rattle.soname_links.proofs.Put.{put_here, put_other}
 use Rattle.soname_links.specs.Apply.{are_clear}
-use Rattle.found_files.specs.Places.{is_link_to}
+use Rattle.library_files.specs.Places.{is_link_to}
 use Rattle.soname_links.specs.Plan.{is_taken, with_link, with_links}
-use Rattle.found_files.specs.Search.{file_in}
+use Rattle.library_files.specs.Search.{file_in}
 use Rattle.soname_links.specs.declared.kinds.Planned.{Planned}
 
 -- ---- links that can be put one after another

@@ -2,15 +2,15 @@
 use Rattle.std.proofs.Common.{◌≡◌, ℕ, List, [], ◌∷◌, map, refl, ap, ◌∙◌}
 use Rattle.hwcap_dirs.specs.declared.kinds.Place.{Place}
 use Rattle.image_tree.specs.Tree.{Nodes, IsTree}
-use Rattle.found_files.proofs.Among.{all_libraries}
-use Rattle.found_files.proofs.FolderRows.{made_shared, reals}
-use Rattle.found_files.specs.Best.{bests, bests_in}
-use Rattle.found_files.specs.Library.{Library}
-use Rattle.found_files.specs.Libraries.{libraries_at}
-use Rattle.found_files.specs.RealFolders.{HaveRows}
-use Rattle.found_files.specs.Rows.{AreOfPlaces, libraries_among}
-use Rattle.found_files.specs.Shared.{taken}
-use Rattle.found_files.specs.Table.{Rows, analysis_at}
+use Rattle.place_libraries.proofs.Among.{all_libraries}
+use Rattle.library_files.proofs.FolderRows.{made_shared, reals}
+use Rattle.place_libraries.specs.Best.{bests, bests_in}
+use Rattle.place_libraries.specs.Library.{Library}
+use Rattle.place_libraries.specs.Libraries.{libraries_at}
+use Rattle.library_files.specs.RealFolders.{HaveRows}
+use Rattle.place_libraries.specs.Rows.{AreOfPlaces, libraries_among}
+use Rattle.string_pool.specs.Shared.{taken}
+use Rattle.file_table.specs.Table.{Rows, analysis_at}
 use Rattle.soname_links.specs.Marks.{mixed_among}
 use Rattle.soname_links.specs.Survey.{bests_at, mixed_at, mixed_sonames}
 

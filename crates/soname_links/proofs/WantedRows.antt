@@ -9,12 +9,13 @@ use Rattle.std.specs.Ordering.{nat_cmp}
 use Rattle.std.specs.Str.{bytes_eq}
 use Rattle.hwcap_dirs.specs.declared.kinds.Place.{Place}
 use Rattle.image_tree.specs.Tree.{Nodes}
-use Rattle.found_files.proofs.InOrder.{ascending_sorted}
-use Rattle.found_files.proofs.Members.{is_in, itself}
-use Rattle.found_files.specs.Analyses.{Analyses, AgreeOn}
-use Rattle.found_files.specs.Rows.{AreOfPlaces, analysed}
-use Rattle.found_files.specs.Search.{files_in, wanted}
-use Rattle.found_files.specs.Table.{Rows, analysis_at}
+use Rattle.string_pool.proofs.InByteOrder.{ascending_sorted}
+use Rattle.string_pool.proofs.Members.{is_in, itself}
+use Rattle.file_table.specs.Analyses.{Analyses, AgreeOn}
+use Rattle.place_libraries.specs.Rows.{AreOfPlaces}
+use Rattle.file_table.specs.Analyses.{analysed}
+use Rattle.library_files.specs.Search.{files_in, wanted}
+use Rattle.file_table.specs.Table.{Rows, analysis_at}
 
 analysed_agree : (what new : Analyses) (paths : List (List ℕ)) → AgreeOn paths what new → analysed new paths ≡ analysed what paths
 analysed_agree what new [] same = refl

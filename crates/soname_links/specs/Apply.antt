@@ -8,7 +8,7 @@ use Rattle.image_tree.specs.Paths.{is_path}
 use Rattle.image_tree.specs.Tree.{Nodes, clashes, node_at}
 use Rattle.image_tree.specs.declared.node.Node.TheVariants.{Link}
 use Rattle.image_tree.specs.declared.tree.TheConstants.{NODES_MAX}
-use Rattle.found_files.specs.Order.{ascending}
+use Rattle.string_pool.specs.Order.{ascending}
 use Rattle.soname_links.specs.Plan.{with_link, with_links}
 use Rattle.soname_links.specs.declared.kinds.ApplyFault.{ApplyFault}
 use Rattle.soname_links.specs.declared.kinds.ApplyFault.TheVariants.{TooLarge, NoMemory}

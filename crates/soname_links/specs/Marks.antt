@@ -5,13 +5,13 @@ use Rattle.hwcap_dirs.specs.declared.kinds.Place.{Place}
 use Rattle.lib_types.specs.Abi.{flags_of}
 use Rattle.image_tree.specs.Paths.{join}
 use Rattle.image_tree.specs.Tree.{Nodes}
-use Rattle.found_files.specs.Best.{best, bests}
-use Rattle.found_files.specs.Libraries.{libraries_in}
-use Rattle.found_files.specs.Order.{ascending}
-use Rattle.found_files.specs.Places.{by_place, is_plain}
+use Rattle.place_libraries.specs.Best.{best, bests}
+use Rattle.place_libraries.specs.Libraries.{libraries_in}
+use Rattle.string_pool.specs.Order.{ascending}
+use Rattle.library_files.specs.Places.{by_place, is_plain}
 use Rattle.soname_links.specs.Plan.{is_blocked, is_regarded}
-use Rattle.found_files.specs.Analyses.{Analyses}
-use Rattle.found_files.specs.Library.{Library}
+use Rattle.file_table.specs.Analyses.{Analyses}
+use Rattle.place_libraries.specs.Library.{Library}
 use Rattle.soname_links.specs.declared.kinds.Mark.{Mark}
 
 abbrev pub mark : ℕ → List ℕ → Mark

@@ -9,11 +9,11 @@ use Rattle.image_tree.specs.declared.node.Node.TheVariants.{Link}
 use Rattle.image_tree.specs.declared.path.TheConstants.{PATH_MAX}
 use Rattle.image_tree.specs.declared.tree.Kind.{Kind}
 use Rattle.image_tree.specs.declared.tree.Kind.TheVariants as kinds
-use Rattle.found_files.specs.Best.{is_own, bests}
-use Rattle.found_files.specs.Libraries.{libraries_in}
-use Rattle.found_files.specs.Places.{by_place, is_plain, links_to}
-use Rattle.found_files.specs.Analyses.{Analyses}
-use Rattle.found_files.specs.Library.{Library}
+use Rattle.place_libraries.specs.Best.{is_own, bests}
+use Rattle.place_libraries.specs.Libraries.{libraries_in}
+use Rattle.library_files.specs.Places.{by_place, is_plain, links_to}
+use Rattle.file_table.specs.Analyses.{Analyses}
+use Rattle.place_libraries.specs.Library.{Library}
 use Rattle.soname_links.specs.declared.kinds.Planned.{Planned}
 
 -- the best library of its soname wants a link: the soname is a library name, and no file of that soname has it as its name

@@ -3,10 +3,10 @@ use Rattle.std.specs.Prelude.{◌≡◌, IsTrue, List, [], map}
 use Rattle.hwcap_dirs.specs.Places.{are_dirs}
 use Rattle.hwcap_dirs.specs.declared.kinds.Place.{Place}
 use Rattle.image_tree.specs.Tree.{Nodes}
-use Rattle.found_files.specs.Libraries.{libraries_in}
+use Rattle.place_libraries.specs.Libraries.{libraries_in}
 use Rattle.soname_links.specs.Plan.{links}
-use Rattle.found_files.specs.Search.{wanted}
-use Rattle.found_files.specs.Analyses.{Analyses, HaveNames}
+use Rattle.library_files.specs.Search.{wanted}
+use Rattle.file_table.specs.Analyses.{Analyses, HaveNames}
 use Rattle.soname_links.specs.declared.kinds.Planned.{Planned}
 
 -- the places are directories still, have the same files and libraries, and want no link

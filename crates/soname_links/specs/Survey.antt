@@ -7,14 +7,14 @@ use Rattle.hwcap_dirs.specs.declared.kinds.Place.{Place}
 use Rattle.image_tree.specs.Tree.{Nodes}
 use Rattle.image_tree.specs.declared.node.Node.{Node}
 use Rattle.image_tree.specs.declared.node.Node.TheVariants as nodes
-use Rattle.found_files.specs.Best.{bests, has_soname, is_preferred, sonames}
-use Rattle.found_files.specs.Analyses.{Analyses}
-use Rattle.found_files.specs.Libraries.{libraries_at}
+use Rattle.place_libraries.specs.Best.{bests, has_soname, is_preferred, sonames}
+use Rattle.file_table.specs.Analyses.{Analyses}
+use Rattle.place_libraries.specs.Libraries.{libraries_at}
 use Rattle.soname_links.specs.Marks.{blocked_for, is_odd, mark, mixed_among}
 use Rattle.soname_links.specs.Plan.{is_blocked, link_for}
-use Rattle.found_files.specs.Places.{is_plain, links_to}
+use Rattle.library_files.specs.Places.{is_plain, links_to}
 use Rattle.soname_links.specs.declared.groups.Group.{Group}
-use Rattle.found_files.specs.Library.{Library}
+use Rattle.place_libraries.specs.Library.{Library}
 use Rattle.soname_links.specs.declared.kinds.Mark.{Mark}
 use Rattle.soname_links.specs.declared.kinds.Planned.{Planned}
 use Rattle.soname_links.specs.declared.surveying.Spot.{Spot}

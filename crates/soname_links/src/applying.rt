@@ -12,7 +12,7 @@ ghost use Rattle.soname_links.specs.Plan.{with_link, with_links};
 ghost use Rattle.soname_links.specs.Settled.{Settles};
 
 use crate::kinds::{ApplyFault, Plan, Planned};
-use found_files::ascending;
+use string_pool::ascending;
 use lib_types::{NoMemory, Text, Texts, is_name};
 use std::alloc::Global;
 use tree_face::{NODES_MAX, Node, Tree, is_path};

@@ -1,7 +1,7 @@
 //! What is planned for an image, and what is reported of its sonames.
 ghost use Rattle.std.specs.Prelude.{◌≡◌};
 
-use found_files::PlaceBests;
+use place_libraries::PlaceBests;
 use lib_types::{NoMemory, Seq, Text};
 pub use cache_entries::EntryFault;
 

@@ -1,5 +1,4 @@
-//! The links that are planned for an image, and what is reported of its sonames. The crates below are passed on: the files of
-//! the searched places (`found_files`) and the entries of a cache (`cache_entries`).
+//! The links that are planned for an image, and what is reported of its sonames.
 #![tactic(auto)]
 
 mod applying;
@@ -13,7 +12,6 @@ mod wanted_table;
 mod winners;
 
 pub use applying::{apply, is_plan};
-pub use found_files::{Table, dangling, reached, wanted};
 pub use kinds::{ApplyFault, EntryFault, Mark, Marks, Planned, Survey};
 pub use marks::{blocked, mixed};
 pub use planning::plan;

@@ -1,12 +1,12 @@
 //! The sonames that are reported.
 ghost use Rattle.std.specs.Prelude.{◌≡◌, IfOk};
 ghost use Rattle.soname_links.specs.Marks.{blocked, mixed};
-ghost use Rattle.found_files.specs.Table.{analysis_at};
+ghost use Rattle.file_table.specs.Table.{analysis_at};
 
 use crate::kinds::Marks;
 use crate::surveying::survey;
 use crate::wanted_table::wanted_table;
-use found_files::Table;
+use file_table::Table;
 use hwcap_dirs::Dirs;
 use lib_types::NoMemory;
 use std::alloc::Global;

@@ -2,14 +2,14 @@
 ghost use Rattle.std.specs.Prelude.{◌≡◌, IfOk, IsTrue};
 ghost use Rattle.hwcap_dirs.specs.Places.{are_dirs};
 ghost use Rattle.soname_links.specs.Apply.{are_clear, is_plan};
-ghost use Rattle.found_files.specs.Analyses.{HaveNames};
+ghost use Rattle.file_table.specs.Analyses.{HaveNames};
 ghost use Rattle.soname_links.specs.Plan.{links};
-ghost use Rattle.found_files.specs.Table.{analysis_at};
+ghost use Rattle.file_table.specs.Table.{analysis_at};
 
 use crate::kinds::Plan;
 use crate::surveying::survey;
 use crate::wanted_table::wanted_table;
-use found_files::Table;
+use file_table::Table;
 use hwcap_dirs::Dirs;
 use lib_types::NoMemory;
 use std::alloc::Global;

@@ -1,16 +1,17 @@
 //! What the libraries of folders come to.
 ghost use Rattle.std.specs.Prelude.{◌≡◌, ◌∷◌, [], ◌++◌, IfOk, OnOk, map};
 ghost use Rattle.std.specs.List.{filter_map};
-ghost use Rattle.found_files.specs.Best.{bests, bests_of};
-ghost use Rattle.found_files.specs.Rows.{AreOfPlaces};
-ghost use Rattle.found_files.specs.Table.{analysis_at};
+ghost use Rattle.place_libraries.specs.Best.{bests, bests_of};
+ghost use Rattle.place_libraries.specs.Rows.{AreOfPlaces};
+ghost use Rattle.file_table.specs.Table.{analysis_at};
 ghost use Rattle.soname_links.specs.Marks.{mixed_among};
 ghost use Rattle.soname_links.specs.Survey.{mixed_soname, mixed_sonames};
 
 use crate::groups::{Group, groups_in};
-use found_files::{
-    BestLibraries, BySoname, Library, PlaceBests, Shared, Table, libraries_in, real_folders,
-};
+use file_table::Table;
+use library_files::real_folders;
+use place_libraries::{BestLibraries, BySoname, Library, PlaceBests, libraries_in};
+use string_pool::Shared;
 use hwcap_dirs::Dirs;
 use lib_types::{NoMemory, Seq, Text, Texts};
 use std::alloc::Global;

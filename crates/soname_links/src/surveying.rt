@@ -6,14 +6,17 @@ ghost use Rattle.soname_links.specs.Apply.{are_clear, is_plan};
 ghost use Rattle.soname_links.specs.Marks.{blocked, blocked_for, mark, mixed};
 ghost use Rattle.soname_links.specs.Plan.{is_regarded, is_taken, link_for, links};
 ghost use Rattle.soname_links.specs.Survey.{blocked_by, by_place_with, links_by, mixed_by, spot_at, spot_by};
-ghost use Rattle.found_files.specs.Best.{bests_of};
-ghost use Rattle.found_files.specs.Analyses.{HaveNames};
-ghost use Rattle.found_files.specs.Rows.{AreOfPlaces};
-ghost use Rattle.found_files.specs.Table.{analysis_at};
+ghost use Rattle.place_libraries.specs.Best.{bests_of};
+ghost use Rattle.file_table.specs.Analyses.{HaveNames};
+ghost use Rattle.place_libraries.specs.Rows.{AreOfPlaces};
+ghost use Rattle.file_table.specs.Table.{analysis_at};
 
 use crate::kinds::{Mark, Marks, Plan, Planned, Survey};
 use crate::summary::place_summaries;
-use found_files::{BestLibraries, Library, PlaceBests, Shared, Table, is_own, is_plain};
+use file_table::Table;
+use library_files::is_plain;
+use place_libraries::{BestLibraries, Library, PlaceBests, is_own};
+use string_pool::Shared;
 use hwcap_dirs::{Dirs, Place};
 use lib_types::{NoMemory, Seq, Text, Texts};
 use name_order::is_library_name;
@@ -230,7 +233,7 @@ fn marked_by(
 }
 
 // What is planned and what is reported of the places, with their best libraries.
-#[tactic(auto, unfolding(found_files::specs::Best::bests_of))]
+#[tactic(auto, unfolding(place_libraries::specs::Best::bests_of))]
 fn surveyed(alloc: Global, tree: &Tree, dirs: &Dirs, table: &Table) -> Result<Survey, NoMemory>
     requires rows { AreOfPlaces tree.now dirs.now.places table.now }
     ensures plan { IfOk result (λ survey. survey.plan ≡ links (analysis_at table.now) tree.now dirs.now.places) }

@@ -1,11 +1,12 @@
 //! What a table says of the files with library names in the places, and of no others.
 ghost use Rattle.std.specs.Prelude.{IfOk};
-ghost use Rattle.found_files.specs.Analyses.{AgreeOn};
-ghost use Rattle.found_files.specs.Rows.{AreOfPlaces};
-ghost use Rattle.found_files.specs.Search.{wanted};
-ghost use Rattle.found_files.specs.Table.{analysis_at};
+ghost use Rattle.file_table.specs.Analyses.{AgreeOn};
+ghost use Rattle.place_libraries.specs.Rows.{AreOfPlaces};
+ghost use Rattle.library_files.specs.Search.{wanted};
+ghost use Rattle.file_table.specs.Table.{analysis_at};
 
-use found_files::{Table, wanted};
+use file_table::Table;
+use library_files::wanted;
 use hwcap_dirs::Dirs;
 use lib_types::NoMemory;
 use std::alloc::Global;

@@ -3,11 +3,12 @@ ghost use Rattle.std.specs.Prelude.{◌≤◌, All, IfErr, IfOk, IsTrue, length}
 ghost use Rattle.cache_entries.specs.Entries.{found, is_fit, AreEntriesOf, IsEntryFault, IsOnlyListOf};
 ghost use Rattle.cache_writer.specs.declared.writer.TheConstants.{ENTRIES_MAX};
 ghost use Rattle.hwcap_dirs.specs.Places.{are_spelled};
-ghost use Rattle.found_files.specs.Table.{analysis_at};
+ghost use Rattle.file_table.specs.Table.{analysis_at};
 
 use crate::surveying::survey;
 use crate::wanted_table::wanted_table;
-use found_files::{Table, follow};
+use file_table::Table;
+use library_files::follow;
 use hwcap_dirs::Dirs;
 use lib_types::Entries;
 use std::alloc::Global;
@@ -15,7 +16,7 @@ use tree_face::Tree;
 use cache_entries::{EntryFault, entries_by};
 
 /// The entries of a cache, one for each place and soname with a winner. The tree is one that has all planned links.
-#[tactic(auto, using(found_files::proofs::NoOtherFiles::bests_agree))]
+#[tactic(auto, using(place_libraries::proofs::NoOtherFiles::bests_agree))]
 pub fn entries(
     alloc: Global,
     tree: &Tree,

@@ -2,7 +2,7 @@
 use crate::fault::ImageFault;
 use hwcap_dirs::{Dirs, order};
 use lib_types::{Abi, Analysis, NoMemory, Text, Texts, is_name};
-use soname_links::Table;
+use file_table::Table;
 use std::alloc::Global;
 use tree_face::{Node, Tree, TreeFault, is_node, is_path};
 

@@ -4,7 +4,8 @@ use crate::image::{Image, Library, Link, image_of, put_library, put_link};
 use crate::shown::{marks_in, plan_in, texts_in};
 use crate::want::{Want, gives};
 use lib_types::Abi;
-use soname_links::{dangling, mixed, plan, reached, wanted};
+use library_files::{dangling, reached, wanted};
+use soname_links::{mixed, plan};
 use std::alloc::Global;
 use std::test::Fail;
 

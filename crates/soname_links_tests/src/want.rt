@@ -2,7 +2,8 @@
 use crate::fault::ImageFault;
 use crate::image::Image;
 use crate::shown::{entries_in, marks_in, plan_in, texts_in};
-use soname_links::{apply, blocked, dangling, entries, is_plan, plan};
+use library_files::dangling;
+use soname_links::{apply, blocked, entries, is_plan, plan};
 use std::alloc::Global;
 
 /// What an image has to give: planned links, blocked sonames, dangling links and entries of the tree with the links.

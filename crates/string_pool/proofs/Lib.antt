@@ -1,5 +1,11 @@
 mod Adding
 pub mod At
-pub mod Distinct
+pub mod Counted
+pub mod EachOnce
+pub mod Either
+pub mod InByteOrder
 pub mod InOrder
+pub mod Members
 pub mod Numbers
+pub mod Ordered
+pub mod WithoutRepeats

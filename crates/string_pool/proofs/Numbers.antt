@@ -5,7 +5,7 @@ use Rattle.std.proofs.lemmas.Slice.Eq.{bytes_eq-Decides}
 use Rattle.std.specs.List.{list_any, fold}
 use Rattle.indexmap.specs.IndexSet.{insert_key}
 use Rattle.string_pool.specs.Texts.{number_of}
-use Rattle.string_pool.proofs.Distinct.{distinct_folded}
+use Rattle.string_pool.proofs.WithoutRepeats.{distinct_folded}
 use Rattle.string_pool.specs.Distinct.{distinct}
 
 -- a string is among those that it was added to

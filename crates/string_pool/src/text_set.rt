@@ -75,7 +75,7 @@ impl TextSet {
 }
 
 /// These texts, each once: of equal ones the first stays.
-#[tactic(auto, using(crate::proofs::Added::distinct_folded))]
+#[tactic(auto, using(crate::proofs::WithoutRepeats::distinct_folded))]
 pub fn distinct(alloc: Global, texts: &Texts) -> Result<Texts, NoMemory>
     ensures { IfOk result (λ once. once ≡ distinct texts.now) }
 {

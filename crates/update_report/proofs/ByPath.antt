@@ -16,12 +16,12 @@ use Rattle.lib_types.proofs.SortedPairs.{by_ordering, by_test, sorted_put}
 use Rattle.lib_types.specs.declared.analysis.Analysis.{Analysis}
 use Rattle.lib_types.specs.declared.analysis.Analysis.TheVariants.{Lib, Not}
 use Rattle.lib_types.specs.declared.analysis.Defect.{Defect}
-use Rattle.found_files.proofs.InOrder.{same_text}
-use Rattle.found_files.proofs.Members.{AreSorted, itself}
-use Rattle.found_files.proofs.Ordered.{all_below, keys_put}
-use Rattle.found_files.specs.Analyses.{Analyses}
-use Rattle.found_files.specs.Order.{ascending, with_text}
-use Rattle.found_files.specs.Table.{Rows, analysis_at}
+use Rattle.string_pool.proofs.InByteOrder.{same_text}
+use Rattle.string_pool.proofs.Members.{AreSorted, itself}
+use Rattle.string_pool.proofs.Ordered.{all_below, keys_put}
+use Rattle.file_table.specs.Analyses.{Analyses}
+use Rattle.string_pool.specs.Order.{ascending, with_text}
+use Rattle.file_table.specs.Table.{Rows, analysis_at}
 use Rattle.update_report.specs.ByPath.{Defects, skip_of, with_row}
 use Rattle.update_report.specs.Skips.{skip_at}
 

@@ -8,11 +8,11 @@ use Rattle.std.specs.Map.{keys_of}
 use Rattle.std.specs.Ordering.{nat_cmp}
 use Rattle.std.specs.Str.{bytes_eq}
 use Rattle.lib_types.proofs.SortedPairs.{by_test}
-use Rattle.found_files.proofs.InOrder.{ascending_sorted, in_ascending}
-use Rattle.found_files.proofs.Members.{is_in, kept_in, left_out, same_members}
-use Rattle.found_files.specs.Order.{ascending}
-use Rattle.found_files.specs.Analyses.{Analyses}
-use Rattle.found_files.specs.Table.{Rows, analysis_at}
+use Rattle.string_pool.proofs.InByteOrder.{ascending_sorted, in_ascending}
+use Rattle.string_pool.proofs.Members.{is_in, kept_in, left_out, same_members}
+use Rattle.string_pool.specs.Order.{ascending}
+use Rattle.file_table.specs.Analyses.{Analyses}
+use Rattle.file_table.specs.Table.{Rows, analysis_at}
 use Rattle.update_report.specs.Skips.{is_skipped, skip_at}
 use Rattle.update_report.specs.declared.kinds.Skipped.{Skipped}
 

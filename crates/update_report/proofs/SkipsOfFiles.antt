@@ -5,11 +5,11 @@ use Rattle.std.specs.List.{cons_option, filter_map}
 use Rattle.std.specs.Map.{keys_of}
 use Rattle.std.specs.Option.{option_and_then}
 use Rattle.std.specs.Str.{bytes_eq}
-use Rattle.found_files.proofs.InOrder.{ascending_sorted, in_ascending}
-use Rattle.found_files.proofs.Members.{is_in, itself, same_members}
-use Rattle.found_files.specs.Analyses.{Analyses, AgreeOn}
-use Rattle.found_files.specs.Order.{ascending}
-use Rattle.found_files.specs.Table.{Rows, analysis_at}
+use Rattle.string_pool.proofs.InByteOrder.{ascending_sorted, in_ascending}
+use Rattle.string_pool.proofs.Members.{is_in, itself, same_members}
+use Rattle.file_table.specs.Analyses.{Analyses, AgreeOn}
+use Rattle.string_pool.specs.Order.{ascending}
+use Rattle.file_table.specs.Table.{Rows, analysis_at}
 use Rattle.update_report.specs.Skips.{skip_at, skip_by}
 
 -- what agrees on some files says the same of them

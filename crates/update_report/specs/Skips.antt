@@ -3,7 +3,7 @@ use Rattle.std.specs.Prelude.{ℕ, Bool, List, Option, Some, None, is_some}
 use Rattle.std.specs.Option.{option_and_then}
 use Rattle.lib_types.specs.declared.analysis.Analysis.{Analysis}
 use Rattle.lib_types.specs.declared.analysis.Analysis.TheVariants.{Lib, Not}
-use Rattle.found_files.specs.Analyses.{Analyses}
+use Rattle.file_table.specs.Analyses.{Analyses}
 use Rattle.update_report.specs.declared.kinds.Skipped.{Skipped}
 
 abbrev pub skip_by : List ℕ → Analysis → Option Skipped

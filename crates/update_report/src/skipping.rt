@@ -2,13 +2,13 @@
 ghost use Rattle.std.specs.Prelude.{◌≡◌, IfOk, OnOk, map};
 ghost use Rattle.std.specs.List.{filter_map};
 ghost use Rattle.std.specs.Map.{keys_of};
-ghost use Rattle.found_files.specs.Order.{ascending};
+ghost use Rattle.string_pool.specs.Order.{ascending};
 ghost use Rattle.update_report.specs.ByPath.{skip_of, with_row};
 ghost use Rattle.update_report.specs.Skips.{skip_at};
-ghost use Rattle.found_files.specs.Table.{analysis_at};
+ghost use Rattle.file_table.specs.Table.{analysis_at};
 
 use crate::kinds::{Skipped, Skips};
-use found_files::Table;
+use file_table::Table;
 use lib_types::{Analysis, Defect, NoMemory, Seq, Text, Texts};
 use std::alloc::Global;
 use std::collections::BTreeMap;

@@ -2,7 +2,7 @@
 use crate::fixture::{Found, report_of};
 use ldso_conf::ConfKind;
 use lib_types::{Abi, Analysis, Defect, NoMemory, Text, Texts};
-use soname_links::Table;
+use file_table::Table;
 use std::alloc::Global;
 use std::test::Fail;
 use update_report::{Skips, skips};

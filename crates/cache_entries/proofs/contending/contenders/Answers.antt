@@ -1,6 +1,6 @@
 use Rattle.std.proofs.Common.{◌≡◌, ◌∷◌, true, Some, rules}
 use Rattle.std.specs.List.{filter_map}
-use Rattle.found_files.specs.Table.{analysis_at}
+use Rattle.file_table.specs.Table.{analysis_at}
 use Rattle.cache_entries.specs.Winner.{linked}
 use Rattle.cache_entries.proofs.Others.{among_both, link_less, passed_among}
 use Rattle.cache_entries.proofs.contending.contenders.Goals as goal

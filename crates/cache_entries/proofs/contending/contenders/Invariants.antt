@@ -2,7 +2,7 @@ use Rattle.std.proofs.Common.{◌++◌}
 use Rattle.std.specs.List.{filter_map}
 use Rattle.cache_entries.specs.Others.{AreAmong, HaveOthers}
 use Rattle.cache_entries.specs.Winner.{linked}
-use Rattle.found_files.specs.Table.{analysis_at}
+use Rattle.file_table.specs.Table.{analysis_at}
 use Rattle.cache_entries.proofs.contending.contenders.Given as goal
 
 -- the links that are kept, with all that are left of them; the files that are left are files

@@ -1,8 +1,8 @@
 use Rattle.std.proofs.Common.{rules, ◌≡◌, ℕ, List, length, ap, sym, subst, ◌∙◌, Some}
 use Rattle.std.specs.Map.{lookup}
 use Rattle.std.specs.Str.{bytes_eq}
-use Rattle.found_files.specs.Table.{analysis_at}
-use Rattle.found_files.specs.declared.links.FolderLinks.{FolderLinks}
+use Rattle.file_table.specs.Table.{analysis_at}
+use Rattle.library_files.specs.declared.links.FolderLinks.{FolderLinks}
 use Rattle.indexmap.specs.IndexMap.{insert_entry}
 use Rattle.cache_entries.proofs.FolderCounts.{count_found, counts_put}
 use Rattle.cache_entries.specs.Counts.{AreCounts}

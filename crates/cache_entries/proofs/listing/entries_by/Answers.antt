@@ -4,7 +4,7 @@ use Rattle.cache_entries.proofs.Fit.{sorted_fit}
 use Rattle.cache_entries.proofs.Led.{led}
 use Rattle.cache_entries.proofs.Single.{one_list}
 use Rattle.cache_entries.specs.Entries.{AreEntriesOf}
-use Rattle.found_files.specs.Table.{analysis_at}
+use Rattle.file_table.specs.Table.{analysis_at}
 use Rattle.cache_entries.proofs.listing.entries_by.Goals as goal
 
 pub returns-clause-fit : goal.returns-clause-fit

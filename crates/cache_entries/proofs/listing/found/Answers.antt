@@ -1,10 +1,10 @@
 use Rattle.std.proofs.Common.{◌≡◌, List, [], length, ap, refl, arith}
 use Rattle.hwcap_dirs.specs.declared.kinds.Place.{Place}
-use Rattle.found_files.proofs.FolderRows.{all_given, ended_together}
-use Rattle.found_files.specs.Best.{bests_in}
-use Rattle.found_files.specs.Places.{by_place}
-use Rattle.found_files.specs.Search.{folder_links}
-use Rattle.found_files.specs.Table.{analysis_at}
+use Rattle.library_files.proofs.FolderRows.{all_given, ended_together}
+use Rattle.place_libraries.specs.Best.{bests_in}
+use Rattle.library_files.specs.Places.{by_place}
+use Rattle.library_files.specs.Search.{folder_links}
+use Rattle.file_table.specs.Table.{analysis_at}
 use Rattle.cache_entries.specs.Entries.{entries_in, found}
 use Rattle.cache_entries.proofs.listing.found.Goals as goal
 

@@ -2,10 +2,10 @@ use Rattle.std.proofs.Common.{◌≡◌, ◌≤◌, ◌+◌, ◌++◌, length, m
 use Rattle.cache_writer.specs.declared.writer.TheConstants.{ENTRIES_MAX}
 use Rattle.cache_entries.specs.Counts.{AreCounts}
 use Rattle.cache_entries.specs.Entries.{entries_in}
-use Rattle.found_files.specs.Best.{bests_in}
-use Rattle.found_files.specs.Places.{by_place}
-use Rattle.found_files.specs.Search.{folder_links}
-use Rattle.found_files.specs.Table.{analysis_at}
+use Rattle.place_libraries.specs.Best.{bests_in}
+use Rattle.library_files.specs.Places.{by_place}
+use Rattle.library_files.specs.Search.{folder_links}
+use Rattle.file_table.specs.Table.{analysis_at}
 use Rattle.cache_entries.proofs.listing.found.Given as goal
 
 -- the places that are left give the rest, and their best libraries and links are left

@@ -1,7 +1,7 @@
 use Rattle.std.proofs.Common.{rules, ◌≡◌, ◌∙◌, List, ℕ, None, ap, sym, subst}
 use Rattle.elf_dynamic.specs.Begun.{ReadsBy}
-use Rattle.found_files.specs.FoundFile.{FoundFile, path_of}
-use Rattle.found_files.specs.Table.{analysis_at}
+use Rattle.library_files.specs.FoundFile.{FoundFile, path_of}
+use Rattle.file_table.specs.Table.{analysis_at}
 use Rattle.tree_face.proofs.StoreUse.{reads_all}
 use Rattle.tree_face.specs.StoreUse.{GaveUp}
 use Rattle.file_stamps.proofs.KeptAnalyses.{file_id, file_unread}

@@ -3,7 +3,7 @@ use Rattle.std.proofs.lemmas.List.{nil_from_length}
 use Rattle.elf_dynamic.specs.declared.fault.AnalyseFault.{AnalyseFault}
 use Rattle.elf_dynamic.specs.declared.fault.AnalyseFault.TheVariants.{StoreFault, NoMemory}
 use Rattle.elf_dynamic.specs.Faults.{analyse_ending}
-use Rattle.found_files.specs.FoundFile.{paths_of}
+use Rattle.library_files.specs.FoundFile.{paths_of}
 use Rattle.tree_face.proofs.StoreUse.{IsPartial}
 use Rattle.file_stamps.proofs.ReadOn.{all_begun, all_few, all_most, all_opens, all_reads, all_rows, all_said, all_stamped, all_stamps, most_last, none_lacking, none_read, read_last, read_on}
 use Rattle.file_stamps.specs.Reading.{HasRead}

@@ -1,4 +1,4 @@
-use Rattle.found_files.specs.FoundFile.{AreFilesOf, paths_of}
+use Rattle.library_files.specs.FoundFile.{AreFilesOf, paths_of}
 use Rattle.file_stamps.proofs.files.read_files.Given as goal
 use Rattle.file_stamps.specs.Reading.{HasRead}
 

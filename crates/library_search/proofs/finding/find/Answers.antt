@@ -1,6 +1,6 @@
 use Rattle.std.proofs.Common.{rules, ◌≡◌, Err, ap}
-use Rattle.found_files.specs.Search.{reached}
-use Rattle.found_files.specs.Table.{analysis_at}
+use Rattle.library_files.specs.Search.{reached}
+use Rattle.file_table.specs.Table.{analysis_at}
 use Rattle.file_stamps.specs.State.{stamps_there, unread_paths}
 use Rattle.tree_face.specs.StoreUse.{Complete}
 use Rattle.library_search.proofs.Bests.{bests_kept}

@@ -1,10 +1,10 @@
 use Rattle.std.proofs.Common.{rules, ◌≡◌, ℕ, List, Err, nat_cmp, sym, subst}
 use Rattle.std.specs.Cmp.Lexicographic.{slice_cmp}
 use Rattle.std.specs.List.Sorted.{IsStrictlySortedBy}
-use Rattle.found_files.proofs.Unread.{unread_sorted}
-use Rattle.found_files.specs.Analyses.{Analyses, unread}
-use Rattle.found_files.specs.Search.{reached}
-use Rattle.found_files.specs.Table.{analysis_at}
+use Rattle.file_table.proofs.Unread.{unread_sorted}
+use Rattle.file_table.specs.Analyses.{Analyses, unread}
+use Rattle.library_files.specs.Search.{reached}
+use Rattle.file_table.specs.Table.{analysis_at}
 use Rattle.file_stamps.proofs.Unread.{all_read, among_both, unread_twice}
 use Rattle.tree_face.proofs.StoreUse.{reads_all}
 use Rattle.library_search.proofs.FilesAgree.{reached_sorted}

@@ -1,9 +1,9 @@
 use Rattle.std.proofs.Common.{rules, ◌≡◌, ℕ, List, Err, refl, sym, subst, nat_cmp}
 use Rattle.std.specs.Cmp.Lexicographic.{slice_cmp}
 use Rattle.std.specs.List.Sorted.{IsStrictlySortedBy}
-use Rattle.found_files.specs.FoundFile.{paths_of}
-use Rattle.found_files.specs.Search.{wanted}
-use Rattle.found_files.specs.Table.{analysis_at}
+use Rattle.library_files.specs.FoundFile.{paths_of}
+use Rattle.library_files.specs.Search.{wanted}
+use Rattle.file_table.specs.Table.{analysis_at}
 use Rattle.ldso_conf.specs.declared.kinds.Conf.{Conf}
 use Rattle.file_stamps.proofs.Unread.{among_both}
 use Rattle.tree_face.proofs.StoreUse.{reads_all}

@@ -1,5 +1,5 @@
 use Rattle.planned_tree.proofs.Searches.{searched_alike}
-use Rattle.found_files.specs.Table.{analysis_at}
+use Rattle.file_table.specs.Table.{analysis_at}
 use Rattle.planned_tree.proofs.planning.plan_links.Goals as goal
 
 pub returns-clause-alike : goal.returns-clause-alike

@@ -1,8 +1,8 @@
 use Rattle.std.proofs.Common.{◌≡◌, ap, ◌∙◌}
-use Rattle.found_files.proofs.FolderRows.{reals}
-use Rattle.found_files.specs.Best.{bests_of}
-use Rattle.found_files.specs.RealFolders.{HaveRows}
-use Rattle.found_files.specs.Shared.{taken}
+use Rattle.library_files.proofs.FolderRows.{reals}
+use Rattle.place_libraries.specs.Best.{bests_of}
+use Rattle.library_files.specs.RealFolders.{HaveRows}
+use Rattle.string_pool.specs.Shared.{taken}
 use Rattle.soname_links.proofs.Summed.{bests_once, mixed_once}
 use Rattle.soname_links.proofs.summary.place_summaries.Goals as goal
 

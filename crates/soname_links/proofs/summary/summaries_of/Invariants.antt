@@ -1,5 +1,5 @@
 use Rattle.std.proofs.Common.{◌≡◌, ◌++◌, map}
-use Rattle.found_files.specs.Best.{bests}
+use Rattle.place_libraries.specs.Best.{bests}
 use Rattle.soname_links.specs.Marks.{mixed_among}
 use Rattle.soname_links.proofs.summary.summaries_of.Given as goal
 

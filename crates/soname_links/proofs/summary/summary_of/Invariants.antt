@@ -1,6 +1,6 @@
 use Rattle.std.proofs.Common.{◌≡◌, ℕ, List, ◌++◌, map}
 use Rattle.std.specs.List.{filter_map}
-use Rattle.found_files.specs.Best.{bests}
+use Rattle.place_libraries.specs.Best.{bests}
 use Rattle.soname_links.specs.Marks.{mixed_among}
 use Rattle.soname_links.specs.Survey.{mixed_soname}
 use Rattle.soname_links.specs.declared.groups.Group.{Group}

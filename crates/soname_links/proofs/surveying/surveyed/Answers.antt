@@ -1,6 +1,6 @@
 use Rattle.std.proofs.Common.{ap, ◌∙◌}
-use Rattle.found_files.specs.Best.{bests_in, bests_of}
-use Rattle.found_files.specs.Table.{analysis_at}
+use Rattle.place_libraries.specs.Best.{bests_in, bests_of}
+use Rattle.file_table.specs.Table.{analysis_at}
 use Rattle.soname_links.proofs.InStep.{by_items_made}
 use Rattle.soname_links.specs.Marks.{blocked, mixed}
 use Rattle.soname_links.specs.Plan.{links}

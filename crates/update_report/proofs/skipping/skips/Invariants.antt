@@ -1,7 +1,7 @@
 use Rattle.std.proofs.Common.{◌≡◌, ◌++◌, drop}
 use Rattle.std.specs.List.{filter_map}
 use Rattle.update_report.specs.Skips.{skip_at}
-use Rattle.found_files.specs.Table.{analysis_at}
+use Rattle.file_table.specs.Table.{analysis_at}
 use Rattle.update_report.proofs.skipping.skips.Given as goal
 
 -- what is left gives the rest

@@ -1,6 +1,6 @@
 use Rattle.std.proofs.Common.{ap, subst, ◌∙◌}
 use Rattle.image_tree.specs.Paths.{join}
-use Rattle.found_files.specs.Places.{links_to}
+use Rattle.library_files.specs.Places.{links_to}
 use Rattle.cache_entries.proofs.LinksOf.{target_there}
 use Rattle.cache_entries.specs.LinksOf.{AreLinked, Folder}
 use Rattle.cache_entries.proofs.links_of.LinksOf.has.Goals as goal

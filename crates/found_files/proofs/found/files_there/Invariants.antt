@@ -1,8 +1,0 @@
-use Rattle.std.proofs.Common.{◌≡◌, ◌++◌}
-use Rattle.std.specs.List.{filter_map}
-use Rattle.found_files.specs.Children.{file_there}
-use Rattle.found_files.proofs.found.files_there.Given as goal
-
--- the paths that are left give the rest
-abbrev pub invariant-loop-path : goal.invariant-loop-path
-invariant-loop-path l = l.files.items ++ filter_map (file_there l.tree) l.path-iterator.rest.items ≡ filter_map (file_there l.tree) l.fn.paths

@@ -1,6 +1,0 @@
-use Rattle.std.proofs.Common.{◌∙◌}
-use Rattle.found_files.proofs.InOrder.{sorted_once}
-use Rattle.found_files.proofs.order.ascending.Goals as goal
-
-pub returns : goal.returns
-returns c = c.from_vec.ensures ∙ sorted_once _ _ _ c.sort.ensures.permutation c.in_ok-sort.ensures.sorted c.dedup.ensures.filtered

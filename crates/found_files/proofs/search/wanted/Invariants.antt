@@ -1,8 +1,0 @@
-use Rattle.std.proofs.Common.{◌≡◌, ◌++◌}
-use Rattle.found_files.specs.FoundFile.{paths_of}
-use Rattle.found_files.specs.Search.{wanted}
-use Rattle.found_files.proofs.search.wanted.Given as goal
-
--- the files that are left give the rest
-abbrev pub invariant-loop-file : goal.invariant-loop-file
-invariant-loop-file l = l.paths ++ paths_of l.file-iterator.rest.items ≡ wanted l.tree l.dirs.places

@@ -1,6 +1,0 @@
-use Rattle.found_files.proofs.Gathered.{all_gathered}
-use Rattle.found_files.proofs.sonames.gather_by_soname.Goals as goal
-
-pub returns : goal.returns
-returns g c =
-    all_gathered g.G.Gather.step c.args.items.items c.sort_by_soname.new.items.items c.in_ok-found.found.items c.in_ok-sort_by_soname.ensures c.in_ok-found.ensures

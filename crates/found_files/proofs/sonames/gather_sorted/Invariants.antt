@@ -1,6 +1,0 @@
-use Rattle.found_files.proofs.Gathered.{GoesOn}
-use Rattle.found_files.proofs.sonames.gather_sorted.Given as goal
-
--- the items that are left complete what those before them came to
-abbrev pub invariant-loop-item : goal.invariant-loop-item
-invariant-loop-item g l = GoesOn g.G.Gather.step l.fn.items.items l.found.items l.item-iterator.rest.items

@@ -1,8 +1,0 @@
-use Rattle.std.proofs.Common.{take}
-use Rattle.found_files.proofs.Copied.{IsCopied}
-use Rattle.found_files.specs.Table.{analysis_at}
-use Rattle.found_files.proofs.table.Table.copy_of.Given as goal
-
--- the paths so far are copied
-abbrev pub invariant-loop-path : goal.invariant-loop-path
-invariant-loop-path l = IsCopied (analysis_at l.self) (take l.path-index l.paths) l.copy

@@ -1,8 +1,0 @@
-use Rattle.std.proofs.Common.{◌∙◌, ap}
-use Rattle.found_files.proofs.Named.{still_named}
-use Rattle.found_files.specs.Table.{have_names}
-use Rattle.found_files.proofs.table.Table.insert.Goals as goal
-
-pub invariant_of-self-2 : goal.invariant_of-self-2
-invariant_of-self-2 c =
-    ap have_names c.in_ok-insert.ensures.entries ∙ still_named c.self.inside.analyses.entries c.args.path c.args.analysis c.self.invariant c.requires

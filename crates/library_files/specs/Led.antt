@@ -1,0 +1,8 @@
+-- What private functions say of where a link leads.
+use Rattle.std.specs.Prelude.{ℕ, List}
+use Rattle.library_files.specs.Link.{FollowedLink}
+use Rattle.library_files.specs.declared.links.Led.{Led}
+
+-- the link with this name that leads there
+abbrev pub link_by : List ℕ → Led → FollowedLink
+link_by name led = record { name = name; target = led.target.now; file = led.file }

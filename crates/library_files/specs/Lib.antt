@@ -1,0 +1,10 @@
+pub mod Children
+pub mod Folders
+pub mod FoundFile
+pub mod Led
+pub mod Link
+pub mod LinkRows
+pub mod Places
+pub mod RealFolders
+pub mod Search
+pub mod Unread

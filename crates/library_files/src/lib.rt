@@ -1,0 +1,16 @@
+//! The files and the links with library names in the searched places: which are looked at, and where the links lead.
+#![tactic(auto)]
+
+mod followed;
+mod found;
+mod links;
+mod places;
+mod reals;
+mod search;
+
+pub use followed::{FollowedIter, FollowedLink, FollowedLinks};
+pub use found::FoundFile;
+pub use links::{FolderLinks, PlaceLinks, dangling, dangling_among, follow, reached, unread_files};
+pub use places::{is_plain, links_to};
+pub use reals::{RealFolders, real_folders};
+pub use search::{wanted, wanted_files};
