@@ -6,13 +6,13 @@ ghost use Rattle.conf_patterns.specs.Finding.{matches_of, with_text};
 ghost use Rattle.conf_patterns.specs.Patterns.{base_of, chosen_in, components_of, go_on, is_absolute, is_chosen, is_library_link, is_link, is_wild, place_at, results, texts_by};
 
 use crate::glob::glob_match;
-use crate::parts::{Parts, split};
-use crate::trim::{before_last, behind, has_one};
 use lib_types::{NoMemory, Text};
 use name_order::is_library_name;
 use path_walk::{Mode, WalkFault, resolve};
 use std::alloc::Global;
 use std::collections::BTreeMap;
+use text_parts::parts::{Parts, split};
+use text_parts::trim::{before_last, behind, has_one};
 use tree_face::{Kind, Tree};
 
 /// The results of a pattern: their texts, and where these lead.

@@ -4,11 +4,11 @@ ghost use Rattle.ldso_conf.specs.Steps.{directory_steps, include_steps, included
 
 use crate::kinds::{ConfKind, ConfReport};
 use crate::lines::{arguments_of, before_equals, text_of};
-use conf_patterns::parts::split;
 use conf_patterns::patterns::{Results, is_absolute, results};
-use conf_patterns::trim::{has_one, without_end};
 use lib_types::{NoMemory, Text};
 use std::alloc::Global;
+use text_parts::parts::split;
+use text_parts::trim::{has_one, without_end};
 use tree_face::Tree;
 
 /// A conf file: its path as it is spelled, and the place to which that leads.

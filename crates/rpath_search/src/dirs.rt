@@ -5,11 +5,11 @@ ghost use Rattle.rpath_search.specs.Loaders.{own_dirs};
 
 use crate::kinds::{Env, Owner};
 use crate::paths::from_root;
-use conf_patterns::parts::split;
-use conf_patterns::trim::without_end;
 use lib_types::{NoMemory, Text, Texts};
 use origin_expand::expand;
 use std::alloc::Global;
+use text_parts::parts::split;
+use text_parts::trim::without_end;
 
 /// The directories of an object, by its own texts. Their tokens are replaced.
 #[derive(Drop)]

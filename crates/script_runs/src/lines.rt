@@ -10,11 +10,11 @@ ghost use Rattle.image_session.specs.Edit.{drop_result, put_entry_result};
 
 use crate::fault::{LineFault, ScriptFault};
 use command_status::ScriptKind;
-use conf_patterns::parts::split;
-use lib_types::Text;
 use image_session::Session;
+use lib_types::Text;
 use mtree_manifest::EntryLineFault;
 use script_lines::{ScriptLine, read_line};
+use text_parts::parts::split;
 use tree_face::{Disk, Node, Sink, Store};
 use update_runs::{Updater, update_once};
 

@@ -1,8 +1,8 @@
 //! Images of links, libraries and other files.
 use crate::fault::ImageFault;
+use file_table::Table;
 use hwcap_dirs::{Dirs, order};
 use lib_types::{Abi, Analysis, NoMemory, Text, Texts, is_name};
-use file_table::Table;
 use std::alloc::Global;
 use tree_face::{Node, Tree, TreeFault, is_node, is_path};
 

@@ -2,8 +2,8 @@
 ghost use Rattle.std.specs.Prelude.{◌≡◌, ◌∷◌, Some};
 ghost use Rattle.std.specs.List.{slice_split};
 ghost use Rattle.std.specs.Option.{option_copied};
-ghost use Rattle.conf_patterns.specs.Bytes.{is_in};
-ghost use Rattle.conf_patterns.specs.Parts.{parts_of};
+ghost use Rattle.text_parts.specs.Bytes.{is_in};
+ghost use Rattle.text_parts.specs.Parts.{parts_of};
 
 use crate::trim::first_in;
 use std::marker::Model;
@@ -29,7 +29,7 @@ pub struct Parts<'a> {
 impl<'a> Model for Parts<'a> {
     ghost use Rattle.std.specs.Prelude.{ℕ, List};
     ghost use Rattle.std.specs.Option.{option_copied};
-    ghost use Rattle.conf_patterns.specs.Parts.{parts_of};
+    ghost use Rattle.text_parts.specs.Parts.{parts_of};
 
     ghost Value = { List (List ℕ) };
 
