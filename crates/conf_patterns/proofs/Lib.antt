@@ -1,5 +1,4 @@
 mod Absent
-mod Ends
 mod Sets
 mod Skips
 mod Stars

@@ -9,7 +9,7 @@ ghost use Rattle.conf_patterns.specs.Glob.{glob_match, is_hidden, matches, some_
 ghost use Rattle.conf_patterns.specs.Matching.{comes_to, is_failure, Decides, IsShorter};
 
 use crate::pieces::{Pieces, is_star, takes_first};
-use crate::trim::behind;
+use lib_types::trim::behind;
 
 // How far the parts of a pattern go with a name.
 #[derive(Drop)]

@@ -2,10 +2,8 @@
 #![tactic(auto)]
 
 mod glob;
-pub mod parts;
 pub mod patterns;
 mod pieces;
 mod set;
-pub mod trim;
 
 pub use glob::glob_match;

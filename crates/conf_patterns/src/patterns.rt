@@ -7,7 +7,7 @@ ghost use Rattle.conf_patterns.specs.Patterns.{base_of, chosen_in, components_of
 
 use crate::glob::glob_match;
 use crate::parts::{Parts, split};
-use crate::trim::{before_last, behind, has_one};
+use lib_types::trim::{before_last, behind, has_one};
 use lib_types::{NoMemory, Text};
 use name_order::is_library_name;
 use path_walk::{Mode, WalkFault, resolve};

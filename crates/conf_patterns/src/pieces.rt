@@ -4,7 +4,7 @@ ghost use Rattle.conf_patterns.specs.Glob.{is_star, more_of, part_at, parts, tak
 ghost use Rattle.conf_patterns.specs.Pieces.{has_close, part_in, takes_first};
 
 use crate::set::{is_in_set, set_len, unclosed_len};
-use crate::trim::behind;
+use lib_types::trim::behind;
 use std::marker::Model;
 
 /// One part of a pattern.

@@ -1,6 +1,6 @@
 -- Paths in one text: a text more, a path more, and rows by their parts and nodes.
 use Rattle.std.proofs.Common.{◌≡◌, ◌≤◌, ◌<◌, ◌+◌, ◌-◌, ℕ, zero, suc, List, [], ◌∷◌, ◌++◌, length, map, drop, take, get_or, set, refl, ap, sym, subst, ◌∙◌, arith}
-use Rattle.lib_types.proofs.Parts.{part_kept, part_within, pushed as part_pushed, pushed_within as part_pushed_within, rows_kept, rows_within}
+use Rattle.lib_types.proofs.Offsets.{part_kept, part_within, pushed as part_pushed, pushed_within as part_pushed_within, rows_kept, rows_within}
 use Rattle.std.proofs.lemmas.List.{length-map}
 use Rattle.std.specs.List.{insert, remove, zip}
 use Rattle.std.specs.Map.{keys_of}

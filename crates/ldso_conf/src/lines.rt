@@ -3,7 +3,7 @@ ghost use Rattle.std.specs.Prelude.{◌≡◌};
 ghost use Rattle.std.specs.Option.{option_copied};
 ghost use Rattle.ldso_conf.specs.Lines.{arguments_of, before_equals, begins_in, text_of};
 
-use conf_patterns::trim::{before_first, behind, is_in, without_end, without_front};
+use lib_types::trim::{before_first, behind, is_in, without_end, without_front};
 
 /// A line without its comment, and without white space at both ends.
 pub(crate) fn text_of(line: &[u8]) -> &[u8]

@@ -6,7 +6,7 @@ use crate::kinds::{ConfKind, ConfReport};
 use crate::lines::{arguments_of, before_equals, text_of};
 use conf_patterns::parts::split;
 use conf_patterns::patterns::{Results, is_absolute, results};
-use conf_patterns::trim::{has_one, without_end};
+use lib_types::trim::{has_one, without_end};
 use lib_types::{NoMemory, Text};
 use std::alloc::Global;
 use tree_face::Tree;

@@ -8,7 +8,7 @@ ghost use Rattle.manifest_words.specs.Views.{values_in, given_in};
 ghost use Rattle.mtree_manifest.specs.Lining.{line_in};
 
 use lib_types::NoMemory;
-use manifest_words::{Given, Keys, Separator, given_word, split, unset_word};
+use manifest_words::{Given, Keys, given_word, unset_word};
 use std::alloc::Global;
 
 /// What the first word of a line makes of it.

@@ -6,7 +6,7 @@ ghost use Rattle.rpath_search.specs.Loaders.{own_dirs};
 use crate::kinds::{Env, Owner};
 use crate::paths::from_root;
 use conf_patterns::parts::split;
-use conf_patterns::trim::without_end;
+use lib_types::trim::without_end;
 use lib_types::{NoMemory, Text, Texts};
 use origin_expand::expand;
 use std::alloc::Global;

@@ -4,7 +4,7 @@ ghost use Rattle.image_tree.specs.Paths.{root};
 ghost use Rattle.rpath_search.specs.Places.{folder_of, from_root, hwcaps_path};
 
 use conf_patterns::patterns::is_absolute;
-use conf_patterns::trim::before_last;
+use lib_types::trim::before_last;
 use lib_types::{NoMemory, Text};
 use std::alloc::Global;
 

@@ -12,19 +12,6 @@ pub(crate) struct Words<'a> {
     pub rest: &'a [u8],
 }
 
-fn is_blank(b: u8) -> bool
-    ensures { result ≡ is_blank b }
-{
-    b == b' ' || b == b'\t'
-}
-
-fn first_blank(bytes: &[u8]) -> Option<usize>
-    ensures index { result ≡ position is_blank bytes.now }
-    ensures within { IfSome result (λ n. n < length bytes.now) }
-{
-    bytes.iter().position(|&b| is_blank(b))
-}
-
 // The first part, and what is behind the blank that ends it.
 #[tactic(auto, using(lib_types::proofs::Parting::cut_at, lib_types::proofs::Parting::cut_nowhere, crate::proofs::Ends::rest_ends))]
 fn cut(bytes: &[u8]) -> (&[u8], Option<&[u8]>)

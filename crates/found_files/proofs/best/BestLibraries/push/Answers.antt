@@ -1,6 +1,6 @@
 use Rattle.std.proofs.Common.{◌≡◌, ◌∷◌, ◌++◌, [], length, map, ap, sym, subst, ◌∙◌, rules}
 use Rattle.found_files.proofs.OneText.{library_kept, row_within}
-use Rattle.lib_types.proofs.Parts.{pushed, pushed_within}
+use Rattle.lib_types.proofs.Offsets.{pushed, pushed_within}
 use Rattle.found_files.specs.OneText.{library_in, AreWithin, IsRowWithin}
 use Rattle.found_files.proofs.best.BestLibraries.push.Goals as goal
 

@@ -1,7 +1,7 @@
 //! Bytes of a set, and bytes without those of a set at their ends.
 ghost use Rattle.std.specs.Prelude.{◌≡◌, ◌<◌, ◌≤◌, ◌-◌, not, length, drop, position, IfSome};
 ghost use Rattle.std.specs.List.{before_first, before_last, list_any, prefix_len, suffix_len};
-ghost use Rattle.conf_patterns.specs.Bytes.{is_in, without_end, without_front};
+ghost use Rattle.lib_types.specs.Sets.{is_in, without_end, without_front};
 
 /// Whether the byte is of the set.
 pub fn is_in(set: &[u8], b: u8) -> bool
