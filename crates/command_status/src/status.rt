@@ -106,7 +106,7 @@ impl Status {
             Status::BadCache(defect) => saying(6, cache_line(defect)),
             Status::NoProgram => saying(7, whole(b"fault: NoProgram\n")),
             Status::BadProgram(defect) => saying(8, program_line(defect)),
-            Status::TooMany { count } => saying(9, numbered(b"fault: TooMany ", count, b"\n")),
+            Status::TooMany { count } => saying(9, numbered(b"fault: TooMany", count, b"\n")),
             Status::StoreFault => saying(10, whole(b"fault: StoreFault\n")),
             Status::DiskFault => saying(11, whole(b"fault: DiskFault\n")),
             Status::InputFault => saying(12, whole(b"fault: InputFault\n")),

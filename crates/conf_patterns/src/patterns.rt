@@ -6,9 +6,8 @@ ghost use Rattle.conf_patterns.specs.Finding.{matches_of, with_text};
 ghost use Rattle.conf_patterns.specs.Patterns.{base_of, chosen_in, components_of, go_on, is_absolute, is_chosen, is_library_link, is_link, is_wild, place_at, results, texts_by};
 
 use crate::glob::glob_match;
-use crate::parts::{Parts, split};
 use lib_types::trim::{before_last, behind, has_one};
-use lib_types::{NoMemory, Text};
+use lib_types::{NoMemory, Parts, Separator, Text, split};
 use name_order::is_library_name;
 use path_walk::{Mode, WalkFault, resolve};
 use std::alloc::Global;
@@ -40,9 +39,9 @@ fn components_of(pattern: &[u8]) -> Parts<'_>
     ensures { result ≡ components_of pattern.now }
 {
     if is_absolute(pattern) {
-        split(b"/", behind(pattern, 1))
+        split(Separator::In(b"/"), behind(pattern, 1))
     } else {
-        split(b"/", pattern)
+        split(Separator::In(b"/"), pattern)
     }
 }
 

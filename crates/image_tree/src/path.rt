@@ -78,7 +78,7 @@ pub(crate) fn begins_with(path: &[u8], front: &[u8]) -> bool
 
 /// Whether the other path lies below this one, which one byte shows of most that don't.
 #[tactic(auto, using(crate::proofs::Fronts::below_laws))]
-pub(crate) fn is_below(path: &[u8], other: &[u8]) -> bool
+pub fn is_below(path: &[u8], other: &[u8]) -> bool
     ensures { result ≡ is_below path.now other.now }
 {
     let front = stem(path);

@@ -31,6 +31,12 @@ machine_small X86_64 = omega arith
 machine_small X32 = omega arith
 machine_small Aarch64 = omega arith
 
+pub bits_small : (a : Abi) → (row_of a).bits < 256 ^ 4
+bits_small I386 = omega arith
+bits_small X86_64 = omega arith
+bits_small X32 = omega arith
+bits_small Aarch64 = omega arith
+
 pub known_abi : (a : Abi) → abi_of_elf (machine_of a) (class_of a) (row_of a).bits ≡ Some a
 known_abi I386 = refl
 known_abi X86_64 = refl

@@ -4,7 +4,7 @@ ghost use Rattle.manifest_words.specs.Paths.{is_full, is_directive, decoded_each
 ghost use Rattle.manifest_words.specs.Naming.{Names};
 
 use crate::escape::decode;
-use lib_types::{NoMemory, has_byte, is_name};
+use lib_types::{NoMemory, Separator, has_byte, is_name, split};
 use tree_face::is_kept;
 
 /// The bytes without the first one: a word without its first character, or a path without its first slash.

@@ -7,7 +7,7 @@ ghost use Rattle.mtree_manifest.specs.Progress.{started, given_by_head, with_wor
 ghost use Rattle.manifest_words.specs.Views.{values_in, given_in};
 ghost use Rattle.mtree_manifest.specs.Lining.{line_in};
 
-use lib_types::NoMemory;
+use lib_types::{NoMemory, Separator, split};
 use manifest_words::{Given, Keys, given_word, unset_word};
 use std::alloc::Global;
 

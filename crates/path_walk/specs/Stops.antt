@@ -87,11 +87,6 @@ abbrev pub HaltsAt : Nodes → List ℕ → List ℕ → Halt → Type 0
 HaltsAt t old new (halt.Reached e) = EndsAt t old new e
 HaltsAt t old new (halt.Link target rest) = KeepsDir t old new
 
--- how much is left of a text
-abbrev pub size_of : Option (List ℕ) → ℕ
-size_of None = 0
-size_of (Some bytes) = 1 + length bytes
-
 -- the walk by the target of a link in this folder is at an end after one name, or goes on by the target of another link there
 abbrev pub IsBeside : Nodes → List ℕ → List ℕ → Beside → Type 0
 IsBeside t folder target (beside.File path) = (steps t Full (components target) (start_of target folder) ≡ Ends (Ok path)) × (kind_at t path ≡ kinds.File)

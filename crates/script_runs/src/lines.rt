@@ -10,8 +10,7 @@ ghost use Rattle.image_session.specs.Edit.{drop_result, put_entry_result};
 
 use crate::fault::{LineFault, ScriptFault};
 use command_status::ScriptKind;
-use conf_patterns::parts::split;
-use lib_types::Text;
+use lib_types::{Separator, Text, split};
 use image_session::Session;
 use mtree_manifest::EntryLineFault;
 use script_lines::{ScriptLine, read_line};
@@ -114,7 +113,7 @@ pub(crate) fn run_lines<S: Store, D: Disk, O: Sink>(
 {
     let mut image = session;
     let mut taken = 0u64;
-    for line in split(b"\n", text) {
+    for line in split(Separator::In(b"\n"), text) {
         let Some(number) = taken.checked_add(1) else {
             return Err(ScriptFault::NoMemory);
         };
