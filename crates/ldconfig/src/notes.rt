@@ -3,6 +3,7 @@ use crate::advice::{SHOWN, cause_of, fewer};
 use cache_layout::ENTRIES_MAX;
 use command_runs::Status;
 use device_rules::machine_name;
+use hwcap_dirs::{SYSTEM_DIRS, next_system_dir};
 use image_folder::HeldFile;
 use mtree_manifest::{ManifestFault, TEXT_MAX};
 use slot_files::Written;
@@ -31,12 +32,30 @@ pub fn note_update<R: Runtime + Streams>(
         write_text(rt, line.as_str())?;
     }
     if !store.has_read_conf() {
-        write_text(
-            rt,
-            "ldconfig: etc/ld.so.conf: none was read, so only /lib, /usr/lib, /lib64 and /usr/lib64 are searched\n",
+        let dirs = system_dirs(rt)?;
+        let line = format!(in rt.alloc();
+            "ldconfig: etc/ld.so.conf: none was read, so only {dirs} are searched\n"
         )?;
+        write_text(rt, line.as_str())?;
     }
     note_machines(rt, store.machines())
+}
+
+// The system's directories in their order, as a sentence lists them.
+fn system_dirs<R: Runtime>(rt: &R) -> Result<String<R::A>, AllocError> {
+    let mut text = String::new(rt.alloc());
+    for done in 0..SYSTEM_DIRS {
+        let between = match done {
+            0 => "",
+            n if n + 1 == SYSTEM_DIRS => " and ",
+            _ => ", ",
+        };
+        if let Some((dir, _)) = next_system_dir(done) {
+            text.push_str(between)?;
+            text.push_str(std::str::from_utf8(dir).unwrap_or(""))?;
+        }
+    }
+    Ok(text)
 }
 
 // A manifest without a line has at most this many bytes.
