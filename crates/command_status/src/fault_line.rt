@@ -24,7 +24,7 @@ pub(crate) struct FaultLine {
 }
 
 /// A line without a number.
-pub(crate) fn whole(text: &'static [u8]) -> FaultLine
+pub(crate) fn unnumbered(text: &'static [u8]) -> FaultLine
     ensures { line_bytes result ≡ text.now }
 {
     FaultLine {
@@ -66,11 +66,11 @@ pub(crate) fn manifest_line(fault: ManifestFault) -> FaultLine
 {
     let front = b"fault: BadManifest line";
     match fault {
-        ManifestFault::TooLong { .. } => whole(b"fault: BadManifest: TooLong\n"),
+        ManifestFault::TooLong { .. } => unnumbered(b"fault: BadManifest: TooLong\n"),
         ManifestFault::Bad { line, kind } => numbered(front, line, kind_text(kind)),
         ManifestFault::Clash { line } => numbered(front, line, b": Clash\n"),
         ManifestFault::TooMany { line } => numbered(front, line, b": TooMany\n"),
-        ManifestFault::NoMemory => whole(b""),
+        ManifestFault::NoMemory => unnumbered(b""),
     }
 }
 
@@ -99,9 +99,9 @@ pub(crate) fn cache_line(defect: CacheDefect) -> FaultLine
     ensures { line_bytes result ≡ cache_fault defect }
 {
     match defect {
-        CacheDefect::OldFormat => whole(b"fault: BadCache: OldFormat\n"),
+        CacheDefect::OldFormat => unnumbered(b"fault: BadCache: OldFormat\n"),
         CacheDefect::Short { len } => numbered(b"fault: BadCache: Short", len, b"\n"),
-        CacheDefect::BadMagic => whole(b"fault: BadCache: BadMagic\n"),
+        CacheDefect::BadMagic => unnumbered(b"fault: BadCache: BadMagic\n"),
         CacheDefect::BadEndian { flags } => numbered(b"fault: BadCache: BadEndian", flags, b"\n"),
         CacheDefect::EntriesOutside { nlibs } => numbered(
             b"fault: BadCache: EntriesOutside",

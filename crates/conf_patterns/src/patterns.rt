@@ -6,7 +6,7 @@ ghost use Rattle.conf_patterns.specs.Finding.{matches_of, with_text};
 ghost use Rattle.conf_patterns.specs.Patterns.{base_of, chosen_in, components_of, go_on, is_absolute, is_chosen, is_library_link, is_link, is_wild, place_at, results, texts_by};
 
 use crate::glob::glob_match;
-use lib_types::trim::{before_last, behind, has_one};
+use lib_types::trim::{after, before_last, has_one};
 use lib_types::{NoMemory, Parts, Separator, Text, split};
 use name_order::is_library_name;
 use path_walk::{Mode, WalkFault, resolve};
@@ -39,7 +39,7 @@ fn components_of(pattern: &[u8]) -> Parts<'_>
     ensures { result ≡ components_of pattern.now }
 {
     if is_absolute(pattern) {
-        split(Separator::In(b"/"), behind(pattern, 1))
+        split(Separator::In(b"/"), after(pattern, 1))
     } else {
         split(Separator::In(b"/"), pattern)
     }

@@ -25,8 +25,8 @@ pub fn first_in(set: &[u8], bytes: &[u8]) -> Option<usize>
     bytes.iter().position(|&b| is_in(set, b))
 }
 
-/// The bytes behind the first n.
-pub fn behind(bytes: &[u8], n: usize) -> &[u8]
+/// The bytes after the first n.
+pub fn after(bytes: &[u8], n: usize) -> &[u8]
     requires { n ≤ length bytes.now }
     ensures { result.now ≡ drop n bytes.now }
 {
@@ -87,7 +87,7 @@ fn last_len(set: &[u8], bytes: &[u8]) -> usize
 pub fn without_front<'a>(set: &[u8], bytes: &'a [u8]) -> &'a [u8]
     ensures { result.now ≡ without_front set.now bytes.now }
 {
-    behind(bytes, front_len(set, bytes))
+    after(bytes, front_len(set, bytes))
 }
 
 /// The bytes without those of the set at the end.

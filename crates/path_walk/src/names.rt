@@ -74,21 +74,21 @@ fn folder_len(place: &[u8]) -> usize
     0
 }
 
-// What is behind the byte at an offset.
-fn behind(path: &[u8], n: usize) -> &[u8]
+// What follows the byte at an offset.
+fn after_byte(path: &[u8], n: usize) -> &[u8]
     ensures { result.now ≡ drop (n + 1) path.now }
 {
     if n < path.len() { &path[n + 1..] } else { b"" }
 }
 
-/// The folder of a path, and its name there: what is behind its last slash.
+/// The folder of a path, and its name there: what follows its last slash.
 #[tactic(auto, using(crate::proofs::Folders::empty_before, crate::proofs::Folders::some_before, crate::proofs::Folders::last_behind))]
 pub fn parted(path: &[u8]) -> (&[u8], &[u8])
     ensures folder { result.0.now ≡ parent path.now }
     ensures name { result.1.now ≡ last path.now }
 {
     let n = folder_len(path);
-    let name = behind(path, n);
+    let name = after_byte(path, n);
     if n == 0 {
         return (b"/", name);
     }
