@@ -11,10 +11,11 @@ use Rattle.std.specs.List.{range_with_len, starts_with}
 use Rattle.std.specs.Ordering.{is_lt}
 use Rattle.std.specs.Str.{is_utf8}
 use Rattle.std.specs.declared.cmp.Ordering.TheVariants.{Less}
-use Rattle.lib_types.specs.Abi.{flags_of, abi_of_flags}
+use Rattle.lib_types.specs.Abi.{abi_of_flags, flags_of}
+use Rattle.lib_types.proofs.Abis.{flags_back, flags_small}
+use Rattle.aux_cache.specs.declared.stamps.TheConstants.{STAMPS_MAX}
 use Rattle.lib_types.specs.Name.{is_name, have_no_slash, slash}
-use Rattle.lib_types.specs.declared.abi.Abi.{Abi}
-use Rattle.lib_types.specs.declared.abi.Abi.TheVariants.{I386, X86_64, X32, Aarch64}
+use Rattle.lib_types.specs.declared.abi.Abi.TheVariants.{I386}
 use Rattle.cache_layout.specs.Layout.{laid_out, number}
 use Rattle.cache_layout.proofs.Fields.{Fit, reads_back}
 use Rattle.string_pool.specs.InOrder.{offset_of}
@@ -34,7 +35,7 @@ use Rattle.aux_cache.specs.declared.stamps.Stamp.{Stamp}
 
 -- what writing knows of the stamps
 pub record IsWritten (xs : List Stamp) : Type 0 where
-  pub few : length xs ≤ 1048576
+  pub few : length xs ≤ STAMPS_MAX
   pub names : HaveNames xs
   pub sorted : IsSortedById xs
   pub range : AreInRange xs
@@ -68,7 +69,7 @@ length_text xs =
     let rest = length-append (records xs) (strings_bytes xs) in
     omega (arith, all, rest, length_front xs, length_records xs)
 
-pub written : (xs ys : List Stamp) → length xs ≤ 1048576 → HaveNames xs → IsSortedById xs → ys ≡ xs → AreInRange ys → IsWritten xs
+pub written : (xs ys : List Stamp) → length xs ≤ STAMPS_MAX → HaveNames xs → IsSortedById xs → ys ≡ xs → AreInRange ys → IsWritten xs
 written xs ys few names sorted same range = record { few = few; names = names; sorted = sorted; range = rw same at range }
 
 pub strings_fit : (xs : List Stamp) → IsWritten xs → length (strings_bytes xs) < 2 ^ 32
@@ -107,12 +108,6 @@ fields_there : (xs : List Stamp) (x : Stamp) → record_bytes (place xs) x ≡ l
 unfolding record_bytes
 fields_there xs x = refl
 
-flags_small : (a : Abi) → flags_of a < 2 ^ 32
-flags_small I386 = omega arith
-flags_small X86_64 = omega arith
-flags_small X32 = omega arith
-flags_small Aarch64 = omega arith
-
 place_small : (xs : List Stamp) → IsWritten xs → (t : List ℕ) → place xs t < 2 ^ 32
 place_small xs w t = let within = place_of_le (strings xs) t in let small = strings_small xs w.names in omega (arith, within, small, w.few)
 
@@ -141,14 +136,8 @@ id_back xs w i d h =
     let dev = field_back xs w i d h 3 (omega arith) in
     rw (inode, ctime, size, dev) refl
 
-signed_flags : (a : Abi) → abi_of_flags (cast_signed w32 (flags_of a)) ≡ Some a
-signed_flags I386 = refl
-signed_flags X86_64 = refl
-signed_flags X32 = refl
-signed_flags Aarch64 = refl
-
 abi_back : (xs : List Stamp) → IsWritten xs → (i : ℕ) (d : Stamp) → i < length xs → abi_of_flags (read.flags_in (read.from_record (aux_text xs) i)) ≡ Some (get_or xs i d).abi
-abi_back xs w i d h = ap (λ n. abi_of_flags (cast_signed w32 n)) (field_back xs w i d h 4 (omega arith)) ∙ signed_flags (get_or xs i d).abi
+abi_back xs w i d h = ap (λ n. abi_of_flags (cast_signed w32 n)) (field_back xs w i d h 4 (omega arith)) ∙ flags_back (get_or xs i d).abi
 
 offset_back : (xs : List Stamp) → IsWritten xs → (i : ℕ) (d : Stamp) → i < length xs → read.offset_in (read.from_record (aux_text xs) i) ≡ place xs (soname_of (get_or xs i d))
 offset_back xs w i d h = field_back xs w i d h 5 (omega arith)

@@ -14,7 +14,7 @@ use Rattle.std.specs.Result.{MatchResult}
 use Rattle.std.specs.declared.cmp.Ordering.TheVariants.{Less, Equal, Greater}
 use Rattle.lib_types.proofs.SortedPairs as pairs
 use Rattle.image_tree.specs.declared.node.Id.{Id}
-use Rattle.aux_cache.specs.Ids.{id_cmp, parts_of}
+use Rattle.aux_cache.specs.Ids.{id_cmp, numbers_of}
 use Rattle.aux_cache.specs.Index.{IsIndexOf, IsGapFor}
 use Rattle.aux_cache.specs.Stamps.{by_id, IsSortedById, stamp_of, put}
 use Rattle.aux_cache.specs.declared.stamps.Stamp.{Stamp}
@@ -22,9 +22,9 @@ use Rattle.aux_cache.specs.declared.stamps.Stamp.{Stamp}
 -- ---- the order of identities
 
 pub id_total : IsTotalOrder id_cmp
-id_total = on_texts parts_of
+id_total = on_texts numbers_of
 
-same_id : (a b : Id) → parts_of a ≡ parts_of b → a ≡ b
+same_id : (a b : Id) → numbers_of a ≡ numbers_of b → a ≡ b
 same_id a b e =
     let d : a.dev ≡ b.dev = cc in
     let n : a.inode ≡ b.inode = cc in
@@ -34,7 +34,7 @@ same_id a b e =
 
 -- equal identities are the same
 pub exact : (a b : Id) → id_cmp a b ≡ Equal → a ≡ b
-exact a b e = same_id a b (exact_bytes (parts_of a) (parts_of b) e)
+exact a b e = same_id a b (exact_bytes (numbers_of a) (numbers_of b) e)
 
 -- ---- stamps with their identities as keys
 

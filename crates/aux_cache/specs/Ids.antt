@@ -6,9 +6,9 @@ use Rattle.std.specs.declared.cmp.Ordering.{Ordering}
 use Rattle.image_tree.specs.declared.node.Id.{Id}
 
 -- the numbers of an identity, in the order in which they are compared
-abbrev pub parts_of : Id → List ℕ
-parts_of id = id.dev ∷ id.inode ∷ id.ctime ∷ id.size ∷ []
+abbrev pub numbers_of : Id → List ℕ
+numbers_of id = id.dev ∷ id.inode ∷ id.ctime ∷ id.size ∷ []
 
 -- the order by the first number that differs
 abbrev pub id_cmp : Id → Id → Ordering
-id_cmp = on parts_of (slice_cmp nat_cmp)
+id_cmp = on numbers_of (slice_cmp nat_cmp)

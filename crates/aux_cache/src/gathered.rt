@@ -7,7 +7,7 @@ ghost use Rattle.std.specs.Option.{option_copied};
 ghost use Rattle.std.specs.BTreeMap.{is_at};
 ghost use Rattle.std.specs.Map.{lookup};
 ghost use Rattle.std.specs.Prelude.{◌≡◌, [], IfOk, IfSome, None, OnErr, OnOk, true};
-ghost use Rattle.aux_cache.specs.Ids.{id_cmp, parts_of};
+ghost use Rattle.aux_cache.specs.Ids.{id_cmp, numbers_of};
 ghost use Rattle.aux_cache.specs.Stamps.{HasName, HaveNames, put, stamp_of};
 
 use crate::order::compare;
@@ -36,7 +36,7 @@ impl Model for Key {
 impl PartialEq for Key {
     ghost eq = { eq_by_cmp id_cmp };
 
-    ghost laws = { partial_equiv_from_equiv (eq_by_cmp_equiv (on_texts parts_of)) };
+    ghost laws = { partial_equiv_from_equiv (eq_by_cmp_equiv (on_texts numbers_of)) };
 
     fn eq(&self, other: &Self) -> bool {
         self.cmp(other).is_eq()
@@ -44,13 +44,13 @@ impl PartialEq for Key {
 }
 
 impl Eq for Key {
-    ghost laws = { eq_by_cmp_equiv (on_texts parts_of) };
+    ghost laws = { eq_by_cmp_equiv (on_texts numbers_of) };
 }
 
 impl PartialOrd for Key {
     ghost partial_cmp = { as_partial_cmp id_cmp };
 
-    ghost laws = { partial_order_from_total (on_texts parts_of) };
+    ghost laws = { partial_order_from_total (on_texts numbers_of) };
 
     fn partial_cmp(&self, other: &Self) -> Option<Ordering> {
         Some(self.cmp(other))
@@ -60,7 +60,7 @@ impl PartialOrd for Key {
 impl Ord for Key {
     ghost cmp = { id_cmp };
 
-    ghost total = { on_texts parts_of };
+    ghost total = { on_texts numbers_of };
 
     ghost matches_partial_cmp = { λ a b. refl };
 

@@ -12,7 +12,7 @@ use crate::layout::{HEADER_SIZE, MAGIC, RECORD_SIZE};
 use crate::order::compare;
 use crate::{AuxFault, Stamp, Stamps};
 use cache_layout::{u32_at, u64_at};
-use lib_types::{Abi, NoMemory, Text, find_byte, is_name};
+use lib_types::{Abi, NoMemory, Text, before_byte, is_name};
 use std::alloc::Global;
 use tree_face::Id;
 
@@ -178,15 +178,5 @@ fn string_at(strings: &[u8], offset: usize) -> &[u8]
     if offset >= strings.len() {
         return b"";
     }
-    before_nul(&strings[offset..])
-}
-
-// The bytes up to the first NUL.
-fn before_nul(bytes: &[u8]) -> &[u8]
-    ensures { result.now ≡ before_first (is_byte 0) bytes.now }
-{
-    match find_byte(0, bytes) {
-        Some(end) => &bytes[..end],
-        None => bytes,
-    }
+    before_byte(0, &strings[offset..])
 }

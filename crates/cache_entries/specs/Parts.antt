@@ -1,6 +1,6 @@
 -- What private functions say of a count of entries.
 use Rattle.std.specs.Prelude.{◌≡◌, ◌<◌, ◌≤◌, ℕ}
-use Rattle.cache_writer.specs.declared.writer.TheConstants.{ENTRIES_MAX}
+use Rattle.cache_layout.specs.declared.limits.TheConstants.{ENTRIES_MAX}
 use Rattle.cache_entries.specs.declared.fault.EntryFault.{EntryFault}
 use Rattle.cache_entries.specs.declared.fault.EntryFault.TheVariants.{TooMany, NoMemory}
 

@@ -1,6 +1,6 @@
 //! The entries of a cache.
 ghost use Rattle.std.specs.Prelude.{◌≡◌, ◌≤◌, ◌+◌, ◌++◌, All, IfErr, IfOk, IsTrue, OnOk, length, map};
-ghost use Rattle.cache_writer.specs.declared.writer.TheConstants.{ENTRIES_MAX};
+ghost use Rattle.cache_layout.specs.declared.limits.TheConstants.{ENTRIES_MAX};
 ghost use Rattle.hwcap_dirs.specs.Places.{are_spelled};
 ghost use Rattle.place_libraries.specs.Best.{bests_in, bests_of};
 ghost use Rattle.library_files.specs.Search.{folder_links, followed};
@@ -14,7 +14,7 @@ use crate::counts::count_in;
 use crate::fault::EntryFault;
 use crate::links_of::LinksOf;
 use crate::winners::{Winners, winners_in};
-use cache_writer::ENTRIES_MAX;
+use cache_layout::ENTRIES_MAX;
 use file_table::Table;
 use library_files::{FolderLinks, PlaceLinks, is_plain};
 use place_libraries::{BestLibraries, Library, PlaceBests, is_own};

@@ -4,6 +4,10 @@
 ghost use Rattle.std.specs.Prelude.{◌≡◌, ◌+◌, ◌≤◌, length};
 ghost use Rattle.lib_types.specs.Bytes.{field};
 
+mod limits;
+
+pub use limits::ENTRIES_MAX;
+
 use byteorder::{ByteOrder, LittleEndian};
 
 /// The magic and the version that a cache begins with.

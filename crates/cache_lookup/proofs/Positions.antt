@@ -10,7 +10,7 @@ use Rattle.std.specs.Prelude.{◌==◌}
 use Rattle.std.specs.Option.{is_some}
 use Rattle.std.specs.Str.{bytes_eq}
 use Rattle.cache_layout.specs.Layout.{is_named}
-use Rattle.cache_lookup.specs.Scan.{is_for, is_plain, uses}
+use Rattle.cache_lookup.specs.Scan.{is_for, has_no_hwcap, uses}
 use Rattle.cache_lookup.specs.Searches.{IsTied}
 
 pub shifted : (m n : ℕ) → nat_lt (suc m) (suc n) ≡ nat_lt m n
@@ -44,11 +44,11 @@ none_is p (x ∷ xs) fails = position-cons p x xs ∙ rw (fails 0 x (omega arith
 
 -- which of the uses an entry is for, by the hwcaps names that it is for
 pub use_is : (entry : CachedEntry) (p : List ℕ → Bool) → ((c : List ℕ) → is_for c entry ≡ p c) → (caps : List (List ℕ))
-    → position (λ fits. fits entry) (uses caps) ≡ option_or (position p caps) (cond (is_plain entry) (Some (length caps)) None)
-use_is entry p same [] = position-cons (λ fits. fits entry) is_plain []
+    → position (λ fits. fits entry) (uses caps) ≡ option_or (position p caps) (cond (has_no_hwcap entry) (Some (length caps)) None)
+use_is entry p same [] = position-cons (λ fits. fits entry) has_no_hwcap []
 use_is entry p same (c ∷ caps) =
     position-cons (λ fits. fits entry) (is_for c) (uses caps)
-    ∙ rw (same c, use_is entry p same caps, position-cons p c caps) (by (p c) (position p caps) (is_plain entry))
+    ∙ rw (same c, use_is entry p same caps, position-cons p c caps) (by (p c) (position p caps) (has_no_hwcap entry))
   where
     by : (b : Bool) (o : Option ℕ) (plain : Bool) → cond b (Some 0) (option_map suc (option_or o (cond plain (Some (length caps)) None))) ≡ option_or (cond b (Some 0) (option_map suc o)) (cond plain (Some (suc (length caps))) None)
     by true o plain = refl
@@ -62,7 +62,7 @@ pub named_use : (entry : CachedEntry) (text : List ℕ) → IsTied entry → ent
 named_use entry text tied is caps =
     let named : is_named entry.hwcap ≡ true = sym tied ∙ ap is_some is in
     let same : (c : List ℕ) → is_for c entry ≡ bytes_eq c text = λ c. rw (named, is) refl in
-    let plain : is_plain entry ≡ false = not_plain entry.hwcap named in
+    let plain : has_no_hwcap entry ≡ false = not_plain entry.hwcap named in
     sym (use_is entry (λ c. bytes_eq c text) same caps ∙ rw plain (or_none (position (λ c. bytes_eq c text) caps)))
   where
     or_none : (o : Option ℕ) → option_or o None ≡ o
@@ -75,7 +75,7 @@ named_use entry text tied is caps =
 
 -- one without is for none of them
 pub other_use : (entry : CachedEntry) → IsTied entry → entry.cap ≡ None → (caps : List (List ℕ))
-    → cond (is_plain entry) (Some (length caps)) None ≡ position (λ fits. fits entry) (uses caps)
+    → cond (has_no_hwcap entry) (Some (length caps)) None ≡ position (λ fits. fits entry) (uses caps)
 other_use entry tied is caps =
     let unnamed : is_named entry.hwcap ≡ false = sym tied ∙ ap is_some is in
     let same : (c : List ℕ) → is_for c entry ≡ false = λ c. rw unnamed refl in

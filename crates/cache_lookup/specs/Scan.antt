@@ -23,12 +23,12 @@ abbrev pub is_for : List ℕ → CachedEntry → Bool
 is_for cap entry = is_named entry.hwcap && option_map_or (bytes_eq cap) entry.cap false
 
 -- an entry for any processor
-abbrev pub is_plain : CachedEntry → Bool
-is_plain entry = entry.hwcap == 0
+abbrev pub has_no_hwcap : CachedEntry → Bool
+has_no_hwcap entry = entry.hwcap == 0
 
 -- what an entry may be for: the caller's hwcaps names in their order, and then none
 abbrev pub uses : List (List ℕ) → List (CachedEntry → Bool)
-uses caps = map is_for caps ++ is_plain ∷ []
+uses caps = map is_for caps ++ has_no_hwcap ∷ []
 
 -- the index of the first candidate for the first of these uses that has a candidate
 abbrev pub first_for : List CachedEntry → (CachedEntry → Bool) → List (CachedEntry → Bool) → Option ℕ

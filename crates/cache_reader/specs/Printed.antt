@@ -1,8 +1,10 @@
 -- What `ldconfig -p` prints of a cache (ldconfig(8); the words are those of glibc's print_entry for its libc6 entries of these ABIs).
-use Rattle.std.specs.Prelude.{ℕ, ◌-◌, ◌*◌, ◌/◌, ◌%◌, ◌^◌, ◌==◌, List, [], ◌++◌, length, map, flat_map, slice_index, Option, Some, None, codes, if◌then◌else◌}
+use Rattle.std.specs.Prelude.{ℕ, pos, ◌+◌, ◌-◌, ◌*◌, ◌/◌, ◌%◌, ◌^◌, ◌==◌, List, [], ◌++◌, length, map, flat_map, slice_index, Option, Some, None, codes, if◌then◌else◌}
 use Rattle.std.specs.List.{range_with_len}
 use Rattle.std.specs.Int.{cast_unsigned, w32}
 use Rattle.std.specs.Fmt.{decimal}
+use Rattle.lib_types.specs.Abi.{abi_of_flags, row_of}
+use Rattle.lib_types.specs.declared.abi.Abi.{Abi}
 use Rattle.cache_reader.specs.Cache.{CachedEntry, read, generator}
 
 -- the kind of library: 3 in the low byte
@@ -13,14 +15,13 @@ kind flags = if flags % 256 == 3 then codes "libc6" else codes "unknown"
 abbrev pub abi_number : ℕ → ℕ
 abi_number flags = flags / 256 % 256 * 256
 
--- the ABI, by that byte
+-- the word of the ABI that has this byte and 3 in the low byte of its flags, or else the number
+abbrev pub abi_by : ℕ → Option Abi → List ℕ
+abi_by number (Some abi) = (row_of abi).printed
+abi_by number None = codes "," ++ decimal number
+
 abbrev pub abi : ℕ → List ℕ
-abi number =
-    if number == 0 then []
-    else if number == 0x0300 then codes ",x86-64"
-    else if number == 0x0800 then codes ",x32"
-    else if number == 0x0a00 then codes ",AArch64"
-    else codes "," ++ decimal number
+abi number = abi_by number (abi_of_flags (pos (number + 3)))
 
 -- sixteen hexadecimal digits
 abbrev pub hex_digit : ℕ → ℕ → ℕ

@@ -10,7 +10,7 @@ ghost use Rattle.cache_reader.specs.Views.{entry_of};
 
 use crate::buffer::{Buffer, flush, put, put_between};
 use crate::view::{CacheView, EntryView};
-use lib_types::Failed;
+use lib_types::{Abi, Failed};
 use tree_face::Sink;
 
 const LOWER_DIGITS: &[u8; 16] = b"0123456789abcdef";
@@ -26,10 +26,10 @@ fn kind(flags: u32) -> &'static [u8]
     }
 }
 
-fn abi_number(flags: u32) -> u32
+fn abi_number(flags: u32) -> u16
     ensures { result ≡ abi_number flags }
 {
-    flags / 256 % 256 * 256
+    (flags / 256 % 256 * 256) as u16
 }
 
 // Sixteen hexadecimal digits.
@@ -43,15 +43,12 @@ fn hex_digits(number: u64) -> [u8; 16]
     digits
 }
 
-fn put_abi<O: Sink>(sink: &mut O, buffer: &mut Buffer, number: u32) -> Result<(), Failed>
+fn put_abi<O: Sink>(sink: &mut O, buffer: &mut Buffer, number: u16) -> Result<(), Failed>
     ensures { Puts (abi number) buffer.old buffer.new (O.state sink.old) (O.state sink.new) result }
 {
-    match number {
-        0 => put(sink, buffer, b""),
-        0x0300 => put(sink, buffer, b",x86-64"),
-        0x0800 => put(sink, buffer, b",x32"),
-        0x0a00 => put(sink, buffer, b",AArch64"),
-        _ => put_number(sink, buffer, number),
+    match Abi::of_flags(i32::from(number) + 3) {
+        Some(abi) => put(sink, buffer, abi.row().printed),
+        None => put_number(sink, buffer, number),
     }
 }
 
@@ -61,8 +58,8 @@ fn put_decimal<O: Sink>(sink: &mut O, buffer: &mut Buffer, number: u64) -> Resul
     put(sink, buffer, itoa::Buffer::new().format(number).as_bytes())
 }
 
-// An ABI that has no word.
-fn put_number<O: Sink>(sink: &mut O, buffer: &mut Buffer, number: u32) -> Result<(), Failed>
+// The number of what isn't a known ABI.
+fn put_number<O: Sink>(sink: &mut O, buffer: &mut Buffer, number: u16) -> Result<(), Failed>
     ensures { Puts (codes "," ++ decimal number) buffer.old buffer.new (O.state sink.old) (O.state sink.new) result }
 {
     put(sink, buffer, b",")?;

@@ -1,9 +1,9 @@
 //! A cache file that was accepted, read in place.
 ghost use Rattle.std.specs.Prelude.{◌≡◌, ◌<◌, ◌≤◌, ◌^◌, true, None, Some, length, option_map, IfOk, IfErr, IfSome};
-ghost use Rattle.std.specs.List.{before_first, position, slice_get, slice_index};
+ghost use Rattle.std.specs.List.{slice_get, slice_index};
 ghost use Rattle.cache_layout.specs.Layout.{is_named, name_index};
 ghost use Rattle.cache_reader.specs.Checks.{AreSectionsOf, IsSound};
-ghost use Rattle.cache_reader.specs.Cache.{is_nul, defect, read, nlibs, names_section, name_offsets, is_inside, cap_of, entry_at};
+ghost use Rattle.cache_reader.specs.Cache.{defect, read, nlibs, names_section, name_offsets, is_inside, cap_of, entry_at};
 ghost use Rattle.cache_reader.specs.Cache as spec;
 ghost use Rattle.cache_reader.specs.Views.{entry_of};
 
@@ -14,6 +14,7 @@ use crate::check::{
 };
 use crate::extension::{Section, Sections, name_count, number_in, read_sections};
 use cache_layout::{u32_at, u64_at};
+use lib_types::before_byte;
 use std::marker::Model;
 
 /// A cache without a defect. Contracts see the bytes of the file.
@@ -47,29 +48,12 @@ impl<'a> Model for CacheView<'a> {
     ghost invariant = { λ v. IsView v.bytes.now v.count v.names v.generator };
 }
 
-// The bytes up to the first NUL.
-fn before_nul(bytes: &[u8]) -> &[u8]
-    ensures { result.now ≡ before_first is_nul bytes.now }
-{
-    match first_nul(bytes) {
-        Some(end) => &bytes[..end],
-        None => bytes,
-    }
-}
-
-fn first_nul(bytes: &[u8]) -> Option<usize>
-    ensures index { result ≡ position is_nul bytes.now }
-    ensures within { IfSome result (λ n. n < length bytes.now) }
-{
-    bytes.iter().position(|&b| b == 0)
-}
-
 // The text at an offset.
 fn text_at(bytes: &[u8], at: usize) -> &[u8]
     requires { at ≤ length bytes.now }
     ensures { result.now ≡ spec.text_at bytes.now at }
 {
-    before_nul(&bytes[at..])
+    before_byte(0, &bytes[at..])
 }
 
 impl<'a> CacheView<'a> {

@@ -4,8 +4,8 @@ use Rattle.std.proofs.lemmas.List.{length-replicate}
 use Rattle.std.proofs.lemmas.List.Sums.{prefix_len-le-length}
 use Rattle.std.specs.List.{All, list_any, position_or_len}
 use Rattle.lib_types.specs.Abi.{flags_of}
-use Rattle.lib_types.specs.declared.abi.Abi.{Abi}
-use Rattle.lib_types.specs.declared.abi.Abi.TheVariants.{I386, X86_64, X32, Aarch64}
+use Rattle.cache_layout.specs.declared.limits.TheConstants.{ENTRIES_MAX}
+use Rattle.lib_types.proofs.Abis.{flags_small}
 use Rattle.lib_types.specs.declared.entry.Entry.{Entry}
 use Rattle.cache_layout.specs.Layout.{laid_out, number, header_fields, entry_fields}
 use Rattle.cache_layout.proofs.Fields.{Fit, reads_back}
@@ -20,7 +20,7 @@ use Rattle.lib_types.proofs.OneSize.{behind, part_there, length_parts}
 
 -- what writing knows of the entries and their strings
 pub record IsLaidOut (es : List Entry) : Type 0 where
-  pub few : length es ≤ 131072
+  pub few : length es ≤ ENTRIES_MAX
   pub small : length (strings_bytes es) < 2 ^ 30
   pub own : All (HasOwn (strings es)) es
   pub names : AreAmong (strings es) (hwcaps_names es)
@@ -86,13 +86,7 @@ pub size_of_entry : (s : List ℕ → ℕ) (names : List (List ℕ)) (e : Entry)
 unfolding entry_bytes
 size_of_entry s names e = refl
 
-flags_small : (a : Abi) → flags_of a < 2 ^ 32
-flags_small I386 = omega arith
-flags_small X86_64 = omega arith
-flags_small X32 = omega arith
-flags_small Aarch64 = omega arith
-
-hwcap_small : (names : List (List ℕ)) (cap : Option (List ℕ)) → length names ≤ 131072 → hwcap_of names cap < 2 ^ 64
+hwcap_small : (names : List (List ℕ)) (cap : Option (List ℕ)) → length names ≤ ENTRIES_MAX → hwcap_of names cap < 2 ^ 64
 hwcap_small names None h = omega arith
 hwcap_small names (Some cap) h = let within : position_or_len (bytes_eq cap) names ≤ length names = prefix_len-le-length _ names in omega (arith, within)
 

@@ -11,6 +11,8 @@ use Rattle.string_pool.specs.Distinct.{distinct}
 use Rattle.string_pool.specs.InOrder.{table_of}
 use Rattle.string_pool.proofs.WithoutRepeats.{distinct_append}
 use Rattle.string_pool.proofs.InOrder.{length_table_insert}
+use Rattle.cache_layout.specs.declared.limits.TheConstants.{ENTRIES_MAX}
+use Rattle.cache_writer.specs.declared.writer.TheConstants.{STRING_MAX}
 use Rattle.cache_writer.specs.CacheText.{hwcaps_names, own_strings, strings}
 use Rattle.cache_writer.specs.Numbers.{HasOwn, HasNumbers, AreAmong}
 use Rattle.cache_writer.specs.declared.numbers.NumberedEntry.{NumberedEntry}
@@ -26,18 +28,18 @@ names_size ts (n ∷ ns) short =
     let P : List ℕ → Type 0 = λ n. length n ≤ NAME_MAX in
     omega (arith, All-head P n ns short, length_table_insert ts n, names_size (insert_key bytes_eq ts n) ns (All-tail P n ns short))
 
-own_size : (ts : List (List ℕ)) (es : List Entry) → All (λ e. length e.soname ≤ NAME_MAX) es → All (λ e. length e.path ≤ 4700) es
+own_size : (ts : List (List ℕ)) (es : List Entry) → All (λ e. length e.soname ≤ NAME_MAX) es → All (λ e. length e.path ≤ STRING_MAX) es
     → length (table_of (with_all ts (flat_map own_strings es))) ≤ length (table_of ts) + 4957 * length es
 own_size ts [] sonames paths = omega arith
 own_size ts (e ∷ es) sonames paths =
     let P : Entry → Type 0 = λ e. length e.soname ≤ NAME_MAX in
-    let Q : Entry → Type 0 = λ e. length e.path ≤ 4700 in
+    let Q : Entry → Type 0 = λ e. length e.path ≤ STRING_MAX in
     let one = insert_key bytes_eq ts e.soname in
     let two = insert_key bytes_eq one e.path in
     omega (arith, All-head P e es sonames, All-head Q e es paths, length_table_insert ts e.soname, length_table_insert one e.path, own_size two es (All-tail P e es sonames) (All-tail Q e es paths))
 
 -- all strings have less than 2^30 bytes
-small_strings : (es : List Entry) → length es ≤ 131072 → All (λ e. length e.soname ≤ NAME_MAX) es → All (λ e. length e.path ≤ 4700) es → All (λ n. length n ≤ NAME_MAX) (hwcaps_names es)
+small_strings : (es : List Entry) → length es ≤ ENTRIES_MAX → All (λ e. length e.soname ≤ NAME_MAX) es → All (λ e. length e.path ≤ STRING_MAX) es → All (λ n. length n ≤ NAME_MAX) (hwcaps_names es)
     → length (table_of (strings es)) < 2 ^ 30
 small_strings es few sonames paths names =
     let own = flat_map own_strings es in
@@ -56,13 +58,13 @@ own_among : (texts : List (List ℕ)) (ns : List NumberedEntry) → All (HasNumb
 own_among texts ns all = All-map (HasOwn texts) (λ (n : NumberedEntry). n.entry.now) ns (All-weaker (HasNumbers texts) (λ n. HasOwn texts n.entry.now) (λ n h. h.own) ns all)
 
 -- what is given to `write`, and what it gathers
-module _ (es entries : List Entry) (names own all : List (List ℕ)) (ns : List NumberedEntry) (same : es ≡ entries) (many : length entries ≤ 131072)
-    (named : All (λ entry. is_name entry.soname ≡ true) entries) (caps : All (λ entry. IfSome entry.cap (λ cap. is_name cap ≡ true)) entries) (paths : All (λ entry. length entry.path ≤ 4700) entries)
+module _ (es entries : List Entry) (names own all : List (List ℕ)) (ns : List NumberedEntry) (same : es ≡ entries) (many : length entries ≤ ENTRIES_MAX)
+    (named : All (λ entry. is_name entry.soname ≡ true) entries) (caps : All (λ entry. IfSome entry.cap (λ cap. is_name cap ≡ true)) entries) (paths : All (λ entry. length entry.path ≤ STRING_MAX) entries)
     (is : names ≡ hwcaps_names es) (first : own ≡ distinct (flat_map own_strings es)) (second : all ≡ with_all own names) where
-  pub few : length es ≤ 131072
+  pub few : length es ≤ ENTRIES_MAX
   few = rw same many
 
-  pub few_caps : length names ≤ 131072
+  pub few_caps : length names ≤ ENTRIES_MAX
   few_caps = rw is (omega (arith, few_names es, few))
 
   pub gathered : all ≡ strings es

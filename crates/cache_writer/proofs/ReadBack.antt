@@ -5,10 +5,8 @@ use Rattle.std.proofs.lemmas.List.FromFn.{get_or-map-range_with_len}
 use Rattle.std.specs.Int.{cast_signed, w32}
 use Rattle.std.specs.List.{All, list_any, position_or_len, range_with_len}
 use Rattle.std.specs.Str.{is_utf8}
-use Rattle.lib_types.specs.Abi.{flags_of}
 use Rattle.lib_types.specs.Name.{is_name, have_no_slash, slash}
-use Rattle.lib_types.specs.declared.abi.Abi.{Abi}
-use Rattle.lib_types.specs.declared.abi.Abi.TheVariants.{I386, X86_64, X32, Aarch64}
+use Rattle.lib_types.proofs.Abis.{signed_flags}
 use Rattle.lib_types.specs.declared.entry.Entry.{Entry}
 use Rattle.cache_layout.specs.Layout.{is_named, name_index}
 use Rattle.cache_reader.specs.Cache as read
@@ -62,12 +60,6 @@ cap_back es l (Some c) plain there =
     rw (bit.0, bit.1, offsets, item, spot, text_back (cache_text es) (place es c) c plain (string_back es c among)) refl
 
 -- ---- an entry
-
-signed_flags : (a : Abi) → cast_signed w32 (flags_of a) ≡ pos (flags_of a)
-signed_flags I386 = refl
-signed_flags X86_64 = refl
-signed_flags X32 = refl
-signed_flags Aarch64 = refl
 
 pub cap_known : (es : List Entry) (i : ℕ) (d : Entry) → i < length es → IfSome (get_or es i d).cap (λ c. list_any (bytes_eq c) (hwcaps_names es) ≡ true)
 cap_known es i d h = by (get_or es i d).cap refl

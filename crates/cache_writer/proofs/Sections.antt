@@ -12,6 +12,7 @@ use Rattle.cache_layout.proofs.Fields.{Fit, reads_back}
 use Rattle.lib_types.proofs.Fields.{field_drop}
 use Rattle.cache_reader.specs.Cache as read
 use Rattle.cache_reader.specs.declared.extension.Section.{Section}
+use Rattle.cache_layout.specs.declared.limits.TheConstants.{ENTRIES_MAX}
 use Rattle.cache_writer.specs.CacheText.{cache_text, entry_bytes, hwcaps_names, strings_bytes, strings_end, place, padding, extension_start, directory, section, section_count, names_start, generator_start, name_bytes, generator}
 use Rattle.cache_writer.proofs.Bounds.{few_names}
 use Rattle.lib_types.proofs.OneSize.{behind, part_there, length_parts}
@@ -81,7 +82,7 @@ section_there bytes rest x index tag offset size there ht ho hs =
     let s : number section_fields 3 all ≡ size = reads_back section_fields numbers rest 3 fit (omega arith) in
     rw (there, t, o, s) refl
 
-pub few : (es : List Entry) → IsLaidOut es → count es ≤ 131072
+pub few : (es : List Entry) → IsLaidOut es → count es ≤ ENTRIES_MAX
 few es l = let n = few_names es in omega (arith, n, l.few)
 
 pub counted : (m : ℕ) → section_count m ≤ 2

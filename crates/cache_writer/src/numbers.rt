@@ -5,10 +5,10 @@ ghost use Rattle.string_pool.specs.Texts.{number_of};
 ghost use Rattle.string_pool.specs.Distinct.{distinct};
 ghost use Rattle.cache_writer.specs.CacheText.{own_strings};
 ghost use Rattle.cache_writer.specs.Numbers.{AreAmong, HasNumbers};
-ghost use Rattle.cache_writer.specs.declared.writer.TheConstants.{ENTRIES_MAX};
+ghost use Rattle.cache_layout.specs.declared.limits.TheConstants.{ENTRIES_MAX};
 
 use crate::names::Names;
-use crate::writer::ENTRIES_MAX;
+use cache_layout::ENTRIES_MAX;
 use lib_types::{Entry, NoMemory};
 use std::alloc::Global;
 use string_pool::Texts;

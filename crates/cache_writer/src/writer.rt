@@ -5,7 +5,8 @@ ghost use Rattle.lib_types.specs.Abi.{flags_of};
 ghost use Rattle.lib_types.specs.Name.{is_name};
 ghost use Rattle.string_pool.specs.Texts.{number_of};
 ghost use Rattle.string_pool.specs.InOrder.{table_of, place_of};
-ghost use Rattle.cache_writer.specs.declared.writer.TheConstants.{ENTRIES_MAX, STRING_MAX};
+ghost use Rattle.cache_layout.specs.declared.limits.TheConstants.{ENTRIES_MAX};
+ghost use Rattle.cache_writer.specs.declared.writer.TheConstants.{STRING_MAX};
 ghost use Rattle.cache_writer.specs.CacheText.{cache_text, header, hwcap_of, entry_bytes, hwcaps_names, directory, section, section_count};
 ghost use Rattle.cache_writer.specs.Numbers.{AreAmong, HasNumbers};
 ghost use Rattle.cache_writer.specs.Joined.{joined};
@@ -23,9 +24,6 @@ use cache_layout::{
 use lib_types::{Abi, Entries, Entry, NAME_MAX, NoMemory};
 use std::alloc::Global;
 use string_pool::{Pool, Texts};
-
-/// The most entries of a cache, as many as a large system has with room for more.
-pub const ENTRIES_MAX: usize = 131072;
 
 /// The most bytes of a path, which is that of a file in a folder as the folder is spelled. With it all offsets of a cache fit in
 /// their four bytes.

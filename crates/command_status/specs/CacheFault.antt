@@ -2,7 +2,7 @@
 use Rattle.std.specs.Prelude.{ℕ, List, ◌++◌, codes, Option, Some, None}
 use Rattle.cache_reader.specs.declared.defect.CacheDefect.{CacheDefect}
 use Rattle.cache_reader.specs.declared.defect.CacheDefect.TheVariants.{OldFormat, Short, BadMagic, BadEndian, EntriesOutside, StringOutside, NoNul, BadExtension, BadHwcap, Unsorted}
-use Rattle.update_report.specs.Defects.{number_text}
+use Rattle.lib_types.specs.Defects.{number_text}
 use Rattle.update_report.specs.Lines.{line}
 
 abbrev pub defect_name : CacheDefect → List ℕ

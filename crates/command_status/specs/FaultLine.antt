@@ -1,11 +1,11 @@
 -- The parts of a fault line.
-use Rattle.std.specs.Prelude.{ℕ, List, [], ◌++◌, Option, Some, None}
-use Rattle.std.specs.Fmt.{decimal}
+use Rattle.std.specs.Prelude.{ℕ, List, ◌++◌}
+use Rattle.lib_types.specs.Defects.{number_text}
 use Rattle.command_status.specs.declared.fault_line.FaultLine.{FaultLine}
 
-abbrev pub number_digits : Option ℕ → List ℕ
-number_digits None = []
-number_digits (Some number) = decimal number
+-- what is before the number
+abbrev pub front_bytes : FaultLine → List ℕ
+front_bytes l = l.lead.now ++ l.front.now
 
 abbrev pub line_bytes : FaultLine → List ℕ
-line_bytes l = l.front.now ++ number_digits l.number ++ l.back.now
+line_bytes l = front_bytes l ++ number_text l.number ++ l.back.now

@@ -1,7 +1,7 @@
 -- The fault line of a program whose file has a defect.
 use Rattle.std.specs.Prelude.{ℕ, List, ◌++◌, codes}
 use Rattle.lib_types.specs.declared.analysis.Defect.{Defect}
-use Rattle.update_report.specs.Defects.{defect_text}
+use Rattle.lib_types.specs.Defects.{defect_text}
 use Rattle.update_report.specs.Lines.{line}
 
 unfoldable pub program_fault : Defect → List ℕ

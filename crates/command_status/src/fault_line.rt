@@ -1,9 +1,10 @@
 //! Fault lines, which take no memory.
 ghost use Rattle.std.specs.Prelude.{◌≡◌, ◌++◌, codes, Some};
 ghost use Rattle.std.specs.Fmt.{decimal};
+ghost use Rattle.lib_types.specs.Defects.{number_text};
 ghost use Rattle.tree_face.specs.Stream.{TakesAll};
 ghost use Rattle.command_status.specs.CacheFault.{cache_fault};
-ghost use Rattle.command_status.specs.FaultLine.{line_bytes, number_digits};
+ghost use Rattle.command_status.specs.FaultLine.{front_bytes, line_bytes};
 ghost use Rattle.command_status.specs.ProgramFault.{program_fault};
 ghost use Rattle.command_status.specs.Status.{kind_text, manifest_text, script_kind_text, script_text};
 
@@ -13,19 +14,21 @@ use lib_types::{Defect, Failed};
 use mtree_manifest::{LineKind, ManifestFault};
 use tree_face::{Sink, put_all};
 
-/// A line with a number in it, or without one.
+/// A line in its parts. A number follows a space.
 #[derive(Clone, Copy)]
 pub(crate) struct FaultLine {
+    lead: &'static [u8],
     front: &'static [u8],
     number: Option<u64>,
     back: &'static [u8],
 }
 
 /// A line without a number.
-pub(crate) fn whole(text: &'static [u8]) -> FaultLine
+pub(crate) fn unnumbered(text: &'static [u8]) -> FaultLine
     ensures { line_bytes result ≡ text.now }
 {
     FaultLine {
+        lead: b"",
         front: text,
         number: None,
         back: b"",
@@ -34,9 +37,10 @@ pub(crate) fn whole(text: &'static [u8]) -> FaultLine
 
 /// A line with a number in it.
 pub(crate) fn numbered(front: &'static [u8], number: u64, back: &'static [u8]) -> FaultLine
-    ensures { line_bytes result ≡ front.now ++ decimal number ++ back.now }
+    ensures { line_bytes result ≡ front.now ++ (codes " " ++ decimal number) ++ back.now }
 {
     FaultLine {
+        lead: b"",
         front,
         number: Some(number),
         back,
@@ -60,13 +64,13 @@ fn kind_text(kind: LineKind) -> &'static [u8]
 pub(crate) fn manifest_line(fault: ManifestFault) -> FaultLine
     ensures { line_bytes result ≡ manifest_text fault }
 {
-    let front = b"fault: BadManifest line ";
+    let front = b"fault: BadManifest line";
     match fault {
-        ManifestFault::TooLong { .. } => whole(b"fault: BadManifest: TooLong\n"),
+        ManifestFault::TooLong { .. } => unnumbered(b"fault: BadManifest: TooLong\n"),
         ManifestFault::Bad { line, kind } => numbered(front, line, kind_text(kind)),
         ManifestFault::Clash { line } => numbered(front, line, b": Clash\n"),
         ManifestFault::TooMany { line } => numbered(front, line, b": TooMany\n"),
-        ManifestFault::NoMemory => whole(b""),
+        ManifestFault::NoMemory => unnumbered(b""),
     }
 }
 
@@ -86,7 +90,7 @@ fn script_kind_text(kind: ScriptKind) -> &'static [u8]
 pub(crate) fn script_line(line: u64, kind: ScriptKind) -> FaultLine
     ensures { line_bytes result ≡ script_text line kind }
 {
-    numbered(b"fault: BadScript line ", line, script_kind_text(kind))
+    numbered(b"fault: BadScript line", line, script_kind_text(kind))
 }
 
 /// The fault line of a cache that has a defect.
@@ -95,28 +99,28 @@ pub(crate) fn cache_line(defect: CacheDefect) -> FaultLine
     ensures { line_bytes result ≡ cache_fault defect }
 {
     match defect {
-        CacheDefect::OldFormat => whole(b"fault: BadCache: OldFormat\n"),
-        CacheDefect::Short { len } => numbered(b"fault: BadCache: Short ", len, b"\n"),
-        CacheDefect::BadMagic => whole(b"fault: BadCache: BadMagic\n"),
-        CacheDefect::BadEndian { flags } => numbered(b"fault: BadCache: BadEndian ", flags, b"\n"),
+        CacheDefect::OldFormat => unnumbered(b"fault: BadCache: OldFormat\n"),
+        CacheDefect::Short { len } => numbered(b"fault: BadCache: Short", len, b"\n"),
+        CacheDefect::BadMagic => unnumbered(b"fault: BadCache: BadMagic\n"),
+        CacheDefect::BadEndian { flags } => numbered(b"fault: BadCache: BadEndian", flags, b"\n"),
         CacheDefect::EntriesOutside { nlibs } => numbered(
-            b"fault: BadCache: EntriesOutside ",
+            b"fault: BadCache: EntriesOutside",
             nlibs,
             b"\n",
         ),
         CacheDefect::StringOutside { entry } => numbered(
-            b"fault: BadCache: StringOutside ",
+            b"fault: BadCache: StringOutside",
             entry,
             b"\n",
         ),
-        CacheDefect::NoNul { entry } => numbered(b"fault: BadCache: NoNul ", entry, b"\n"),
+        CacheDefect::NoNul { entry } => numbered(b"fault: BadCache: NoNul", entry, b"\n"),
         CacheDefect::BadExtension { offset } => numbered(
-            b"fault: BadCache: BadExtension ",
+            b"fault: BadCache: BadExtension",
             offset,
             b"\n",
         ),
-        CacheDefect::BadHwcap { entry } => numbered(b"fault: BadCache: BadHwcap ", entry, b"\n"),
-        CacheDefect::Unsorted { entry } => numbered(b"fault: BadCache: Unsorted ", entry, b"\n"),
+        CacheDefect::BadHwcap { entry } => numbered(b"fault: BadCache: BadHwcap", entry, b"\n"),
+        CacheDefect::Unsorted { entry } => numbered(b"fault: BadCache: Unsorted", entry, b"\n"),
     }
 }
 
@@ -125,38 +129,40 @@ pub(crate) fn cache_line(defect: CacheDefect) -> FaultLine
 pub(crate) fn program_line(defect: Defect) -> FaultLine
     ensures { line_bytes result ≡ program_fault defect }
 {
-    match defect {
-        Defect::NotElf => whole(b"fault: BadProgram: NotElf\n"),
-        Defect::TooShort { length } => numbered(b"fault: BadProgram: TooShort ", length, b"\n"),
-        Defect::BadClass { value } => numbered(b"fault: BadProgram: BadClass ", value, b"\n"),
-        Defect::BadData { value } => numbered(b"fault: BadProgram: BadData ", value, b"\n"),
-        Defect::BadMachine { number } => numbered(b"fault: BadProgram: BadMachine ", number, b"\n"),
-        Defect::NotShared { etype } => numbered(b"fault: BadProgram: NotShared ", etype, b"\n"),
-        Defect::BadPhdrs => whole(b"fault: BadProgram: BadPhdrs\n"),
-        Defect::NoDynamic => whole(b"fault: BadProgram: NoDynamic\n"),
-        Defect::DynOutside => whole(b"fault: BadProgram: DynOutside\n"),
-        Defect::NoStrtab => whole(b"fault: BadProgram: NoStrtab\n"),
-        Defect::OutsideLoad => whole(b"fault: BadProgram: OutsideLoad\n"),
-        Defect::BadString { tag } => numbered(b"fault: BadProgram: BadString ", tag, b"\n"),
-        Defect::BadSoname => whole(b"fault: BadProgram: BadSoname\n"),
+    FaultLine {
+        lead: b"fault: BadProgram: ",
+        front: defect.name(),
+        number: defect.number(),
+        back: b"\n",
     }
 }
 
-// Writes the digits of a number, if there is one.
+// Writes a number after a space, if there is one.
 fn put_number<O: Sink>(out: &mut O, number: Option<u64>) -> Result<(), Failed>
-    ensures { TakesAll (O.state out.old) (O.state out.new) (number_digits number) result }
+    ensures { TakesAll (O.state out.old) (O.state out.new) (number_text number) result }
 {
     match number {
-        Some(number) => put_all(out, itoa::Buffer::new().format(number).as_bytes()),
+        Some(number) => {
+            put_all(out, b" ")?;
+            put_all(out, itoa::Buffer::new().format(number).as_bytes())
+        }
         None => Ok(()),
     }
+}
+
+// Writes what is before the number.
+fn put_front<O: Sink>(out: &mut O, line: &FaultLine) -> Result<(), Failed>
+    ensures { TakesAll (O.state out.old) (O.state out.new) (front_bytes line.now) result }
+{
+    put_all(out, line.lead)?;
+    put_all(out, line.front)
 }
 
 /// Writes a line. After an error a prefix of it was written.
 pub(crate) fn put_line<O: Sink>(out: &mut O, line: &FaultLine) -> Result<(), Failed>
     ensures { TakesAll (O.state out.old) (O.state out.new) (line_bytes line.now) result }
 {
-    put_all(out, line.front)?;
+    put_front(out, line)?;
     put_number(out, line.number)?;
     put_all(out, line.back)
 }

@@ -6,7 +6,7 @@ ghost use Rattle.command_status.specs.Row.{row_bytes};
 ghost use Rattle.command_status.specs.Status.{code_of, fault_line, of_load, of_resolve, of_update, row_of, saying, silent};
 
 use crate::fault_line::{
-    FaultLine, cache_line, manifest_line, numbered, program_line, script_line, whole,
+    FaultLine, cache_line, manifest_line, numbered, program_line, script_line, unnumbered,
 };
 use cache_reader::CacheDefect;
 use ldconfig_core::UpdateFault;
@@ -99,22 +99,22 @@ impl Status {
         match self {
             Status::Done => silent(0),
             Status::Missing => silent(1),
-            Status::Usage => saying(2, whole(b"fault: Usage\n")),
+            Status::Usage => saying(2, unnumbered(b"fault: Usage\n")),
             Status::BadManifest(fault) => saying(3, manifest_line(fault)),
             Status::BadScript { line, kind } => saying(4, script_line(line, kind)),
-            Status::NoCache => saying(5, whole(b"fault: NoCache\n")),
+            Status::NoCache => saying(5, unnumbered(b"fault: NoCache\n")),
             Status::BadCache(defect) => saying(6, cache_line(defect)),
-            Status::NoProgram => saying(7, whole(b"fault: NoProgram\n")),
+            Status::NoProgram => saying(7, unnumbered(b"fault: NoProgram\n")),
             Status::BadProgram(defect) => saying(8, program_line(defect)),
-            Status::TooMany { count } => saying(9, numbered(b"fault: TooMany ", count, b"\n")),
-            Status::StoreFault => saying(10, whole(b"fault: StoreFault\n")),
-            Status::DiskFault => saying(11, whole(b"fault: DiskFault\n")),
-            Status::InputFault => saying(12, whole(b"fault: InputFault\n")),
+            Status::TooMany { count } => saying(9, numbered(b"fault: TooMany", count, b"\n")),
+            Status::StoreFault => saying(10, unnumbered(b"fault: StoreFault\n")),
+            Status::DiskFault => saying(11, unnumbered(b"fault: DiskFault\n")),
+            Status::InputFault => saying(12, unnumbered(b"fault: InputFault\n")),
             Status::OutputFault => silent(13),
             Status::NoMemory => silent(14),
-            Status::TooLong { .. } => saying(15, whole(b"fault: TooLong\n")),
-            Status::NoManifest => saying(16, whole(b"fault: NoManifest\n")),
-            Status::TooLarge { .. } => saying(17, whole(b"fault: TooLarge\n")),
+            Status::TooLong { .. } => saying(15, unnumbered(b"fault: TooLong\n")),
+            Status::NoManifest => saying(16, unnumbered(b"fault: NoManifest\n")),
+            Status::TooLarge { .. } => saying(17, unnumbered(b"fault: TooLarge\n")),
         }
     }
 

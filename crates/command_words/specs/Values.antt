@@ -28,16 +28,3 @@ is_cap text = not (length text == 0)
 -- the hwcaps names between colons, of which empty ones don't count
 abbrev pub caps_in : List ℕ → List (List ℕ)
 caps_in text = filter is_cap (slice_split is_colon text)
-
--- ---- what private functions say of a list that is partly read
-
-abbrev pub parts_of : Option (List ℕ) → List (List ℕ)
-parts_of None = []
-parts_of (Some text) = slice_split is_colon text
-
-abbrev pub caps_of : Option (List ℕ) → List (List ℕ)
-caps_of text = filter is_cap (parts_of text)
-
-abbrev pub size_of : Option (List ℕ) → ℕ
-size_of None = 0
-size_of (Some text) = 1 + length text

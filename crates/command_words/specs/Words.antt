@@ -13,6 +13,7 @@ use Rattle.commands.specs.declared.kinds.Command.TheVariants as commands
 use Rattle.commands.specs.declared.kinds.Lookup.{Lookup}
 use Rattle.commands.specs.declared.kinds.Resolve.{Resolve}
 use Rattle.tree_face.specs.declared.disk.Tag.{Tag}
+use Rattle.command_words.specs.declared.reading.TheConstants.{SAMPLE_MAX}
 use Rattle.command_words.specs.declared.verb.Verb.{Verb}
 use Rattle.command_words.specs.declared.verb.Verb.TheVariants as verbs
 
@@ -30,7 +31,7 @@ tag_by found = option_map (λ number. record { 0 = number }) (option_and_then nu
 
 -- how many libraries a sample may have
 abbrev pub is_sample_size : ℕ → Bool
-is_sample_size n = nat_le 1 n && nat_le n 20000
+is_sample_size n = nat_le 1 n && nat_le n SAMPLE_MAX
 
 -- how many libraries a sample has
 abbrev pub size_by : List Row → Option ℕ

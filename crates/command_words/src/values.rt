@@ -1,12 +1,11 @@
 //! The values of arguments.
-ghost use Rattle.std.specs.Prelude.{◌≡◌, ◌<◌, ◌^◌, ◌∷◌, length, nat_lt, option_map, position, if◌then◌else◌, Some, None, IfOk, IfSome, IsTrue};
+ghost use Rattle.std.specs.Prelude.{◌≡◌, ◌<◌, ◌^◌, length, nat_lt, option_map, if◌then◌else◌, Some, None, IfOk, IsTrue};
 ghost use Rattle.std.specs.Char.{is_ascii_digit};
-ghost use Rattle.std.specs.List.{list_all, slice_split};
-ghost use Rattle.std.specs.Option.{option_copied};
+ghost use Rattle.std.specs.List.{list_all};
 ghost use Rattle.std.specs.Str.Parse.{digits_value};
-ghost use Rattle.command_words.specs.Values.{caps_in, is_colon, is_true, is_value, number_in, parts_of};
+ghost use Rattle.command_words.specs.Values.{caps_in, is_true, is_value, number_in};
 
-use lib_types::{NoMemory, Text, Texts};
+use lib_types::{NoMemory, Separator, Text, Texts, split};
 use std::alloc::Global;
 
 /// Whether the text may be a value.
@@ -49,37 +48,15 @@ pub(crate) fn number(text: &str) -> Option<u16>
     u16::try_from(number_of(text)?).ok()
 }
 
-fn first_colon(bytes: &[u8]) -> Option<usize>
-    ensures index { result ≡ position is_colon bytes.now }
-    ensures within { IfSome result (λ n. n < length bytes.now) }
-{
-    bytes.iter().position(|&b| b == b':')
-}
-
-// The first part, and what is behind the colon that ends it.
-#[tactic(auto, using(lib_types::proofs::Parting::cut_at, lib_types::proofs::Parting::cut_nowhere))]
-fn cut(bytes: &[u8]) -> (&[u8], Option<&[u8]>)
-    ensures parts { slice_split is_colon bytes.now ≡ result.0.now ∷ parts_of (option_copied result.1) }
-    ensures shorter { IfSome result.1 (λ rest. length rest.now < length bytes.now) }
-{
-    match first_colon(bytes) {
-        Some(n) => (&bytes[..n], Some(&bytes[n + 1..])),
-        None => (bytes, None),
-    }
-}
-
 /// The texts between colons that aren't empty.
 pub(crate) fn caps_in(alloc: Global, text: &[u8]) -> Result<Texts, NoMemory>
     ensures { IfOk result (λ caps. caps ≡ caps_in text.now) }
 {
     let mut caps = Texts::new(alloc);
-    let mut left = Some(text);
-    while let Some(bytes) = left {
-        let (part, rest) = cut(bytes);
+    for part in split(Separator::Byte(b':'), text) {
         if !part.is_empty() {
             caps.push(Text::copy_of(alloc, part)?)?;
         }
-        left = rest;
     }
     Ok(caps)
 }

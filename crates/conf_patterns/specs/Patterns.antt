@@ -13,7 +13,7 @@ use Rattle.image_tree.specs.Paths.{join, root}
 use Rattle.image_tree.specs.Tree.{Nodes, kind_at, children_of}
 use Rattle.image_tree.specs.declared.tree.Kind.{Kind}
 use Rattle.image_tree.specs.declared.tree.Kind.TheVariants as kinds
-use Rattle.text_parts.specs.Bytes.{is_in, slashes}
+use Rattle.lib_types.specs.Sets.{is_in, slashes}
 use Rattle.conf_patterns.specs.Glob.{glob_match}
 
 -- ---- the components of a pattern, and the text below which they are taken

@@ -9,7 +9,7 @@ ghost use Rattle.conf_patterns.specs.Glob.{glob_match, is_hidden, matches, some_
 ghost use Rattle.conf_patterns.specs.Matching.{comes_to, is_failure, Decides, IsShorter};
 
 use crate::pieces::{Pieces, is_star, takes_first};
-use text_parts::trim::behind;
+use lib_types::trim::after;
 
 // How far the parts of a pattern go with a name.
 #[derive(Drop)]
@@ -46,7 +46,7 @@ fn run<'p, 'n>(pieces: Pieces<'p>, name: &'n [u8]) -> Reach<'p, 'n>
         if !takes_first(piece, left) {
             return Reach::Fails;
         }
-        left = behind(left, 1);
+        left = after(left, 1);
         pieces = rest;
     }
     if left.is_empty() {

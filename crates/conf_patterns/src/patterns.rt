@@ -6,13 +6,12 @@ ghost use Rattle.conf_patterns.specs.Finding.{matches_of, with_text};
 ghost use Rattle.conf_patterns.specs.Patterns.{base_of, chosen_in, components_of, go_on, is_absolute, is_chosen, is_library_link, is_link, is_wild, place_at, results, texts_by};
 
 use crate::glob::glob_match;
-use lib_types::{NoMemory, Text};
+use lib_types::trim::{after, before_last, has_one};
+use lib_types::{NoMemory, Parts, Separator, Text, split};
 use name_order::is_library_name;
 use path_walk::{Mode, WalkFault, resolve};
 use std::alloc::Global;
 use std::collections::BTreeMap;
-use text_parts::parts::{Parts, split};
-use text_parts::trim::{before_last, behind, has_one};
 use tree_face::{Kind, Tree};
 
 /// The results of a pattern: their texts, and where these lead.
@@ -40,9 +39,9 @@ fn components_of(pattern: &[u8]) -> Parts<'_>
     ensures { result ≡ components_of pattern.now }
 {
     if is_absolute(pattern) {
-        split(b"/", behind(pattern, 1))
+        split(Separator::In(b"/"), after(pattern, 1))
     } else {
-        split(b"/", pattern)
+        split(Separator::In(b"/"), pattern)
     }
 }
 

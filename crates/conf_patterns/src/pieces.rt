@@ -4,8 +4,8 @@ ghost use Rattle.conf_patterns.specs.Glob.{is_star, more_of, part_at, parts, tak
 ghost use Rattle.conf_patterns.specs.Pieces.{has_close, part_in, takes_first};
 
 use crate::set::{is_in_set, set_len, unclosed_len};
+use lib_types::trim::after;
 use std::marker::Model;
-use text_parts::trim::behind;
 
 /// One part of a pattern.
 #[derive(Clone, Copy)]
@@ -123,9 +123,9 @@ impl<'p> Pieces<'p> {
         if self.rest.is_empty() {
             return None;
         }
-        let more = behind(self.rest, 1);
+        let more = after(self.rest, 1);
         let piece = piece_at(self.rest[0], more, self.unclosed);
-        let rest = behind(more, more_of(piece));
+        let rest = after(more, more_of(piece));
         Some((
             piece,
             Pieces {

@@ -5,6 +5,8 @@ use Rattle.tree_face.specs.declared.disk.Slot.{Slot}
 use Rattle.tree_face.specs.declared.disk.Slot.TheVariants.{Manifest, Cache, Aux}
 use Rattle.device_rules.specs.declared.standing.Stamp.{Stamp}
 use Rattle.device_rules.specs.declared.standing.Owner.{Owner}
+use Rattle.cache_layout.specs.declared.limits.TheConstants.{ENTRIES_MAX}
+use Rattle.mtree_manifest.specs.declared.fault.TheConstants.{TEXT_MAX}
 
 -- the slot's file, below the root
 abbrev pub file_of : Slot → List ℕ
@@ -24,10 +26,9 @@ name_of Manifest = codes "image.mtree"
 name_of Cache = codes "ld.so.cache"
 name_of Aux = codes "aux-cache"
 
--- a file of more bytes is not read: a cache has at most 131072 entries of 24 bytes, each with two strings of at most 4,096
--- bytes, and little more than these
+-- a file of more bytes isn't read: a cache has little more than its entries, each of 24 bytes with two strings of at most 4,096 bytes
 abbrev pub largest : Slot → ℕ
-largest Cache = 131072 * (24 + 2 * 4096) + 2 ^ 16
+largest Cache = ENTRIES_MAX * (24 + 2 * 4096) + 2 ^ 16
 largest _ = 2 ^ 31
 
 -- how many bytes of a slot's file of this length are read, if it does or doesn't begin as a cache: of a manifest that is too long
@@ -36,7 +37,7 @@ abbrev pub length_to_read : Slot → Bool → ℕ → Option ℕ
 length_to_read slot is_cache size = if nat_lt (largest slot) size then None else Some (most_of slot is_cache size)
   where
     most_of : Slot → Bool → ℕ → ℕ
-    most_of Manifest _ n = min n (2 ^ 26 + 1)
+    most_of Manifest _ n = min n (TEXT_MAX + 1)
     most_of Cache is_cache n = if is_cache then n else min n 64
     most_of Aux _ n = n
 

@@ -1,11 +1,8 @@
 -- The machine of an ELF file (gABI, "ELF Header": EI_DATA at 5, e_machine at 18), and which ones caches are built for.
-use Rattle.std.specs.Prelude.{ℕ, Bool, ◌||◌, ◌&&◌, ◌+◌, ◌*◌, ◌^◌, List, ◌∷◌, Option, Some, None, codes, length, nat_eq, nat_le, get_or, ◌==◌, if◌then◌else◌}
+use Rattle.std.specs.Prelude.{ℕ, ◌&&◌, ◌+◌, ◌*◌, ◌^◌, List, ◌∷◌, Option, Some, None, codes, length, nat_eq, nat_le, get_or, ◌==◌, if◌then◌else◌}
 use Rattle.std.specs.List.{starts_with}
 use Rattle.std.specs.Option.{option_and_then}
-
--- EM_386, EM_X86_64 and EM_AARCH64
-abbrev pub is_built : ℕ → Bool
-is_built number = (number == 3 || number == 62) || number == 183
+use Rattle.lib_types.specs.Abi.{is_machine}
 
 -- the number in the order of bytes that the file names: ELFDATA2MSB is 2
 abbrev pub machine_in : List ℕ → Option ℕ
@@ -14,6 +11,6 @@ machine_in head = if nat_le 20 (length head) && starts_with nat_eq head (127 ∷
     number : List ℕ → ℕ
     number h = if get_or h 5 0 == 2 then 2 ^ 8 * get_or h 18 0 + get_or h 19 0 else get_or h 18 0 + 2 ^ 8 * get_or h 19 0
 
--- none for what is no ELF file and for a machine that caches are built for
+-- none for what isn't an ELF file and for a machine that caches are built for
 abbrev pub foreign_machine : List ℕ → Option ℕ
-foreign_machine head = option_and_then (λ number. if is_built number then None else Some number) (machine_in head)
+foreign_machine head = option_and_then (λ number. if is_machine number then None else Some number) (machine_in head)

@@ -1,23 +1,18 @@
 //! Libraries for machines that no cache is built for.
 ghost use Rattle.std.specs.Prelude.{◌≡◌};
-ghost use Rattle.device_rules.specs.Machines.{foreign_machine, is_built, machine_in};
+ghost use Rattle.device_rules.specs.Machines.{foreign_machine, machine_in};
+
+use lib_types::Abi;
 
 /// The number of the machine of an ELF file with these first bytes, if no cache is built for it.
 pub fn foreign_machine(head: &[u8]) -> Option<u16>
     ensures { result ≡ foreign_machine head.now }
 {
     let number = machine_in(head)?;
-    if is_built(number) { None } else { Some(number) }
+    if Abi::is_machine(number) { None } else { Some(number) }
 }
 
-// The machines of i386, of x86-64 and x32, and of AArch64.
-fn is_built(number: u16) -> bool
-    ensures { result ≡ is_built number }
-{
-    number == 3 || number == 62 || number == 183
-}
-
-// Its bytes stand in the order that the file says it has.
+// Its bytes are in the order that the file says it has.
 fn machine_in(head: &[u8]) -> Option<u16>
     ensures { result ≡ machine_in head.now }
 {

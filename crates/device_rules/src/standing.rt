@@ -2,6 +2,8 @@
 ghost use Rattle.std.specs.Prelude.{◌≡◌, ◌↔◌, Some, IsTrue, bit_and};
 ghost use Rattle.device_rules.specs.Folder.{IsAsRead, largest, length_to_read, mode_of, owner_to_give};
 
+use cache_layout::{ENTRIES_MAX, ENTRY_SIZE};
+use mtree_manifest::TEXT_MAX;
 use std::fs::Metadata;
 use std::os::unix::fs::MetadataExt;
 use tree_face::Slot;
@@ -116,18 +118,21 @@ fn is_same(now: Stamp, read: Stamp) -> bool
     now == read
 }
 
-// A slot of more bytes isn't read: a cache has at most so many entries, of so many bytes with two strings of a path's length.
+// The bytes of a cache's entry with two strings of a path's length.
+const CACHED_ENTRY: u64 = ENTRY_SIZE as u64 + 2 * 4096;
+
+// A file of more bytes isn't read.
 fn largest(slot: Slot) -> u64
     ensures { result ≡ largest slot }
 {
     match slot {
-        Slot::Cache => 131072 * (24 + 2 * 4096) + (1 << 16),
+        Slot::Cache => ENTRIES_MAX as u64 * CACHED_ENTRY + (1 << 16),
         Slot::Manifest | Slot::Aux => 1 << 31,
     }
 }
 
-// A manifest has at most 2^26 bytes, so that one byte more shows that it is too long.
-const TOO_LONG_MANIFEST: u64 = (1 << 26) + 1;
+// One byte more than a manifest may have shows that it is too long.
+const TOO_LONG_MANIFEST: u64 = TEXT_MAX as u64 + 1;
 
 // So many first bytes show what is no cache.
 const NO_CACHE: u64 = 64;

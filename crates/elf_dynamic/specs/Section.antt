@@ -7,6 +7,7 @@ use Rattle.elf_headers.specs.declared.kinds.Segment.{Segment}
 use Rattle.elf_headers.specs.Layout.{segments}
 use Rattle.elf_dynamic.specs.declared.kinds.DynamicEntry.{DynamicEntry}
 use Rattle.elf_dynamic.specs.declared.kinds.Place.{Place}
+use Rattle.elf_dynamic.specs.declared.text.TheConstants.{TEXT_LIMIT}
 
 -- ---- segments: PT_LOAD and PT_DYNAMIC
 
@@ -122,9 +123,9 @@ string_table bytes segments entries =
 abbrev pub is_nul : ℕ → Bool
 is_nul b = b == 0
 
--- the bytes of the table from this offset on, of which 65536 are looked at
+-- the bytes of the table from this offset on, of which at most this many are looked at
 unfoldable pub near : List ℕ → ℕ → List ℕ
-near table at = take 65536 (drop at table)
+near table at = take TEXT_LIMIT (drop at table)
 
 -- a NUL ends the text at this offset of the table
 abbrev pub has_text_at : List ℕ → ℕ → Bool

@@ -8,6 +8,7 @@ use Rattle.elf_headers.specs.Reading.{OfKnown, TakesAtMost}
 use Rattle.elf_dynamic.specs.declared.kinds.Dynamic.{Dynamic}
 use Rattle.elf_headers.specs.Layout.{is_wide, word_size, phnum}
 use Rattle.elf_headers.specs.Header.{first_defect, header_sentences}
+use Rattle.elf_dynamic.specs.declared.text.TheConstants.{TEXT_LIMIT}
 use Rattle.elf_dynamic.specs.Texts.{counted}
 use Rattle.elf_dynamic.specs.Section.{dynamic_segment, is_outside, dynamic_entries, counting_entries}
 
@@ -22,11 +23,11 @@ readable_section w bytes =
 
 -- for each of its bytes and of its entries that count
 abbrev pub section_reading : ℕ → List ℕ → Option Segment → ℕ
-section_reading w bytes s = option_map_or (λ s. 8 * s.filesz + 131072 * length (counting_entries (dynamic_entries w bytes s))) s 0
+section_reading w bytes s = option_map_or (λ s. 8 * s.filesz + 2 * TEXT_LIMIT * length (counting_entries (dynamic_entries w bytes s))) s 0
 
 -- For further texts of a section its bytes are read twice, and one text for each entry that counts.
 abbrev pub most_gathered : List ℕ → Dynamic → ℕ → List ℕ → Segment → ℕ
-most_gathered texts found w bytes s = 2 * s.filesz + 65536 * counted texts found (dynamic_entries w bytes s)
+most_gathered texts found w bytes s = 2 * s.filesz + TEXT_LIMIT * counted texts found (dynamic_entries w bytes s)
 
 -- and for each program header
 abbrev pub reading_after : Option Defect → ℕ → List ℕ → ℕ

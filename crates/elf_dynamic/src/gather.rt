@@ -7,6 +7,7 @@ ghost use Rattle.elf_dynamic.specs.Faults.{IfBad, IsBadString, object_ending};
 ghost use Rattle.elf_dynamic.specs.Kept.{keeps, kept, kept_of};
 ghost use Rattle.elf_dynamic.specs.Section.{dynamic_entries};
 ghost use Rattle.elf_dynamic.specs.Taken.{TakesBy, most_gathered};
+ghost use Rattle.elf_dynamic.specs.declared.text.TheConstants.{TEXT_LIMIT};
 ghost use Rattle.elf_dynamic.specs.Texts.{counts, with_text, no_texts, add_one, gathered};
 ghost use Rattle.elf_dynamic.specs.Values.{texts_in, HasTexts};
 
@@ -103,7 +104,7 @@ fn add<S: Store>(
     ensures same_store { file.new.store.ghost_name ≡ file.old.store.ghost_name }
     ensures reads { ReadsOn (object_ending result) (S.state file.old.store.now) (S.state file.new.store.now) file.old.cursor file.new.cursor }
     ensures section { file.new.cursor.section ≡ file.old.cursor.section }
-    ensures taken { TakesAtMost (if counts found.old entry.tag then 65536 else 0) (S.state file.old.store.now) (S.state file.new.store.now) }
+    ensures taken { TakesAtMost (if counts found.old entry.tag then TEXT_LIMIT else 0) (S.state file.old.store.now) (S.state file.new.store.now) }
     ensures added { OnOk result (OfKnown (S.state file.old.store.now) (λ bytes.
         kept_of keep (add_one (strings_of file.old.cursor bytes) found.old entry) ≡ Ok (kept keep found.new))) }
     ensures bad { IfBad result (λ d. OfKnown (S.state file.old.store.now) (λ bytes. add_one (strings_of file.old.cursor bytes) found.old entry ≡ Err d)) }

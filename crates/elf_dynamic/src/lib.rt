@@ -20,3 +20,4 @@ pub use entries::Entries;
 pub use fault::{AnalyseFault, ObjectFault};
 pub use file::ElfFile;
 pub use reader::{analyse, object};
+pub use text::TEXT_LIMIT;

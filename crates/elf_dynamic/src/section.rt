@@ -11,6 +11,7 @@ ghost use Rattle.elf_dynamic.specs.Kept.{IsKeptSection, IsKeptInFile};
 ghost use Rattle.elf_dynamic.specs.Memory.{IsFaultOf, SectionTakesMemory};
 ghost use Rattle.elf_dynamic.specs.Object.{has_nodeflib};
 ghost use Rattle.elf_dynamic.specs.Sections.{section_in, sections_in, counting_in, table_by, name_of, has_good_name};
+ghost use Rattle.elf_dynamic.specs.declared.text.TheConstants.{TEXT_LIMIT};
 ghost use Rattle.elf_dynamic.specs.Taken.{TakesBy, section_reading, readable_section};
 ghost use Rattle.elf_dynamic.specs.Texts.{no_texts};
 ghost use Rattle.elf_dynamic.specs.Values.{HasTexts};
@@ -100,7 +101,7 @@ fn read_texts<S: Store>(
     ensures same_store { file.new.store.ghost_name ≡ file.old.store.ghost_name }
     ensures reads { OnlyReads (object_ending result) (S.state file.old.store.now) (S.state file.new.store.now) }
     ensures taken { TakesBy
-        (λ bytes. 112 * file.old.cursor.head.phnum + 2 * dynamic.filesz + 65536 * counting_in (width file.old.cursor) bytes dynamic)
+        (λ bytes. 112 * file.old.cursor.head.phnum + 2 * dynamic.filesz + TEXT_LIMIT * counting_in (width file.old.cursor) bytes dynamic)
         (S.state file.old.store.now) (S.state file.new.store.now) }
     ensures section { OnOk result (IsKeptSection keep (S.state file.old.store.now) (λ bytes. section_in (width file.old.cursor) bytes dynamic) found.new) }
     ensures fault { IsFaultOf (S.state file.old.store.now) (λ bytes. section_in (width file.old.cursor) bytes dynamic) result }
@@ -132,7 +133,7 @@ fn read_section<S: Store>(
     ensures same_store { file.new.store.ghost_name ≡ file.old.store.ghost_name }
     ensures reads { OnlyReads (object_ending result) (S.state file.old.store.now) (S.state file.new.store.now) }
     ensures taken { TakesBy
-        (λ bytes. 112 * file.old.cursor.head.phnum + 4 * dynamic.filesz + 65536 * counting_in (width file.old.cursor) bytes dynamic)
+        (λ bytes. 112 * file.old.cursor.head.phnum + 4 * dynamic.filesz + TEXT_LIMIT * counting_in (width file.old.cursor) bytes dynamic)
         (S.state file.old.store.now) (S.state file.new.store.now) }
     ensures section { IfOk result (IsKeptSection keep (S.state file.old.store.now) (λ bytes. section_in (width file.old.cursor) bytes dynamic)) }
     ensures fault { IsFaultOf (S.state file.old.store.now) (λ bytes. section_in (width file.old.cursor) bytes dynamic) result }

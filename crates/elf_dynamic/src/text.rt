@@ -5,6 +5,7 @@ ghost use Rattle.elf_headers.specs.Reading.{OfKnown, TakesAtMost, reading_ending
 ghost use Rattle.elf_dynamic.specs.Cursor.{IsCursorOf, ReadsOn, IsInFile, strings_of};
 ghost use Rattle.elf_dynamic.specs.Faults.{analyse_ending};
 ghost use Rattle.elf_dynamic.specs.Section.{bytes_of, is_nul, has_text_at};
+ghost use Rattle.elf_dynamic.specs.declared.text.TheConstants.{TEXT_LIMIT};
 ghost use Rattle.elf_dynamic.specs.Texts.{before_nul, text_found};
 
 use crate::kinds::Place;
@@ -14,20 +15,14 @@ use std::alloc::{AllocError, Global};
 use tree_face::Store;
 
 /// The most bytes of a text that are looked at, its NUL among them.
-const TEXT_LIMIT: u64 = 65536;
-
-fn first_nul(bytes: &[u8]) -> Option<usize>
-    ensures { result ≡ position is_nul bytes.now }
-{
-    find_byte(0, bytes)
-}
+pub const TEXT_LIMIT: u64 = 1 << 16;
 
 // Adds the bytes before the first NUL, and returns whether there is one.
 fn add_text(found: &mut Vec<u8>, piece: &[u8]) -> Result<bool, AllocError>
     ensures ended { IfOk result (λ ended. ended ≡ list_any is_nul piece.now) }
     ensures found { IfOk result (λ _. found.new.items ≡ found.old.items ++ take_while (λ b. not (is_nul b)) piece.now) }
 {
-    match first_nul(piece) {
+    match find_byte(0, piece) {
         Some(end) => {
             found.extend_from_slice(&piece[..end])?;
             Ok(true)
@@ -53,7 +48,7 @@ fn front(bytes: &[u8], most: u64) -> &[u8]
 // How many bytes are looked at for the text at an offset of the table.
 fn most_at(table: Place, offset: u64) -> u64
     requires { offset < table.size }
-    ensures { result ≡ min (table.size - offset) 65536 }
+    ensures { result ≡ min (table.size - offset) TEXT_LIMIT }
 {
     (table.size - offset).min(TEXT_LIMIT)
 }
@@ -104,7 +99,7 @@ impl<'s, S: Store> ElfFile<'s, S> {
             let head = &self.cursor.head;
             self.cursor.headers.hold(self.store, head, at, 1, end)?;
             let piece = front(self.cursor.headers.from(at), end - at);
-            if first_nul(piece).is_some() {
+            if find_byte(0, piece).is_some() {
                 return Ok(true);
             }
             at += piece.len() as u64;
@@ -118,7 +113,7 @@ impl<'s, S: Store> ElfFile<'s, S> {
         ensures same_store { self.new.store.ghost_name ≡ self.old.store.ghost_name }
         ensures reads { ReadsOn (analyse_ending result) (S.state self.old.store.now) (S.state self.new.store.now) self.old.cursor self.new.cursor }
         ensures section { self.new.cursor.section ≡ self.old.cursor.section }
-        ensures taken { TakesAtMost 65536 (S.state self.old.store.now) (S.state self.new.store.now) }
+        ensures taken { TakesAtMost TEXT_LIMIT (S.state self.old.store.now) (S.state self.new.store.now) }
         ensures text { IfOk result (λ t. OfKnown (S.state self.old.store.now) (λ bytes. t ≡ text_found (strings_of self.old.cursor bytes) offset)) }
     {
         let strings = self.cursor.strings;
@@ -136,7 +131,7 @@ impl<'s, S: Store> ElfFile<'s, S> {
         ensures same_store { self.new.store.ghost_name ≡ self.old.store.ghost_name }
         ensures reads { ReadsOn (reading_ending result) (S.state self.old.store.now) (S.state self.new.store.now) self.old.cursor self.new.cursor }
         ensures section { self.new.cursor.section ≡ self.old.cursor.section }
-        ensures taken { TakesAtMost 65536 (S.state self.old.store.now) (S.state self.new.store.now) }
+        ensures taken { TakesAtMost TEXT_LIMIT (S.state self.old.store.now) (S.state self.new.store.now) }
         ensures text { IfOk result (λ b. OfKnown (S.state self.old.store.now) (λ bytes. b ≡ has_text_at (strings_of self.old.cursor bytes) offset)) }
     {
         let strings = self.cursor.strings;

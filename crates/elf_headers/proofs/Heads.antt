@@ -121,9 +121,9 @@ first_four (a ∷ b ∷ c ∷ d ∷ xs) = refl
 in_front : (i n : ℕ) (xs : List ℕ) → i + n ≤ 64 → field (take 64 xs) i n ≡ field xs i n
 in_front i n xs h = little_from-take i n 64 xs h
 
-fits : (b : Bool) → (at_class (word_size b) 28 32 + word_size b ≤ 64) × (at_class (word_size b) 42 54 + 2 ≤ 64) × (at_class (word_size b) 44 56 + 2 ≤ 64)
-fits true = (lit≤ tt, lit≤ tt, lit≤ tt)
-fits false = (lit≤ tt, lit≤ tt, lit≤ tt)
+fits : (b : Bool) → (at_class (word_size b) 28 32 + word_size b ≤ 64) × (at_class (word_size b) 42 54 + 2 ≤ 64) × (at_class (word_size b) 44 56 + 2 ≤ 64) × (at_class (word_size b) 36 48 + 4 ≤ 64)
+fits true = (lit≤ tt, lit≤ tt, lit≤ tt, lit≤ tt)
+fits false = (lit≤ tt, lit≤ tt, lit≤ tt, lit≤ tt)
 
 pub front : (size : ℕ) (xs : List ℕ) → head_of size (take 64 xs) ≡ head_of size xs
 unfolding head_of
@@ -140,7 +140,8 @@ front size xs =
       in_front 18 2 xs (lit≤ tt),
       in_front (at_class w 28 32) w xs within.0,
       in_front (at_class w 42 54) 2 xs within.1,
-      in_front (at_class w 44 56) 2 xs within.2,
+      in_front (at_class w 44 56) 2 xs within.2.0,
+      in_front (at_class w 36 48) 4 xs within.2.1,
     )
     refl
 

@@ -7,7 +7,7 @@ use Rattle.lib_types.specs.declared.abi.Abi.{Abi}
 use Rattle.lib_types.specs.declared.analysis.Defect.{Defect}
 use Rattle.lib_types.specs.declared.analysis.Defect.TheVariants.{NotElf, TooShort, BadClass, BadData, BadMachine, NotShared, BadPhdrs}
 use Rattle.elf_headers.specs.declared.kinds.Head.{Head}
-use Rattle.elf_headers.specs.Layout.{class, encoding, is_wide, word_size, header_length, etype, machine, phoff, phentsize, phnum, program_header_length}
+use Rattle.elf_headers.specs.Layout.{class, encoding, is_wide, word_size, header_length, etype, machine, eflags, phoff, phentsize, phnum, program_header_length}
 
 -- ---- sentences in their order: the first that holds gives the defect
 
@@ -35,7 +35,7 @@ abbrev pub has_class : List ℕ → Bool
 has_class bytes = (class bytes == 1) || (class bytes == 2)
 
 abbrev pub abi : List ℕ → Option Abi
-abi bytes = abi_of_elf (machine bytes) (class bytes)
+abi bytes = abi_of_elf (machine bytes) (class bytes) (eflags (word_size (is_wide bytes)) bytes)
 
 -- ET_EXEC or ET_DYN
 abbrev pub is_loadable : List ℕ → Bool

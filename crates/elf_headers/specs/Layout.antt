@@ -38,6 +38,9 @@ machine bytes = field bytes 18 2
 abbrev pub phoff : ℕ → List ℕ → ℕ
 phoff w bytes = field bytes (at_class w 28 32) w
 
+abbrev pub eflags : ℕ → List ℕ → ℕ
+eflags w bytes = field bytes (at_class w 36 48) 4
+
 abbrev pub phentsize : ℕ → List ℕ → ℕ
 phentsize w bytes = field bytes (at_class w 42 54) 2
 

@@ -5,7 +5,8 @@ use Rattle.std.proofs.lemmas.List.Sums.{AllPass-from_list_all}
 use Rattle.std.specs.List.{flat_map, list_all}
 use Rattle.byteorder.specs.Endian.{little_bytes}
 use Rattle.byteorder.specs.Numbers.{length-bytes_low_first}
-use Rattle.lib_types.specs.Abi.{machine_of, class_of}
+use Rattle.lib_types.specs.Abi.{class_of}
+use Rattle.lib_types.specs.declared.abi.Abi.{Abi}
 use Rattle.elf_headers.specs.Layout.{word_size, header_length, program_header_length}
 use Rattle.elf_dynamic.specs.declared.kinds.DynamicEntry.{DynamicEntry}
 use Rattle.elf_dynamic.specs.declared.kinds.Dynamic.{Dynamic}
@@ -29,18 +30,18 @@ length_fields (f ∷ fields) =
     let ih = length_fields fields in
     omega (arith, ih, length-append (little_bytes f.0 f.1) (flat_map (λ (f : Field). little_bytes f.0 f.1) fields), length-bytes_low_first 0 f.0 f.1)
 
-header_sizes : (w etype machine : ℕ) → IsWidth w → 16 + sizes (header_fields w etype machine) ≡ header_length w
+header_sizes : (w etype : ℕ) (abi : Abi) → IsWidth w → 16 + sizes (header_fields w etype abi) ≡ header_length w
 unfolding sizes
-header_sizes w etype machine (inl four) = rw four refl
-header_sizes w etype machine (inr eight) = rw eight refl
+header_sizes w etype abi (inl four) = rw four refl
+header_sizes w etype abi (inr eight) = rw eight refl
 
 program_header_sizes : (w kind offset size align : ℕ) → IsWidth w → sizes (program_header_fields w kind offset size align) ≡ program_header_length w
 unfolding sizes
 program_header_sizes w kind offset size align (inl four) = rw four refl
 program_header_sizes w kind offset size align (inr eight) = rw eight refl
 
-pub length_header : (w etype machine : ℕ) → IsWidth w → 16 + length (bytes_of (header_fields w etype machine)) ≡ header_length w
-length_header w etype machine h = ap (λ n. 16 + n) (length_fields (header_fields w etype machine)) ∙ header_sizes w etype machine h
+pub length_header : (w etype : ℕ) (abi : Abi) → IsWidth w → 16 + length (bytes_of (header_fields w etype abi)) ≡ header_length w
+length_header w etype abi h = ap (λ n. 16 + n) (length_fields (header_fields w etype abi)) ∙ header_sizes w etype abi h
 
 pub length_program_header : (w kind offset size align : ℕ) → IsWidth w → length (bytes_of (program_header_fields w kind offset size align)) ≡ program_header_length w
 length_program_header w kind offset size align h = length_fields (program_header_fields w kind offset size align) ∙ program_header_sizes w kind offset size align h
@@ -79,8 +80,8 @@ length_six a b c d e f = simp length-append refl
 length_of : (w : ℕ) (spec : Spec) → IsWidth w → length (made_of w spec) ≡ size w spec.dynamic
 length_of w spec h =
     let d = spec.dynamic in
-    let all = length_six (identification (class_of spec.abi)) (bytes_of (header_fields w spec.etype (machine_of spec.abi))) (bytes_of (load_fields w d)) (bytes_of (dynamic_fields w d)) (bytes_of (section_fields w d)) (strings d) in
-    let head = length_header w spec.etype (machine_of spec.abi) h in
+    let all = length_six (identification (class_of spec.abi)) (bytes_of (header_fields w spec.etype spec.abi)) (bytes_of (load_fields w d)) (bytes_of (dynamic_fields w d)) (bytes_of (section_fields w d)) (strings d) in
+    let head = length_header w spec.etype spec.abi h in
     let load = length_program_header w 1 0 (size w d) 0x1000 h in
     let dyn = length_program_header w 2 (section_at w) (section_size w d) w h in
     let section = length_section w d in
@@ -122,7 +123,7 @@ six out a b c d e f = simp append_assoc refl
 pub file_is : {l : Layout} {spec : Spec} → IsLayoutOf l spec → (all address : ℕ) (out : List ℕ) → all ≡ l.strings + l.strings_size → address ≡ l.strings + base →
     out
     ++ identification (class_of spec.abi)
-    ++ bytes_of (header_fields l.w spec.etype (machine_of spec.abi))
+    ++ bytes_of (header_fields l.w spec.etype spec.abi)
     ++ bytes_of (program_header_fields l.w 1 0 all 0x1000)
     ++ bytes_of (program_header_fields l.w 2 l.section l.section_size l.w)
     ++ entries_bytes l.w (entries address spec.dynamic)
@@ -134,6 +135,6 @@ file_is {l = l} {spec = spec} h all address out whole table =
     let w = l.w in
     let size_is : all ≡ size w d = omega (arith, h.strings_is, h.strings_size_is) in
     let table_is : address ≡ strings_at w d + base = omega (arith, h.strings_is) in
-    let joined = six out (identification (class_of spec.abi)) (bytes_of (header_fields w spec.etype (machine_of spec.abi))) (bytes_of (load_fields w d)) (bytes_of (dynamic_fields w d)) (bytes_of (section_fields w d)) (strings d) in
+    let joined = six out (identification (class_of spec.abi)) (bytes_of (header_fields w spec.etype spec.abi)) (bytes_of (load_fields w d)) (bytes_of (dynamic_fields w d)) (bytes_of (section_fields w d)) (strings d) in
     let width_is : made_of w spec ≡ made_of (width spec) spec = ap (λ w. made_of w spec) h.of_abi in
     rw (size_is, table_is, h.section_is, h.section_size_is) (joined ∙ ap (λ r. out ++ r) width_is)

@@ -8,6 +8,7 @@ use Rattle.lib_types.specs.Name.{is_name, are_dots, have_no_slash}
 use Rattle.std.specs.Str.{is_utf8}
 use Rattle.lib_types.specs.declared.name.TheConstants.{NAME_MAX}
 use Rattle.elf_dynamic.specs.Section.{is_nul}
+use Rattle.elf_dynamic.specs.declared.text.TheConstants.{TEXT_LIMIT}
 use Rattle.elf_maker.specs.declared.kinds.Spec.{Spec}
 use Rattle.elf_maker.specs.Texts.{is_text}
 use Rattle.elf_maker.specs.Made.{is_spec}
@@ -36,10 +37,10 @@ fits spec h =
 
 pub record HasText (text : List ℕ) : Type 0 where
   pub no_nul : list_any is_nul text ≡ false
-  pub short : length text ≤ 65535
+  pub short : length text < TEXT_LIMIT
 
 pub of_text : (text : List ℕ) → is_text text ≡ true → HasText text
-of_text text h = let (a, b) = and_is (not (list_any is_nul text)) (nat_le (length text) 65535) h in record { no_nul = grind (arith, nat_tests); short = grind (arith, nat_tests) }
+of_text text h = let (a, b) = and_is (not (list_any is_nul text)) (nat_lt (length text) TEXT_LIMIT) h in record { no_nul = grind (arith, nat_tests); short = grind (arith, nat_tests) }
 
 -- no byte of a name is a NUL
 no_nul_in : (name : List ℕ) → list_all (λ b. not (b == 47) && not (b == 0)) name ≡ true → list_any is_nul name ≡ false

@@ -6,12 +6,11 @@ use Rattle.std.proofs.lemmas.Bool.Decides.{nat_tests}
 use Rattle.std.proofs.lemmas.List.{take_all}
 use Rattle.std.specs.List.{range_with_len, take_while}
 use Rattle.std.specs.Option.{option_map_or}
-use Rattle.lib_types.specs.Abi.{machine_of, class_of, abi_of_elf}
+use Rattle.lib_types.specs.Abi.{machine_of, class_of, row_of, abi_of_elf}
 use Rattle.lib_types.specs.Bytes.{field}
-use Rattle.lib_types.specs.declared.abi.Abi.{Abi}
-use Rattle.lib_types.specs.declared.abi.Abi.TheVariants.{I386, X86_64, X32, Aarch64}
+use Rattle.lib_types.proofs.Abis.{bits_small, known_abi, known_class, machine_small}
 use Rattle.elf_headers.specs.declared.kinds.Segment.{Segment}
-use Rattle.elf_headers.specs.Layout.{encoding, is_wide, word_size, at_class, header_length, etype, machine, phoff, phentsize, phnum, program_header_length, segment_at, segments}
+use Rattle.elf_headers.specs.Layout.{encoding, is_wide, word_size, at_class, header_length, etype, machine, eflags, phoff, phentsize, phnum, program_header_length, segment_at, segments}
 use Rattle.elf_headers.specs.Header.{Sentence, first_defect, unless_defect, has_magic, has_class, abi, is_loadable, has_bad_headers, header_sentences_of}
 use Rattle.elf_dynamic.specs.declared.kinds.Dynamic.{Dynamic}
 use Rattle.elf_dynamic.specs.Section.{is_dynamic, dynamic_segment, is_outside, entry_at, dynamic_entries, table_at}
@@ -47,30 +46,13 @@ header_places : (w : ℕ) → IsWidth w →
     (at_class w 28 32 ≡ 16 + (2 + (2 + (4 + (w + 0)))))
     × (at_class w 42 54 ≡ 16 + (2 + (2 + (4 + (w + (w + (w + (4 + (2 + 0)))))))))
     × (at_class w 44 56 ≡ 16 + (2 + (2 + (4 + (w + (w + (w + (4 + (2 + (2 + 0))))))))))
-header_places w (inl four) = rw four (refl, refl, refl)
-header_places w (inr eight) = rw eight (refl, refl, refl)
+    × (at_class w 36 48 ≡ 16 + (2 + (2 + (4 + (w + (w + (w + 0)))))))
+header_places w (inl four) = rw four (refl, refl, refl, refl)
+header_places w (inr eight) = rw eight (refl, refl, refl, refl)
 
 lengths_small : (w : ℕ) → IsWidth w → (header_length w < 2 ^ 16) × (program_header_length w < 2 ^ 16) × (16 ≤ header_length w)
 lengths_small w (inl four) = rw four (omega arith, omega arith, omega arith)
 lengths_small w (inr eight) = rw eight (omega arith, omega arith, omega arith)
-
-machine_small : (a : Abi) → machine_of a < 256 ^ 2
-machine_small I386 = omega arith
-machine_small X86_64 = omega arith
-machine_small X32 = omega arith
-machine_small Aarch64 = omega arith
-
-known_abi : (a : Abi) → abi_of_elf (machine_of a) (class_of a) ≡ Some a
-known_abi I386 = refl
-known_abi X86_64 = refl
-known_abi X32 = refl
-known_abi Aarch64 = refl
-
-known_class : (a : Abi) → ((class_of a == 1) || (class_of a == 2)) ≡ true
-known_class I386 = refl
-known_class X86_64 = refl
-known_class X32 = refl
-known_class Aarch64 = refl
 
 etype_small : (e : ℕ) → ((e == 2) || (e == 3)) ≡ true → e < 256 ^ 2
 etype_small e h = grind (arith, nat_tests)
@@ -78,6 +60,7 @@ etype_small e h = grind (arith, nat_tests)
 record Heads (w : ℕ) (bytes : List ℕ) (spec : Spec) : Type 0 where
   pub etype_is : etype bytes ≡ spec.etype
   pub machine_is : machine bytes ≡ machine_of spec.abi
+  pub eflags_is : eflags w bytes ≡ (row_of spec.abi).bits
   pub phoff_is : phoff w bytes ≡ header_length w
   pub phentsize_is : phentsize w bytes ≡ program_header_length w
   pub phnum_is : phnum w bytes ≡ 2
@@ -86,7 +69,7 @@ heads : (w : ℕ) (spec : Spec) → IsWidth w → is_spec spec ≡ true → Head
 unfolding offset_of
 heads w spec width h =
     let d = spec.dynamic in
-    let fields = header_fields w spec.etype (machine_of spec.abi) in
+    let fields = header_fields w spec.etype spec.abi in
     let front = identification (class_of spec.abi) in
     let rest = bytes_of (load_fields w d) ++ (bytes_of (dynamic_fields w d) ++ (bytes_of (section_fields w d) ++ strings d)) in
     let all : made_of w spec ≡ front ++ (bytes_of fields ++ rest) = split_two front (bytes_of fields) (bytes_of (load_fields w d)) (bytes_of (dynamic_fields w d)) (bytes_of (section_fields w d)) (strings d) in
@@ -97,7 +80,8 @@ heads w spec width h =
       machine_is = ap (λ bytes. field bytes 18 2) all ∙ nth_field fields 1 2 (machine_of spec.abi) 18 front rest refl (machine_small spec.abi) refl;
       phoff_is = ap (λ bytes. field bytes (at_class w 28 32) w) all ∙ nth_field fields 4 w (header_length w) (at_class w 28 32) front rest refl (below w (header_length w) width (omega arith)) p.0;
       phentsize_is = ap (λ bytes. field bytes (at_class w 42 54) 2) all ∙ nth_field fields 8 2 (program_header_length w) (at_class w 42 54) front rest refl (omega arith) p.1;
-      phnum_is = ap (λ bytes. field bytes (at_class w 44 56) 2) all ∙ nth_field fields 9 2 2 (at_class w 44 56) front rest refl (omega arith) p.2;
+      phnum_is = ap (λ bytes. field bytes (at_class w 44 56) 2) all ∙ nth_field fields 9 2 2 (at_class w 44 56) front rest refl (omega arith) p.2.0;
+      eflags_is = ap (λ bytes. field bytes (at_class w 36 48) 4) all ∙ nth_field fields 6 4 (row_of spec.abi).bits (at_class w 36 48) front rest refl (bits_small spec.abi) p.2.1;
     }
 
 -- ---- the program headers
@@ -117,12 +101,12 @@ unfolding load section
 segments_there w spec width short =
     let d = spec.dynamic in
     let a = identification (class_of spec.abi) in
-    let b = bytes_of (header_fields w spec.etype (machine_of spec.abi)) in
+    let b = bytes_of (header_fields w spec.etype spec.abi) in
     let c = bytes_of (load_fields w d) in
     let e = bytes_of (dynamic_fields w d) in
     let s = bytes_of (section_fields w d) in
     let t = strings d in
-    let head_size = length_header w spec.etype (machine_of spec.abi) width in
+    let head_size = length_header w spec.etype spec.abi width in
     let load_size = length_program_header w 1 0 (size w d) 0x1000 width in
     let small = lengths_small w width in
     record {
@@ -161,7 +145,7 @@ unfolding dynamic_entries section entries_bytes
 entries_are w spec width h short =
     let d = spec.dynamic in
     let a = identification (class_of spec.abi) in
-    let b = bytes_of (header_fields w spec.etype (machine_of spec.abi)) in
+    let b = bytes_of (header_fields w spec.etype spec.abi) in
     let c = bytes_of (load_fields w d) in
     let e = bytes_of (dynamic_fields w d) in
     let t = strings d in
@@ -169,7 +153,7 @@ entries_are w spec width h short =
     let es = entries address d in
     let front = a ++ b ++ c ++ e in
     let split : made_of w spec ≡ front ++ (entries_bytes w es ++ t) = split_five a b c e (bytes_of (section_fields w d)) t in
-    let head_size = length_header w spec.etype (machine_of spec.abi) width in
+    let head_size = length_header w spec.etype spec.abi width in
     let load_size = length_program_header w 1 0 (size w d) 0x1000 width in
     let dyn_size = length_program_header w 2 (section_at w) (section_size w d) w width in
     let here : length front ≡ section_at w + 0 * (2 * w) = omega (arith, length-append (a ++ b ++ c) e, length-append (a ++ b) c, length-append a b) in
@@ -295,7 +279,7 @@ good w spec of_abi width h length_is short =
     let all_entries : read_entries w bytes ≡ live_of address d = ap (λ o. option_map_or (dynamic_entries w bytes) o []) found ∙ entries_are w spec width h short in
     let say = says address spec h in
     let small = lengths_small w width in
-    let front = identification (class_of spec.abi) ++ bytes_of (header_fields w spec.etype (machine_of spec.abi)) ++ bytes_of (load_fields w d) ++ bytes_of (dynamic_fields w d) ++ bytes_of (section_fields w d) in
+    let front = identification (class_of spec.abi) ++ bytes_of (header_fields w spec.etype spec.abi) ++ bytes_of (load_fields w d) ++ bytes_of (dynamic_fields w d) ++ bytes_of (section_fields w d) in
     let front_size : strings_at w d + base ≡ length front + base = omega (arith, length_is, length-append front (strings d)) in
     let in_load = table_there bytes front (strings d) (section w d) address refl (omega (arith, strings_size d)) front_size in
     let the_load : load (length bytes) ∷ section w d ∷ [] ≡ segments w bytes = ap (λ n. load n ∷ section w d ∷ []) length_is ∙ sym both in
@@ -308,7 +292,9 @@ good w spec of_abi width h length_is short =
       known = known_class spec.abi;
       little = refl;
       full = not_less (header_length w) (length bytes) size_is;
-      abi_is = ap (λ m. abi_of_elf m (class_of spec.abi)) heads.machine_is ∙ known_abi spec.abi;
+      abi_is = ap (λ m. abi_of_elf m (class_of spec.abi) (eflags (width spec) bytes)) heads.machine_is
+          ∙ ap (abi_of_elf (machine_of spec.abi) (class_of spec.abi)) (ap (λ v. eflags v bytes) (sym of_abi) ∙ heads.eflags_is)
+          ∙ known_abi spec.abi;
       etype_is = heads.etype_is;
       loadable = ap (λ e. (e == 2) || (e == 3)) heads.etype_is ∙ Fits.etype (fits spec h);
       headers = headers_fit (phnum w bytes) (phentsize w bytes) (phoff w bytes) (program_header_length w) (length bytes) heads.phnum_is heads.phentsize_is (omega (arith, heads.phoff_is, length_is));

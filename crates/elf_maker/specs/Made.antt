@@ -4,7 +4,8 @@
 use Rattle.std.specs.Prelude.{ℕ, ◌+◌, ◌*◌, Bool, true, false, ◌==◌, ◌&&◌, ◌||◌, List, [], ◌∷◌, ◌++◌, length, Some}
 use Rattle.std.specs.List.{flat_map, list_all}
 use Rattle.std.specs.Option.{option_map_or}
-use Rattle.lib_types.specs.Abi.{machine_of, class_of}
+use Rattle.lib_types.specs.Abi.{machine_of, class_of, row_of}
+use Rattle.lib_types.specs.declared.abi.Abi.{Abi}
 use Rattle.lib_types.specs.Name.{is_name}
 use Rattle.elf_headers.specs.Layout.{word_size, at_class, header_length, program_header_length}
 use Rattle.elf_headers.specs.Header.{magic}
@@ -76,10 +77,10 @@ abbrev pub identification : ℕ → List ℕ
 identification class = magic ++ class ∷ 1 ∷ 1 ∷ 0 ∷ 0 ∷ 0 ∷ 0 ∷ 0 ∷ 0 ∷ 0 ∷ 0 ∷ 0 ∷ []
 
 -- the rest of the file header, from e_type on; there are no sections and no entry point
-abbrev pub header_fields : ℕ → ℕ → ℕ → List Field
-header_fields w etype machine =
+abbrev pub header_fields : ℕ → ℕ → Abi → List Field
+header_fields w etype abi =
     (2, etype)
-    ∷ (2, machine)
+    ∷ (2, machine_of abi)
     -- e_version
     ∷ (4, 1)
     -- e_entry
@@ -89,7 +90,7 @@ header_fields w etype machine =
     -- e_shoff
     ∷ (w, 0)
     -- e_flags
-    ∷ (4, 0)
+    ∷ (4, (row_of abi).bits)
     -- e_ehsize, e_phentsize and e_phnum
     ∷ (2, header_length w)
     ∷ (2, program_header_length w)
@@ -130,7 +131,7 @@ section_fields w d = flat_map (entry_fields w) (entries (strings_at w d + base) 
 abbrev pub made_of : ℕ → Spec → List ℕ
 made_of w spec =
     identification (class_of spec.abi)
-    ++ bytes_of (header_fields w spec.etype (machine_of spec.abi))
+    ++ bytes_of (header_fields w spec.etype spec.abi)
     ++ bytes_of (load_fields w spec.dynamic)
     ++ bytes_of (dynamic_fields w spec.dynamic)
     ++ bytes_of (section_fields w spec.dynamic)

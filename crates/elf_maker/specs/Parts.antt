@@ -5,6 +5,7 @@ use Rattle.std.specs.Option.{MatchOption}
 use Rattle.elf_dynamic.specs.declared.kinds.DynamicEntry.{DynamicEntry}
 use Rattle.elf_dynamic.specs.declared.kinds.Dynamic.{Dynamic}
 use Rattle.elf_dynamic.specs.Section.{needed}
+use Rattle.elf_dynamic.specs.declared.text.TheConstants.{TEXT_LIMIT}
 use Rattle.elf_maker.specs.declared.kinds.Spec.{Spec}
 use Rattle.elf_maker.specs.declared.layout.Layout.{Layout}
 use Rattle.elf_maker.specs.Fields.{bytes_of}
@@ -15,9 +16,9 @@ abbrev pub IsWidth : ℕ → Type 0
 IsWidth w = (w ≡ 4) ⊎ (w ≡ 8)
 
 abbrev pub IsShort : List ℕ → Type 0
-IsShort text = length text ≤ 65535
+IsShort text = length text < TEXT_LIMIT
 
--- no text has more than 65535 bytes
+-- each text is shorter than what is searched for its NUL
 pub record AreShort (d : Dynamic) : Type 0 where
   pub needed : All IsShort d.needed
   pub soname : IfSome d.soname IsShort

@@ -1,14 +1,15 @@
 -- The texts of a dynamic section that is made, their string table, and the entries that name them (gABI, "Dynamic Section"
 -- and "String Table").
-use Rattle.std.specs.Prelude.{ℕ, ◌+◌, Bool, ◌&&◌, not, nat_le, List, [], ◌∷◌, ◌++◌, length, map, Option, Some, None}
+use Rattle.std.specs.Prelude.{ℕ, ◌+◌, Bool, ◌&&◌, not, nat_lt, List, [], ◌∷◌, ◌++◌, length, map, Option, Some, None}
 use Rattle.std.specs.List.{flat_map, list_any}
 use Rattle.elf_dynamic.specs.declared.kinds.DynamicEntry.{DynamicEntry}
 use Rattle.elf_dynamic.specs.declared.kinds.Dynamic.{Dynamic}
 use Rattle.elf_dynamic.specs.Section.{needed, soname, rpath, runpath, is_nul}
+use Rattle.elf_dynamic.specs.declared.text.TheConstants.{TEXT_LIMIT}
 
 -- a text without NUL whose end is looked for far enough
 abbrev pub is_text : List ℕ → Bool
-is_text text = not (list_any is_nul text) && nat_le (length text) 65535
+is_text text = not (list_any is_nul text) && nat_lt (length text) TEXT_LIMIT
 
 -- a tag and the text that its entry names
 abbrev pub Tagged : Type 0

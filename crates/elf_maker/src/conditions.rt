@@ -7,10 +7,11 @@ ghost use Rattle.elf_maker.specs.Texts.{is_text};
 ghost use Rattle.elf_maker.specs.Made.{is_spec};
 
 use crate::kinds::Spec;
+use elf_dynamic::TEXT_LIMIT;
 use lib_types::{Text, is_name};
 
 // The most bytes of a text, one less than those that are searched for its NUL.
-const TEXT_MAX: usize = 65535;
+const TEXT_MAX: usize = TEXT_LIMIT as usize - 1;
 
 fn is_text(text: &[u8]) -> bool
     ensures { result ≡ is_text text.now }
@@ -42,7 +43,7 @@ fn is_optional_name(name: &Option<Text>) -> bool
     }
 }
 
-/// Whether `make` takes it: `etype` is 2 or 3, no text has a NUL or more than 65535 bytes, and a soname is a name.
+/// Whether `make` takes it: `etype` is 2 or 3, no text has a NUL or 65,536 bytes or more, and a soname is a name.
 #[tactic(auto, unfolding(crate::specs::Made::is_spec))]
 pub fn is_spec(spec: &Spec) -> bool
     ensures { result ≡ is_spec spec.now }

@@ -1,6 +1,6 @@
 //! A whole file.
 ghost use Rattle.std.specs.Prelude.{◌≡◌, ◌≤◌, ◌+◌, ◌<◌, ◌^◌, ◌++◌, ◌↔◌, true, length, Ok, IfOk, OnOk, IsErrOf};
-ghost use Rattle.lib_types.specs.Abi.{machine_of, class_of};
+ghost use Rattle.lib_types.specs.Abi.{class_of};
 ghost use Rattle.elf_dynamic.specs.Object.{object};
 ghost use Rattle.elf_maker.specs.Fields.{bytes_of};
 ghost use Rattle.elf_maker.specs.Made.{identification, header_fields, program_header_fields, is_spec, made, object_of};
@@ -9,7 +9,7 @@ ghost use Rattle.elf_maker.specs.Parts.{IsWidth, IsLayoutOf};
 use crate::MakeFault;
 use crate::fields::put_fields;
 use crate::kinds::Spec;
-use crate::layout::{Layout, address_of, at_class, elf_row, layout_of};
+use crate::layout::{Layout, address_of, at_class, layout_of};
 use crate::section::put_section;
 use crate::strings::put_strings;
 use lib_types::{Abi, NoMemory};
@@ -37,24 +37,25 @@ fn put_identification(out: &mut Vec<u8>, class: u8) -> Result<(), NoMemory>
 }
 
 // The file header behind the identification.
-fn put_header(out: &mut Vec<u8>, w: usize, etype: u16, machine: u16) -> Result<(), NoMemory>
+fn put_header(out: &mut Vec<u8>, w: usize, etype: u16, abi: Abi) -> Result<(), NoMemory>
     requires { IsWidth w }
-    ensures { OnOk result (out.new.items ≡ out.old.items ++ bytes_of (header_fields w etype machine)) }
+    ensures { OnOk result (out.new.items ≡ out.old.items ++ bytes_of (header_fields w etype abi)) }
 {
+    let row = abi.row();
     let header = at_class(w, 52, 64) as u64;
     let program_header = at_class(w, 32, 56) as u64;
     put_fields(
         out,
         &[
             (2, u64::from(etype)),
-            (2, u64::from(machine)),
+            (2, u64::from(row.machine)),
             (4, u64::from(EV_CURRENT)),
             // e_entry, e_phoff and e_shoff
             (w, 0),
             (w, header),
             (w, 0),
             // e_flags
-            (4, 0),
+            (4, u64::from(row.bits)),
             // e_ehsize, e_phentsize and e_phnum
             (2, header),
             (2, program_header),
@@ -106,9 +107,9 @@ fn put_file(out: &mut Vec<u8>, layout: &Layout, spec: &Spec) -> Result<(), NoMem
     ensures { OnOk result (out.new.items ≡ out.old.items ++ made spec.now) }
 {
     let w = layout.w;
-    let (machine, class) = elf_row(spec.abi);
+    let class = spec.abi.row().class;
     put_identification(out, class)?;
-    put_header(out, w, spec.etype, machine)?;
+    put_header(out, w, spec.etype, spec.abi)?;
     let size = layout.strings + layout.strings_size;
     put_program_header(out, w, PT_LOAD, 0, size, PAGE)?;
     put_program_header(

@@ -1,8 +1,9 @@
 //! How long the parts of a file are, and where they are.
 ghost use Rattle.std.specs.Prelude.{◌≡◌, ◌≤◌, ◌<◌, ◌+◌, ◌^◌, ◌==◌, All, length, map, IfSome};
 ghost use Rattle.std.specs.Option.{MatchOption};
-ghost use Rattle.lib_types.specs.Abi.{class_of, machine_of};
+ghost use Rattle.lib_types.specs.Abi.{class_of};
 ghost use Rattle.elf_headers.specs.Layout.{at_class, word_size};
+ghost use Rattle.elf_dynamic.specs.declared.text.TheConstants.{TEXT_LIMIT};
 ghost use Rattle.elf_maker.specs.Texts.{ended_texts, tagged, strings, tagged_if};
 ghost use Rattle.elf_maker.specs.Made.{width, base, entry_count, size};
 ghost use Rattle.elf_maker.specs.Parts.{IsSizeIfFit, IsShort, AreShort, IsWidth, IsLayoutOf, needed_texts};
@@ -27,25 +28,12 @@ pub(crate) struct Layout {
     pub strings_size: u64,
 }
 
-// The machine and the class of an ABI.
-pub(crate) fn elf_row(abi: Abi) -> (u16, u8)
-    ensures { result ≡ (machine_of abi, class_of abi) }
-{
-    match abi {
-        Abi::I386 => (3, 1),
-        Abi::X86_64 => (62, 2),
-        Abi::X32 => (62, 1),
-        Abi::Aarch64 => (183, 2),
-    }
-}
-
 // The size of an address.
 fn width_of(abi: Abi) -> usize
     ensures width { IsWidth result }
     ensures abi { result ≡ word_size (class_of abi == 2) }
 {
-    let (_, class) = elf_row(abi);
-    if class == 2 { 8 } else { 4 }
+    if abi.row().class == 2 { 8 } else { 4 }
 }
 
 // The address of a byte in memory, by its offset.
@@ -83,7 +71,7 @@ fn size_of_needed(texts: &[Text]) -> Option<u64>
 fn size_of_optional(text: &Option<Text>) -> u64
     requires { IfSome text.now IsShort }
     ensures size { result ≡ length (ended_texts (tagged_if 0 text.now)) }
-    ensures short { result ≤ 65536 }
+    ensures short { result ≤ TEXT_LIMIT }
 {
     match text {
         Some(text) => text.as_bytes().len() as u64 + 1,

@@ -9,7 +9,7 @@ use Rattle.lib_types.proofs.Parting.{cut_at, cut_nowhere}
 use Rattle.lib_types.proofs.SortedPairs.{by_test}
 use Rattle.lib_types.specs.Name.{is_name, slash}
 use Rattle.image_tree.proofs.Prefixes.{parts_joined}
-use Rattle.image_tree.proofs.Names.{before_none, before_some}
+use Rattle.lib_types.proofs.Ends.{before_none, before_position}
 use Rattle.tree_face.proofs.Pairs.{position_within}
 use Rattle.image_tree.proofs.Rising.{below_rest}
 use Rattle.image_tree.specs.Paths.{are_names, folder, is_below, is_path, is_slash, name_behind, root, stem}
@@ -23,10 +23,10 @@ first_name : (bytes : List ℕ) → are_names bytes ≡ true → is_name (before
 first_name bytes all = elim (position is_slash bytes) as (λ o. position is_slash bytes ≡ o → is_name (before_first is_slash bytes) ≡ true) [
   | None ↦ λ e.
       let one : are_names bytes ≡ list_all is_name (bytes ∷ []) = ap (list_all is_name) (cut_nowhere is_slash bytes e) in
-      subst (λ (z : List ℕ). is_name z ≡ true) (before_none is_slash bytes (sym e)) (and_parts _ _ (sym one ∙ all)).0
+      subst (λ (z : List ℕ). is_name z ≡ true) (before_none is_slash bytes e) (and_parts _ _ (sym one ∙ all)).0
   | Some n ↦ λ e.
       let within : n < length bytes = subst (λ o. IfSome o (λ i. i < length bytes)) e (position_within is_slash bytes) in
-      subst (λ (z : List ℕ). is_name z ≡ true) (before_some is_slash bytes n (sym e)) (and_parts _ _ (sym (ap (list_all is_name) (cut_at is_slash bytes n within e)) ∙ all)).0
+      subst (λ (z : List ℕ). is_name z ≡ true) (before_position is_slash bytes n e) (and_parts _ _ (sym (ap (list_all is_name) (cut_at is_slash bytes n within e)) ∙ all)).0
 ] refl
 
 rest_named : (front rest : List ℕ) → are_names (drop 1 (front ++ slash ∷ rest)) ≡ true → are_names rest ≡ true

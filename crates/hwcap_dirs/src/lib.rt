@@ -3,6 +3,8 @@
 
 mod kinds;
 mod listing;
+mod system;
 
 pub use kinds::{Dirs, Place, Places, SPELLED_MAX};
 pub use listing::order;
+pub use system::{SYSTEM_DIRS, next_system_dir};

@@ -8,6 +8,7 @@ ghost use Rattle.image_tree.specs.declared.path.TheConstants.{PATH_MAX};
 ghost use Rattle.hwcap_dirs.specs.Places.{absent, are_dirs, are_spelled, dir_at, hwcap_places, is_dir, is_hidden, place_of_name, places, places_of, system_dirs};
 
 use crate::kinds::{Dirs, Place, Places};
+use crate::system::next_system_dir;
 use lib_types::{NoMemory, Text, Texts};
 use path_walk::{Mode, WalkFault, join, resolve};
 use std::alloc::Global;
@@ -147,10 +148,11 @@ impl Gathering {
     fn add_system(&mut self, alloc: Global, tree: &Tree) -> Result<(), NoMemory>
         ensures { OnOk result (self.new.places ≡ all_places tree.now self.old.met self.old.places system_dirs) }
     {
-        self.add(alloc, tree, b"/lib")?;
-        self.add(alloc, tree, b"/usr/lib")?;
-        self.add(alloc, tree, b"/lib64")?;
-        self.add(alloc, tree, b"/usr/lib64")?;
+        let mut done = 0;
+        while let Some((dir, next)) = next_system_dir(done) {
+            self.add(alloc, tree, dir)?;
+            done = next;
+        }
         Ok(())
     }
 }

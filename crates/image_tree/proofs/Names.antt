@@ -71,21 +71,6 @@ pub below_root : (t : Nodes) → list_all is_entry t ≡ true → take_while (λ
 below_root t all = taken_first (λ (e : List ℕ × Node). is_below root e.0) t
     (λ i j d h l e. AllPass-from_list_all (λ (e : List ℕ × Node). is_below root e.0) t (all_below_root t all) i d (omega arith))
 
--- ---- the first name of a path
-
-module _ {X : Type 0} (p : X → Bool) (xs : List X) where
-  pub before_some : (n : ℕ) → Some n ≡ position p xs → take n xs ≡ before_first p xs
-  before_some n h = by_test (nat_lt (position_or_len p xs) (length xs))
-      (λ e.
-      let f : Some n ≡ Some (position_or_len p xs) = h ∙ ap (λ b. cond b (Some (position_or_len p xs)) None) e in
-      let g : n ≡ position_or_len p xs = cc in ap (λ k. take k xs) g)
-      (λ e. let f : Some n ≡ None = h ∙ ap (λ b. cond b (Some (position_or_len p xs)) None) e in absurd (cc))
-
-  pub before_none : None ≡ position p xs → xs ≡ before_first p xs
-  before_none h = by_test (nat_lt (position_or_len p xs) (length xs))
-      (λ e. let f : None ≡ Some (position_or_len p xs) = h ∙ ap (λ b. cond b (Some (position_or_len p xs)) None) e in absurd (cc))
-      (λ e. let long : length xs ≤ position_or_len p xs = grind (arith, nat_tests) in sym (take_all (position_or_len p xs) xs long))
-
 -- ---- the entries of one child
 
 child_first : (folder : List ℕ) (e : List ℕ × Node) (t : Nodes) → starts_with nat_eq e.0 folder ≡ true → children_behind folder (e ∷ t) ≡ child_at (length folder) e ∷ children_behind folder t

@@ -10,8 +10,8 @@ use Rattle.image_tree.specs.declared.tree.row.Row.{Row}
 abbrev pub AreWithin : ℕ → List Part → Type 0
 AreWithin count parts = AllByRecursion (IsWithin count) parts
 
-abbrev pub parts_of : List Row → List Part
-parts_of rows = map (λ row. row.part) rows
+abbrev pub parts_in_rows : List Row → List Part
+parts_in_rows rows = map (λ row. row.part) rows
 
 abbrev pub nodes_of : List Row → List Node
 nodes_of rows = map (λ row. row.node) rows

@@ -1,10 +1,10 @@
 //! Paths of a tree and their order.
-ghost use Rattle.std.specs.Prelude.{◌≡◌, ◌≢◌, ℕ, ◌+◌, ◌==◌, ◌^◌, ◌<◌, ◌≤◌, IfSome, IsTrue, length, drop, nat_eq};
-ghost use Rattle.image_tree.specs.Paths.{is_path, is_kept, is_slash, are_names, path_cmp, path_rank, stem, folder, is_below, is_above, name_behind};
-ghost use Rattle.std.specs.List.{before_first, position, starts_with};
+ghost use Rattle.std.specs.Prelude.{◌≡◌, ◌≢◌, ℕ, ◌+◌, ◌==◌, ◌^◌, ◌<◌, ◌≤◌, IsTrue, length, drop, nat_eq};
+ghost use Rattle.image_tree.specs.Paths.{is_path, is_kept, are_names, path_cmp, path_rank, stem, folder, is_below, is_above, name_behind};
+ghost use Rattle.std.specs.List.{starts_with};
 ghost use Rattle.std.specs.Ordering.{nat_cmp};
 
-use lib_types::{are_same, equal_len, is_name};
+use lib_types::{are_same, before_byte, equal_len, is_name};
 use std::cmp::Ordering;
 
 /// The most bytes of a path.
@@ -78,7 +78,7 @@ pub(crate) fn begins_with(path: &[u8], front: &[u8]) -> bool
 
 /// Whether the other path lies below this one, which one byte shows of most that don't.
 #[tactic(auto, using(crate::proofs::Fronts::below_laws))]
-pub(crate) fn is_below(path: &[u8], other: &[u8]) -> bool
+pub fn is_below(path: &[u8], other: &[u8]) -> bool
     ensures { result ≡ is_below path.now other.now }
 {
     let front = stem(path);
@@ -117,23 +117,7 @@ pub(crate) fn name_from(path: &[u8], start: usize) -> &[u8]
     ensures { result.now ≡ name_behind start path.now }
 {
     match path.get(start..) {
-        Some(rest) => first_name(rest),
+        Some(rest) => before_byte(b'/', rest),
         None => b"",
     }
-}
-
-fn first_name(bytes: &[u8]) -> &[u8]
-    ensures { result.now ≡ before_first is_slash bytes.now }
-{
-    match first_slash(bytes) {
-        Some(n) => &bytes[..n],
-        None => bytes,
-    }
-}
-
-fn first_slash(bytes: &[u8]) -> Option<usize>
-    ensures index { result ≡ position is_slash bytes.now }
-    ensures within { IfSome result (λ n. n < length bytes.now) }
-{
-    bytes.iter().position(|&b| b == b'/')
 }

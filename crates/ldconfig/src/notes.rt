@@ -1,14 +1,17 @@
 //! Lines on the error output about an update that was done, and about what was too large.
 use crate::advice::{SHOWN, cause_of, fewer};
+use cache_layout::ENTRIES_MAX;
 use command_runs::Status;
 use device_rules::machine_name;
+use hwcap_dirs::{SYSTEM_DIRS, next_system_dir};
 use image_folder::HeldFile;
-use mtree_manifest::ManifestFault;
+use mtree_manifest::{ManifestFault, TEXT_MAX};
 use slot_files::Written;
 use standard_streams::{Streams, printable, write_text};
 use std::alloc::AllocError;
 use std::io;
 use std::rt::Runtime;
+use tree_face::NODES_MAX;
 use tree_real::{FolderDisk, FolderStore, Machines};
 
 /// Says what is remarkable about an update that was done. A cache is written only by an update.
@@ -29,12 +32,30 @@ pub fn note_update<R: Runtime + Streams>(
         write_text(rt, line.as_str())?;
     }
     if !store.has_read_conf() {
-        write_text(
-            rt,
-            "ldconfig: etc/ld.so.conf: none was read, so only /lib, /usr/lib, /lib64 and /usr/lib64 are searched\n",
+        let dirs = system_dirs(rt)?;
+        let line = format!(in rt.alloc();
+            "ldconfig: etc/ld.so.conf: none was read, so only {dirs} are searched\n"
         )?;
+        write_text(rt, line.as_str())?;
     }
     note_machines(rt, store.machines())
+}
+
+// The system's directories in their order, as a sentence lists them.
+fn system_dirs<R: Runtime>(rt: &R) -> Result<String<R::A>, AllocError> {
+    let mut text = String::new(rt.alloc());
+    for done in 0..SYSTEM_DIRS {
+        let between = match done {
+            0 => "",
+            n if n + 1 == SYSTEM_DIRS => " and ",
+            _ => ", ",
+        };
+        if let Some((dir, _)) = next_system_dir(done) {
+            text.push_str(between)?;
+            text.push_str(std::str::from_utf8(dir).unwrap_or(""))?;
+        }
+    }
+    Ok(text)
 }
 
 // A manifest without a line has at most this many bytes.
@@ -71,20 +92,21 @@ pub fn note_size<R: Runtime + Streams>(
     length: Option<u64>,
 ) -> io::Result<()> {
     let alloc = rt.alloc();
+    let (most_entries, most_nodes, most_bytes) = (ENTRIES_MAX, NODES_MAX, TEXT_MAX);
     let line = match status {
         Status::TooMany { count } => format!(in alloc;
-            "ldconfig: etc/ld.so.cache: the image has {count} libraries, and a cache at most 131072\n"
+            "ldconfig: etc/ld.so.cache: the image has {count} libraries, and a cache at most {most_entries}\n"
         )?,
         Status::TooLarge { nodes, bytes: 0 } => format!(in alloc;
-            "ldconfig: image.mtree: with the links of its libraries it would have {nodes} nodes, and it may have 1048576\n"
+            "ldconfig: image.mtree: with the links of its libraries it would have {nodes} nodes, and it may have {most_nodes}\n"
         )?,
         Status::TooLarge { bytes, .. } => format!(in alloc;
-            "ldconfig: image.mtree: with the links of its libraries it would have {bytes} bytes, and it may have 67108864\n"
+            "ldconfig: image.mtree: with the links of its libraries it would have {bytes} bytes, and it may have {most_bytes}\n"
         )?,
         Status::BadManifest(ManifestFault::TooLong { .. }) => {
             let length = length.unwrap_or(0);
             format!(in alloc;
-                "ldconfig: image.mtree: it has {length} bytes, and may have 67108864\n"
+                "ldconfig: image.mtree: it has {length} bytes, and may have {most_bytes}\n"
             )?
         }
         _ => return Ok(()),
@@ -107,9 +129,11 @@ where
         ManifestFault::TooLong { .. } | ManifestFault::NoMemory => return Ok(()),
     };
     let line = disk.manifest_line(rt.alloc(), number)?;
-    let cause = match kind {
-        Some(kind) => cause_of(kind, &line),
-        None => cause_of_tree(fault),
+    let too_many = too_many(rt)?;
+    let cause = match (kind, fault) {
+        (Some(kind), _) => cause_of(kind, &line),
+        (None, ManifestFault::Clash { .. }) => "something would stand below a file or a link",
+        (None, _) => too_many.as_str(),
     };
     let shown = escaped(rt, &line)?;
     let dots = if line.len() > SHOWN { ".." } else { "" };
@@ -119,11 +143,9 @@ where
     write_text(rt, lines.as_str())
 }
 
-fn cause_of_tree(fault: ManifestFault) -> &'static str {
-    match fault {
-        ManifestFault::Clash { .. } => "something would stand below a file or a link",
-        _ => "the image would have more than 1048576 nodes",
-    }
+fn too_many<R: Runtime>(rt: &R) -> Result<String<R::A>, AllocError> {
+    let most = NODES_MAX;
+    format!(in rt.alloc(); "the image would have more than {most} nodes")
 }
 
 // The first bytes of a line: what isn't printable ASCII is written as the number of the byte.

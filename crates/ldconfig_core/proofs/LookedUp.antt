@@ -20,7 +20,7 @@ use Rattle.cache_entries.specs.Entries.{AreEntriesOf, entry_order}
 use Rattle.cache_entries.specs.Led.{is_entry_of, path_among}
 use Rattle.cache_entries.specs.Walk.{first_value, in_turn, is_same_abi, is_same_cap}
 use Rattle.cache_layout.specs.Layout.{is_named, name_index}
-use Rattle.cache_lookup.specs.Scan.{AreDescending, chosen, first_for, is_candidate, is_for, is_plain, path_at, scan, uses}
+use Rattle.cache_lookup.specs.Scan.{AreDescending, chosen, first_for, is_candidate, is_for, has_no_hwcap, path_at, scan, uses}
 use Rattle.cache_reader.specs.Cache.{CachedEntry, cap_of, entry_at, hwcap, indexes, name_offsets, read, text_at}
 use Rattle.cache_writer.specs.CacheText.{hwcap_of, hwcaps_names}
 use Rattle.cache_writer.specs.ReadBack.{as_read}
@@ -144,7 +144,7 @@ module _ (names : List (List ℕ)) where
 
       same_paths : (caps : List (List ℕ)) → first_value (path_of_use read_entries (is_candidate name abi)) (uses caps) ≡ first_value (path_among entries name abi) (in_turn caps)
       same_paths [] =
-          ap (λ o. option_or o None) (find_read (λ e. is_candidate name abi e && is_plain e) (is_entry_of name abi None) (λ e m. same_test e None _ (used_plain e.cap m)) entries all)
+          ap (λ o. option_or o None) (find_read (λ e. is_candidate name abi e && has_no_hwcap e) (is_entry_of name abi None) (λ e m. same_test e None _ (used_plain e.cap m)) entries all)
       same_paths (cap ∷ caps) =
           ap (λ o. option_or o (first_value (path_of_use read_entries (is_candidate name abi)) (uses caps)))
           (find_read (λ e. is_candidate name abi e && is_for cap e) (is_entry_of name abi (Some cap)) (λ e m. same_test e (Some cap) _ (used_for cap e.cap m)) entries all)

@@ -7,7 +7,7 @@ use Rattle.cache_entries.proofs.InOneOrder.{one_list_is}
 use Rattle.cache_entries.proofs.Single.{one_list}
 use Rattle.cache_entries.specs.Entries.{AreEntriesOf}
 use Rattle.cache_writer.specs.CacheText.{cache_text}
-use Rattle.cache_writer.specs.declared.writer.TheConstants.{ENTRIES_MAX}
+use Rattle.cache_layout.specs.declared.limits.TheConstants.{ENTRIES_MAX}
 use Rattle.elf_dynamic.specs.Begun.{lacks_one}
 use Rattle.image_tree.specs.declared.tree.TheConstants.{NODES_MAX}
 use Rattle.ldso_conf.specs.Reading.{conf_lacks}

@@ -3,7 +3,7 @@ use Rattle.std.proofs.Common.{◌≡◌, ◌⊎◌, inl, inr, ◌≤◌, ◌<◌
 use Rattle.std.proofs.lemmas.List.Sorted.{length_permutation}
 use Rattle.aux_cache.specs.AuxText.{aux_text}
 use Rattle.cache_entries.specs.Entries.{AreEntriesOf}
-use Rattle.cache_writer.specs.declared.writer.TheConstants.{ENTRIES_MAX}
+use Rattle.cache_layout.specs.declared.limits.TheConstants.{ENTRIES_MAX}
 use Rattle.lib_types.specs.declared.entry.Entry.{Entry}
 use Rattle.tree_face.proofs.StoreUse.{reads_all}
 use Rattle.tree_face.specs.Known.{IfKnown}

@@ -6,7 +6,7 @@ use Rattle.aux_cache.specs.AuxText.{aux_text}
 use Rattle.aux_cache.specs.declared.stamps.Stamp.{Stamp}
 use Rattle.cache_entries.specs.Entries.{AreEntriesOf, found}
 use Rattle.cache_writer.specs.CacheText.{cache_text}
-use Rattle.cache_writer.specs.declared.writer.TheConstants.{ENTRIES_MAX}
+use Rattle.cache_layout.specs.declared.limits.TheConstants.{ENTRIES_MAX}
 use Rattle.file_stamps.specs.Files.{what_is}
 use Rattle.elf_dynamic.specs.Begun.{file_keys, key_in, lacks_one}
 use Rattle.hwcap_dirs.specs.Places.{places}

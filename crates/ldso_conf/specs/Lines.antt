@@ -1,7 +1,7 @@
 -- The lines of a conf file (ldconfig(8)): directories, `include` and `hwcap`.
 use Rattle.std.specs.Prelude.{ℕ, Bool, false, List, [], ◌∷◌, ◌==◌, not, nat_eq, if◌then◌else◌, filter, length, drop, Option, Some, None, codes}
 use Rattle.std.specs.List.{before_first, slice_split, starts_with}
-use Rattle.text_parts.specs.Bytes.{is_in, line_feed, blanks, spaces, without_front, without_end}
+use Rattle.lib_types.specs.Sets.{is_in, line_feed, blanks, spaces, without_front, without_end}
 
 abbrev pub hash : List ℕ
 hash = codes "#"

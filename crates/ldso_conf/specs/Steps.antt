@@ -3,7 +3,7 @@ use Rattle.std.specs.Prelude.{ℕ, List, [], ◌∷◌, ◌==◌, if◌then◌el
 use Rattle.std.specs.List.{list_any}
 use Rattle.image_tree.specs.Paths.{root}
 use Rattle.image_tree.specs.Tree.{Nodes}
-use Rattle.text_parts.specs.Bytes.{is_in, slashes, without_end}
+use Rattle.lib_types.specs.Sets.{is_in, slashes, without_end}
 use Rattle.ldso_conf.specs.Lines.{lines_of, text_of, words_of, arguments_of, include, hwcap, equals, before_equals}
 use Rattle.conf_patterns.specs.Patterns.{Found, is_absolute, results}
 use Rattle.ldso_conf.specs.declared.kinds.ConfKind.{ConfKind}

@@ -3,7 +3,7 @@ ghost use Rattle.std.specs.Prelude.{◌≡◌};
 ghost use Rattle.std.specs.Option.{option_copied};
 ghost use Rattle.ldso_conf.specs.Lines.{arguments_of, before_equals, begins_in, text_of};
 
-use text_parts::trim::{before_first, behind, is_in, without_end, without_front};
+use lib_types::trim::{after, before_first, is_in, without_end, without_front};
 
 /// A line without its comment, and without white space at both ends.
 pub(crate) fn text_of(line: &[u8]) -> &[u8]
@@ -26,7 +26,7 @@ pub(crate) fn arguments_of<'a>(keyword: &[u8], text: &'a [u8]) -> Option<&'a [u8
     if !text.starts_with(keyword) {
         return None;
     }
-    let rest = behind(text, keyword.len());
+    let rest = after(text, keyword.len());
     if begins_in(b" \t", rest) {
         Some(rest)
     } else {

@@ -5,10 +5,9 @@ ghost use Rattle.ldso_conf.specs.Steps.{directory_steps, include_steps, included
 use crate::kinds::{ConfKind, ConfReport};
 use crate::lines::{arguments_of, before_equals, text_of};
 use conf_patterns::patterns::{Results, is_absolute, results};
-use lib_types::{NoMemory, Text};
+use lib_types::trim::{has_one, without_end};
+use lib_types::{NoMemory, Separator, Text, split};
 use std::alloc::Global;
-use text_parts::parts::split;
-use text_parts::trim::{has_one, without_end};
 use tree_face::Tree;
 
 /// A conf file: its path as it is spelled, and the place to which that leads.
@@ -93,7 +92,7 @@ fn add_included(
 ) -> Result<(), NoMemory>
     ensures { OnOk result (steps.new.items ≡ steps.old.items ++ include_steps tree.now file.now patterns.now) }
 {
-    for pattern in split(b" \t", patterns) {
+    for pattern in split(Separator::In(b" \t"), patterns) {
         if !pattern.is_empty() {
             add_results(results(alloc, tree, file, pattern)?, steps)?;
         }
@@ -131,7 +130,7 @@ pub(crate) fn steps_of(
     ensures { IfOk result (λ steps. steps.items ≡ steps_of tree.now file.now content.now) }
 {
     let mut steps = Vec::new(alloc);
-    for line in split(b"\n", content) {
+    for line in split(Separator::In(b"\n"), content) {
         add_text(alloc, tree, file, text_of(line), &mut steps)?;
     }
     Ok(steps)

@@ -1,11 +1,13 @@
+pub mod Abis
 pub mod Bools
 pub mod ByteOrder
+pub mod Ends
 pub mod EqualFront
 pub mod Fields
 pub mod FirstByte
+pub mod Offsets
 pub mod OneSize
 pub mod Parting
-pub mod Parts
 pub mod Plain
 pub mod Prefixes
 pub mod SameBytes

@@ -2,7 +2,7 @@
 use Rattle.std.proofs.Common.{◌≡◌, ◌<◌, ◌≤◌, ◌+◌, ◌-◌, ℕ, Bool, true, false, not, cond, ltb, List, [], ◌∷◌, length, take, drop, Some, None, ap, sym, refl, ◌∙◌, arith}
 use Rattle.std.specs.List.{slice_split, onto_first, position, position_or_len}
 use Rattle.std.proofs.lemmas.Bool.{ltb-true, ltb-false}
-use Rattle.std.proofs.lemmas.List.{take_all, length-drop}
+use Rattle.std.proofs.lemmas.List.{take_all, length-drop, length-take-le}
 use Rattle.std.proofs.lemmas.List.Splits.{slice_split_first, slice_split-cons_no}
 
 module _ (p : ℕ → Bool) where
@@ -33,3 +33,10 @@ module _ (p : ℕ → Bool) where
 
   pub cut_nowhere : (bytes : List ℕ) → position p bytes ≡ None → slice_split p bytes ≡ bytes ∷ []
   cut_nowhere bytes e = nowhere bytes (at_end bytes (ltb (position_or_len p bytes) (length bytes)) refl e)
+
+-- what is after the byte at an index
+pub rest_is : (bytes : List ℕ) (n : ℕ) → n < length bytes → take (length bytes - (n + 1)) (drop (n + 1) bytes) ≡ drop (length (take n bytes) + 1) bytes
+rest_is bytes n lt =
+    let whole : take (length bytes - (n + 1)) (drop (n + 1) bytes) ≡ drop (n + 1) bytes = take_all _ _ (omega (arith, length-drop (n + 1) bytes)) in
+    let count : length (take n bytes) ≡ n = length-take-le n bytes (omega arith) in
+    whole ∙ ap (λ k. drop (k + 1) bytes) (sym count)

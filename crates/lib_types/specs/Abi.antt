@@ -1,49 +1,81 @@
--- The table of ABIs: e_machine and the class of the gABI and its supplements, the flags of glibc's dl-cache.h.
-use Rattle.std.specs.Prelude.{ℕ, List, [], ◌∷◌, ℤ, pos, ◌==◌, ◌&&◌, Option, find, codes}
+-- The table of ABIs: e_machine, the class and e_flags of the gABI and its supplements; the flags and words of glibc's dl-cache.h and
+-- print_entry; $LIB of ld.so(8); Debian's multiarch triplets.
+use Rattle.std.specs.Prelude.{◌≡◌, ℕ, List, [], ◌∷◌, ℤ, pos, ◌==◌, ◌&&◌, Option, find, codes, bit_and, Bool}
+use Rattle.std.specs.List.{list_any}
 use Rattle.std.specs.Ordering.{int_eq}
 use Rattle.std.specs.Str.{bytes_eq}
 use Rattle.lib_types.specs.declared.abi.Abi.{Abi}
+use Rattle.lib_types.specs.declared.abi.Row.{Row}
 use Rattle.lib_types.specs.declared.abi.Abi.TheVariants.{I386, X86_64, X32, Aarch64}
+
+-- the name in arguments; e_machine; the class, 1 for 32 bits and 2 for 64; the bits of e_flags that count, and what they are; the flags of
+-- a cache entry; what follows `libc6` in a printed cache; what $LIB represents; the subdirectory of Debian's libraries
+pub record AbiRow : Type 0 where
+  pub word : List ℕ
+  pub machine : ℕ
+  pub class : ℕ
+  pub mask : ℕ
+  pub bits : ℕ
+  pub flags : ℕ
+  pub printed : List ℕ
+  pub lib : List ℕ
+  pub triplet : List ℕ
+
+abbrev pub row_of : Abi → AbiRow
+row_of I386 = record {
+  word = codes "i386"; machine = 3; class = 1; mask = 0; bits = 0; flags = 0x0003; printed = []; lib = codes "lib";
+  triplet = codes "i386-linux-gnu" }
+row_of X86_64 = record {
+  word = codes "x86-64"; machine = 62; class = 2; mask = 0; bits = 0; flags = 0x0303; printed = codes ",x86-64"; lib = codes "lib64";
+  triplet = codes "x86_64-linux-gnu" }
+row_of X32 = record {
+  word = codes "x32"; machine = 62; class = 1; mask = 0; bits = 0; flags = 0x0803; printed = codes ",x32"; lib = codes "libx32";
+  triplet = codes "x86_64-linux-gnux32" }
+row_of Aarch64 = record {
+  word = codes "aarch64"; machine = 183; class = 2; mask = 0; bits = 0; flags = 0x0a03; printed = codes ",AArch64"; lib = codes "lib64";
+  triplet = codes "aarch64-linux-gnu" }
+
+-- the code's row has these values
+pub record IsRow (r : Row) (row : AbiRow) : Type 0 where
+  pub word : r.word.now ≡ row.word
+  pub machine : r.machine ≡ row.machine
+  pub class : r.class ≡ row.class
+  pub mask : r.mask ≡ row.mask
+  pub bits : r.bits ≡ row.bits
+  pub flags : r.flags ≡ pos row.flags
+  pub printed : r.printed.now ≡ row.printed
+  pub lib : r.lib.now ≡ row.lib
+  pub triplet : r.triplet.now ≡ row.triplet
 
 abbrev pub abis : List Abi
 abis = I386 ∷ X86_64 ∷ X32 ∷ Aarch64 ∷ []
 
-abbrev pub word_of : Abi → List ℕ
-word_of I386 = codes "i386"
-word_of X86_64 = codes "x86-64"
-word_of X32 = codes "x32"
-word_of Aarch64 = codes "aarch64"
-
 abbrev pub machine_of : Abi → ℕ
-machine_of I386 = 3
-machine_of X86_64 = 62
-machine_of X32 = 62
-machine_of Aarch64 = 183
+machine_of abi = (row_of abi).machine
 
 abbrev pub class_of : Abi → ℕ
-class_of I386 = 1
-class_of X86_64 = 2
-class_of X32 = 1
-class_of Aarch64 = 2
+class_of abi = (row_of abi).class
 
 abbrev pub flags_of : Abi → ℕ
-flags_of I386 = 0x0003
-flags_of X86_64 = 0x0303
-flags_of X32 = 0x0803
-flags_of Aarch64 = 0x0a03
+flags_of abi = (row_of abi).flags
 
 abbrev pub lib_of : Abi → List ℕ
-lib_of I386 = codes "lib"
-lib_of X86_64 = codes "lib64"
-lib_of X32 = codes "libx32"
-lib_of Aarch64 = codes "lib64"
+lib_of abi = (row_of abi).lib
+
+-- an ELF file with these values has the ABI of the row
+abbrev pub is_of_row : ℕ → ℕ → ℕ → AbiRow → Bool
+is_of_row machine class eflags row = (row.machine == machine) && (row.class == class) && (bit_and eflags row.mask == row.bits)
 
 -- the ABI whose row has these values, or none
+abbrev pub abi_of_elf : ℕ → ℕ → ℕ → Option Abi
+abi_of_elf machine class eflags = find (λ abi. is_of_row machine class eflags (row_of abi)) abis
+
 abbrev pub abi_of_flags : ℤ → Option Abi
 abi_of_flags flags = find (λ abi. int_eq (pos (flags_of abi)) flags) abis
 
-abbrev pub abi_of_elf : ℕ → ℕ → Option Abi
-abi_of_elf machine class = find (λ abi. (machine_of abi == machine) && (class_of abi == class)) abis
-
 abbrev pub abi_of_word : List ℕ → Option Abi
-abi_of_word word = find (λ abi. bytes_eq (word_of abi) word) abis
+abi_of_word word = find (λ abi. bytes_eq (row_of abi).word word) abis
+
+-- whether there is a row with this e_machine
+abbrev pub is_machine : ℕ → Bool
+is_machine number = list_any (λ abi. machine_of abi == number) abis

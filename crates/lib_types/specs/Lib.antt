@@ -1,7 +1,10 @@
 pub mod Abi
 pub mod Bytes
 pub mod Counts
+pub mod Defects
 pub mod Name
 pub mod Part
+pub mod Sets
+pub mod Splits
 pub mod Text
 pub mod Words

@@ -12,8 +12,8 @@ abbrev pub have_no_slash : List ℕ → Bool
 have_no_slash = list_all (λ b. not (b == slash) && not (b == 0))
 
 -- ASCII bytes of which neither is a slash or a NUL
-abbrev pub is_plain : List ℕ → Bool
-is_plain = list_all (λ b. not (b == slash) && not (b == 0) && nat_lt b 128)
+abbrev pub is_plain_ascii : List ℕ → Bool
+is_plain_ascii = list_all (λ b. not (b == slash) && not (b == 0) && nat_lt b 128)
 
 -- the folder itself, or the one above it
 abbrev pub are_dots : List ℕ → Bool

@@ -1,8 +1,8 @@
-//! The ABIs of the product, with the numbers and names of each.
+//! The ABIs, with the numbers and names of each.
 ghost use Rattle.std.specs.Prelude.{◌≡◌, pos};
-ghost use Rattle.lib_types.specs.Abi.{flags_of, lib_of, abi_of_elf, abi_of_flags, abi_of_word};
+ghost use Rattle.lib_types.specs.Abi.{IsRow, row_of, flags_of, lib_of, abi_of_elf, abi_of_flags, abi_of_word, is_machine};
 
-/// A processor's binary interface. Its numbers are those of the ELF header and of glibc's cache.
+/// A processor's binary interface.
 #[derive(Clone, Copy, Debug, PartialEq, Eq)]
 pub enum Abi {
     I386,
@@ -11,96 +11,126 @@ pub enum Abi {
     Aarch64,
 }
 
-// The table, a row for each ABI: the variant, its name in arguments, `e_machine`, the class, the flags of a cache entry, and what
-// `$LIB` stands for. Each function below expands the rows in its body.
-macro_rules! rows {
-    ($expand:ident, $value:expr) => {
-        $expand!(
-            $value,
-            (I386, b"i386", 3, 1, 0x0003, b"lib"),
-            (X86_64, b"x86-64", 62, 2, 0x0303, b"lib64"),
-            (X32, b"x32", 62, 1, 0x0803, b"libx32"),
-            (Aarch64, b"aarch64", 183, 2, 0x0a03, b"lib64")
-        )
-    };
+/// The row of an ABI in the table of all.
+#[derive(Clone, Copy)]
+pub struct Row {
+    /// Its name in the arguments of a command.
+    pub word: &'static [u8],
+    /// `e_machine` of an ELF header.
+    pub machine: u16,
+    /// The class of an ELF header: 1 for 32 bits, 2 for 64.
+    pub class: u8,
+    /// The bits of `e_flags` that count, and what they have to be.
+    pub mask: u32,
+    pub bits: u32,
+    /// The flags of a cache entry.
+    pub flags: i32,
+    /// What follows `libc6` where a cache is printed.
+    pub printed: &'static [u8],
+    /// What `$LIB` represents.
+    pub lib: &'static [u8],
+    /// The subdirectory of Debian's directories that has its libraries.
+    pub triplet: &'static [u8],
 }
 
-macro_rules! flags_of {
-    ($abi:expr, $(($name:ident, $word:literal, $machine:literal, $class:literal, $flags:literal, $lib:literal)),*) => {
-        match $abi {
-            $(Abi::$name => $flags,)*
-        }
-    };
-}
-
-macro_rules! lib_of {
-    ($abi:expr, $(($name:ident, $word:literal, $machine:literal, $class:literal, $flags:literal, $lib:literal)),*) => {
-        match $abi {
-            $(Abi::$name => $lib,)*
-        }
-    };
-}
-
-macro_rules! with_flags {
-    ($value:expr, $(($name:ident, $word:literal, $machine:literal, $class:literal, $flags:literal, $lib:literal)),*) => {
-        match $value {
-            $($flags => Some(Abi::$name),)*
-            _ => None,
-        }
-    };
-}
-
-macro_rules! of_elf_file {
-    ($value:expr, $(($name:ident, $word:literal, $machine:literal, $class:literal, $flags:literal, $lib:literal)),*) => {
-        match $value {
-            $(($machine, $class) => Some(Abi::$name),)*
-            _ => None,
-        }
-    };
-}
-
-macro_rules! with_name {
-    ($value:expr, $(($name:ident, $word:literal, $machine:literal, $class:literal, $flags:literal, $lib:literal)),*) => {
-        match $value {
-            $($word => Some(Abi::$name),)*
-            _ => None,
-        }
-    };
-}
+/// All ABIs, in the order in which they are looked up.
+pub const ABIS: [Abi; 4] = [Abi::I386, Abi::X86_64, Abi::X32, Abi::Aarch64];
 
 impl Abi {
+    /// The table.
+    pub fn row(self) -> Row
+        ensures { IsRow result (row_of self) }
+    {
+        match self {
+            Abi::I386 => Row {
+                word: b"i386",
+                machine: 3,
+                class: 1,
+                mask: 0,
+                bits: 0,
+                flags: 0x0003,
+                printed: b"",
+                lib: b"lib",
+                triplet: b"i386-linux-gnu",
+            },
+            Abi::X86_64 => Row {
+                word: b"x86-64",
+                machine: 62,
+                class: 2,
+                mask: 0,
+                bits: 0,
+                flags: 0x0303,
+                printed: b",x86-64",
+                lib: b"lib64",
+                triplet: b"x86_64-linux-gnu",
+            },
+            Abi::X32 => Row {
+                word: b"x32",
+                machine: 62,
+                class: 1,
+                mask: 0,
+                bits: 0,
+                flags: 0x0803,
+                printed: b",x32",
+                lib: b"libx32",
+                triplet: b"x86_64-linux-gnux32",
+            },
+            Abi::Aarch64 => Row {
+                word: b"aarch64",
+                machine: 183,
+                class: 2,
+                mask: 0,
+                bits: 0,
+                flags: 0x0a03,
+                printed: b",AArch64",
+                lib: b"lib64",
+                triplet: b"aarch64-linux-gnu",
+            },
+        }
+    }
+
     /// The flags of a cache entry of this ABI.
     pub fn flags(self) -> i32
         ensures { result ≡ pos (flags_of self) }
     {
-        rows!(flags_of, self)
+        self.row().flags
     }
 
     /// The ABI with these flags of a cache entry.
     pub fn of_flags(flags: i32) -> Option<Abi>
         ensures { result ≡ abi_of_flags flags }
     {
-        rows!(with_flags, flags)
+        ABIS.iter().copied().find(|abi| abi.row().flags == flags)
     }
 
     /// The ABI of an ELF file, by its `e_machine`, its class byte and its `e_flags`.
-    pub fn of_elf(machine: u16, class: u8, _eflags: u32) -> Option<Abi>
-        ensures { result ≡ abi_of_elf machine class }
+    pub fn of_elf(machine: u16, class: u8, eflags: u32) -> Option<Abi>
+        ensures { result ≡ abi_of_elf machine class eflags }
     {
-        rows!(of_elf_file, (machine, class))
+        ABIS.iter().copied().find(|abi| {
+            let row = abi.row();
+            row.machine == machine && row.class == class && eflags & row.mask == row.bits
+        })
     }
 
     /// The ABI that has this name in the arguments of a command.
     pub fn of_word(word: &[u8]) -> Option<Abi>
         ensures { result ≡ abi_of_word word.now }
     {
-        rows!(with_name, word)
+        ABIS.iter().copied().find(|abi| abi.row().word == word)
     }
 
-    /// What the loader replaces `$LIB` by.
+    /// What `$LIB` represents.
     pub fn lib(self) -> &'static [u8]
         ensures { result.now ≡ lib_of self }
     {
-        rows!(lib_of, self)
+        self.row().lib
+    }
+
+    /// Whether an ABI has this `e_machine`.
+    pub fn is_machine(number: u16) -> bool
+        ensures { result ≡ is_machine number }
+    {
+        ABIS.iter().any(|abi| abi.row().machine == number)
     }
 }

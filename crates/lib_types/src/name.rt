@@ -1,7 +1,7 @@
 //! Names of files.
 ghost use Rattle.std.specs.Prelude.{◌≡◌};
 ghost use Rattle.std.specs.Str.{is_utf8};
-ghost use Rattle.lib_types.specs.Name.{are_dots, is_name, is_plain, have_no_slash};
+ghost use Rattle.lib_types.specs.Name.{are_dots, is_name, is_plain_ascii, have_no_slash};
 
 /// The most bytes of a name (NAME_MAX of limits.h).
 pub const NAME_MAX: usize = 255;
@@ -14,7 +14,7 @@ pub fn is_name(bytes: &[u8]) -> bool
     if bytes.is_empty() || bytes.len() > NAME_MAX || are_dots(bytes) {
         return false;
     }
-    is_plain(bytes) || (have_no_slash(bytes) && is_utf8(bytes))
+    is_plain_ascii(bytes) || (have_no_slash(bytes) && is_utf8(bytes))
 }
 
 // Whether the bytes are `.` or `..`. Most names are longer, so that their length is enough.
@@ -25,8 +25,8 @@ fn are_dots(bytes: &[u8]) -> bool
 }
 
 // Whether the bytes are ASCII without a slash and a NUL. Most names are, and one pass shows it.
-fn is_plain(bytes: &[u8]) -> bool
-    ensures { result ≡ is_plain bytes.now }
+fn is_plain_ascii(bytes: &[u8]) -> bool
+    ensures { result ≡ is_plain_ascii bytes.now }
 {
     bytes.iter().all(|&b| b != b'/' && b != 0 && b < 128)
 }

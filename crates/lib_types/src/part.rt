@@ -29,7 +29,7 @@ impl Part {
     }
 
     /// Adds bytes to a text, at its end, and gives where they are.
-    #[tactic(auto, using(crate::proofs::Parts::added_is, crate::proofs::Parts::added_within, crate::proofs::Parts::not_longer))]
+    #[tactic(auto, using(crate::proofs::Offsets::added_is, crate::proofs::Offsets::added_within, crate::proofs::Offsets::not_longer))]
     pub fn add(text: &mut Vec<u8>, bytes: &[u8]) -> Result<Part, NoMemory>
         ensures longer { IsLonger text.old.items text.new.items }
         ensures added { OnOk result (text.new.items ≡ text.old.items ++ bytes.now) }

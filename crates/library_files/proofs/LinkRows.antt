@@ -6,7 +6,7 @@ use Rattle.std.proofs.lemmas.Bool.Decides.{Decides-eqb}
 use Rattle.std.proofs.lemmas.Slice.Eq.{ends_is}
 use Rattle.std.specs.List.{ends_with}
 use Rattle.std.specs.Option.{option_map, ForSome}
-use Rattle.lib_types.proofs.Parts.{part_kept, part_within}
+use Rattle.lib_types.proofs.Offsets.{part_kept, part_within}
 use Rattle.library_files.specs.LinkRows.{link_in, IsLinkWithin}
 use Rattle.lib_types.specs.Part.{part_of, IsWithin}
 use Rattle.library_files.specs.declared.followed.LinkRow.{LinkRow}

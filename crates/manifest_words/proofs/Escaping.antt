@@ -10,7 +10,7 @@ use Rattle.std.proofs.lemmas.List.Splits.{slice_split-cons_yes, slice_split-cons
 use Rattle.lib_types.specs.Name.{is_name}
 use Rattle.image_tree.specs.Node.{has_no_nul}
 use Rattle.manifest_words.specs.Decoding.{first_byte, escape_by, octal_at}
-use Rattle.manifest_words.specs.Escape.{decoded, escaped, escaped_byte, octal_digits, is_plain, backslash, letter, octal, in_front}
+use Rattle.manifest_words.specs.Escape.{decoded, escaped, escaped_byte, octal_digits, is_unescaped, backslash, letter, octal, in_front}
 use Rattle.manifest_words.specs.Lines.{goes_on}
 use Rattle.image_tree.specs.Paths.{is_slash, is_kept}
 use Rattle.manifest_words.specs.Paths.{decoded_each}
@@ -77,11 +77,11 @@ octal_first b rest e =
     ap (λ l. escape_by l (y ∷ z ∷ rest) (octal_at (x ∷ y ∷ z ∷ rest))) (plain_is_none (letter x) parts.1)
     ∙ ap (option_map (λ n. (n, rest))) (some_is (octal x y z) b parts.0)
 
-is_plain_not_backslash : (b : ℕ) → is_plain b ≡ true → eqb b backslash ≡ false
+is_plain_not_backslash : (b : ℕ) → is_unescaped b ≡ true → eqb b backslash ≡ false
 is_plain_not_backslash b e =
     not-true _ (and_parts _ (not (eqb b backslash)) (and_parts _ (not (eqb b (byte "#"))) e).0).1
 
-byte_read : (t : Bool) (b : ℕ) (rest : List ℕ) → is_plain b ≡ t → is_octal_of b ≡ true → decoded (cond t (b ∷ []) (backslash ∷ octal_digits b) ++ rest) ≡ in_front (Some b) (decoded rest)
+byte_read : (t : Bool) (b : ℕ) (rest : List ℕ) → is_unescaped b ≡ t → is_octal_of b ≡ true → decoded (cond t (b ∷ []) (backslash ∷ octal_digits b) ++ rest) ≡ in_front (Some b) (decoded rest)
 byte_read true b rest plain e = decoded_plain b rest (is_plain_not_backslash b plain)
 byte_read false b rest plain e = decoded_step backslash (octal_digits b ++ rest) ∙ ap then_rest (octal_first b rest e)
 
@@ -92,7 +92,7 @@ pub decoded_escaped : (bytes : List ℕ) → AreBytes bytes → has_no_nul bytes
 decoded_escaped [] all clear = decoded_nil
 decoded_escaped (b ∷ bytes) all clear =
     let parts = and_parts (not (eqb b 0)) (has_no_nul bytes) clear in
-    byte_read (is_plain b) b (escaped bytes) refl ((sound b all.0).octal (nonzero b parts.0)) ∙ ap (in_front (Some b)) (decoded_escaped bytes all.1 parts.1)
+    byte_read (is_unescaped b) b (escaped bytes) refl ((sound b all.0).octal (nonzero b parts.0)) ∙ ap (in_front (Some b)) (decoded_escaped bytes all.1 parts.1)
 
 pub escaped_printed : (bytes : List ℕ) → AreBytes bytes → are_printed (escaped bytes) ≡ true
 escaped_printed [] all = refl
@@ -101,7 +101,7 @@ escaped_printed (b ∷ bytes) all =
     ∙ and_from (are_printed (escaped_byte b)) (are_printed (escaped bytes)) (sound b all.0).printed (escaped_printed bytes all.1)
 
 byte_some : (b : ℕ) → 0 < length (escaped_byte b)
-byte_some b = by_test (is_plain b)
+byte_some b = by_test (is_unescaped b)
   where
     by_test : (t : Bool) → 0 < length (cond t (b ∷ []) (backslash ∷ octal_digits b))
     by_test true = omega arith
@@ -118,10 +118,10 @@ escaped_ends (b ∷ c ∷ bytes) all some =
     goes_on-append (escaped_byte b) (escaped (c ∷ bytes)) (escaped_some (c ∷ bytes) (omega arith)) ∙ escaped_ends (c ∷ bytes) all.1 (omega arith)
 
 -- bytes that are all plain stand for themselves
-pub plain_escaped : (bytes : List ℕ) → list_all is_plain bytes ≡ true → escaped bytes ≡ bytes
+pub plain_escaped : (bytes : List ℕ) → list_all is_unescaped bytes ≡ true → escaped bytes ≡ bytes
 plain_escaped [] all = refl
 plain_escaped (b ∷ bytes) all =
-    let parts = and_parts (is_plain b) (list_all is_plain bytes) all in
+    let parts = and_parts (is_unescaped b) (list_all is_unescaped bytes) all in
     rw (parts.0) (ap (λ rest. b ∷ rest) (plain_escaped bytes parts.1))
 
 -- ---- the components of a path

@@ -68,14 +68,14 @@ abbrev pub DecodesAll : Type 0
 DecodesAll = (word bytes : List ℕ) → (decoded word ≡ Some bytes) ↔ StandsFor word bytes
 
 -- the bytes that the canonical text leaves as they are: printable ASCII but the backslash and `#`
-abbrev pub is_plain : ℕ → Bool
-is_plain b = nat_le 33 b && nat_le b 126 && not (b == backslash) && not (b == byte "#")
+abbrev pub is_unescaped : ℕ → Bool
+is_unescaped b = nat_le 33 b && nat_le b 126 && not (b == backslash) && not (b == byte "#")
 
 abbrev pub octal_digits : ℕ → List ℕ
 octal_digits b = (byte "0" + b / 64) ∷ (byte "0" + b / 8 % 8) ∷ (byte "0" + b % 8) ∷ []
 
 abbrev pub escaped_byte : ℕ → List ℕ
-escaped_byte b = if is_plain b then b ∷ [] else backslash ∷ octal_digits b
+escaped_byte b = if is_unescaped b then b ∷ [] else backslash ∷ octal_digits b
 
 -- the bytes as the canonical text has them
 abbrev pub escaped : List ℕ → List ℕ

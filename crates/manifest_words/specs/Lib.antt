@@ -3,7 +3,6 @@ pub mod Escape
 pub mod Keys
 pub mod Lines
 pub mod Naming
-pub mod Parts
 pub mod Paths
 pub mod Plain
 pub mod Range

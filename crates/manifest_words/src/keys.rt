@@ -10,8 +10,9 @@ ghost use Rattle.manifest_words.specs.Views.{values_in, given_in, fault_of_text,
 
 use crate::escape::{decode, has_backslash};
 use crate::fault::LineKind;
-use lib_types::{NoMemory, is_utf8};
+use lib_types::{NoMemory, find_byte, is_utf8};
 use std::alloc::Global;
+use tree_face::TEXT_MAX;
 
 /// The keywords that have a meaning here, and all others.
 #[derive(Clone, Copy, Debug, PartialEq, Eq)]
@@ -224,13 +225,10 @@ fn has_no_nul(text: &[u8]) -> bool
     text.iter().all(|&b| b != 0)
 }
 
-/// The most bytes of a content key or a link's target.
-const VALUE_MAX: usize = 4095;
-
 fn is_link_text(text: &[u8]) -> bool
     ensures { result ≡ is_link_text text.now }
 {
-    text.len() <= VALUE_MAX && has_no_nul(text)
+    text.len() <= TEXT_MAX && has_no_nul(text)
 }
 
 fn is_key(text: &[u8]) -> bool
@@ -333,18 +331,11 @@ fn without<'a>(keys: Keys<'a>, keyword: Keyword) -> Keys<'a>
     keys
 }
 
-fn first_equals(word: &[u8]) -> Option<usize>
-    ensures place { result ≡ position is_equals word.now }
-    ensures within { IfSome result (λ n. n < length word.now) }
-{
-    word.iter().position(|&b| b == b'=')
-}
-
 /// Adds what one word more gives.
 pub fn given_word<'a>(alloc: Global, given: &mut Given<'a>, word: &'a [u8]) -> Result<(), NoMemory>
     ensures { OnOk result (given_in given.new ≡ given_word (given_in given.old) word.entry.now) }
 {
-    let Some(n) = first_equals(word) else {
+    let Some(n) = find_byte(b'=', word) else {
         let fault = fault_unless(!is_known(keyword_of(word)), LineKind::BadLine);
         given.fault = first_fault(given.fault, fault);
         return Ok(());

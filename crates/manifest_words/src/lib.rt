@@ -4,13 +4,11 @@
 mod escape;
 mod fault;
 mod keys;
-mod parts;
 mod paths;
 mod plain;
 
 pub use escape::decode;
 pub use fault::LineKind;
 pub use keys::{Given, Keys, LineType, fault_unless, first_fault, given_word, no_keys, unset_word};
-pub use parts::{Separator, split};
 pub use paths::{append_names, behind_first, is_directive, is_full};
 pub use plain::KnownPath;

@@ -4,8 +4,7 @@ ghost use Rattle.manifest_words.specs.Paths.{is_full, is_directive, decoded_each
 ghost use Rattle.manifest_words.specs.Naming.{Names};
 
 use crate::escape::decode;
-use crate::parts::{Separator, split};
-use lib_types::{NoMemory, has_byte, is_name};
+use lib_types::{NoMemory, Separator, has_byte, is_name, split};
 use tree_face::is_kept;
 
 /// The bytes without the first one: a word without its first character, or a path without its first slash.
@@ -47,7 +46,7 @@ pub fn append_names(out: &mut Vec<u8>, word: &[u8]) -> Result<Option<bool>, NoMe
     ensures { IfOk result (λ good. Names out.old.items out.new.items (names_of word.now) good) }
 {
     let mut good = true;
-    for component in split(Separator::Slash, word) {
+    for component in split(Separator::Byte(b'/'), word) {
         if is_kept(component) {
             let Some(is_name) = append_name(out, component)? else {
                 return Ok(None);

@@ -7,8 +7,8 @@ ghost use Rattle.mtree_manifest.specs.Progress.{started, given_by_head, with_wor
 ghost use Rattle.manifest_words.specs.Views.{values_in, given_in};
 ghost use Rattle.mtree_manifest.specs.Lining.{line_in};
 
-use lib_types::NoMemory;
-use manifest_words::{Given, Keys, Separator, given_word, split, unset_word};
+use lib_types::{NoMemory, Separator, split};
+use manifest_words::{Given, Keys, given_word, unset_word};
 use std::alloc::Global;
 
 /// What the first word of a line makes of it.

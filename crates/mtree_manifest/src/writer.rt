@@ -3,7 +3,7 @@ ghost use Rattle.std.specs.Prelude.{◌≡◌, ◌+◌, ◌++◌, ◌<◌, ◌�
 ghost use Rattle.std.specs.List.{list_all};
 ghost use Rattle.std.specs.Str.{bytes_eq};
 ghost use Rattle.mtree_manifest.specs.Canon.{id_words, key_words, file_words, node_words, node_line, canon};
-ghost use Rattle.manifest_words.specs.Escape.{is_plain, octal_digits, escaped_byte, escaped};
+ghost use Rattle.manifest_words.specs.Escape.{is_unescaped, octal_digits, escaped_byte, escaped};
 ghost use Rattle.mtree_manifest.specs.Manifest.{tree_of};
 ghost use Rattle.mtree_manifest.specs.declared.fault.TheConstants.{TEXT_MAX};
 ghost use Rattle.mtree_manifest.specs.declared.writer.TheConstants.{ID_SIZE};
@@ -21,8 +21,8 @@ const LINE_SIZE: usize = 128;
 // The words of an identity's four numbers, with their digits, fit into so many bytes.
 const ID_SIZE: usize = 25 + 4 * 20;
 
-fn is_plain(b: u8) -> bool
-    ensures { result ≡ is_plain b }
+fn is_unescaped(b: u8) -> bool
+    ensures { result ≡ is_unescaped b }
 {
     33 <= b && b <= 126 && b != b'\\' && b != b'#'
 }
@@ -36,7 +36,7 @@ fn octal_digits(b: u8) -> [u8; 3]
 fn push_byte(out: &mut Vec<u8>, b: u8) -> Result<(), NoMemory>
     ensures { OnOk result (out.new.items ≡ out.old.items ++ escaped_byte b) }
 {
-    if is_plain(b) {
+    if is_unescaped(b) {
         out.push(b)?;
         return Ok(());
     }
@@ -47,12 +47,12 @@ fn push_byte(out: &mut Vec<u8>, b: u8) -> Result<(), NoMemory>
 
 // Whether all bytes go out as they are. Nothing ends the loop early, so that many bytes are tested at once.
 fn are_plain(bytes: &[u8]) -> bool
-    ensures plain { result ≡ list_all is_plain bytes.now }
+    ensures plain { result ≡ list_all is_unescaped bytes.now }
     ensures range { AreBytes bytes.now }
 {
     let mut plain = true;
     for &b in bytes {
-        plain &= is_plain(b);
+        plain &= is_unescaped(b);
     }
     plain
 }

@@ -1,12 +1,9 @@
 //! Texts with their tokens replaced.
-ghost use Rattle.std.specs.Prelude.{◌≡◌, ◌∷◌, ◌++◌, ◌<◌, length, position, IfOk, IfSome, OnOk};
-ghost use Rattle.std.specs.List.{slice_split};
-ghost use Rattle.std.specs.Option.{option_copied};
-ghost use Rattle.origin_expand.specs.Left.{parts_of};
-ghost use Rattle.origin_expand.specs.Tokens.{begins_with_origin, expanded, has_origin, is_dollar, replaced, value_of};
+ghost use Rattle.std.specs.Prelude.{◌≡◌, ◌++◌, IfOk, OnOk};
+ghost use Rattle.origin_expand.specs.Tokens.{begins_with_origin, expanded, has_origin, replaced, value_of};
 
 use crate::token::{Token, token_in};
-use lib_types::{NoMemory, Text};
+use lib_types::{NoMemory, Separator, Text, cut};
 use std::alloc::Global;
 
 // What the tokens stand for.
@@ -29,24 +26,7 @@ impl<'a> Values<'a> {
     }
 }
 
-fn first_dollar(bytes: &[u8]) -> Option<usize>
-    ensures index { result ≡ position is_dollar bytes.now }
-    ensures within { IfSome result (λ n. n < length bytes.now) }
-{
-    bytes.iter().position(|&b| b == b'$')
-}
-
-// The first part, and what is behind the dollar that ends it.
-#[tactic(auto, using(lib_types::proofs::Parting::cut_at, lib_types::proofs::Parting::cut_nowhere))]
-fn cut(bytes: &[u8]) -> (&[u8], Option<&[u8]>)
-    ensures parts { slice_split is_dollar bytes.now ≡ result.0.now ∷ parts_of (option_copied result.1) }
-    ensures shorter { IfSome result.1 (λ rest. length rest.now < length bytes.now) }
-{
-    match first_dollar(bytes) {
-        Some(n) => (&bytes[..n], Some(&bytes[n + 1..])),
-        None => (bytes, None),
-    }
-}
+const DOLLAR: Separator<'static> = Separator::Byte(b'$');
 
 fn begins_with_origin(part: &[u8]) -> bool
     ensures { result ≡ begins_with_origin part.now }
@@ -62,9 +42,9 @@ fn begins_with_origin(part: &[u8]) -> bool
 fn has_origin(text: &[u8]) -> bool
     ensures { result ≡ has_origin text.now }
 {
-    let mut left = cut(text).1;
+    let mut left = cut(DOLLAR, text).1;
     while let Some(bytes) = left {
-        let (part, rest) = cut(bytes);
+        let (part, rest) = cut(DOLLAR, bytes);
         if begins_with_origin(part) {
             return true;
         }
@@ -113,10 +93,10 @@ pub fn expand(
         platform,
     };
     let mut out = Vec::new(alloc);
-    let (front, mut left) = cut(text);
+    let (front, mut left) = cut(DOLLAR, text);
     out.extend_from_slice(front)?;
     while let Some(bytes) = left {
-        let (part, rest) = cut(bytes);
+        let (part, rest) = cut(DOLLAR, bytes);
         add_replaced(&mut out, values, part)?;
         left = rest;
     }

@@ -17,7 +17,7 @@ use Rattle.image_tree.specs.declared.path.TheConstants.{PATH_MAX}
 use Rattle.image_tree.specs.declared.tree.Kind.{Kind}
 use Rattle.image_tree.specs.declared.tree.Kind.TheVariants as kinds
 use Rattle.path_walk.specs.Names.{parent}
-use Rattle.path_walk.specs.Walk.{Stop, Ends, Follows, at_child, at_file, at_link, is_plain, resolution, start_of, steps, target_at, walk}
+use Rattle.path_walk.specs.Walk.{Stop, Ends, Follows, at_child, at_file, at_link, is_plain_mode, resolution, start_of, steps, target_at, walk}
 use Rattle.path_walk.specs.declared.walk.Mode.{Mode}
 use Rattle.path_walk.specs.declared.walk.TheConstants.{LINKS_MAX}
 use Rattle.path_walk.specs.declared.walk.WalkFault.TheVariants.{Absent}
@@ -118,7 +118,7 @@ module _ (t : Nodes) (mode : Mode) where
   file_clean (name ∷ rest) place h = absurd h
 
   link_clean : (name target : List ℕ) (rest : List (List ℕ)) (place : List ℕ) → IsClean (at_link mode name target rest place) → are_clean rest ≡ true
-  link_clean name target rest place h = by_test (is_plain mode && is_library_name name)
+  link_clean name target rest place h = by_test (is_plain_mode mode && is_library_name name)
       (λ e. absurd (subst (λ b. IsClean (cond b (Ends (Err Absent)) (Follows (components target ++ rest) (start_of target place)))) e h))
       (λ e.
       let both : are_clean (components target ++ rest) ≡ true = subst (λ b. IsClean (cond b (Ends (Err Absent)) (Follows (components target ++ rest) (start_of target place)))) e h in

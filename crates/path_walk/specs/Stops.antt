@@ -6,7 +6,7 @@ use Rattle.image_tree.specs.declared.tree.Kind.TheVariants as kinds
 use Rattle.image_tree.specs.Tree.{Nodes, kind_at}
 use Rattle.image_tree.specs.Paths.{components, join}
 use Rattle.path_walk.specs.Rest.{names_in}
-use Rattle.path_walk.specs.Walk.{Stop, Ends, Follows, at_file, steps, is_plain, start_of, target_at}
+use Rattle.path_walk.specs.Walk.{Stop, Ends, Follows, at_file, steps, is_plain_mode, start_of, target_at}
 use Rattle.path_walk.specs.declared.walk.Mode.{Mode}
 use Rattle.path_walk.specs.declared.walk.Mode.TheVariants.{Full}
 use Rattle.path_walk.specs.declared.files.Beside.{Beside}
@@ -36,18 +36,18 @@ abbrev pub IsChildAt : Nodes → Mode → List ℕ → List ℕ → Child → Ty
 IsChildAt t mode name place child.Dir = kind_at t place ≡ kinds.Dir
 IsChildAt t mode name place child.File = kind_at t place ≡ kinds.File
 IsChildAt t mode name place (child.Link target) =
-    (kind_at t place ≡ kinds.Link) × ((is_plain mode && is_library_name name) ≡ false) × (target.now ≡ target_at t place)
+    (kind_at t place ≡ kinds.Link) × ((is_plain_mode mode && is_library_name name) ≡ false) × (target.now ≡ target_at t place)
 
 -- in the folder `old` the name is this child, and `new` is the place from which the walk goes on
 abbrev pub IsChild : Nodes → Mode → List ℕ → List ℕ → List ℕ → Child → Type 0
 IsChild t mode name old new child.Dir = (kind_at t (join old name) ≡ kinds.Dir) × (new ≡ join old name)
 IsChild t mode name old new child.File = (kind_at t (join old name) ≡ kinds.File) × (new ≡ join old name)
 IsChild t mode name old new (child.Link target) =
-    (kind_at t (join old name) ≡ kinds.Link) × ((is_plain mode && is_library_name name) ≡ false) × (target.now ≡ target_at t (join old name)) × (new ≡ old)
+    (kind_at t (join old name) ≡ kinds.Link) × ((is_plain_mode mode && is_library_name name) ≡ false) × (target.now ≡ target_at t (join old name)) × (new ≡ old)
 
 -- the name counts as absent at its place
 abbrev pub IsAbsentAt : Nodes → Mode → List ℕ → List ℕ → Type 0
-IsAbsentAt t mode name place = (kind_at t place ≡ kinds.Absent) ⊎ ((kind_at t place ≡ kinds.Link) × ((is_plain mode && is_library_name name) ≡ true))
+IsAbsentAt t mode name place = (kind_at t place ≡ kinds.Absent) ⊎ ((kind_at t place ≡ kinds.Link) × ((is_plain_mode mode && is_library_name name) ≡ true))
 
 abbrev pub IsNoChild : Nodes → Mode → List ℕ → List ℕ → WalkFault → Type 0
 IsNoChild t mode name old fault = (fault ≡ NoMemory) ⊎ ((fault ≡ Absent) × IsAbsentAt t mode name (join old name))
@@ -86,11 +86,6 @@ EndsAt t old new end.File = kind_at t new ≡ kinds.File
 abbrev pub HaltsAt : Nodes → List ℕ → List ℕ → Halt → Type 0
 HaltsAt t old new (halt.Reached e) = EndsAt t old new e
 HaltsAt t old new (halt.Link target rest) = KeepsDir t old new
-
--- how much is left of a text
-abbrev pub size_of : Option (List ℕ) → ℕ
-size_of None = 0
-size_of (Some bytes) = 1 + length bytes
 
 -- the walk by the target of a link in this folder is at an end after one name, or goes on by the target of another link there
 abbrev pub IsBeside : Nodes → List ℕ → List ℕ → Beside → Type 0

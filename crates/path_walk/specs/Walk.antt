@@ -22,9 +22,9 @@ pub data Stop : Type 0 where
   Ends : Result (List ℕ) WalkFault → Stop
   Follows : List (List ℕ) → List ℕ → Stop
 
-abbrev pub is_plain : Mode → Bool
-is_plain Plain = true
-is_plain Full = false
+abbrev pub is_plain_mode : Mode → Bool
+is_plain_mode Plain = true
+is_plain_mode Full = false
 
 -- the text of the link at a path
 abbrev pub target_in : Option Node → List ℕ
@@ -43,7 +43,7 @@ start_of target place = if starts_with nat_eq target root then root else place
 -- In mode Plain a link with a library name counts as absent.
 abbrev pub at_link : Mode → List ℕ → List ℕ → List (List ℕ) → List ℕ → Stop
 at_link mode name target rest place =
-    if is_plain mode && is_library_name name then Ends (Err Absent) else Follows (components target ++ rest) (start_of target place)
+    if is_plain_mode mode && is_library_name name then Ends (Err Absent) else Follows (components target ++ rest) (start_of target place)
 
 -- Nothing lies below a file, and it has no `..`.
 abbrev pub at_file : List (List ℕ) → List ℕ → Stop

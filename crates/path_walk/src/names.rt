@@ -1,35 +1,15 @@
 //! The names of a path text, and the texts of places.
 ghost use Rattle.std.specs.Prelude.{◌≡◌, ◌<◌, ◌≤◌, ◌∷◌, ◌++◌, [], None, length, position, IfSome, MatchOption, OnOk, IfOk, drop, ◌+◌};
-ghost use Rattle.std.specs.List.{slice_split};
 ghost use Rattle.std.specs.Option.{option_copied};
 ghost use Rattle.lib_types.specs.Name.{slash};
 ghost use Rattle.image_tree.specs.Paths.{is_slash, components, join};
 ghost use Rattle.path_walk.specs.Names.{last, parent};
-ghost use Rattle.path_walk.specs.Rest.{parts_of, names_in, ends_at};
-ghost use Rattle.path_walk.specs.Stops.{size_of};
+ghost use Rattle.path_walk.specs.Rest.{names_in, ends_at};
+ghost use Rattle.lib_types.specs.Splits.{size_of};
 
-use lib_types::{NoMemory, Text};
+use lib_types::{NoMemory, Separator, Text, cut};
 use std::alloc::Global;
 use tree_face::is_kept;
-
-fn first_slash(bytes: &[u8]) -> Option<usize>
-    ensures index { result ≡ position is_slash bytes.now }
-    ensures within { IfSome result (λ n. n < length bytes.now) }
-{
-    bytes.iter().position(|&b| b == b'/')
-}
-
-// The first part of a text, and what is behind the slash that ends it.
-#[tactic(auto, using(lib_types::proofs::Parting::cut_at, lib_types::proofs::Parting::cut_nowhere))]
-fn cut(bytes: &[u8]) -> (&[u8], Option<&[u8]>)
-    ensures parts { slice_split is_slash bytes.now ≡ result.0.now ∷ parts_of (option_copied result.1) }
-    ensures shorter { IfSome result.1 (λ rest. length rest.now < length bytes.now) }
-{
-    match first_slash(bytes) {
-        Some(n) => (&bytes[..n], Some(&bytes[n + 1..])),
-        None => (bytes, None),
-    }
-}
 
 /// The first name of a path text, and the text that is left; None if it has no name.
 pub fn next_name(text: Option<&[u8]>) -> Option<(&[u8], Option<&[u8]>)>
@@ -39,7 +19,7 @@ pub fn next_name(text: Option<&[u8]>) -> Option<(&[u8], Option<&[u8]>)>
 {
     let mut left = text;
     while let Some(bytes) = left {
-        let (part, rest) = cut(bytes);
+        let (part, rest) = cut(Separator::Byte(b'/'), bytes);
         if is_kept(part) {
             return Some((part, rest));
         }
@@ -94,21 +74,21 @@ fn folder_len(place: &[u8]) -> usize
     0
 }
 
-// What is behind the byte at an offset.
-fn behind(path: &[u8], n: usize) -> &[u8]
+// What follows the byte at an offset.
+fn after_byte(path: &[u8], n: usize) -> &[u8]
     ensures { result.now ≡ drop (n + 1) path.now }
 {
     if n < path.len() { &path[n + 1..] } else { b"" }
 }
 
-/// The folder of a path, and its name there: what is behind its last slash.
+/// The folder of a path, and its name there: what follows its last slash.
 #[tactic(auto, using(crate::proofs::Folders::empty_before, crate::proofs::Folders::some_before, crate::proofs::Folders::last_behind))]
 pub fn parted(path: &[u8]) -> (&[u8], &[u8])
     ensures folder { result.0.now ≡ parent path.now }
     ensures name { result.1.now ≡ last path.now }
 {
     let n = folder_len(path);
-    let name = behind(path, n);
+    let name = after_byte(path, n);
     if n == 0 {
         return (b"/", name);
     }

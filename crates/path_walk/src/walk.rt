@@ -4,7 +4,7 @@ ghost use Rattle.std.specs.Option.{option_copied};
 ghost use Rattle.image_tree.specs.Paths.{components};
 ghost use Rattle.image_tree.specs.Tree.{IsTree, kind_at, node_at};
 ghost use Rattle.image_tree.specs.declared.tree.Kind.TheVariants as kinds;
-ghost use Rattle.path_walk.specs.Walk.{steps, walk, start_of, is_plain, LeadsNowhere, resolution};
+ghost use Rattle.path_walk.specs.Walk.{steps, walk, start_of, is_plain_mode, LeadsNowhere, resolution};
 ghost use Rattle.path_walk.specs.Stops.{StopsAt, IsAt, IsAbsentAt, IsChild, IsChildAt, IsNoChild, KeepsDir, EndsAt, EndsAtFile, GoesOn, HaltsAt, Fails, LinkIsLeft};
 ghost use Rattle.path_walk.specs.declared.walk.Halt.TheVariants as halts;
 ghost use Rattle.path_walk.specs.Rest.{names_in};
@@ -107,8 +107,8 @@ fn child_at<'t>(tree: &'t Tree, place: &[u8]) -> Option<Child<'t>>
     }
 }
 
-fn is_plain(mode: Mode) -> bool
-    ensures { result ≡ is_plain mode }
+fn is_plain_mode(mode: Mode) -> bool
+    ensures { result ≡ is_plain_mode mode }
 {
     match mode {
         Mode::Plain => true,
@@ -128,7 +128,7 @@ fn child_in<'t>(
 {
     let child = child_at(tree, place).ok_or(WalkFault::Absent)?;
     if let Child::Link(_) = child {
-        if is_plain(mode) && is_library_name(name) {
+        if is_plain_mode(mode) && is_library_name(name) {
             return Err(WalkFault::Absent);
         }
     }

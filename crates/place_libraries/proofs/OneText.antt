@@ -1,6 +1,6 @@
 -- Names and sonames in one text: they stay as they are where the text gets longer.
 use Rattle.std.proofs.Common.{◌≡◌, ◌≤◌, ℕ, List, ◌++◌, length, ap, ◌∙◌}
-use Rattle.lib_types.proofs.Parts.{part_kept, part_within}
+use Rattle.lib_types.proofs.Offsets.{part_kept, part_within}
 use Rattle.place_libraries.specs.OneText.{library_in, IsRowWithin}
 use Rattle.lib_types.specs.Part.{part_of}
 use Rattle.place_libraries.specs.declared.best.Row.{Row}

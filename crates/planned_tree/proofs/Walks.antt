@@ -8,7 +8,7 @@ use Rattle.image_tree.specs.Tree.{Nodes, kind_at}
 use Rattle.image_tree.specs.declared.tree.Kind.{Kind}
 use Rattle.image_tree.specs.declared.tree.Kind.TheVariants as kinds
 use Rattle.path_walk.specs.Names.{parent}
-use Rattle.path_walk.specs.Walk.{Stop, Ends, Follows, at_child, at_file, at_link, is_plain, resolution, start_of, steps, target_at, target_in, walk}
+use Rattle.path_walk.specs.Walk.{Stop, Ends, Follows, at_child, at_file, at_link, is_plain_mode, resolution, start_of, steps, target_at, target_in, walk}
 use Rattle.path_walk.specs.declared.walk.Mode.{Mode}
 use Rattle.path_walk.specs.declared.walk.Mode.TheVariants.{Plain}
 use Rattle.path_walk.specs.declared.walk.TheConstants.{LINKS_MAX}
@@ -36,7 +36,7 @@ IsLeft (Follows names place) = AreAlone names
 
 module _ (t : Nodes) (mode : Mode) where
   left_link : (name target : List ℕ) (rest : List (List ℕ)) (place : List ℕ) → AreAlone rest → IsLeft (at_link mode name target rest place)
-  left_link name target rest place all = by_test (is_plain mode && is_library_name name)
+  left_link name target rest place all = by_test (is_plain_mode mode && is_library_name name)
       (λ e. rw e tt)
       (λ e. rw e (both_alone (components target) rest (components_alone target) all))
 

@@ -2,7 +2,7 @@
 use Rattle.std.specs.Prelude.{ℕ, Bool, ◌==◌, ◌&&◌, nat_eq, if◌then◌else◌, List, [], ◌∷◌, ◌++◌, length, map, flat_map, codes, Option, Some, None, is_some, option_and_then, option_map, option_to_list}
 use Rattle.std.specs.List.{before_last, filter_map, list_any, slice_split, starts_with}
 use Rattle.std.specs.Option.{option_map_or}
-use Rattle.text_parts.specs.Bytes.{is_in, slashes, without_end}
+use Rattle.lib_types.specs.Sets.{is_in, slashes, without_end}
 use Rattle.hwcap_dirs.specs.Places.{system_dirs}
 use Rattle.lib_types.specs.Abi.{lib_of}
 use Rattle.string_pool.specs.Distinct.{distinct}

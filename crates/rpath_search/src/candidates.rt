@@ -8,8 +8,10 @@ ghost use Rattle.rpath_search.specs.Places.{cached_path, first_dirs, is_default,
 
 use crate::loaders::Loaders;
 use crate::paths::{from_root, hwcaps_path, plain_path};
+use hwcap_dirs::{SYSTEM_DIRS, next_system_dir};
 use lib_types::{NoMemory, Text, Texts, has_byte};
 use std::alloc::Global;
+use tree_face::is_below;
 
 // The directories before the cache that are left: these, those by DT_RPATH from an object upwards, and those of two more lists.
 #[derive(Clone, Copy)]
@@ -121,29 +123,18 @@ fn next_at<'a>(alloc: Global, name: &[u8], at: At<'a>) -> Result<(Text, Option<A
     }
 }
 
-const DEFAULT_DIRS: usize = 4;
-
-// The next of the default directories, when so many are done, and how many are done then.
-fn next_default(done: usize) -> Option<(&'static [u8], usize)>
-    ensures { MatchOption result (drop done system_dirs ≡ []) (λ r. drop done system_dirs ≡ r.0.now ∷ drop r.1 system_dirs) }
-{
-    match done {
-        0 => Some((b"/lib", 1)),
-        1 => Some((b"/usr/lib", 2)),
-        2 => Some((b"/lib64", 3)),
-        3 => Some((b"/usr/lib64", DEFAULT_DIRS)),
-        _ => None,
-    }
-}
-
 // Whether a path is in one of the default directories or below it.
 fn is_default(path: &[u8]) -> bool
     ensures { result ≡ is_default path.now }
 {
-    path.starts_with(b"/lib/")
-        || path.starts_with(b"/usr/lib/")
-        || path.starts_with(b"/lib64/")
-        || path.starts_with(b"/usr/lib64/")
+    let mut done = 0;
+    while let Some((dir, next)) = next_system_dir(done) {
+        if is_below(dir, path) {
+            return true;
+        }
+        done = next;
+    }
+    false
 }
 
 // The path that the cache has, if the search tries it.
@@ -194,7 +185,7 @@ impl<'a> Candidates<'a> {
             at: None,
             first: FirstDirs::none(loaders),
             cached: None,
-            defaults: DEFAULT_DIRS,
+            defaults: SYSTEM_DIRS,
         }
     }
 
@@ -210,7 +201,7 @@ impl<'a> Candidates<'a> {
             at: None,
             first: FirstDirs::none(loaders),
             cached: None,
-            defaults: DEFAULT_DIRS,
+            defaults: SYSTEM_DIRS,
         }
     }
 
@@ -235,7 +226,7 @@ impl<'a> Candidates<'a> {
             at: None,
             first: FirstDirs::of(loaders, number),
             cached: tried(cached, nodeflib),
-            defaults: if nodeflib { DEFAULT_DIRS } else { 0 },
+            defaults: if nodeflib { SYSTEM_DIRS } else { 0 },
         }
     }
 
@@ -297,7 +288,7 @@ impl<'a> Candidates<'a> {
             self.cached = None;
             return Ok(Some(Text::copy_of(alloc, path)?));
         }
-        if let Some((dir, done)) = next_default(self.defaults) {
+        if let Some((dir, done)) = next_system_dir(self.defaults) {
             self.defaults = done;
             let at = At {
                 dir,

@@ -5,11 +5,10 @@ ghost use Rattle.rpath_search.specs.Loaders.{own_dirs};
 
 use crate::kinds::{Env, Owner};
 use crate::paths::from_root;
-use lib_types::{NoMemory, Text, Texts};
+use lib_types::trim::without_end;
+use lib_types::{NoMemory, Separator, Text, Texts, split};
 use origin_expand::expand;
 use std::alloc::Global;
-use text_parts::parts::split;
-use text_parts::trim::without_end;
 
 /// The directories of an object, by its own texts. Their tokens are replaced.
 #[derive(Drop)]
@@ -56,7 +55,7 @@ fn dirs_of(
     if text.is_empty() {
         return Ok(dirs);
     }
-    for item in split(separators, text) {
+    for item in split(Separator::In(separators), text) {
         if let Some(dir) = item_dir(alloc, env, origin, item)? {
             dirs.push(dir)?;
         }

@@ -4,9 +4,9 @@ ghost use Rattle.image_tree.specs.Paths.{root};
 ghost use Rattle.rpath_search.specs.Places.{folder_of, from_root, hwcaps_path};
 
 use conf_patterns::patterns::is_absolute;
+use lib_types::trim::before_last;
 use lib_types::{NoMemory, Text};
 use std::alloc::Global;
-use text_parts::trim::before_last;
 
 /// The folder of a path, by its text alone.
 pub fn folder_of(path: &[u8]) -> &[u8]

@@ -1,25 +1,17 @@
 -- The words of a line that is partly read.
-use Rattle.std.specs.Prelude.{◌≡◌, ◌+◌, ◌==◌, ℕ, true, not, List, [], ◌∷◌, filter, length, Option, Some, None, IfSome}
-use Rattle.std.specs.List.{slice_split}
+use Rattle.std.specs.Prelude.{◌≡◌, ◌==◌, ℕ, true, not, List, [], ◌∷◌, filter, length, Option, Some, None, IfSome}
+use Rattle.lib_types.specs.Splits.{parts_of}
 use Rattle.manifest_words.specs.Lines.{goes_on, is_blank, words_of}
 
--- the parts between blanks of what is left
-abbrev pub parts_of : Option (List ℕ) → List (List ℕ)
-parts_of None = []
-parts_of (Some bytes) = slice_split is_blank bytes
-
+-- the words in what is left
 abbrev pub words_left : Option (List ℕ) → List (List ℕ)
-words_left bytes = filter (λ word. not (length word == 0)) (parts_of bytes)
-
-abbrev pub size_of : Option (List ℕ) → ℕ
-size_of None = 0
-size_of (Some bytes) = 1 + length bytes
+words_left bytes = filter (λ word. not (length word == 0)) (parts_of is_blank bytes)
 
 -- what is left goes on in another line only if the line does
 abbrev pub EndsAlike : List ℕ → Option (List ℕ) → Type 0
 EndsAlike line left = IfSome left (λ bytes. goes_on bytes ≡ true → goes_on line ≡ true)
 
--- the first word of the line, and what stands behind it, which goes on in another line only if the line does
+-- the first word of the line, and what follows it, which goes on in another line only if the line does
 pub record IsFirst (line word rest : List ℕ) : Type 0 where
   pub words : words_of line ≡ word ∷ words_of rest
   pub ends : goes_on rest ≡ true → goes_on line ≡ true

@@ -1,7 +1,7 @@
 -- The run of a script of a session: its lines are taken in their order, each from the session and the devices that those before it left.
 use Rattle.std.specs.Prelude.{◌≡◌, ◌⊎◌, ◌+◌, ℕ, List, [], ◌∷◌, codes, Result, Ok, Err}
 use Rattle.std.specs.List.{slice_split}
-use Rattle.text_parts.specs.Bytes.{is_in}
+use Rattle.lib_types.specs.Sets.{is_in}
 use Rattle.image_session.specs.Edit.{drop_result, put_entry_result}
 use Rattle.image_session.specs.Session.{Loaded}
 use Rattle.manifest_words.specs.declared.fault.LineKind.{LineKind}

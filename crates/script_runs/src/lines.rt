@@ -11,10 +11,9 @@ ghost use Rattle.image_session.specs.Edit.{drop_result, put_entry_result};
 use crate::fault::{LineFault, ScriptFault};
 use command_status::ScriptKind;
 use image_session::Session;
-use lib_types::Text;
+use lib_types::{Separator, Text, split};
 use mtree_manifest::EntryLineFault;
 use script_lines::{ScriptLine, read_line};
-use text_parts::parts::split;
 use tree_face::{Disk, Node, Sink, Store};
 use update_runs::{Updater, update_once};
 
@@ -114,7 +113,7 @@ pub(crate) fn run_lines<S: Store, D: Disk, O: Sink>(
 {
     let mut image = session;
     let mut taken = 0u64;
-    for line in split(b"\n", text) {
+    for line in split(Separator::In(b"\n"), text) {
         let Some(number) = taken.checked_add(1) else {
             return Err(ScriptFault::NoMemory);
         };

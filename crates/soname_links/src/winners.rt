@@ -1,7 +1,7 @@
 //! The entries of a cache, of a tree whose links weren't followed and whose libraries weren't compared yet.
 ghost use Rattle.std.specs.Prelude.{◌≤◌, All, IfErr, IfOk, IsTrue, length};
 ghost use Rattle.cache_entries.specs.Entries.{found, is_fit, AreEntriesOf, IsEntryFault, IsOnlyListOf};
-ghost use Rattle.cache_writer.specs.declared.writer.TheConstants.{ENTRIES_MAX};
+ghost use Rattle.cache_layout.specs.declared.limits.TheConstants.{ENTRIES_MAX};
 ghost use Rattle.hwcap_dirs.specs.Places.{are_spelled};
 ghost use Rattle.file_table.specs.Table.{analysis_at};
 

@@ -1,5 +1,4 @@
 pub mod ByPath
-pub mod Defects
 pub mod Lines
 pub mod Report
 pub mod Skips

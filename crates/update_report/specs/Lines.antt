@@ -11,7 +11,7 @@ use Rattle.name_order.specs.Order.{token_order}
 use Rattle.image_tree.specs.Paths.{join}
 use Rattle.soname_links.specs.declared.kinds.Mark.{Mark}
 use Rattle.soname_links.specs.declared.kinds.Planned.{Planned}
-use Rattle.update_report.specs.Defects.{defect_text}
+use Rattle.lib_types.specs.Defects.{defect_text}
 use Rattle.update_report.specs.declared.kinds.Skipped.{Skipped}
 
 abbrev pub line : List ℕ → List ℕ

@@ -1,7 +1,6 @@
 //! The text of an update's report.
 #![tactic(auto)]
 
-mod defects;
 mod kinds;
 mod lines;
 mod listing;

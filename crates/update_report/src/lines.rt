@@ -1,11 +1,10 @@
 //! One line of a report.
 ghost use Rattle.std.specs.Prelude.{◌≡◌, ◌++◌, OnOk, option_map};
 ghost use Rattle.image_tree.specs.Paths.{join};
-ghost use Rattle.update_report.specs.Defects.{number_text};
+ghost use Rattle.lib_types.specs.Defects.{number_text};
 ghost use Rattle.update_report.specs.Lines.{absent_line, blocked_line, conf_line, conf_name, damaged_line, dangling_line, last_line, link_line, mixed_line, skip_line, spelled_at, twin_line};
 ghost use Rattle.update_report.specs.Twins.{twin_after};
 
-use crate::defects::{defect_name, defect_number};
 use crate::kinds::Skipped;
 use hwcap_dirs::Places;
 use ldso_conf::{ConfKind, ConfReport};
@@ -167,8 +166,8 @@ pub(crate) fn put_skip_line(
     out.extend_from_slice(b"skip: ")?;
     out.extend_from_slice(skipped.path.as_bytes())?;
     out.extend_from_slice(b": ")?;
-    out.extend_from_slice(defect_name(skipped.defect))?;
-    put_number(alloc, out, defect_number(skipped.defect))?;
+    out.extend_from_slice(skipped.defect.name())?;
+    put_number(alloc, out, skipped.defect.number())?;
     out.push(b'\n')?;
     Ok(())
 }

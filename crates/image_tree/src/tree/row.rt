@@ -56,14 +56,14 @@ pub(super) struct Rows<'a> {
 
 impl<'a> Model for Rows<'a> {
     ghost use Rattle.std.specs.Prelude.{length};
-    ghost use Rattle.image_tree.specs.OneText.{entries_in, parts_of, AreWithin};
+    ghost use Rattle.image_tree.specs.OneText.{entries_in, parts_in_rows, AreWithin};
     ghost use Rattle.image_tree.specs.Tree.{Nodes};
 
     ghost Value = { Nodes };
 
     ghost view = { λ r. entries_in r.text.now r.rows.now };
 
-    ghost invariant = { λ r. AreWithin (length r.text.now) (parts_of r.rows.now) };
+    ghost invariant = { λ r. AreWithin (length r.text.now) (parts_in_rows r.rows.now) };
 }
 
 impl<'a> Rows<'a> {

@@ -3,7 +3,7 @@ ghost use Rattle.std.specs.Prelude.{◌≡◌, ◌<◌, ◌≤◌, [], OnOk, OnE
 ghost use Rattle.std.specs.List.{insert, remove};
 ghost use Rattle.std.specs.Map.{keys_of};
 ghost use Rattle.image_tree.specs.Index.{IsIndexOf, IsGapFor};
-ghost use Rattle.image_tree.specs.OneText.{nodes_of, parts_of};
+ghost use Rattle.image_tree.specs.OneText.{nodes_of, parts_in_rows};
 ghost use Rattle.image_tree.specs.Runs.{begins_by};
 ghost use Rattle.image_tree.specs.Tree.{IsPathSorted};
 
@@ -38,14 +38,14 @@ pub(super) struct Run {
 
 impl Model for Run {
     ghost use Rattle.std.specs.Prelude.{length};
-    ghost use Rattle.image_tree.specs.OneText.{entries_in, parts_of, AreWithin};
+    ghost use Rattle.image_tree.specs.OneText.{entries_in, parts_in_rows, AreWithin};
     ghost use Rattle.image_tree.specs.Tree.{Nodes};
 
     ghost Value = { Nodes };
 
     ghost view = { λ r. entries_in r.text.items r.rows.items };
 
-    ghost invariant = { λ r. AreWithin (length r.text.items) (parts_of r.rows.items) };
+    ghost invariant = { λ r. AreWithin (length r.text.items) (parts_in_rows r.rows.items) };
 }
 
 impl Run {
@@ -204,7 +204,7 @@ impl Run {
 // Overwrites the node of the row at this index.
 fn set_node(rows: &mut Vec<Row>, index: usize, node: Node)
     requires { index < length rows.old.items }
-    ensures parts { parts_of rows.new.items ≡ parts_of rows.old.items }
+    ensures parts { parts_in_rows rows.new.items ≡ parts_in_rows rows.old.items }
     ensures nodes { nodes_of rows.new.items ≡ slice_set (nodes_of rows.old.items) index node }
 {
     rows[index].node = node;
@@ -213,7 +213,7 @@ fn set_node(rows: &mut Vec<Row>, index: usize, node: Node)
 // Overwrites the part of the row at this index.
 fn set_part(rows: &mut Vec<Row>, index: usize, part: Part)
     requires { index < length rows.old.items }
-    ensures parts { parts_of rows.new.items ≡ slice_set (parts_of rows.old.items) index part }
+    ensures parts { parts_in_rows rows.new.items ≡ slice_set (parts_in_rows rows.old.items) index part }
     ensures nodes { nodes_of rows.new.items ≡ nodes_of rows.old.items }
 {
     rows[index].part = part;
@@ -222,7 +222,7 @@ fn set_part(rows: &mut Vec<Row>, index: usize, part: Part)
 // Overwrites the part of each row.
 fn set_parts(rows: &mut Vec<Row>, parts: &Vec<Part>)
     requires { length parts.now.items ≡ length rows.old.items }
-    ensures parts { parts_of rows.new.items ≡ parts.now.items }
+    ensures parts { parts_in_rows rows.new.items ≡ parts.now.items }
     ensures nodes { nodes_of rows.new.items ≡ nodes_of rows.old.items }
 {
     for i in 0..parts.len() {

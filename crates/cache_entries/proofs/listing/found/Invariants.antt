@@ -1,5 +1,5 @@
 use Rattle.std.proofs.Common.{◌≡◌, ◌≤◌, ◌+◌, ◌++◌, length, map}
-use Rattle.cache_writer.specs.declared.writer.TheConstants.{ENTRIES_MAX}
+use Rattle.cache_layout.specs.declared.limits.TheConstants.{ENTRIES_MAX}
 use Rattle.cache_entries.specs.Counts.{AreCounts}
 use Rattle.cache_entries.specs.Entries.{entries_in}
 use Rattle.place_libraries.specs.Best.{bests_in}

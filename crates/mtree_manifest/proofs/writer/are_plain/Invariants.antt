@@ -1,8 +1,8 @@
 use Rattle.std.proofs.Common.{◌≡◌, ◌&&◌, drop}
 use Rattle.std.specs.List.{list_all}
-use Rattle.manifest_words.specs.Escape.{is_plain}
+use Rattle.manifest_words.specs.Escape.{is_unescaped}
 use Rattle.mtree_manifest.proofs.writer.are_plain.Given as goal
 
 -- what is left decides
 abbrev pub invariant-loop-b : goal.invariant-loop-b
-invariant-loop-b l = (l.plain && list_all is_plain (drop l.b-index l.bytes)) ≡ list_all is_plain l.bytes
+invariant-loop-b l = (l.plain && list_all is_unescaped (drop l.b-index l.bytes)) ≡ list_all is_unescaped l.bytes

@@ -1,7 +1,7 @@
 use Rattle.std.proofs.Common.{◌≡◌, ◌≤◌}
 use Rattle.std.specs.Option.{option_copied}
 use Rattle.path_walk.specs.Rest.{names_in}
-use Rattle.path_walk.specs.Stops.{size_of}
+use Rattle.lib_types.specs.Splits.{size_of}
 use Rattle.path_walk.proofs.names.next_name.Given as goal
 
 -- the text that is left has all the names

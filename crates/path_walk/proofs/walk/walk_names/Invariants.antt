@@ -1,7 +1,8 @@
 use Rattle.std.proofs.Common.{◌≡◌}
 use Rattle.std.specs.Option.{option_copied}
 use Rattle.path_walk.specs.Rest.{names_in}
-use Rattle.path_walk.specs.Stops.{KeepsDir, size_of}
+use Rattle.lib_types.specs.Splits.{size_of}
+use Rattle.path_walk.specs.Stops.{KeepsDir}
 use Rattle.path_walk.specs.Walk.{steps}
 use Rattle.path_walk.proofs.walk.walk_names.Given as goal
 

@@ -1,7 +1,8 @@
 use Rattle.std.proofs.Common.{◌≡◌}
 use Rattle.std.specs.Option.{option_copied}
 use Rattle.manifest_words.specs.Lines.{words_of}
-use Rattle.script_lines.specs.Words.{EndsAlike, size_of, words_left}
+use Rattle.lib_types.specs.Splits.{size_of}
+use Rattle.script_lines.specs.Words.{EndsAlike, words_left}
 use Rattle.script_lines.proofs.words.first_word.Given as goal
 
 -- the words that are left are those of the line

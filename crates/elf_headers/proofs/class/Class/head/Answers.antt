@@ -14,6 +14,7 @@ returns-then-size-either-clause-head g c =
 pub returns-in_default-clause-head : goal.returns-in_default-clause-head
 returns-in_default-clause-head g c =
     let bytes = c.args.front.now in
+    let width = c.requires.identified.width in
     let long : nat_lt c.args.size (header_length g.row.W) ≡ false = grind (arith, nat_tests) in
     let unknown : abi bytes ≡ None = cc in
     let e = bad_machine c.requires.identified long unknown in
@@ -22,6 +23,7 @@ returns-in_default-clause-head g c =
 pub returns-then-not-is_loadable-clause-head : goal.returns-then-not-is_loadable-clause-head
 returns-then-not-is_loadable-clause-head g c =
     let bytes = c.args.front.now in
+    let width = c.requires.identified.width in
     let long : nat_lt c.args.size (header_length g.row.W) ≡ false = grind (arith, nat_tests) in
     let known : abi bytes ≡ Some c.in-Some.abi = cc in
     let other : is_loadable bytes ≡ false = cc in
@@ -31,6 +33,7 @@ returns-then-not-is_loadable-clause-head g c =
 pub returns-then-has_bad_headers-clause-head : goal.returns-then-has_bad_headers-clause-head
 returns-then-has_bad_headers-clause-head g c =
     let bytes = c.args.front.now in
+    let width = c.requires.identified.width in
     let long : nat_lt c.args.size (header_length g.row.W) ≡ false = grind (arith, nat_tests) in
     let known : abi bytes ≡ Some c.in-Some.abi = cc in
     let loadable : is_loadable bytes ≡ true = cc in
@@ -40,6 +43,7 @@ returns-then-has_bad_headers-clause-head g c =
 pub returns-clause-head : goal.returns-clause-head
 returns-clause-head g c =
     let bytes = c.args.front.now in
+    let width = c.requires.identified.width in
     let long : nat_lt c.args.size (header_length g.row.W) ≡ false = grind (arith, nat_tests) in
     let known : abi bytes ≡ Some c.in-Some.abi = cc in
     let loadable : is_loadable bytes ≡ true = cc in

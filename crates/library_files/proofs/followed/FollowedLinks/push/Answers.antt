@@ -1,7 +1,7 @@
 use Rattle.std.proofs.Common.{◌≡◌, ◌∷◌, ◌++◌, [], length, map, ap, sym, subst, ◌∙◌, rules}
 use Rattle.std.specs.Option.{option_copied}
 use Rattle.library_files.proofs.LinkRows.{link_kept, row_within}
-use Rattle.lib_types.proofs.Parts.{pushed, pushed_within, rows_within}
+use Rattle.lib_types.proofs.Offsets.{pushed, pushed_within, rows_within}
 use Rattle.library_files.specs.Link.{FollowedLink}
 use Rattle.library_files.specs.LinkRows.{link_in, AreLinksWithin, IsLinkWithin}
 use Rattle.library_files.proofs.followed.FollowedLinks.push.Goals as goal

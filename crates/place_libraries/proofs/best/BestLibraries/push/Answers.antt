@@ -1,6 +1,6 @@
 use Rattle.std.proofs.Common.{◌≡◌, ◌∷◌, ◌++◌, [], length, map, ap, sym, subst, ◌∙◌, rules}
 use Rattle.place_libraries.proofs.OneText.{library_kept, row_within}
-use Rattle.lib_types.proofs.Parts.{pushed, pushed_within}
+use Rattle.lib_types.proofs.Offsets.{pushed, pushed_within}
 use Rattle.place_libraries.specs.OneText.{library_in, AreWithin, IsRowWithin}
 use Rattle.place_libraries.proofs.best.BestLibraries.push.Goals as goal
 

@@ -1,7 +1,7 @@
 use Rattle.std.proofs.Common.{◌≤◌, length, ap, sym, subst, ◌∙◌, arith, Result, Ok, Err, OnOk, OnErr}
 use Rattle.std.specs.List.{insert}
 use Rattle.image_tree.proofs.OneText.{added_entry, added_entry_within, entries_kept, kept_within, rows_count}
-use Rattle.image_tree.specs.OneText.{entries_in, parts_of, AreWithin}
+use Rattle.image_tree.specs.OneText.{entries_in, parts_in_rows, AreWithin}
 use Rattle.image_tree.proofs.tree.run.Run.add.Goals as goal
 
 on_err : {T E : Type 0} {P : Type 0} (r : Result T E) → P → OnErr r P
@@ -36,9 +36,9 @@ invariant_of-self-2 c =
     let count = rows_count old rows c.args.self.now c.self.view_is in
     let within : c.args.index ≤ length rows = omega arith in
     either _ _ _ c.insert_row.result c.insert_row.ensures.done c.insert_row.ensures.refused
-    (λ e. subst (λ rs. AreWithin (length new) (parts_of rs)) (sym e)
+    (λ e. subst (λ rs. AreWithin (length new) (parts_in_rows rs)) (sym e)
     (added_entry_within old new longer rows c.self.invariant c.args.index (record { part = c.in_ok-part.part; node = c.args.node }) within c.in_ok-part.ensures.within))
-    (λ e. subst (λ rs. AreWithin (length new) (parts_of rs)) (sym e) (kept_within old new longer (parts_of rows) c.self.invariant))
+    (λ e. subst (λ rs. AreWithin (length new) (parts_in_rows rs)) (sym e) (kept_within old new longer (parts_in_rows rows) c.self.invariant))
 
 pub returns-clause-done : goal.returns-clause-done
 returns-clause-done c =

@@ -2,13 +2,13 @@ use Rattle.std.proofs.Common.{◌≡◌, length, take, drop, ap, sym, subst, ◌
 use Rattle.std.specs.List.{zip}
 use Rattle.std.specs.Map.{keys_of}
 use Rattle.image_tree.proofs.OneText.{entries_dropped, entries_taken, within_taken, zipped}
-use Rattle.image_tree.specs.OneText.{entries_in, nodes_of, parts_of, AreWithin}
+use Rattle.image_tree.specs.OneText.{entries_in, nodes_of, parts_in_rows, AreWithin}
 use Rattle.image_tree.proofs.tree.run.Run.split_off.Goals as goal
 
 pub invariant_of-self-2 : goal.invariant_of-self-2
 invariant_of-self-2 c =
     let count = length c.self.inside.text.items in
-    subst (λ rows. AreWithin count (parts_of rows)) (sym (c.shrink_to_fit.ensures.items ∙ c.in_ok-rows.ensures.items)) (within_taken count c.self.inside.rows.items c.args.index c.self.invariant)
+    subst (λ rows. AreWithin count (parts_in_rows rows)) (sym (c.shrink_to_fit.ensures.items ∙ c.in_ok-rows.ensures.items)) (within_taken count c.self.inside.rows.items c.args.index c.self.invariant)
 
 pub settle-requires : goal.settle-requires
 settle-requires c =

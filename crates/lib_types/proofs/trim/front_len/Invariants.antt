@@ -1,7 +1,7 @@
 use Rattle.std.proofs.Common.{◌≡◌, ◌≤◌, ◌+◌, ◌-◌, length, drop}
 use Rattle.std.specs.List.{prefix_len}
-use Rattle.text_parts.specs.Bytes.{is_in}
-use Rattle.text_parts.proofs.trim.front_len.Given as goal
+use Rattle.lib_types.specs.Sets.{is_in}
+use Rattle.lib_types.proofs.trim.front_len.Given as goal
 
 abbrev pub invariant-loop-n : goal.invariant-loop-n
 invariant-loop-n l = record { within : l.n ≤ length l.bytes; rest : l.n + prefix_len (is_in l.set) (drop l.n l.bytes) ≡ prefix_len (is_in l.set) l.bytes }

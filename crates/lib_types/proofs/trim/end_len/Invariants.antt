@@ -1,7 +1,7 @@
 use Rattle.std.proofs.Common.{◌≡◌, ◌≤◌, ◌-◌, length, take}
 use Rattle.std.specs.List.{suffix_len}
-use Rattle.text_parts.specs.Bytes.{is_in}
-use Rattle.text_parts.proofs.trim.end_len.Given as goal
+use Rattle.lib_types.specs.Sets.{is_in}
+use Rattle.lib_types.proofs.trim.end_len.Given as goal
 
 abbrev pub invariant-loop-n : goal.invariant-loop-n
 invariant-loop-n l = record {

@@ -1,7 +1,7 @@
 //! Bytes of a set, and bytes without those of a set at their ends.
 ghost use Rattle.std.specs.Prelude.{◌≡◌, ◌<◌, ◌≤◌, ◌-◌, not, length, drop, position, IfSome};
 ghost use Rattle.std.specs.List.{before_first, before_last, list_any, prefix_len, suffix_len};
-ghost use Rattle.text_parts.specs.Bytes.{is_in, without_end, without_front};
+ghost use Rattle.lib_types.specs.Sets.{is_in, without_end, without_front};
 
 /// Whether the byte is of the set.
 pub fn is_in(set: &[u8], b: u8) -> bool
@@ -25,8 +25,8 @@ pub fn first_in(set: &[u8], bytes: &[u8]) -> Option<usize>
     bytes.iter().position(|&b| is_in(set, b))
 }
 
-/// The bytes behind the first n.
-pub fn behind(bytes: &[u8], n: usize) -> &[u8]
+/// The bytes after the first n.
+pub fn after(bytes: &[u8], n: usize) -> &[u8]
     requires { n ≤ length bytes.now }
     ensures { result.now ≡ drop n bytes.now }
 {
@@ -87,7 +87,7 @@ fn last_len(set: &[u8], bytes: &[u8]) -> usize
 pub fn without_front<'a>(set: &[u8], bytes: &'a [u8]) -> &'a [u8]
     ensures { result.now ≡ without_front set.now bytes.now }
 {
-    behind(bytes, front_len(set, bytes))
+    after(bytes, front_len(set, bytes))
 }
 
 /// The bytes without those of the set at the end.
