@@ -1,14 +1,13 @@
 //! What is read of files, and written.
 use crate::bytes::{bytes_of, hex, with_bytes};
-use crate::lines::{Back, Outcome, have_same, read_back, stamps_of};
+use crate::lines::{Back, Outcome, have_same, id_of, read_back, stamps_of};
 use aux_cache::{AuxFault, Stamps, read};
 use lib_types::NoMemory;
 use std::alloc::Global;
-use table_rows::{Row, Said, Trial, divide, number, value};
-use tree_face::Id;
+use table_rows::{Row, Said, Trial, Words, divide, has, number, value};
 
-/// A row has the bytes of a file behind `hex`, and behind each `stamp` a stamp that is read of it: device, inode, ctime, size, ABI and
-/// soname (`-` for none). `absent` has an identity without a stamp. The stamps are written as the file, unless another writer made it
+/// A row has the bytes of a file after `hex`, and after each `stamp` a stamp that is read of it: device, inode, ctime, size, ABI and
+/// soname (`-` for none). `no-stamp` has an identity without a stamp. The stamps are written as the file, unless another writer made it
 /// (`other`). `damaged PLACE` says that the file is damaged, `bad AT HEX PLACE` that the file is with these bytes at this offset, and
 /// `more HEX PLACE` with these bytes behind it; `good AT HEX` that it is read with them. Each file without some of its last bytes is damaged.
 pub(crate) struct Files;
@@ -96,28 +95,16 @@ fn are_cut(alloc: Global, file: &[u8], said: &mut Said) -> Result<bool, NoMemory
     Ok(right)
 }
 
-// Whether no line `absent` has an identity with a stamp.
+// Whether no line `no-stamp` has an identity with a stamp.
 fn are_absent(stamps: &Stamps, row: Row<'_>) -> bool {
     let mut right = true;
     for line in row {
         let (word, rest) = divide(b' ', *line);
-        if word == b"absent".as_slice() {
-            right = right && stamps.find(&id(rest)).is_none();
+        if word == b"no-stamp".as_slice() {
+            right = right && stamps.find(&id_of(rest).0).is_none();
         }
     }
     right
-}
-
-fn id(line: &[u8]) -> Id {
-    let (dev, rest) = divide(b' ', line);
-    let (inode, rest) = divide(b' ', rest);
-    let (ctime, size) = divide(b' ', rest);
-    Id {
-        dev: number(dev),
-        inode: number(inode),
-        ctime: number(ctime),
-        size: number(size),
-    }
 }
 
 // Whether the file has the stamps of the row, and is what is written of them.
@@ -133,15 +120,24 @@ fn is_read(
         said.say(b"other stamps", b"")?;
         return Ok(false);
     }
-    let is_other = value(row, b"other").is_some();
+    let is_other = has(row, b"other");
     Ok((got.written.as_slice() == file) != is_other)
 }
 
+const WORDS: &[Words] = &[&[
+    b"hex",
+    b"stamp",
+    b"no-stamp",
+    b"other",
+    b"damaged",
+    b"bad",
+    b"good",
+    b"more",
+]];
+
 impl Trial for Files {
-    fn words() -> &'static [&'static [u8]] {
-        &[
-            b"hex", b"stamp", b"absent", b"other", b"damaged", b"bad", b"good", b"more",
-        ]
+    fn words() -> &'static [Words] {
+        WORDS
     }
 
     fn is_right(alloc: Global, row: Row<'_>, said: &mut Said) -> Result<bool, NoMemory> {

@@ -5,8 +5,8 @@ use std::alloc::Global;
 use table_rows::{Row, Said, divide, number};
 use tree_face::Id;
 
-// `DEV INODE CTIME SIZE`, and what stands behind.
-fn id_of(line: &[u8]) -> (Id, &[u8]) {
+/// The identity `DEV INODE CTIME SIZE`, and the rest of the line.
+pub(crate) fn id_of(line: &[u8]) -> (Id, &[u8]) {
     let (dev, rest) = divide(b' ', line);
     let (inode, rest) = divide(b' ', rest);
     let (ctime, rest) = divide(b' ', rest);

@@ -3,7 +3,7 @@ use crate::lines::{Outcome, have_same, read_back};
 use aux_cache::{Stamp, Stamps};
 use lib_types::{Abi, NoMemory, Text};
 use std::alloc::Global;
-use table_rows::{Row, Said, Trial, count};
+use table_rows::{Row, Said, Trial, Words, count};
 use tree_face::Id;
 
 /// A row has the number of stamps, which are put in their order, and the number of their different sonames. Their file, made here by its
@@ -87,9 +87,11 @@ fn file_of(alloc: Global, stamps: u64, sonames: u64) -> Result<Vec<u8>, NoMemory
     Ok(file)
 }
 
+const WORDS: &[Words] = &[&[b"stamps", b"sonames"]];
+
 impl Trial for Series {
-    fn words() -> &'static [&'static [u8]] {
-        &[b"stamps", b"sonames"]
+    fn words() -> &'static [Words] {
+        WORDS
     }
 
     fn is_right(alloc: Global, row: Row<'_>, said: &mut Said) -> Result<bool, NoMemory> {

@@ -1,27 +1,22 @@
 //! Which path a cache gives for a name, an ABI and hwcaps names, in how many steps.
 use cache_lookup::{Counted, Sorted, lookup, sorted};
 use cache_reader::CacheView;
-use cache_rows::cache_of;
-use lib_types::{Abi, NoMemory, Text, Texts};
+use cache_rows::{ENTRIES, cache_of};
+use lib_types::{Abi, NoMemory, Texts};
 use std::alloc::Global;
-use table_rows::{Row, Said, Trial, count, divide, number, value};
+use table_rows::{Row, Said, Trial, Words, count, divide, list, number, value};
 
 /// A row has the entries of a cache in their order. A line `find` has an ABI, hwcaps names between colons (`-` for none), a name, and the
 /// path (`-` for none); each takes at most as many steps as `steps` says. `rises` has the index of the first entry whose name is above the
 /// name before it.
 pub(crate) struct Lookups;
 
-fn caps_of(alloc: Global, list: &[u8]) -> Result<Texts, NoMemory> {
-    let mut caps = Texts::new(alloc);
-    let mut rest = list;
-    for _ in 0..list.len() {
-        let (cap, behind) = divide(b':', rest);
-        if !cap.is_empty() && cap != b"-".as_slice() {
-            caps.push(Text::copy_of(alloc, cap)?)?;
-        }
-        rest = behind;
+// The hwcaps names of a list, which is `-` if there is none.
+fn caps_of(alloc: Global, names: &[u8]) -> Result<Texts, NoMemory> {
+    if names == b"-".as_slice() {
+        return Ok(Texts::new(alloc));
     }
-    Ok(caps)
+    list(alloc, b':', names)
 }
 
 // The path, and the number of steps.
@@ -43,13 +38,13 @@ fn is_found(
     said: &mut Said,
 ) -> Result<bool, NoMemory> {
     let (word, rest) = divide(b' ', line);
-    let (list, rest) = divide(b' ', rest);
+    let (caps, rest) = divide(b' ', rest);
     let (name, want) = divide(b' ', rest);
     let Some(abi) = Abi::of_word(word) else {
         said.say(b"no ABI: ", word)?;
         return Ok(false);
     };
-    let (path, steps) = find(cache, name, abi, &caps_of(alloc, list)?);
+    let (path, steps) = find(cache, name, abi, &caps_of(alloc, caps)?);
     if steps > most {
         said.say(b"too many steps: ", line)?;
         return Ok(false);
@@ -57,7 +52,7 @@ fn is_found(
     said.is_same(line, want, path.unwrap_or(b"-"))
 }
 
-// Whether each line behind `find` is as it says.
+// Whether each line `find` is as it says.
 fn are_found(
     alloc: Global,
     cache: &Sorted<'_>,
@@ -97,9 +92,11 @@ fn try_cache(
     }
 }
 
+const WORDS: &[Words] = &[ENTRIES, &[b"find", b"steps", b"rises"]];
+
 impl Trial for Lookups {
-    fn words() -> &'static [&'static [u8]] {
-        &[b"entry", b"series", b"find", b"steps", b"rises"]
+    fn words() -> &'static [Words] {
+        WORDS
     }
 
     fn is_right(alloc: Global, row: Row<'_>, said: &mut Said) -> Result<bool, NoMemory> {

@@ -1,13 +1,14 @@
-//! Caches of the entries that a row of tests tells, in the order in which it tells them, as another writer may have made them.
-//!
-//! An entry stands behind `entry`: its flags, its hwcaps name (`-` for none, `#NUMBER` for a hwcap that is this number), its name and its
-//! path. `series COUNT` stands for so many entries of falling names.
+//! Caches with the entries of a row of tests, in their order there, as another program may have written them.
 #![tactic(auto)]
 
 use cache_layout::{EXTENSION_MAGIC, MAGIC, NAMES_TAG};
 use lib_types::NoMemory;
 use std::alloc::Global;
-use table_rows::{Row, divide, number};
+use table_rows::{Row, Words, divide, number};
+
+/// The words of the entries: `entry FLAGS CAP NAME PATH`, where CAP is the hwcaps name, `-` for none, or `#NUMBER` for a hwcap with this
+/// value, and `series COUNT` for this number of entries with falling names.
+pub const ENTRIES: Words = &[b"entry", b"series"];
 
 const NAMED: u64 = 1 << 62;
 
@@ -45,7 +46,7 @@ impl Parts {
         Ok(u32::try_from(at).unwrap_or(0))
     }
 
-    // The hwcap of an entry: 0 for `-`, a number behind `#`, and for another text the index of this hwcaps name.
+    // The hwcap of an entry: 0 for `-`, a number after `#`, and for another text the index of this hwcaps name.
     fn hwcap(&mut self, cap: &[u8]) -> Result<u64, NoMemory> {
         if cap == b"-".as_slice() {
             return Ok(0);
@@ -87,7 +88,7 @@ fn put_line(parts: &mut Parts, line: &[u8]) -> Result<(), NoMemory> {
     parts.put_entry(number(flags), cap, name, path)
 }
 
-// So many libraries of names that fall: the last has the number 0.
+// Libraries with falling names: the last has the number 0.
 fn put_series(alloc: Global, parts: &mut Parts, count: u64) -> Result<(), NoMemory> {
     for index in 0..count {
         let number = count.saturating_sub(index).saturating_sub(1);
@@ -98,7 +99,7 @@ fn put_series(alloc: Global, parts: &mut Parts, count: u64) -> Result<(), NoMemo
     Ok(())
 }
 
-fn entries_told(row: Row<'_>) -> usize {
+fn count_entries(row: Row<'_>) -> usize {
     let mut count = 0usize;
     for line in row {
         let (word, rest) = divide(b' ', *line);
@@ -158,7 +159,7 @@ fn put_header(out: &mut Vec<u8>, count: usize, parts: &Parts) -> Result<(), NoMe
 
 /// The bytes of a cache with the entries of this row.
 pub fn cache_of(alloc: Global, row: Row<'_>) -> Result<Vec<u8>, NoMemory> {
-    let count = entries_told(row);
+    let count = count_entries(row);
     let mut parts = Parts::new(alloc, count);
     put_lines(alloc, &mut parts, row)?;
     let mut out = Vec::new(alloc);

@@ -1,8 +1,9 @@
 //! Devices that fail, each at each of its calls.
-use command_runs::{Status, run_command};
+use command_runs::Status;
 use command_runs_fixture::{
     Devices, Held, LIBZ_MANIFEST, LIBZ_REPORT, NO_STAMPS, NarrowSink, OLD, ONE_CACHE, Setting,
-    Wanted, all, done, has, image, is_left, make_devices, refused, replacing_calls, run_update,
+    Wanted, all, done, has, image, is_left, make_devices, refused, replacing_calls, run_into,
+    run_update,
 };
 use commands::Command;
 use lib_types::NoMemory;
@@ -349,19 +350,7 @@ const WRITTEN: &[(u64, Status, &[u8])] = &[
     (0, Status::OutputFault, b""),
 ];
 
-// Runs an update that writes to this sink.
-fn update_into(alloc: Global, devices: &mut Devices, out: &mut NarrowSink) -> Status {
-    run_command(
-        alloc,
-        Command::Update { tag: Tag(0) },
-        commands::Devices {
-            store: &mut devices.store,
-            disk: &mut devices.disk,
-            source: &mut devices.input,
-            sink: out,
-        },
-    )
-}
+const UPDATE: Command = Command::Update { tag: Tag(0) };
 
 #[test]
 fn a_sink_takes_parts(rt: HostRuntime) -> Result<(), Fail> {
@@ -369,7 +358,7 @@ fn a_sink_takes_parts(rt: HostRuntime) -> Result<(), Fail> {
     for (call, want, written) in WRITTEN {
         let mut devices = devices_of(alloc, &LIBZ, None)?;
         let mut out = NarrowSink::new(alloc, *call)?;
-        let status = update_into(alloc, &mut devices, &mut out);
+        let status = run_into(alloc, UPDATE, &mut devices, &mut out);
         assert!(rt; status == *want, "call {call}");
         assert!(rt; out.written() == *written, "call {call}");
         assert!(rt;

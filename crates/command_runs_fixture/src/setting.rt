@@ -1,6 +1,7 @@
 //! Devices in memory for one run of the command, and what they have to hold after it.
 ghost use Rattle.std.specs.Prelude.{◌≡◌, ◌∷◌, [], Some, None, IfOk, IfSome, IsSomeAnd, option_map, option_copied};
 
+use crate::narrow_sink::NarrowSink;
 use crate::samples::NO_STAMPS;
 use command_runs::{Status, run_command};
 use commands::Command;
@@ -20,10 +21,11 @@ pub const LIBZ_REPORT: &[u8] = b"1 libs, 0 links, 1 files opened\n";
 /// What a store holds: keys and contents.
 pub type Pairs = Vec<(Text, Text)>;
 
-/// What the Manifest slot and the Aux slot hold, and for each device the number of the call that fails.
+/// The files of a disk, and for each device the number of the call that fails.
 #[derive(Clone, Copy)]
 pub struct Setting<'a> {
     pub manifest: Option<&'a [u8]>,
+    pub cache: Option<&'a [u8]>,
     pub aux: Option<&'a [u8]>,
     pub store_fails: Option<u64>,
     pub disk_fails: Option<u64>,
@@ -50,10 +52,11 @@ pub struct Devices {
     pub out: MemSink,
 }
 
-/// A run with this manifest and an empty Aux slot, in which no device fails.
+/// A disk with this manifest, an old cache and no auxiliary cache. No device fails.
 pub fn image(manifest: &[u8]) -> Setting<'_> {
     Setting {
         manifest: Some(manifest),
+        cache: Some(OLD),
         aux: None,
         store_fails: None,
         disk_fails: None,
@@ -128,7 +131,7 @@ pub fn make_devices(alloc: Global, setting: Setting<'_>, held: Pairs) -> Result<
         disk: MemDisk::new(
             alloc,
             copy(alloc, setting.manifest)?,
-            copy(alloc, Some(OLD))?,
+            copy(alloc, setting.cache)?,
             copy(alloc, setting.aux)?,
             number(alloc, setting.disk_fails)?,
         ),
@@ -137,11 +140,10 @@ pub fn make_devices(alloc: Global, setting: Setting<'_>, held: Pairs) -> Result<
     })
 }
 
-/// Updates the image by way of the temporary files of the tag 0.
-pub fn run_update(alloc: Global, devices: &mut Devices) -> Status {
+fn run(alloc: Global, command: Command, devices: &mut Devices) -> Status {
     run_command(
         alloc,
-        Command::Update { tag: Tag(0) },
+        command,
         commands::Devices {
             store: &mut devices.store,
             disk: &mut devices.disk,
@@ -151,16 +153,31 @@ pub fn run_update(alloc: Global, devices: &mut Devices) -> Status {
     )
 }
 
+/// Updates the image by way of the temporary files of the tag 0.
+pub fn run_update(alloc: Global, devices: &mut Devices) -> Status {
+    run(alloc, Command::Update { tag: Tag(0) }, devices)
+}
+
 /// Takes the script that is the input, by way of the temporary files of the tag 0.
 pub fn run_script(alloc: Global, devices: &mut Devices) -> Status {
+    run(alloc, Command::Batch { tag: Tag(0) }, devices)
+}
+
+/// Runs a command that writes to this sink.
+pub fn run_into(
+    alloc: Global,
+    command: Command,
+    devices: &mut Devices,
+    out: &mut NarrowSink,
+) -> Status {
     run_command(
         alloc,
-        Command::Batch { tag: Tag(0) },
+        command,
         commands::Devices {
             store: &mut devices.store,
             disk: &mut devices.disk,
             source: &mut devices.input,
-            sink: &mut devices.out,
+            sink: out,
         },
     )
 }

@@ -4,7 +4,7 @@ use command_words::command_of;
 use lib_types::NoMemory;
 use std::alloc::Global;
 use std::str::from_utf8;
-use table_rows::{Row, Said, Trial, divide, text};
+use table_rows::{Row, Said, Trial, Words, divide, text};
 
 /// A row has a line for each argument, and the command with its values, or `Usage`.
 pub(crate) struct Arguments;
@@ -24,10 +24,10 @@ fn words_of(alloc: Global, text: &[u8]) -> Result<Vec<String>, NoMemory> {
     Ok(words)
 }
 
-const WORDS: &[&[u8]] = &[b"arguments", b"command"];
+const WORDS: &[Words] = &[&[b"arguments", b"command"]];
 
 impl Trial for Arguments {
-    fn words() -> &'static [&'static [u8]] {
+    fn words() -> &'static [Words] {
         WORDS
     }
 
@@ -35,6 +35,6 @@ impl Trial for Arguments {
     fn is_right(alloc: Global, row: Row<'_>, said: &mut Said) -> Result<bool, NoMemory> {
         let words = words_of(alloc, &text(alloc, row, b"arguments")?)?;
         let got = shown(alloc, command_of(alloc, &words))?;
-        said.is_same(b"command", &text(alloc, row, b"command")?, &got)
+        said.is_text(alloc, row, b"command", &got)
     }
 }

@@ -1,10 +1,10 @@
 //! Rows of edits.
-use crate::loads::disk;
 use crate::shown::shown;
-use lib_types::NoMemory;
+use image_rows::{AUX, MANIFEST, disk_of};
 use image_session::{EditFault, Session};
+use lib_types::NoMemory;
 use std::alloc::Global;
-use table_rows::{Row, Said, Trial, divide, text};
+use table_rows::{Row, Said, Trial, Words, divide, text};
 
 /// A row has the texts of an image, the lines that edit it one after another, the result of each, and the image after them.
 pub(crate) struct Edits;
@@ -41,21 +41,22 @@ fn edit_all(alloc: Global, image: &mut Session, lines: &[u8]) -> Result<Vec<u8>,
     Ok(results)
 }
 
+const WORDS: &[Words] = &[MANIFEST, AUX, &[b"edits", b"results", b"image"]];
+
 impl Trial for Edits {
-    fn words() -> &'static [&'static [u8]] {
-        &[b"manifest", b"aux", b"edits", b"results", b"image"]
+    fn words() -> &'static [Words] {
+        WORDS
     }
 
     // A body that always returns NoMemory meets the contract; the rows refuse it.
     fn is_right(alloc: Global, row: Row<'_>, said: &mut Said) -> Result<bool, NoMemory> {
-        let mut disk = disk(alloc, row)?;
+        let mut disk = disk_of(alloc, row)?;
         let Ok(mut image) = Session::load(alloc, &mut disk) else {
             said.say(b"not loaded", b"")?;
             return Ok(false);
         };
         let results = edit_all(alloc, &mut image, &text(alloc, row, b"edits")?)?;
-        let same = said.is_same(b"results", &text(alloc, row, b"results")?, &results)?;
-        let got = shown(alloc, &image)?;
-        Ok(said.is_same(b"image", &text(alloc, row, b"image")?, &got)? && same)
+        let same = said.is_text(alloc, row, b"results", &results)?;
+        Ok(said.is_text(alloc, row, b"image", &shown(alloc, &image)?)? && same)
     }
 }

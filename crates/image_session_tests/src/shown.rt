@@ -1,7 +1,7 @@
 //! An image that is loaded, as text.
 use aux_cache::Stamp;
-use lib_types::NoMemory;
 use image_session::Session;
+use lib_types::NoMemory;
 use std::alloc::Global;
 
 // Adds the line of a stamp: device, inode, ctime, size, ABI and soname (`-` for none).

@@ -29,22 +29,22 @@ pub fn run_words(alloc: Global, texts: &[&str], devices: &mut Devices) -> Result
     ))
 }
 
-// A command and its arguments, which stand between blanks.
+// A command and its arguments, which are between blanks.
 fn words_in<'a>(alloc: Global, command: &'a str, line: &'a [u8]) -> Result<Vec<&'a str>, NoMemory> {
     let mut words = Vec::new(alloc);
     words.push(command)?;
     let mut rest = line;
     for _ in 0..line.len() {
-        let (word, behind) = divide(b' ', rest);
+        let (word, after) = divide(b' ', rest);
         if !word.is_empty() {
             words.push(from_utf8(word).unwrap_or(""))?;
         }
-        rest = behind;
+        rest = after;
     }
     Ok(words)
 }
 
-/// Runs a command with the arguments of a line, which stand between blanks.
+/// Runs a command with the arguments of a line, which are between blanks.
 pub fn run_line(
     alloc: Global,
     command: &str,

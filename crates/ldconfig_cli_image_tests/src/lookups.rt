@@ -1,41 +1,35 @@
 //! Look-ups in the cache that an update has made.
 use command_runs_fixture::Devices;
-use ldconfig_cli_fixture::run_line;
+use ldconfig_cli_fixture::{Ending, ends_so};
 use lib_types::NoMemory;
 use std::alloc::Global;
 use table_rows::{Row, Said, divide};
-use tree_face::MemSink;
 
-// What is written of a path, with the exit status.
-fn expected(alloc: Global, path: &[u8]) -> Result<(Vec<u8>, u64), NoMemory> {
-    let mut text = Vec::new(alloc);
-    if path == b"-".as_slice() {
-        text.extend_from_slice(b"not found\n")?;
-        return Ok((text, 1));
-    }
-    text.extend_from_slice(path)?;
-    text.push(b'\n')?;
-    Ok((text, 0))
-}
-
-// `PATH ARGUMENTS`
+// `PATH ARGUMENTS`, where the path is `-` if there is none.
 fn is_answered(
     alloc: Global,
     line: &[u8],
     devices: &mut Devices,
     said: &mut Said,
 ) -> Result<bool, NoMemory> {
-    let (path, rest) = divide(b' ', line);
-    let (want, status) = expected(alloc, path)?;
-    devices.out = MemSink::new(alloc, Vec::new(alloc));
-    let got = run_line(alloc, "lookup", rest, devices)?;
-    Ok(
-        said.is_same(line, &want, devices.out.written())?
-            && said.is_number(alloc, b"status", status, u64::from(got.code()))?,
-    )
+    let (path, arguments) = divide(b' ', line);
+    if path == b"-".as_slice() {
+        let want = Ending {
+            status: 1,
+            output: b"not found\n",
+        };
+        return ends_so(alloc, "lookup", arguments, want, devices, said);
+    }
+    let mut output = Vec::from_slice(alloc, path)?;
+    output.push(b'\n')?;
+    let want = Ending {
+        status: 0,
+        output: &output,
+    };
+    ends_so(alloc, "lookup", arguments, want, devices, said)
 }
 
-/// Whether each look-up of the row has its path, which is `-` if there is none.
+/// Whether each look-up of the row has its path.
 pub(crate) fn are_answered(
     alloc: Global,
     row: Row<'_>,

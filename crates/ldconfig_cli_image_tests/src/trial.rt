@@ -1,176 +1,165 @@
-//! One row: an update of an image, a print of its cache, look-ups in it, and a second update.
-use crate::auxes::{left, loaded};
-use crate::image::{
-    Command, content, devices_of, either, has_replaced, is_cache, is_printed, is_run, is_text,
+//! One row: an image, and its update or its script.
+use crate::left::{
+    are_untouched, are_updated, content, has_manifest, has_records, has_replaced,
 };
-use crate::lookups::are_answered;
-use command_runs_fixture::{Devices, OLD, has};
+use command_runs_fixture::{Devices, image};
+use elf_samples::SampleFault;
+use image_rows::{AUX, FILES, MANIFEST, is_made};
+use ldconfig_cli_fixture::{Ending, devices_of, ends_so};
 use lib_types::NoMemory;
 use std::alloc::Global;
-use table_rows::{Row, Said, Trial, count, value};
+use table_rows::{Row, Said, Trial, Words, count, has, text, value};
 use tree_face::Slot;
 
-/// A row has a manifest and an auxiliary cache, if there are such, what the store holds, the status if the update is refused, how many
-/// files are begun, and the report or the fault line. If the update is done: the report of a second one if it is another, the new manifest
-/// if one is written, the auxiliary cache if it has stamps, what is printed of the cache, what look-ups in it answer, and its length or its
-/// bytes if they are compared.
-pub(crate) struct Update;
+/// A row has a manifest, the store's files and an auxiliary cache, as far as there are such, and the script if `batch` is run instead of
+/// `update`. It has the exit status if that isn't 0, what is written, how many files are opened, and for a script which files are replaced,
+/// in their order, by their first letters. If some are, it has the new manifest if one is written, the new records if there are some, what is
+/// printed of the new cache, what look-ups in it answer, and its length or its bytes if they are compared. After an update without an error a
+/// second one follows, which writes `again`, or the same without the line.
+pub(crate) struct Image;
 
-// Whether the manifest is the one that an update leaves.
-fn is_left(
-    alloc: Global,
-    row: Row<'_>,
-    devices: &mut Devices,
-    said: &mut Said,
-) -> Result<bool, NoMemory> {
-    let manifest = content(alloc, devices, Slot::Manifest);
-    is_text(
-        alloc,
-        row,
-        either(row, b"new", b"manifest"),
-        &manifest,
-        said,
-    )
-}
+const WORDS: &[Words] = &[
+    MANIFEST,
+    FILES,
+    AUX,
+    &[
+        b"script",
+        b"status",
+        b"output",
+        b"opened",
+        b"replaced",
+        b"new-manifest",
+        b"new-records",
+        b"new-cache",
+        b"size",
+        b"print",
+        b"lookup",
+        b"again",
+    ],
+];
 
-// Whether the auxiliary cache is the one that an update leaves. One that is refused leaves the old one.
-fn is_aux_left(
-    alloc: Global,
-    row: Row<'_>,
-    devices: &mut Devices,
-    said: &mut Said,
-) -> Result<bool, NoMemory> {
-    if value(row, b"status").is_some() {
-        let aux = loaded(alloc, row)?;
-        return Ok(has(alloc, &mut devices.disk, Slot::Aux, aux.as_deref()));
-    }
-    let got = content(alloc, devices, Slot::Aux);
-    said.is_same(b"left", &left(alloc, row)?, &got)
-}
-
-// The slots that the first update writes, or those that both write, of which the second writes no manifest. One that is refused writes
-// none.
-fn slots(row: Row<'_>, both: bool) -> &'static [Slot] {
-    if value(row, b"status").is_some() {
-        return &[];
-    }
-    match (value(row, b"new").is_some(), both) {
-        (false, false) => &[Slot::Cache, Slot::Aux],
-        (false, true) => &[Slot::Cache, Slot::Aux, Slot::Cache, Slot::Aux],
-        (true, false) => &[Slot::Manifest, Slot::Cache, Slot::Aux],
-        (true, true) => &[
-            Slot::Manifest,
-            Slot::Cache,
-            Slot::Aux,
-            Slot::Cache,
-            Slot::Aux,
-        ],
+// The file with this first letter.
+fn slot_of(letter: u8) -> Option<Slot> {
+    match letter {
+        b'M' => Some(Slot::Manifest),
+        b'C' => Some(Slot::Cache),
+        b'A' => Some(Slot::Aux),
+        _ => None,
     }
 }
 
+fn push_slots(slots: &mut Vec<Slot>, letters: &[u8]) -> Result<(), NoMemory> {
+    for letter in letters {
+        if let Some(slot) = slot_of(*letter) {
+            slots.push(slot)?;
+        }
+    }
+    Ok(())
+}
+
+// The letters of the replaced files. An update that is refused replaces none, and another one the manifest if there is a new one.
+fn replaced<'a>(row: Row<'a>) -> &'a [u8] {
+    if has(row, b"script") {
+        value(row, b"replaced").unwrap_or(b"")
+    } else if has(row, b"status") {
+        b""
+    } else if has(row, b"new-manifest") {
+        b"MCA"
+    } else {
+        b"CA"
+    }
+}
+
+// Whether the command of the row ends as the row says, and has replaced these files.
 fn is_first(
     alloc: Global,
     row: Row<'_>,
+    slots: &[Slot],
     devices: &mut Devices,
     said: &mut Said,
 ) -> Result<bool, NoMemory> {
-    let update = Command {
-        word: "update",
+    let command = if has(row, b"script") { "batch" } else { "update" };
+    let output = text(alloc, row, b"output")?;
+    let want = Ending {
         status: count(row, b"status"),
-        text: b"report",
+        output: &output,
     };
     Ok(
-        is_run(alloc, row, update, devices, said)?
-            && said.is_number(alloc, b"begun", count(row, b"begun"), devices.store.begun())?
-            && has_replaced(alloc, devices, slots(row, false), said)?
-            && is_left(alloc, row, devices, said)?
-            && is_aux_left(alloc, row, devices, said)?,
+        ends_so(alloc, command, b"", want, devices, said)?
+            && said.is_number(alloc, b"opened", count(row, b"opened"), devices.store.begun())?
+            && has_replaced(alloc, devices, slots, said)?
+            && has_manifest(alloc, row, devices, said)?,
     )
 }
 
-// Whether the second update reports the same but for the links and what is opened, and leaves this cache and the same stamps.
+// The word of what a second update writes.
+fn second_output(row: Row<'_>) -> &'static [u8] {
+    if has(row, b"again") {
+        b"again"
+    } else {
+        b"output"
+    }
+}
+
+// Whether a second update leaves the same manifest, the same cache and the same records.
 fn is_second(
     alloc: Global,
     row: Row<'_>,
+    slots: &[Slot],
     devices: &mut Devices,
-    cache: &[u8],
     said: &mut Said,
 ) -> Result<bool, NoMemory> {
-    let update = Command {
-        word: "update",
+    let cache = content(alloc, devices, Slot::Cache);
+    let output = text(alloc, row, second_output(row))?;
+    let want = Ending {
         status: 0,
-        text: either(row, b"again", b"report"),
+        output: &output,
     };
     Ok(
-        is_run(alloc, row, update, devices, said)?
-            && has_replaced(alloc, devices, slots(row, true), said)?
-            && is_left(alloc, row, devices, said)?
-            && said.is_same(b"cache", cache, &content(alloc, devices, Slot::Cache))?
-            && is_aux_left(alloc, row, devices, said)?,
+        ends_so(alloc, "update", b"", want, devices, said)?
+            && has_replaced(alloc, devices, slots, said)?
+            && has_manifest(alloc, row, devices, said)?
+            && said.is_same(b"cache", &cache, &content(alloc, devices, Slot::Cache))?
+            && has_records(alloc, row, devices, said)?,
     )
 }
 
-// Updates an image, prints its cache, looks names up in it, and updates it once more. A `run` that always returns NoMemory meets its contract; this
-// refuses it.
+// Runs the command of the row, looks at all that it leaves, and updates the image again.
 fn is_as_written(
     alloc: Global,
     row: Row<'_>,
     devices: &mut Devices,
     said: &mut Said,
 ) -> Result<bool, NoMemory> {
-    if !is_first(alloc, row, devices, said)? {
+    let mut slots = Vec::new(alloc);
+    push_slots(&mut slots, replaced(row))?;
+    if !is_first(alloc, row, &slots, devices, said)? {
         return Ok(false);
     }
-    let cache = content(alloc, devices, Slot::Cache);
-    if value(row, b"status").is_some() {
-        return said.is_same(b"cache", OLD, &cache);
+    if slots.is_empty() {
+        return are_untouched(alloc, row, devices, said);
     }
-    Ok(
-        is_cache(alloc, row, &cache, said)?
-            && is_printed(alloc, row, devices, said)?
-            && are_answered(alloc, row, devices, said)?
-            && is_second(alloc, row, devices, &cache, said)?,
-    )
+    let are_updated = are_updated(alloc, row, devices, said)?;
+    if has(row, b"script") {
+        return Ok(are_updated);
+    }
+    push_slots(&mut slots, b"CA")?;
+    Ok(are_updated && is_second(alloc, row, &slots, devices, said)?)
 }
 
-const WORDS: &[&[u8]] = &[
-    b"manifest",
-    b"aux",
-    b"loaded",
-    b"aux-changed",
-    b"aux-cut",
-    b"left",
-    b"library",
-    b"library-i386",
-    b"library-x32",
-    b"library-aarch64",
-    b"changed",
-    b"cut",
-    b"nameless",
-    b"file",
-    b"begun",
-    b"report",
-    b"again",
-    b"new",
-    b"print",
-    b"lookup",
-    b"size",
-    b"cache",
-    b"status",
-];
+fn try_row(alloc: Global, row: Row<'_>, said: &mut Said) -> Result<bool, SampleFault> {
+    let mut devices = devices_of(alloc, row, image(b""))?;
+    Ok(is_as_written(alloc, row, &mut devices, said)?)
+}
 
-impl Trial for Update {
-    fn words() -> &'static [&'static [u8]] {
+impl Trial for Image {
+    fn words() -> &'static [Words] {
         WORDS
     }
 
+    // A `run` that always returns NoMemory meets its contract; the rows refuse it.
     fn is_right(alloc: Global, row: Row<'_>, said: &mut Said) -> Result<bool, NoMemory> {
-        match devices_of(alloc, row) {
-            Ok(mut devices) => is_as_written(alloc, row, &mut devices, said),
-            Err(_) => {
-                said.say(b"no such library", b"")?;
-                Ok(false)
-            }
-        }
+        let tried = try_row(alloc, row, said);
+        is_made(tried, said)
     }
 }

@@ -1,7 +1,9 @@
-//! Tests of the commands `print` and `lookup` over devices in memory: each kind of Cache slot, and devices that fail.
+//! Tests of the commands `print` and `lookup` over devices in memory: each kind of cache file, and devices that fail.
 #![tactic(auto)]
 
 #[cfg(test)]
 mod lookups;
 #[cfg(test)]
 mod prints;
+#[cfg(test)]
+mod run;

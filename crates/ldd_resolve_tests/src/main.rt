@@ -1,7 +1,6 @@
 //! Tests of what is listed of a program, and of the text of a listing. Each table is a file of data/.
 #![tactic(auto)]
 
-mod given;
 mod listings;
 
 use crate::listings::Listings;

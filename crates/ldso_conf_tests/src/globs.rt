@@ -2,9 +2,9 @@
 use conf_patterns::glob_match;
 use lib_types::NoMemory;
 use std::alloc::Global;
-use table_rows::{Row, Said, Trial, divide};
+use table_rows::{Row, Said, Trial, Words, divide};
 
-/// Each line has a pattern and a name behind `match`, or behind `other` if they don't match.
+/// Each line has a pattern and a name after `match`, or after `mismatch` if they don't match.
 pub(crate) struct Globs;
 
 fn is_as_said(line: &[u8]) -> bool {
@@ -13,9 +13,11 @@ fn is_as_said(line: &[u8]) -> bool {
     line.is_empty() || glob_match(pattern, name) == (word == b"match".as_slice())
 }
 
+const WORDS: &[Words] = &[&[b"match", b"mismatch"]];
+
 impl Trial for Globs {
-    fn words() -> &'static [&'static [u8]] {
-        &[b"match", b"other"]
+    fn words() -> &'static [Words] {
+        WORDS
     }
 
     fn is_right(_alloc: Global, row: Row<'_>, said: &mut Said) -> Result<bool, NoMemory> {

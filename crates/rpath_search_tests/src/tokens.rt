@@ -2,17 +2,17 @@
 use lib_types::{NoMemory, Text};
 use origin_expand::expand;
 use std::alloc::Global;
-use table_rows::{Row, Said, Trial, divide, value};
+use table_rows::{Row, Said, Trial, Words, divide, has, value};
 
-/// A row has what the tokens stand for, and `secure` in secure execution. Each line `text` is followed by what it gives, `-` if it is
-/// dropped.
+/// A row has what the tokens are replaced by, and `secure` in secure execution. Each line `text` is followed by the result, `-` if the text
+/// is dropped.
 pub(crate) struct Tokens;
 
 fn expanded(alloc: Global, row: Row<'_>, text: &[u8]) -> Result<Option<Text>, NoMemory> {
     let origin = value(row, b"origin").unwrap_or(b"");
     let lib = value(row, b"lib").unwrap_or(b"");
     let platform = value(row, b"platform").unwrap_or(b"");
-    let secure = value(row, b"secure").is_some();
+    let secure = has(row, b"secure");
     expand(alloc, text, origin, lib, platform, secure)
 }
 
@@ -29,9 +29,18 @@ fn gives(
     }
 }
 
+const WORDS: &[Words] = &[&[
+    b"origin",
+    b"lib",
+    b"platform",
+    b"secure",
+    b"text",
+    b"gives",
+]];
+
 impl Trial for Tokens {
-    fn words() -> &'static [&'static [u8]] {
-        &[b"origin", b"lib", b"platform", b"secure", b"text", b"gives"]
+    fn words() -> &'static [Words] {
+        WORDS
     }
 
     fn is_right(alloc: Global, row: Row<'_>, said: &mut Said) -> Result<bool, NoMemory> {

@@ -3,12 +3,10 @@ use crate::shown::shown;
 use lib_types::NoMemory;
 use script_lines::read_line;
 use std::alloc::Global;
-use table_rows::{Row, Said, Trial, text};
+use table_rows::{Row, Said, Trial, Words, text};
 
 /// A row has a line, with its line feed, and what it asks for or its fault.
 pub(crate) struct Lines;
-
-const WORDS: &[&[u8]] = &[b"line", b"asks"];
 
 // The text without its last byte, the line feed.
 fn line_of(text: &[u8]) -> &[u8] {
@@ -19,8 +17,10 @@ fn line_of(text: &[u8]) -> &[u8] {
     }
 }
 
+const WORDS: &[Words] = &[&[b"line", b"asks"]];
+
 impl Trial for Lines {
-    fn words() -> &'static [&'static [u8]] {
+    fn words() -> &'static [Words] {
         WORDS
     }
 
@@ -28,6 +28,6 @@ impl Trial for Lines {
     fn is_right(alloc: Global, row: Row<'_>, said: &mut Said) -> Result<bool, NoMemory> {
         let line = text(alloc, row, b"line")?;
         let got = shown(alloc, read_line(alloc, line_of(&line)))?;
-        said.is_same(b"asks", &text(alloc, row, b"asks")?, &got)
+        said.is_text(alloc, row, b"asks", &got)
     }
 }

@@ -1,7 +1,7 @@
 //! The store, the disk and the sink, failing at each of their calls.
 use crate::script::{CALLS, UPDATES, devices_of, is_after, may_be_left, reports, sure, text_of};
-use command_runs::{Status, run_command};
-use command_runs_fixture::{Devices, NarrowSink, Setting, run_script};
+use command_runs::Status;
+use command_runs_fixture::{Devices, NarrowSink, Setting, run_into, run_script};
 use commands::Command;
 use std::alloc::Global;
 use std::process::Abort;
@@ -129,19 +129,7 @@ fn written_before(call: u64) -> (u64, u64) {
     }
 }
 
-// Runs the script with a sink that takes seven bytes at a call.
-fn run_into(alloc: Global, devices: &mut Devices, out: &mut NarrowSink) -> Status {
-    run_command(
-        alloc,
-        Command::Batch { tag: Tag(0) },
-        commands::Devices {
-            store: &mut devices.store,
-            disk: &mut devices.disk,
-            source: &mut devices.input,
-            sink: out,
-        },
-    )
-}
+const BATCH: Command = Command::Batch { tag: Tag(0) };
 
 // The second report has 70 bytes, which are ten calls.
 #[test]
@@ -150,7 +138,7 @@ fn a_sink_takes_parts(rt: HostRuntime) -> Result<(), Fail> {
     for call in 0..FIRST_CALLS.saturating_add(10) {
         let mut devices = devices_of(alloc, sure())?;
         let mut out = NarrowSink::new(alloc, call)?;
-        let status = run_into(alloc, &mut devices, &mut out);
+        let status = run_into(alloc, BATCH, &mut devices, &mut out);
         let (size, updates) = written_before(call);
         assert!(rt; status == Status::OutputFault, "call {call}");
         assert!(rt; out.written().len() as u64 == size, "call {call}");

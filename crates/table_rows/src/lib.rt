@@ -1,11 +1,14 @@
-//! Tests whose rows are written down in text files, so that a row more costs no proof. A program of tests says by a `Trial` what a row
-//! has to say, and has its tables tried, which lie in its data/. `docs/CHANGING.md` says how a table is written.
+//! Tests whose rows are written in text files, so that another row costs no proof. A test program says by a `Trial` which words a row
+//! has, and tries its tables, which are the files of its data/. `docs/CHANGING.md` says how a table is written.
 #![tactic(auto)]
 
 mod lines;
 mod said;
 mod table;
 
-pub use lines::{Row, count, divide, number, text, text_below, value};
+pub use lines::{
+    Row, calls, count, divide, has, lines_before, lines_in, list, number, optional_text,
+    owned_value, text, text_below, value, values,
+};
 pub use said::Said;
-pub use table::{Trial, status, try_tables};
+pub use table::{Trial, Words, status, try_tables};

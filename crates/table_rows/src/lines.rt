@@ -1,5 +1,5 @@
 //! The lines of a table, and what they say.
-use lib_types::NoMemory;
+use lib_types::{NoMemory, Text, Texts};
 use memchr::memchr;
 use std::alloc::Global;
 
@@ -126,4 +126,95 @@ pub fn count(row: Row<'_>, word: &[u8]) -> u64 {
         Some(digits) => number(digits),
         None => 0,
     }
+}
+
+/// Whether a line begins with this word.
+pub fn has(row: Row<'_>, word: &[u8]) -> bool {
+    value(row, word).is_some()
+}
+
+/// The text below this word, if the row has the word.
+pub fn optional_text(
+    alloc: Global,
+    row: Row<'_>,
+    word: &[u8],
+) -> Result<Option<Vec<u8>>, NoMemory> {
+    match value(row, word) {
+        Some(_) => Ok(Some(text(alloc, row, word)?)),
+        None => Ok(None),
+    }
+}
+
+/// The value of the first line with this word.
+pub fn owned_value(alloc: Global, row: Row<'_>, word: &[u8]) -> Result<Option<Text>, NoMemory> {
+    match value(row, word) {
+        Some(value) => Ok(Some(Text::copy_of(alloc, value)?)),
+        None => Ok(None),
+    }
+}
+
+/// The values of all lines with this word.
+pub fn values(alloc: Global, row: Row<'_>, word: &[u8]) -> Result<Texts, NoMemory> {
+    let mut values = Texts::new(alloc);
+    for line in row {
+        let (first, rest) = divide(b' ', *line);
+        if first == word {
+            values.push(Text::copy_of(alloc, rest)?)?;
+        }
+    }
+    Ok(values)
+}
+
+/// The number of the call that fails, by the line with this word; none without the line.
+pub fn calls(alloc: Global, row: Row<'_>, word: &[u8]) -> Result<Vec<u64>, NoMemory> {
+    let mut calls = Vec::new(alloc);
+    if let Some(digits) = value(row, word) {
+        calls.push(number(digits))?;
+    }
+    Ok(calls)
+}
+
+/// The lines before the first that begins with one of these words.
+pub fn lines_before<'a>(words: &[&[u8]], lines: Row<'a>) -> Row<'a> {
+    for (index, line) in lines.iter().enumerate() {
+        if begins_with(words, line) {
+            return &lines[..index];
+        }
+    }
+    lines
+}
+
+/// Whether a line begins with one of these words.
+pub(crate) fn begins_with(words: &[&[u8]], line: &[u8]) -> bool {
+    let (first, _) = divide(b' ', line);
+    for word in words {
+        if *word == first {
+            return true;
+        }
+    }
+    false
+}
+
+/// The parts of a text between such bytes, except empty ones.
+pub fn list(alloc: Global, byte: u8, text: &[u8]) -> Result<Texts, NoMemory> {
+    let mut list = Texts::new(alloc);
+    let mut rest = text;
+    for _ in 0..text.len() {
+        let (part, after) = divide(byte, rest);
+        if !part.is_empty() {
+            list.push(Text::copy_of(alloc, part)?)?;
+        }
+        rest = after;
+    }
+    Ok(list)
+}
+
+/// These texts, each as a line.
+pub fn lines_in(alloc: Global, texts: &Texts) -> Result<Vec<u8>, NoMemory> {
+    let mut lines = Vec::new(alloc);
+    for text in texts.as_slice() {
+        lines.extend_from_slice(text.as_bytes())?;
+        lines.push(b'\n')?;
+    }
+    Ok(lines)
 }

@@ -1,4 +1,5 @@
 //! What is said of rows that differ.
+use crate::lines::{Row, text};
 use lib_types::NoMemory;
 use std::alloc::Global;
 
@@ -38,6 +39,18 @@ impl Said {
         self.say(name, b": got")?;
         self.say(got, b"")?;
         Ok(false)
+    }
+
+    /// Whether this is the row's text below the word; if not, says what both are.
+    pub fn is_text(
+        &mut self,
+        alloc: Global,
+        row: Row<'_>,
+        word: &[u8],
+        got: &[u8],
+    ) -> Result<bool, NoMemory> {
+        let want = text(alloc, row, word)?;
+        self.is_same(word, &want, got)
     }
 
     /// The same of two numbers.

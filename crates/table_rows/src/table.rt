@@ -1,5 +1,5 @@
 //! Tables, tried row by row.
-use crate::lines::{Row, divide, expanded, lines_of, of_text};
+use crate::lines::{Row, begins_with, expanded, lines_before, lines_of, of_text};
 use crate::said::Said;
 use lib_types::NoMemory;
 use std::alloc::Global;
@@ -7,10 +7,13 @@ use std::io::ErrorKind;
 use std::process::ExitCode;
 use std::{fs, io};
 
-/// What a row has to say, and how it is tried.
+/// Words with which the lines of a row begin.
+pub type Words = &'static [&'static [u8]];
+
+/// What a row says, and how it is tried.
 pub trait Trial {
-    /// The words with which a row's lines begin, but for those of its texts.
-    fn words() -> &'static [&'static [u8]];
+    /// The words with which a row's lines begin, except those of its texts, in one list or several.
+    fn words() -> &'static [Words];
 
     /// Whether a row's subject is as the row says; says what differs.
     fn is_right(alloc: Global, row: Row<'_>, said: &mut Said) -> Result<bool, NoMemory>;
@@ -23,37 +26,21 @@ struct Counts {
     differ: u64,
 }
 
-fn is_head(line: &[u8]) -> bool {
-    line.starts_with(b"row ")
-}
+const HEAD: Words = &[b"row"];
 
-// The lines before the next head.
-fn own_lines<'a>(lines: &'a [&'a [u8]]) -> Row<'a> {
-    for (index, line) in lines.iter().enumerate() {
-        if is_head(line) {
-            return &lines[..index];
-        }
-    }
-    lines
-}
-
-fn is_one_of(words: &[&[u8]], word: &[u8]) -> bool {
-    for other in words {
-        if *other == word {
+fn is_known(lists: &[Words], line: &[u8]) -> bool {
+    for words in lists {
+        if begins_with(words, line) {
             return true;
         }
     }
-    false
-}
-
-fn is_known(words: &[&[u8]], line: &[u8]) -> bool {
-    line.is_empty() || of_text(line).is_some() || is_one_of(words, divide(b' ', line).0)
+    line.is_empty() || of_text(line).is_some()
 }
 
 // Whether each line of a row is one that a row can have; says which isn't.
-fn are_known(words: &[&[u8]], row: Row<'_>, said: &mut Said) -> Result<bool, NoMemory> {
+fn are_known(lists: &[Words], row: Row<'_>, said: &mut Said) -> Result<bool, NoMemory> {
     for line in row {
-        if !is_known(words, line) {
+        if !is_known(lists, line) {
             said.say(b"no line of a row: ", line)?;
             return Ok(false);
         }
@@ -78,9 +65,10 @@ fn is_right<T: Trial>(
 fn try_rows<T: Trial>(alloc: Global, lines: &[&[u8]], said: &mut Said) -> Result<Counts, NoMemory> {
     let (mut rows, mut differ) = (0u64, 0u64);
     for (index, line) in lines.iter().enumerate() {
-        if is_head(line) {
+        if begins_with(HEAD, line) {
             rows = rows.saturating_add(1);
-            if !is_right::<T>(alloc, line, own_lines(&lines[index + 1..]), said)? {
+            let row = lines_before(HEAD, &lines[index + 1..]);
+            if !is_right::<T>(alloc, line, row, said)? {
                 differ = differ.saturating_add(1);
             }
         }

@@ -2,7 +2,7 @@
 use crate::shown::Seen;
 use lib_types::{NoMemory, Text};
 use std::alloc::Global;
-use table_rows::{Row, Said, Trial, divide, number, text, value};
+use table_rows::{Row, Said, Trial, Words, divide, number, owned_value, value};
 use tree_face::Tag;
 use update_world::{Post, Posts, Turn, World, WorldFault};
 
@@ -23,13 +23,6 @@ fn posts_of(alloc: Global, row: Row<'_>) -> Result<Posts, NoMemory> {
         }
     }
     Ok(posts)
-}
-
-fn first_of(alloc: Global, row: Row<'_>) -> Result<Option<Text>, NoMemory> {
-    match value(row, b"first") {
-        Some(bytes) => Ok(Some(Text::copy_of(alloc, bytes)?)),
-        None => Ok(None),
-    }
 }
 
 fn turns_of(alloc: Global, round: &[u8]) -> Result<Vec<Turn>, NoMemory> {
@@ -58,16 +51,6 @@ fn take_rounds(alloc: Global, world: &mut World, rounds: &[u8]) -> Result<Seen, 
     Ok(seen)
 }
 
-fn is_text(
-    alloc: Global,
-    row: Row<'_>,
-    word: &[u8],
-    got: &[u8],
-    said: &mut Said,
-) -> Result<bool, NoMemory> {
-    said.is_same(word, &text(alloc, row, word)?, got)
-}
-
 fn are_right(
     alloc: Global,
     row: Row<'_>,
@@ -75,8 +58,8 @@ fn are_right(
     said: &mut Said,
 ) -> Result<bool, NoMemory> {
     let got = take_rounds(alloc, world, value(row, b"rounds").unwrap_or(b""))?;
-    let read = is_text(alloc, row, b"readings", &got.read, said)?;
-    Ok(is_text(alloc, row, b"left", &got.left, said)? && read)
+    let read = said.is_text(alloc, row, b"readings", &got.read)?;
+    Ok(said.is_text(alloc, row, b"left", &got.left)? && read)
 }
 
 fn is_tag(alloc: Global, tag: Tag, want: &[u8], said: &mut Said) -> Result<bool, NoMemory> {
@@ -84,24 +67,24 @@ fn is_tag(alloc: Global, tag: Tag, want: &[u8], said: &mut Said) -> Result<bool,
     said.is_same(b"same-tag", want, got.as_bytes())
 }
 
-const WORDS: &[&[u8]] = &[
+const WORDS: &[Words] = &[&[
     b"first",
     b"post",
     b"rounds",
     b"readings",
     b"left",
     b"same-tag",
-];
+]];
 
 impl Trial for Rounds {
-    fn words() -> &'static [&'static [u8]] {
+    fn words() -> &'static [Words] {
         WORDS
     }
 
     // A body that always returns NoMemory meets the contract; the rows refuse it.
     fn is_right(alloc: Global, row: Row<'_>, said: &mut Said) -> Result<bool, NoMemory> {
         let want = value(row, b"same-tag").unwrap_or(b"");
-        match World::new(alloc, first_of(alloc, row)?, posts_of(alloc, row)?) {
+        match World::new(alloc, owned_value(alloc, row, b"first")?, posts_of(alloc, row)?) {
             Ok(mut world) => Ok(are_right(alloc, row, &mut world, said)? && want.is_empty()),
             Err(WorldFault::SameTag { tag }) => is_tag(alloc, tag, want, said),
             Err(WorldFault::NoMemory) => Err(NoMemory),

@@ -1,0 +1,17 @@
+//! What the rows of tests say of an image: the manifest, the files of the store, the cache and the auxiliary cache, and what its loader is
+//! given. A test program lists the words of the functions that it calls (`MANIFEST` of `tree_of`, `FILES` of `held_of`, ..), and has words
+//! of its own only for what it asks and what it expects.
+#![tactic(auto)]
+
+mod auxes;
+mod disk;
+mod files;
+mod lines;
+mod loader;
+mod tree;
+
+pub use auxes::{AUX, aux_of, records_in};
+pub use disk::{CACHE, DISK_FAILS, cache_in, disk_of, slots_in};
+pub use files::{FILES, Pairs, STORE_FAILS, held_of, is_made, store_of};
+pub use loader::{LOADER, env_of};
+pub use tree::{MANIFEST, tree_of};

@@ -1,0 +1,56 @@
+//! The devices of a row, and how a command ends on them.
+use crate::words::run_line;
+use command_runs_fixture::{Devices, Setting, make_devices};
+use elf_samples::SampleFault;
+use image_rows::{aux_of, held_of};
+use lib_types::NoMemory;
+use std::alloc::Global;
+use table_rows::{Row, Said, optional_text, text};
+use tree_face::{MemSink, MemSource};
+
+/// Devices with the files of a row's store, its manifest, its auxiliary cache, and its script as the input, as far as there are such. The
+/// setting has the cache, and which calls fail.
+pub fn devices_of(
+    alloc: Global,
+    row: Row<'_>,
+    setting: Setting<'_>,
+) -> Result<Devices, SampleFault> {
+    let manifest = optional_text(alloc, row, b"manifest")?;
+    let aux = aux_of(alloc, row)?;
+    let held = held_of(alloc, row)?;
+    let setting = Setting {
+        manifest: manifest.as_deref(),
+        aux: aux.as_deref(),
+        ..setting
+    };
+    let mut devices = make_devices(alloc, setting, held)?;
+    devices.input = MemSource::new(text(alloc, row, b"script")?, Vec::new(alloc));
+    Ok(devices)
+}
+
+/// The exit status of a command, and what it writes.
+#[derive(Clone, Copy)]
+pub struct Ending<'a> {
+    pub status: u64,
+    pub output: &'a [u8],
+}
+
+/// Runs a command with the arguments of a line, which are between blanks, and a new sink. Whether it ends so; says what differs.
+pub fn ends_so(
+    alloc: Global,
+    command: &str,
+    line: &[u8],
+    want: Ending<'_>,
+    devices: &mut Devices,
+    said: &mut Said,
+) -> Result<bool, NoMemory> {
+    devices.out = MemSink::new(alloc, Vec::new(alloc));
+    let got = run_line(alloc, command, line, devices)?;
+    let is_so = said.is_same(b"output", want.output, devices.out.written())?
+        && said.is_number(alloc, b"status", want.status, u64::from(got.code()))?;
+    if !is_so {
+        said.say(b"of the command ", command.as_bytes())?;
+        said.say(b"with ", line)?;
+    }
+    Ok(is_so)
+}

@@ -1,0 +1,34 @@
+//! A run of a command that reads only the cache.
+use command_runs::Status;
+use command_runs_fixture::{Setting, image, make_devices};
+use ldconfig_cli_fixture::run_words;
+use std::alloc::Global;
+use std::process::Abort;
+use std::test::Fail;
+
+/// A disk with this cache alone. No device fails.
+pub(crate) fn disk_with(cache: Option<&[u8]>) -> Setting<'_> {
+    Setting {
+        manifest: None,
+        cache,
+        ..image(b"")
+    }
+}
+
+/// Runs the command, and compares the status and what it writes. It may open no file and write to none.
+pub(crate) fn assert_run(
+    rt: &impl Abort,
+    alloc: Global,
+    setting: Setting<'_>,
+    arguments: &[&str],
+    status: Status,
+    written: &[u8],
+) -> Result<(), Fail> {
+    let mut devices = make_devices(alloc, setting, Vec::new(alloc))?;
+    let ended = run_words(alloc, arguments, &mut devices)?;
+    assert!(rt; ended == status);
+    assert!(rt; devices.out.written() == written);
+    assert!(rt; devices.store.begun() == 0);
+    assert!(rt; devices.disk.calls().is_empty());
+    Ok(())
+}
