@@ -8,7 +8,7 @@ use Rattle.std.proofs.lemmas.List.{append-nil, drop_more}
 use Rattle.std.proofs.lemmas.List.Elements.{All-cons, All-nil}
 use Rattle.std.proofs.lemmas.List.Folds.{list_all-append, list_any-append}
 use Rattle.std.proofs.lemmas.List.Splits.{slice_split-cons_yes, slice_split-cons_no, slice_split_none, length-slice_split}
-use Rattle.lib_types.specs.Name.{is_name, is_unescaped, have_no_slash}
+use Rattle.lib_types.specs.Name.{is_name, is_plain_ascii, have_no_slash}
 use Rattle.lib_types.proofs.Bools.{not_true}
 use Rattle.lib_types.proofs.Plain.{plain_bytes}
 use Rattle.lib_types.proofs.SortedPairs.{by_test}
@@ -65,7 +65,7 @@ named_above folder known (inr more) h = named_front folder more.0 (subst IsNamed
 -- ---- one name more
 
 record IsOwn (name : List ℕ) : Type 0 where
-  plain : is_unescaped name ≡ true
+  plain : is_plain_ascii name ≡ true
   split : All (λ b. is_slash b ≡ false) name
   direct : list_any (λ b. eqb b backslash) name ≡ false
 
@@ -78,7 +78,7 @@ own_bytes (b ∷ name) h =
     let direct = and_parts (not (eqb b 47) && not (eqb b 0)) (not (eqb b backslash)) ascii.0 in
     let no_slash = and_parts (not (eqb b 47)) (not (eqb b 0)) direct.0 in
     record {
-      plain = and_from (not (eqb b 47) && not (eqb b 0) && ltb b 128) (is_unescaped name) (and_from (not (eqb b 47) && not (eqb b 0)) (ltb b 128) direct.0 ascii.1) more.plain;
+      plain = and_from (not (eqb b 47) && not (eqb b 0) && ltb b 128) (is_plain_ascii name) (and_from (not (eqb b 47) && not (eqb b 0)) (ltb b 128) direct.0 ascii.1) more.plain;
       split = All-cons (λ b. is_slash b ≡ false) b name (not_true (eqb b 47) no_slash.0) more.split;
       direct = ap (λ t. t || list_any (λ c. eqb c backslash) name) (not_true (eqb b backslash) direct.1) ∙ more.direct;
     }
