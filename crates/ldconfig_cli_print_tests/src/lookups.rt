@@ -18,7 +18,14 @@ fn names_are_looked_up(rt: HostRuntime) -> Result<(), Fail> {
         ["lookup", "libz.so.2", "--abi", "x86-64"],
         ["lookup", "libz.so.1", "--abi", "aarch64"],
     ] {
-        assert_run(&rt, alloc, disk, &arguments, Status::Missing, b"not found\n")?;
+        assert_run(
+            &rt,
+            alloc,
+            disk,
+            &arguments,
+            Status::Missing,
+            b"not found\n",
+        )?;
     }
     let empty = disk_with(Some(EMPTY_CACHE));
     assert_run(&rt, alloc, empty, LIBZ, Status::Missing, b"not found\n")

@@ -41,7 +41,14 @@ const BAD: &[(&[u8], CacheDefect, &[u8])] = &[
 fn files_without_a_cache_are_refused(rt: HostRuntime) -> Result<(), Fail> {
     let alloc = rt.alloc();
     let none = disk_with(None);
-    assert_run(&rt, alloc, none, PRINT, Status::NoCache, b"fault: NoCache\n")?;
+    assert_run(
+        &rt,
+        alloc,
+        none,
+        PRINT,
+        Status::NoCache,
+        b"fault: NoCache\n",
+    )?;
     for (cache, defect, line) in BAD {
         let status = Status::BadCache(*defect);
         assert_run(&rt, alloc, disk_with(Some(*cache)), PRINT, status, *line)?;
