@@ -4,7 +4,7 @@ use crate::lines::{Back, Outcome, have_same, id_of, read_back, stamps_of};
 use aux_cache::{AuxFault, Stamps, read};
 use lib_types::NoMemory;
 use std::alloc::Global;
-use table_rows::{Row, Said, Trial, Words, divide, has, number, value};
+use table_rows::{Row, Said, Trial, Words, divide, has_line, number, value};
 
 /// A row has the bytes of a file after `hex`, and after each `stamp` a stamp that is read of it: device, inode, ctime, size, ABI and
 /// soname (`-` for none). `no-stamp` has an identity without a stamp. The stamps are written as the file, unless another writer made it
@@ -120,7 +120,7 @@ fn is_read(
         said.say(b"other stamps", b"")?;
         return Ok(false);
     }
-    let is_other = has(row, b"other");
+    let is_other = has_line(row, b"other");
     Ok((got.written.as_slice() == file) != is_other)
 }
 

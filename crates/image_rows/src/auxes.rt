@@ -2,7 +2,7 @@
 use crate::lines::{change, own_lines};
 use lib_types::NoMemory;
 use std::alloc::Global;
-use table_rows::{Row, Words, divide, has, number, text, text_below};
+use table_rows::{Row, Words, divide, has_line, number, text, text_below};
 
 /// The words of the auxiliary cache: `aux` with its bytes as text, or `records` with the numbers of its records, eight for each, and its
 /// strings as text; `changed` and `cut` below `records`.
@@ -67,7 +67,7 @@ pub fn records_in(alloc: Global, row: Row<'_>, word: &[u8]) -> Result<Option<Vec
 
 /// The auxiliary cache of a row, if it has one.
 pub fn aux_of(alloc: Global, row: Row<'_>) -> Result<Option<Vec<u8>>, NoMemory> {
-    if has(row, b"aux") {
+    if has_line(row, b"aux") {
         return Ok(Some(text(alloc, row, b"aux")?));
     }
     records_in(alloc, row, b"records")

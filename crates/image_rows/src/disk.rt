@@ -3,7 +3,7 @@ use crate::auxes::aux_of;
 use cache_rows::cache_of;
 use lib_types::NoMemory;
 use std::alloc::Global;
-use table_rows::{Row, Words, calls, has, optional_text};
+use table_rows::{Row, Words, calls, has_line, optional_text};
 use tree_face::{MemDisk, Slot};
 
 /// The words of the cache: `cache` with its bytes as text, or `entry` and `series` with its entries.
@@ -14,7 +14,7 @@ pub const DISK_FAILS: Words = &[b"disk-fails"];
 
 /// The cache of a row, if it has one.
 pub fn cache_in(alloc: Global, row: Row<'_>) -> Result<Option<Vec<u8>>, NoMemory> {
-    if has(row, b"entry") || has(row, b"series") {
+    if has_line(row, b"entry") || has_line(row, b"series") {
         return Ok(Some(cache_of(alloc, row)?));
     }
     optional_text(alloc, row, b"cache")

@@ -5,7 +5,9 @@ use elf_maker::Spec;
 use elf_samples::{SampleFault, file_of};
 use lib_types::{Abi, NoMemory, Text};
 use std::alloc::Global;
-use table_rows::{Row, Said, Words, calls, divide, has, owned_value, text_below, value, values};
+use table_rows::{
+    Row, Said, Words, calls, divide, has_line, owned_value, text_below, value, values,
+};
 use tree_face::MemStore;
 
 /// The words of the store's files: `library KEY SONAME`, `nameless KEY` (a library without DT_SONAME), `program KEY`, `static KEY` (a
@@ -71,7 +73,7 @@ fn spec_of(alloc: Global, kind: Kind, soname: &[u8], lines: Row<'_>) -> Result<S
             needed: values(alloc, lines, b"needs")?,
             rpath: owned_value(alloc, lines, b"rpath")?,
             runpath: owned_value(alloc, lines, b"runpath")?,
-            nodeflib: has(lines, b"nodeflib"),
+            nodeflib: has_line(lines, b"nodeflib"),
         },
     })
 }

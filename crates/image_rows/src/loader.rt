@@ -2,17 +2,11 @@
 use lib_types::{Abi, NoMemory, Text};
 use rpath_search::Env;
 use std::alloc::Global;
-use table_rows::{Row, Words, has, list, value};
+use table_rows::{Row, Words, has_line, list, value};
 
 /// The words of what the loader is given: `env-abi` with its ABI (x86-64 without the line), `caps` with hwcaps names between colons,
 /// `library-path`, `platform`, and `secure` for secure execution.
-pub const LOADER: Words = &[
-    b"env-abi",
-    b"caps",
-    b"library-path",
-    b"platform",
-    b"secure",
-];
+pub const LOADER: Words = &[b"env-abi", b"caps", b"library-path", b"platform", b"secure"];
 
 /// What the loader of a row is given.
 pub fn env_of(alloc: Global, row: Row<'_>) -> Result<Env, NoMemory> {
@@ -22,6 +16,6 @@ pub fn env_of(alloc: Global, row: Row<'_>) -> Result<Env, NoMemory> {
         caps: list(alloc, b':', value(row, b"caps").unwrap_or(b""))?,
         library_path: Text::copy_of(alloc, value(row, b"library-path").unwrap_or(b""))?,
         platform: Text::copy_of(alloc, value(row, b"platform").unwrap_or(b""))?,
-        secure: has(row, b"secure"),
+        secure: has_line(row, b"secure"),
     })
 }

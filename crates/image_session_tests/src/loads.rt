@@ -4,7 +4,7 @@ use image_rows::{AUX, CACHE, DISK_FAILS, MANIFEST, disk_of, slots_in};
 use image_session::{LoadFault, Session};
 use lib_types::NoMemory;
 use std::alloc::Global;
-use table_rows::{Row, Said, Trial, Words, has};
+use table_rows::{Row, Said, Trial, Words, has_line};
 
 /// A row has the files of a disk, as far as there are such, and the image that is loaded, or the fault. It has the files that are read
 /// unless a reading fails, whose file may be among them or not.
@@ -22,13 +22,7 @@ fn outcome(alloc: Global, loaded: Result<Session, LoadFault>) -> Result<Vec<u8>,
     }
 }
 
-const WORDS: &[Words] = &[
-    MANIFEST,
-    CACHE,
-    AUX,
-    DISK_FAILS,
-    &[b"image", b"reads"],
-];
+const WORDS: &[Words] = &[MANIFEST, CACHE, AUX, DISK_FAILS, &[b"image", b"reads"]];
 
 impl Trial for Loads {
     fn words() -> &'static [Words] {
@@ -41,7 +35,7 @@ impl Trial for Loads {
         let image = outcome(alloc, Session::load(alloc, &mut disk))?;
         let reads = slots_in(alloc, disk.reads())?;
         let same = said.is_text(alloc, row, b"image", &image)?;
-        if !has(row, b"reads") {
+        if !has_line(row, b"reads") {
             return Ok(same);
         }
         Ok(said.is_text(alloc, row, b"reads", &reads)? && same)

@@ -5,7 +5,7 @@ use image_rows::{aux_of, records_in};
 use ldconfig_cli_fixture::{Ending, ends_so};
 use lib_types::NoMemory;
 use std::alloc::Global;
-use table_rows::{Row, Said, count, text, value};
+use table_rows::{Row, Said, count, has_line, text};
 use tree_face::{Disk, Slot};
 
 /// The content of a file, nothing if it can't be read.
@@ -39,7 +39,7 @@ pub(crate) fn has_manifest(
     said: &mut Said,
 ) -> Result<bool, NoMemory> {
     let manifest = content(alloc, devices, Slot::Manifest);
-    if value(row, b"new-manifest").is_some() {
+    if has_line(row, b"new-manifest") {
         said.is_text(alloc, row, b"new-manifest", &manifest)
     } else {
         said.is_text(alloc, row, b"manifest", &manifest)
@@ -76,17 +76,11 @@ pub(crate) fn are_untouched(
 }
 
 // Whether the cache has the length and the bytes of the row, if it has these.
-fn has_bytes(
-    alloc: Global,
-    row: Row<'_>,
-    cache: &[u8],
-    said: &mut Said,
-) -> Result<bool, NoMemory> {
+fn has_bytes(alloc: Global, row: Row<'_>, cache: &[u8], said: &mut Said) -> Result<bool, NoMemory> {
     let size = count(row, b"size");
     Ok(
         (size == 0 || said.is_number(alloc, b"size", size, cache.len() as u64)?)
-            && (value(row, b"new-cache").is_none()
-                || said.is_text(alloc, row, b"new-cache", cache)?),
+            && (!has_line(row, b"new-cache") || said.is_text(alloc, row, b"new-cache", cache)?),
     )
 }
 

@@ -1,14 +1,12 @@
 //! One row: an image, and its update or its script.
-use crate::left::{
-    are_untouched, are_updated, content, has_manifest, has_records, has_replaced,
-};
+use crate::left::{are_untouched, are_updated, content, has_manifest, has_records, has_replaced};
 use command_runs_fixture::{Devices, image};
 use elf_samples::SampleFault;
 use image_rows::{AUX, FILES, MANIFEST, is_made};
 use ldconfig_cli_fixture::{Ending, devices_of, ends_so};
 use lib_types::NoMemory;
 use std::alloc::Global;
-use table_rows::{Row, Said, Trial, Words, count, has, text, value};
+use table_rows::{Row, Said, Trial, Words, count, has_line, text, value};
 use tree_face::Slot;
 
 /// A row has a manifest, the store's files and an auxiliary cache, as far as there are such, and the script if `batch` is run instead of
@@ -59,11 +57,11 @@ fn push_slots(slots: &mut Vec<Slot>, letters: &[u8]) -> Result<(), NoMemory> {
 
 // The letters of the replaced files. An update that is refused replaces none, and another one the manifest if there is a new one.
 fn replaced<'a>(row: Row<'a>) -> &'a [u8] {
-    if has(row, b"script") {
+    if has_line(row, b"script") {
         value(row, b"replaced").unwrap_or(b"")
-    } else if has(row, b"status") {
+    } else if has_line(row, b"status") {
         b""
-    } else if has(row, b"new-manifest") {
+    } else if has_line(row, b"new-manifest") {
         b"MCA"
     } else {
         b"CA"
@@ -78,7 +76,11 @@ fn is_first(
     devices: &mut Devices,
     said: &mut Said,
 ) -> Result<bool, NoMemory> {
-    let command = if has(row, b"script") { "batch" } else { "update" };
+    let command = if has_line(row, b"script") {
+        "batch"
+    } else {
+        "update"
+    };
     let output = text(alloc, row, b"output")?;
     let want = Ending {
         status: count(row, b"status"),
@@ -86,7 +88,12 @@ fn is_first(
     };
     Ok(
         ends_so(alloc, command, b"", want, devices, said)?
-            && said.is_number(alloc, b"opened", count(row, b"opened"), devices.store.begun())?
+            && said.is_number(
+                alloc,
+                b"opened",
+                count(row, b"opened"),
+                devices.store.begun(),
+            )?
             && has_replaced(alloc, devices, slots, said)?
             && has_manifest(alloc, row, devices, said)?,
     )
@@ -94,7 +101,7 @@ fn is_first(
 
 // The word of what a second update writes.
 fn second_output(row: Row<'_>) -> &'static [u8] {
-    if has(row, b"again") {
+    if has_line(row, b"again") {
         b"again"
     } else {
         b"output"
@@ -140,7 +147,7 @@ fn is_as_written(
         return are_untouched(alloc, row, devices, said);
     }
     let are_updated = are_updated(alloc, row, devices, said)?;
-    if has(row, b"script") {
+    if has_line(row, b"script") {
         return Ok(are_updated);
     }
     push_slots(&mut slots, b"CA")?;

@@ -1,4 +1,4 @@
-//! Tests of the command `resolve`: its status, what it writes, which keys it begins and which slots it reads, and that each of its
+//! Tests of the command `resolve`: its status, what it writes, which files it opens and which it reads of the disk, and that each of its
 //! devices may fail at each call. Each table is a file of data/.
 #![tactic(auto)]
 

@@ -1,13 +1,11 @@
-//! The devices of a row.
-use cache_rows::cache_of;
-use command_runs_fixture::{Devices, copy, number};
-use elf_rows::held_of;
+//! The devices of a row, and its cache.
+use command_runs_fixture::{Setting, image};
 use elf_samples::SampleFault;
-use ldconfig_cli_fixture::run_line;
-use lib_types::NoMemory;
+use image_rows::cache_in;
+use ldconfig_cli_fixture::{devices_of, run_line};
 use std::alloc::Global;
-use table_rows::{Row, text, value};
-use tree_face::{Disk, MemDisk, MemSink, MemSource, MemStore, Slot};
+use table_rows::{Row, has_line};
+use tree_face::{Disk, Slot};
 
 /// A device that fails at one of its calls.
 #[derive(Clone, Copy, PartialEq, Eq)]
@@ -17,51 +15,36 @@ pub(crate) enum Device {
     Sink,
 }
 
-/// Which call fails, if one does.
-pub(crate) type Failing = Option<(Device, u64)>;
-
-// The number of the call of this device that fails.
-fn call_of(failing: Failing, device: Device) -> Option<u64> {
-    match failing {
-        Some((failing, call)) if failing == device => Some(call),
-        _ => None,
+/// A disk with this cache, in which no device fails.
+pub(crate) fn disk_with(cache: Option<&[u8]>) -> Setting<'_> {
+    Setting {
+        cache,
+        ..image(b"")
     }
 }
 
-// The text of this name, if the row has one.
-fn optional(alloc: Global, row: Row<'_>, word: &[u8]) -> Result<Option<Vec<u8>>, NoMemory> {
-    match value(row, word) {
-        Some(_) => Ok(Some(text(alloc, row, word)?)),
-        None => Ok(None),
+/// The same with a device that fails at this call.
+pub(crate) fn failing(cache: Option<&[u8]>, device: Device, call: u64) -> Setting<'_> {
+    let sure = disk_with(cache);
+    match device {
+        Device::Store => Setting {
+            store_fails: Some(call),
+            ..sure
+        },
+        Device::Disk => Setting {
+            disk_fails: Some(call),
+            ..sure
+        },
+        Device::Sink => Setting {
+            out_fails: Some(call),
+            ..sure
+        },
     }
-}
-
-// What the Aux slot holds, which no listing reads.
-const AUX: &[u8] = b"aux";
-
-/// The devices of a row, with this in the Cache slot.
-pub(crate) fn devices_of(
-    alloc: Global,
-    row: Row<'_>,
-    cache: Option<&[u8]>,
-    failing: Failing,
-) -> Result<Devices, SampleFault> {
-    let manifest = optional(alloc, row, b"manifest")?;
-    let disk_fails = number(alloc, call_of(failing, Device::Disk))?;
-    let store_fails = number(alloc, call_of(failing, Device::Store))?;
-    let cache = copy(alloc, cache)?;
-    let aux = copy(alloc, Some(AUX))?;
-    Ok(Devices {
-        store: MemStore::new(alloc, held_of(alloc, row)?, store_fails),
-        disk: MemDisk::new(alloc, manifest, cache, aux, disk_fails),
-        input: MemSource::new(Vec::new(alloc), Vec::new(alloc)),
-        out: MemSink::new(alloc, number(alloc, call_of(failing, Device::Sink))?),
-    })
 }
 
 // The cache that an update of the row's image makes.
 fn updated(alloc: Global, row: Row<'_>) -> Result<Option<Vec<u8>>, SampleFault> {
-    let mut devices = devices_of(alloc, row, None, None)?;
+    let mut devices = devices_of(alloc, row, disk_with(None))?;
     let _ = run_line(alloc, "update", b"", &mut devices)?;
     match devices.disk.read(alloc, Slot::Cache) {
         Ok(cache) => Ok(cache),
@@ -69,13 +52,10 @@ fn updated(alloc: Global, row: Row<'_>) -> Result<Option<Vec<u8>>, SampleFault> 
     }
 }
 
-/// The cache of a row: the one that an update makes, one of these entries, or this text.
-pub(crate) fn cache_in(alloc: Global, row: Row<'_>) -> Result<Option<Vec<u8>>, SampleFault> {
-    if value(row, b"updated").is_some() {
+/// The cache of a row: the one that an update makes, or that of the row's words.
+pub(crate) fn cache_of(alloc: Global, row: Row<'_>) -> Result<Option<Vec<u8>>, SampleFault> {
+    if has_line(row, b"updated") {
         return updated(alloc, row);
     }
-    if value(row, b"entry").is_some() {
-        return Ok(Some(cache_of(alloc, row)?));
-    }
-    Ok(optional(alloc, row, b"cache")?)
+    Ok(cache_in(alloc, row)?)
 }

@@ -1,51 +1,18 @@
 //! One row: a run of `resolve`.
-use crate::setting::{Device, Failing, cache_in, devices_of};
+use crate::setting::{Device, cache_of, disk_with, failing};
 use command_runs_fixture::{Devices, has};
 use elf_samples::SampleFault;
-use ldconfig_cli_fixture::run_line;
-use lib_types::{NoMemory, Texts};
+use image_rows::{CACHE, FILES, MANIFEST, is_made, slots_in};
+use ldconfig_cli_fixture::{Ending, devices_of, ends_so, run_line};
+use lib_types::NoMemory;
 use std::alloc::Global;
-use table_rows::{Row, Said, Trial, count, text, value};
+use table_rows::{Row, Said, Trial, Words, count, has_line, lines_in, text, value};
 use tree_face::Slot;
 
-/// A row has a manifest, if there is one, the files that the store holds, the cache, the arguments of the command behind `resolve`, its
-/// status, what it writes, the keys that it begins and the slots that it reads. With `in-turn` each call of each device fails in turn.
+/// A row has a manifest, if there is one, the store's files, the cache (with `updated` the one that an update makes), the arguments of
+/// `resolve`, its exit status, what it writes, the keys of the files that it opens and the files of the disk that it reads. With `in-turn`
+/// each call of each device fails in turn.
 pub(crate) struct Listed;
-
-fn lines_in(alloc: Global, texts: &Texts) -> Result<Vec<u8>, NoMemory> {
-    let mut lines = Vec::new(alloc);
-    for text in texts.as_slice() {
-        lines.extend_from_slice(text.as_bytes())?;
-        lines.push(b'\n')?;
-    }
-    Ok(lines)
-}
-
-fn slot_name(slot: Slot) -> &'static [u8] {
-    match slot {
-        Slot::Manifest => b"Manifest\n",
-        Slot::Cache => b"Cache\n",
-        Slot::Aux => b"Aux\n",
-    }
-}
-
-fn slot_names(alloc: Global, slots: &[Slot]) -> Result<Vec<u8>, NoMemory> {
-    let mut names = Vec::new(alloc);
-    for slot in slots {
-        names.extend_from_slice(slot_name(*slot))?;
-    }
-    Ok(names)
-}
-
-fn is_text(
-    alloc: Global,
-    row: Row<'_>,
-    name: &[u8],
-    got: &[u8],
-    said: &mut Said,
-) -> Result<bool, NoMemory> {
-    said.is_same(name, &text(alloc, row, name)?, got)
-}
 
 // Whether nothing was written to the disk.
 fn is_unwritten(
@@ -57,15 +24,13 @@ fn is_unwritten(
     let is_so = devices.disk.calls().is_empty()
         && has(alloc, &mut devices.disk, Slot::Cache, cache);
     if !is_so {
-        said.say(b"a slot was written", b"")?;
+        said.say(b"a file of the disk was written", b"")?;
     }
     Ok(is_so)
 }
 
-fn run(alloc: Global, row: Row<'_>, devices: &mut Devices) -> Result<u64, NoMemory> {
-    let arguments = value(row, b"resolve").unwrap_or(b"");
-    let status = run_line(alloc, "resolve", arguments, devices)?;
-    Ok(u64::from(status.code()))
+fn arguments<'a>(row: Row<'a>) -> &'a [u8] {
+    value(row, b"resolve").unwrap_or(b"")
 }
 
 // Whether the command ends as the row says, if no device fails.
@@ -75,15 +40,19 @@ fn is_as_written(
     cache: Option<&[u8]>,
     said: &mut Said,
 ) -> Result<bool, SampleFault> {
-    let mut devices = devices_of(alloc, row, cache, None)?;
-    let got = run(alloc, row, &mut devices)?;
+    let mut devices = devices_of(alloc, row, disk_with(cache))?;
+    let output = text(alloc, row, b"output")?;
+    let want = Ending {
+        status: count(row, b"status"),
+        output: &output,
+    };
+    let ended = ends_so(alloc, "resolve", arguments(row), want, &mut devices, said)?;
     let keys = lines_in(alloc, devices.store.keys())?;
-    let slots = slot_names(alloc, devices.disk.reads())?;
+    let reads = slots_in(alloc, devices.disk.reads())?;
     Ok(
-        is_text(alloc, row, b"output", devices.out.written(), said)?
-            && said.is_number(alloc, b"status", count(row, b"status"), got)?
-            && is_text(alloc, row, b"keys", &keys, said)?
-            && is_text(alloc, row, b"slots", &slots, said)?
+        ended
+            && said.is_text(alloc, row, b"keys", &keys)?
+            && said.is_text(alloc, row, b"reads", &reads)?
             && is_unwritten(alloc, &mut devices, cache, said)?,
     )
 }
@@ -114,9 +83,8 @@ fn end_of(
     device: Device,
     call: u64,
 ) -> Result<End, SampleFault> {
-    let failing: Failing = Some((device, call));
-    let mut devices = devices_of(alloc, row, cache, failing)?;
-    let got = run(alloc, row, &mut devices)?;
+    let mut devices = devices_of(alloc, row, failing(cache, device, call))?;
+    let got = u64::from(run_line(alloc, "resolve", arguments(row), &mut devices)?.code());
     let (status, line) = fault_of(device);
     let written = devices.out.written();
     if got == status && written == line {
@@ -157,7 +125,7 @@ fn fail_in_turn(
     said: &mut Said,
 ) -> Result<bool, SampleFault> {
     Ok(
-        value(row, b"in-turn").is_none()
+        !has_line(row, b"in-turn")
             || (fails_in_turn(alloc, row, cache, Device::Store, said)?
                 && fails_in_turn(alloc, row, cache, Device::Disk, said)?
                 && fails_in_turn(alloc, row, cache, Device::Sink, said)?),
@@ -165,47 +133,28 @@ fn fail_in_turn(
 }
 
 fn try_row(alloc: Global, row: Row<'_>, said: &mut Said) -> Result<bool, SampleFault> {
-    let cache = cache_in(alloc, row)?;
+    let cache = cache_of(alloc, row)?;
     let cache = cache.as_deref();
     Ok(is_as_written(alloc, row, cache, said)? && fail_in_turn(alloc, row, cache, said)?)
 }
 
-const WORDS: &[&[u8]] = &[
-    b"manifest",
-    b"library",
-    b"nameless",
-    b"program",
-    b"static",
-    b"file",
-    b"needs",
-    b"rpath",
-    b"runpath",
-    b"nodeflib",
-    b"abi",
-    b"updated",
-    b"entry",
-    b"cache",
-    b"resolve",
-    b"status",
-    b"output",
-    b"keys",
-    b"slots",
-    b"in-turn",
+const WORDS: &[Words] = &[
+    MANIFEST,
+    FILES,
+    CACHE,
+    &[
+        b"updated", b"resolve", b"status", b"output", b"keys", b"reads", b"in-turn",
+    ],
 ];
 
 impl Trial for Listed {
-    fn words() -> &'static [&'static [u8]] {
+    fn words() -> &'static [Words] {
         WORDS
     }
 
     // A `run` that always returns NoMemory meets its contract; the rows refuse it.
     fn is_right(alloc: Global, row: Row<'_>, said: &mut Said) -> Result<bool, NoMemory> {
-        match try_row(alloc, row, said) {
-            Ok(is_right) => Ok(is_right),
-            Err(_) => {
-                said.say(b"no such file", b"")?;
-                Ok(false)
-            }
-        }
+        let tried = try_row(alloc, row, said);
+        is_made(tried, said)
     }
 }

@@ -1,27 +1,20 @@
 //! An update over devices that never fail.
-use command_runs::{Status, run_command};
 use command_runs_fixture::{
     LIBZ_MANIFEST, LIBZ_REPORT, NO_STAMPS, ONE_CACHE, copy, has, libz_held,
 };
-use commands::{Command, Devices};
+use command_status::Status;
+use ldconfig_cli::run;
 use std::alloc::Global;
 use std::test::Fail;
-use tree_face::{Slot, SureDisk, SureSink, SureSource, SureStore, Tag};
+use tree_face::{Slot, SureDisk, SureSink, SureSource, SureStore};
 
 // Updates the example over devices that never fail.
 fn update_surely(alloc: Global, disk: &mut SureDisk, out: &mut SureSink) -> Result<Status, Fail> {
+    let mut words = Vec::new(alloc);
+    words.push(String::from_str(alloc, "update")?)?;
     let mut store = SureStore::new(libz_held(alloc)?);
     let mut input = SureSource::new(Vec::new(alloc));
-    Ok(run_command(
-        alloc,
-        Command::Update { tag: Tag(0) },
-        Devices {
-            store: &mut store,
-            disk,
-            source: &mut input,
-            sink: out,
-        },
-    ))
+    Ok(run(alloc, &words, &mut store, disk, &mut input, out))
 }
 
 fn disk_of(alloc: Global, manifest: &[u8]) -> Result<SureDisk, Fail> {

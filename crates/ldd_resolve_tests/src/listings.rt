@@ -32,12 +32,7 @@ fn is_listed(
     said: &mut Said,
 ) -> Result<bool, NoMemory> {
     match listed {
-        Ok(listing) => said.is_text(
-            alloc,
-            row,
-            b"listing",
-            &listing_text(alloc, &listing)?,
-        ),
+        Ok(listing) => said.is_text(alloc, row, b"listing", &listing_text(alloc, &listing)?),
         Err(fault) => {
             let want = value(row, b"fault").unwrap_or(b"");
             said.is_same(b"fault", want, fault_text(fault))

@@ -4,7 +4,7 @@ use image_rows::{FILES, MANIFEST, STORE_FAILS, is_made, store_of, tree_of};
 use ldso_conf::{Conf, ConfFault, ConfKind, ConfReports, read_conf};
 use lib_types::NoMemory;
 use std::alloc::Global;
-use table_rows::{Row, Said, Trial, Words, count, has, lines_in, value};
+use table_rows::{Row, Said, Trial, Words, count, has_line, lines_in, value};
 use tree_face::{MemStore, Tree};
 
 /// A row has a manifest and the store's files, the directories, the reports and the number of conf files that are read, or the fault, and
@@ -75,24 +75,16 @@ fn are_opened(
     store: &MemStore,
     said: &mut Said,
 ) -> Result<bool, NoMemory> {
-    if !has(row, b"keys") {
+    if !has_line(row, b"keys") {
         return Ok(true);
     }
     said.is_text(alloc, row, b"keys", &lines_in(alloc, store.keys())?)
 }
 
-fn try_row(
-    alloc: Global,
-    row: Row<'_>,
-    tree: &Tree,
-    said: &mut Said,
-) -> Result<bool, SampleFault> {
+fn try_row(alloc: Global, row: Row<'_>, tree: &Tree, said: &mut Said) -> Result<bool, SampleFault> {
     let mut store = store_of(alloc, row)?;
     let read = read_conf(alloc, tree, &mut store);
-    Ok(
-        is_answer(alloc, row, read, store.begun(), said)?
-            && are_opened(alloc, row, &store, said)?,
-    )
+    Ok(is_answer(alloc, row, read, store.begun(), said)? && are_opened(alloc, row, &store, said)?)
 }
 
 const WORDS: &[Words] = &[

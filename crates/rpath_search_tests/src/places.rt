@@ -4,7 +4,7 @@ use lib_types::{NoMemory, Text};
 use rpath_search::{Chain, Owner, places};
 use std::alloc::Global;
 use table_rows::{
-    Row, Said, Trial, Words, divide, has, lines_before, lines_in, owned_value, value,
+    Row, Said, Trial, Words, divide, has_line, lines_before, lines_in, owned_value, value,
 };
 
 /// A row has the name that is looked for, the objects of the chain, the requesting one first, each by the directory in which it was found
@@ -18,7 +18,7 @@ fn owner_of(alloc: Global, origin: &[u8], lines: Row<'_>) -> Result<Owner, NoMem
         origin: Text::copy_of(alloc, origin)?,
         rpath: owned_value(alloc, lines, b"rpath")?,
         runpath: owned_value(alloc, lines, b"runpath")?,
-        nodeflib: has(lines, b"nodeflib"),
+        nodeflib: has_line(lines, b"nodeflib"),
     })
 }
 

@@ -7,7 +7,7 @@ mod said;
 mod table;
 
 pub use lines::{
-    Row, calls, count, divide, has, lines_before, lines_in, list, number, optional_text,
+    Row, calls, count, divide, has_line, lines_before, lines_in, list, number, optional_text,
     owned_value, text, text_below, value, values,
 };
 pub use said::Said;

@@ -129,7 +129,7 @@ pub fn count(row: Row<'_>, word: &[u8]) -> u64 {
 }
 
 /// Whether a line begins with this word.
-pub fn has(row: Row<'_>, word: &[u8]) -> bool {
+pub fn has_line(row: Row<'_>, word: &[u8]) -> bool {
     value(row, word).is_some()
 }
 

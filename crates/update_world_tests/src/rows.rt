@@ -84,7 +84,11 @@ impl Trial for Rounds {
     // A body that always returns NoMemory meets the contract; the rows refuse it.
     fn is_right(alloc: Global, row: Row<'_>, said: &mut Said) -> Result<bool, NoMemory> {
         let want = value(row, b"same-tag").unwrap_or(b"");
-        match World::new(alloc, owned_value(alloc, row, b"first")?, posts_of(alloc, row)?) {
+        match World::new(
+            alloc,
+            owned_value(alloc, row, b"first")?,
+            posts_of(alloc, row)?,
+        ) {
             Ok(mut world) => Ok(are_right(alloc, row, &mut world, said)? && want.is_empty()),
             Err(WorldFault::SameTag { tag }) => is_tag(alloc, tag, want, said),
             Err(WorldFault::NoMemory) => Err(NoMemory),

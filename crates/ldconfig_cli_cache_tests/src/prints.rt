@@ -1,8 +1,8 @@
 //! What `print` writes and returns.
-use crate::run::{assert_run, disk_with};
+use crate::run::{assert_faults, assert_run, disk_with};
 use cache_reader::CacheDefect;
 use command_runs::Status;
-use command_runs_fixture::{ONE_CACHE, Setting};
+use command_runs_fixture::ONE_CACHE;
 use std::test::Fail;
 
 const ONE_PRINT: &[u8] = b"1 libs found in cache `/etc/ld.so.cache'\n\
@@ -41,7 +41,14 @@ const BAD: &[(&[u8], CacheDefect, &[u8])] = &[
 fn files_without_a_cache_are_refused(rt: HostRuntime) -> Result<(), Fail> {
     let alloc = rt.alloc();
     let none = disk_with(None);
-    assert_run(&rt, alloc, none, PRINT, Status::NoCache, b"fault: NoCache\n")?;
+    assert_run(
+        &rt,
+        alloc,
+        none,
+        PRINT,
+        Status::NoCache,
+        b"fault: NoCache\n",
+    )?;
     for (cache, defect, line) in BAD {
         let status = Status::BadCache(*defect);
         assert_run(&rt, alloc, disk_with(Some(*cache)), PRINT, status, *line)?;
@@ -54,18 +61,7 @@ fn files_without_a_cache_are_refused(rt: HostRuntime) -> Result<(), Fail> {
 
 #[test]
 fn devices_that_fail(rt: HostRuntime) -> Result<(), Fail> {
-    let alloc = rt.alloc();
-    let disk_fails = Setting {
-        disk_fails: Some(0),
-        ..disk_with(Some(ONE_CACHE))
-    };
-    let line = b"fault: DiskFault\n";
-    assert_run(&rt, alloc, disk_fails, PRINT, Status::DiskFault, line)?;
-    let out_fails = Setting {
-        out_fails: Some(0),
-        ..disk_with(Some(ONE_CACHE))
-    };
-    assert_run(&rt, alloc, out_fails, PRINT, Status::OutputFault, b"")
+    assert_faults(&rt, rt.alloc(), PRINT)
 }
 
 const ARGUMENTS: &[&str] = &["--print", "prints", "p", ""];

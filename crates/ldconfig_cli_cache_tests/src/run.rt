@@ -1,6 +1,6 @@
 //! A run of a command that reads only the cache.
 use command_runs::Status;
-use command_runs_fixture::{Setting, image, make_devices};
+use command_runs_fixture::{ONE_CACHE, Setting, image, make_devices};
 use ldconfig_cli_fixture::run_words;
 use std::alloc::Global;
 use std::process::Abort;
@@ -31,4 +31,23 @@ pub(crate) fn assert_run(
     assert!(rt; devices.store.begun() == 0);
     assert!(rt; devices.disk.calls().is_empty());
     Ok(())
+}
+
+/// Runs the command on a disk that fails at its first call, and with a sink that does.
+pub(crate) fn assert_faults(
+    rt: &impl Abort,
+    alloc: Global,
+    arguments: &[&str],
+) -> Result<(), Fail> {
+    let disk_fails = Setting {
+        disk_fails: Some(0),
+        ..disk_with(Some(ONE_CACHE))
+    };
+    let line = b"fault: DiskFault\n";
+    assert_run(rt, alloc, disk_fails, arguments, Status::DiskFault, line)?;
+    let out_fails = Setting {
+        out_fails: Some(0),
+        ..disk_with(Some(ONE_CACHE))
+    };
+    assert_run(rt, alloc, out_fails, arguments, Status::OutputFault, b"")
 }

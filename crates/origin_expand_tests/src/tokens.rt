@@ -2,7 +2,7 @@
 use lib_types::{NoMemory, Text};
 use origin_expand::expand;
 use std::alloc::Global;
-use table_rows::{Row, Said, Trial, Words, divide, has, value};
+use table_rows::{Row, Said, Trial, Words, divide, has_line, value};
 
 /// A row has what the tokens are replaced by, and `secure` in secure execution. Each line `text` is followed by the result, `-` if the text
 /// is dropped.
@@ -12,7 +12,7 @@ fn expanded(alloc: Global, row: Row<'_>, text: &[u8]) -> Result<Option<Text>, No
     let origin = value(row, b"origin").unwrap_or(b"");
     let lib = value(row, b"lib").unwrap_or(b"");
     let platform = value(row, b"platform").unwrap_or(b"");
-    let secure = has(row, b"secure");
+    let secure = has_line(row, b"secure");
     expand(alloc, text, origin, lib, platform, secure)
 }
 
@@ -29,14 +29,7 @@ fn gives(
     }
 }
 
-const WORDS: &[Words] = &[&[
-    b"origin",
-    b"lib",
-    b"platform",
-    b"secure",
-    b"text",
-    b"gives",
-]];
+const WORDS: &[Words] = &[&[b"origin", b"lib", b"platform", b"secure", b"text", b"gives"]];
 
 impl Trial for Tokens {
     fn words() -> &'static [Words] {

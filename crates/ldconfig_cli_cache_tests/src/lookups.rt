@@ -1,5 +1,5 @@
 //! What `lookup` writes and returns.
-use crate::run::{assert_run, disk_with};
+use crate::run::{assert_faults, assert_run, disk_with};
 use cache_reader::CacheDefect;
 use command_runs::Status;
 use command_runs_fixture::{EMPTY_CACHE, ONE_CACHE, Setting, THREE_CACHE};
@@ -18,7 +18,14 @@ fn names_are_looked_up(rt: HostRuntime) -> Result<(), Fail> {
         ["lookup", "libz.so.2", "--abi", "x86-64"],
         ["lookup", "libz.so.1", "--abi", "aarch64"],
     ] {
-        assert_run(&rt, alloc, disk, &arguments, Status::Missing, b"not found\n")?;
+        assert_run(
+            &rt,
+            alloc,
+            disk,
+            &arguments,
+            Status::Missing,
+            b"not found\n",
+        )?;
     }
     let empty = disk_with(Some(EMPTY_CACHE));
     assert_run(&rt, alloc, empty, LIBZ, Status::Missing, b"not found\n")
@@ -55,20 +62,11 @@ fn files_without_a_cache_are_refused(rt: HostRuntime) -> Result<(), Fail> {
     assert_run(&rt, alloc, cut, LIBZ, status, line)
 }
 
+// The path is written by two calls.
 #[test]
 fn devices_that_fail(rt: HostRuntime) -> Result<(), Fail> {
     let alloc = rt.alloc();
-    let disk_fails = Setting {
-        disk_fails: Some(0),
-        ..disk_with(Some(ONE_CACHE))
-    };
-    let line = b"fault: DiskFault\n";
-    assert_run(&rt, alloc, disk_fails, LIBZ, Status::DiskFault, line)?;
-    let out_fails = Setting {
-        out_fails: Some(0),
-        ..disk_with(Some(ONE_CACHE))
-    };
-    assert_run(&rt, alloc, out_fails, LIBZ, Status::OutputFault, b"")?;
+    assert_faults(&rt, alloc, LIBZ)?;
     let end_fails = Setting {
         out_fails: Some(1),
         ..disk_with(Some(ONE_CACHE))
