@@ -1,5 +1,5 @@
 //! Tests whose rows are written in text files, so that another row costs no proof. A test program says by a `Trial` which words a row
-//! has, and tries its tables, which are the files of its data/. `docs/CHANGING.md` says how a table is written.
+//! has, and tries its tables, which are the files of its data/. `docs/ROWS.md` says how a table is written.
 #![tactic(auto)]
 
 mod lines;

@@ -1,17 +1,14 @@
 //! The lines of a table, and what they say.
-use lib_types::{NoMemory, Text, Texts};
-use memchr::memchr;
+use lib_types::{NoMemory, Separator, Text, Texts, cut};
 use std::alloc::Global;
 
 /// The lines of a row behind its head, without their ends.
 pub type Row<'a> = &'a [&'a [u8]];
 
-/// What stands before the first such byte, and behind it; all, and nothing, if there is none.
+/// What is before the first such byte, and what follows it; all, and nothing, if there is none.
 pub fn divide(byte: u8, text: &[u8]) -> (&[u8], &[u8]) {
-    match memchr(byte, text) {
-        Some(at) => (&text[..at], &text[at + 1..]),
-        None => (text, b""),
-    }
+    let (front, rest) = cut(Separator::Byte(byte), text);
+    (front, rest.unwrap_or(b""))
 }
 
 /// The number of these digits.
