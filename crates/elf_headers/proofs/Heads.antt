@@ -10,7 +10,7 @@ use Rattle.lib_types.specs.declared.analysis.Defect.{Defect}
 use Rattle.lib_types.specs.declared.analysis.Defect.TheVariants.{NotElf, TooShort, BadClass, BadData, BadMachine, NotShared, BadPhdrs}
 use Rattle.elf_headers.specs.declared.kinds.Head.{Head}
 use Rattle.elf_headers.specs.Layout.{class, encoding, is_wide, word_size, at_class, header_length, etype, machine, phoff, phentsize, phnum, program_header_length}
-use Rattle.elf_headers.specs.Header.{Sentence, first_defect, unless_defect, has_magic, has_class, abi, is_loadable, has_bad_headers, header_sentences_of, head_with, as_head, head_of}
+use Rattle.elf_headers.specs.Header.{Sentence, first_defect, unless_defect, has_magic, has_class, abi, abi_in, is_loadable, has_bad_headers, header_sentences_of, head_with, as_head, head_of}
 use Rattle.elf_headers.specs.Identified.{IsIdentified}
 
 pub not_elf : (size : ℕ) (bytes : List ℕ) → has_magic bytes ≡ false → head_of size bytes ≡ Err NotElf
@@ -33,7 +33,7 @@ bad_data size bytes magic long kind h = rw (magic, long, kind, h) refl
 abbrev behind : ℕ → ℕ → List ℕ → Result Head Defect
 behind w size bytes =
     cond (nat_lt size (header_length w)) (Err (TooShort size))
-    (cond (is_none (abi bytes)) (Err (BadMachine (machine bytes)))
+    (cond (is_none (abi_in w bytes)) (Err (BadMachine (machine bytes)))
     (cond (not (is_loadable bytes)) (Err (NotShared (etype bytes)))
     (cond (has_bad_headers w size bytes) (Err BadPhdrs)
     (as_head w size bytes))))
@@ -51,25 +51,25 @@ pub identified : {w size : ℕ} {bytes : List ℕ} → IsIdentified w size bytes
 unfolding head_of
 identified {w = w} {size = size} {bytes = bytes} i =
     rw i.width (by_rest
-    (has_magic bytes) (nat_lt size 16) (has_class bytes) (encoding bytes == 1) (nat_lt size (header_length w)) (is_none (abi bytes)) (not (is_loadable bytes)) (has_bad_headers w size bytes)
+    (has_magic bytes) (nat_lt size 16) (has_class bytes) (encoding bytes == 1) (nat_lt size (header_length w)) (is_none (abi_in w bytes)) (not (is_loadable bytes)) (has_bad_headers w size bytes)
     NotElf (TooShort size) (BadClass (class bytes)) (BadData (encoding bytes)) (TooShort size) (BadMachine (machine bytes)) (NotShared (etype bytes)) BadPhdrs
     (as_head w size bytes) i.magic i.long i.class i.encoding)
 
 pub class_short : {w size : ℕ} {bytes : List ℕ} → IsIdentified w size bytes → nat_lt size (header_length w) ≡ true → head_of size bytes ≡ Err (TooShort size)
 class_short i h = identified i ∙ rw h refl
 
-pub bad_machine : {w size : ℕ} {bytes : List ℕ} → IsIdentified w size bytes → nat_lt size (header_length w) ≡ false → abi bytes ≡ None → head_of size bytes ≡ Err (BadMachine (machine bytes))
+pub bad_machine : {w size : ℕ} {bytes : List ℕ} → IsIdentified w size bytes → nat_lt size (header_length w) ≡ false → abi_in w bytes ≡ None → head_of size bytes ≡ Err (BadMachine (machine bytes))
 bad_machine i long h = identified i ∙ rw (long, h) refl
 
-pub not_shared : {w size : ℕ} {bytes : List ℕ} (a : Abi) → IsIdentified w size bytes → nat_lt size (header_length w) ≡ false → abi bytes ≡ Some a → is_loadable bytes ≡ false →
+pub not_shared : {w size : ℕ} {bytes : List ℕ} (a : Abi) → IsIdentified w size bytes → nat_lt size (header_length w) ≡ false → abi_in w bytes ≡ Some a → is_loadable bytes ≡ false →
     head_of size bytes ≡ Err (NotShared (etype bytes))
 not_shared a i long known h = identified i ∙ rw (long, known, h) refl
 
-pub bad_headers : {w size : ℕ} {bytes : List ℕ} (a : Abi) → IsIdentified w size bytes → nat_lt size (header_length w) ≡ false → abi bytes ≡ Some a → is_loadable bytes ≡ true → has_bad_headers w size bytes ≡ true →
+pub bad_headers : {w size : ℕ} {bytes : List ℕ} (a : Abi) → IsIdentified w size bytes → nat_lt size (header_length w) ≡ false → abi_in w bytes ≡ Some a → is_loadable bytes ≡ true → has_bad_headers w size bytes ≡ true →
     head_of size bytes ≡ Err BadPhdrs
 bad_headers a i long known loadable h = identified i ∙ rw (long, known, loadable, h) refl
 
-pub good : {w size : ℕ} {bytes : List ℕ} (a : Abi) → IsIdentified w size bytes → nat_lt size (header_length w) ≡ false → abi bytes ≡ Some a → is_loadable bytes ≡ true → has_bad_headers w size bytes ≡ false →
+pub good : {w size : ℕ} {bytes : List ℕ} (a : Abi) → IsIdentified w size bytes → nat_lt size (header_length w) ≡ false → abi_in w bytes ≡ Some a → is_loadable bytes ≡ true → has_bad_headers w size bytes ≡ false →
     head_of size bytes ≡ Ok (head_with w size bytes a)
 good a i long known loadable h = identified i ∙ rw (long, known, loadable, h) refl
 
@@ -140,8 +140,8 @@ front size xs =
       in_front 18 2 xs (lit≤ tt),
       in_front (at_class w 28 32) w xs within.0,
       in_front (at_class w 42 54) 2 xs within.1,
-      in_front (at_class w 44 56) 2 xs within.2.0,
-      in_front (at_class w 36 48) 4 xs within.2.1,
+      in_front (at_class w 44 56) 2 xs within.2,
+      in_front (at_class w 36 48) 4 xs within.3,
     )
     refl
 

@@ -34,8 +34,11 @@ has_magic bytes = starts_with nat_eq bytes magic
 abbrev pub has_class : List ℕ → Bool
 has_class bytes = (class bytes == 1) || (class bytes == 2)
 
+abbrev pub abi_in : ℕ → List ℕ → Option Abi
+abi_in w bytes = abi_of_elf (machine bytes) (class bytes) (eflags w bytes)
+
 abbrev pub abi : List ℕ → Option Abi
-abi bytes = abi_of_elf (machine bytes) (class bytes) (eflags (word_size (is_wide bytes)) bytes)
+abi bytes = abi_in (word_size (is_wide bytes)) bytes
 
 -- ET_EXEC or ET_DYN
 abbrev pub is_loadable : List ℕ → Bool
@@ -56,7 +59,7 @@ header_sentences_of w size bytes =
     ∷ (not (has_class bytes), BadClass (class bytes))
     ∷ (not (encoding bytes == 1), BadData (encoding bytes))
     ∷ (nat_lt size (header_length w), TooShort size)
-    ∷ (is_none (abi bytes), BadMachine (machine bytes))
+    ∷ (is_none (abi_in w bytes), BadMachine (machine bytes))
     ∷ (not (is_loadable bytes), NotShared (etype bytes))
     ∷ (has_bad_headers w size bytes, BadPhdrs)
     ∷ []
@@ -74,7 +77,7 @@ head_with w size bytes abi = record {
 
 abbrev pub as_head : ℕ → ℕ → List ℕ → Result Head Defect
 as_head w size bytes =
-    option_map_or (λ abi. Ok (head_with w size bytes abi)) (abi bytes) (Err (BadMachine (machine bytes)))
+    option_map_or (λ abi. Ok (head_with w size bytes abi)) (abi_in w bytes) (Err (BadMachine (machine bytes)))
 
 -- the header of a file of this size, of which only the first 64 bytes count
 unfoldable pub head_of : ℕ → List ℕ → Result Head Defect

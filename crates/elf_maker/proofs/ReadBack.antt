@@ -80,8 +80,8 @@ heads w spec width h =
       machine_is = ap (λ bytes. field bytes 18 2) all ∙ nth_field fields 1 2 (machine_of spec.abi) 18 front rest refl (machine_small spec.abi) refl;
       phoff_is = ap (λ bytes. field bytes (at_class w 28 32) w) all ∙ nth_field fields 4 w (header_length w) (at_class w 28 32) front rest refl (below w (header_length w) width (omega arith)) p.0;
       phentsize_is = ap (λ bytes. field bytes (at_class w 42 54) 2) all ∙ nth_field fields 8 2 (program_header_length w) (at_class w 42 54) front rest refl (omega arith) p.1;
-      phnum_is = ap (λ bytes. field bytes (at_class w 44 56) 2) all ∙ nth_field fields 9 2 2 (at_class w 44 56) front rest refl (omega arith) p.2.0;
-      eflags_is = ap (λ bytes. field bytes (at_class w 36 48) 4) all ∙ nth_field fields 6 4 (row_of spec.abi).bits (at_class w 36 48) front rest refl (bits_small spec.abi) p.2.1;
+      phnum_is = ap (λ bytes. field bytes (at_class w 44 56) 2) all ∙ nth_field fields 9 2 2 (at_class w 44 56) front rest refl (omega arith) p.2;
+      eflags_is = ap (λ bytes. field bytes (at_class w 36 48) 4) all ∙ nth_field fields 6 4 (row_of spec.abi).bits (at_class w 36 48) front rest refl (bits_small spec.abi) p.3;
     }
 
 -- ---- the program headers
