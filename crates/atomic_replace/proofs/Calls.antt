@@ -31,6 +31,3 @@ stop front call rest a b c first (n, last) = record { number = length front; at 
     by (suc k) e = inr (
         e ∙ ap (λ l. b ++ call ∷ l) (take_none k) ∙ ap (λ l. l ++ call ∷ []) first ∙ append_assoc a front (call ∷ [])
         ∙ ap (λ l. a ++ l) (sym (take-append-add front (call ∷ rest) 1)))
-
-pub none_made : (l : List DoneCall) → IsFollowedBy no_calls l l
-none_made l = sym (no_more l)

@@ -1,13 +1,12 @@
 -- Writing calls that are made one after another, and slots that are replaced one after another.
-use Rattle.std.proofs.Common.{◌≡◌, ◌+◌, ◌==◌, ◌&&◌, ℕ, zero, suc, true, false, List, [], ◌∷◌, ◌++◌, length, take, Option, Some, None, refl, sym, ap, subst, ◌∙◌, append_assoc, inl, inr, arith, Result, Ok, Err, OnOk}
-use Rattle.std.specs.Result.{IfErr}
+use Rattle.std.proofs.Common.{◌≡◌, ◌+◌, ◌==◌, ◌&&◌, ℕ, zero, suc, true, false, List, [], ◌∷◌, ◌++◌, length, take, Some, refl, sym, ap, subst, ◌∙◌, append_assoc, inl, inr, arith, Result, Ok, Err, OnOk}
 use Rattle.std.proofs.lemmas.List.{take-append-le}
 use Rattle.std.proofs.lemmas.Option.{slice_get_within}
 use Rattle.std.proofs.Math.Seq.{take-append-add}
 use Rattle.std.specs.List.{list_any, slice_get}
-use Rattle.atomic_replace.proofs.Calls.{get_later, none_made}
+use Rattle.atomic_replace.proofs.Calls.{get_later}
 use Rattle.atomic_replace.specs.declared.fault.DiskFault.{DiskFault}
-use Rattle.atomic_replace.specs.Replace.{FailsToWrite, MayReplaceSlot, ReplacesSlot, StopsAt, Write, WritesSlot, call_by}
+use Rattle.atomic_replace.specs.Replace.{ReplacesSlot, StopsAt, Write, WritesSlot, call_by}
 use Rattle.tree_face.proofs.Follows.{follow}
 use Rattle.tree_face.proofs.Known.{relates_by, relates_on}
 use Rattle.tree_face.specs.Calls.{replacement}
@@ -18,9 +17,8 @@ use Rattle.tree_face.specs.declared.disk.Slot.TheVariants.{Manifest, Cache, Aux}
 use Rattle.tree_face.specs.declared.disk.Tag.{Tag}
 use Rattle.tree_face.specs.Disk.{DiskContent, DiskState, KeepsOthersMade, slot_eq}
 use Rattle.tree_face.specs.Follows.{IsFollowedBy}
-use Rattle.tree_face.specs.Known.{IfKnown, Relates}
-use Rattle.atomic_replace.proofs.CrashesOneByOne.{all_settled, leaves_by, leaves_on, nothing_left, one_leaves, one_order, one_settled, one_stops, order_first, order_on, order_second, written_first}
-use Rattle.atomic_replace.specs.OneByOne.{LeavesOnlyWritten, FailsToReplace, KeepsRestMade, Replaces, SettlesInOrder, WritesAll, WritesPart, calls_of}
+use Rattle.atomic_replace.proofs.CrashesOneByOne.{all_settled, leaves_by, leaves_on, one_leaves, one_order, one_settled, order_first, order_on, order_second, written_first}
+use Rattle.atomic_replace.specs.OneByOne.{FailsToReplace, KeepsRestMade, Replaces, WritesAll, WritesPart, calls_of}
 
 -- ---- items of a list
 
@@ -129,39 +127,7 @@ module _ (tag : Tag) (write : Write) (old new : DiskState) where
         read_faults = w.read_faults;
       }
 
-  pub one_part : (fault : DiskFault) → FailsToWrite tag write fault old new → WritesPart tag (write ∷ []) fault old new
-  one_part fault w =
-      let leaves = one_leaves write old new w.leaves in
-      record {
-        contents = relates_by (MayReplaceSlot tag.0 write) (FailsToReplace tag.0 fault.slot (write ∷ [])) (λ a b one. inl (sym w.slot, one)) _ _ w.contents;
-        calls = w.calls;
-        leaves = leaves;
-        order = one_stops write old new fault.slot w.slot old.contents leaves;
-        reads = w.reads;
-        faults = w.faults;
-        read_faults = w.read_faults;
-      }
-
 -- ---- temporary files
-
-pub nothing_written : (tag : Tag) (s : DiskState) → WritesAll tag [] s s
-nothing_written tag s = record { contents = same s.contents; calls = none s.calls; leaves = nothing_left s; order = stays s.contents; settled = no_slot s.contents; reads = refl; faults = refl; read_faults = refl }
-  where
-    same : (c : Option DiskContent) → Relates (Replaces tag.0 []) c c
-    same None = tt
-    same (Some c) = refl
-
-    none : (c : Option (List DoneCall)) → Relates (IsFollowedBy (calls_of tag [])) c c
-    none None = tt
-    none (Some c) = none_made c
-
-    stays : (c : Option DiskContent) → IfKnown c (λ _. SettlesInOrder [] s s)
-    stays None = tt
-    stays (Some c) = refl
-
-    no_slot : (c : Option DiskContent) → IfKnown c (λ _. LeavesOnlyWritten [] s)
-    no_slot None = tt
-    no_slot (Some c) = λ slot b there. absurd (cc)
 
 module _ (tag : ℕ) (slots : List Slot) where
   by_slot : (s slot : Slot) → list_any (slot_eq slot) slots ≡ true → list_any (slot_eq s) slots ≡ false → slot_eq s slot ≡ false
@@ -184,15 +150,8 @@ module _ (tag : ℕ) (slots : List Slot) where
 pub rest_on : (tag : ℕ) (slots : List Slot) (a b c : DiskState) → KeepsRestMade tag slots a b → KeepsRestMade tag slots b c → KeepsRestMade tag slots a c
 rest_on tag slots a b c first next = λ t s h. next t s h ∙ first t s h
 
-pub rest_same : (tag : ℕ) (slots : List Slot) (a : DiskState) → KeepsRestMade tag slots a a
-rest_same tag slots a = λ t s h. refl
-
 -- ---- results
 
 pub on_ok_by : {A E : Type 0} (P Q : Type 0) (r : Result A E) → (P → Q) → OnOk r P → OnOk r Q
 on_ok_by P Q (Ok x) f p = f p
 on_ok_by P Q (Err e) f p = tt
-
-pub if_err_by : {A E : Type 0} (P Q : E → Type 0) (r : Result A E) → ((e : E) → P e → Q e) → IfErr r P → IfErr r Q
-if_err_by P Q (Ok x) f p = tt
-if_err_by P Q (Err e) f p = f e p

@@ -138,8 +138,3 @@ module _ (write : Write) (old new : DiskState) where
   one_settled (Some c) settled = λ slot b there h.
       let is : slot ≡ write.0 = slot_is slot write.0 (either_false (slot_eq slot write.0) there) in
       inl (is, sym (content_is (Some write.1) b (sym (settled b) ∙ subst (λ (s : Slot). new.may s b ≡ true) is h)))
-
-  pub one_stops : (slot : Slot) → slot ≡ write.0 → (c : Option DiskContent) → Leaves (IsOfWrites (write ∷ [])) old new
-      → IfKnown c (λ _. StopsInOrder slot (write ∷ []) old new)
-  one_stops slot is None leaves = tt
-  one_stops slot is (Some c) leaves = inl (sym is, leaves)

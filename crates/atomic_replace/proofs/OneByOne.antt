@@ -1,5 +1,5 @@
 -- A list of slots, replaced item by item.
-use Rattle.std.proofs.Common.{◌≡◌, ◌==◌, ◌&&◌, ◌<◌, ◌+◌, Bool, ℕ, true, false, ◌||◌, length, drop, get_or, add-one, List, [], ◌∷◌, ◌++◌, refl, sym, ap, subst, ◌∙◌, append_assoc, append-nil}
+use Rattle.std.proofs.Common.{◌≡◌, ◌<◌, ◌+◌, ℕ, true, false, ◌||◌, length, drop, get_or, add-one, List, [], ◌∷◌, ◌++◌, refl, sym, ap, subst, ◌∙◌, append_assoc}
 use Rattle.std.proofs.Common.{drop-cons}
 use Rattle.std.specs.List.{list_any}
 use Rattle.atomic_replace.specs.declared.fault.DiskFault.{DiskFault}
@@ -8,8 +8,8 @@ use Rattle.tree_face.specs.declared.disk.Slot.{Slot}
 use Rattle.tree_face.specs.declared.disk.Slot.TheVariants.{Manifest, Cache, Aux}
 use Rattle.tree_face.specs.declared.disk.Tag.{Tag}
 use Rattle.tree_face.specs.Disk.{DiskState, KeepsOthersMade, slot_eq}
-use Rattle.atomic_replace.proofs.CallsOneByOne.{nothing_written, part_first, part_second, rest_made, rest_on, rest_same, writes_on}
-use Rattle.atomic_replace.specs.OneByOne.{HasReplaced, KeepsRestMade, WritesAll, WritesPart, slots_of, writes_in}
+use Rattle.atomic_replace.proofs.CallsOneByOne.{part_first, part_second, rest_made, rest_on, writes_on}
+use Rattle.atomic_replace.specs.OneByOne.{HasReplaced, WritesAll, WritesPart, slots_of, writes_in}
 use Rattle.atomic_replace.specs.declared.slots.SlotWrite.{SlotWrite}
 
 itself : (slot : Slot) → slot_eq slot slot ≡ true
@@ -27,9 +27,6 @@ among (x ∷ done) w rest = ap (λ b. slot_eq w.0 x.0 || b) (among done w rest) 
     or_true false = refl
 
 module _ (tag : Tag) (all : List Write) where
-  pub starts : (s : DiskState) → HasReplaced tag all all s s
-  starts s = record { done = []; parts = refl; written = nothing_written tag s; made = rest_same tag.0 (slots_of all) s }
-
   pub goes_on : (w : Write) (rest : List Write) (a b c : DiskState) → HasReplaced tag all (w ∷ rest) a b → WritesAll tag (w ∷ []) b c → KeepsOthersMade tag.0 w.0 b c
       → HasReplaced tag all rest a c
   goes_on w rest a b c so_far one kept = record {
@@ -45,23 +42,6 @@ module _ (tag : Tag) (all : List Write) where
   stops w rest fault a b c so_far part =
       subst (λ l. WritesPart tag l fault a c) (sym so_far.parts)
       (part_second tag so_far.done (w ∷ rest) a b c fault so_far.written (part_first tag (w ∷ []) rest b c c fault part))
-
-  pub stops_made : (w : Write) (rest : List Write) (a b c : DiskState) → HasReplaced tag all (w ∷ rest) a b → KeepsOthersMade tag.0 w.0 b c
-      → KeepsRestMade tag.0 (slots_of all) a c
-  stops_made w rest a b c so_far kept = rest_on tag.0 (slots_of all) a b c so_far.made
-      (rest_made tag.0 (slots_of all) w.0 (ap (λ l. list_any (slot_eq w.0) (slots_of l)) so_far.parts ∙ among so_far.done w rest) b c kept)
-
-  pub ends : (a b : DiskState) → HasReplaced tag all [] a b → WritesAll tag all a b
-  ends a b so_far = subst (λ l. WritesAll tag l a b) (sym (so_far.parts ∙ append-nil so_far.done)) so_far.written
-
--- temporary files of fewer slots change
-pub rest_more : (tag : ℕ) (few many : List Slot) → ((s : Slot) → list_any (slot_eq s) many ≡ false → list_any (slot_eq s) few ≡ false) → (a b : DiskState)
-    → KeepsRestMade tag few a b → KeepsRestMade tag many a b
-rest_more tag few many fewer a b kept = λ t s h. kept t s (by (t == tag) s h)
-  where
-    by : (same : Bool) (s : Slot) → same && list_any (slot_eq s) many ≡ false → same && list_any (slot_eq s) few ≡ false
-    by true s h = fewer s h
-    by false s h = refl
 
 -- the next item of a list that is passed
 pub next_is : (writes : List SlotWrite) (i : ℕ) (d : SlotWrite) → i < length writes →

@@ -3,7 +3,7 @@ use Rattle.std.proofs.Common.{◌≡◌, ◌-◌, ◌≤◌, ◌||◌, ℕ, Bool
 use Rattle.std.specs.Option.{IfSome, option_map}
 use Rattle.std.specs.Result.{OnOk}
 use Rattle.std.proofs.lemmas.Bool.{false≢true}
-use Rattle.tree_face.proofs.Crash.{at_most_by, at_most_on, goes_on_on, leaves_written, more_by, more_on, others_on, same_leaves, same_on, slot_is}
+use Rattle.tree_face.proofs.Crash.{at_most_by, at_most_on, goes_on_on, leaves_written, more_by, more_on, others_on, same_on, slot_is}
 use Rattle.tree_face.proofs.Follows.{follow}
 use Rattle.tree_face.proofs.Known.{relates_on}
 use Rattle.tree_face.specs.Calls.{replacement}
@@ -18,7 +18,7 @@ use Rattle.tree_face.specs.Crash.{GoesOn, HasMoments, LeavesAtMost, LeavesMore, 
 use Rattle.tree_face.specs.Disk.{Content, DiskContent, DiskState, Keeps, KeepsOthers, KeepsOthersMade, Slots, Touches, content_eq, slot_eq, slot_of, with_slot}
 use Rattle.tree_face.specs.Follows.{IsFollowedBy, IsFollowedByPart}
 use Rattle.tree_face.specs.Known.{IfKnown, IsSame, Relates}
-use Rattle.atomic_replace.proofs.Calls.{none_made, stop}
+use Rattle.atomic_replace.proofs.Calls.{stop}
 use Rattle.atomic_replace.specs.declared.fault.DiskFault.{DiskFault}
 use Rattle.atomic_replace.specs.Order.{calls_from, needs_file, next_of}
 use Rattle.atomic_replace.specs.Replace.{FailsToWrite, IsWritten, MayReplaceSlot, ReplacesSlot, StopsAt, Write, WritesSlot, call_by, comes_before_publish}
@@ -283,30 +283,6 @@ module _ (tag : Tag) (slot : Slot) where
 -- ---- the whole disk
 
 module _ (tag : Tag) (write : Write) (old : DiskState) (laws : HasMoments old) where
-  pub starts : Stands tag write (Some Create) old old
-  starts =
-      let keeps = same_leaves old laws in
-      record {
-        contents = same old.contents;
-        calls = none old.calls;
-        file = λ e. absurd (cc);
-        made = λ t s h. refl;
-        reads = refl;
-        faults = refl;
-        read_faults = refl;
-        goes_on = keeps.goes_on;
-        others = λ s h. keeps.slots s;
-        left = keeps.slots write.0;
-      }
-    where
-      same : (c : Option DiskContent) → Relates (Before tag.0 write (Some Create)) c c
-      same None = tt
-      same (Some c) = refl
-
-      none : (c : Option (List DoneCall)) → Relates (IsFollowedBy (calls_before tag write.0 (Some Create))) c c
-      none None = tt
-      none (Some c) = none_made c
-
   module _ (new : DiskState) where
     pub ends : Stands tag write None old new → WritesSlot tag write old new
     ends s = record {

@@ -72,9 +72,6 @@ length_text xs =
 pub written : (xs ys : List Stamp) → length xs ≤ STAMPS_MAX → HaveNames xs → IsSortedById xs → ys ≡ xs → AreInRange ys → IsWritten xs
 written xs ys few names sorted same range = record { few = few; names = names; sorted = sorted; range = rw same at range }
 
-pub strings_fit : (xs : List Stamp) → IsWritten xs → length (strings_bytes xs) < 2 ^ 32
-strings_fit xs w = let small = strings_small xs w.names in omega (arith, small, w.few)
-
 header_there : (xs : List Stamp) (rest : List ℕ) → drop 24 (front xs ++ rest) ≡ laid_out header_fields (length xs ∷ length (strings_bytes xs) ∷ []) ++ rest
 unfolding header
 header_there xs rest = refl

@@ -5,10 +5,6 @@ use Rattle.tree_face.proofs.StoreUse.{raised-add, raised-mono}
 use Rattle.lib_types.specs.Counts.{raised}
 use Rattle.cache_lookup.specs.Searches.{Halves}
 
--- none so far
-pub whole : (k count width : ℕ) → width < 2 ^ k → Halves k count count width
-whole k count width h = record { left = k; within = omega arith; enough = h; steps = omega arith }
-
 -- a step more, behind which at most half is left
 pub halved : (k old count new width narrower : ℕ) → Halves k old count width → 0 < width → narrower ≤ width / 2 → new ≡ raised count 1 → Halves k old new narrower
 halved k old count new width narrower h some half step = by h.left refl
@@ -26,7 +22,3 @@ halved k old count new width narrower h some half step = by h.left refl
           enough = omega (arith, enough, twice, half);
           steps = raised-mono old new (k - suc left + 1) (k - left) (omega arith) (raised-add old count new (k - suc left) 1 steps (omega (arith, step)));
         }
-
--- at the end
-pub all_steps : (k old new width : ℕ) → Halves k old new width → new ≤ raised old k
-all_steps k old new width h = raised-mono old new (k - h.left) k (omega arith) h.steps

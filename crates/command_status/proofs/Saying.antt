@@ -1,11 +1,9 @@
 -- What is written part by part.
-use Rattle.std.proofs.Common.{◌≡◌, ◌++◌, ℕ, false, List, Result, Ok, Err, inl, inr, arith, ◌∙◌}
-use Rattle.std.specs.Result.{OnOk, is_err}
+use Rattle.std.proofs.Common.{◌++◌, ℕ, List, Result, Ok, Err, arith, ◌∙◌}
 use Rattle.lib_types.specs.declared.fault.Failed.{Failed}
 use Rattle.tree_face.proofs.Follows.{follow, follow_part, part_of}
 use Rattle.tree_face.proofs.Known.{relates_by, relates_on}
 use Rattle.tree_face.specs.Stream.{SinkState, TakesAll}
-use Rattle.command_status.specs.Status.{Says}
 
 module _ (xs ys : List ℕ) (a b c : SinkState) where
   -- one text, and then another
@@ -35,13 +33,3 @@ module _ (xs ys : List ℕ) (a b : SinkState) where
     no_fault = tt;
     cause = first.cause;
   }
-
--- a text is written, or a prefix of it if the sink has failed
-pub says : (text : List ℕ) (a b : SinkState) (r : Result (Unit {0}) Failed) → TakesAll a b text r → Says text a b
-says text a b (Ok done) takes = inl (takes.done, takes.no_fault)
-says text a b (Err fault) takes = inr (takes.failed, takes.cause)
-
--- what holds after a call that hasn't failed
-pub succeeded : {P : Type 0} (r : Result (Unit {0}) Failed) → false ≡ is_err r → OnOk r P → P
-succeeded (Ok done) e p = p
-succeeded (Err fault) e p = absurd (cc)

@@ -1,4 +1,3 @@
-pub mod Alone
 mod Apps
 mod Found
 mod Parsed

@@ -1,12 +1,12 @@
 -- The keys that are begun, file by file.
-use Rattle.std.proofs.Common.{◌≡◌, ◌+◌, ◌||◌, ◌++◌, ℕ, Bool, true, false, cond, List, [], ◌∷◌, Option, Some, None, refl, ap, sym, subst, ◌∙◌, arith}
+use Rattle.std.proofs.Common.{◌≡◌, ◌+◌, ◌||◌, ◌++◌, ℕ, Bool, true, false, cond, List, [], ◌∷◌, Option, Some, None, refl, ap, sym, subst, ◌∙◌}
 use Rattle.std.proofs.lemmas.List.Folds.{list_any-append}
 use Rattle.std.proofs.lemmas.List.Sums.{sum_by-append}
-use Rattle.elf_dynamic.specs.Taken.{most_known, most_under}
+use Rattle.elf_dynamic.specs.Taken.{most_under}
 use Rattle.lib_types.proofs.SortedPairs.{by_test}
-use Rattle.tree_face.proofs.StoreUse.{IsPartial, summed, reads_as, reads_early, reads_then}
+use Rattle.tree_face.proofs.StoreUse.{IsPartial, summed, reads_early, reads_then}
 use Rattle.tree_face.specs.Known.{IfKnown}
-use Rattle.tree_face.specs.Store.{Contents, StoreState, Lacks}
+use Rattle.tree_face.specs.Store.{Contents, StoreState}
 use Rattle.tree_face.specs.StoreUse.{Ending, Complete, ReadsFiles}
 use Rattle.elf_dynamic.specs.Begun.{LacksOne, ReadsBy, is_lacking, lacks_one, most_known_of, most_of, until_known, until_lacking}
 
@@ -85,24 +85,3 @@ module _ (known : Option Contents) (ks more : List (List ℕ)) (e : Ending) (a b
       (most_known_of known (until_known known ks)) (most_known_of known tail) (before_known known ks more) first in
       subst (λ l. ReadsFiles (LacksOne known (ks ++ more)) (Some l) (most_known_of known l) e a b) (sym (until_known_append known ks more))
       (rw (summed_known known (until_known known ks) tail) at early)
-
--- ---- one key
-
-one_until : (known : Option Contents) (key : List ℕ) → until_known known (key ∷ []) ≡ key ∷ []
-one_until None key = refl
-one_until (Some held) key = elim (is_lacking held key) as (λ b. key ∷ cond b [] [] ≡ key ∷ []) [ true ↦ refl | false ↦ refl ]
-
-one_most : (known : Option Contents) (key : List ℕ) → most_known known key ≡ most_known_of known (key ∷ [])
-one_most None key = refl
-one_most (Some held) key = ap Some (omega arith)
-
-one_lacks : (known : Option Contents) (key : List ℕ) → Lacks known key → LacksOne known (key ∷ [])
-one_lacks None key lacks = absurd lacks
-one_lacks (Some held) key lacks = rw lacks refl
-
--- the reading of one file is that of its key
-pub one_key : (known : Option Contents) (key : List ℕ) (e : Ending) (a b : StoreState) → ReadsFiles (Lacks known key) (Some (key ∷ [])) (most_known known key) e a b → ReadsBy known (key ∷ []) e a b
-one_key known key e a b reads =
-    let keys = one_until known key in
-    subst (λ l. ReadsFiles (LacksOne known (key ∷ [])) (Some l) (most_known_of known l) e a b) (sym keys)
-    (rw (one_most known key) at (reads_as _ _ a b (Lacks known key) (LacksOne known (key ∷ [])) e (one_lacks known key) reads))

@@ -46,7 +46,3 @@ reader_after f g r reader section head = record {
 -- what holds of a cursor whose string table was given holds of this table
 pub given_strings : (P : StoreState → Head → Place → Type 0) (a b : StoreState) (f g : Cursor) (h : Head) (t : Place) → a ≡ b → f ≡ record g { strings = t } → g.head ≡ h → P a f.head f.strings → P b h t
 given_strings P a b f g h t same is head p = subst (λ s. P s h t) same (subst (λ x. P a x t) head (subst (λ (x : Cursor). P a x.head x.strings) is p))
-
--- what holds of a new file holds of the store and the header that it was given
-pub given_head : (P : StoreState → Head → Type 0) (a b : StoreState) (h k : Head) → a ≡ b → h ≡ k → P a h → P b k
-given_head P a b h k same head p = subst (P b) head (subst (λ s. P s h) same p)

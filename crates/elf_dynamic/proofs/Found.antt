@@ -1,5 +1,5 @@
 -- The first of what numbers give that passes a test.
-use Rattle.std.proofs.Common.{◌≡◌, ℕ, suc, ◌+◌, ◌-◌, ◌*◌, ◌<◌, ◌≤◌, Bool, true, false, List, ◌∷◌, length, take, drop, map, find, Option, Some, None, Ok, refl, ap, sym, ◌∙◌, arith}
+use Rattle.std.proofs.Common.{◌≡◌, ℕ, suc, ◌+◌, ◌-◌, ◌*◌, ◌<◌, ◌≤◌, Bool, true, false, List, ◌∷◌, length, take, drop, map, find, Option, Some, Ok, refl, ap, sym, ◌∙◌, arith}
 use Rattle.std.specs.List.{range_with_len}
 use Rattle.tree_face.specs.Known.{IfKnown}
 use Rattle.elf_headers.specs.declared.kinds.Head.{Head}
@@ -24,9 +24,6 @@ found_on p f i n h e = rw (range_first f i n h, e) refl
 
 pub found_here : {X : Type 0} (p : X → Bool) (f : ℕ → X) (i n : ℕ) → i < n → p (f i) ≡ true → found_from p f i n ≡ Some (f i)
 found_here p f i n h e = rw (range_first f i n h, e) refl
-
-pub found_nowhere : {X : Type 0} (p : X → Bool) (f : ℕ → X) (i n : ℕ) → n ≤ i → found_from p f i n ≡ None
-found_nowhere p f i n h = let e : n - i ≡ 0 = omega arith in ap (λ k. find p (map f (range_with_len i k))) e
 
 -- ---- the segments of a file
 

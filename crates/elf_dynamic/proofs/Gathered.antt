@@ -98,11 +98,6 @@ rests_bad keep None table rest next all d x e on bad whole = tt
 rests_bad keep (Some bytes) table rest next all d x e on bad whole =
     unkept_bad keep (all bytes) x (sym whole ∙ ap (λ es. kept_of keep (gathered (table bytes) d es)) on ∙ ap (kept_of keep) (gather_bad (table bytes) d x e (next bytes) bad))
 
-pub rests_end : (keep : Keep) (known : Option (List ℕ)) (table : List ℕ → List ℕ) (rest : List ℕ → List DynamicEntry) (all : List ℕ → Result Dynamic Defect) (d : Dynamic) →
-    IfKnown known (λ bytes. rest bytes ≡ []) → IfKnown known (λ bytes. kept_of keep (gathered (table bytes) d (rest bytes)) ≡ kept_of keep (all bytes)) → IfKnown known (λ bytes. kept_of keep (all bytes) ≡ Ok (kept keep d))
-rests_end keep None table rest all d none whole = tt
-rests_end keep (Some bytes) table rest all d none whole = sym whole ∙ ap (λ es. kept_of keep (gathered (table bytes) d es)) none
-
 -- ---- the bytes that were taken, in known content
 
 raised_three : (a b c d n m k p : ℕ) → b ≤ raised a n → c ≤ raised b m → d ≤ raised c k → n + m + k ≤ p → d ≤ raised a p

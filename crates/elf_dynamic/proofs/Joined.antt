@@ -40,27 +40,11 @@ joined_on v e rest =
     )
     refl
 
-first_none : (o : Option ℕ) → first_of o None ≡ o
-first_none (Some a) = refl
-first_none None = refl
-
-none_more : (n : ℕ) → n + 0 ≡ n
-none_more n = omega arith
-
-joined_end : (v : Values) → joined v [] ≡ v
-joined_end v = rw (none_more v.texts, first_none v.strtab, first_none v.strsz, first_none v.flags_1) refl
-
 pub joined_known : (known : Option (List ℕ)) (v w : Values) (e : DynamicEntry) (before after : List ℕ → List DynamicEntry) (all : List ℕ → Values) → w ≡ joined v (e ∷ []) →
     IfKnown known (λ bytes. before bytes ≡ e ∷ after bytes) → IfKnown known (λ bytes. joined v (before bytes) ≡ all bytes) → IfKnown known (λ bytes. joined w (after bytes) ≡ all bytes)
 joined_known known v w e before after all is on whole =
     both {P = λ bytes. before bytes ≡ e ∷ after bytes} {Q = λ bytes. joined v (before bytes) ≡ all bytes} {R = λ bytes. joined w (after bytes) ≡ all bytes} known on whole
     (λ bytes on whole. ap (λ w. joined w (after bytes)) is ∙ joined_on v e (after bytes) ∙ ap (joined v) (sym on) ∙ whole)
-
-pub joined_all : (known : Option (List ℕ)) (v : Values) (before : List ℕ → List DynamicEntry) (all : List ℕ → Values) →
-    IfKnown known (λ bytes. before bytes ≡ []) → IfKnown known (λ bytes. joined v (before bytes) ≡ all bytes) → IfKnown known (λ bytes. v ≡ all bytes)
-joined_all known v before all none whole =
-    both {P = λ bytes. before bytes ≡ []} {Q = λ bytes. joined v (before bytes) ≡ all bytes} {R = λ bytes. v ≡ all bytes} known none whole
-    (λ bytes none whole. sym (joined_end v) ∙ ap (joined v) (sym none) ∙ whole)
 
 joined_none : (es : List DynamicEntry) → joined (record { texts = 0; strtab = None; strsz = None; flags_1 = None }) es ≡ values_of es
 joined_none es = let e : 0 + texts_in es ≡ texts_in es = omega arith in rw e refl

@@ -169,9 +169,6 @@ IsNext old new o bytes = MatchOption o (old bytes ≡ []) (λ e. old bytes ≡ e
 pub next_is : (known : Option (List ℕ)) (old new : List ℕ → List DynamicEntry) (e : DynamicEntry) (o : Option DynamicEntry) → o ≡ Some e → IfKnown known (IsNext old new o) → IfKnown known (λ bytes. old bytes ≡ e ∷ new bytes)
 next_is known old new e o is h = subst (λ o. IfKnown known (IsNext old new o)) is h
 
-pub none_is : (known : Option (List ℕ)) (old new : List ℕ → List DynamicEntry) (o : Option DynamicEntry) → o ≡ None → IfKnown known (IsNext old new o) → IfKnown known (λ bytes. old bytes ≡ [])
-none_is known old new o is h = subst (λ o. IfKnown known (IsNext old new o)) is h
-
 -- the same in the content before
 pub next_before : {ending : Ending} (s t : StoreState) (c new : Entries) (e : DynamicEntry) (o : Option DynamicEntry) → OnlyReads ending s t → o ≡ Some e → OfKnown t (IsNext (rest_of c) (rest_of new) o) → OfKnown s (λ bytes. rest_of c bytes ≡ e ∷ rest_of new bytes)
 next_before s t c new e o reads is h = before (λ bytes. rest_of c bytes ≡ e ∷ rest_of new bytes) s t reads (next_is (known_content t) (rest_of c) (rest_of new) e o is h)

@@ -85,11 +85,6 @@ goes_on known found piece new at count left all h none more read whole =
     let all_of_it : new ≡ found ++ piece = more ∙ ap (λ xs. found ++ xs) (while_none piece none) in
     ap (λ xs. option_map (λ r. xs ++ r) (before_nul rest)) all_of_it ∙ map_map found piece (before_nul rest) ∙ sym (ap (option_map (λ r. found ++ r)) behind) ∙ whole)
 
-pub ended_nowhere : (known : Option (List ℕ)) (found : List ℕ) (at left : ℕ) (all : List ℕ → Option (List ℕ)) → left ≡ 0 → IfKnown known (Is found at left all) → IfKnown known (λ bytes. None ≡ all bytes)
-ended_nowhere known found at left all h whole =
-    with {P = Is found at left all} {Q = λ bytes. None ≡ all bytes} known whole
-    (λ bytes whole. sym (ap (λ n. option_map (λ r. found ++ r) (before_nul (take n (drop at bytes)))) h) ∙ whole)
-
 -- ---- whether there is a NUL, piece by piece
 
 abbrev Has : ℕ → ℕ → (List ℕ → Bool) → List ℕ → Type 0
@@ -117,11 +112,6 @@ nul_on known piece at count end all h none read whole =
     (λ bytes read whole.
     let left : end - (at + count) ≡ end - at - count = omega arith in
     ap (λ n. list_any is_nul (take n (drop (at + count) bytes))) left ∙ sym (split_nul piece at count end bytes h read ∙ rw none refl) ∙ whole)
-
-pub nul_nowhere : (known : Option (List ℕ)) (at end : ℕ) (all : List ℕ → Bool) → end ≤ at → IfKnown known (Has at end all) → IfKnown known (λ bytes. false ≡ all bytes)
-nul_nowhere known at end all h whole =
-    with {P = Has at end all} {Q = λ bytes. false ≡ all bytes} known whole
-    (λ bytes whole. let none : end - at ≡ 0 = omega arith in sym (ap (λ n. list_any is_nul (take n (drop at bytes))) none) ∙ whole)
 
 -- ---- the text at an offset of a table
 

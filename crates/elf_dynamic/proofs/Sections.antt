@@ -28,7 +28,7 @@ use Rattle.elf_headers.specs.declared.kinds.Segment.{Segment}
 use Rattle.elf_headers.specs.Layout.{segments}
 use Rattle.elf_dynamic.specs.declared.values.Values.{Values}
 use Rattle.elf_dynamic.specs.Values.{texts_in, values_of}
-use Rattle.elf_dynamic.proofs.Known.{before, after, with, both, three}
+use Rattle.elf_dynamic.proofs.Known.{before, with, both, three}
 use Rattle.elf_dynamic.proofs.Kept.{unkept, soname_alike, name_alike}
 use Rattle.elf_dynamic.proofs.Gathered.{all_texts, picked, gathered_all, counted_all}
 
@@ -285,20 +285,6 @@ text_fault keep known mid w s v t first faults.NoMemory same new is h there bad 
 pub flagged : (keep : Keep) (known : Option (List ℕ)) (w : ℕ) (s : Segment) (t : List ℕ → List ℕ) (first : Dynamic) (v : Values) (d : Dynamic) → first ≡ no_texts (option_map_or has_nodeflib v.flags_1 false) →
     IfKnown known (λ bytes. kept_of keep (gathered (t bytes) first (dynamic_entries w bytes s)) ≡ Ok (kept keep d)) → IfKnown known (λ bytes. kept_of keep (gathered (t bytes) (no_texts (option_map_or has_nodeflib v.flags_1 false)) (dynamic_entries w bytes s)) ≡ Ok (kept keep d))
 flagged keep known w s t first v d e h = subst (λ x. IfKnown known (λ bytes. kept_of keep (gathered (t bytes) x (dynamic_entries w bytes s)) ≡ Ok (kept keep d))) e h
-
--- the values as they were read
-pub values_after : {e : Ending} (s t : StoreState) (w : ℕ) (d : Segment) (v : Values) → OnlyReads e s t → IfKnown (known_content s) (λ bytes. v ≡ values_of (dynamic_entries w bytes d)) → IfKnown (known_content t) (λ bytes. v ≡ values_of (dynamic_entries w bytes d))
-values_after s t w d v r h = after (λ bytes. v ≡ values_of (dynamic_entries w bytes d)) s t r h
-
-pub textless_taken : (known : Option (List ℕ)) (a b n m w : ℕ) (s : Segment) → b ≤ raised a n → IfKnown known (λ bytes. b ≤ raised a (n + m + 65536 * counting_in w bytes s))
-textless_taken None a b n m w s h = tt
-textless_taken (Some bytes) a b n m w s h = raised-mono a b n (n + m + 65536 * counting_in w bytes s) (omega arith) h
-
-pub texts_taken : (known : Option (List ℕ)) (a b c n m w : ℕ) (s : Segment) → b ≤ raised a n → IfKnown known (λ bytes. c ≤ raised b (m + n + 65536 * counting_in w bytes s)) →
-    IfKnown known (λ bytes. c ≤ raised a (n + (m + n) + 65536 * counting_in w bytes s))
-texts_taken None a b c n m w s h k = tt
-texts_taken (Some bytes) a b c n m w s h k =
-    raised-mono a c (n + (m + n + 65536 * counting_in w bytes s)) (n + (m + n) + 65536 * counting_in w bytes s) (omega arith) (raised-add a b c n (m + n + 65536 * counting_in w bytes s) h k)
 
 -- ---- the section of a file
 

@@ -1,6 +1,6 @@
 -- Stamps that are made of files are true of each tree with the same contents, and true stamps hide no file that isn't held.
 use Rattle.std.proofs.Common.{◌≡◌, ◌||◌, ◌++◌, ℕ, Bool, true, false, cond, List, [], ◌∷◌, Option, Some, None, refl, ap, sym, subst, ◌∙◌}
-use Rattle.std.specs.List.{before_first, cons_option, filter_map}
+use Rattle.std.specs.List.{before_first, cons_option}
 use Rattle.std.specs.Option.{is_none, is_some, option_and_then, option_map, option_or}
 use Rattle.std.specs.Prelude.{IfSome}
 use Rattle.std.specs.Str.{bytes_eq}
@@ -159,30 +159,6 @@ module _ (held : Contents) where
     pub opened_lack_the_same : AreSame held t t → (stamps : List Stamp) (paths : List (List ℕ)) → AreTrue held t stamps → AreSorted paths
         → lacks_one held (opened_keys held t stamps paths) ≡ lacks_one held (file_keys t paths)
     opened_lack_the_same same stamps paths are sorted = ap (lacks_one held) (opened_are held t stamps paths sorted) ∙ lack_the_same same stamps paths are
-
-    fewer : (is : List ℕ → Bool) (key : List ℕ → Option (List ℕ)) (paths : List (List ℕ)) → lacks_one held (filter_map (λ path. cond (is path) (key path) None) paths) ≡ true
-        → lacks_one held (filter_map key paths) ≡ true
-    fewer is key [] there = there
-    fewer is key (path ∷ paths) there =
-        lacks_more (key path) (filter_map key paths)
-        ∙ by (is path) (lacks_one held (filter_map (λ path. cond (is path) (key path) None) paths)) (sym (lacks_more (cond (is path) (key path) None) _) ∙ there) (fewer is key paths)
-      where
-        second : (a : Bool) → (a || true) ≡ true
-        second true = refl
-        second false = refl
-
-        either : (a b c : Bool) → (a || b) ≡ true → (b ≡ true → c ≡ true) → (a || c) ≡ true
-        either true b c h rest = refl
-        either false b c h rest = rest h
-
-        by : (b more : Bool) → (lacks (cond b (key path) None) || more) ≡ true → (more ≡ true → lacks_one held (filter_map key paths) ≡ true)
-            → (lacks (key path) || lacks_one held (filter_map key paths)) ≡ true
-        by true more h rest = either (lacks (key path)) more _ h rest
-        by false more h rest = ap (λ b. lacks (key path) || b) (rest h) ∙ second (lacks (key path))
-
-    -- whatever stamps say: a file that is opened and isn't held is one of the files
-    pub opened_lacks : (stamps : List Stamp) (paths : List (List ℕ)) → lacks_one held (opened_keys held t stamps paths) ≡ true → lacks_one held (file_keys t paths) ≡ true
-    opened_lacks stamps paths there = fewer (λ path. is_none (stamp_for (stamps_before held t stamps paths path) t path)) (λ path. key_in (node_at t path)) paths there
 
 -- ---- a tree with the same identities and contents
 

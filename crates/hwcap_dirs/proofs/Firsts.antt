@@ -1,5 +1,5 @@
 -- Directories that were met, and those that are left.
-use Rattle.std.proofs.Common.{◌≡◌, ℕ, Bool, true, false, cond, not, ◌&&◌, ◌||◌, List, [], ◌∷◌, ◌++◌, append_assoc, refl, ap, sym, ◌∙◌, Some, None}
+use Rattle.std.proofs.Common.{◌≡◌, ℕ, Bool, true, false, cond, not, ◌&&◌, ◌||◌, List, [], ◌∷◌, ◌++◌, append_assoc, refl, ap, sym, ◌∙◌, Some}
 use Rattle.std.proofs.lemmas.List.{append-nil}
 use Rattle.std.proofs.lemmas.List.Folds.{list_any-append}
 use Rattle.std.proofs.lemmas.Slice.Eq.{bytes_eq-Decides}
@@ -62,10 +62,6 @@ module _ (t : Nodes) where
       all_places t (insert_key bytes_eq met real) (places ++ new_places t met (text, real)) texts ≡ all_places t met places (text ∷ texts)
   one_more met places text real texts e =
       rw e (append_assoc places _ _ ∙ ap (λ ps. places ++ ps) (more met (text, real) (filter_map (led_at t) texts) (was_met met (text, real)) refl))
-
-  pub none_more : (met : List (List ℕ)) (places : List Place) (text : List ℕ) (texts : List (List ℕ)) → dir_at t text ≡ None →
-      all_places t met places texts ≡ all_places t met places (text ∷ texts)
-  none_more met places text texts e = rw e refl
 
   all_fresh : (leds : List Led) → filter (fresh []) leds ≡ leds
   all_fresh [] = refl

@@ -135,6 +135,3 @@ module _ (t : Nodes) (path : List ℕ) (node : Node) where
 
   pub clash_below : has_file_above t path ≡ false → not (is_dir node) ≡ true → clashes t path node ≡ has_below t path
   clash_below h k = apart path node t ∙ ap (λ z. z || (not (is_dir node) && has_below t path)) h ∙ ap (λ z. z && has_below t path) k
-
-  pub no_clash : has_file_above t path ≡ false → not (is_dir node) ≡ false → clashes t path node ≡ false
-  no_clash h k = apart path node t ∙ ap (λ z. z || (not (is_dir node) && has_below t path)) h ∙ ap (λ z. z && has_below t path) k

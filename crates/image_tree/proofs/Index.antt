@@ -1,8 +1,6 @@
 -- What an index in a tree's list says.
-use Rattle.std.proofs.Common.{◌≡◌, ℕ, ◌+◌, List, length, get_or, set, Some, None, Result, Ok, Err, sym, subst, ⊎_elim, arith}
+use Rattle.std.proofs.Common.{◌≡◌, ℕ, ◌+◌, List, length, get_or, set, Some, None, sym, subst, ⊎_elim, arith}
 use Rattle.std.specs.List.{insert, remove}
-use Rattle.std.specs.List.Sorted.{IsBinarySearchResult, IsSearchInRange}
-use Rattle.std.specs.Result.{MatchResult}
 use Rattle.std.specs.declared.cmp.Ordering.TheVariants.{Less}
 use Rattle.std.proofs.lemmas.Bool.{cases_lt}
 use Rattle.std.proofs.lemmas.List.{get_or_default}
@@ -13,11 +11,6 @@ use Rattle.image_tree.specs.Tree as tree
 use Rattle.image_tree.specs.Tree.{Nodes, IsPathSorted, IsTree, node_at, is_entry}
 use Rattle.image_tree.specs.Index.{IsIndexOf, IsGapFor}
 use Rattle.image_tree.specs.declared.node.Node.{Node}
-
-pub searched : (t : Nodes) (path : List ℕ) (r : Result ℕ ℕ) → IsPathSorted t → IsSearchInRange r (length t) → IsBinarySearchResult (λ e. path_cmp e.0 path) t r
-    → MatchResult r (IsIndexOf t path) (IsGapFor t path)
-searched t path (Ok at) s h found = record { within = h; same = found }
-searched t path (Err at) s h gap = let p = gap (pairs.rises_by path_total t path s) in record { within = h; before = p.0; after = p.1 }
 
 module _ (t : Nodes) (path : List ℕ) (at : ℕ) where
   pub found_node : IsPathSorted t → IsIndexOf t path at → (d : List ℕ × Node) → node_at t path ≡ Some (get_or t at d).1

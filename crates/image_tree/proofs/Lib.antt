@@ -8,6 +8,7 @@ pub mod Kept
 pub mod KindAt
 pub mod Listed
 pub mod Names
+pub mod OneMore
 mod OneText
 pub mod Order
 pub mod Prefixes

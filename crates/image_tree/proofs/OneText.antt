@@ -129,9 +129,6 @@ module _ (text new : List ℕ) (longer : IsLonger text new) where
     kept : map (part_of new) parts ≡ map (part_of text) parts
     kept = rows_kept part_of IsWithin part_within part_kept text new parts longer within
 
-    pub pushed_within : (part : Part) → IsWithin (length new) part → AreWithin (length new) (parts ++ part ∷ [])
-    pushed_within = part_pushed_within part_of IsWithin part_within part_kept text new parts longer within
-
     pub pushed : (part : Part) (path : List ℕ) → part_of new part ≡ path → map (part_of new) (parts ++ part ∷ []) ≡ map (part_of text) parts ++ path ∷ []
     pushed = part_pushed part_of IsWithin part_within part_kept text new parts longer within
 

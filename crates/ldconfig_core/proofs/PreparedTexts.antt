@@ -39,16 +39,12 @@ use Rattle.ldconfig_core.specs.Settled.{AreSettled, IfReads, planned_image}
 use Rattle.ldconfig_core.specs.Stages.{HasTooMany, IsMadeOf, IsTooLarge, entries_of, said_of, stored_image, texts_of}
 use Rattle.ldconfig_core.specs.Texts.{AreTexts, AreTextsOf, said_with}
 use Rattle.ldconfig_core.specs.Update.{AreUpdateTexts, IfHonestIn, IfHonestly, IsAnswer, IsUpdated, update_ending}
+use Rattle.tree_face.proofs.Known.{known_then}
 
 -- the count of faults rose, or a file isn't held
 cause_of : {risen : Type 0} {a b : Type 0} → (a → b) → risen ⊎ a → risen ⊎ b
 cause_of f (inl risen) = inl risen
 cause_of f (inr lacks) = inr (f lacks)
-
--- what follows for given contents follows if they are known
-if_known : (known : Option Contents) (P Q : Contents → Type 0) → ((held : Contents) → P held → Q held) → IfKnown known P → IfKnown known Q
-if_known None P Q f h = tt
-if_known (Some held) P Q f h = f held h
 
 module _ (s : Loaded) (found : Found) (tree : Nodes) (alike : IsSearchedAlike s.tree tree) where
   -- ---- for given contents
@@ -149,7 +145,7 @@ module _ (s : Loaded) (found : Found) (tree : Nodes) (alike : IsSearchedAlike s.
     If P = IfKnown known P
 
     follows : (P : Contents → Type 0) → ((held : Contents) → IsFound held s.tree s.stamps found tree → P held) → If P
-    follows P f = if_known known (λ held. IsFound held s.tree s.stamps found tree) P f is
+    follows P f = known_then known (λ held. IsFound held s.tree s.stamps found tree) P f is
 
     module _ (prepared : Prepared) (made : IsMadeOf s.edited s.damaged found tree prepared) (settled : IfHonestly known s (λ held. AreSettled held s (planned_image held s))) where
       texts_alone : AreTexts (texts_of prepared)
@@ -218,7 +214,7 @@ module _ (A : Type 0) (s : Loaded) (a b : StoreState) where
   -- a call that read all may give up
   given_up : Finds Complete → Finds GaveUp
   given_up reads = record {
-    keys = if_known a.held
+    keys = known_then a.held
         (λ held. ReadsFiles (lacks_file held s.tree s.stamps ≡ true) (Some (update_keys held s.tree s.stamps)) (Some (update_bytes held s.tree s.stamps)) Complete a b)
         (λ held. ReadsFiles (lacks_file held s.tree s.stamps ≡ true) (Some (update_keys held s.tree s.stamps)) (Some (update_bytes held s.tree s.stamps)) GaveUp a b)
         (λ held reads. reads_all _ _ _ _ _ reads) reads.keys;
@@ -235,10 +231,10 @@ module _ (A : Type 0) (s : Loaded) (a b : StoreState) where
   module _ (B : Type 0) where
     pub finding_answers : (fault : FindFault) → ((nodes : ℕ) → fault ≡ finding.TooLarge nodes → IfKnown a.held (λ held. HasTooManyNodes held s.tree s.stamps nodes))
         → Finds (find_ending {A = B} (Err fault)) → IfKnown a.held (λ held. IsAnswer {A = A} (update_outcome held s) (Err (of_finding fault)) a b)
-    finding_answers finding.StoreFault large reads = if_known a.held _ _ (λ held reads. cause_of (rows.lacking held s) reads.cause) reads.keys
+    finding_answers finding.StoreFault large reads = known_then a.held _ _ (λ held reads. cause_of (rows.lacking held s) reads.cause) reads.keys
     finding_answers (finding.TooLarge nodes) large reads =
-        if_known a.held _ _ (λ held many. rows.too_many_nodes held s many.none_lacks nodes many.many many.nodes_are) (large nodes refl)
-    finding_answers finding.NoMemory large reads = if_known a.held _ _ (λ held reads. tt) reads.keys
+        known_then a.held _ _ (λ held many. rows.too_many_nodes held s many.none_lacks nodes many.many many.nodes_are) (large nodes refl)
+    finding_answers finding.NoMemory large reads = known_then a.held _ _ (λ held reads. tt) reads.keys
 
     pub finding_ends : (fault : FindFault) → Finds (find_ending {A = B} (Err fault)) → Finds (update_ending {A = A} (Err (of_finding fault)))
     finding_ends finding.StoreFault reads = reads

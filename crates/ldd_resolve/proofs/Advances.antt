@@ -1,39 +1,24 @@
 -- How far a listing has come, request by request.
-use Rattle.std.proofs.Common.{◌≡◌, ◌+◌, ℕ, false, List, [], ◌++◌, append_assoc, take, Option, Some, None, refl, sym, ap, subst, ◌∙◌}
+use Rattle.std.proofs.Common.{◌≡◌, ◌+◌, ℕ, false, List, [], ◌++◌, append_assoc, Option, Some, None, refl, sym, ap, subst, ◌∙◌}
 use Rattle.std.proofs.lemmas.List.{append-nil}
-use Rattle.elf_dynamic.proofs.BegunKeys.{keys_early, keys_then, none_lacks}
+use Rattle.elf_dynamic.proofs.BegunKeys.{keys_then, none_lacks}
 use Rattle.elf_dynamic.specs.Begun.{lacks_one}
-use Rattle.lib_types.specs.declared.abi.Abi.{Abi}
-use Rattle.tree_face.proofs.StoreUse.{reads_all, reads_fewer, reads_none, reads_then, unread}
+use Rattle.tree_face.proofs.StoreUse.{reads_all, reads_none, reads_then, unread}
 use Rattle.tree_face.specs.Store.{Contents, StoreState}
 use Rattle.tree_face.specs.StoreUse.{Ending, Complete, DeviceFailed, GaveUp}
-use Rattle.image_tree.specs.Tree.{Nodes}
 use Rattle.ldd_resolve.proofs.Records.{record_more, record_none}
-use Rattle.ldd_resolve.specs.Listing.{Record, Inputs, keys_searched, record_after}
+use Rattle.ldd_resolve.specs.Listing.{Record, Inputs, record_after}
 use Rattle.ldd_resolve.specs.Loading.{Advances, GoesBy}
-use Rattle.rpath_search.specs.Searching.{AreHeld, SearchesBeside, keys_beside}
-use Rattle.ldd_resolve.specs.Searching.{Begins, BeginsHeld}
+use Rattle.rpath_search.specs.Searching.{AreHeld}
+use Rattle.ldd_resolve.specs.Searching.{BeginsHeld}
 
 -- ---- nothing is read
 
 pub unread_held : (held : Contents) (s : StoreState) → BeginsHeld held [] Complete s s
 unread_held held s = record { reads = reads_none _ _ s; none_lacks = refl }
 
--- out of memory before the first key is begun
-pub begins_none : (known : Option Contents) (keys : Contents → List (List ℕ)) (s : StoreState) → Begins known keys GaveUp s s
-begins_none None keys s = reads_all None None s s ⊥ (unread s)
-begins_none (Some held) keys s = record {
-  reads = keys_early (Some held) [] (keys held) GaveUp s s tt (reads_all _ _ s s _ (reads_none _ _ s));
-  none_lacks = tt;
 }
 
--- what a search begins
-pub begins_by : (known : Option Contents) (t : Nodes) (abi : Abi) (places all : List (List ℕ)) (e : Ending) (a b : StoreState) → SearchesBeside known t abi places all e a b →
-    Begins known (λ held. keys_searched held t abi places all) e a b
-begins_by None t abi places all e a b searched = reads_fewer ⊥ ⊥ (Some (keys_beside t places (take searched.count all))) None e a b (λ l. l) searched.begins
-begins_by (Some held) t abi places all e a b searched = record {
-  reads = rw searched.exactly at searched.begins;
-  none_lacks = rw searched.exactly at searched.none_lacks;
 }
 
 -- ---- one call after another

@@ -16,7 +16,7 @@ use Rattle.ldd_resolve.specs.Loading.{Advances, Stands}
 use Rattle.ldd_resolve.specs.Requests.{Answers, AnswersAll, AnswersObjects, IsAt, IsListed, requests_by, inputs_by}
 use Rattle.ldd_resolve.specs.declared.kinds.Member.{Member}
 use Rattle.ldd_resolve.specs.Resolving.{IfComplete, member_of}
-use Rattle.ldd_resolve.proofs.Advances.{advances_as, advances_then, gives_up, stays}
+use Rattle.ldd_resolve.proofs.Advances.{advances_as, advances_then, stays}
 use Rattle.ldd_resolve.proofs.Standing.{drop_one}
 
 abbrev pub failing : SearchFault → Ending
@@ -44,10 +44,6 @@ module _ (known : Option Contents) (g : Given) (n : ℕ) (chain : List Owner) wh
         advances_then (inputs_by g) r DeviceFailed (λ r2. IsAt g.env.now r2 s1 n chain left_names) (λ r2. Unit {0}) a b c known (first r here) next
     request_fails rest s2 s3 NoMemory next r here =
         advances_then (inputs_by g) r GaveUp (λ r2. IsAt g.env.now r2 s1 n chain left_names) (λ r2. Unit {0}) a b c known (first r here) next
-
-  -- out of memory before the first
-  pub none_answered : (names rest : List (List ℕ)) (s s2 : Loading) (a : StoreState) → Answers known g n chain names rest GaveUp s s2 a a
-  none_answered names rest s s2 a r here = gives_up (inputs_by g) r a known
 
 -- ---- the next object
 

@@ -67,10 +67,6 @@ file_has_key t path real leads = by (resolution t path Full) leads
         key_there t real (subst (λ p. is_file (kind_at t p) ≡ true) same file))
         (λ other. absurd (let none : file_by t (Ok place) ≡ None = rw other refl in cc))
 
-pub key_has_node : (o : Option Node) → is_some (key_in o) ≡ true → is_some o ≡ true
-key_has_node None key = absurd (cc)
-key_has_node (Some n) key = refl
-
 -- ---- the keys that are begun
 
 -- keys that are all held are all begun

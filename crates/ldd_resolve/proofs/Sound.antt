@@ -62,9 +62,6 @@ module _ (t : Nodes) (abi : Abi) (s : Loading) (real : List ℕ) (new : is_among
   abbrev more : LoadedFiles
   more = record s.places { loaded = s.places.loaded ++ real ∷ [] }
 
-  not_loaded : (x : List ℕ) → bytes_eq x real ≡ true → is_among s.places.loaded x ≡ false
-  not_loaded x same = subst (λ y. is_among s.places.loaded y ≡ false) (sym ((bytes_eq-Decides x real).0 same)) new
-
   -- the program is loaded, so it is another file
   other_file : (outsider : Option (List ℕ)) → IfSome outsider (λ o. is_among s.places.loaded o ≡ true) → is_outsider outsider real ≡ false
   other_file None there = refl

@@ -196,12 +196,6 @@ module _ (f : Found) (key : List ℕ) where
 -- ---- the same, as far as the contents are known
 
 module _ (whole : Contents → List Item) where
-  -- the file is reported and not begun
-  pub all_reported : (known : Option Contents) (report : ConfReport) (r new : Progress) (s : StoreState) → ((held : Contents) → whole held ≡ Reports report ∷ []) → new ≡ with_report r report →
-      IfKnown known (λ held. HasTaken (whole held) r new) × ReadsItems whole known Complete s s
-  all_reported None report r new s alone e = (tt, unread s)
-  all_reported (Some held) report r new s alone e = rw (alone held) (take_report r new report e, reads_all ⊥ _ _ _ s s (reads_nothing s))
-
   module _ (f : Found) (key : List ℕ) (rest : Contents → List Item) (a b : StoreState) where
     pub file_stops : (known : Option Contents) (e : Ending) → ((held : Contents) → whole held ≡ begun f key (held key) ∷ rest held) → IsPartial e → ReadsFile key known e a b →
         ReadsItems whole known e a b

@@ -39,11 +39,6 @@ module _ (t : Nodes) where
   as_reads e old new None reads = reads
   as_reads e old new (Some held) reads = reads
 
-  conf_by : (known : Option Contents) (conf : Conf) (reader : Progress) → IfKnown known (λ held. HasTaken (all_items held) nothing_read reader) → IsConfFrom conf reader →
-      IfKnown known (λ held. IsConfOf conf held t)
-  conf_by None conf reader taken is = tt
-  conf_by (Some held) conf reader taken is = as_conf held conf reader taken is
-
   -- ---- there is no conf file
 
   no_items : place_at t conf_path ≡ None → (held : Contents) → all_items held ≡ []

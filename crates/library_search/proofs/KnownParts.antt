@@ -30,11 +30,7 @@ use Rattle.library_search.specs.declared.following.Followed.{Followed}
 use Rattle.library_search.specs.declared.search.Search.{Search}
 use Rattle.library_search.specs.Found.{HasTooManyNodes, IsFound, IsSearched}
 use Rattle.library_search.specs.Ldconfig.{places_in, said_wanted}
-
--- what follows for each content
-pub known_then : (known : Option Contents) (P Q : Contents → Type 0) → ((held : Contents) → P held → Q held) → IfKnown known P → IfKnown known Q
-known_then None P Q f p = tt
-known_then (Some held) P Q f p = f held p
+use Rattle.tree_face.proofs.Known.{known_then}
 
 module _ (t : Nodes) (loaded : List Stamp) (search : Search) where
   abbrev nodes_then : ℕ

@@ -13,24 +13,17 @@ use Rattle.planned_tree.proofs.Agree.{agree}
 use Rattle.planned_tree.specs.Search.{IsSearchedAlike}
 use Rattle.file_stamps.proofs.Opened.{opened_alike, opened_append, opened_are}
 use Rattle.file_stamps.proofs.Opens.{opened_by_count}
-use Rattle.file_stamps.proofs.Truth.{same_in, true_in}
 use Rattle.file_stamps.specs.Opened.{opened_keys, opens, unstamped_key}
 use Rattle.file_stamps.specs.Reading.{opened_by}
-use Rattle.file_stamps.specs.Stamped.{AreSame, AreTrue, StampTheSame, id_at, stamp_at, stamp_by, stamp_for, stamps_at}
+use Rattle.file_stamps.specs.Stamped.{AreSame, StampTheSame, id_at, stamp_at, stamp_by, stamp_for, stamps_at}
 use Rattle.tree_face.specs.Store.{Contents}
-use Rattle.library_search.proofs.FilesAgree.{content_same, id_same, key_same, what_same}
+use Rattle.library_search.proofs.FilesAgree.{id_same, key_same, what_same}
 
 -- only the identities with stamps count
 pub keys_alike : (held : Contents) (t : Nodes) (xs ys : List Stamp) (paths : List (List ℕ)) → AreSorted paths → StampTheSame xs ys → opened_keys held t xs paths ≡ opened_keys held t ys paths
 keys_alike held t xs ys paths sorted alike = opened_are held t xs paths sorted ∙ opened_alike held t xs ys paths alike ∙ sym (opened_are held t ys paths sorted)
 
 module _ (held : Contents) (t new : Nodes) (alike : IsSearchedAlike t new) where
-  pub same_new : AreSame held t t → AreSame held new new
-  same_new = same_in held t new (id_same held t new alike) (content_same held t new alike)
-
-  pub true_new : (stamps : List Stamp) → AreTrue held t stamps → AreTrue held new stamps
-  true_new = true_in held t new (id_same held t new alike) (content_same held t new alike)
-
   pub stamp_same : stamp_at held new ≡ stamp_at held t
   stamp_same = agree (stamp_at held new) (stamp_at held t)
       (λ path. ap (λ i. stamp_by i (what_is held new path)) (id_same held t new alike path) ∙ ap (λ w. stamp_by (id_at t path) w) (what_same held t new alike path))

@@ -5,7 +5,8 @@ use Rattle.library_files.specs.Search.{reached}
 use Rattle.hwcap_dirs.specs.declared.kinds.Dirs.{Dirs}
 use Rattle.image_tree.specs.Tree.{Nodes}
 use Rattle.file_stamps.specs.Opened.{opened_keys}
-use Rattle.file_stamps.specs.State.{made_there, stamps_there, unread_paths}
+use Rattle.file_stamps.specs.State.{made_there, said_there, stamps_there, unread_paths}
+use Rattle.file_table.specs.Analyses.{Analyses}
 use Rattle.file_stamps.specs.declared.files.Files.{Files}
 use Rattle.tree_face.specs.Store.{Contents}
 
@@ -16,6 +17,10 @@ unread_behind files t dirs = unread_paths files (reached t dirs.places)
 -- the keys of those that are opened
 abbrev pub opened_behind : Contents → List Stamp → Files → Nodes → Dirs → List (List ℕ)
 opened_behind held loaded files t dirs = opened_keys held t (stamps_there loaded files) (unread_behind files t dirs)
+
+-- what they are said to be
+abbrev pub said_behind : Contents → List Stamp → Files → Nodes → Dirs → Analyses
+said_behind held loaded files t dirs = said_there held t loaded files (unread_behind files t dirs)
 
 -- the stamps that are made of them
 abbrev pub made_behind : Contents → List Stamp → Files → Nodes → Dirs → List Stamp

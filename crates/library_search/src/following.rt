@@ -11,9 +11,8 @@ ghost use Rattle.library_files.specs.Search.{dangling, followed, reached};
 ghost use Rattle.file_table.specs.Table.{analysis_at};
 ghost use Rattle.file_stamps.specs.Opened.{ReadsOpened};
 ghost use Rattle.file_stamps.specs.Stamped.{with_stamps};
-ghost use Rattle.file_stamps.specs.State.{said_there};
 ghost use Rattle.tree_face.specs.Known.{IfKnown};
-ghost use Rattle.library_search.specs.Behind.{made_behind, opened_behind, unread_behind};
+ghost use Rattle.library_search.specs.Behind.{made_behind, opened_behind, said_behind, unread_behind};
 ghost use Rattle.library_search.specs.Faults.{find_ending, is_store_fault};
 
 use crate::fault::FindFault;
@@ -48,7 +47,7 @@ pub fn follow_links<S: Store>(
     ensures links { IfOk result (λ found. found.links ≡ followed tree.now dirs.now.places) }
     ensures dangling { IfOk result (λ found. found.dangling ≡ dangling tree.now dirs.now.places) }
     ensures said { OnOk result (IfKnown (S.state store.old).held (λ held. AgreeOn (unread_behind files.old tree.now dirs.now)
-        (said_there held tree.now loaded.now files.old (unread_behind files.old tree.now dirs.now)) (analysis_at files.new.table))) }
+        (said_behind held loaded.now files.old tree.now dirs.now) (analysis_at files.new.table))) }
     ensures kept { OnOk result (KeepsAnalyses (analysis_at files.old.table) (analysis_at files.new.table)) }
     ensures all { OnOk result (AreRead tree.now (analysis_at files.new.table) (reached tree.now dirs.now.places)) }
     ensures only { OnOk result ((path : List ℕ) → list_any (bytes_eq path) (keys_of files.new.table) ≡ true →

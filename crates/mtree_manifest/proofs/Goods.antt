@@ -10,7 +10,7 @@ use Rattle.image_tree.specs.Node.{is_node, is_key, is_target, has_no_nul}
 use Rattle.image_tree.specs.Paths.{is_path}
 use Rattle.manifest_words.specs.Escape.{decoded, in_front}
 use Rattle.mtree_manifest.specs.Good.{IsGood, IsGoodAt, IsGoodBehind, IsGoodOpen, are_good, is_good_link, is_good_contents}
-use Rattle.mtree_manifest.specs.Progress.{Open, started, given_by_head, with_word_behind, with_word, line_ended, reading_behind, reading_of}
+use Rattle.mtree_manifest.specs.Progress.{Open, given_by_head, with_word_behind, with_word, line_ended, reading_behind, reading_of}
 use Rattle.manifest_words.specs.Keys.{Values, Given, no_values, given_by, divided, is_equals, keyword_of, with_value, without, value_fault, rank, first_fault, fault_unless, text_fault, is_link_text}
 use Rattle.manifest_words.specs.Decoding.{first_byte}
 use Rattle.manifest_words.proofs.Names.{path_key}
@@ -214,6 +214,3 @@ behind_keeps n s t (Some first) g e good line = line_keeps n s t first.0 first.1
 
 pub defaults_good : (s t : State) (o : Open) → line_ended s o ≡ Ok t → are_good s.defaults ≡ true → IsGoodOpen o → are_good t.defaults ≡ true
 defaults_good s t o e good line = behind_keeps o.number s t o.first o.given e good line
-
-pub started_good : (n : ℕ) (v : Values) → are_good v ≡ true → IsGoodOpen (started n v)
-started_good n v good = good

@@ -15,8 +15,3 @@ Refuses (TooMany line) outcome = outcome ≡ Err (TooMany line)
 abbrev pub Ends : {A : Type 0} → Result (Unit {0}) ManifestFault → Result A ManifestFault → A → Type 0
 Ends (Ok _) outcome new = outcome ≡ Ok new
 Ends (Err e) outcome new = Refuses e outcome
-
--- a call that gives a value
-abbrev pub Gives : {X A : Type 0} → (X → A) → Result X ManifestFault → Result A ManifestFault → Type 0
-Gives view (Ok x) outcome = outcome ≡ Ok (view x)
-Gives view (Err e) outcome = Refuses e outcome

@@ -68,6 +68,3 @@ with_physical p line = physical_taken (p.next + 1) p.state p.line line
 abbrev pub with_physicals : Progress → List (List ℕ) → Result State ManifestFault
 with_physicals p [] = line_ended p.state p.line
 with_physicals p (line ∷ lines) = with_physical p line >>= (λ q. with_physicals q lines)
-
-abbrev pub no_progress : State → Progress
-no_progress s = record { state = s; line = started 1 s.defaults; next = 1 }

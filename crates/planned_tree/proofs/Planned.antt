@@ -15,7 +15,8 @@ use Rattle.image_tree.specs.declared.tree.Kind.TheVariants as kinds
 use Rattle.planned_tree.proofs.Alike.{IsAlike, IsSame, IsSpot}
 use Rattle.soname_links.proofs.KindsAt.{is_open, open_free}
 use Rattle.soname_links.proofs.Rooms.{HaveRoom, IsRoom}
-use Rattle.soname_links.proofs.Put.{any_put, put_here, put_other}
+use Rattle.image_tree.proofs.OneMore.{put_here, put_other}
+use Rattle.soname_links.proofs.Put.{any_put}
 use Rattle.soname_links.specs.Plan.{is_taken, with_link, with_links}
 use Rattle.soname_links.specs.declared.kinds.Planned.{Planned}
 

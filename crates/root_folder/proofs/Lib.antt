@@ -1,6 +1,4 @@
 pub mod Crash
-pub mod Dirs
 pub mod Moments
-pub mod Put
 pub mod Walk
 pub mod Whole

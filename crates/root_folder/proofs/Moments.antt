@@ -15,7 +15,7 @@ use Rattle.image_tree.specs.declared.node.Id.{Id}
 use Rattle.image_tree.specs.declared.node.Node.{Node}
 use Rattle.image_tree.specs.declared.node.Node.TheVariants.{Dir, File, Link}
 use Rattle.tree_face.proofs.Past.{absorbed, or_in}
-use Rattle.root_folder.proofs.Put.{put_here, put_other}
+use Rattle.image_tree.proofs.OneMore.{put_here, put_other}
 use Rattle.root_folder.specs.Crash.{AddsLink, GoesOn, LeavesMore, LeavesSame, Settles, is_link_to}
 use Rattle.root_folder.specs.Folder.{KeepsContent, Links, MayLink}
 use Rattle.root_folder.specs.Found.{Found, found_eq, id_eq, node_eq}

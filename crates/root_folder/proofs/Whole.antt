@@ -17,7 +17,7 @@ use Rattle.image_tree.specs.Tree.{Nodes, is_entry, node_at, put}
 use Rattle.image_tree.specs.declared.node.Node.TheVariants.{Dir, File, Link}
 use Rattle.image_tree.specs.declared.tree.TreeFault.{TreeFault}
 use Rattle.path_walk.specs.Names.{parent}
-use Rattle.root_folder.proofs.Put.{put_other}
+use Rattle.image_tree.proofs.OneMore.{put_other}
 use Rattle.root_folder.specs.Found.{Found}
 use Rattle.root_folder.specs.Whole.{IsWhole, can_link, has_dir, is_free}
 

@@ -7,7 +7,7 @@ use Rattle.image_tree.specs.declared.node.Node.TheVariants.{Link}
 use Rattle.path_walk.specs.Names.{parent}
 use Rattle.tree_face.specs.Known.{IfKnown, Relates}
 use Rattle.root_folder.proofs.Crash.{leaves_on, link_leaves, settling_leaves}
-use Rattle.root_folder.proofs.Put.{put_here}
+use Rattle.image_tree.proofs.OneMore.{put_here}
 use Rattle.root_folder.specs.Crash.{AddsLink, HasMoments, Leaves, Settles, is_link_to}
 use Rattle.root_folder.specs.Folder.{FolderContent, FolderState, Links, SettlesIn}
 use Rattle.root_folder.specs.Found.{Found, found_eq}

@@ -1,24 +1,19 @@
 -- A file's object says whether it is a library, as its analysis does.
-use Rattle.std.proofs.Common.{◌≡◌, ◌||◌, ℕ, Bool, true, false, cond, List, [], ◌∷◌, Option, Some, None, is_none, is_some, Result, Ok, Err, refl, ap, sym, subst, ◌∙◌}
-use Rattle.std.specs.List.{cons_option}
+use Rattle.std.proofs.Common.{◌≡◌, ℕ, Bool, true, false, cond, List, [], ◌∷◌, Option, Some, None, is_some, Result, Ok, Err, refl, ap, sym, ◌∙◌}
 use Rattle.std.specs.Option.{option_and_then, option_map_or}
 use Rattle.std.specs.Prelude.{IsSomeAnd}
 use Rattle.lib_types.specs.declared.abi.Abi.{Abi}
 use Rattle.lib_types.specs.declared.analysis.Defect.{Defect}
-use Rattle.tree_face.proofs.StoreUse.{reads_none}
 use Rattle.tree_face.specs.Known.{IfKnown}
-use Rattle.tree_face.specs.Store.{Contents, StoreState}
-use Rattle.tree_face.specs.StoreUse.{Ending, Complete}
+use Rattle.tree_face.specs.Store.{Contents}
 use Rattle.image_tree.specs.Tree.{Nodes, node_at}
 use Rattle.path_walk.specs.Files.{file_at}
-use Rattle.elf_headers.specs.Reading.{OfContent, ReadsFile}
+use Rattle.elf_headers.specs.Reading.{OfContent}
 use Rattle.elf_dynamic.proofs.Objects.{analysis_bad, analysis_ok}
 use Rattle.elf_dynamic.specs.Analysis.{analysis}
 use Rattle.elf_dynamic.specs.Object.{object}
-use Rattle.elf_dynamic.specs.Taken.{most_known}
 use Rattle.elf_dynamic.specs.declared.kinds.Object.{Object}
-use Rattle.elf_dynamic.proofs.BegunKeys.{one_key}
-use Rattle.elf_dynamic.specs.Begun.{ReadsBy, file_keys, key_in, lacks_one}
+use Rattle.elf_dynamic.specs.Begun.{file_keys, key_in}
 use Rattle.rpath_search.specs.Search.{is_good, is_library, is_library_at, is_library_of, library_at, library_by}
 use Rattle.rpath_search.specs.Searching.{Tries, is_among, keys_beside}
 use Rattle.rpath_search.specs.declared.kinds.Found.{Found}
@@ -50,9 +45,6 @@ is_one held t abi real o same = by_object held t abi real ∙ ap is_some same
 -- ---- the file at a path without links
 
 module _ (t : Nodes) (abi : Abi) (real key : List ℕ) (there : key_in (node_at t real) ≡ Some key) where
-  its_key : file_keys t (real ∷ []) ≡ key ∷ []
-  its_key = ap (λ k. cons_option k []) there
-
   by_content : (held : Contents) → library_at held t abi real ≡ option_and_then (library_by abi) (held key)
   by_content held = ap (λ k. option_and_then (library_by abi) (option_and_then held k)) there
 
@@ -62,40 +54,6 @@ module _ (t : Nodes) (abi : Abi) (real key : List ℕ) (there : key_in (node_at 
   object_there (Some held) o b is content = sym (by_content held
       ∙ elim (held key) as (λ c. IsSomeAnd c (λ bytes. object bytes ≡ Ok o) → option_and_then (library_by abi) c ≡ cond b (Some o) None)
       [ None ↦ λ h. absurd h | Some bytes ↦ λ h. library_is abi bytes o h ∙ ap (λ b. cond b (Some o) None) is ] content)
-
-  pub defect_there : (known : Option Contents) (d : Defect) → OfContent known key (λ bytes. object bytes ≡ Err d) → IfKnown known (λ held. None ≡ library_at held t abi real)
-  defect_there None d content = tt
-  defect_there (Some held) d content = sym (by_content held
-      ∙ elim (held key) as (λ c. IsSomeAnd c (λ bytes. object bytes ≡ Err d) → option_and_then (library_by abi) c ≡ None)
-      [ None ↦ λ h. absurd h | Some bytes ↦ λ h. no_library abi bytes d h ] content)
-
-  pub is_held : (known : Option Contents) (P : List ℕ → Type 0) → OfContent known key P → IfKnown known (λ held. lacks_one held (file_keys t (real ∷ [])) ≡ false)
-  is_held None P content = tt
-  is_held (Some held) P content = ap (lacks_one held) its_key
-      ∙ elim (held key) as (λ o. IsSomeAnd o P → (is_none o || false) ≡ false) [ None ↦ λ h. absurd h | Some bytes ↦ λ h. refl ] content
-
-  pub reads_key : (e : Ending) (a b : StoreState) → ReadsFile key (most_known a.held key) e a b → ReadsBy a.held (file_keys t (real ∷ [])) e a b
-  reads_key e a b reads = subst (λ keys. ReadsBy a.held keys e a b) (sym its_key) (one_key a.held key e a b reads)
-
--- no file is there
-module _ (t : Nodes) (abi : Abi) (real : List ℕ) (none : key_in (node_at t real) ≡ None) where
-  no_key : file_keys t (real ∷ []) ≡ []
-  no_key = ap (λ k. cons_option k []) none
-
-  pub none_there : (known : Option Contents) → IfKnown known (λ held. None ≡ library_at held t abi real)
-  none_there None = tt
-  none_there (Some held) = sym (ap (λ k. option_and_then (library_by abi) (option_and_then held k)) none)
-
-  pub none_held : (known : Option Contents) → IfKnown known (λ held. lacks_one held (file_keys t (real ∷ [])) ≡ false)
-  none_held None = tt
-  none_held (Some held) = ap (lacks_one held) no_key
-
-  pub none_read : (known : Option Contents) (s : StoreState) → ReadsBy known (file_keys t (real ∷ [])) Complete s s
-  none_read known s = subst (λ keys. ReadsBy known keys Complete s s) (sym no_key) (by known)
-    where
-      by : (k : Option Contents) → ReadsBy k [] Complete s s
-      by None = reads_none _ _ s
-      by (Some held) = reads_none _ _ s
 
 -- ---- the file to which a path leads
 

@@ -157,10 +157,6 @@ module _ (n : ℕ) (updating updated again : Loaded) (first : SampleUpdate) (sto
   second_fails_by after_store fault fails = second_fails n updated first store middle_store after_store disk middle after_disk one_is goes fault
       (subst (λ (s : Loaded). UpdateFails s fault middle_store after_store middle after_disk) again_is fails)
 
-  -- memory is out between both
-  pub none_between : SampleFails n NoMemory store middle_store disk middle
-  none_between = one.none_rise
-
 -- ---- what is read, if the updates aren't made
 
 module _ (n : ℕ) (store after_store : StoreState) (disk after_disk : DiskState) where

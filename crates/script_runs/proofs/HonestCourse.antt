@@ -46,13 +46,6 @@ module _ (held : Contents) (s : Loaded) where
     All-head (AreSame held s.tree) s.tree (trees_of images) (All-head (λ t. All (AreSame held t) (trees_of (s ∷ images))) s.tree (trees_of images) honest.same),
   )
 
-  -- of an image an update is asked for, whatever comes of it
-  pub asked_is : (outcome : Outcome) (rest : Loaded → Course) → AreHonest held s.stamps (course_of_update held s outcome rest).asked → IsHonest held s
-  asked_is Lacking rest honest = first_is [] honest
-  asked_is (TooLarge nodes bytes) rest honest = first_is [] honest
-  asked_is (TooMany count) rest honest = first_is [] honest
-  asked_is Writes rest honest = first_is (rest (planned_image held s)).asked honest
-
   -- the stamps of an update are true of the images of later ones
   pub next_is : (images : List Loaded) → AreHonest held s.stamps (s ∷ images) → AreHonest held (planned_image held s).stamps images
   next_is images honest =

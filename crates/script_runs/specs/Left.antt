@@ -152,8 +152,3 @@ pub record RebuildsScript (held : Contents) (number : ℕ) (lines : List (List �
   pub stored : HasItsTree s content.now → OfLast left.made (λ u. IsImageIn left.slots (planned_image held u))
   pub honest : AreHonest held s.stamps (course held number lines s).asked → All (IsHonest held) left.made
   pub settled : AreHonest held s.stamps (course held number lines s).asked → OfLast left.made (λ u. HoldUpdateOf held (planned_image held u) left.slots)
-
--- if the contents of store and disk are known
-abbrev pub Rebuilds : ℕ → List (List ℕ) → Loaded → Result Loaded ScriptFault → States → States → Type 0
-Rebuilds number lines s to old new =
-    IfKnown old.store.held (λ held. IfKnown old.disk.contents (λ content. RebuildsScript held number lines s to content old new))

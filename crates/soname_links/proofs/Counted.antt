@@ -16,7 +16,7 @@ use Rattle.image_tree.specs.Tree.{Nodes, IsPathSorted, node_at}
 use Rattle.image_tree.specs.declared.node.Node.{Node}
 use Rattle.image_tree.specs.declared.node.Node.TheVariants.{Link}
 use Rattle.string_pool.proofs.Ordered.{filtered_same, keys_put, keys_stay}
-use Rattle.soname_links.proofs.Put.{put_here, put_other}
+use Rattle.image_tree.proofs.OneMore.{put_here, put_other}
 use Rattle.soname_links.specs.Apply.{new_path, nodes_with}
 use Rattle.string_pool.specs.Order.{ascending}
 use Rattle.soname_links.specs.Plan.{with_link, with_links}

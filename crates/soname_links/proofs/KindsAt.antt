@@ -15,7 +15,8 @@ use Rattle.image_tree.specs.declared.node.Node.{Node}
 use Rattle.image_tree.specs.declared.node.Node.TheVariants as node
 use Rattle.image_tree.specs.declared.tree.Kind.{Kind}
 use Rattle.image_tree.specs.declared.tree.Kind.TheVariants.{Absent, Dir, File, Link}
-use Rattle.soname_links.proofs.Put.{any_put, put_here, put_other}
+use Rattle.image_tree.proofs.OneMore.{put_here, put_other}
+use Rattle.soname_links.proofs.Put.{any_put}
 use Rattle.soname_links.specs.Plan.{is_taken}
 use Rattle.path_walk.specs.Files.{is_file}
 use Rattle.library_files.specs.Children.{is_file_node}

@@ -12,7 +12,7 @@ use Rattle.image_tree.specs.declared.node.Node.TheVariants.{Link}
 use Rattle.image_tree.specs.declared.tree.Kind.TheVariants as kinds
 use Rattle.soname_links.proofs.KindsAt.{dir_kept, is_open, open_kept, taken_kept}
 use Rattle.soname_links.proofs.Linked.{files_give}
-use Rattle.soname_links.proofs.Put.{put_here, put_other}
+use Rattle.image_tree.proofs.OneMore.{put_here, put_other}
 use Rattle.soname_links.specs.Apply.{are_clear}
 use Rattle.library_files.specs.Places.{is_link_to}
 use Rattle.soname_links.specs.Plan.{is_taken, with_link, with_links}

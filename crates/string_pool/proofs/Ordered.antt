@@ -1,6 +1,5 @@
 -- Ordered maps: their keys after an insertion, and their values by their keys.
-use Rattle.std.proofs.Common.{◌≡◌, true, false, List, [], ◌∷◌, ◌++◌, append_assoc, refl, ap, sym, ◌∙◌, Option, Ordering}
-use Rattle.std.proofs.lemmas.List.Elements.{filter_map-append}
+use Rattle.std.proofs.Common.{◌≡◌, true, false, List, [], ◌∷◌, refl, ap, ◌∙◌, Option, Ordering}
 use Rattle.std.proofs.lemmas.Map.Keys.{sorted_head, sorted_tail}
 use Rattle.std.specs.BTreeMap.{insert_entry, is_at}
 use Rattle.std.specs.BTreeSet.{insert_key}
@@ -73,12 +72,3 @@ module _ {K : Type 0} {X : Type 0} {cmp : K → K → Ordering} (o : IsTotalOrde
 pub filtered_same : {X Y : Type 0} (f g : X → Option Y) → ((x : X) → f x ≡ g x) → (xs : List X) → filter_map f xs ≡ filter_map g xs
 filtered_same f g same [] = refl
 filtered_same f g same (x ∷ xs) = rw (same x) (ap (cons_option (g x)) (filtered_same f g same xs))
-
--- what an item gives, and what is left
-pub one_then : {X Y : Type 0} (f : X → Option Y) (ys : List Y) (x : X) (xs : List X) → (ys ++ filter_map f (x ∷ [])) ++ filter_map f xs ≡ ys ++ filter_map f (x ∷ xs)
-one_then f ys x xs = append_assoc ys (filter_map f (x ∷ [])) (filter_map f xs) ∙ ap (λ zs. ys ++ zs) (sym (filter_map-append f (x ∷ []) xs))
-
--- what an item gave was added, and what is left gives the rest
-pub after_one : {X Y : Type 0} (f : X → Option Y) (ys new : List Y) (x : X) (xs items : List X) (whole : List Y) → new ≡ ys ++ filter_map f (x ∷ []) → items ≡ x ∷ xs
-    → ys ++ filter_map f items ≡ whole → new ++ filter_map f xs ≡ whole
-after_one f ys new x xs items whole added step was = ap (λ zs. zs ++ filter_map f xs) added ∙ one_then f ys x xs ∙ ap (λ zs. ys ++ filter_map f zs) (sym step) ∙ was

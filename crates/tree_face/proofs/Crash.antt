@@ -4,7 +4,7 @@ use Rattle.std.proofs.lemmas.Bool.{false≢true}
 use Rattle.std.proofs.lemmas.Slice.Eq.{bytes_eq-Decides}
 use Rattle.tree_face.specs.declared.disk.Slot.{Slot}
 use Rattle.tree_face.specs.declared.disk.Slot.TheVariants.{Manifest, Cache, Aux}
-use Rattle.tree_face.specs.Crash.{GoesOn, HasMoments, KeepsSlots, Leaves, LeavesAtMost, LeavesMore, LeavesOthers, LeavesSame}
+use Rattle.tree_face.specs.Crash.{GoesOn, HasMoments, Leaves, LeavesAtMost, LeavesMore, LeavesOthers, LeavesSame}
 use Rattle.tree_face.specs.Disk.{Content, DiskContent, DiskState, content_eq, slot_eq}
 use Rattle.tree_face.specs.Known.{IfKnown}
 
@@ -77,13 +77,7 @@ module _ (a b c : DiskState) where
       during = λ t x le since. ap (λ y. y || test x) (sym (first.during t x le)) ∙ next.during t x (omega (arith, le, later)) since;
     }
 
-  pub keeps_on : KeepsSlots a b → KeepsSlots b c → KeepsSlots a c
-  keeps_on first next = record { goes_on = goes_on_on first.goes_on next.goes_on; slots = λ s. same_on first.goes_on.later s (first.slots s) (next.slots s) }
-
 module _ (slot : Slot) (old new : DiskState) where
-  pub more_at_most : (test : Content → Bool) → LeavesMore test slot old new → LeavesAtMost test slot old new
-  more_at_most test more = record { now = λ x may. sym (more.now x) ∙ may; during = λ t x le since. sym (more.during t x le) ∙ since }
-
   -- the same test by another name
   pub more_by : (test other : Content → Bool) → ((x : Content) → test x ≡ other x) → LeavesMore test slot old new → LeavesMore other slot old new
   more_by test other same more = record {
@@ -97,10 +91,6 @@ module _ (slot : Slot) (old new : DiskState) where
     during = λ t x le since. or_at (old.since t slot x) (test x) (other x) (most.during t x le since) (λ e. sym (same x) ∙ e);
   }
 
-pub same_leaves : (old : DiskState) → HasMoments old → KeepsSlots old old
-same_leaves old laws = record {
-  goes_on = record { later = omega arith; moments = λ t slot x le. sym (whole (old.since t slot x) (old.since old.time slot x) (laws.earlier t old.time slot x le (omega arith))) };
-  slots = λ slot. record { now = λ x. refl; during = λ t x le. refl };
 }
   where
     whole : (x y : Bool) → (y ≡ true → x ≡ true) → (x || y) ≡ x

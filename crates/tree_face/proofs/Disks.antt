@@ -69,16 +69,6 @@ module _ (a b : SureDisk) where
   sure_keeps_past : KeepsPast a.past b.past → KeepsSlots (disk_state a) (disk_state b)
   sure_keeps_past keeps = still (disk_state a) (disk_state b) (has_moments a) (kept_time a.past b.past keeps) (kept_may a.past b.past keeps) (kept_since a.past b.past keeps)
 
-  module _ (slot : Slot) (result : Result (Unit {0}) Failed) (failed : is_err result ≡ true) where
-    pub sure_adds_nothing : (tag : ℕ) → b.past ≡ a.past → AddsPublished tag slot (disk_state a) (disk_state b) result
-    sure_adds_nothing tag e = adds_nothing (disk_state a) (disk_state b) slot result tag (sure_keeps e) failed
-
-    pub refused_publishing : (tag : ℕ) → KeepsPast a.past b.past → AddsPublished tag slot (disk_state a) (disk_state b) result
-    refused_publishing tag e = adds_nothing (disk_state a) (disk_state b) slot result tag (sure_keeps_past e) failed
-
-    pub sure_settles_nothing : b.past ≡ a.past → Settles slot (disk_state a) (disk_state b) result
-    sure_settles_nothing e = settles_nothing (disk_state a) (disk_state b) slot result (sure_keeps e) failed
-
 -- ---- a call that adds one
 
 module _ (a b : SureDisk) (c : Change) (changed : IsChangedBy c a.past b.past) where

@@ -1,6 +1,11 @@
--- Contents that change twice.
+-- Contents that are known, and contents that change twice.
 use Rattle.std.proofs.Common.{Option, Some, None}
-use Rattle.tree_face.specs.Known.{Relates}
+use Rattle.tree_face.specs.Known.{IfKnown, Relates}
+
+-- what follows for given contents follows if they are known
+pub known_then : {A : Type 0} (known : Option A) (P Q : A → Type 0) → ((a : A) → P a → Q a) → IfKnown known P → IfKnown known Q
+known_then None P Q f h = tt
+known_then (Some a) P Q f h = f a h
 
 module _ {A : Type 0} (R S T : A → A → Type 0) where
   -- one change after another

@@ -1,15 +1,11 @@
 -- The files of a table that are no libraries, by what each file is.
-use Rattle.std.proofs.Common.{◌≡◌, ℕ, List, [], ◌∷◌, refl, ap, sym, ◌∙◌}
+use Rattle.std.proofs.Common.{◌≡◌, ℕ, List, [], ◌∷◌, refl, ap, ◌∙◌}
 use Rattle.std.proofs.lemmas.Bool.{or_left, or_right}
 use Rattle.std.specs.List.{cons_option, filter_map}
-use Rattle.std.specs.Map.{keys_of}
 use Rattle.std.specs.Option.{option_and_then}
 use Rattle.std.specs.Str.{bytes_eq}
-use Rattle.string_pool.proofs.InByteOrder.{ascending_sorted, in_ascending}
-use Rattle.string_pool.proofs.Members.{is_in, itself, same_members}
+use Rattle.string_pool.proofs.Members.{is_in, itself}
 use Rattle.file_table.specs.Analyses.{Analyses, AgreeOn}
-use Rattle.string_pool.specs.Order.{ascending}
-use Rattle.file_table.specs.Table.{Rows, analysis_at}
 use Rattle.update_report.specs.Skips.{skip_at, skip_by}
 
 -- what agrees on some files says the same of them
@@ -19,14 +15,3 @@ skips_agree what new (path ∷ paths) same =
     let here : skip_at new path ≡ skip_at what path = ap (option_and_then (skip_by path)) (same path (or_left (bytes_eq path path) (is_in paths path) (itself path))) in
     let rest = skips_agree what new paths (λ q h. same q (or_right (bytes_eq q path) (is_in paths q) h)) in
     ap (λ o. cons_option o (filter_map (skip_at new) paths)) here ∙ ap (cons_option (skip_at what path)) rest
-
-pub skips_by : (rows : Rows) (what : Analyses) (paths : List (List ℕ)) → ascending (keys_of rows) ≡ paths → AgreeOn paths what (analysis_at rows)
-    → filter_map (skip_at (analysis_at rows)) (ascending (keys_of rows)) ≡ filter_map (skip_at what) paths
-skips_by rows what paths are same = ap (filter_map (skip_at (analysis_at rows))) are ∙ skips_agree what (analysis_at rows) paths same
-
-pub skips_of : (rows : Rows) (what : Analyses) (xs : List (List ℕ)) → ((path : List ℕ) → is_in (keys_of rows) path ≡ is_in xs path) → AgreeOn (ascending xs) what (analysis_at rows)
-    → filter_map (skip_at (analysis_at rows)) (ascending (keys_of rows)) ≡ filter_map (skip_at what) (ascending xs)
-skips_of rows what xs members same =
-    skips_by rows what (ascending xs)
-    (same_members (ascending (keys_of rows)) (ascending xs) (ascending_sorted (keys_of rows)) (ascending_sorted xs) (λ z. in_ascending (keys_of rows) z ∙ members z ∙ sym (in_ascending xs z)))
-    same
