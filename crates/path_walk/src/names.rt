@@ -4,13 +4,20 @@ ghost use Rattle.std.specs.List.{slice_split};
 ghost use Rattle.std.specs.Option.{option_copied};
 ghost use Rattle.lib_types.specs.Name.{slash};
 ghost use Rattle.image_tree.specs.Paths.{is_slash, components, join};
-ghost use Rattle.path_walk.specs.Names.{last, parent};
+ghost use Rattle.path_walk.specs.Names.{is_absolute, last, parent};
 ghost use Rattle.path_walk.specs.Rest.{parts_of, names_in, ends_at};
 ghost use Rattle.path_walk.specs.Stops.{size_of};
 
 use lib_types::{NoMemory, Text};
 use std::alloc::Global;
 use tree_face::is_kept;
+
+/// Whether a text begins at the root.
+pub fn is_absolute(text: &[u8]) -> bool
+    ensures { result ≡ is_absolute text.now }
+{
+    text.starts_with(b"/")
+}
 
 fn first_slash(bytes: &[u8]) -> Option<usize>
     ensures index { result ≡ position is_slash bytes.now }

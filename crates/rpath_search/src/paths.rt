@@ -3,8 +3,8 @@ ghost use Rattle.std.specs.Prelude.{◌≡◌, ◌++◌, IfOk};
 ghost use Rattle.image_tree.specs.Paths.{root};
 ghost use Rattle.rpath_search.specs.Places.{folder_of, from_root, hwcaps_path};
 
-use conf_patterns::patterns::is_absolute;
 use lib_types::{NoMemory, Text};
+use path_walk::is_absolute;
 use std::alloc::Global;
 use text_parts::trim::before_last;
 
