@@ -1,15 +1,16 @@
 -- The files that a pattern of an `include` line names (ldconfig(8), glob(7)).
-use Rattle.std.specs.Prelude.{ℕ, Bool, true, false, List, [], ◌∷◌, ◌++◌, ◌&&◌, nat_eq, not, if◌then◌else◌, map, filter, flat_map, fold, drop, codes, Option, Some, None, option_map, Result, Ok, Err}
+use Rattle.std.specs.Prelude.{ℕ, Bool, true, false, List, [], ◌∷◌, ◌++◌, ◌&&◌, not, if◌then◌else◌, map, filter, flat_map, fold, drop, codes, Option, Some, None, option_map, Result, Ok, Err}
 use Rattle.std.specs.BTreeMap.{insert_entry}
 use Rattle.std.specs.Cmp.Lexicographic.{slice_cmp}
-use Rattle.std.specs.List.{before_last, filter_map, list_any, slice_split, starts_with}
+use Rattle.std.specs.List.{before_last, filter_map, list_any, slice_split}
 use Rattle.std.specs.Ordering.{nat_cmp}
 use Rattle.lib_types.specs.Name.{slash}
 use Rattle.name_order.specs.LibraryName.{is_library_name}
+use Rattle.path_walk.specs.Names.{is_absolute}
 use Rattle.path_walk.specs.Walk.{resolution}
 use Rattle.path_walk.specs.declared.walk.Mode.TheVariants.{Plain}
 use Rattle.path_walk.specs.declared.walk.WalkFault.{WalkFault}
-use Rattle.image_tree.specs.Paths.{join, root}
+use Rattle.image_tree.specs.Paths.{join}
 use Rattle.image_tree.specs.Tree.{Nodes, kind_at, children_of}
 use Rattle.image_tree.specs.declared.tree.Kind.{Kind}
 use Rattle.image_tree.specs.declared.tree.Kind.TheVariants as kinds
@@ -17,9 +18,6 @@ use Rattle.lib_types.specs.Sets.{is_in, slashes}
 use Rattle.conf_patterns.specs.Glob.{glob_match}
 
 -- ---- the components of a pattern, and the text below which they are taken
-
-abbrev pub is_absolute : List ℕ → Bool
-is_absolute text = starts_with nat_eq text root
 
 -- the folder of a file, as the file's path is spelled: the text before the last slash
 abbrev pub folder_of : List ℕ → List ℕ

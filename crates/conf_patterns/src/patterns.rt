@@ -3,26 +3,19 @@ ghost use Rattle.std.specs.Prelude.{◌≡◌, ◌∷◌, ◌++◌, [], Some, fl
 ghost use Rattle.lib_types.specs.Name.{slash};
 ghost use Rattle.image_tree.specs.Paths.{join};
 ghost use Rattle.conf_patterns.specs.Finding.{matches_of, with_text};
-ghost use Rattle.conf_patterns.specs.Patterns.{base_of, chosen_in, components_of, go_on, is_absolute, is_chosen, is_library_link, is_link, is_wild, place_at, results, texts_by};
+ghost use Rattle.conf_patterns.specs.Patterns.{base_of, chosen_in, components_of, go_on, is_chosen, is_library_link, is_link, is_wild, place_at, results, texts_by};
 
 use crate::glob::glob_match;
 use lib_types::trim::{after, before_last, has_one};
 use lib_types::{NoMemory, Parts, Separator, Text, split};
 use name_order::is_library_name;
-use path_walk::{Mode, WalkFault, resolve};
+use path_walk::{Mode, WalkFault, is_absolute, resolve};
 use std::alloc::Global;
 use std::collections::BTreeMap;
 use tree_face::{Kind, Tree};
 
 /// The results of a pattern: their texts, and where these lead.
 pub type Results = BTreeMap<Text, Text>;
-
-/// Whether a text begins at the root.
-pub fn is_absolute(text: &[u8]) -> bool
-    ensures { result ≡ is_absolute text.now }
-{
-    text.starts_with(b"/")
-}
 
 // The text below which a pattern's components are taken.
 fn base_of<'a>(file: &'a [u8], pattern: &[u8]) -> &'a [u8]

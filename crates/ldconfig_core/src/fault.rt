@@ -4,11 +4,11 @@ ghost use Rattle.ldconfig_core.specs.Faults.{of_entries, of_finding};
 ghost use Rattle.ldconfig_core.specs.declared.fault.UpdateFault.TheVariants as update_faults;
 
 use atomic_replace::DiskFault;
+use cache_entries::EntryFault;
 use lib_types::NoMemory;
 use library_search::FindFault;
 use std::alloc::{AllocError, AllocFailed};
 use thiserror::Error;
-use cache_entries::EntryFault;
 
 /// Why an image isn't updated.
 #[derive(Clone, Copy, Debug, PartialEq, Eq, Error)]

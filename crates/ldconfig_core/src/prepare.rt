@@ -19,15 +19,15 @@ ghost use Rattle.update_report.specs.Report.{report_text};
 use crate::fault::UpdateFault;
 use crate::report::Report;
 use aux_cache::{STAMPS_MAX, Stamps};
-use lib_types::{Entries, NoMemory};
+use cache_entries::entries_by;
 use image_session::Session;
-use mtree_manifest::TEXT_MAX;
+use lib_types::{Entries, NoMemory};
 use library_search::{Found, find};
+use mtree_manifest::TEXT_MAX;
 use soname_links::kinds::Plan;
 use std::alloc::Global;
 use tree_face::{Store, Tree};
 use update_report::{Findings, report, skips_in};
-use cache_entries::entries_by;
 
 /// What an update is about to write, and its report.
 #[derive(Drop)]

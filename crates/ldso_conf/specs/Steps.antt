@@ -5,7 +5,8 @@ use Rattle.image_tree.specs.Paths.{root}
 use Rattle.image_tree.specs.Tree.{Nodes}
 use Rattle.lib_types.specs.Sets.{is_in, slashes, without_end}
 use Rattle.ldso_conf.specs.Lines.{lines_of, text_of, words_of, arguments_of, include, hwcap, equals, before_equals}
-use Rattle.conf_patterns.specs.Patterns.{Found, is_absolute, results}
+use Rattle.conf_patterns.specs.Patterns.{Found, results}
+use Rattle.path_walk.specs.Names.{is_absolute}
 use Rattle.ldso_conf.specs.declared.kinds.ConfKind.{ConfKind}
 use Rattle.ldso_conf.specs.declared.kinds.ConfKind.TheVariants.{Relative, Equals, Hwcap}
 use Rattle.ldso_conf.specs.declared.steps.Step.{Step}

@@ -4,9 +4,10 @@ ghost use Rattle.ldso_conf.specs.Steps.{directory_steps, include_steps, included
 
 use crate::kinds::{ConfKind, ConfReport};
 use crate::lines::{arguments_of, before_equals, text_of};
-use conf_patterns::patterns::{Results, is_absolute, results};
+use conf_patterns::patterns::{Results, results};
 use lib_types::trim::{has_one, without_end};
 use lib_types::{NoMemory, Separator, Text, split};
+use path_walk::is_absolute;
 use std::alloc::Global;
 use tree_face::Tree;
 

@@ -17,10 +17,10 @@ ghost use Rattle.library_search.specs.Faults.{find_ending, is_store_fault};
 
 use crate::fault::FindFault;
 use aux_cache::Stamps;
-use library_files::{PlaceLinks, dangling_among, follow, unread_files};
+use file_stamps::{Files, read_files};
 use hwcap_dirs::Dirs;
 use lib_types::Texts;
-use file_stamps::{Files, read_files};
+use library_files::{PlaceLinks, dangling_among, follow, unread_files};
 use std::alloc::Global;
 use tree_face::{Store, Tree};
 

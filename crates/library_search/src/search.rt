@@ -16,10 +16,10 @@ ghost use Rattle.library_search.specs.Found.{IsSearched, ReadsSearch};
 
 use crate::fault::FindFault;
 use aux_cache::Stamps;
-use library_files::wanted_files;
+use file_stamps::{Files, read_files};
 use hwcap_dirs::{Dirs, order};
 use ldso_conf::{Conf, read_conf};
-use file_stamps::{Files, read_files};
+use library_files::wanted_files;
 use std::alloc::Global;
 use tree_face::{Store, Tree};
 

@@ -1,6 +1,11 @@
 -- The texts of places.
-use Rattle.std.specs.Prelude.{ℕ, ◌+◌, List, [], ◌∷◌, if◌then◌else◌, drop, length, unwrap_or, Option, Some, None}
+use Rattle.std.specs.Prelude.{ℕ, ◌+◌, Bool, List, [], ◌∷◌, nat_eq, if◌then◌else◌, drop, length, unwrap_or, Option, Some, None}
+use Rattle.std.specs.List.{starts_with}
 use Rattle.image_tree.specs.Paths.{root, is_slash}
+
+-- the text begins at the root
+abbrev pub is_absolute : List ℕ → Bool
+is_absolute text = starts_with nat_eq text root
 
 -- the text before the last slash
 abbrev pub more_before : ℕ → Option (List ℕ) → Option (List ℕ)

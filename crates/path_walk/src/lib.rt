@@ -6,5 +6,5 @@ mod names;
 mod walk;
 
 pub use files::{file_at, linked_file};
-pub use names::{join, join_into, parted};
+pub use names::{is_absolute, join, join_into, parted};
 pub use walk::{LINKS_MAX, Mode, WalkFault, resolve};

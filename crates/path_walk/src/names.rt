@@ -3,13 +3,20 @@ ghost use Rattle.std.specs.Prelude.{◌≡◌, ◌<◌, ◌≤◌, ◌∷◌, �
 ghost use Rattle.std.specs.Option.{option_copied};
 ghost use Rattle.lib_types.specs.Name.{slash};
 ghost use Rattle.image_tree.specs.Paths.{is_slash, components, join};
-ghost use Rattle.path_walk.specs.Names.{last, parent};
+ghost use Rattle.path_walk.specs.Names.{is_absolute, last, parent};
 ghost use Rattle.path_walk.specs.Rest.{names_in, ends_at};
 ghost use Rattle.lib_types.specs.Splits.{size_of};
 
 use lib_types::{NoMemory, Separator, Text, cut};
 use std::alloc::Global;
 use tree_face::is_kept;
+
+/// Whether a text begins at the root.
+pub fn is_absolute(text: &[u8]) -> bool
+    ensures { result ≡ is_absolute text.now }
+{
+    text.starts_with(b"/")
+}
 
 /// The first name of a path text, and the text that is left; None if it has no name.
 pub fn next_name(text: Option<&[u8]>) -> Option<(&[u8], Option<&[u8]>)>

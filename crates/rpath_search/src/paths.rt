@@ -3,9 +3,9 @@ ghost use Rattle.std.specs.Prelude.{◌≡◌, ◌++◌, IfOk};
 ghost use Rattle.image_tree.specs.Paths.{root};
 ghost use Rattle.rpath_search.specs.Places.{folder_of, from_root, hwcaps_path};
 
-use conf_patterns::patterns::is_absolute;
 use lib_types::trim::before_last;
 use lib_types::{NoMemory, Text};
+use path_walk::is_absolute;
 use std::alloc::Global;
 
 /// The folder of a path, by its text alone.
