@@ -19,7 +19,7 @@ use Rattle.image_tree.specs.Paths.{join}
 use Rattle.image_tree.specs.Node.{has_no_nul}
 use Rattle.image_tree.specs.Tree.{Nodes}
 use Rattle.place_libraries.specs.Best.{is_own}
-use Rattle.library_files.specs.Places.{by_place, is_plain, links_to}
+use Rattle.library_files.specs.Places.{by_place, has_no_cap, links_to}
 use Rattle.file_table.specs.Analyses.{Analyses}
 use Rattle.cache_entries.specs.Winner.{winners_in}
 use Rattle.cache_entries.specs.declared.fault.EntryFault.{EntryFault}
@@ -28,7 +28,7 @@ use Rattle.place_libraries.specs.Library.{Library}
 
 -- the soname leads to the winner: it is its name, or a link with its name as its text is there
 abbrev pub is_by_soname : Nodes → Place → Library → Bool
-is_by_soname t place winner = is_plain place && (is_own winner || links_to t (join place.real winner.soname) winner.name)
+is_by_soname t place winner = has_no_cap place && (is_own winner || links_to t (join place.real winner.soname) winner.name)
 
 abbrev pub entry_name : Nodes → Place → Library → List ℕ
 entry_name t place winner = if is_by_soname t place winner then winner.soname else winner.name

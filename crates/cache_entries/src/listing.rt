@@ -16,7 +16,7 @@ use crate::links_of::LinksOf;
 use crate::winners::{Winners, winners_in};
 use cache_layout::ENTRIES_MAX;
 use file_table::Table;
-use library_files::{FolderLinks, PlaceLinks, is_plain};
+use library_files::{FolderLinks, PlaceLinks, has_no_cap};
 use place_libraries::{BestLibraries, Library, PlaceBests, is_own};
 use hwcap_dirs::{Dirs, Place};
 use indexmap::IndexMap;
@@ -65,7 +65,7 @@ fn is_by_soname(
     ensures leads { IfOk result (λ leads. leads ≡ is_by_soname links.old.tree place.now winner.now) }
     ensures same { links.new ≡ links.old }
 {
-    if !is_plain(place) {
+    if !has_no_cap(place) {
         return Ok(false);
     }
     if is_own(winner) {

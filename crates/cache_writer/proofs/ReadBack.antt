@@ -1,8 +1,7 @@
 -- The entries that are read of a written cache are those that were written.
-use Rattle.std.proofs.Common.{◌≡◌, ℕ, suc, ◌+◌, ◌/◌, ◌^◌, ◌<◌, ◌==◌, ◌&&◌, true, false, not, List, [], ◌∷◌, length, map, get_or, slice_index, Option, Some, None, IfSome, refl, sym, ap, ◌∙◌, arith, bytes_eq, pos}
+use Rattle.std.proofs.Common.{◌≡◌, ℕ, suc, ◌+◌, ◌/◌, ◌^◌, ◌<◌, ◌==◌, ◌&&◌, true, false, not, List, [], ◌∷◌, length, map, get_or, slice_index, Option, Some, None, IfSome, refl, sym, ap, ◌∙◌, arith, bytes_eq}
 use Rattle.std.proofs.lemmas.Bool.Decides.{nat_tests}
 use Rattle.std.proofs.lemmas.List.FromFn.{get_or-map-range_with_len}
-use Rattle.std.specs.Int.{cast_signed, w32}
 use Rattle.std.specs.List.{All, list_any, position_or_len, range_with_len}
 use Rattle.std.specs.Str.{is_utf8}
 use Rattle.lib_types.specs.Name.{is_name, have_no_slash, slash}

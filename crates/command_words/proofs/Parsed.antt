@@ -1,5 +1,5 @@
 -- What `clap` promises of a parse, for the arguments of a command.
-use Rattle.std.proofs.Common.{◌≡◌, ◌⊎◌, ℕ, true, List, [], inl, inr, subst}
+use Rattle.std.proofs.Common.{◌≡◌, ℕ, true, List, [], inl, inr, subst}
 use Rattle.clap.specs.Words.{App, HasKind, HasMatchesOf, fault_of, found_of, is_simple_and_free, kind_of, matches_of, rows_of, takes}
 use Rattle.clap.specs.declared.error.Error.{Error}
 use Rattle.clap.specs.declared.error.kind.ErrorKind.TheVariants.{OutOfMemory}

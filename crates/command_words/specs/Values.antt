@@ -1,5 +1,5 @@
 -- What texts mean as values of arguments.
-use Rattle.std.specs.Prelude.{◌==◌, ◌&&◌, ◌^◌, ◌+◌, ℕ, Bool, not, List, [], ◌∷◌, length, filter, codes, Option, Some, None, if◌then◌else◌, nat_le, nat_lt}
+use Rattle.std.specs.Prelude.{◌==◌, ◌&&◌, ◌^◌, ℕ, Bool, not, List, length, filter, codes, Option, Some, None, if◌then◌else◌, nat_le, nat_lt}
 use Rattle.std.specs.Char.{is_ascii_digit}
 use Rattle.std.specs.List.{list_all, slice_split}
 use Rattle.std.specs.Str.{byte, bytes_eq}

@@ -8,7 +8,7 @@ use Rattle.image_tree.proofs.Order.{path_total}
 use Rattle.lib_types.proofs.SortedPairs as pairs
 use Rattle.image_tree.specs.Paths.{path_cmp}
 use Rattle.image_tree.specs.Tree as tree
-use Rattle.image_tree.specs.Tree.{Nodes, IsPathSorted, IsTree, node_at, is_entry}
+use Rattle.image_tree.specs.Tree.{Nodes, IsPathSorted, node_at}
 use Rattle.image_tree.specs.Index.{IsIndexOf, IsGapFor}
 use Rattle.image_tree.specs.declared.node.Node.{Node}
 

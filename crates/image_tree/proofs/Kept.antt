@@ -11,7 +11,7 @@ use Rattle.lib_types.proofs.SortedPairs as pairs
 use Rattle.image_tree.specs.Node.{is_node}
 use Rattle.image_tree.specs.Paths.{path_cmp, is_path}
 use Rattle.image_tree.specs.Tree as tree
-use Rattle.image_tree.specs.Tree.{Nodes, IsPathSorted, IsTree, node_at, is_entry}
+use Rattle.image_tree.specs.Tree.{Nodes, IsTree, is_entry}
 use Rattle.image_tree.specs.Index.{IsIndexOf, IsGapFor}
 use Rattle.image_tree.specs.Runs.{joined, index_of, IsPlaceOf, IsGapAt}
 use Rattle.image_tree.specs.declared.node.Node.{Node}

@@ -1,11 +1,11 @@
 -- The names directly below a directory.
-use Rattle.std.proofs.Common.{◌≡◌, ℕ, zero, suc, ◌+◌, ◌<◌, ◌≤◌, Bool, true, false, cond, nat_lt, nat_eq, map, ◌&&◌, not, one-add, Option, Some, None, List, [], ◌∷◌, ◌++◌, length, get_or, take, drop, refl, sym, ap, subst, ◌∙◌, ⊎_elim, arith, length-drop}
+use Rattle.std.proofs.Common.{◌≡◌, ℕ, zero, suc, ◌+◌, ◌<◌, ◌≤◌, Bool, true, false, cond, nat_eq, map, ◌&&◌, not, one-add, Option, List, [], ◌∷◌, ◌++◌, length, get_or, take, drop, refl, sym, ap, subst, ◌∙◌, ⊎_elim, arith, length-drop}
 use Rattle.std.proofs.lemmas.Bool.{cases_lt, eq-eqb, eqb-true, and_parts, and_from}
 use Rattle.std.proofs.lemmas.Bool.Decides.{Decides-eqb, nat_tests}
-use Rattle.std.proofs.lemmas.List.{get_or-drop, length-append, length-take-le, take_all}
+use Rattle.std.proofs.lemmas.List.{get_or-drop, length-append, length-take-le}
 use Rattle.std.proofs.lemmas.List.Sums.{take_while-cons, AllPass-from_list_all, prefix_len-le-length}
 use Rattle.std.proofs.lemmas.Slice.Eq.{starts_is}
-use Rattle.std.specs.List.{filter, take_while, AllWithin, list_all, position, position_or_len, before_first, starts_with, dedup, dedup_from}
+use Rattle.std.specs.List.{filter, take_while, AllWithin, list_all, position_or_len, before_first, starts_with, dedup, dedup_from}
 use Rattle.std.specs.Str.{bytes_eq}
 use Rattle.std.specs.List.Sorted.{IsPartitionedBy}
 use Rattle.image_tree.proofs.Below.{below_as_later, none_before}

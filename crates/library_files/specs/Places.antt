@@ -13,8 +13,8 @@ by_place has number [] = []
 by_place has number (place ∷ places) = has number place ++ by_place has (number + 1) places
 
 -- not a subdirectory for processors
-abbrev pub is_plain : Place → Bool
-is_plain place = is_none place.cap
+abbrev pub has_no_cap : Place → Bool
+has_no_cap place = is_none place.cap
 
 abbrev pub is_link_to : List ℕ → Option Node → Bool
 is_link_to text (Some (Link target)) = bytes_eq target text

@@ -11,6 +11,6 @@ mod search;
 pub use followed::{FollowedIter, FollowedLink, FollowedLinks};
 pub use found::FoundFile;
 pub use links::{FolderLinks, PlaceLinks, dangling, dangling_among, follow, reached, unread_files};
-pub use places::{is_plain, links_to};
+pub use places::{has_no_cap, links_to};
 pub use reals::{RealFolders, real_folders};
 pub use search::{wanted, wanted_files};

@@ -1,13 +1,13 @@
 //! What is asked of places, and of links in them.
 ghost use Rattle.std.specs.Prelude.{◌≡◌};
-ghost use Rattle.library_files.specs.Places.{is_plain, links_to};
+ghost use Rattle.library_files.specs.Places.{has_no_cap, links_to};
 
 use hwcap_dirs::Place;
 use tree_face::{Node, Tree};
 
 /// Whether a place is no subdirectory for processors.
-pub fn is_plain(place: &Place) -> bool
-    ensures { result ≡ is_plain place.now }
+pub fn has_no_cap(place: &Place) -> bool
+    ensures { result ≡ has_no_cap place.now }
 {
     place.cap.is_none()
 }

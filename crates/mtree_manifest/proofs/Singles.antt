@@ -16,7 +16,7 @@ use Rattle.manifest_words.specs.Paths.{base_of, is_directive, is_full, is_place,
 use Rattle.mtree_manifest.specs.Progress.{Open, given_by_head, started, with_word}
 use Rattle.mtree_manifest.specs.Single.{alone_by, entry_alone, entry_unless, fault_alone, lead_fault, path_word, pathless_fault, place_fault_alone, words_alone}
 use Rattle.manifest_words.specs.declared.fault.LineKind.{LineKind}
-use Rattle.manifest_words.specs.declared.fault.LineKind.TheVariants.{BadEscape, BadLine}
+use Rattle.manifest_words.specs.declared.fault.LineKind.TheVariants.{BadLine}
 use Rattle.mtree_manifest.specs.declared.line.Head.{Head}
 use Rattle.mtree_manifest.specs.declared.line.Head.TheVariants as head
 

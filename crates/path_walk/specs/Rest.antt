@@ -1,5 +1,5 @@
 -- What private functions say of a text that is partly read.
-use Rattle.std.specs.Prelude.{◌≡◌, ℕ, List, [], filter, take, unwrap_or, Option, Some, None}
+use Rattle.std.specs.Prelude.{◌≡◌, ℕ, List, [], filter, take, unwrap_or, Option}
 use Rattle.lib_types.specs.Splits.{parts_of}
 use Rattle.image_tree.specs.Paths.{is_slash, is_kept}
 use Rattle.path_walk.specs.Names.{before_last}

@@ -1,5 +1,5 @@
 -- What private functions say of a walk that stops.
-use Rattle.std.specs.Prelude.{◌≡◌, ◌⊎◌, ◌++◌, ◌&&◌, ◌+◌, ◌∷◌, ℕ, true, false, List, length, Option, Some, None, Result, Ok, Err, MatchResult}
+use Rattle.std.specs.Prelude.{◌≡◌, ◌⊎◌, ◌++◌, ◌&&◌, ◌+◌, ◌∷◌, ℕ, true, false, List, Option, Some, None, Result, Ok, Err, MatchResult}
 use Rattle.std.specs.Option.{option_copied}
 use Rattle.name_order.specs.LibraryName.{is_library_name}
 use Rattle.image_tree.specs.declared.tree.Kind.TheVariants as kinds

@@ -1,5 +1,5 @@
 -- Which lines go on in the next one.
-use Rattle.std.proofs.Common.{◌≡◌, ◌+◌, ◌-◌, ℕ, zero, suc, true, List, [], ◌∷◌, length, drop, subst, arith}
+use Rattle.std.proofs.Common.{◌≡◌, ◌-◌, ℕ, zero, suc, true, List, [], ◌∷◌, length, drop, subst, arith}
 use Rattle.manifest_words.specs.Lines.{goes_on}
 
 less : (n : ℕ) → suc n - 1 ≡ n

@@ -1,6 +1,6 @@
 -- The lines of a script of edits and updates, each by itself. A line that puts a node has what a line of a manifest has (mtree(5)), with a full
 -- path and no defaults.
-use Rattle.std.specs.Prelude.{◌≡◌, ◌&&◌, ◌==◌, ℕ, Bool, List, [], ◌∷◌, codes, length, nat_eq, if◌then◌else◌, Option, Some, None, Result, Ok, Err, IfSome, IsTrue, ⊤}
+use Rattle.std.specs.Prelude.{◌&&◌, ◌==◌, ℕ, Bool, List, [], ◌∷◌, codes, length, nat_eq, if◌then◌else◌, Option, Result, Ok, Err, IfSome, IsTrue, ⊤}
 use Rattle.std.specs.List.{starts_with}
 use Rattle.std.specs.Str.{bytes_eq}
 use Rattle.image_tree.specs.Node.{is_node}

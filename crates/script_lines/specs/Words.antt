@@ -1,5 +1,5 @@
 -- The words of a line that is partly read.
-use Rattle.std.specs.Prelude.{◌≡◌, ◌==◌, ℕ, true, not, List, [], ◌∷◌, filter, length, Option, Some, None, IfSome}
+use Rattle.std.specs.Prelude.{◌≡◌, ◌==◌, ℕ, true, not, List, ◌∷◌, filter, length, Option, IfSome}
 use Rattle.lib_types.specs.Splits.{parts_of}
 use Rattle.manifest_words.specs.Lines.{goes_on, is_blank, words_of}
 

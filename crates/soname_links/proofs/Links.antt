@@ -10,7 +10,7 @@ use Rattle.image_tree.specs.Paths.{join}
 use Rattle.image_tree.specs.Tree.{Nodes, kind_at}
 use Rattle.place_libraries.specs.Best.{best, sonames}
 use Rattle.place_libraries.specs.Libraries.{libraries_in}
-use Rattle.library_files.specs.Places.{by_place, is_plain, links_to}
+use Rattle.library_files.specs.Places.{by_place, has_no_cap, links_to}
 use Rattle.soname_links.specs.Plan.{is_blocked, is_regarded, link_for, links, links_in}
 use Rattle.file_table.specs.Analyses.{Analyses}
 use Rattle.place_libraries.specs.Library.{Library}
@@ -56,7 +56,7 @@ module _ (what : Analyses) (t : Nodes) (P : Planned → Type 0)
         ] refl
 
     of_place : AllByRecursion P (links_in what t number place)
-    of_place = by_test (is_plain place)
+    of_place = by_test (has_no_cap place)
         (λ e. rw e (of_sonames (sonames (libraries_in what t place))))
         (λ e. rw e tt)
 

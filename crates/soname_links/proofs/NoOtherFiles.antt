@@ -7,7 +7,7 @@ use Rattle.place_libraries.proofs.NoOtherFiles.{by_place_same, libraries_agree}
 use Rattle.file_table.specs.Analyses.{Analyses, AgreeOn}
 use Rattle.place_libraries.specs.Best.{bests}
 use Rattle.place_libraries.specs.Libraries.{libraries_in}
-use Rattle.library_files.specs.Places.{is_plain}
+use Rattle.library_files.specs.Places.{has_no_cap}
 use Rattle.library_files.specs.Search.{wanted}
 use Rattle.soname_links.specs.Marks.{blocked, blocked_for, mark, mixed, mixed_among}
 use Rattle.soname_links.specs.Plan.{link_for, links}
@@ -17,13 +17,13 @@ module _ (t : Nodes) (what new : Analyses) (places : List Place) (same : AgreeOn
   pub links_agree : links new t places ≡ links what t places
   unfolding links
   links_agree =
-      by_place_same (λ number place libraries. cond (is_plain place) (filter_map (link_for t number place) (bests libraries)) [])
+      by_place_same (λ number place libraries. cond (has_no_cap place) (filter_map (link_for t number place) (bests libraries)) [])
       (libraries_in what t) (libraries_in new t) places 0 (libraries_agree t what new places same)
 
   pub blocked_agree : blocked new t places ≡ blocked what t places
   unfolding blocked
   blocked_agree =
-      by_place_same (λ number place libraries. cond (is_plain place) (filter_map (blocked_for t number place) (bests libraries)) [])
+      by_place_same (λ number place libraries. cond (has_no_cap place) (filter_map (blocked_for t number place) (bests libraries)) [])
       (libraries_in what t) (libraries_in new t) places 0 (libraries_agree t what new places same)
 
   pub mixed_agree : mixed new t places ≡ mixed what t places

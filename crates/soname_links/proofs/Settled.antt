@@ -19,7 +19,7 @@ use Rattle.soname_links.specs.Apply.{are_clear, is_link, is_plan}
 use Rattle.place_libraries.specs.Best.{best, bests, sonames}
 use Rattle.place_libraries.specs.Libraries.{libraries_in, library_at}
 use Rattle.string_pool.specs.Order.{ascending}
-use Rattle.library_files.specs.Places.{by_place, is_link_to, is_plain, links_to}
+use Rattle.library_files.specs.Places.{by_place, is_link_to, has_no_cap, links_to}
 use Rattle.soname_links.specs.Plan.{is_blocked, is_regarded, is_taken, link_for, links, links_in, with_links}
 use Rattle.library_files.specs.Search.{files_in, wanted}
 use Rattle.soname_links.specs.Settled.{IsSettled, Settles}
@@ -119,7 +119,7 @@ module _ (what : Analyses) (named : HaveNames what) (t : Nodes) (tree : IsTree t
       same_files = files_stay (λ name found. found) (λ name. refl) place.real (links what t places) t ready (is_dir_kind _ here)
 
       none_in : list_all is_there (links_in what t number place) ≡ true → links_in what new number place ≡ []
-      none_in all = elim (is_plain place) as (λ b. list_all is_there (cond b (filter_map (link_for t number place) (bests libraries)) []) ≡ true
+      none_in all = elim (has_no_cap place) as (λ b. list_all is_there (cond b (filter_map (link_for t number place) (bests libraries)) []) ≡ true
           → cond b (filter_map (link_for new number place) (bests (libraries_in what new place))) [] ≡ []) [
             | true ↦ λ all. ap (λ found. filter_map (link_for new number place) (bests found)) same_libraries ∙ no_more (sonames libraries) all
             | false ↦ λ all. refl

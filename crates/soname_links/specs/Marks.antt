@@ -8,7 +8,7 @@ use Rattle.image_tree.specs.Tree.{Nodes}
 use Rattle.place_libraries.specs.Best.{best, bests}
 use Rattle.place_libraries.specs.Libraries.{libraries_in}
 use Rattle.string_pool.specs.Order.{ascending}
-use Rattle.library_files.specs.Places.{by_place, is_plain}
+use Rattle.library_files.specs.Places.{by_place, has_no_cap}
 use Rattle.soname_links.specs.Plan.{is_blocked, is_regarded}
 use Rattle.file_table.specs.Analyses.{Analyses}
 use Rattle.place_libraries.specs.Library.{Library}
@@ -23,7 +23,7 @@ abbrev pub blocked_for : Nodes → ℕ → Place → Library → Option Mark
 blocked_for t number place best = if is_regarded best && is_blocked t (join place.real best.soname) then Some (mark number best.soname) else None
 
 abbrev pub blocked_in : Analyses → Nodes → ℕ → Place → List Mark
-blocked_in what t number place = if is_plain place then filter_map (blocked_for t number place) (bests (libraries_in what t place)) else []
+blocked_in what t number place = if has_no_cap place then filter_map (blocked_for t number place) (bests (libraries_in what t place)) else []
 
 unfoldable pub blocked : Analyses → Nodes → List Place → List Mark
 blocked what t places = by_place (blocked_in what t) 0 places

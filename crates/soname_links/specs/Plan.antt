@@ -11,7 +11,7 @@ use Rattle.image_tree.specs.declared.tree.Kind.{Kind}
 use Rattle.image_tree.specs.declared.tree.Kind.TheVariants as kinds
 use Rattle.place_libraries.specs.Best.{is_own, bests}
 use Rattle.place_libraries.specs.Libraries.{libraries_in}
-use Rattle.library_files.specs.Places.{by_place, is_plain, links_to}
+use Rattle.library_files.specs.Places.{by_place, has_no_cap, links_to}
 use Rattle.file_table.specs.Analyses.{Analyses}
 use Rattle.place_libraries.specs.Library.{Library}
 use Rattle.soname_links.specs.declared.kinds.Planned.{Planned}
@@ -39,7 +39,7 @@ link_for t number place best =
     else None
 
 abbrev pub links_in : Analyses → Nodes → ℕ → Place → List Planned
-links_in what t number place = if is_plain place then filter_map (link_for t number place) (bests (libraries_in what t place)) else []
+links_in what t number place = if has_no_cap place then filter_map (link_for t number place) (bests (libraries_in what t place)) else []
 
 -- The links that are planned, by place and then by the bytes of the sonames.
 unfoldable pub links : Analyses → Nodes → List Place → List Planned

@@ -12,7 +12,7 @@ use Rattle.file_table.specs.Analyses.{Analyses}
 use Rattle.place_libraries.specs.Libraries.{libraries_at}
 use Rattle.soname_links.specs.Marks.{blocked_for, is_odd, mark, mixed_among}
 use Rattle.soname_links.specs.Plan.{is_blocked, link_for}
-use Rattle.library_files.specs.Places.{is_plain, links_to}
+use Rattle.library_files.specs.Places.{has_no_cap, links_to}
 use Rattle.soname_links.specs.declared.groups.Group.{Group}
 use Rattle.place_libraries.specs.Library.{Library}
 use Rattle.soname_links.specs.declared.kinds.Mark.{Mark}
@@ -61,10 +61,10 @@ spot_by file (nodes.File key id) = Blocked
 
 -- the links of a place, given the best libraries of its folder
 abbrev pub links_by : Nodes → ℕ → Place → List Library → List Planned
-links_by t number place bests = if is_plain place then filter_map (link_for t number place) bests else []
+links_by t number place bests = if has_no_cap place then filter_map (link_for t number place) bests else []
 
 abbrev pub blocked_by : Nodes → ℕ → Place → List Library → List Mark
-blocked_by t number place bests = if is_plain place then filter_map (blocked_for t number place) bests else []
+blocked_by t number place bests = if has_no_cap place then filter_map (blocked_for t number place) bests else []
 
 abbrev pub mixed_soname : List ℕ × Group → Option (List ℕ)
 mixed_soname e = if e.1.mixed then Some e.0 else None

@@ -14,7 +14,7 @@ ghost use Rattle.file_table.specs.Table.{analysis_at};
 use crate::kinds::{Mark, Marks, Plan, Planned, Survey};
 use crate::summary::place_summaries;
 use file_table::Table;
-use library_files::is_plain;
+use library_files::has_no_cap;
 use place_libraries::{BestLibraries, Library, PlaceBests, is_own};
 use string_pool::Shared;
 use hwcap_dirs::{Dirs, Place};
@@ -196,7 +196,7 @@ fn add_place(
     ensures blocked { OnOk result (found.new.blocked ≡ found.old.blocked ++ blocked_by tree.now at.now.number at.now.place.now bests.now) }
     ensures mixed { OnOk result (found.new.mixed ≡ found.old.mixed ++ map (mark at.now.number) mixed.now) }
 {
-    if is_plain(at.place) {
+    if has_no_cap(at.place) {
         add_links(alloc, tree, at, bests, found)?;
     }
     add_marks(alloc, at.number, mixed, &mut found.mixed)?;

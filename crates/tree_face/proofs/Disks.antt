@@ -1,6 +1,6 @@
 -- What the writing calls of disks in memory do to the slots, and to what a crash leaves.
-use Rattle.std.proofs.Common.{◌≡◌, ◌≤◌, ◌+◌, ◌||◌, ◌++◌, ℕ, Bool, true, false, List, [], ◌∷◌, length, length-append, if◌then◌else◌, refl, sym, ap, subst, ◌∙◌, arith, Option, Some, None, Result, Ok, Err, is_err, is_some, MatchResult, OnOk, OnErr, inl, ◌==◌, ◌&&◌}
-use Rattle.std.proofs.lemmas.Bool.{false≢true, true≢false}
+use Rattle.std.proofs.Common.{◌≡◌, ◌≤◌, ◌+◌, ◌||◌, ◌++◌, ℕ, Bool, true, false, [], ◌∷◌, length, length-append, if◌then◌else◌, refl, sym, ap, subst, ◌∙◌, arith, Option, Some, None, Result, Ok, Err, is_err, is_some, MatchResult, OnOk, OnErr, inl, ◌==◌, ◌&&◌}
+use Rattle.std.proofs.lemmas.Bool.{false≢true}
 use Rattle.lib_types.specs.declared.fault.Failed.{Failed}
 use Rattle.tree_face.specs.declared.disk.Slot.{Slot}
 use Rattle.tree_face.specs.declared.disk.Slot.TheVariants.{Manifest, Cache, Aux}
@@ -11,7 +11,7 @@ use Rattle.tree_face.specs.declared.memory.past.Change.TheVariants.{Published, S
 use Rattle.tree_face.specs.declared.memory.past.Past.{Past}
 use Rattle.tree_face.specs.declared.memory.temporaries.Temporaries.{Temporaries}
 use Rattle.tree_face.specs.declared.memory.temporaries.Temporary.{Temporary}
-use Rattle.tree_face.specs.Crash.{AddsPublished, GoesOn, IsAtRest, IsImage, HasMoments, KeepsSlots, LeavesAtMost, LeavesMore, LeavesOthers, LeavesSame, Settles, left_by, published}
+use Rattle.tree_face.specs.Crash.{AddsPublished, GoesOn, IsAtRest, IsImage, KeepsSlots, LeavesAtMost, LeavesMore, LeavesSame, Settles, left_by, published}
 use Rattle.tree_face.specs.Disk.{Content, DiskContent, DiskState, Keeps, KeepsOthers, Slots, content_eq, MayPublish, Publishes, slot_eq, slot_of, with_slot}
 use Rattle.tree_face.specs.Known.{IfKnown}
 use Rattle.tree_face.specs.Past.{IsChangedBy, KeepsPast, Moment, changes_of, clock_of, first_moment, last_moment, left_in, may_leave, might_leave, moment_after, moment_in}

@@ -1,14 +1,13 @@
 -- What a crash leaves of a disk in memory, change by change.
-use Rattle.std.proofs.Common.{◌≡◌, ◌≤◌, ◌+◌, ◌||◌, ◌++◌, ℕ, zero, suc, Bool, true, false, List, [], ◌∷◌, length, drop, if◌then◌else◌, refl, sym, ap, subst, ◌∙◌, arith, rules, Option, Some, None, Result, Ok, Err, is_err}
+use Rattle.std.proofs.Common.{◌≡◌, ◌≤◌, ◌+◌, ◌||◌, ◌++◌, ℕ, Bool, true, false, List, [], ◌∷◌, length, drop, refl, sym, ap, ◌∙◌, arith}
 use Rattle.std.proofs.lemmas.Bool.{false≢true}
 use Rattle.std.proofs.lemmas.List.{drop-append-le}
 use Rattle.std.proofs.lemmas.List.Folds.{list_any-append}
 use Rattle.std.specs.List.{list_any}
-use Rattle.lib_types.specs.declared.fault.Failed.{Failed}
 use Rattle.tree_face.specs.declared.disk.Slot.{Slot}
 use Rattle.tree_face.specs.declared.memory.past.Change.{Change}
 use Rattle.tree_face.specs.declared.memory.past.Past.{Past}
-use Rattle.tree_face.specs.Crash.{GoesOn, HasMoments, KeepsSlots, LeavesSame}
+use Rattle.tree_face.specs.Crash.{HasMoments, KeepsSlots}
 use Rattle.tree_face.specs.Disk.{Content, DiskState, content_eq}
 use Rattle.tree_face.specs.Past.{Holding, IsChangedBy, KeepsPast, Moment, changes_of, clock_of, first_moment, first_of, holding_after, last_moment, may_leave, might_leave, moment_after, moment_in, moments}
 

@@ -1,6 +1,6 @@
 -- What a crash leaves in the slots of a disk: until a slot is flushed, what it might have left before, or what was published since; from then
 -- on what the slot holds (fsync(2), rename(2)).
-use Rattle.std.specs.Prelude.{◌≡◌, ◌⊎◌, ◌≤◌, ◌&&◌, ◌||◌, ℕ, Bool, true, false, not, Option, None, is_some, Result, OnOk, OnErr}
+use Rattle.std.specs.Prelude.{◌≡◌, ◌⊎◌, ◌≤◌, ◌&&◌, ◌||◌, ℕ, Bool, true, false, not, None, is_some, Result, OnOk, OnErr}
 use Rattle.lib_types.specs.declared.fault.Failed.{Failed}
 use Rattle.tree_face.specs.declared.disk.Slot.{Slot}
 use Rattle.tree_face.specs.Disk.{Content, DiskContent, DiskState, content_eq, slot_eq, slot_of}

@@ -1,5 +1,5 @@
 -- Disks in memory meet the laws of a disk's clock.
-use Rattle.std.specs.Prelude.{◌≡◌, ◌≤◌, ◌||◌, ◌&&◌, not, ℕ, zero, suc, Bool, true, false, is_some, List, [], ◌∷◌, length, drop, Option, Some, None, if◌then◌else◌}
+use Rattle.std.specs.Prelude.{◌≡◌, ◌≤◌, ◌||◌, ℕ, zero, suc, Bool, true, false, is_some, List, [], ◌∷◌, length, drop, Some, None, if◌then◌else◌}
 use Rattle.std.specs.List.{list_any}
 use Rattle.std.specs.Cmp.Lexicographic.{nat_list_eq_equiv, options_equiv}
 use mathlib.Core.Path.{refl, sym, ap, subst}
@@ -11,12 +11,11 @@ use Rattle.tree_face.specs.declared.memory.disks.MemDisk.{MemDisk}
 use Rattle.tree_face.specs.declared.memory.disks.SureDisk.{SureDisk}
 use Rattle.tree_face.specs.declared.memory.past.Change.{Change}
 use Rattle.tree_face.specs.declared.memory.past.Change.TheVariants.{Published, Settled}
-use Rattle.tree_face.specs.declared.memory.temporaries.Temporary.{Temporary}
 use Rattle.tree_face.specs.declared.memory.past.Past.{Past}
 use Rattle.tree_face.specs.Crash.{HasMoments, left_by}
-use Rattle.tree_face.specs.Disk.{Content, DiskContent, content_eq, slot_eq, slot_of}
-use Rattle.tree_face.specs.Past.{Holding, Moment, changes_of, clock_of, first_moment, first_of, last_moment, may_leave, might_leave, moment_after, moment_in, moments}
-use Rattle.tree_face.specs.SureDisk.{disk_content, disk_state, failing_disk_state, now_in}
+use Rattle.tree_face.specs.Disk.{Content, content_eq, slot_eq, slot_of}
+use Rattle.tree_face.specs.Past.{Moment, changes_of, first_moment, first_of, last_moment, may_leave, moment_after, moment_in, moments}
+use Rattle.tree_face.specs.SureDisk.{disk_content, disk_state, failing_disk_state}
 use Rattle.tree_face.specs.Temporaries.{bytes_of, is_synced}
 
 or_right : (a b : Bool) → b ≡ true → (a || b) ≡ true

@@ -1,5 +1,5 @@
 -- What a world keeps is so at the start and after each turn.
-use Rattle.std.proofs.Common.{◌≡◌, ◌≢◌, ◌+◌, ◌-◌, ◌≤◌, ◌<◌, ◌^◌, ℕ, zero, suc, Bool, true, false, arith, List, [], ◌∷◌, ◌++◌, length, map, take, drop, set, get_or, Option, Some, None, IfSome, refl, sym, ap, subst, ◌∙◌, append-nil, cond, eqb, slice_get, nat_lt, nat_le, option_and_then, is_some, length-set, count_by, zero-le, le_of_suc-le-suc, not-suc-le-zero}
+use Rattle.std.proofs.Common.{◌≡◌, ◌≢◌, ◌+◌, ◌-◌, ◌≤◌, ◌<◌, ◌^◌, ℕ, zero, suc, Bool, true, false, arith, List, [], ◌∷◌, ◌++◌, length, map, drop, set, get_or, Option, Some, None, IfSome, refl, sym, ap, subst, ◌∙◌, append-nil, cond, eqb, slice_get, nat_le, option_and_then, is_some, length-set, zero-le, le_of_suc-le-suc, not-suc-le-zero}
 use Rattle.std.specs.Option.{option_map, option_map_or}
 use Rattle.std.proofs.lemmas.Bool.{eq-eqb, eqb-true, false≢true}
 use Rattle.std.proofs.lemmas.List.{length-map}

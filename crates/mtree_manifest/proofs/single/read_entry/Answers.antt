@@ -5,8 +5,7 @@ use Rattle.manifest_words.specs.Keys.{no_values}
 use Rattle.mtree_manifest.specs.Lining.{line_in}
 use Rattle.manifest_words.specs.Lines.{words_of}
 use Rattle.mtree_manifest.specs.Progress.{Open, started, with_word}
-use Rattle.mtree_manifest.specs.Single.{line_alone, path_word, words_alone}
-use Rattle.manifest_words.specs.Views.{given_in}
+use Rattle.mtree_manifest.specs.Single.{path_word, words_alone}
 use Rattle.std.specs.List.{fold}
 use Rattle.mtree_manifest.proofs.single.read_entry.Goals as goal
 
