@@ -17,10 +17,6 @@ use Rattle.ldd_resolve.specs.Searching.{BeginsHeld}
 pub unread_held : (held : Contents) (s : StoreState) → BeginsHeld held [] Complete s s
 unread_held held s = record { reads = reads_none _ _ s; none_lacks = refl }
 
-}
-
-}
-
 -- ---- one call after another
 
 held_on : (e : Ending) (held : Contents) (ks more : List (List ℕ)) → lacks_one held ks ≡ false → AreHeld held more e → AreHeld held (ks ++ more) e

@@ -91,13 +91,6 @@ module _ (slot : Slot) (old new : DiskState) where
     during = λ t x le since. or_at (old.since t slot x) (test x) (other x) (most.during t x le since) (λ e. sym (same x) ∙ e);
   }
 
-}
-  where
-    whole : (x y : Bool) → (y ≡ true → x ≡ true) → (x || y) ≡ x
-    whole true y f = refl
-    whole false true f = sym (f refl)
-    whole false false f = refl
-
 -- in one slot at most this content comes to what might have been left
 module _ (slot : Slot) (bytes : Content) (P : Slot → Content → Type 0) (holds : P slot bytes) (old new : DiskState) (laws : HasMoments old) (later : old.time ≤ new.time)
     (others : LeavesOthers slot old new) (most : IfKnown old.contents (λ _. LeavesAtMost (content_eq bytes) slot old new)) where
