@@ -1,5 +1,5 @@
 -- The reading of one file that has no analysis yet.
-use Rattle.std.proofs.Common.{◌≡◌, ◌+◌, ◌++◌, ◌||◌, ℕ, true, false, cond, List, [], ◌∷◌, length, refl, ap, sym, subst, ◌∙◌, arith, Option, Some, None}
+use Rattle.std.proofs.Common.{◌≡◌, ◌+◌, ◌++◌, ◌||◌, ℕ, false, cond, List, [], ◌∷◌, length, refl, ap, sym, subst, ◌∙◌, arith, Option, Some, None}
 use Rattle.std.proofs.lemmas.List.{append-nil, map-append}
 use Rattle.std.specs.List.{cons_option}
 use Rattle.std.specs.Map.{keys_of}
@@ -140,8 +140,3 @@ module _ (t : Nodes) (loaded : List Stamp) (path key : List ℕ) (old : Files) (
       begun = count known (stamp_for here t path) found ∙ ap (λ l. old.begun + length l) (sym one_key);
       none_lacks = lacks known found;
     }
-
--- ---- a file that was read before
-
-module _ (t : Nodes) (loaded : List Stamp) (path : List ℕ) (old : Files) (there : is_some (analysis_at old.table path) ≡ true) where
-  }

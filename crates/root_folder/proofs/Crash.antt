@@ -27,8 +27,6 @@ module _ (P : List ℕ → Found → Type 0) where
   }
 
   module _ (a b : FolderState) where
-    }
-
     -- a path at which a crash leaves what it might have left before
     same_during : (t : ℕ) (p : List ℕ) (x : Found) → LeavesSame p a b → t ≤ a.time → b.since t p x ≡ true → (a.since t p x ≡ true) ⊎ P p x
     same_during t p x same le since = inl (sym (same.during t x le) ∙ since)
