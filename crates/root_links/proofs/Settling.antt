@@ -53,13 +53,13 @@ none_settled all s = record {
   first = [];
   parts = refl;
   made = record {
-      contents = same s.contents;
-      calls = no_calls s.calls;
-      leaves = record { later = omega arith; during = λ t p x le h. inl h; now = λ p x h. inl h };
-      durable = nothing_durable s s.contents;
-      readings = record { lists = refl; looks = refl; read_faults = refl };
-      faults = refl;
-    };
+    contents = same s.contents;
+    calls = no_calls s.calls;
+    leaves = record { later = omega arith; during = λ t p x le h. inl h; now = λ p x h. inl h };
+    durable = nothing_durable s s.contents;
+    readings = record { lists = refl; looks = refl; read_faults = refl };
+    faults = refl;
+  };
 }
 
 -- ---- one more
@@ -119,14 +119,14 @@ module _ (all : List (List ℕ)) (d : List ℕ) (left : List (List ℕ)) (a b c 
     first = first ++ d ∷ [];
     parts = so_far.parts ∙ sym (append_assoc first (d ∷ []) left);
     made = record {
-        contents = relates_on (HasSettled first) (SettlesIn d) (HasSettled (first ++ d ∷ [])) more a.contents b.contents c.contents so_far.made.contents does.done;
-        calls = subst (λ (k : List FolderCall). Relates (IsFollowedBy k) a.calls c.calls) (sym (map_next first d))
-            (relates_on _ _ _ (follow (map settling first) (settling d ∷ [])) a.calls b.calls c.calls so_far.made.calls does.added);
-        leaves = leaves (Ok tt) crash;
-        durable = durable b.contents c.contents does.done crash crash.done so_far.made.durable;
-        readings = readings_on a b c so_far.made.readings (counts does);
-        faults = does.no_fault ∙ so_far.made.faults;
-      };
+      contents = relates_on (HasSettled first) (SettlesIn d) (HasSettled (first ++ d ∷ [])) more a.contents b.contents c.contents so_far.made.contents does.done;
+      calls = subst (λ (k : List FolderCall). Relates (IsFollowedBy k) a.calls c.calls) (sym (map_next first d))
+          (relates_on _ _ _ (follow (map settling first) (settling d ∷ [])) a.calls b.calls c.calls so_far.made.calls does.added);
+      leaves = leaves (Ok tt) crash;
+      durable = durable b.contents c.contents does.done crash crash.done so_far.made.durable;
+      readings = readings_on a b c so_far.made.readings (counts does);
+      faults = does.no_fault ∙ so_far.made.faults;
+    };
   }
 
   may_more : (x y z : FolderContent) → HasSettled first x y → KeepsContent y z → MayHaveSettled x z

@@ -24,11 +24,7 @@ fn link_at<'a>(links: &[NewLink<'a>], i: usize) -> NewLink<'a>
 
 // Makes the links, in their order.
 #[tactic(auto, using(crate::proofs::Lists::valid_at))]
-fn link_all<F: Folder>(
-    folder: &mut F,
-    tag: Tag,
-    links: &[NewLink<'_>],
-) -> Result<(), LinkFault>
+fn link_all<F: Folder>(folder: &mut F, tag: Tag, links: &[NewLink<'_>]) -> Result<(), LinkFault>
     requires valid { are_valid (links_in links.now) ≡ true }
     ensures done { OnOk result (LinksFirst tag (links_in links.now) (length links.now) (F.state folder.old) (F.state folder.new)) }
     ensures failed { IfErr result (λ fault. FailsToLink tag (links_in links.now) fault (F.state folder.old) (F.state folder.new)) }

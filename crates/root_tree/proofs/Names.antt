@@ -85,8 +85,7 @@ module _ (q : List ℕ) (proper : is_path q ≡ true) where
   by_front (Some front) e =
       let is = cut q front e in
       let named : last q ≡ drop (length front + 1) q = ap (λ o. drop (length (unwrap_or o []) + 1) q) e in
-      let above : folder (parent q) ≡ front ++ root = ap (λ o. folder (unless_empty (unwrap_or o []))) e ∙ folder_of front (sym (ap is_path is.whole) ∙ proper) in
-      (
+      let above : folder (parent q) ≡ front ++ root = ap (λ o. folder (unless_empty (unwrap_or o []))) e ∙ folder_of front (sym (ap is_path is.whole) ∙ proper) in (
         ap (λ f. f ++ last q) above ∙ ap (λ z. (front ++ root) ++ z) named ∙ append_assoc front root (drop (length front + 1) q) ∙ sym is.whole,
         ap first_name named ∙ is.name ∙ sym named,
       )

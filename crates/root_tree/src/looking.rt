@@ -37,12 +37,7 @@ fn add_dir(todo: &mut Vec<Text>, dir: Text) -> Result<(), NoMemory>
 // Adds a node. A directory is still to be listed. A node that can't be there with the others is passed over: in a
 // directory that doesn't change there is none.
 #[tactic(auto, using(crate::proofs::Added::grows))]
-fn add_node(
-    tree: &mut Tree,
-    todo: &mut Vec<Text>,
-    path: Text,
-    node: Node,
-) -> Result<(), TreeRead>
+fn add_node(tree: &mut Tree, todo: &mut Vec<Text>, path: Text, node: Node) -> Result<(), TreeRead>
     requires { IsNew tree.old path node }
     ensures added { OnOk result (so_far tree.new todo.new.items ≡ with_node (so_far tree.old todo.old.items) path node) }
     ensures grows { OnOk result (Grows (so_far tree.old todo.old.items) (so_far tree.new todo.new.items)) }

@@ -30,15 +30,15 @@ loop-number-preserved g c =
     let left = dedup bytes_eq (drop (c.loop-number.number + 1) dirs) in
     elim c.if-is_last_in.branch [
       | then-is_last_in+else-is_err w ↦
-        let made : is_err w.settle.result ≡ false = search rules in
-        let last : is_last_of (drop c.loop-number.number dirs) ≡ true = search rules in
-        subst (λ f. HasSettledFirst (dirs_of links) left (g.F.Folder.state c.args.folder.now) (g.F.Folder.state f)) (sym w.folder-is)
-        (dir_settled (dirs_of links) c.dir_at-dir.result.now left (g.F.Folder.state c.args.folder.now) (g.F.Folder.state c.loop-number.folder)
-        (g.F.Folder.state w.settle.new.self) (g.met.F.Folder.moments c.loop-number.folder)
-        (next_is (dirs_of links) dirs c.loop-number.number c.dir_at-dir.result.now c.dir_at-dir.ensures _ _ c.loop-number.invariant last)
-        w.settle.result made w.settle.ensures.does w.settle.ensures.crash)
+          let made : is_err w.settle.result ≡ false = search rules in
+          let last : is_last_of (drop c.loop-number.number dirs) ≡ true = search rules in
+          subst (λ f. HasSettledFirst (dirs_of links) left (g.F.Folder.state c.args.folder.now) (g.F.Folder.state f)) (sym w.folder-is)
+          (dir_settled (dirs_of links) c.dir_at-dir.result.now left (g.F.Folder.state c.args.folder.now) (g.F.Folder.state c.loop-number.folder)
+          (g.F.Folder.state w.settle.new.self) (g.met.F.Folder.moments c.loop-number.folder)
+          (next_is (dirs_of links) dirs c.loop-number.number c.dir_at-dir.result.now c.dir_at-dir.ensures _ _ c.loop-number.invariant last)
+          w.settle.result made w.settle.ensures.does w.settle.ensures.crash)
       | else-is_last_in w ↦
-        let other : is_last_of (drop c.loop-number.number dirs) ≡ false = search rules in
-        subst (λ f. HasSettledFirst (dirs_of links) left (g.F.Folder.state c.args.folder.now) (g.F.Folder.state f)) (sym w.folder-is)
-        (next_later (dirs_of links) dirs c.loop-number.number c.dir_at-dir.result.now c.dir_at-dir.ensures _ _ c.loop-number.invariant other)
+          let other : is_last_of (drop c.loop-number.number dirs) ≡ false = search rules in
+          subst (λ f. HasSettledFirst (dirs_of links) left (g.F.Folder.state c.args.folder.now) (g.F.Folder.state f)) (sym w.folder-is)
+          (next_later (dirs_of links) dirs c.loop-number.number c.dir_at-dir.result.now c.dir_at-dir.ensures _ _ c.loop-number.invariant other)
     ]
