@@ -1,5 +1,5 @@
 -- What a crash leaves of a directory, over several calls.
-use Rattle.std.proofs.Common.{◌≡◌, ◌≤◌, ◌⊎◌, ◌||◌, ℕ, Bool, true, false, List, refl, sym, subst, ◌∙◌, inl, inr, ⊎_elim, arith, Option, Some, None, Result, Ok, Err}
+use Rattle.std.proofs.Common.{◌≡◌, ◌≤◌, ◌⊎◌, ◌||◌, ℕ, Bool, true, false, List, refl, ap, sym, subst, ◌∙◌, inl, inr, ⊎_elim, arith, Option, Some, None, Result, Ok, Err}
 use Rattle.std.proofs.lemmas.Slice.Eq.{bytes_eq-Decides}
 use Rattle.std.specs.Str.{bytes_eq}
 use Rattle.lib_types.proofs.SortedPairs.{by_test}
@@ -9,7 +9,7 @@ use Rattle.image_tree.specs.declared.node.Node.TheVariants.{Link}
 use Rattle.tree_face.specs.Known.{IfKnown}
 use Rattle.root_folder.proofs.Moments.{found_is}
 use Rattle.root_folder.specs.Crash.{AddsLink, HasMoments, Leaves, LeavesAtMost, LeavesSame, Settles, is_link_to}
-use Rattle.root_folder.specs.Folder.{FolderContent, FolderState}
+use Rattle.root_folder.specs.Folder.{FolderContent, FolderState, KeepsFolder}
 use Rattle.root_folder.specs.Found.{Found, found_eq}
 use Rattle.root_folder.specs.Whole.{is_in}
 
@@ -27,6 +27,14 @@ module _ (P : List ℕ → Found → Type 0) where
   }
 
   module _ (a b : FolderState) where
+    -- a reading
+    pub reading_leaves : KeepsFolder a b → Leaves P a b
+    reading_leaves keeps = record {
+      later = let same = keeps.time in omega (arith, same);
+      during = λ t p x le since. inl (sym (ap (λ (f : ℕ → List ℕ → Found → Bool). f t p x) keeps.since) ∙ since);
+      now = λ p x may. inl (sym (ap (λ (f : List ℕ → Found → Bool). f p x) keeps.may) ∙ may);
+    }
+
     -- a path at which a crash leaves what it might have left before
     same_during : (t : ℕ) (p : List ℕ) (x : Found) → LeavesSame p a b → t ≤ a.time → b.since t p x ≡ true → (a.since t p x ≡ true) ⊎ P p x
     same_during t p x same le since = inl (sym (same.during t x le) ∙ since)

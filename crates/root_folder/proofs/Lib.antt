@@ -1,4 +1,5 @@
 pub mod Crash
+pub mod Dirs
 pub mod Moments
 pub mod Walk
 pub mod Whole

@@ -1,0 +1,5 @@
+mod Lists
+mod Made
+mod Results
+mod Settling
+mod Step

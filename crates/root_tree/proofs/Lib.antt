@@ -1,0 +1,7 @@
+mod Added
+mod Directly
+mod Known
+mod Listing
+mod Names
+mod Parts
+mod Sees

@@ -1,0 +1,7 @@
+//! Tests of the reading of a directory's tree. They are a crate of their own, since a crate with tests is proved twice.
+#![tactic(auto)]
+
+#[cfg(test)]
+mod image;
+#[cfg(test)]
+mod reading;
