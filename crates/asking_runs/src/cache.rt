@@ -7,8 +7,8 @@ ghost use Rattle.asking_runs.specs.Cache.{cache_in, sorted_in};
 use crate::fault::CacheFault;
 use cache_lookup::{Sorted, sorted};
 use cache_reader::{CacheDefect, CacheView};
-use lib_types::Text;
 use image_session::SlotFault;
+use lib_types::Text;
 
 /// The bytes of the cache, by what was read of its slot.
 pub(crate) fn cache_in(read: &Result<Option<Text>, SlotFault>) -> Result<&[u8], CacheFault>

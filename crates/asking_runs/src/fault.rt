@@ -7,9 +7,9 @@ ghost use Rattle.ldd_resolve.specs.declared.kinds.ResolveFault.TheVariants as re
 
 use cache_reader::CacheDefect;
 use command_status::{Fault, Status};
+use image_session::{LoadFault, SlotFault};
 use ldd_resolve::ResolveFault;
 use lib_types::NoMemory;
-use image_session::{LoadFault, SlotFault};
 
 /// Why the cache isn't asked.
 #[derive(Clone, Copy, Debug, PartialEq, Eq)]

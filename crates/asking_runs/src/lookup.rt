@@ -14,8 +14,8 @@ use crate::fault::CacheFault;
 use cache_lookup::{Counted, Sorted};
 use command_status::{Answer, Status, end};
 use commands::Lookup;
-use lib_types::{Failed, Text};
 use image_session::{SlotFault, read_slot};
+use lib_types::{Failed, Text};
 use std::alloc::Global;
 use tree_face::{Disk, Sink, Slot, put_all};
 

@@ -11,8 +11,8 @@ use crate::cache::cache_in;
 use crate::fault::CacheFault;
 use cache_reader::CacheView;
 use command_status::{Answer, Status, end};
-use lib_types::{Failed, Text};
 use image_session::{SlotFault, read_slot};
+use lib_types::{Failed, Text};
 use std::alloc::Global;
 use tree_face::{Disk, Sink, Slot};
 

@@ -7,9 +7,9 @@ ghost use Rattle.cache_entries.specs.Winner.{linked};
 
 use crate::winner::{has_own_name, linked};
 use file_table::Table;
+use lib_types::{NoMemory, compare_bytes};
 use library_files::FollowedLinks;
 use place_libraries::{BestIter, BestLibraries, Library};
-use lib_types::{NoMemory, compare_bytes};
 use std::alloc::Global;
 use std::cmp::Ordering;
 

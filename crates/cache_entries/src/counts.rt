@@ -5,10 +5,10 @@ ghost use Rattle.cache_entries.specs.Counts.{CountsEach};
 
 use crate::winners::{Winners, winners_in};
 use file_table::Table;
-use library_files::FolderLinks;
-use place_libraries::BestLibraries;
 use indexmap::IndexMap;
 use lib_types::{NoMemory, Text, TextRef};
+use library_files::FolderLinks;
+use place_libraries::BestLibraries;
 use std::alloc::Global;
 
 // How many winners these are.

@@ -5,9 +5,9 @@ ghost use Rattle.library_files.specs.Places.{links_to};
 ghost use Rattle.library_files.specs.Search.{folder_links};
 ghost use Rattle.cache_entries.specs.LinksOf.{AreLeftOf, IsTargetAmong};
 
-use library_files::{FolderLinks, FollowedIter, links_to};
 use hwcap_dirs::Place;
 use lib_types::{NoMemory, are_same, compare_bytes};
+use library_files::{FolderLinks, FollowedIter, links_to};
 use path_walk::join_into;
 use std::alloc::Global;
 use std::cmp::Ordering;

@@ -8,10 +8,12 @@ ghost use Rattle.file_table.specs.Table.{analysis_at};
 ghost use Rattle.path_walk.specs.Names.{last};
 
 use file_table::Table;
-use library_files::FollowedLink;
-use place_libraries::{BestLibraries, BySoname, Gather, Library, gather_by_soname, is_own, is_preferred};
 use lib_types::{Analysis, NoMemory, Text};
+use library_files::FollowedLink;
 use path_walk::parted;
+use place_libraries::{
+    BestLibraries, BySoname, Gather, Library, gather_by_soname, is_own, is_preferred,
+};
 use std::alloc::Global;
 
 // ---- links to libraries

@@ -6,9 +6,8 @@ ghost use Rattle.lib_types.specs.Bytes.{field};
 
 mod limits;
 
-pub use limits::ENTRIES_MAX;
-
 use byteorder::{ByteOrder, LittleEndian};
+pub use limits::ENTRIES_MAX;
 
 /// The magic and the version that a cache begins with.
 pub const MAGIC: &[u8] = b"glibc-ld.so.cache1.1";

@@ -6,9 +6,9 @@ ghost use Rattle.command_status.specs.Ending.{AnswerText, EndsAs};
 
 use crate::output::put_fault_line;
 use crate::status::Status;
+use image_session::LoadFault;
 use ldd_resolve::ResolveFault;
 use lib_types::Failed;
-use image_session::LoadFault;
 use tree_face::Sink;
 
 /// What a command answers that only asks. It may be written in pieces.

@@ -9,10 +9,10 @@ use crate::fault_line::{
     FaultLine, cache_line, manifest_line, numbered, program_line, script_line, unnumbered,
 };
 use cache_reader::CacheDefect;
+use image_session::LoadFault;
 use ldconfig_core::UpdateFault;
 use ldd_resolve::ResolveFault;
 use lib_types::Defect;
-use image_session::LoadFault;
 use mtree_manifest::{LineKind, ManifestFault};
 
 /// Why a line of a script isn't taken.

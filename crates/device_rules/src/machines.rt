@@ -9,7 +9,11 @@ pub fn foreign_machine(head: &[u8]) -> Option<u16>
     ensures { result ≡ foreign_machine head.now }
 {
     let number = machine_in(head)?;
-    if Abi::is_machine(number) { None } else { Some(number) }
+    if Abi::is_machine(number) {
+        None
+    } else {
+        Some(number)
+    }
 }
 
 // Its bytes are in the order that the file says it has.

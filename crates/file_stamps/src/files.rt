@@ -24,8 +24,8 @@ use crate::stamped::{keep, said};
 use aux_cache::{GatheredStamps, Stamps};
 use elf_dynamic::{AnalyseFault, analyse};
 use file_table::Table;
-use library_files::FoundFile;
 use lib_types::{Analysis, NoMemory, Text};
+use library_files::FoundFile;
 use std::alloc::Global;
 use tree_face::{Id, Store, Tree};
 

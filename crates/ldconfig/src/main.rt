@@ -9,8 +9,8 @@ ghost use Rattle.ldconfig.specs.Start.{code_of};
 
 use advice::{OUT_OF_MEMORY, advice, written_before};
 use command_runs::Status;
-use device_rules::RunId;
 use commands::Devices;
+use device_rules::RunId;
 use image_folder::HeldFile;
 use ldconfig_cli::{Arguments, run_on};
 use lib_types::NoMemory;

@@ -23,17 +23,49 @@ pub record AbiRow : Type 0 where
 
 abbrev pub row_of : Abi → AbiRow
 row_of I386 = record {
-  word = codes "i386"; machine = 3; class = 1; mask = 0; bits = 0; flags = 0x0003; printed = []; lib = codes "lib";
-  triplet = codes "i386-linux-gnu" }
+  word = codes "i386";
+  machine = 3;
+  class = 1;
+  mask = 0;
+  bits = 0;
+  flags = 0x0003;
+  printed = [];
+  lib = codes "lib";
+  triplet = codes "i386-linux-gnu";
+}
 row_of X86_64 = record {
-  word = codes "x86-64"; machine = 62; class = 2; mask = 0; bits = 0; flags = 0x0303; printed = codes ",x86-64"; lib = codes "lib64";
-  triplet = codes "x86_64-linux-gnu" }
+  word = codes "x86-64";
+  machine = 62;
+  class = 2;
+  mask = 0;
+  bits = 0;
+  flags = 0x0303;
+  printed = codes ",x86-64";
+  lib = codes "lib64";
+  triplet = codes "x86_64-linux-gnu";
+}
 row_of X32 = record {
-  word = codes "x32"; machine = 62; class = 1; mask = 0; bits = 0; flags = 0x0803; printed = codes ",x32"; lib = codes "libx32";
-  triplet = codes "x86_64-linux-gnux32" }
+  word = codes "x32";
+  machine = 62;
+  class = 1;
+  mask = 0;
+  bits = 0;
+  flags = 0x0803;
+  printed = codes ",x32";
+  lib = codes "libx32";
+  triplet = codes "x86_64-linux-gnux32";
+}
 row_of Aarch64 = record {
-  word = codes "aarch64"; machine = 183; class = 2; mask = 0; bits = 0; flags = 0x0a03; printed = codes ",AArch64"; lib = codes "lib64";
-  triplet = codes "aarch64-linux-gnu" }
+  word = codes "aarch64";
+  machine = 183;
+  class = 2;
+  mask = 0;
+  bits = 0;
+  flags = 0x0a03;
+  printed = codes ",AArch64";
+  lib = codes "lib64";
+  triplet = codes "aarch64-linux-gnu";
+}
 
 -- the code's row has these values
 pub record IsRow (r : Row) (row : AbiRow) : Type 0 where

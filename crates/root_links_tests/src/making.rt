@@ -21,7 +21,8 @@ const LINKS: &[(&str, &str)] = &[
 ];
 
 // The calls that make them.
-const CALLS: &str = "link /usr/lib/x x.2|link /usr/lib/y y.1|link /opt/z z.1|link /usr/lib/a/v v.1|settle /usr/lib|settle /opt|settle /usr/lib/a|";
+const CALLS: &str =
+    "link /usr/lib/x x.2|link /usr/lib/y y.1|link /opt/z z.1|link /usr/lib/a/v v.1|settle /usr/lib|settle /opt|settle /usr/lib/a|";
 
 fn link_node(alloc: Global, target: &str) -> Result<Node, Fail> {
     let target = Text::copy_of(alloc, target.as_bytes())?;
@@ -138,11 +139,20 @@ fn a_crash_leaves_each_link_old_or_new(rt: HostRuntime) -> Result<(), Fail> {
     for (calls, want, old, new) in STOPS {
         let mut folder = folder_of(&rt, alloc, &[])?;
         folder.stop_after(*calls);
-        assert!(rt; make(&rt, alloc, &mut folder, LINKS)? == *want, "after {calls}");
+        assert!(rt;
+            make(&rt, alloc, &mut folder, LINKS)? == *want,
+            "after {calls}"
+        );
         for ((path, target), (was, is)) in LINKS.iter().zip(old.bytes().zip(new.bytes())) {
             let before = if *path == OLD.0 { OLD.1 } else { "" };
-            assert!(rt; may_leave(alloc, &folder, path, before)? == (was == b'o'), "{path} after {calls}");
-            assert!(rt; may_leave(alloc, &folder, path, target)? == (is == b'n'), "{path} after {calls}");
+            assert!(rt;
+                may_leave(alloc, &folder, path, before)? == (was == b'o'),
+                "{path} after {calls}"
+            );
+            assert!(rt;
+                may_leave(alloc, &folder, path, target)? == (is == b'n'),
+                "{path} after {calls}"
+            );
         }
     }
     Ok(())

@@ -89,7 +89,10 @@ fn each_call_is_made_once(rt: HostRuntime) -> Result<(), Fail> {
     assert!(rt; read_tree(alloc, &mut folder).is_ok());
     for (path, kind, _) in USUAL {
         assert!(rt; is_once(&folder, false, path), "looked at {path}");
-        assert!(rt; is_once(&folder, true, path) == (*kind == Kind::Dir), "listed {path}");
+        assert!(rt;
+            is_once(&folder, true, path) == (*kind == Kind::Dir),
+            "listed {path}"
+        );
     }
     assert!(rt; is_once(&folder, true, "/"));
     Ok(())

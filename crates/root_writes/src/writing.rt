@@ -7,8 +7,7 @@ ghost use Rattle.root_links.specs.Links.{are_valid, links_in};
 ghost use Rattle.root_writes.specs.Writing.{LeavesInOrder, WritesRoot, file_slots, file_writes, states};
 
 use crate::fault::WriteFault;
-use atomic_replace::DiskFault;
-use atomic_replace::{SlotWrite, replace_slots};
+use atomic_replace::{DiskFault, SlotWrite, replace_slots};
 use root_folder::Folder;
 use root_links::{NewLink, make_links};
 use tree_face::{Disk, Slot, Tag};

@@ -6,8 +6,8 @@ ghost use Rattle.sample_runs.specs.Images.{all_replaced, empty_image, first_imag
 
 use crate::files::{SampleFile, content, hwcaps_path, key, library_path};
 use aux_cache::Stamps;
-use lib_types::{NoMemory, Text};
 use image_session::Session;
+use lib_types::{NoMemory, Text};
 use std::alloc::Global;
 use tree_face::{Id, Node, Tree, is_node, is_path};
 

@@ -7,8 +7,8 @@ ghost use Rattle.tree_face.specs.Known.{IfKnown, Relates};
 ghost use Rattle.sample_runs.specs.Updates.{Goes, ReadFails, UpdateFails, UpdatesTo, UsesPart, keys_of};
 
 use crate::fault::SampleFault;
-use lib_types::Text;
 use image_session::Session;
+use lib_types::Text;
 use std::alloc::Global;
 use tree_face::{Disk, DiskRead, Slot, Store, Tag};
 

@@ -12,9 +12,9 @@ ghost use Rattle.soname_links.specs.Plan.{with_link, with_links};
 ghost use Rattle.soname_links.specs.Settled.{Settles};
 
 use crate::kinds::{ApplyFault, Plan, Planned};
-use string_pool::ascending;
 use lib_types::{NoMemory, Text, Texts, is_name};
 use std::alloc::Global;
+use string_pool::ascending;
 use tree_face::{NODES_MAX, Node, Tree, is_path};
 
 // The path of a link, if the tree has no node there.

@@ -3,8 +3,8 @@ ghost use Rattle.std.specs.Prelude.{◌≡◌, Some, IfOk};
 ghost use Rattle.soname_links.specs.Marks.{is_odd};
 ghost use Rattle.soname_links.specs.Survey.{groups, keyed, with_library};
 
-use place_libraries::{BySoname, Gather, Library, gather_by_soname, is_preferred};
 use lib_types::{NoMemory, Seq};
+use place_libraries::{BySoname, Gather, Library, gather_by_soname, is_preferred};
 use std::alloc::Global;
 
 /// The libraries of one soname.

@@ -1,9 +1,9 @@
 //! What is planned for an image, and what is reported of its sonames.
 ghost use Rattle.std.specs.Prelude.{◌≡◌};
 
-use place_libraries::PlaceBests;
-use lib_types::{NoMemory, Seq, Text};
 pub use cache_entries::EntryFault;
+use lib_types::{NoMemory, Seq, Text};
+use place_libraries::PlaceBests;
 
 /// A link that is planned.
 #[derive(Drop)]

@@ -9,12 +9,12 @@ ghost use Rattle.soname_links.specs.Survey.{mixed_soname, mixed_sonames};
 
 use crate::groups::{Group, groups_in};
 use file_table::Table;
-use library_files::real_folders;
-use place_libraries::{BestLibraries, BySoname, Library, PlaceBests, libraries_in};
-use string_pool::Shared;
 use hwcap_dirs::Dirs;
 use lib_types::{NoMemory, Seq, Text, Texts};
+use library_files::real_folders;
+use place_libraries::{BestLibraries, BySoname, Library, PlaceBests, libraries_in};
 use std::alloc::Global;
+use string_pool::Shared;
 use tree_face::Tree;
 
 // The libraries of a folder, by the bytes of their sonames.

@@ -14,14 +14,14 @@ ghost use Rattle.file_table.specs.Table.{analysis_at};
 use crate::kinds::{Mark, Marks, Plan, Planned, Survey};
 use crate::summary::place_summaries;
 use file_table::Table;
-use library_files::has_no_cap;
-use place_libraries::{BestLibraries, Library, PlaceBests, is_own};
-use string_pool::Shared;
 use hwcap_dirs::{Dirs, Place};
 use lib_types::{NoMemory, Seq, Text, Texts};
+use library_files::has_no_cap;
 use name_order::is_library_name;
 use path_walk::join_into;
+use place_libraries::{BestLibraries, Library, PlaceBests, is_own};
 use std::alloc::Global;
+use string_pool::Shared;
 use tree_face::{Kind, Node, PATH_MAX, Tree};
 
 // What is at the path of a link that is wanted.

@@ -6,9 +6,9 @@ ghost use Rattle.library_files.specs.Search.{wanted};
 ghost use Rattle.file_table.specs.Table.{analysis_at};
 
 use file_table::Table;
-use library_files::wanted;
 use hwcap_dirs::Dirs;
 use lib_types::NoMemory;
+use library_files::wanted;
 use std::alloc::Global;
 use tree_face::Tree;
 

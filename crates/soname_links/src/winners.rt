@@ -7,13 +7,13 @@ ghost use Rattle.file_table.specs.Table.{analysis_at};
 
 use crate::surveying::survey;
 use crate::wanted_table::wanted_table;
+use cache_entries::{EntryFault, entries_by};
 use file_table::Table;
-use library_files::follow;
 use hwcap_dirs::Dirs;
 use lib_types::Entries;
+use library_files::follow;
 use std::alloc::Global;
 use tree_face::Tree;
-use cache_entries::{EntryFault, entries_by};
 
 /// The entries of a cache, one for each place and soname with a winner. The tree is one that has all planned links.
 #[tactic(auto, using(place_libraries::proofs::NoOtherFiles::bests_agree))]

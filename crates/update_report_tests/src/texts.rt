@@ -1,8 +1,8 @@
 // What reports say.
 use crate::fixture::{Found, report_of};
+use file_table::Table;
 use ldso_conf::ConfKind;
 use lib_types::{Abi, Analysis, Defect, NoMemory, Text, Texts};
-use file_table::Table;
 use std::alloc::Global;
 use std::test::Fail;
 use update_report::{Skips, skips};
