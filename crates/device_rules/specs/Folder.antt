@@ -5,6 +5,7 @@ use Rattle.tree_face.specs.declared.disk.Slot.{Slot}
 use Rattle.tree_face.specs.declared.disk.Slot.TheVariants.{Manifest, Cache, Aux}
 use Rattle.device_rules.specs.declared.standing.Stamp.{Stamp}
 use Rattle.device_rules.specs.declared.standing.Owner.{Owner}
+use Rattle.cache_layout.specs.Layout.{entry_size}
 use Rattle.cache_layout.specs.declared.limits.TheConstants.{ENTRIES_MAX}
 use Rattle.mtree_manifest.specs.declared.fault.TheConstants.{TEXT_MAX}
 
@@ -26,9 +27,9 @@ name_of Manifest = codes "image.mtree"
 name_of Cache = codes "ld.so.cache"
 name_of Aux = codes "aux-cache"
 
--- a file of more bytes isn't read: a cache has little more than its entries, each of 24 bytes with two strings of at most 4,096 bytes
+-- a file of more bytes isn't read: a cache has little more than its entries, each with two strings of at most 4,096 bytes
 abbrev pub largest : Slot → ℕ
-largest Cache = ENTRIES_MAX * (24 + 2 * 4096) + 2 ^ 16
+largest Cache = ENTRIES_MAX * (entry_size + 2 * 4096) + 2 ^ 16
 largest _ = 2 ^ 31
 
 -- how many bytes of a slot's file of this length are read, if it does or doesn't begin as a cache: of a manifest that is too long
