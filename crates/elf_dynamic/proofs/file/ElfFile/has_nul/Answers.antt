@@ -23,7 +23,7 @@ returns-then-is_some-clause-nul g c =
     let read = next_part _ _ l.self.cursor.head w l.at part through.reads through.window c.from.ensures.part in
     let here = before (λ bytes. part ≡ take (ready w l.at) (drop l.at bytes)) _ _ l.invariant.reads.reads read in
     nul_here (known_content s) piece l.at (length piece) end (λ bytes. list_any is_nul (bytes_of c.args.place bytes)) (omega (arith, size))
-    (some_nul piece c.first_nul.result c.is_some.result c.first_nul.ensures c.is_some.ensures ∙ c.if-is_some.true)
+    (some_nul piece c.find_byte.result c.is_some.result c.find_byte.ensures.index c.is_some.ensures ∙ c.if-is_some.true)
     (front_of (known_content s) piece part l.at (ready w l.at) left c.front-piece.ensures here) l.invariant.rest
 
 pub loop-at-preserved : goal.loop-at-preserved
@@ -48,7 +48,7 @@ loop-at-preserved g c =
       begins = omega (arith, l.invariant.begins);
       ends = omega (arith, size, l.invariant.ends);
       rest = nul_on (known_content s) piece l.at (length piece) end (λ bytes. list_any is_nul (bytes_of c.args.place bytes)) (omega (arith, size))
-          (some_nul piece c.first_nul.result c.is_some.result c.first_nul.ensures c.is_some.ensures ∙ c.if-is_some.false)
+          (some_nul piece c.find_byte.result c.is_some.result c.find_byte.ensures.index c.is_some.ensures ∙ c.if-is_some.false)
           (front_of (known_content s) piece part l.at (ready w l.at) left c.front-piece.ensures here) l.invariant.rest;
       taken = omega (arith, size, c.in_ok-hold.ensures.holds.taken, c.from.ensures.length);
     }
