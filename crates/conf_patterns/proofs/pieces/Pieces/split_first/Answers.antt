@@ -4,9 +4,9 @@ use Rattle.conf_patterns.proofs.Skips.{unclosed_behind}
 use Rattle.conf_patterns.proofs.pieces.Pieces.split_first.Goals as goal
 
 pub piece_at-piece-requires : goal.piece_at-piece-requires
-piece_at-piece-requires c = rw (c.behind-more.ensures) (unclosed_behind 1 c.self.inside.unclosed c.self.inside.rest.now c.self.invariant)
+piece_at-piece-requires c = rw (c.after-more.ensures) (unclosed_behind 1 c.self.inside.unclosed c.self.inside.rest.now c.self.invariant)
 
 pub invariant_of-result : goal.invariant_of-result
 invariant_of-result c =
-    let more : has_close c.self.inside.unclosed c.behind-more.result.now ≡ false = rw (c.behind-more.ensures) (unclosed_behind 1 c.self.inside.unclosed c.self.inside.rest.now c.self.invariant) in
-    rw (c.behind-rest.ensures) (unclosed_behind c.more_of.result c.self.inside.unclosed c.behind-more.result.now more)
+    let more : has_close c.self.inside.unclosed c.after-more.result.now ≡ false = rw (c.after-more.ensures) (unclosed_behind 1 c.self.inside.unclosed c.self.inside.rest.now c.self.invariant) in
+    rw (c.after-rest.ensures) (unclosed_behind c.more_of.result c.self.inside.unclosed c.after-more.result.now more)
