@@ -1,10 +1,12 @@
 -- What a run writes into a directory: the links, then the cache, then the auxiliary cache (ldconfig(8)).
 use Rattle.std.specs.Prelude.{◌≡◌, ◌⊎◌, ◌++◌, ◌∷◌, [], ℕ, List, true, Option, Some, None, Result, Ok, Err}
+use Rattle.std.specs.Option.{option_copied}
 use Rattle.atomic_replace.specs.Replace.{Write}
 use Rattle.atomic_replace.specs.OneByOne.{IsOfWrites, WritesAll, WritesPart}
 use Rattle.root_folder.specs.Folder.{FolderState}
-use Rattle.root_links.specs.Links.{Linking, MakesAll, MakesPart}
+use Rattle.root_links.specs.Links.{Linking, MakesAll, MakesPart, links_in}
 use Rattle.root_writes.specs.declared.fault.WriteFault.{WriteFault}
+use Rattle.root_writes.specs.declared.writing.RootWrites.{RootWrites}
 use Rattle.root_writes.specs.declared.fault.WriteFault.TheVariants.{Links, Files}
 use Rattle.tree_face.specs.declared.disk.Slot.{Slot}
 use Rattle.tree_face.specs.declared.disk.Slot.TheVariants.{Cache, Aux}
@@ -25,6 +27,13 @@ abbrev pub file_slots : List Slot
 file_slots = Cache ∷ Aux ∷ []
 
 -- ---- the whole
+
+-- what is asked for
+abbrev pub planned_links : RootWrites → List Linking
+planned_links w = links_in w.links.now
+
+abbrev pub planned_files : RootWrites → List Write
+planned_files w = file_writes (option_copied w.cache) (option_copied w.aux)
 
 pub record States : Type 0 where
   pub folder : FolderState

@@ -3,8 +3,8 @@ ghost use Rattle.std.specs.Prelude.{◌≡◌, ◌≤◌, IfErr, OnOk, true};
 ghost use Rattle.std.specs.Option.{option_copied};
 ghost use Rattle.atomic_replace.specs.OneByOne.{KeepsRestMade, WritesAll, WritesPart};
 ghost use Rattle.tree_face.specs.declared.disk.Slot.TheVariants as slots;
-ghost use Rattle.root_links.specs.Links.{are_valid, links_in};
-ghost use Rattle.root_writes.specs.Writing.{LeavesInOrder, WritesRoot, file_slots, file_writes, states};
+ghost use Rattle.root_links.specs.Links.{are_valid};
+ghost use Rattle.root_writes.specs.Writing.{LeavesInOrder, WritesRoot, file_slots, file_writes, planned_files, planned_links, states};
 
 use crate::fault::WriteFault;
 use atomic_replace::{DiskFault, SlotWrite, replace_slots};
@@ -75,10 +75,10 @@ pub fn write_root<F: Folder, D: Disk>(
     tag: Tag,
     writes: &RootWrites<'_>,
 ) -> Result<(), WriteFault>
-    requires valid { are_valid (links_in writes.now.links.now) ≡ true }
-    ensures writes { WritesRoot tag (links_in writes.now.links.now) (file_writes (option_copied writes.now.cache) (option_copied writes.now.aux)) result
+    requires valid { are_valid (planned_links writes.now) ≡ true }
+    ensures writes { WritesRoot tag (planned_links writes.now) (planned_files writes.now) result
         (states (F.state folder.old) (D.state disk.old)) (states (F.state folder.new) (D.state disk.new)) }
-    ensures order { LeavesInOrder tag (links_in writes.now.links.now) (file_writes (option_copied writes.now.cache) (option_copied writes.now.aux))
+    ensures order { LeavesInOrder tag (planned_links writes.now) (planned_files writes.now)
         (states (F.state folder.old) (D.state disk.old)) (states (F.state folder.new) (D.state disk.new)) }
     ensures made { KeepsRestMade tag.0 file_slots (D.state disk.old) (D.state disk.new) }
     ensures faults { (D.state disk.old).faults ≤ (D.state disk.new).faults }
