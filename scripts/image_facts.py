@@ -19,17 +19,18 @@ CACHE_MAGIC, AUX_MAGIC = b"glibc-ld.so.cache1.1", b"glibc-ld.so.auxcache-1.0"
 EXTENSION_MAGIC = 0xEAA42174
 GENERATOR = b"ldconfig (image profile) release version 1"
 
-# In bytes: names, paths, targets of links, keys, manifests, conf files and caches.
+# In bytes: names, paths, targets of links, keys, manifests and conf files.
 LONGEST_NAME = 255
 LONGEST_PATH = LONGEST_TARGET = LONGEST_KEY = 4095
 LONGEST_MANIFEST = 2**26
 LARGEST_CONF = 2**20
-LONGEST_CACHE = 2**30
 # Numbers: nodes of a manifest, entries of a cache, links that are followed for one path, conf files that include one another.
 MOST_NODES = 2**20
 MOST_ENTRIES = 131072
 MOST_LINKS = 40
 MOST_DEPTH = 16
+# The most bytes of a cache that is read: its entries, each with two texts as long as a path, and what else it has.
+LONGEST_CACHE = MOST_ENTRIES * (24 + 2 * (LONGEST_PATH + 1)) + 2**16
 
 SYSTEM_DIRS = ["/lib", "/usr/lib", "/lib64", "/usr/lib64"]
 

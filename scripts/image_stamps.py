@@ -13,7 +13,7 @@ from image_facts import AUX_MAGIC as MAGIC  # noqa: E402
 
 AUX = "var/cache/ldconfig/aux-cache"
 HEADER, RECORD = len(MAGIC) + 8, 48
-ABI_OF = {kind[2]: abi for abi, kind in ABIS.items()}
+ABI_OF = {row.flags: abi for abi, row in ABIS.items()}
 
 
 class Damaged(Exception):
@@ -75,7 +75,7 @@ def text(stamps):
         if soname not in offsets:
             offsets[soname] = len(strings)
             strings += soname + b"\0"
-        records += struct.pack("<4QiIII", inode, ctime, size, device, ABIS[abi][2], offsets[soname], 0, 0)
+        records += struct.pack("<4QiIII", inode, ctime, size, device, ABIS[abi].flags, offsets[soname], 0, 0)
     return MAGIC + struct.pack("<II", len(stamps), len(strings)) + records + strings
 
 

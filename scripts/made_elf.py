@@ -7,15 +7,15 @@ from image_facts import ABIS
 
 def elf(abi, soname=None, kind=3):
     """A file header, a PT_LOAD of the whole file at 0x1000, a PT_DYNAMIC, its entries, and the strings."""
-    machine, size = ABIS[abi][:2]
-    head, segment, word, align = (64, 56, "Q", 8) if size == 2 else (52, 32, "I", 4)
+    row = ABIS[abi]
+    head, segment, word, align = (64, 56, "Q", 8) if row.width == 2 else (52, 32, "I", 4)
     start, strings = head + 2 * segment, b"\0" if soname is None else b"\0" + soname + b"\0"
     end = start + (3 + (soname is not None)) * 2 * align
     table = [(14, 1)] * (soname is not None) + [(5, 0x1000 + end), (10, len(strings)), (0, 0)]
-    made = struct.pack(f"<4s3B9x2HI3{word}I6H", b"\x7fELF", size, 1, 1, kind, machine, 1, 0, head, 0, 0, head, segment, 2, 0, 0, 0)
+    made = struct.pack(f"<4s3B9x2HI3{word}I6H", b"\x7fELF", row.width, 1, 1, kind, row.machine, 1, 0, head, 0, 0, head, segment, 2, 0, 0, 0)
     for tag, offset, count, aligned in ((1, 0, end + len(strings), 0x1000), (2, start, end - start, align)):
         at = offset, 0x1000 + offset, 0x1000 + offset, count, count
-        made += struct.pack("<2I6Q", tag, 4, *at, aligned) if size == 2 else struct.pack("<8I", tag, *at, 4, aligned)
+        made += struct.pack("<2I6Q", tag, 4, *at, aligned) if row.width == 2 else struct.pack("<8I", tag, *at, 4, aligned)
     return made + b"".join(struct.pack("<2" + word, *pair) for pair in table) + strings
 
 
