@@ -108,12 +108,12 @@ is_short {l = l} {spec = spec} h =
 all_small : (fields : List Field) → list_all (λ f. nat_le f.0 8) fields ≡ true → All (λ f. f.0 ≤ 8) fields
 all_small fields h k d l = let fits = AllPass-from_list_all (λ (f : Field). nat_le f.0 8) fields h k d l in grind (arith, nat_tests)
 
-abbrev pub header_of : ℕ → ℕ → ℕ → ℕ → ℕ → ℕ → ℕ → List Field
-header_of w a b c x y z = (2, a) ∷ (2, b) ∷ (4, c) ∷ (w, 0) ∷ (w, x) ∷ (w, 0) ∷ (4, 0) ∷ (2, x) ∷ (2, y) ∷ (2, z) ∷ (2, 0) ∷ (2, 0) ∷ (2, 0) ∷ []
+abbrev pub header_of : ℕ → ℕ → ℕ → ℕ → ℕ → ℕ → ℕ → ℕ → List Field
+header_of w a b c e x y z = (2, a) ∷ (2, b) ∷ (4, c) ∷ (w, 0) ∷ (w, x) ∷ (w, 0) ∷ (4, e) ∷ (2, x) ∷ (2, y) ∷ (2, z) ∷ (2, 0) ∷ (2, 0) ∷ (2, 0) ∷ []
 
-pub small_header : (w a b c x y z : ℕ) → IsWidth w → All (λ (f : Field). f.0 ≤ 8) (header_of w a b c x y z)
-small_header w a b c x y z (inl four) = all_small (header_of w a b c x y z) (rw four refl)
-small_header w a b c x y z (inr eight) = all_small (header_of w a b c x y z) (rw eight refl)
+pub small_header : (w a b c e x y z : ℕ) → IsWidth w → All (λ (f : Field). f.0 ≤ 8) (header_of w a b c e x y z)
+small_header w a b c e x y z (inl four) = all_small (header_of w a b c e x y z) (rw four refl)
+small_header w a b c e x y z (inr eight) = all_small (header_of w a b c e x y z) (rw eight refl)
 
 -- ---- all parts behind what was written
 

@@ -11,7 +11,7 @@ use Rattle.lib_types.specs.Bytes.{field}
 use Rattle.lib_types.proofs.Abis.{bits_small, known_abi, known_class, machine_small}
 use Rattle.elf_headers.specs.declared.kinds.Segment.{Segment}
 use Rattle.elf_headers.specs.Layout.{encoding, is_wide, word_size, at_class, header_length, etype, machine, eflags, phoff, phentsize, phnum, program_header_length, segment_at, segments}
-use Rattle.elf_headers.specs.Header.{Sentence, first_defect, unless_defect, has_magic, has_class, abi, is_loadable, has_bad_headers, header_sentences_of}
+use Rattle.elf_headers.specs.Header.{Sentence, first_defect, unless_defect, has_magic, has_class, abi, abi_in, is_loadable, has_bad_headers, header_sentences_of}
 use Rattle.elf_dynamic.specs.declared.kinds.Dynamic.{Dynamic}
 use Rattle.elf_dynamic.specs.Section.{is_dynamic, dynamic_segment, is_outside, entry_at, dynamic_entries, table_at}
 use Rattle.elf_dynamic.specs.Object.{entries as read_entries, table as read_table, lacks_table, dynamic, dynamic_sentences, object_sentences, as_object, object}
@@ -223,7 +223,7 @@ none_hold w address bytes spec s g = (
         (
           g.full,
           (
-            ap is_none g.abi_is,
+            ap (λ v. is_none (abi_in v bytes)) (sym g.width_is) ∙ ap is_none g.abi_is,
             (
               ap not g.loadable,
               (

@@ -53,8 +53,8 @@ module _ (what new : Analyses) where
     all_same : (places : List Place) → AgreeOn (flat_map (files_in t) places) what new → map (libraries_in new t) places ≡ map (libraries_in what t) places
     all_same [] same = refl
     all_same (place ∷ places) same =
-        let here = same_in place.real (children_of t place.real) (agree_first (files_in t place) (flat_map (files_in t) places) same) in
-        let rest = all_same places (agree_later (files_in t place) (flat_map (files_in t) places) same) in
+        let here = same_in place.real (children_of t place.real) (agree_first what new (files_in t place) (flat_map (files_in t) places) same) in
+        let rest = all_same places (agree_later what new (files_in t place) (flat_map (files_in t) places) same) in
         ap (λ libraries. libraries ∷ map (libraries_in new t) places) here ∙ ap (λ ls. libraries_in what t place ∷ ls) rest
 
 pub libraries_agree : (t : Nodes) (what new : Analyses) (places : List Place) → AgreeOn (wanted t places) what new → map (libraries_in new t) places ≡ map (libraries_in what t) places
