@@ -137,15 +137,20 @@ pub(crate) fn program_line(defect: Defect) -> FaultLine
     }
 }
 
+// Writes digits after a space.
+fn put_spaced<O: Sink>(out: &mut O, digits: &[u8]) -> Result<(), Failed>
+    ensures { TakesAll (O.state out.old) (O.state out.new) (codes " " ++ digits.now) result }
+{
+    put_all(out, b" ")?;
+    put_all(out, digits)
+}
+
 // Writes a number after a space, if there is one.
 fn put_number<O: Sink>(out: &mut O, number: Option<u64>) -> Result<(), Failed>
     ensures { TakesAll (O.state out.old) (O.state out.new) (number_text number) result }
 {
     match number {
-        Some(number) => {
-            put_all(out, b" ")?;
-            put_all(out, itoa::Buffer::new().format(number).as_bytes())
-        }
+        Some(number) => put_spaced(out, itoa::Buffer::new().format(number).as_bytes()),
         None => Ok(()),
     }
 }
