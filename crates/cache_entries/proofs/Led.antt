@@ -33,7 +33,7 @@ use Rattle.cache_entries.proofs.InOneOrder.{one_list_is, sorted_cons}
 use Rattle.cache_entries.proofs.OneEach.{find_first}
 use Rattle.cache_entries.proofs.Single.{IsFoundAt, each_found, tied_same, winner_has, winner_in}
 use Rattle.cache_entries.proofs.Sorts.{same_kept}
-use Rattle.cache_entries.specs.Entries.{AreEntriesOf, cap_of, entries_in, entry_of, entry_order, entry_order-total, flags_in, found, has_no_cap}
+use Rattle.cache_entries.specs.Entries.{AreEntriesOf, cap_of, entries_in, entry_of, entry_order, entry_order-total, flags_in, found, is_capless}
 use Rattle.cache_entries.specs.Led.{LeadAsSearched, is_entry_of, path_among}
 use Rattle.cache_entries.specs.Walk.{first_value, in_turn, is_same_abi, is_same_cap, path_for, path_in, path_with, walk}
 use Rattle.cache_entries.specs.Winner.{links_to_libraries, winners_in}
@@ -94,10 +94,10 @@ module _ (soname : List ℕ) (abi : Abi) (cap : Option (List ℕ)) where
       let flags_y : flags_of y.abi ≡ flags_of abi = same_flags y.abi abi more_y.0 in
       let names = ap (λ s. name_order y.soname s) (soname_x ∙ sym soname_y) ∙ tied_itself name_order-total y.soname in
       let flags = ap (λ n. int_cmp (flags_in y) (pos n)) (flags_x ∙ sym flags_y) ∙ tied_itself int_cmp_total (flags_in y) in
-      let plain = ap (λ (c : Option (List ℕ)). bool_cmp (has_no_cap x) (is_none c)) (cap_y ∙ sym cap_x) ∙ tied_itself bool_cmp_total (has_no_cap x) in
+      let plain = ap (λ (c : Option (List ℕ)). bool_cmp (is_capless x) (is_none c)) (cap_y ∙ sym cap_x) ∙ tied_itself bool_cmp_total (is_capless x) in
       let caps = ap (λ (c : Option (List ℕ)). slice_cmp nat_cmp (cap_of x) (unwrap_or c [])) (cap_y ∙ sym cap_x) ∙ tied_itself nat_list_cmp_total (cap_of x) in
       after_tie (name_order y.soname x.soname) _ names ∙ after_tie (int_cmp (flags_in y) (flags_in x)) _ flags
-      ∙ after_tie (bool_cmp (has_no_cap x) (has_no_cap y)) _ plain ∙ after_tie (slice_cmp nat_cmp (cap_of x) (cap_of y)) _ caps
+      ∙ after_tie (bool_cmp (is_capless x) (is_capless y)) _ plain ∙ after_tie (slice_cmp nat_cmp (cap_of x) (cap_of y)) _ caps
 
 module _ (what : Analyses) (t : Nodes) (soname : List ℕ) (abi : Abi) (cap : Option (List ℕ)) where
   abbrev won : Place → Option Library

@@ -17,7 +17,7 @@ use Rattle.image_tree.specs.Tree.{Nodes}
 use Rattle.place_libraries.proofs.Named.{best_has}
 use Rattle.cache_entries.proofs.Sorts.{one_sorted}
 use Rattle.place_libraries.specs.Best.{best}
-use Rattle.cache_entries.specs.Entries.{AreEntriesOf, cap_of, entries_in, entry_of, entry_order, entry_order-total, flags_in, found, has_no_cap}
+use Rattle.cache_entries.specs.Entries.{AreEntriesOf, cap_of, entries_in, entry_of, entry_order, entry_order-total, flags_in, found, is_capless}
 use Rattle.place_libraries.specs.Libraries.{libraries_in}
 use Rattle.library_files.specs.Places.{by_place}
 use Rattle.file_table.specs.Analyses.{Analyses}
@@ -95,7 +95,7 @@ module _ (what : Analyses) (t : Nodes) where
   tied_same first places x y h k e =
       let names = both_equal (name_order y.soname x.soname) _ e in
       let flags = both_equal (int_cmp (flags_in y) (flags_in x)) _ names.1 in
-      let plain = both_equal (bool_cmp (has_no_cap x) (has_no_cap y)) _ flags.1 in
+      let plain = both_equal (bool_cmp (is_capless x) (is_capless y)) _ flags.1 in
       let caps = both_equal (slice_cmp nat_cmp (cap_of x) (cap_of y)) _ plain.1 in
       let soname : y.soname ≡ x.soname = name_order-exact y.soname x.soname names.0 in
       let number : x.place ≡ y.place = nat_cmp_equal x.place y.place caps.1 in

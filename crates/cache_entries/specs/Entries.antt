@@ -57,8 +57,8 @@ soname_of entry = entry.soname
 abbrev pub flags_in : Entry → ℤ
 flags_in entry = pos (flags_of entry.abi)
 
-abbrev pub has_no_cap : Entry → Bool
-has_no_cap entry = is_none entry.cap
+abbrev pub is_capless : Entry → Bool
+is_capless entry = is_none entry.cap
 
 abbrev pub cap_of : Entry → List ℕ
 cap_of entry = unwrap_or entry.cap []
@@ -70,12 +70,12 @@ place_of entry = entry.place
 abbrev pub entry_order : Entry → Entry → Ordering
 entry_order =
     then_cmp (flip_args (on soname_of name_order)) (then_cmp (flip_args (on flags_in int_cmp))
-    (then_cmp (on has_no_cap bool_cmp) (then_cmp (on cap_of (slice_cmp nat_cmp)) (on place_of nat_cmp))))
+    (then_cmp (on is_capless bool_cmp) (then_cmp (on cap_of (slice_cmp nat_cmp)) (on place_of nat_cmp))))
 
 pub entry_order-total : IsTotalOrder entry_order
 entry_order-total =
     then_total (back_total (on_total soname_of name_order-total)) (then_total (back_total (on_total flags_in int_cmp_total))
-    (then_total (on_total has_no_cap bool_cmp_total) (then_total (on_total cap_of nat_list_cmp_total) (on_total place_of nat_cmp_total))))
+    (then_total (on_total is_capless bool_cmp_total) (then_total (on_total cap_of nat_list_cmp_total) (on_total place_of nat_cmp_total))))
 
 -- ---- their sizes
 
