@@ -292,7 +292,7 @@ good w spec of_abi width h length_is short =
       known = known_class spec.abi;
       little = refl;
       full = not_less (header_length w) (length bytes) size_is;
-      abi_is = ap (λ m. abi_of_elf m (class_of spec.abi) (eflags (width spec) bytes)) heads.machine_is
+      abi_is = ap (λ m. abi_of_elf m (class_of spec.abi) (eflags (word_size (class_of spec.abi == 2)) bytes)) heads.machine_is
           ∙ ap (abi_of_elf (machine_of spec.abi) (class_of spec.abi)) (ap (λ v. eflags v bytes) (sym of_abi) ∙ heads.eflags_is)
           ∙ known_abi spec.abi;
       etype_is = heads.etype_is;
