@@ -28,5 +28,8 @@ fn is_valid(link: &NewLink<'_>) -> bool
 pub fn are_valid(links: &[NewLink<'_>]) -> bool
     ensures { result ≡ are_valid (links_in links.now) }
 {
-    links.iter().all(|link| is_valid(link))
+    match links.split_first() {
+        Some((first, rest)) => is_valid(first) && are_valid(rest),
+        None => true,
+    }
 }
