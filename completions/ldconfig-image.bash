@@ -5,19 +5,23 @@ _ldconfig_image() {
     case $command:$previous in
     ldconfig-image:--abi) words='i386 x86-64 x32 aarch64' ;;
     ldconfig-image:--caps) words='x86-64-v2 x86-64-v3 x86-64-v4' ;;
-    *:--manifest | *:-o) compopt -o filenames; mapfile -t COMPREPLY < <(compgen -f -- "$current"); return ;;
+    *:--manifest | *:-o | *:--aux-cache) compopt -o filenames; mapfile -t COMPREPLY < <(compgen -f -- "$current"); return ;;
+    ldconfig-image:-r) compopt -o filenames; mapfile -t COMPREPLY < <(compgen -d -- "$current"); return ;;
     *:--exclude | *:--tag | *:--platform | *:--library-path) return ;;
     esac
     if [ -z "$words" ]; then
         case $command:$current in
         ldconfig-image:*)
             if [ "$COMP_CWORD" = 1 ]; then
-                words='update batch sample print -p lookup resolve'
+                words='-r update batch sample print -p lookup resolve --help'
             else
                 case ${COMP_WORDS[1]} in
+                -r) words='-N -X -f -C -v --aux-cache -i --check' ;;
                 update | batch) words='--tag' ;;
-                lookup) words='--abi --caps' ;;
-                resolve) words='--caps --library-path --platform --secure' ;;
+                print) words='-r' ;;
+                -p) words='-r -C' ;;
+                lookup) words='--abi --caps -r' ;;
+                resolve) words='--caps --library-path --platform --secure -r' ;;
                 esac
             fi
             ;;

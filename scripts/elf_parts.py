@@ -1,11 +1,14 @@
-"""Finds the parts of a file that a reader of its ELF headers, dynamic section and string table can look at."""
+"""Finds the parts of a file that a reader of its ELF headers, dynamic section and string table can look at, and reads a library's soname there."""
 
 import os
 import struct
 
 # The first part of each file, which is always taken.
 BEGIN = 4096
-PT_LOAD, PT_DYNAMIC, DT_STRTAB, DT_STRSZ = 1, 2, 5, 10
+ET_DYN = 3
+PT_LOAD, PT_DYNAMIC, DT_STRTAB, DT_STRSZ, DT_SONAME = 1, 2, 5, 10, 14
+# The longest soname that is read.
+LONGEST_SONAME = 4096
 # A file with more candidates for its string table is taken whole.
 MOST_TABLES = 64
 # So is a file with a longer dynamic section.
@@ -52,3 +55,27 @@ def looked_at(opened):
         raise ValueError("too many candidates for the string table")
     tables = [start - address + at for start in starts for at, address in loads if address <= start]
     return parts + [(table, table + length) for table in tables]
+
+
+def library_of(opened):
+    """The e_machine and the DT_SONAME (perhaps empty) of an open file that is a shared object; None for another file."""
+    try:
+        begin = os.pread(opened, BEGIN, 0)
+        kind, machine = struct.unpack_from("<HH", begin, 16)
+        layout = LAYOUTS.get(begin[4])
+        if not begin.startswith(b"\x7fELF") or layout is None or begin[5] != 1 or kind != ET_DYN:
+            return None
+        segments, _ = segments_of(opened, layout)
+        at, length = next((at, length) for kind, at, _, length in segments if kind == PT_DYNAMIC)
+        dynamic = {}
+        for tag, value in entries_of(opened, at, length, layout[3]):
+            if tag == 0:
+                break
+            dynamic.setdefault(tag, value)
+        if DT_SONAME not in dynamic:
+            return machine, b""
+        place = dynamic[DT_STRTAB] + dynamic[DT_SONAME]
+        start = next(place - address + at for kind, at, address, length in segments if kind == PT_LOAD and address <= place < address + length)
+        return machine, os.pread(opened, LONGEST_SONAME, start).partition(b"\0")[0]
+    except (OSError, LookupError, OverflowError, StopIteration, ValueError, struct.error):
+        return None

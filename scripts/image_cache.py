@@ -5,7 +5,7 @@ from collections import namedtuple
 
 from image_facts import ABIS, CACHE_MAGIC, EXTENSION_MAGIC
 
-HWCAPS_TAG = 1
+GENERATOR_TAG, HWCAPS_TAG = 0, 1
 # The words that `ldconfig -p` prints for the flags of an ABI.
 KINDS = {abi.flags: abi.words for abi in ABIS.values()}
 
@@ -26,16 +26,30 @@ def text_at(cache, offset):
     return cache[offset:end]
 
 
-def caps_of(cache):
-    """The names of subdirectories for processors, by their indices."""
+def section_of(cache, wanted):
+    """The offset and the size of the first section with this tag; an empty one if there is none."""
     at = struct.unpack_from("<I", cache, 32)[0]
     if not at:
-        return []
+        return 0, 0
     magic, count = struct.unpack_from("<II", cache, at)
     sections = [struct.unpack_from("<IIII", cache, at + 8 + 16 * i) for i in range(count)]
-    found = [(start, size) for tag, _, start, size in sections if tag == HWCAPS_TAG and magic == EXTENSION_MAGIC]
-    start, size = found[0] if found else (0, 0)
+    found = [(start, size) for tag, _, start, size in sections if tag == wanted and magic == EXTENSION_MAGIC]
+    return found[0] if found else (0, 0)
+
+
+def caps_of(cache):
+    """The names of subdirectories for processors, by their indices."""
+    start, size = section_of(cache, HWCAPS_TAG)
     return [text_at(cache, offset) for (offset,) in struct.iter_unpack("<I", cache[start : start + size])]
+
+
+def generator_of(cache):
+    """The text that says which program wrote a cache, or nothing."""
+    try:
+        start, size = section_of(cache, GENERATOR_TAG)
+    except struct.error:
+        return b""
+    return cache[start : start + size]
 
 
 def entries_of(cache):

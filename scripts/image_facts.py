@@ -33,6 +33,8 @@ MOST_DEPTH = 16
 LONGEST_CACHE = MOST_ENTRIES * (24 + 2 * (LONGEST_PATH + 1)) + 2**16
 
 SYSTEM_DIRS = ["/lib", "/usr/lib", "/lib64", "/usr/lib64"]
+# Subdirectories for processors and platforms that ldconfig and the loader knew before glibc 2.37 (docs/DIFFERENCES.md).
+OLDER_CAPS = {"tls", "haswell", "xeon_phi", "avx512_1", "x86_64", "i386", "i486", "i586", "i686", "sse2", "atomics", "aarch64"}
 
 
 def is_unfinished(name):

@@ -6,8 +6,10 @@ docs/DECISIONS.md says why.
 """
 
 import contextlib
+import fcntl
 import os
 import re
+import shutil
 import stat
 import struct
 import subprocess
@@ -19,8 +21,8 @@ from pathlib import Path
 sys.dont_write_bytecode = True
 import mtree_model  # noqa: E402
 from elf_parts import looked_at  # noqa: E402
-from image_facts import LARGEST_CONF, LONGEST_CACHE  # noqa: E402
-from image_search import Conf, Image, Node, components, last, parent, searched  # noqa: E402
+from image_facts import LARGEST_CONF, LONGEST_CACHE, is_library_name  # noqa: E402
+from image_search import Conf, Image, Node, components, join, last, parent, searched  # noqa: E402
 
 HERE = Path(__file__).resolve().parent
 # scripts/install puts a link to the program beside this file. In the repository the program is where `rt` builds it.
@@ -30,13 +32,21 @@ PROGRAM = Path(os.environ.get("LDCONFIG") or (INSTALLED if IS_INSTALLED else BUI
 MANIFEST = HERE / "manifest"
 CACHE, AUX = b"/etc/ld.so.cache", b"/var/cache/ldconfig/aux-cache"
 KINDS = {stat.S_IFLNK: "a symbolic link", stat.S_IFDIR: "a directory", stat.S_IFREG: "a regular file", stat.S_IFIFO: "a pipe"}
+# The kinds of files that a manifest has.
+TREE_KINDS = (stat.S_IFREG, stat.S_IFDIR, stat.S_IFLNK)
 # The number of bytes that are copied at once.
 PIECE = 2**20
+# The keys of the program's own files and their temporary files, and where it finds files of the image that have such a key.
+OWN_KEYS = re.compile(rb"(image\.mtree|etc/ld\.so\.cache|var/cache/ldconfig/aux-cache)(\.tmp.*)?", re.DOTALL)
+APART = ".update-image.apart"
+# The name of a private directory below TMPDIR.
+BEFORE, AFTER = "update-image.", ".private"
 
 HELP_EXCLUDE = "leave out of the tree what the shell pattern matches, with everything below: a path (/usr/share/*) if PATTERN has a slash, else a name"
 HELP_ONE_FILE_SYSTEM = "list each directory of another file system without its content (default: those directly below DIRECTORY)"
-# The program's report, the planned links (targets by paths in the tree), the cache, and the image with its search directories.
-Plan = namedtuple("Plan", "report links cache image places")
+# The program's report, the planned links (targets by paths in the tree), the cache, and the image with its search directories and those of
+# them that its conf files name.
+Plan = namedtuple("Plan", "report links cache image places conf_dirs")
 
 
 class Trouble(Exception):
@@ -56,6 +66,14 @@ def check_outputs():
 def shown(path):
     """A path for messages: the escapes of a manifest let no control byte reach a terminal."""
     return mtree_model.escape(os.fsencode(path)).decode()
+
+
+def for_stream(data, stream):
+    """Lines of the program as a stream gets them: as they are or, on a terminal, with escapes for what isn't printable or isn't UTF-8."""
+    if not stream.isatty():
+        return data
+    characters = data.decode(errors="surrogateescape")
+    return b"".join(b if char == "\n" or char.isprintable() else mtree_model.escape(b) for char in characters for b in [char.encode(errors="surrogateescape")])
 
 
 def kind_of(mode):
@@ -187,6 +205,14 @@ class Manifest:
             self.lines = set(mtree_model.canonical(self.tree).split(b"\n"))
             self.nodes = {b"/" + b"/".join(path): Node(*node) for path, node in self.tree.items()}
 
+    def for_program(self, moved, blocked):
+        """The manifest that the program reads: with other keys in place of some, and a directory at each of the paths `blocked`."""
+        if not moved and not blocked:
+            return self
+        tree = mtree_model.read(self.text) | {tuple(components(path)): mtree_model.Node("dir") for path in blocked}
+        tree |= {path: node._replace(text=moved[node.text]) for path, node in tree.items() if node.kind == "file" and node.text in moved}
+        return Manifest(mtree_model.canonical(dict(sorted(tree.items()))), is_ours=False)
+
     def links_added(self, text):
         """The links that a canonical text has and this one lacks: their targets by their paths."""
         if text == self.text:
@@ -205,11 +231,16 @@ class Copies:
 
     def __init__(self, folder, work):
         self.folder, self.work, self.made = folder, Path(work), set()
+        # The new keys of files whose keys are those of the program's own files, by their old keys.
+        self.moved = {}
 
     def copy(self, key, parts_of):
         """Copies these parts of a file, and returns the place of the copy."""
         names = components(key)
-        place, path = self.work / os.fsdecode(b"/".join(names)), b"/" + b"/".join(names)
+        path = b"/" + b"/".join(names)
+        if OWN_KEYS.fullmatch(path[1:]):
+            self.moved[key] = APART.encode() + path
+        place = self.work / os.fsdecode(self.moved.get(key, path[1:]))
         # The program rejects a key with `..`.
         if b".." in names or (key, parts_of) in self.made:
             return place
@@ -253,6 +284,48 @@ def private(work):
         raise Trouble(f"{shown(work)}, a private directory (TMPDIR says where): {error.strerror}") from error
 
 
+@contextlib.contextmanager
+def private_directory():
+    """A directory of this run below TMPDIR, on which it holds a lock. Those of killed runs are removed first: no process locks them."""
+    with private(tempfile.gettempdir()), contextlib.ExitStack() as stack:
+        for name in os.listdir(tempfile.gettempdir()):
+            if re.fullmatch(re.escape(BEFORE) + "[a-z0-9_]{8}" + re.escape(AFTER), name):
+                remove_unlocked(os.path.join(tempfile.gettempdir(), name))
+        work = None
+        # A directory that isn't locked yet may be removed by another run.
+        while work is None or not is_locked(work, stack):
+            work = stack.enter_context(tempfile.TemporaryDirectory(prefix=BEFORE, suffix=AFTER, ignore_cleanup_errors=True))
+        yield work
+
+
+def is_locked(work, stack):
+    """Locks a new directory until the stack is closed. Says whether it is still there. Where there are no locks, nobody removes it."""
+    try:
+        opened = os.open(work, os.O_RDONLY | os.O_DIRECTORY)
+    except FileNotFoundError:
+        return False
+    stack.callback(os.close, opened)
+    try:
+        fcntl.flock(opened, fcntl.LOCK_EX | fcntl.LOCK_NB)
+    except BlockingIOError:
+        return False
+    except OSError:
+        pass
+    return os.path.isdir(work)
+
+
+def remove_unlocked(work):
+    """Removes a private directory of this user, unless a process holds a lock on it or it can't be locked."""
+    with contextlib.suppress(OSError):
+        opened = os.open(work, os.O_RDONLY | os.O_DIRECTORY | os.O_NOFOLLOW)
+        try:
+            fcntl.flock(opened, fcntl.LOCK_EX | fcntl.LOCK_NB)
+            if os.fstat(opened).st_uid == os.geteuid():
+                shutil.rmtree(work, ignore_errors=True)
+        finally:
+            os.close(opened)
+
+
 def copy_parts(source, copy, parts):
     """Copies parts of an open file to their places in another one of the same length, in which the rest is a hole."""
     size = os.fstat(source).st_size
@@ -272,14 +345,27 @@ def next_data(opened, at):
 
 
 def copy_looked_at(image, folder, work):
-    """Copies what an update of this image looks at, and returns the search directories."""
+    """Copies what an update of this image looks at. Returns the search directories, and what the conf files name."""
     image.contents = copies = Copies(folder, work)
-    places, _ = searched(image, Conf(image).dirs)
+    conf_dirs = Conf(image).dirs
+    places, _ = searched(image, conf_dirs)
     for place in sorted({place.real for place in places}):
         linked = [file for link in image.named(place, "link") if (file := image.file(link))]
         for file in image.named(place, "file") + linked:
             copies.library(image.nodes[file].text)
-    return places
+    return places, conf_dirs
+
+
+def special_files(image, folder, places):
+    """The paths in the search directories at which a pipe, a socket or a device has a library name."""
+    found = []
+    for place in sorted({place.real for place in places}):
+        # What isn't as the manifest says is reported when a link is made there.
+        with contextlib.suppress(OSError, Trouble):
+            names = map(os.fsencode, os.listdir(folder.directory(place)))
+            unlisted = [path for name in names if is_library_name(name) and image.kind(path := join(place, name)) is None]
+            found += [path for path in unlisted if mtree_model.is_utf8(path) and stat.S_IFMT(folder.mode_at(path)) not in (0, *TREE_KINDS)]
+    return found
 
 
 def run_program(work, command="update"):
@@ -288,9 +374,9 @@ def run_program(work, command="update"):
         ran = subprocess.run([PROGRAM, command], cwd=work, stdin=subprocess.DEVNULL, capture_output=True)
     except OSError as error:
         raise Trouble(f"{PROGRAM}: {error.strerror}" + ("" if IS_INSTALLED else "; scripts/first-run makes it")) from error
-    sys.stderr.write(ran.stderr.decode(errors="replace"))
+    sys.stderr.write(for_stream(ran.stderr, sys.stderr).decode(errors="replace"))
     if ran.returncode:
-        sys.stdout.write(ran.stdout.decode(errors="replace"))
+        sys.stdout.write(for_stream(ran.stdout, sys.stdout).decode(errors="replace"))
         # A status below 0 is that of a program that was stopped.
         raise Trouble(f"the program ended with status {ran.returncode}; nothing was changed", max(ran.returncode, 1))
     return ran.stdout
@@ -299,10 +385,12 @@ def run_program(work, command="update"):
 def plan_of(folder, manifest):
     """The plan of an update of a directory with this manifest."""
     image = Image(manifest.nodes, {})
-    with private(tempfile.gettempdir()), tempfile.TemporaryDirectory(prefix="update-image.") as work:
-        places = copy_looked_at(image, folder, work)
+    with private_directory() as work:
+        places, conf_dirs = copy_looked_at(image, folder, work)
+        # A manifest has no special files, and a link can't take their place either.
+        manifest = manifest.for_program(image.contents.moved, special_files(image, folder, places))
         (Path(work) / "image.mtree").write_bytes(manifest.text)
         report = run_program(work)
         links = manifest.links_added((Path(work) / "image.mtree").read_bytes())
         cache = (Path(work) / CACHE.decode()[1:]).read_bytes()
-    return Plan(report, links, cache, image, places)
+    return Plan(report, links, cache, image, places, conf_dirs)

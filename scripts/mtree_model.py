@@ -394,4 +394,7 @@ def self_check():
 
 
 if __name__ == "__main__":
+    if sys.argv[1:] in (["--help"], ["-h"]):
+        print(__doc__.strip())
+        sys.exit(0)
     sys.exit(0 if self_check() else 1)

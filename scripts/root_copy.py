@@ -6,18 +6,15 @@ except for glibc-hwcaps and the older subdirectories for processors. Files are h
 """
 
 import fnmatch
-import mmap
 import os
 import shutil
 import stat
-import struct
 
-from image_facts import MOST_LINKS, SYSTEM_DIRS, is_like_library
+from elf_parts import library_of
+from image_facts import MOST_LINKS, OLDER_CAPS, SYSTEM_DIRS, is_like_library
 
 # Debian's ldconfig has these too.
 DEBIAN_DIRS = ["/lib/*-linux-gnu*", "/usr/lib/*-linux-gnu*"]
-# Subdirectories for processors and platforms that ldconfig and the loader knew before glibc 2.37.
-OLDER_CAPS = {"tls", "haswell", "xeon_phi", "avx512_1", "x86_64", "i386", "i486", "i586", "i686", "sse2", "atomics", "aarch64"}
 
 
 def mode_at(root, place):
@@ -147,20 +144,7 @@ def library_in(path):
     """The e_machine and the DT_SONAME (perhaps empty) of a shared object; None for another file."""
     try:
         with open(path, "rb") as file:
-            data = mmap.mmap(file.fileno(), 0, prot=mmap.PROT_READ)
-        wide, order, etype, machine = struct.unpack_from("<4xBB10xHH", data)
-        if data[:4] != b"\x7fELF" or order != 1 or etype != 3:
-            return None
-        table, size, count = struct.unpack_from("<32xQ14xHH" if wide == 2 else "<28xI10xHH", data)
-        header = "<I4xQQ8xQ" if wide == 2 else "<III4xI"
-        segments = [struct.unpack_from(header, data, table + size * i) for i in range(count)]
-        start, length = [(at, length) for kind, at, _, length in segments if kind == 2][0]
-        entries = list(struct.iter_unpack("<QQ" if wide == 2 else "<II", data[start : start + length]))
-        dynamic = dict(reversed(entries[: entries.index((0, 0)) if (0, 0) in entries else None]))
-        if 14 not in dynamic:
-            return machine, ""
-        place = dynamic[5] + dynamic[14]
-        start = [place - address + at for kind, at, address, length in segments if kind == 1 and address <= place < address + length][0]
-        return machine, os.fsdecode(data[start : data.find(b"\0", start)])
-    except (OSError, LookupError, ValueError, struct.error):
+            library = library_of(file.fileno())
+    except OSError:
         return None
+    return library and (library[0], os.fsdecode(library[1]))

@@ -250,6 +250,8 @@ class Traced:
             call.path, call.other = self.whole(given[0], self.text(given[1])), self.whole(given[2], self.text(given[3]))
         elif name == "symlinkat":
             call.path, call.other = self.text(given[0]), self.whole(given[1], self.text(given[2]))
+        elif name == "symlink":
+            call.path, call.other = self.text(given[0]), self.whole(AT_FOLDER, self.text(given[1]))
         elif name in ALONE:
             call.path = self.whole(AT_FOLDER, self.text(given[0]))
             if name in ("rename", "link"):

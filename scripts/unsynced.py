@@ -17,7 +17,9 @@ LOOKS = {
     "read", "close", "stat", "fstat", "lstat", "lseek", "pread64", "flock", "fchmod", "fchown", "chmod", "getdents64", "newfstatat",
     "statx", "access", "faccessat2", "readlink", "fchmodat", "mmap",
 }  # fmt: skip
-CHANGES = {"open", "openat", "write", "pwrite64", "ftruncate", "fsync", "fdatasync", "rename", "mkdir", "unlink"}
+CHANGES = {"open", "openat", "write", "pwrite64", "ftruncate", "fsync", "fdatasync", "rename", "mkdir", "unlink", "symlink"}
+# What comes before the target in the content of a link. No file of `scripts/crash` has these bytes.
+LINK = b"-> "
 
 
 class Unknown(Exception):
@@ -72,6 +74,14 @@ class Change:
             names_of(self.come[0])[self.come[1]] = self.node
 
 
+def content_of(path):
+    """The bytes of a file, or the target of a link after LINK."""
+    if os.path.islink(path):
+        return LINK + os.fsencode(os.readlink(path))
+    with open(path, "rb") as file:
+        return file.read()
+
+
 class Record:
     """The directory as its calls have changed it so far."""
 
@@ -84,15 +94,14 @@ class Record:
 
     def taken_in(self, path):
         """What is there before the first call, which is flushed."""
-        if os.path.isdir(path):
+        if os.path.isdir(path) and not os.path.islink(path):
             node = Folder()
             for name in os.listdir(path):
                 node.flushed[name] = self.taken_in(f"{path}/{name}")
             node.now = dict(node.flushed)
         else:
-            with open(path, "rb") as content:
-                node = File(content.read())
-        self.nodes[os.stat(path).st_ino] = node
+            node = File(content_of(path))
+        self.nodes[os.lstat(path).st_ino] = node
         return node
 
     def is_below(self, path):
@@ -166,6 +175,9 @@ class Record:
 
     def note_mkdir(self, call):
         self.change((), self.place(call.path), Folder())
+
+    def note_symlink(self, call):
+        self.change((), self.place(call.other), File(LINK + os.fsencode(call.path)))
 
     def note_unlink(self, call):
         self.change(self.place(call.path), (), None)

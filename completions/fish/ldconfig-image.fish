@@ -1,5 +1,16 @@
 # fish completion for ldconfig-image
 complete -c ldconfig-image -f
+complete -c ldconfig-image -n __fish_use_subcommand -s r -x -a '(__fish_complete_directories)' -d 'Update the image in a directory'
+complete -c ldconfig-image -n '__fish_contains_opt -s r' -s N -d 'Make no cache'
+complete -c ldconfig-image -n '__fish_contains_opt -s r; or __fish_contains_opt -s p' -s C -r -F -d 'Path of the cache'
+complete -c ldconfig-image -n '__fish_seen_subcommand_from print lookup resolve; or __fish_contains_opt -s p' -s r -x -a '(__fish_complete_directories)' -d 'Ask the cache of a directory'
+complete -c ldconfig-image -n '__fish_contains_opt -s r' -s f -x -d 'Path of the conf file in the image'
+complete -c ldconfig-image -n '__fish_contains_opt -s r' -s v -d 'List directories and libraries'
+complete -c ldconfig-image -n '__fish_contains_opt -s r' -l aux-cache -r -F -d 'File that keeps what libraries are'
+complete -c ldconfig-image -n '__fish_contains_opt -s r' -s i -d 'Do not read that file'
+complete -c ldconfig-image -n '__fish_contains_opt -s r' -l check -d 'List what would change'
+complete -c ldconfig-image -n '__fish_use_subcommand' -l help -d 'Print the usage text'
+complete -c ldconfig-image -n '__fish_contains_opt -s r' -s X -d 'Make no links'
 complete -c ldconfig-image -n __fish_use_subcommand -a update -d 'Plan links and write the cache'
 complete -c ldconfig-image -n __fish_use_subcommand -a batch -d 'Take edits and updates from the input'
 complete -c ldconfig-image -n __fish_use_subcommand -a sample -d 'Update synthetic images in memory'

@@ -10,6 +10,8 @@ use Rattle.cache_reader.specs.Cache.{CachedEntry}
 use Rattle.cache_reader.specs.declared.defect.CacheDefect.{CacheDefect}
 use Rattle.commands.specs.declared.kinds.Resolve.{Resolve}
 use Rattle.lib_types.specs.declared.analysis.Defect.{Defect}
+use Rattle.rpath_search.specs.declared.kinds.SystemDirs.{SystemDirs}
+use Rattle.rpath_search.specs.declared.kinds.SystemDirs.TheVariants as systems
 use Rattle.image_tree.specs.Tree.{Nodes}
 use Rattle.ldd_resolve.specs.Resolving.{BeginsBy, BeginsFor, IfBadProgram, IsBadProgram, IsNoProgram, ReadsListing, object_at, program_at, record_of, resolve_ending}
 use Rattle.ldd_resolve.specs.declared.kinds.Item.{Item}
@@ -35,7 +37,7 @@ use Rattle.command_status.specs.declared.status.Status.TheVariants.{Done, Missin
 use Rattle.asking_runs.specs.AskCache.{CacheAnswer, answer_of}
 use Rattle.asking_runs.specs.Complete.{Completes, NoFault}
 use Rattle.asking_runs.specs.Faults.{of_cache, of_list}
-use Rattle.asking_runs.specs.Resolve.{AnswersImage, CompletesListing, HasListing, IsAnswerable, ListsProgram, ListsWith, cache_of, env_of, is_whole, list_answer}
+use Rattle.asking_runs.specs.Resolve.{AnswersImage, CompletesListing, HasListing, IsAnswerable, ListsImage, ListsProgram, ListsWith, cache_of, env_of, is_whole, list_answer}
 use Rattle.asking_runs.specs.declared.fault.CacheFault.{CacheFault}
 use Rattle.asking_runs.specs.declared.fault.ListFault.{ListFault}
 
@@ -43,7 +45,7 @@ if_ok : {A E : Type 0} (r : Result A E) (P : A → Type 0) → ((a : A) → P a)
 if_ok (Ok a) P f = f a
 if_ok (Err e) P f = tt
 
-failed : (before after : ℕ) → (HasRisen before after → ⊥) → HasRisen before after ⊎ ⊥ → ⊥
+pub failed : (before after : ℕ) → (HasRisen before after → ⊥) → HasRisen before after ⊎ ⊥ → ⊥
 failed before after none (inl risen) = none risen
 failed before after none (inr lacks) = lacks
 
@@ -99,16 +101,16 @@ module _ (old new : DeviceStates) (status : Status) where
     lacking before after keys holds none (inl risen) = none risen
     lacking before after keys holds none (inr lacks) = true≢false (sym lacks ∙ holds)
 
-    module _ (tree : Nodes) (cache : Option (List CachedEntry)) (is : HasListing asked tree cache held) (none : NoFault old new) where
-      fails : ReadsListing (Some held) tree cache asked.path (env_of asked) DeviceFailed old.store new.store → ⊥
+    module _ (system : SystemDirs) (tree : Nodes) (cache : Option (List CachedEntry)) (is : HasListing system asked tree cache held) (none : NoFault old new) where
+      fails : ReadsListing (Some held) tree cache asked.path (env_of system asked) DeviceFailed old.store new.store → ⊥
       fails reads =
-          let of_file = subst (λ (file : Option (List ℕ)). BeginsFor tree cache asked.path (env_of asked) held file DeviceFailed old.store new.store) is.file reads in
-          let of_object = subst (λ (o : Option (Result Object Defect)). BeginsBy o (record_of tree cache asked.path (env_of asked) held is.real) (file_keys tree (is.real ∷ [])) held DeviceFailed old.store new.store) is.says of_file in
+          let of_file = subst (λ (file : Option (List ℕ)). BeginsFor tree cache asked.path (env_of system asked) held file DeviceFailed old.store new.store) is.file reads in
+          let of_object = subst (λ (o : Option (Result Object Defect)). BeginsBy o (record_of tree cache asked.path (env_of system asked) held is.real) (file_keys tree (is.real ∷ [])) held DeviceFailed old.store new.store) is.says of_file in
           lacking _ _ _ (is.holds of_object.requests) none.store of_object.reads.cause
 
       by_listing : (listing : Result (List Item) ResolveFault) → IsNoProgram (program_at tree asked.path) listing
           → IfBadProgram listing (λ d. IfKnown (Some held) (λ held. IsBadProgram held tree asked.path d))
-          → ReadsListing (Some held) tree cache asked.path (env_of asked) (resolve_ending listing) old.store new.store → EndsBy (list_answer listing) → Ends
+          → ReadsListing (Some held) tree cache asked.path (env_of system asked) (resolve_ending listing) old.store new.store → EndsBy (list_answer listing) → Ends
       by_listing (Ok items) no_program bad_program reads ends = by_missing (not (is_whole items)) (ended _ ends none)
       by_listing (Err resolving.NoProgram) no_program bad_program reads ends = absurd (nothing (no_program.only refl) is.file)
         where
@@ -118,11 +120,19 @@ module _ (old new : DeviceStates) (status : Status) where
       by_listing (Err resolving.StoreFault) no_program bad_program reads ends = absurd (fails reads)
       by_listing (Err resolving.NoMemory) no_program bad_program reads ends = inr ends.0
 
-      by_lists : (answer : Result AnswerText ListFault) → old.store.held ≡ Some held → ListsProgram asked.path (env_of asked) tree cache answer old.store new.store → EndsBy answer → Ends
+      by_lists : (answer : Result AnswerText ListFault) → old.store.held ≡ Some held → ListsProgram asked.path (env_of system asked) tree cache answer old.store new.store → EndsBy answer → Ends
       by_lists answer known lists ends = by_listing lists.listing lists.no_program
           (subst (λ (h : Option Contents). IfBadProgram lists.listing (λ d. IfKnown h (λ held. IsBadProgram held tree asked.path d))) known lists.bad_program)
-          (subst (λ (h : Option Contents). ReadsListing h tree cache asked.path (env_of asked) (resolve_ending lists.listing) old.store new.store) known lists.reads)
+          (subst (λ (h : Option Contents). ReadsListing h tree cache asked.path (env_of system asked) (resolve_ending lists.listing) old.store new.store) known lists.reads)
           (subst EndsBy lists.answer_is ends)
+
+      -- an image of this tree and cache was read
+      pub by_image : (image : ReadImage) (answer : Result AnswerText ListFault) → old.store.held ≡ Some held → image.tree ≡ tree → cache_of image.cache ≡ Ok cache
+          → ListsImage system asked image answer old.store new.store → EndsBy answer → Ends
+      by_image image answer known same entries lists ends =
+          let by_tree = subst (λ (t : Nodes). ListsWith asked.path (env_of system asked) t (cache_of image.cache) answer old.store new.store) same lists in
+          let by_cache = subst (λ (c : Result (Option (List CachedEntry)) CacheDefect). ListsWith asked.path (env_of system asked) tree c answer old.store new.store) entries by_tree in
+          by_lists answer known by_cache ends
 
     abbrev tree_or : Nodes → Manifest → Nodes
     tree_or other (HasTree tree) = tree
@@ -135,19 +145,17 @@ module _ (old new : DeviceStates) (status : Status) where
     has_tree Empty = false
 
     module _ (content : DiskContent) (right : IsAnswerable asked held content.now) (none : NoFault old new) (known : old.store.held ≡ Some held) where
-      by_image : (image : ReadImage) (answer : Result AnswerText ListFault) → manifest_of content.now.manifest ≡ HasTree image.tree → content.now.cache ≡ image.cache
-          → ListsWith asked.path (env_of asked) image.tree (cache_of image.cache) answer old.store new.store → EndsBy answer → Ends
-      by_image image answer tree cache lists ends =
+      of_manifest : (image : ReadImage) (answer : Result AnswerText ListFault) → manifest_of content.now.manifest ≡ HasTree image.tree → content.now.cache ≡ image.cache
+          → ListsImage systems.Loader asked image answer old.store new.store → EndsBy answer → Ends
+      of_manifest image answer tree cache lists ends =
           let same : image.tree ≡ right.tree = ap (tree_or image.tree) (sym tree ∙ right.manifest) in
           let entries : cache_of image.cache ≡ Ok right.entries = sym (ap cache_of cache) ∙ right.cache in
-          let by_tree = subst (λ (t : Nodes). ListsWith asked.path (env_of asked) t (cache_of image.cache) answer old.store new.store) same lists in
-          let by_cache = subst (λ (c : Result (Option (List CachedEntry)) CacheDefect). ListsWith asked.path (env_of asked) right.tree c answer old.store new.store) entries by_tree in
-          by_lists right.tree right.entries right.listing none answer known by_cache ends
+          by_image systems.Loader right.tree right.entries right.listing none image answer known same entries lists ends
 
       by_read : (read : Result ReadImage LoadFault) (answer : Result AnswerText ListFault) → old.disk.contents ≡ Some content → ReadsImage sources.Manifest read old.disk new.disk
           → AnswersImage asked read answer old.store new.store → EndsBy answer → Ends
       by_read (Ok image) answer there reads answers ends =
-          by_image image answer (subst (λ (c : Option DiskContent). IfKnown c (λ k. manifest_of k.now.manifest ≡ HasTree image.tree)) there reads.tree)
+          of_manifest image answer (subst (λ (c : Option DiskContent). IfKnown c (λ k. manifest_of k.now.manifest ≡ HasTree image.tree)) there reads.tree)
           (subst (λ (c : Option DiskContent). IfKnown c (λ k. k.now.cache ≡ image.cache)) there reads.cache) answers ends
       by_read (Err (loading.DiskFailed slot)) answer there reads answers ends = absurd (failed _ _ none.disk reads.reads.cause)
       by_read (Err loading.NoManifest) answer there reads answers ends =

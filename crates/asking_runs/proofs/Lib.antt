@@ -1,3 +1,3 @@
 mod Asking
-mod Completing
+pub mod Completing
 mod FirstRise

@@ -10,21 +10,25 @@ use Rattle.asking_runs.specs.AskCache.{AsksCache}
 use Rattle.asking_runs.specs.declared.fault.CacheFault.{CacheFault}
 use Rattle.asking_runs.specs.declared.fault.CacheFault.TheVariants.{BadCache}
 
--- the name of the cache on the first line
+-- the name of the cache on the first line, if no other one is given
 abbrev pub cache_name : List ℕ
 cache_name = codes "/etc/ld.so.cache"
 
--- the entries as text
-abbrev pub printed_answer : List ℕ → AnswerText
-printed_answer bytes = record { text = printed bytes cache_name; missing = false }
+-- the entries as text, after a line with this name of the cache
+abbrev pub printed_answer : List ℕ → List ℕ → AnswerText
+printed_answer name bytes = record { text = printed bytes name; missing = false }
 
-abbrev pub print_by : List ℕ → Option CacheDefect → Result AnswerText CacheFault
-print_by bytes (Some d) = Err (BadCache d)
-print_by bytes None = Ok (printed_answer bytes)
+abbrev pub print_by : List ℕ → List ℕ → Option CacheDefect → Result AnswerText CacheFault
+print_by name bytes (Some d) = Err (BadCache d)
+print_by name bytes None = Ok (printed_answer name bytes)
 
 -- the answer of a cache's bytes
-abbrev pub print_answer : List ℕ → Result AnswerText CacheFault
-print_answer bytes = print_by bytes (defect bytes)
+abbrev pub print_answer : List ℕ → List ℕ → Result AnswerText CacheFault
+print_answer name bytes = print_by name bytes (defect bytes)
+
+-- the cache is printed by this name
+abbrev pub PrintsNamed : List ℕ → DeviceStates → DeviceStates → Status → Type 0
+PrintsNamed name old new status = AsksCache (print_answer name) old new status
 
 abbrev pub PrintRun : DeviceStates → DeviceStates → Status → Type 0
-PrintRun old new status = AsksCache print_answer old new status
+PrintRun old new status = PrintsNamed cache_name old new status

@@ -8,6 +8,8 @@ use Rattle.commands.specs.declared.kinds.Resolve.{Resolve}
 use Rattle.commands.specs.Devices.{DeviceStates, IfBothKnown}
 use Rattle.elf_dynamic.specs.Begun.{lacks_one}
 use Rattle.elf_dynamic.specs.declared.kinds.Object.{Object}
+use Rattle.rpath_search.specs.declared.kinds.SystemDirs.{SystemDirs}
+use Rattle.rpath_search.specs.declared.kinds.SystemDirs.TheVariants as systems
 use Rattle.ldd_resolve.specs.Printed.{listing_text}
 use Rattle.ldd_resolve.specs.Resolving.{IfBadProgram, IsBadProgram, IsListing, IsNoProgram, ReadsListing, object_at, program_at, record_of, resolve_ending}
 use Rattle.ldd_resolve.specs.declared.kinds.Item.{Item}
@@ -36,8 +38,15 @@ use Rattle.asking_runs.specs.declared.resolve.Listed.{Listed}
 -- ---- the answer
 
 -- The ABI is that of the program: the listing doesn't depend on the one in here.
-abbrev pub env_of : Resolve → Env
-env_of asked = record { abi = X86_64; caps = asked.caps; library_path = asked.library_path; platform = asked.platform; secure = asked.secure }
+abbrev pub env_of : SystemDirs → Resolve → Env
+env_of system asked = record {
+  abi = X86_64;
+  caps = asked.caps;
+  library_path = asked.library_path;
+  platform = asked.platform;
+  secure = asked.secure;
+  system = system;
+}
 
 -- each needed name has a path
 abbrev pub is_whole : List Item → Bool
@@ -68,19 +77,23 @@ abbrev pub ListsWith : List ℕ → Env → Nodes → Result (Option (List Cache
 ListsWith path env tree (Err d) answer old new = (answer ≡ Err (faults.BadCache d)) × (new ≡ old)
 ListsWith path env tree (Ok cache) answer old new = ListsProgram path env tree cache answer old new
 
+-- the same of what was read of an image
+abbrev pub ListsImage : SystemDirs → Resolve → ReadImage → Result AnswerText ListFault → StoreState → StoreState → Type 0
+ListsImage system asked image answer old new = ListsWith asked.path (env_of system asked) image.tree (cache_of image.cache) answer old new
+
 abbrev pub AnswersImage : Resolve → Result ReadImage LoadFault → Result AnswerText ListFault → StoreState → StoreState → Type 0
 AnswersImage asked (Err fault) answer old new = (answer ≡ Err (faults.Image fault)) × (new ≡ old)
-AnswersImage asked (Ok image) answer old new = ListsWith asked.path (env_of asked) image.tree (cache_of image.cache) answer old new
+AnswersImage asked (Ok image) answer old new = ListsImage systems.Loader asked image answer old new
 
 -- ---- completeness
 
 -- the program has an object, and each key that its listing begins is held
-pub record HasListing (asked : Resolve) (tree : Nodes) (cache : Option (List CachedEntry)) (held : Contents) : Type 0 where
+pub record HasListing (system : SystemDirs) (asked : Resolve) (tree : Nodes) (cache : Option (List CachedEntry)) (held : Contents) : Type 0 where
   pub real : List ℕ
   pub file : program_at tree asked.path ≡ Some real
   pub object : Object
   pub says : object_at held tree real ≡ Some (Ok object)
-  pub holds : (requests : ℕ) → lacks_one held (record_of tree cache asked.path (env_of asked) held real object requests).keys ≡ false
+  pub holds : (requests : ℕ) → lacks_one held (record_of tree cache asked.path (env_of system asked) held real object requests).keys ≡ false
 
 -- the manifest has a tree, the cache is in order if there is one, and the program has a listing
 pub record IsAnswerable (asked : Resolve) (held : Contents) (slots : Slots) : Type 0 where
@@ -88,7 +101,7 @@ pub record IsAnswerable (asked : Resolve) (held : Contents) (slots : Slots) : Ty
   pub manifest : manifest_of slots.manifest ≡ HasTree tree
   pub entries : Option (List CachedEntry)
   pub cache : cache_of slots.cache ≡ Ok entries
-  pub listing : HasListing asked tree entries held
+  pub listing : HasListing systems.Loader asked tree entries held
 
 abbrev pub CompletesListing : Resolve → Contents → Slots → DeviceStates → DeviceStates → Status → Type 0
 CompletesListing asked held slots old new status =

@@ -25,7 +25,7 @@ pub(crate) enum CacheFault {
 
 /// Why a program isn't listed.
 #[derive(Clone, Copy, Debug, PartialEq, Eq)]
-pub(crate) enum ListFault {
+pub enum ListFault {
     /// The image isn't read.
     Image(LoadFault),
     /// The first defect of the cache.

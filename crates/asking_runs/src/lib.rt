@@ -7,6 +7,7 @@ mod lookup;
 mod print;
 mod resolve;
 
+pub use fault::ListFault;
 pub use lookup::run_lookup;
-pub use print::run_print;
-pub use resolve::run_resolve;
+pub use print::{run_print, run_print_named};
+pub use resolve::{Listed, list_image, run_resolve};

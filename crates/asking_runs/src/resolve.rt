@@ -3,7 +3,7 @@ ghost use Rattle.std.specs.Prelude.{◌≡◌};
 ghost use Rattle.std.specs.Option.{option_copied};
 ghost use Rattle.commands.specs.Devices.{states};
 ghost use Rattle.tree_face.specs.Stream.{SourceState};
-ghost use Rattle.asking_runs.specs.Resolve.{AnswersImage, ListsProgram, ListsWith, ResolveRun, cache_of, env_of, is_whole, listed_answer};
+ghost use Rattle.asking_runs.specs.Resolve.{AnswersImage, ListsImage, ListsProgram, ListsWith, ResolveRun, cache_of, env_of, is_whole, listed_answer};
 
 use crate::cache::sorted_cache;
 use crate::fault::ListFault;
@@ -13,7 +13,7 @@ use commands::Resolve;
 use image_session::{LoadFault, ReadImage, TreeSource, read_image};
 use ldd_resolve::{Listing, listing_text};
 use lib_types::{Abi, Failed, Text};
-use rpath_search::Env;
+use rpath_search::{Env, SystemDirs};
 use std::alloc::Global;
 use tree_face::{Disk, Sink, Store, Tree, put_all};
 
@@ -24,10 +24,11 @@ struct Program {
     env: Env,
 }
 
-// A listing.
+/// A listing.
 #[derive(Drop)]
-pub(crate) struct Listed {
+pub struct Listed {
     pub text: Vec<u8>,
+    /// Whether each needed name has a path.
     pub is_whole: bool,
 }
 
@@ -46,9 +47,9 @@ impl Answer for Listed {
 }
 
 // What the loader is given.
-fn program_of(asked: Resolve) -> Program
+fn program_of(asked: Resolve, system: SystemDirs) -> Program
     ensures path { result.path ≡ asked.path }
-    ensures env { result.env ≡ env_of asked }
+    ensures env { result.env ≡ env_of system asked }
 {
     let Resolve {
         path,
@@ -63,6 +64,7 @@ fn program_of(asked: Resolve) -> Program
         library_path,
         platform,
         secure,
+        system,
     };
     Program { path, env }
 }
@@ -115,6 +117,20 @@ fn list_in<S: Store>(
     list(alloc, program, &image.tree, Some(&cache), store)
 }
 
+/// The listing of a program of an image that was read.
+pub fn list_image<S: Store>(
+    alloc: Global,
+    asked: Resolve,
+    system: SystemDirs,
+    image: &ReadImage,
+    store: &mut S,
+) -> Result<Listed, ListFault>
+    ensures { ListsImage system asked image.now (listed_answer result) (S.state store.old) (S.state store.new) }
+{
+    let program = program_of(asked, system);
+    list_in(alloc, &program, image, store)
+}
+
 // The answer of what was read of an image.
 fn resolve<S: Store>(
     alloc: Global,
@@ -124,9 +140,8 @@ fn resolve<S: Store>(
 ) -> Result<Listed, ListFault>
     ensures { AnswersImage asked read.now (listed_answer result) (S.state store.old) (S.state store.new) }
 {
-    let program = program_of(asked);
     match read {
-        Ok(image) => list_in(alloc, &program, image, store),
+        Ok(image) => list_image(alloc, asked, SystemDirs::Loader, image, store),
         Err(fault) => Err(ListFault::Image(*fault)),
     }
 }

@@ -120,7 +120,7 @@ fn is_read(
         said.say(b"other stamps", b"")?;
         return Ok(false);
     }
-    let is_other = has_line(row, b"other");
+    let is_other = has_line(row, b"other-writer");
     Ok((got.written.as_slice() == file) != is_other)
 }
 
@@ -128,7 +128,7 @@ const WORDS: &[Words] = &[&[
     b"hex",
     b"stamp",
     b"no-stamp",
-    b"other",
+    b"other-writer",
     b"damaged",
     b"bad",
     b"good",

@@ -7,7 +7,7 @@ ghost use Rattle.lib_types.specs.Bytes.{field};
 mod limits;
 
 use byteorder::{ByteOrder, LittleEndian};
-pub use limits::ENTRIES_MAX;
+pub use limits::{ENTRIES_MAX, STRINGS_LIMIT};
 
 /// The magic and the version that a cache begins with.
 pub const MAGIC: &[u8] = b"glibc-ld.so.cache1.1";

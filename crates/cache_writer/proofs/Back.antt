@@ -4,7 +4,7 @@ use Rattle.std.proofs.lemmas.List.{length-replicate}
 use Rattle.std.proofs.lemmas.List.Sums.{prefix_len-le-length}
 use Rattle.std.specs.List.{All, list_any, position_or_len}
 use Rattle.lib_types.specs.Abi.{flags_of}
-use Rattle.cache_layout.specs.declared.limits.TheConstants.{ENTRIES_MAX}
+use Rattle.cache_layout.specs.declared.limits.TheConstants.{ENTRIES_MAX, STRINGS_LIMIT}
 use Rattle.lib_types.proofs.Abis.{flags_small}
 use Rattle.lib_types.specs.declared.entry.Entry.{Entry}
 use Rattle.cache_layout.specs.Layout.{laid_out, number, header_fields, entry_fields}
@@ -21,7 +21,7 @@ use Rattle.lib_types.proofs.OneSize.{behind, part_there, length_parts}
 -- what writing knows of the entries and their strings
 pub record IsLaidOut (es : List Entry) : Type 0 where
   pub few : length es ≤ ENTRIES_MAX
-  pub small : length (strings_bytes es) < 2 ^ 30
+  pub small : length (strings_bytes es) < STRINGS_LIMIT
   pub own : All (HasOwn (strings es)) es
   pub names : AreAmong (strings es) (hwcaps_names es)
 

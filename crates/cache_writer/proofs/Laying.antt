@@ -1,5 +1,5 @@
 -- How many bytes the strings of a cache take, and what writing knows of them.
-use Rattle.std.proofs.Common.{◌≡◌, ◌≤◌, ◌<◌, ◌+◌, ◌*◌, ◌^◌, ℕ, List, [], ◌∷◌, ◌++◌, length, flat_map, map, ap, sym, ◌∙◌, bytes_eq, arith, true, IfSome}
+use Rattle.std.proofs.Common.{◌≡◌, ◌≤◌, ◌<◌, ◌+◌, ◌*◌, ℕ, List, [], ◌∷◌, ◌++◌, length, flat_map, map, ap, sym, ◌∙◌, bytes_eq, arith, true, IfSome}
 use Rattle.std.proofs.lemmas.List.Elements.{All-head, All-tail, All-map, All-weaker}
 use Rattle.std.proofs.lemmas.List.Sums.{fold-append}
 use Rattle.std.specs.List.{All}
@@ -11,7 +11,7 @@ use Rattle.string_pool.specs.Distinct.{distinct}
 use Rattle.string_pool.specs.InOrder.{table_of}
 use Rattle.string_pool.proofs.WithoutRepeats.{distinct_append}
 use Rattle.string_pool.proofs.InOrder.{length_table_insert}
-use Rattle.cache_layout.specs.declared.limits.TheConstants.{ENTRIES_MAX}
+use Rattle.cache_layout.specs.declared.limits.TheConstants.{ENTRIES_MAX, STRINGS_LIMIT}
 use Rattle.cache_writer.specs.declared.writer.TheConstants.{STRING_MAX}
 use Rattle.cache_writer.specs.CacheText.{hwcaps_names, own_strings, strings}
 use Rattle.cache_writer.specs.Numbers.{HasOwn, HasNumbers, AreAmong}
@@ -38,9 +38,9 @@ own_size ts (e ∷ es) sonames paths =
     let two = insert_key bytes_eq one e.path in
     omega (arith, All-head P e es sonames, All-head Q e es paths, length_table_insert ts e.soname, length_table_insert one e.path, own_size two es (All-tail P e es sonames) (All-tail Q e es paths))
 
--- all strings have less than 2^30 bytes
+-- all strings have fewer bytes than the limit
 small_strings : (es : List Entry) → length es ≤ ENTRIES_MAX → All (λ e. length e.soname ≤ NAME_MAX) es → All (λ e. length e.path ≤ STRING_MAX) es → All (λ n. length n ≤ NAME_MAX) (hwcaps_names es)
-    → length (table_of (strings es)) < 2 ^ 30
+    → length (table_of (strings es)) < STRINGS_LIMIT
 small_strings es few sonames paths names =
     let own = flat_map own_strings es in
     let all : length (table_of (strings es)) ≡ length (table_of (with_all (with_all [] own) (hwcaps_names es))) =
@@ -70,7 +70,7 @@ module _ (es entries : List Entry) (names own all : List (List ℕ)) (ns : List 
   pub gathered : all ≡ strings es
   gathered = all_strings es names own all is first second
 
-  pub small : length (table_of all) < 2 ^ 30
+  pub small : length (table_of all) < STRINGS_LIMIT
   small = rw gathered (small_strings es few (short_sonames es (rw same named)) (rw same paths) (short_names es (rw same caps)))
 
   -- the names that are added change no number

@@ -5,7 +5,7 @@ ghost use Rattle.lib_types.specs.Abi.{flags_of};
 ghost use Rattle.lib_types.specs.Name.{is_name};
 ghost use Rattle.string_pool.specs.Texts.{number_of};
 ghost use Rattle.string_pool.specs.InOrder.{table_of, place_of};
-ghost use Rattle.cache_layout.specs.declared.limits.TheConstants.{ENTRIES_MAX};
+ghost use Rattle.cache_layout.specs.declared.limits.TheConstants.{ENTRIES_MAX, STRINGS_LIMIT};
 ghost use Rattle.cache_writer.specs.declared.writer.TheConstants.{STRING_MAX};
 ghost use Rattle.cache_writer.specs.CacheText.{cache_text, header, hwcap_of, entry_bytes, hwcaps_names, directory, section, section_count};
 ghost use Rattle.cache_writer.specs.Numbers.{AreAmong, HasNumbers};
@@ -66,7 +66,7 @@ fn join(
 ) -> Result<Vec<u8>, NoMemory>
     requires entries { length entries.now ≤ ENTRIES_MAX }
     requires names { length names.now ≤ ENTRIES_MAX }
-    requires strings { length (table_of strings.now.texts) < 2 ^ 30 }
+    requires strings { length (table_of strings.now.texts) < STRINGS_LIMIT }
     requires own { All (HasNumbers strings.now.texts) entries.now }
     requires among { AreAmong strings.now.texts names.now }
     requires numbers { numbers.now ≡ map (number_of strings.now.texts) names.now }

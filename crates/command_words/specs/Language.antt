@@ -1,7 +1,8 @@
 -- Which arguments each command takes. They are read by `clap`, whose definitions say what is refused and what is found.
 use Rattle.std.specs.Prelude.{◌||◌, ℕ, true, List, [], ◌∷◌, codes, Option, Some, None, if◌then◌else◌}
-use Rattle.std.specs.Str.{bytes_eq}
+use Rattle.std.specs.Str.{byte, bytes_eq}
 use Rattle.clap.specs.declared.builder.action.ArgAction.TheVariants.{SetTrue}
+use Rattle.clap.specs.declared.builder.value_parser.ValueParser.TheVariants.{NonEmptyString}
 use Rattle.clap.specs.Words.{App, Rule, new_app, new_rule, with_rule}
 use Rattle.command_words.specs.declared.verb.Verb.{Verb}
 use Rattle.command_words.specs.declared.verb.Verb.TheVariants.{Update, Batch, Sample, Print, Lookup, Resolve}
@@ -23,6 +24,11 @@ abbrev pub verb_in : List (List ℕ) → Option Verb
 verb_in [] = Some Update
 verb_in (word ∷ rest) = verb_of word
 
+-- the name of a command and `--help`, these two words alone
+abbrev pub help_in : List (List ℕ) → Option Verb
+help_in (word ∷ asked ∷ []) = if bytes_eq asked (codes "--help") then verb_of word else None
+help_in _ = None
+
 -- ---- the others
 
 -- one that is needed, without a name
@@ -37,11 +43,19 @@ option_rule id = record (new_rule id) { long = Some id }
 abbrev pub flag_rule : List ℕ → Rule
 flag_rule id = record (option_rule id) { action = Some SetTrue }
 
+-- `-r ROOT` or `--root ROOT`, once at most: a directory, whose name is not empty
+abbrev pub root_rule : Rule
+root_rule = record (new_rule (codes "ROOT")) { parser = Some NonEmptyString; short = Some (byte "r"); long = Some (codes "root") }
+
 -- nothing is taken, `--help` and `--version` neither
 abbrev pub without_requests : App
 without_requests =
     let empty = new_app (codes "ldconfig") in
     record empty { top = record empty.top { disable_help_flag = true; disable_version_flag = true } }
+
+-- what only asks, and may ask a directory
+abbrev pub asking : App
+asking = with_rule without_requests root_rule
 
 -- what may be given the number of its temporary files
 abbrev pub tagged : App
@@ -49,13 +63,13 @@ tagged = with_rule without_requests (option_rule (codes "tag"))
 
 -- a program for processors with some hwcaps names
 abbrev pub searched : App
-searched = with_rule (with_rule without_requests (word_rule (codes "PATH"))) (option_rule (codes "caps"))
+searched = with_rule (with_rule asking (word_rule (codes "PATH"))) (option_rule (codes "caps"))
 
 -- the options of a command, and the arguments that it needs
 unfoldable pub app : Verb → App
 app Update = tagged
 app Batch = tagged
 app Sample = with_rule without_requests (word_rule (codes "N"))
-app Print = without_requests
-app Lookup = with_rule (with_rule (with_rule without_requests (word_rule (codes "NAME"))) (option_rule (codes "abi"))) (option_rule (codes "caps"))
+app Print = asking
+app Lookup = with_rule (with_rule (with_rule asking (word_rule (codes "NAME"))) (option_rule (codes "abi"))) (option_rule (codes "caps"))
 app Resolve = with_rule (with_rule (with_rule searched (option_rule (codes "library-path"))) (option_rule (codes "platform"))) (flag_rule (codes "secure"))

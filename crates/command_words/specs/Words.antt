@@ -8,6 +8,7 @@ use Rattle.command_words.specs.Language.{app, verb_in}
 use Rattle.command_words.specs.Values.{caps_in, is_true, is_value, number_in}
 use Rattle.command_words.specs.declared.fault.WordsFault.{WordsFault}
 use Rattle.command_words.specs.declared.fault.WordsFault.TheVariants as faults
+use Rattle.command_words.specs.declared.line.CommandLine.{CommandLine}
 use Rattle.commands.specs.declared.kinds.Command.{Command}
 use Rattle.commands.specs.declared.kinds.Command.TheVariants as commands
 use Rattle.commands.specs.declared.kinds.Lookup.{Lookup}
@@ -65,19 +66,39 @@ command_by verbs.Print found = Some commands.Print
 command_by verbs.Lookup found = option_map commands.Lookup (lookup_by found)
 command_by verbs.Resolve found = option_map commands.Resolve (resolve_by found)
 
+-- the directory, if one is given; none at all if that is no value
+abbrev pub root_as : Option (List ℕ) → Option (Option (List ℕ))
+root_as None = Some None
+root_as (Some text) = if is_value text then Some (Some text) else None
+
+abbrev pub root_by : List Row → Option (Option (List ℕ))
+root_by found = root_as (first_of (codes "ROOT") found)
+
+-- the command, and the directory that it asks
+abbrev pub line_by : Verb → List Row → Option CommandLine
+line_by verb found = option_and_then (λ command. option_map (λ root. record { command = command; root = root }) (root_by found)) (command_by verb found)
+
 -- ---- arguments
 
--- the command with the values that `clap` finds
-abbrev pub values_in : List (List ℕ) → Option Command
-values_in words = option_and_then (λ verb. command_by verb (matches_of (app verb) words)) (verb_in words)
+-- what the values say that `clap` finds
+abbrev pub values_in : List (List ℕ) → Option CommandLine
+values_in words = option_and_then (λ verb. line_by verb (matches_of (app verb) words)) (verb_in words)
 
 -- `clap` has something against the arguments behind the first
 abbrev pub are_refused : List (List ℕ) → Bool
 are_refused words = option_map_or (λ verb. not (length (fault_of (app verb) words) == 0)) (verb_in words) false
 
+-- what the arguments say, if they are those of a command
+unfoldable pub line_in : List (List ℕ) → Option CommandLine
+line_in words = if are_refused words then None else values_in words
+
 -- the command, if the arguments are those of one
-unfoldable pub command_in : List (List ℕ) → Option Command
-command_in words = if are_refused words then None else values_in words
+abbrev pub command_in : List (List ℕ) → Option Command
+command_in words = option_map (λ line. line.command) (line_in words)
+
+-- the directory that the command asks, if the arguments name one
+abbrev pub root_in : List (List ℕ) → Option (List ℕ)
+root_in words = option_and_then (λ line. line.root) (line_in words)
 
 -- `clap` promises to take the arguments
 unfoldable pub are_taken : List (List ℕ) → Bool

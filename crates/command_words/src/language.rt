@@ -1,9 +1,10 @@
 //! The arguments of each command, as `clap` reads them.
 ghost use Rattle.std.specs.Prelude.{◌≡◌, false, IfOk};
 ghost use Rattle.clap.specs.Words.{app_of, rule_of, with_rule};
-ghost use Rattle.command_words.specs.Language.{app, flag_rule, option_rule, searched, tagged, without_requests, word_rule};
+ghost use Rattle.command_words.specs.Language.{app, asking, flag_rule, option_rule, root_rule, searched, tagged, without_requests, word_rule};
 
 use crate::verb::Verb;
+use clap::builder::ValueParser;
 use clap::{Arg, ArgAction, Command};
 use std::alloc::{AllocError, Global};
 
@@ -31,6 +32,17 @@ fn flag<'a>(alloc: Global, id: &'a str) -> Arg<'a>
     option(alloc, id).action(ArgAction::SetTrue)
 }
 
+// The option that names a directory, by a letter or a name.
+fn root<'a>(alloc: Global) -> Arg<'a>
+    ensures rule { rule_of result ≡ root_rule }
+    ensures local { result.global ≡ false }
+{
+    Arg::new(alloc, "ROOT")
+        .value_parser(ValueParser::NonEmptyString)
+        .short('r')
+        .long("root")
+}
+
 // A command without arguments, and without the options that `clap` adds.
 fn bare<'a>(alloc: Global) -> Command<'a>
     ensures { app_of result ≡ without_requests }
@@ -46,6 +58,13 @@ fn with<'a>(command: Command<'a>, arg: Arg<'a>) -> Result<Command<'a>, AllocErro
     ensures { IfOk result (λ c. app_of c ≡ with_rule (app_of command.entry) (rule_of arg.entry)) }
 {
     command.arg(arg)
+}
+
+// What only asks, and may ask a directory.
+fn asking<'a>(alloc: Global) -> Result<Command<'a>, AllocError>
+    ensures { IfOk result (λ c. app_of c ≡ asking) }
+{
+    with(bare(alloc), root(alloc))
 }
 
 // What may be given the number of its temporary files.
@@ -66,7 +85,7 @@ fn sample<'a>(alloc: Global) -> Result<Command<'a>, AllocError>
 fn lookup<'a>(alloc: Global) -> Result<Command<'a>, AllocError>
     ensures { IfOk result (λ c. app_of c ≡ app Verb.Lookup) }
 {
-    let named = with(bare(alloc), word(alloc, "NAME"))?;
+    let named = with(asking(alloc)?, word(alloc, "NAME"))?;
     let of_abi = with(named, option(alloc, "abi"))?;
     with(of_abi, option(alloc, "caps"))
 }
@@ -75,7 +94,7 @@ fn lookup<'a>(alloc: Global) -> Result<Command<'a>, AllocError>
 fn searched<'a>(alloc: Global) -> Result<Command<'a>, AllocError>
     ensures { IfOk result (λ c. app_of c ≡ searched) }
 {
-    let named = with(bare(alloc), word(alloc, "PATH"))?;
+    let named = with(asking(alloc)?, word(alloc, "PATH"))?;
     with(named, option(alloc, "caps"))
 }
 
@@ -96,7 +115,7 @@ pub(crate) fn arguments_of<'a>(alloc: Global, verb: Verb) -> Result<Command<'a>,
     match verb {
         Verb::Update | Verb::Batch => tagged(alloc),
         Verb::Sample => sample(alloc),
-        Verb::Print => Ok(bare(alloc)),
+        Verb::Print => asking(alloc),
         Verb::Lookup => lookup(alloc),
         Verb::Resolve => resolve(alloc),
     }

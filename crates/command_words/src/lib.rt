@@ -3,9 +3,12 @@
 
 mod fault;
 mod language;
+mod line;
 mod reading;
 mod values;
 mod verb;
 
 pub use fault::WordsFault;
-pub use reading::command_of;
+pub use line::CommandLine;
+pub use reading::line_of;
+pub use verb::{Verb, help_of};

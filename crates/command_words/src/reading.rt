@@ -3,11 +3,12 @@ ghost use Rattle.std.specs.Prelude.{◌≡◌, true, Err, None, [], map, option_
 ghost use Rattle.std.specs.String.{string_bytes};
 ghost use Rattle.clap.specs.Words.{app_of, fault_of, first_of, found_of, matches_of, rows_of, takes};
 ghost use Rattle.command_words.specs.Language.{app, verb_in};
-ghost use Rattle.command_words.specs.Words.{Gives, abi_by, are_taken, caps_by, command_by, command_in, lookup_by, resolve_by, secure_by, size_by, tag_by, value_by, values_in};
+ghost use Rattle.command_words.specs.Words.{Gives, abi_by, are_taken, caps_by, command_by, line_by, line_in, lookup_by, resolve_by, root_by, secure_by, size_by, tag_by, value_by, values_in};
 ghost use Rattle.command_words.specs.declared.fault.WordsFault.TheVariants as faults;
 
 use crate::fault::WordsFault;
 use crate::language::arguments_of;
+use crate::line::CommandLine;
 use crate::values::{caps_in, is_true, is_value, number};
 use crate::verb::{Verb, verb_in};
 use clap::ArgMatches;
@@ -17,7 +18,8 @@ use lib_types::{Abi, Text, Texts};
 use std::alloc::Global;
 use tree_face::Tag;
 
-/// The most libraries of a sample.
+// The most libraries of a sample. The usage text of `ldconfig` (advice.rt) repeats it, because `concat!` takes literals and no
+// constants.
 const SAMPLE_MAX: u16 = 20_000;
 
 // What `clap` finds in the arguments of this command.
@@ -156,10 +158,29 @@ fn command_by(alloc: Global, verb: Verb, found: &ArgMatches<'_>) -> Result<Comma
     }
 }
 
-/// The command of these arguments, the program's name not among them.
-#[tactic(auto, unfolding(crate::specs::Words::are_taken, crate::specs::Words::command_in))]
-pub fn command_of(alloc: Global, arguments: &Vec<String>) -> Result<Command, WordsFault>
-    ensures command { Gives (command_in (map string_bytes arguments.now.items)) result }
+// The directory that is asked, if one is given.
+fn root_by(alloc: Global, found: &ArgMatches<'_>) -> Result<Option<Text>, WordsFault>
+    ensures { Gives (root_by (rows_of (found_of found.now))) result }
+{
+    match first_of(found, "ROOT") {
+        Some(text) if is_value(text) => Ok(Some(Text::copy_of(alloc, text.as_bytes())?)),
+        Some(_) => Err(WordsFault::Usage),
+        None => Ok(None),
+    }
+}
+
+fn line_by(alloc: Global, verb: Verb, found: &ArgMatches<'_>) -> Result<CommandLine, WordsFault>
+    ensures { Gives (line_by verb (rows_of (found_of found.now))) result }
+{
+    let command = command_by(alloc, verb, found)?;
+    let root = root_by(alloc, found)?;
+    Ok(CommandLine { command, root })
+}
+
+/// What these arguments say, the program's name not among them.
+#[tactic(auto, unfolding(crate::specs::Words::are_taken, crate::specs::Words::line_in))]
+pub fn line_of(alloc: Global, arguments: &Vec<String>) -> Result<CommandLine, WordsFault>
+    ensures line { Gives (line_in (map string_bytes arguments.now.items)) result }
     ensures no_command { verb_in (map string_bytes arguments.now.items) ≡ None → result ≡ Err faults.Usage }
     ensures only { result ≡ Err faults.Usage → are_taken (map string_bytes arguments.now.items) ≡ true
         → values_in (map string_bytes arguments.now.items) ≡ None }
@@ -168,5 +189,5 @@ pub fn command_of(alloc: Global, arguments: &Vec<String>) -> Result<Command, Wor
         return Err(WordsFault::Usage);
     };
     let found = parse(alloc, verb, arguments)?;
-    command_by(alloc, verb, &found)
+    line_by(alloc, verb, &found)
 }

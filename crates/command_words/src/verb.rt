@@ -2,11 +2,11 @@
 ghost use Rattle.std.specs.Prelude.{◌≡◌, map};
 ghost use Rattle.std.specs.Str.{bytes_eq};
 ghost use Rattle.std.specs.String.{string_bytes};
-ghost use Rattle.command_words.specs.Language.{verb_in, verb_of};
+ghost use Rattle.command_words.specs.Language.{help_in, verb_in, verb_of};
 
-/// Which command the arguments name.
+/// A command's name.
 #[derive(Clone, Copy, Debug, PartialEq, Eq)]
-pub(crate) enum Verb {
+pub enum Verb {
     Update,
     Batch,
     Sample,
@@ -50,4 +50,15 @@ pub(crate) fn verb_in(arguments: &Vec<String>) -> Option<Verb>
         return Some(Verb::Update);
     }
     verb_of(arguments[0].as_str())
+}
+
+/// The command whose usage text is asked for: by its name and `--help`, these two words alone.
+pub fn help_of(arguments: &[String]) -> Option<Verb>
+    ensures { result ≡ help_in (map string_bytes arguments.now) }
+{
+    if arguments.len() == 2 && is_word(arguments[1].as_str(), "--help") {
+        verb_of(arguments[0].as_str())
+    } else {
+        None
+    }
 }

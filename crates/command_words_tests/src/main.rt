@@ -9,7 +9,7 @@ use std::io;
 use std::process::ExitCode;
 use table_rows::{status, try_tables};
 
-const TABLES: &[&str] = &["commands", "values", "refusals"];
+const TABLES: &[&str] = &["commands", "values", "refusals", "helps"];
 
 fn main(rt: HostRuntime) -> io::Result<ExitCode> {
     Ok(status(try_tables::<Arguments>(&rt, TABLES)?))

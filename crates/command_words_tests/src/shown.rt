@@ -1,5 +1,5 @@
 //! A command as text: its name, and a line for each of its values.
-use command_words::WordsFault;
+use command_words::{CommandLine, Verb, WordsFault};
 use commands::{Command, Lookup, Resolve};
 use lib_types::{NoMemory, Texts};
 use std::alloc::Global;
@@ -77,14 +77,43 @@ fn put_command(alloc: Global, text: &mut Vec<u8>, command: &Command) -> Result<(
     }
 }
 
-/// The text of a command, or of the fault.
+fn put_line_of(alloc: Global, text: &mut Vec<u8>, line: &CommandLine) -> Result<(), NoMemory> {
+    put_command(alloc, text, &line.command)?;
+    if let Some(root) = &line.root {
+        put_line(text, b"root=", root.as_bytes())?;
+    }
+    Ok(())
+}
+
+fn name_of(verb: Verb) -> &'static [u8] {
+    match verb {
+        Verb::Update => b"update",
+        Verb::Batch => b"batch",
+        Verb::Sample => b"sample",
+        Verb::Print => b"print",
+        Verb::Lookup => b"lookup",
+        Verb::Resolve => b"resolve",
+    }
+}
+
+/// The command whose usage is asked for, or `none`.
+pub(crate) fn shown_help(alloc: Global, help: Option<Verb>) -> Result<Vec<u8>, NoMemory> {
+    let mut text = Vec::new(alloc);
+    match help {
+        Some(verb) => put_line(&mut text, name_of(verb), b"")?,
+        None => put_line(&mut text, b"none", b"")?,
+    }
+    Ok(text)
+}
+
+/// The text of a command and the directory that it asks, or of the fault.
 pub(crate) fn shown(
     alloc: Global,
-    command: Result<Command, WordsFault>,
+    line: Result<CommandLine, WordsFault>,
 ) -> Result<Vec<u8>, NoMemory> {
     let mut text = Vec::new(alloc);
-    match command {
-        Ok(command) => put_command(alloc, &mut text, &command)?,
+    match line {
+        Ok(line) => put_line_of(alloc, &mut text, &line)?,
         Err(WordsFault::Usage) => put_line(&mut text, b"Usage", b"")?,
         Err(WordsFault::NoMemory) => put_line(&mut text, b"NoMemory", b"")?,
     }

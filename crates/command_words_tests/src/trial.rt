@@ -1,12 +1,13 @@
 //! One row: arguments, and the command that they are.
-use crate::shown::shown;
-use command_words::command_of;
+use crate::shown::{shown, shown_help};
+use command_words::{help_of, line_of};
 use lib_types::NoMemory;
 use std::alloc::Global;
 use std::str::from_utf8;
-use table_rows::{Row, Said, Trial, Words, divide, text};
+use table_rows::{Row, Said, Trial, Words, divide, has_line, text};
 
-/// A row has a line for each argument, and the command with its values, or `Usage`.
+/// A row has a line for each argument, and the command with its values, or `Usage`; or the command whose usage the arguments ask for, or
+/// `none`.
 pub(crate) struct Arguments;
 
 // The lines of a text.
@@ -24,7 +25,7 @@ fn words_of(alloc: Global, text: &[u8]) -> Result<Vec<String>, NoMemory> {
     Ok(words)
 }
 
-const WORDS: &[Words] = &[&[b"arguments", b"command"]];
+const WORDS: &[Words] = &[&[b"arguments", b"command", b"help"]];
 
 impl Trial for Arguments {
     fn words() -> &'static [Words] {
@@ -34,7 +35,11 @@ impl Trial for Arguments {
     // A body that always returns NoMemory meets the contract; the rows refuse it.
     fn is_right(alloc: Global, row: Row<'_>, said: &mut Said) -> Result<bool, NoMemory> {
         let words = words_of(alloc, &text(alloc, row, b"arguments")?)?;
-        let got = shown(alloc, command_of(alloc, &words))?;
+        if has_line(row, b"help") {
+            let got = shown_help(alloc, help_of(&words))?;
+            return said.is_text(alloc, row, b"help", &got);
+        }
+        let got = shown(alloc, line_of(alloc, &words))?;
         said.is_text(alloc, row, b"command", &got)
     }
 }

@@ -1,1 +1,2 @@
+mod BelowRoot
 mod NameParts

@@ -1,6 +1,5 @@
--- Where the slots of an image stand in its folder (the cache where ld.so(8) reads it, "FILES"; the auxiliary cache where
--- ldconfig(8) keeps it), how much of them is read, and what mode and owner their files get.
-use Rattle.std.specs.Prelude.{◌≡◌, ⊤, ℕ, ◌^◌, ◌+◌, ◌-◌, ◌*◌, Bool, true, List, [], Option, Some, None, codes, min, bit_and, nat_le, nat_lt, ◌==◌, if◌then◌else◌}
+-- How much of the files of an image is read, and what mode and owner their files get.
+use Rattle.std.specs.Prelude.{◌≡◌, ⊤, ℕ, ◌^◌, ◌+◌, ◌-◌, ◌*◌, Bool, true, Option, Some, None, min, bit_and, nat_le, nat_lt, ◌==◌, if◌then◌else◌}
 use Rattle.tree_face.specs.declared.disk.Slot.{Slot}
 use Rattle.tree_face.specs.declared.disk.Slot.TheVariants.{Manifest, Cache, Aux}
 use Rattle.device_rules.specs.declared.standing.Stamp.{Stamp}
@@ -8,24 +7,6 @@ use Rattle.device_rules.specs.declared.standing.Owner.{Owner}
 use Rattle.cache_layout.specs.Layout.{entry_size}
 use Rattle.cache_layout.specs.declared.limits.TheConstants.{ENTRIES_MAX}
 use Rattle.mtree_manifest.specs.declared.fault.TheConstants.{TEXT_MAX}
-
--- the slot's file, below the root
-abbrev pub file_of : Slot → List ℕ
-file_of Manifest = codes "image.mtree"
-file_of Cache = codes "etc/ld.so.cache"
-file_of Aux = codes "var/cache/ldconfig/aux-cache"
-
--- the folder in which it stands
-abbrev pub folder_of : Slot → List ℕ
-folder_of Manifest = []
-folder_of Cache = codes "etc"
-folder_of Aux = codes "var/cache/ldconfig"
-
--- its name there
-abbrev pub name_of : Slot → List ℕ
-name_of Manifest = codes "image.mtree"
-name_of Cache = codes "ld.so.cache"
-name_of Aux = codes "aux-cache"
 
 -- a file of more bytes isn't read: a cache has little more than its entries, each with two strings of at most 4,096 bytes
 abbrev pub largest : Slot → ℕ

@@ -1,6 +1,7 @@
 -- Paths below the root of an image, whose own name is empty.
-use Rattle.std.specs.Prelude.{ℕ, Bool, true, ◌&&◌, ◌||◌, List, [], ◌∷◌, ◌==◌, nat_eq, length, drop}
+use Rattle.std.specs.Prelude.{ℕ, Bool, true, ◌&&◌, ◌||◌, List, [], ◌∷◌, ◌==◌, nat_eq, length, drop, codes}
 use Rattle.std.specs.List.{starts_with}
+use Rattle.std.specs.Str.{bytes_eq}
 
 -- nothing follows, or a slash
 abbrev pub ends_part : List ℕ → Bool
@@ -11,3 +12,7 @@ ends_part (b ∷ _) = b == 47
 abbrev pub is_at_or_above : List ℕ → List ℕ → Bool
 is_at_or_above folder other =
     length folder == 0 || (starts_with nat_eq other folder && ends_part (drop (length folder) other))
+
+-- the component leads up
+abbrev pub leads_up : List ℕ → Bool
+leads_up component = bytes_eq component (codes "..")

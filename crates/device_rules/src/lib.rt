@@ -16,10 +16,10 @@ pub use kinds::{
 };
 pub use machines::{foreign_machine, machine_name};
 pub use paths::{behind, divided, is_at_or_above, leads_on, leads_up};
-pub use places::{file_of, folder_of, name_of};
+pub use places::SlotPaths;
 pub use room::{has_room, too_long};
 pub use standing::{
-    Identity, Owner, Stamp, Standing, identity_of, is_as_read, length_to_read, mode_of,
+    Identity, Owner, Stamp, Standing, identity_of, is_as_read, largest, length_to_read, mode_of,
     mode_until_whole, owner_of, owner_to_give, stamp_of, standing_of,
 };
 pub use temporary::{RunId, maker_of, temporary_path};

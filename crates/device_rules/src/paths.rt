@@ -1,6 +1,6 @@
 //! What is decided about paths without a call.
 ghost use Rattle.std.specs.Prelude.{◌≡◌, ◌↔◌, ◌++◌, ◌⊎◌, ◌≢◌, ◌∷◌, [], codes, IfSome, IsTrue};
-ghost use Rattle.device_rules.specs.Paths.{ends_part, is_at_or_above};
+ghost use Rattle.device_rules.specs.Paths.{ends_part, is_at_or_above, leads_up};
 
 /// Whether the first folder is the second one, or on the way to it from the root. The root's name is empty.
 pub fn is_at_or_above(folder: &[u8], other: &[u8]) -> bool
@@ -31,7 +31,7 @@ pub fn leads_on(part: &[u8]) -> bool
 
 /// Whether a part of a path leads up.
 pub fn leads_up(part: &[u8]) -> bool
-    ensures { IsTrue result ↔ part.now ≡ codes ".." }
+    ensures { result ≡ leads_up part.now }
 {
     part == b"..".as_slice()
 }

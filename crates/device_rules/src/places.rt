@@ -1,38 +1,111 @@
-//! Where the slots of an image stand in its folder.
-ghost use Rattle.std.specs.Prelude.{◌≡◌};
-ghost use Rattle.device_rules.specs.Folder.{file_of, folder_of, name_of};
+//! Where the files of an image are.
+ghost use Rattle.std.specs.Prelude.{◌≡◌, IfOk};
+ghost use Rattle.std.specs.List.{list_any, slice_split};
+ghost use Rattle.lib_types.specs.Bytes.{is_byte};
+ghost use Rattle.device_rules.specs.Paths.{leads_up};
+ghost use Rattle.device_rules.specs.Places.{IsIn, below_root, cache_at, ends_in_name, file_of, is_file_path, usual_cache};
 
+use crate::paths::{divided, leads_up};
+use lib_types::{NoMemory, Separator, split};
+use std::alloc::Global;
+use std::marker::Model;
 use tree_face::Slot;
 
-/// A slot's file, below the root.
-pub fn file_of(slot: Slot) -> &'static str
-    ensures { result.now ≡ file_of slot }
-{
-    match slot {
-        Slot::Manifest => "image.mtree",
-        Slot::Cache => "etc/ld.so.cache",
-        Slot::Aux => "var/cache/ldconfig/aux-cache",
+/// Where the files of an image are, as paths below its root. Contracts see the path of the cache, which may be another than the usual one.
+#[derive(Drop)]
+pub struct SlotPaths {
+    cache: Option<String>,
+}
+
+impl Model for SlotPaths {
+    ghost use Rattle.std.specs.Prelude.{ℕ, List, option_map, unwrap_or};
+    ghost use Rattle.std.specs.String.{string_bytes};
+    ghost use Rattle.device_rules.specs.Places.{usual_cache};
+
+    ghost Value = { List ℕ };
+
+    ghost view = { λ paths. unwrap_or (option_map string_bytes paths.cache) usual_cache };
+}
+
+impl SlotPaths {
+    /// Those of each image.
+    pub fn usual() -> SlotPaths
+        ensures { result ≡ usual_cache }
+    {
+        SlotPaths { cache: None }
+    }
+
+    /// The usual ones, with the cache at this path in the image. There are none if the path can't be a file's: it must have a name after
+    /// its last slash, and no component `..`.
+    pub fn with_cache(alloc: Global, path: &str) -> Result<Option<SlotPaths>, NoMemory>
+        ensures { IfOk result (λ paths. paths ≡ cache_at path.now) }
+    {
+        let file = below_root(path);
+        if !is_file_path(file.as_bytes()) {
+            return Ok(None);
+        }
+        let cache = Some(String::from_str(alloc, file)?);
+        Ok(Some(SlotPaths { cache }))
+    }
+
+    /// A slot's file, below the root.
+    pub fn file_of(&self, slot: Slot) -> &str
+        ensures { result.now ≡ file_of self.now slot }
+    {
+        match slot {
+            Slot::Manifest => "image.mtree",
+            Slot::Cache => self.cache_file(),
+            Slot::Aux => "var/cache/ldconfig/aux-cache",
+        }
+    }
+
+    fn cache_file(&self) -> &str
+        ensures { result.now ≡ self.now }
+    {
+        match &self.cache {
+            Some(path) => path.as_str(),
+            None => "etc/ld.so.cache",
+        }
+    }
+
+    /// The directory of a slot's file, and its name there.
+    pub fn place_of(&self, slot: Slot) -> (&str, &str)
+        ensures { IsIn result.0.now result.1.now (file_of self.now slot) }
+    {
+        divided(self.file_of(slot))
     }
 }
 
-/// The folder in which a slot's file stands.
-pub fn folder_of(slot: Slot) -> &'static str
-    ensures { result.now ≡ folder_of slot }
+// A path in the image, below its root.
+fn below_root(path: &str) -> &str
+    ensures { result.now ≡ below_root path.now }
 {
-    match slot {
-        Slot::Manifest => "",
-        Slot::Cache => "etc",
-        Slot::Aux => "var/cache/ldconfig",
+    match path.strip_prefix('/') {
+        Some(rest) => rest,
+        None => path,
     }
 }
 
-/// Its name there.
-pub fn name_of(slot: Slot) -> &'static str
-    ensures { result.now ≡ name_of slot }
+fn ends_in_name(path: &[u8]) -> bool
+    ensures { result ≡ ends_in_name path.now }
 {
-    match slot {
-        Slot::Manifest => "image.mtree",
-        Slot::Cache => "ld.so.cache",
-        Slot::Aux => "aux-cache",
+    !path.is_empty() && !path.ends_with(b"/") && path != b".".as_slice() && !path.ends_with(b"/.")
+}
+
+// Whether a component of the path leads up.
+fn has_up(path: &[u8]) -> bool
+    ensures { result ≡ list_any leads_up (slice_split (is_byte 47) path.now) }
+{
+    for part in split(Separator::Byte(b'/'), path) {
+        if leads_up(part) {
+            return true;
+        }
     }
+    false
+}
+
+fn is_file_path(path: &[u8]) -> bool
+    ensures { result ≡ is_file_path path.now }
+{
+    ends_in_name(path) && !has_up(path)
 }

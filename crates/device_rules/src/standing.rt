@@ -121,8 +121,8 @@ fn is_same(now: Stamp, read: Stamp) -> bool
 // The bytes of a cache's entry with two strings of a path's length.
 const CACHED_ENTRY: u64 = ENTRY_SIZE as u64 + 2 * 4096;
 
-// A file of more bytes isn't read.
-fn largest(slot: Slot) -> u64
+/// The most bytes of a slot's file that is read.
+pub fn largest(slot: Slot) -> u64
     ensures { result ≡ largest slot }
 {
     match slot {

@@ -1,5 +1,5 @@
 -- How many bytes the parts of a file have.
-use Rattle.std.proofs.Common.{◌≡◌, ◌≤◌, ◌*◌, ◌^◌, inl, inr, ℕ, suc, ◌+◌, Bool, true, false, ◌==◌, nat_le, List, [], ◌∷◌, ◌++◌, All, length, refl, ap, sym, ◌∙◌, arith, append_assoc, length-append}
+use Rattle.std.proofs.Common.{◌≡◌, ◌≤◌, ◌*◌, inl, inr, ℕ, suc, ◌+◌, Bool, true, false, ◌==◌, nat_le, List, [], ◌∷◌, ◌++◌, All, length, refl, ap, sym, ◌∙◌, arith, append_assoc, length-append}
 use Rattle.std.proofs.lemmas.Bool.Decides.{nat_tests}
 use Rattle.std.proofs.lemmas.List.Sums.{AllPass-from_list_all}
 use Rattle.std.specs.List.{flat_map, list_all}
@@ -12,6 +12,7 @@ use Rattle.elf_dynamic.specs.declared.kinds.DynamicEntry.{DynamicEntry}
 use Rattle.elf_dynamic.specs.declared.kinds.Dynamic.{Dynamic}
 use Rattle.elf_maker.specs.declared.kinds.Spec.{Spec}
 use Rattle.elf_maker.specs.declared.layout.Layout.{Layout}
+use Rattle.elf_maker.specs.declared.layout.TheConstants.{FILE_MAX}
 use Rattle.elf_maker.specs.Fields.{Field, bytes_of}
 use Rattle.elf_maker.specs.Texts.{Tagged, tagged, ended, strings, text_entries}
 use Rattle.elf_maker.specs.Made.{width, base, identification, entry_count, entry_fields, entries, flag_entries, header_fields, program_header_fields, load_fields, dynamic_fields, section_fields, section_at, section_size, strings_at, size, made_of, made}
@@ -98,9 +99,9 @@ pub made_length : (spec : Spec) → length (made spec) ≡ size (width spec) spe
 unfolding made
 made_length spec = length_of (width spec) spec (has_width spec)
 
-pub is_short : {l : Layout} {spec : Spec} → IsLayoutOf l spec → length (made spec) ≤ 2 ^ 24
+pub is_short : {l : Layout} {spec : Spec} → IsLayoutOf l spec → length (made spec) ≤ FILE_MAX
 is_short {l = l} {spec = spec} h =
-    let small : size l.w spec.dynamic ≤ 2 ^ 24 = omega (arith, h.strings_is, h.strings_size_is, h.small) in
+    let small : size l.w spec.dynamic ≤ FILE_MAX = omega (arith, h.strings_is, h.strings_size_is, h.small) in
     rw (made_length spec, sym h.of_abi) small
 
 -- ---- the fields that are written

@@ -16,6 +16,7 @@ use Rattle.elf_dynamic.specs.declared.kinds.Dynamic.{Dynamic}
 use Rattle.elf_dynamic.specs.Section.{is_dynamic, dynamic_segment, is_outside, entry_at, dynamic_entries, table_at}
 use Rattle.elf_dynamic.specs.Object.{entries as read_entries, table as read_table, lacks_table, dynamic, dynamic_sentences, object_sentences, as_object, object}
 use Rattle.elf_maker.specs.declared.kinds.Spec.{Spec}
+use Rattle.elf_maker.specs.declared.layout.TheConstants.{FILE_MAX}
 use Rattle.elf_maker.specs.Fields.{bytes_of}
 use Rattle.elf_maker.specs.Texts.{strings}
 use Rattle.elf_maker.specs.Made.{is_spec, width, base, identification, entry_count, entries, header_fields, load_fields, dynamic_fields, section_fields, section_at, section_size, strings_at, size, made_of, made, object_of}
@@ -96,7 +97,7 @@ record Segments (w : ℕ) (bytes : List ℕ) (d : Dynamic) : Type 0 where
   pub first : segment_at w bytes (header_length w) ≡ load (size w d)
   pub second : segment_at w bytes (header_length w + program_header_length w) ≡ section w d
 
-segments_there : (w : ℕ) (spec : Spec) → IsWidth w → size w spec.dynamic ≤ 2 ^ 24 → Segments w (made_of w spec) spec.dynamic
+segments_there : (w : ℕ) (spec : Spec) → IsWidth w → size w spec.dynamic ≤ FILE_MAX → Segments w (made_of w spec) spec.dynamic
 unfolding load section
 segments_there w spec width short =
     let d = spec.dynamic in
@@ -139,7 +140,7 @@ count_is : (w : ℕ) (d : Dynamic) → IsWidth w → section_size w d / (2 * w) 
 count_is w d (inl four) = mul-div_cancel (entry_count d) (rw four (omega arith))
 count_is w d (inr eight) = mul-div_cancel (entry_count d) (rw eight (omega arith))
 
-entries_are : (w : ℕ) (spec : Spec) → IsWidth w → is_spec spec ≡ true → size w spec.dynamic ≤ 2 ^ 24 →
+entries_are : (w : ℕ) (spec : Spec) → IsWidth w → is_spec spec ≡ true → size w spec.dynamic ≤ FILE_MAX →
     dynamic_entries w (made_of w spec) (section w spec.dynamic) ≡ live_of (strings_at w spec.dynamic + base) spec.dynamic
 unfolding dynamic_entries section entries_bytes
 entries_are w spec width h short =
@@ -266,7 +267,7 @@ not_less a n h = grind (arith, nat_tests)
 headers_fit : (n each at l size : ℕ) → n ≡ 2 → each ≡ l → at + 2 * l ≤ size → ((n == 65535) || (not (n == 0) && (not (each == l) || nat_lt size (at + n * l)))) ≡ false
 headers_fit n each at l size two same fit = rw (two, same) (grind (arith, nat_tests))
 
-good : (w : ℕ) (spec : Spec) → w ≡ width spec → IsWidth w → is_spec spec ≡ true → length (made_of w spec) ≡ size w spec.dynamic → size w spec.dynamic ≤ 2 ^ 24 →
+good : (w : ℕ) (spec : Spec) → w ≡ width spec → IsWidth w → is_spec spec ≡ true → length (made_of w spec) ≡ size w spec.dynamic → size w spec.dynamic ≤ FILE_MAX →
     Good w (strings_at w spec.dynamic + base) (made_of w spec) spec (section w spec.dynamic)
 unfolding read_entries read_table section
 good w spec of_abi width h length_is short =
@@ -305,7 +306,7 @@ good w spec of_abi width h length_is short =
       said = say;
     }
 
-pub read_back : (spec : Spec) (bytes : List ℕ) → is_spec spec ≡ true → bytes ≡ made spec → length (made spec) ≤ 2 ^ 24 → object bytes ≡ Ok (object_of spec)
+pub read_back : (spec : Spec) (bytes : List ℕ) → is_spec spec ≡ true → bytes ≡ made spec → length (made spec) ≤ FILE_MAX → object bytes ≡ Ok (object_of spec)
 unfolding made
 read_back spec bytes h is short =
     let w = width spec in

@@ -1,5 +1,5 @@
 -- Parts of a made file. The clauses of private functions cite these definitions.
-use Rattle.std.specs.Prelude.{◌≡◌, ◌≤◌, ◌<◌, ◌⊎◌, ◌^◌, ℕ, ◌+◌, List, length, map, All, Option, IfSome}
+use Rattle.std.specs.Prelude.{◌≡◌, ◌≤◌, ◌<◌, ◌⊎◌, ℕ, ◌+◌, List, length, map, All, Option, IfSome}
 use Rattle.std.specs.List.{flat_map}
 use Rattle.std.specs.Option.{MatchOption}
 use Rattle.elf_dynamic.specs.declared.kinds.DynamicEntry.{DynamicEntry}
@@ -8,6 +8,7 @@ use Rattle.elf_dynamic.specs.Section.{needed}
 use Rattle.elf_dynamic.specs.declared.text.TheConstants.{TEXT_LIMIT}
 use Rattle.elf_maker.specs.declared.kinds.Spec.{Spec}
 use Rattle.elf_maker.specs.declared.layout.Layout.{Layout}
+use Rattle.elf_maker.specs.declared.layout.TheConstants.{FILE_MAX}
 use Rattle.elf_maker.specs.Fields.{bytes_of}
 use Rattle.elf_maker.specs.Texts.{Tagged, strings}
 use Rattle.elf_maker.specs.Made.{width, section_at, section_size, strings_at, entry_fields}
@@ -33,7 +34,7 @@ entries_bytes w es = bytes_of (flat_map (entry_fields w) es)
 
 -- the number of these bytes; none if a file can't have so many
 abbrev pub IsSizeIfFit : Option ℕ → List ℕ → Type 0
-IsSizeIfFit result bytes = MatchOption result (2 ^ 24 < length bytes) (λ n. n ≡ length bytes)
+IsSizeIfFit result bytes = MatchOption result (FILE_MAX < length bytes) (λ n. n ≡ length bytes)
 
 -- where the parts are, in a file that isn't too long
 pub record IsLayoutOf (l : Layout) (spec : Spec) : Type 0 where
@@ -43,4 +44,4 @@ pub record IsLayoutOf (l : Layout) (spec : Spec) : Type 0 where
   pub section_size_is : l.section_size ≡ section_size l.w spec.dynamic
   pub strings_is : l.strings ≡ strings_at l.w spec.dynamic
   pub strings_size_is : l.strings_size ≡ length (strings spec.dynamic)
-  pub small : l.strings + l.strings_size ≤ 2 ^ 24
+  pub small : l.strings + l.strings_size ≤ FILE_MAX

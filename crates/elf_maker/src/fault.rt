@@ -7,7 +7,7 @@ use std::alloc::AllocError;
 /// Why `make` returns no file.
 #[derive(Clone, Copy, Debug, PartialEq, Eq)]
 pub enum MakeFault {
-    /// The file would have more than 2^24 bytes.
+    /// The file would have more bytes than `FILE_MAX`.
     TooLong,
     NoMemory,
 }

@@ -1,7 +1,8 @@
 //! A whole file.
-ghost use Rattle.std.specs.Prelude.{◌≡◌, ◌≤◌, ◌+◌, ◌<◌, ◌^◌, ◌++◌, ◌↔◌, true, length, Ok, IfOk, OnOk, IsErrOf};
+ghost use Rattle.std.specs.Prelude.{◌≡◌, ◌≤◌, ◌+◌, ◌<◌, ◌++◌, ◌↔◌, true, length, Ok, IfOk, OnOk, IsErrOf};
 ghost use Rattle.lib_types.specs.Abi.{class_of};
 ghost use Rattle.elf_dynamic.specs.Object.{object};
+ghost use Rattle.elf_maker.specs.declared.layout.TheConstants.{FILE_MAX};
 ghost use Rattle.elf_maker.specs.Fields.{bytes_of};
 ghost use Rattle.elf_maker.specs.Made.{identification, header_fields, program_header_fields, is_spec, made, object_of};
 ghost use Rattle.elf_maker.specs.Parts.{IsWidth, IsLayoutOf};
@@ -77,7 +78,7 @@ fn put_program_header(
     align: u64,
 ) -> Result<(), NoMemory>
     requires width { IsWidth w }
-    requires short { offset ≤ 2 ^ 24 }
+    requires short { offset ≤ FILE_MAX }
     ensures { OnOk result (out.new.items ≡ out.old.items ++ bytes_of (program_header_fields w kind offset size align)) }
 {
     let address = address_of(offset);
@@ -131,7 +132,7 @@ pub fn make(alloc: Global, spec: &Spec) -> Result<Vec<u8>, MakeFault>
     requires { is_spec spec.now ≡ true }
     ensures bytes { IfOk result (λ bytes. bytes.items ≡ made spec.now) }
     ensures read_back { IfOk result (λ bytes. object bytes.items ≡ Ok (object_of spec.now)) }
-    ensures too_long { IsErrOf result MakeFault.TooLong ↔ (2 ^ 24 < length (made spec.now)) }
+    ensures too_long { IsErrOf result MakeFault.TooLong ↔ (FILE_MAX < length (made spec.now)) }
 {
     let Some(layout) = layout_of(spec) else {
         return Err(MakeFault::TooLong);

@@ -4,6 +4,7 @@ ghost use Rattle.std.specs.Option.{MatchOption};
 ghost use Rattle.lib_types.specs.Abi.{class_of};
 ghost use Rattle.elf_headers.specs.Layout.{at_class, word_size};
 ghost use Rattle.elf_dynamic.specs.declared.text.TheConstants.{TEXT_LIMIT};
+ghost use Rattle.elf_maker.specs.declared.layout.TheConstants.{FILE_MAX};
 ghost use Rattle.elf_maker.specs.Texts.{ended_texts, tagged, strings, tagged_if};
 ghost use Rattle.elf_maker.specs.Made.{width, base, entry_count, size};
 ghost use Rattle.elf_maker.specs.Parts.{IsSizeIfFit, IsShort, AreShort, IsWidth, IsLayoutOf, needed_texts};
@@ -12,8 +13,8 @@ use crate::kinds::Spec;
 use elf_dynamic::kinds::Dynamic;
 use lib_types::{Abi, Text};
 
-// The most bytes of a made file.
-const FILE_MAX: u64 = 1 << 24;
+/// The most bytes of a made file.
+pub const FILE_MAX: u64 = 1 << 24;
 
 // Where the parts of a file are.
 #[derive(Clone, Copy)]
@@ -38,7 +39,7 @@ fn width_of(abi: Abi) -> usize
 
 // The address of a byte in memory, by its offset.
 pub(crate) fn address_of(offset: u64) -> u64
-    requires { offset ≤ 2 ^ 24 }
+    requires { offset ≤ FILE_MAX }
     ensures { result ≡ offset + base }
 {
     offset + 0x1000
@@ -55,7 +56,7 @@ pub(crate) fn at_class(w: usize, narrow: usize, wide: usize) -> usize
 fn size_of_needed(texts: &[Text]) -> Option<u64>
     requires { All IsShort texts.now }
     ensures size { IsSizeIfFit result (ended_texts (needed_texts texts.now)) }
-    ensures small { IfSome result (λ n. n ≤ 2 ^ 24) }
+    ensures small { IfSome result (λ n. n ≤ FILE_MAX) }
 {
     let mut size = 0;
     for text in texts {
@@ -111,7 +112,7 @@ fn entry_count(dynamic: &Dynamic) -> u64
 #[tactic(auto, using(crate::proofs::Steps::product))]
 pub(crate) fn layout_of(spec: &Spec) -> Option<Layout>
     requires { AreShort spec.now.dynamic }
-    ensures { MatchOption result (2 ^ 24 < size (width spec.now) spec.now.dynamic) (λ l. IsLayoutOf l spec.now) }
+    ensures { MatchOption result (FILE_MAX < size (width spec.now) spec.now.dynamic) (λ l. IsLayoutOf l spec.now) }
 {
     let w = width_of(spec.abi);
     let strings_size = size_of_strings(&spec.dynamic)?;

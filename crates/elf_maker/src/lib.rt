@@ -14,3 +14,4 @@ pub use conditions::is_spec;
 pub use fault::MakeFault;
 pub use file::make;
 pub use kinds::Spec;
+pub use layout::FILE_MAX;

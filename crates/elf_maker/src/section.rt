@@ -1,5 +1,6 @@
 //! The dynamic entries.
-ghost use Rattle.std.specs.Prelude.{◌≡◌, ◌≤◌, ◌+◌, ◌^◌, ◌++◌, ◌∷◌, [], length, OnOk, IfOk};
+ghost use Rattle.std.specs.Prelude.{◌≡◌, ◌≤◌, ◌+◌, ◌++◌, ◌∷◌, [], length, OnOk, IfOk};
+ghost use Rattle.elf_maker.specs.declared.layout.TheConstants.{FILE_MAX};
 ghost use Rattle.elf_maker.specs.Texts.{ended_texts, tagged, tagged_if, strings, text_entries};
 ghost use Rattle.elf_maker.specs.Made.{flag_entries, entries};
 ghost use Rattle.elf_maker.specs.Parts.{IsWidth, needed_texts, entries_bytes};
@@ -39,7 +40,7 @@ fn put_entry(out: &mut Vec<u8>, w: usize, entry: DynamicEntry) -> Result<(), NoM
 // The entries of needed texts, of which the first is at this offset of the string table; returns the offset behind them.
 fn put_needed(out: &mut Vec<u8>, w: usize, at: u64, texts: &[Text]) -> Result<u64, NoMemory>
     requires width { IsWidth w }
-    requires short { at + length (ended_texts (needed_texts texts.now)) ≤ 2 ^ 24 }
+    requires short { at + length (ended_texts (needed_texts texts.now)) ≤ FILE_MAX }
     ensures put { OnOk result (out.new.items ≡ out.old.items ++ entries_bytes w (text_entries at (needed_texts texts.now))) }
     ensures behind { IfOk result (λ n. n ≡ at + length (ended_texts (needed_texts texts.now))) }
 {
@@ -68,7 +69,7 @@ fn put_optional(
     text: &Option<Text>,
 ) -> Result<u64, NoMemory>
     requires width { IsWidth w }
-    requires short { at + length (ended_texts (tagged_if tag text.now)) ≤ 2 ^ 24 }
+    requires short { at + length (ended_texts (tagged_if tag text.now)) ≤ FILE_MAX }
     ensures put { OnOk result (out.new.items ≡ out.old.items ++ entries_bytes w (text_entries at (tagged_if tag text.now))) }
     ensures behind { IfOk result (λ n. n ≡ at + length (ended_texts (tagged_if tag text.now))) }
 {
@@ -83,7 +84,7 @@ fn put_optional(
 #[tactic(auto, using(crate::proofs::Steps::tagged_sizes, crate::proofs::Steps::texts_are))]
 fn put_texts(out: &mut Vec<u8>, w: usize, dynamic: &Dynamic) -> Result<(), NoMemory>
     requires width { IsWidth w }
-    requires short { 1 + length (ended_texts (tagged dynamic.now)) ≤ 2 ^ 24 }
+    requires short { 1 + length (ended_texts (tagged dynamic.now)) ≤ FILE_MAX }
     ensures { OnOk result (out.new.items ≡ out.old.items ++ entries_bytes w (text_entries 1 (tagged dynamic.now))) }
 {
     let at = put_needed(out, w, 1, dynamic.needed.as_slice())?;
@@ -122,7 +123,7 @@ pub(crate) fn put_section(
 ) -> Result<(), NoMemory>
     requires width { IsWidth w }
     requires size { size ≡ length (strings dynamic.now) }
-    requires short { size ≤ 2 ^ 24 }
+    requires short { size ≤ FILE_MAX }
     ensures { OnOk result (out.new.items ≡ out.old.items ++ entries_bytes w (entries address dynamic.now)) }
 {
     put_texts(out, w, dynamic)?;

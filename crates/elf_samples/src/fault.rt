@@ -9,7 +9,7 @@ use lib_types::NoMemory;
 pub enum SampleFault {
     /// No file says this of itself.
     NoSpec,
-    /// The file would have more than 2^24 bytes.
+    /// The file would have more bytes than `elf_maker::FILE_MAX`.
     TooLong,
     NoMemory,
 }

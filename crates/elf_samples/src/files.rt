@@ -1,5 +1,6 @@
 //! What files are made of, and the files.
-ghost use Rattle.std.specs.Prelude.{◌≡◌, ◌↔◌, ◌<◌, ◌^◌, false, length, IfOk, IsErrOf};
+ghost use Rattle.std.specs.Prelude.{◌≡◌, ◌↔◌, ◌<◌, false, length, IfOk, IsErrOf};
+ghost use Rattle.elf_maker.specs.declared.layout.TheConstants.{FILE_MAX};
 ghost use Rattle.elf_maker.specs.Made.{is_spec, made};
 ghost use Rattle.elf_samples.specs.Samples.{library};
 
@@ -75,7 +76,7 @@ pub fn needing(abi: Abi, needed: Texts) -> Spec
 pub fn file_of(alloc: Global, spec: &Spec) -> Result<Vec<u8>, SampleFault>
     ensures bytes { IfOk result (λ bytes. bytes.items ≡ made spec.now) }
     ensures no_spec { IsErrOf result SampleFault.NoSpec ↔ (is_spec spec.now ≡ false) }
-    ensures too_long { IsErrOf result SampleFault.TooLong → 2 ^ 24 < length (made spec.now) }
+    ensures too_long { IsErrOf result SampleFault.TooLong → FILE_MAX < length (made spec.now) }
 {
     if !is_spec(spec) {
         return Err(SampleFault::NoSpec);

@@ -10,8 +10,9 @@ use Rattle.path_walk.specs.Walk.{resolution}
 use Rattle.path_walk.specs.declared.walk.Mode.TheVariants.{Plain}
 use Rattle.path_walk.specs.declared.walk.WalkFault.{WalkFault}
 use Rattle.image_tree.specs.Tree.{Nodes, kind_at, children_of}
-use Rattle.hwcap_dirs.specs.Places.{Led, are_dirs, dir_at, dir_by, firsts, hwcap_place, hwcaps, is_dir, is_hidden, kept, leads_elsewhere, led_at, place_of_name, places, places_below, places_of, system_dirs}
+use Rattle.hwcap_dirs.specs.Places.{Led, are_dirs, builtin_dirs, dir_at, dir_by, firsts, hwcap_place, hwcaps, is_dir, is_hidden, kept, leads_elsewhere, led_at, place_of_name, places, places_below, places_of}
 use Rattle.hwcap_dirs.specs.declared.kinds.Place.{Place}
+use Rattle.hwcap_dirs.specs.declared.kinds.Scope.{Scope}
 
 -- ---- tests of all items
 
@@ -89,8 +90,9 @@ module _ (t : Nodes) where
       list_all-append at_dir (places_of t led) (flat_map (places_of t) leds)
       ∙ and_from _ _ (and_from _ _ parts.0 (below_here (join led.0 hwcaps) (dir_at t (join led.0 hwcaps)))) (all_here leds parts.1)
 
-  pub places_are_dirs : (conf : List (List ℕ)) → are_dirs t (places t conf) ≡ true
-  unfolding places
-  places_are_dirs conf =
-      all_here (kept t conf) (firsts_lead (filter_map (led_at t) (conf ++ system_dirs))
-      (all_given leads_to_dir any_item (led_at t) (λ text led any e. led_to text led (dir_at t text) refl e) (conf ++ system_dirs) (all_items (conf ++ system_dirs))))
+pub places_are_dirs : (scope : Scope) (t : Nodes) (conf : List (List ℕ)) → are_dirs t (places scope t conf) ≡ true
+unfolding places
+places_are_dirs scope t conf =
+    let dirs = conf ++ builtin_dirs scope in
+    all_here t (kept scope t conf) (firsts_lead t (filter_map (led_at t) dirs)
+    (all_given (leads_to_dir t) any_item (led_at t) (λ text led any e. led_to t text led (dir_at t text) refl e) dirs (all_items dirs)))

@@ -20,8 +20,10 @@ use Rattle.image_tree.specs.Tree.{Nodes, children_of, is_entry}
 use Rattle.image_tree.specs.declared.path.TheConstants.{PATH_MAX}
 use Rattle.hwcap_dirs.proofs.Children.{children_named}
 use Rattle.hwcap_dirs.proofs.Reals.{all_given, all_left}
-use Rattle.hwcap_dirs.specs.Places.{Led, are_spelled, dir_at, dir_by, firsts, hwcap_place, hwcaps, is_hidden, is_spelled, kept, leads_elsewhere, led_at, place_of_name, places, places_below, places_of, system_dirs}
+use Rattle.hwcap_dirs.specs.Places.{Led, are_spelled, builtin_dirs, dir_at, dir_by, firsts, hwcap_place, hwcaps, is_hidden, is_spelled, kept, leads_elsewhere, led_at, place_of_name, places, places_below, places_of}
 use Rattle.hwcap_dirs.specs.declared.kinds.Place.{Place}
+use Rattle.hwcap_dirs.specs.declared.kinds.Scope.{Scope}
+use Rattle.hwcap_dirs.specs.declared.kinds.Scope.TheVariants.{Image, Root}
 use Rattle.hwcap_dirs.specs.declared.kinds.TheConstants.{SPELLED_MAX}
 
 -- ---- sizes
@@ -51,6 +53,10 @@ each_short (text ∷ texts) all =
     let few : length text ≤ 4095 = All-head (λ text. length text ≤ PATH_MAX) text texts all in
     let short : is_short text ≡ true = grind (arith, nat_tests) in
     and_from _ _ short (each_short texts (All-tail (λ text. length text ≤ PATH_MAX) text texts all))
+
+builtin_short : (scope : Scope) → list_all is_short (builtin_dirs scope) ≡ true
+builtin_short Image = refl
+builtin_short (Root conf) = refl
 
 -- ---- texts that lead to directories
 
@@ -114,9 +120,11 @@ module _ (t : Nodes) where
         let parts = and_parts _ _ all in
         list_all-append is_spelled (places_of t led) (flat_map (places_of t) leds) ∙ and_from _ _ (place_well led parts.0) (all_well leds parts.1)
 
-    pub places_are_spelled : (conf : List (List ℕ)) → All (λ dir. length dir ≤ PATH_MAX) conf → are_spelled (places t conf) ≡ true
-    unfolding places
-    places_are_spelled conf short =
-        all_well (kept t conf) (firsts_well (filter_map (led_at t) (conf ++ system_dirs))
-        (all_given is_led is_short (led_at t) (λ text led h e. led_well text led (dir_at t text) h refl e) (conf ++ system_dirs)
-        (list_all-append is_short conf system_dirs ∙ and_from _ _ (each_short conf short) refl)))
+pub places_are_spelled : (scope : Scope) (t : Nodes) → list_all is_entry t ≡ true → (conf : List (List ℕ)) → All (λ dir. length dir ≤ PATH_MAX) conf
+    → are_spelled (places scope t conf) ≡ true
+unfolding places
+places_are_spelled scope t entries conf short =
+    let dirs = conf ++ builtin_dirs scope in
+    all_well t entries (kept scope t conf) (firsts_well t (filter_map (led_at t) dirs)
+    (all_given (is_led t) is_short (led_at t) (λ text led h e. led_well t text led (dir_at t text) h refl e) dirs
+    (list_all-append is_short conf (builtin_dirs scope) ∙ and_from _ _ (each_short conf short) (builtin_short scope))))

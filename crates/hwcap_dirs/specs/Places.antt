@@ -2,7 +2,9 @@
 use Rattle.std.specs.Prelude.{ℕ, Bool, true, false, List, [], ◌∷◌, ◌++◌, ◌&&◌, nat_eq, nat_le, length, not, if◌then◌else◌, filter, flat_map, codes, Option, Some, None, option_map, is_none, Result, Ok, Err}
 use Rattle.std.specs.List.{filter_map, list_all, starts_with}
 use Rattle.std.specs.Str.{bytes_eq}
+use Rattle.lib_types.specs.Abi.{abis, row_of}
 use Rattle.lib_types.specs.Name.{is_name}
+use Rattle.lib_types.specs.declared.abi.Abi.{Abi}
 use Rattle.image_tree.specs.Paths.{join}
 use Rattle.path_walk.specs.Walk.{resolution}
 use Rattle.path_walk.specs.declared.walk.Mode.TheVariants.{Plain}
@@ -12,6 +14,8 @@ use Rattle.image_tree.specs.Tree.{Nodes, kind_at, children_of}
 use Rattle.image_tree.specs.declared.tree.Kind.{Kind}
 use Rattle.image_tree.specs.declared.tree.Kind.TheVariants as kinds
 use Rattle.hwcap_dirs.specs.declared.kinds.Place.{Place}
+use Rattle.hwcap_dirs.specs.declared.kinds.Scope.{Scope}
+use Rattle.hwcap_dirs.specs.declared.kinds.Scope.TheVariants.{Image, Root}
 use Rattle.hwcap_dirs.specs.declared.kinds.TheConstants.{SPELLED_MAX}
 
 -- ---- where a text leads
@@ -32,9 +36,24 @@ dir_at t text = dir_by t (resolution t text Plain)
 
 -- ---- the directories
 
--- those that are looked through after the conf file's
+-- those that the loader searches by itself (ld.so(8))
 abbrev pub system_dirs : List (List ℕ)
 system_dirs = codes "/lib" ∷ codes "/usr/lib" ∷ codes "/lib64" ∷ codes "/usr/lib64" ∷ []
+
+-- the directories of an ABI's libraries in Debian (its multiarch specification)
+abbrev pub debian_dirs_of : Abi → List (List ℕ)
+debian_dirs_of abi = (codes "/lib/" ++ (row_of abi).triplet) ∷ (codes "/usr/lib/" ++ (row_of abi).triplet) ∷ []
+
+abbrev pub debian_dirs : List (List ℕ)
+debian_dirs = flat_map debian_dirs_of abis
+
+abbrev pub all_builtin_dirs : List (List ℕ)
+all_builtin_dirs = system_dirs ++ debian_dirs
+
+-- those that are looked through after the conf file's
+abbrev pub builtin_dirs : Scope → List (List ℕ)
+builtin_dirs Image = system_dirs
+builtin_dirs (Root conf) = all_builtin_dirs
 
 -- a text and the directory to which it leads
 abbrev pub Led : Type 0
@@ -51,8 +70,8 @@ abbrev pub firsts : List Led → List Led
 firsts [] = []
 firsts (led ∷ rest) = led ∷ filter (leads_elsewhere led) (firsts rest)
 
-abbrev pub kept : Nodes → List (List ℕ) → List Led
-kept t conf = firsts (filter_map (led_at t) (conf ++ system_dirs))
+abbrev pub kept : Scope → Nodes → List (List ℕ) → List Led
+kept scope t conf = firsts (filter_map (led_at t) (conf ++ builtin_dirs scope))
 
 -- ---- the subdirectories of a directory
 
@@ -84,8 +103,8 @@ abbrev pub places_of : Nodes → Led → List Place
 places_of t led = record { spelled = led.0; real = led.1; cap = None } ∷ hwcap_places t (join led.0 hwcaps)
 
 -- The places for the conf file's directories; a place's number is its index.
-unfoldable pub places : Nodes → List (List ℕ) → List Place
-places t conf = flat_map (places_of t) (kept t conf)
+unfoldable pub places : Scope → Nodes → List (List ℕ) → List Place
+places scope t conf = flat_map (places_of t) (kept scope t conf)
 
 -- each place is a directory of the tree
 abbrev pub are_dirs : Nodes → List Place → Bool

@@ -5,6 +5,15 @@ use tree_face::PATH_MAX;
 /// The most bytes of a place as it is spelled: a directory of the conf file, `/glibc-hwcaps/` and a name.
 pub const SPELLED_MAX: usize = PATH_MAX + 14 + NAME_MAX;
 
+/// Which directories are looked through: those of a conf file, and then others.
+#[derive(Drop)]
+pub enum Scope {
+    /// Those of `/etc/ld.so.conf`, and those that the loader searches by itself.
+    Image,
+    /// Those of this conf file, or else of `/etc/ld.so.conf`, those that the loader searches by itself, and Debian's of each ABI.
+    Root { conf: Option<Text> },
+}
+
 /// One place. Its number is its index in the list.
 #[derive(Drop)]
 pub struct Place {

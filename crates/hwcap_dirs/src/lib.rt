@@ -5,6 +5,6 @@ mod kinds;
 mod listing;
 mod system;
 
-pub use kinds::{Dirs, Place, Places, SPELLED_MAX};
+pub use kinds::{Dirs, Place, Places, SPELLED_MAX, Scope};
 pub use listing::order;
-pub use system::{SYSTEM_DIRS, next_system_dir};
+pub use system::{SYSTEM_DIRS, next_builtin_dir, next_system_dir};

@@ -5,10 +5,10 @@ ghost use Rattle.std.specs.Str.{bytes_eq};
 ghost use Rattle.indexmap.specs.IndexSet.{insert_key};
 ghost use Rattle.hwcap_dirs.specs.Gathering.{new_places, all_places};
 ghost use Rattle.image_tree.specs.declared.path.TheConstants.{PATH_MAX};
-ghost use Rattle.hwcap_dirs.specs.Places.{absent, are_dirs, are_spelled, dir_at, hwcap_places, is_dir, is_hidden, place_of_name, places, places_of, system_dirs};
+ghost use Rattle.hwcap_dirs.specs.Places.{absent, are_dirs, are_spelled, builtin_dirs, dir_at, hwcap_places, is_dir, is_hidden, place_of_name, places, places_of};
 
-use crate::kinds::{Dirs, Place, Places};
-use crate::system::next_system_dir;
+use crate::kinds::{Dirs, Place, Places, Scope};
+use crate::system::next_builtin_dir;
 use lib_types::{NoMemory, Text, Texts};
 use path_walk::{Mode, WalkFault, join, resolve};
 use std::alloc::Global;
@@ -144,12 +144,12 @@ impl Gathering {
         Ok(true)
     }
 
-    // Adds the directories that every system has.
-    fn add_system(&mut self, alloc: Global, tree: &Tree) -> Result<(), NoMemory>
-        ensures { OnOk result (self.new.places ≡ all_places tree.now self.old.met self.old.places system_dirs) }
+    // Adds the directories that are searched after those of the conf file.
+    fn add_builtin(&mut self, alloc: Global, scope: &Scope, tree: &Tree) -> Result<(), NoMemory>
+        ensures { OnOk result (self.new.places ≡ all_places tree.now self.old.met self.old.places (builtin_dirs scope.now)) }
     {
         let mut done = 0;
-        while let Some((dir, next)) = next_system_dir(done) {
+        while let Some((dir, next)) = next_builtin_dir(scope, done) {
             self.add(alloc, tree, dir)?;
             done = next;
         }
@@ -157,10 +157,10 @@ impl Gathering {
     }
 }
 
-/// The places for the directories of the conf file, with those that every system has behind them.
+/// The places for the directories of the conf file, and then for those that the scope adds.
 #[tactic(auto, unfolding(crate::specs::Places::places, crate::specs::Places::absent))]
-pub fn order(alloc: Global, tree: &Tree, conf: &Texts) -> Result<Dirs, NoMemory>
-    ensures places { IfOk result (λ dirs. dirs.places ≡ places tree.now conf.now) }
+pub fn order(alloc: Global, scope: &Scope, tree: &Tree, conf: &Texts) -> Result<Dirs, NoMemory>
+    ensures places { IfOk result (λ dirs. dirs.places ≡ places scope.now tree.now conf.now) }
     ensures real { IfOk result (λ dirs. IsTrue (are_dirs tree.now dirs.places)) }
     ensures absent { IfOk result (λ dirs. dirs.absent ≡ absent tree.now conf.now) }
     ensures spelled { IfOk result (λ dirs. All (λ dir. length dir ≤ PATH_MAX) conf.now → IsTrue (are_spelled dirs.places)) }
@@ -176,7 +176,7 @@ pub fn order(alloc: Global, tree: &Tree, conf: &Texts) -> Result<Dirs, NoMemory>
             absent.push(Text::copy_of(alloc, dir.as_bytes())?)?;
         }
     }
-    gathering.add_system(alloc, tree)?;
+    gathering.add_builtin(alloc, scope, tree)?;
     Ok(Dirs {
         places: gathering.places,
         absent,

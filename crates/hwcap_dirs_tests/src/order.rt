@@ -1,11 +1,11 @@
 //! The order of directories, with their subdirectories for processors.
-use hwcap_dirs::{Dirs, Places, order};
+use hwcap_dirs::{Dirs, Places, Scope, order};
 use image_rows::{MANIFEST, tree_of};
 use lib_types::NoMemory;
 use std::alloc::Global;
-use table_rows::{Row, Said, Trial, Words, lines_in, list, text};
+use table_rows::{Row, Said, Trial, Words, has_line, lines_in, list, text};
 
-/// A row has a manifest, the directories of the conf file, the search directories, each with its written path, its real path and the name
+/// A row has a manifest, perhaps that the tree is a system's root, the directories of the conf file, the search directories, each with its written path, its real path and the name
 /// of the subdirectory if it is one, and the directories that aren't in the tree.
 pub(crate) struct Order;
 
@@ -33,7 +33,15 @@ fn are_found(alloc: Global, row: Row<'_>, found: &Dirs, said: &mut Said) -> Resu
     )
 }
 
-const WORDS: &[Words] = &[MANIFEST, &[b"dirs", b"places", b"absent"]];
+const WORDS: &[Words] = &[MANIFEST, &[b"root", b"conf-dirs", b"places", b"absent"]];
+
+fn scope_of(row: Row<'_>) -> Scope {
+    if has_line(row, b"root") {
+        Scope::Root { conf: None }
+    } else {
+        Scope::Image
+    }
+}
 
 impl Trial for Order {
     fn words() -> &'static [Words] {
@@ -44,8 +52,8 @@ impl Trial for Order {
         let Some(tree) = tree_of(alloc, row, said)? else {
             return Ok(false);
         };
-        let dirs = list(alloc, b'\n', &text(alloc, row, b"dirs")?)?;
-        let found = order(alloc, &tree, &dirs)?;
+        let dirs = list(alloc, b'\n', &text(alloc, row, b"conf-dirs")?)?;
+        let found = order(alloc, &scope_of(row), &tree, &dirs)?;
         are_found(alloc, row, &found, said)
     }
 }

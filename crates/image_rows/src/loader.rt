@@ -1,12 +1,28 @@
 //! What the loader of a row is given.
 use lib_types::{Abi, NoMemory, Text};
-use rpath_search::Env;
+use rpath_search::{Env, SystemDirs};
 use std::alloc::Global;
 use table_rows::{Row, Words, has_line, list, value};
 
 /// The words of what the loader is given: `env-abi` with its ABI (x86-64 without the line), `caps` with hwcaps names between colons,
-/// `library-path`, `platform`, and `secure` for secure execution.
-pub const LOADER: Words = &[b"env-abi", b"caps", b"library-path", b"platform", b"secure"];
+/// `library-path`, `platform`, `secure` for secure execution, and `root` if Debian's directories are searched too.
+pub const LOADER: Words = &[
+    b"env-abi",
+    b"caps",
+    b"library-path",
+    b"platform",
+    b"secure",
+    b"root",
+];
+
+// Which directories are searched by default.
+fn system_of(row: Row<'_>) -> SystemDirs {
+    if has_line(row, b"root") {
+        SystemDirs::Debian
+    } else {
+        SystemDirs::Loader
+    }
+}
 
 /// What the loader of a row is given.
 pub fn env_of(alloc: Global, row: Row<'_>) -> Result<Env, NoMemory> {
@@ -17,5 +33,6 @@ pub fn env_of(alloc: Global, row: Row<'_>) -> Result<Env, NoMemory> {
         library_path: Text::copy_of(alloc, value(row, b"library-path").unwrap_or(b""))?,
         platform: Text::copy_of(alloc, value(row, b"platform").unwrap_or(b""))?,
         secure: has_line(row, b"secure"),
+        system: system_of(row),
     })
 }

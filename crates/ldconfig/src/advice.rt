@@ -3,20 +3,72 @@ ghost use Rattle.std.specs.Prelude.{◌≡◌, ◌↔◌, ◌||◌, ℕ, None, S
 ghost use Rattle.ldconfig.specs.Notes.{IsFewer};
 
 use command_runs::Status;
+use command_words::Verb;
 use mtree_manifest::LineKind;
 use std::str::from_utf8;
 
-/// The version, the kit, and a line for each command.
-pub const USAGE: &str =
-    "ldconfig for images, release version 1 (made with the Rattle kit, logic dac8208d650f15bf)
-usage: ldconfig update [--tag N]: plans the links of the libraries in image.mtree, in the folder of an image, and makes etc/ld.so.cache; the same without arguments
-usage: ldconfig batch [--tag N]: takes a script from the input: lines put LINE, with a line of a manifest, and drop PATH edit image.mtree, and each line update does what ldconfig update does; edits behind the last one aren't written
-usage: ldconfig sample N: updates images of N made libraries, 1 to 20000, in memory, and prints what was done; no file is read or written
-usage: ldconfig print, or -p: prints etc/ld.so.cache
-usage: ldconfig lookup NAME [--abi ABI] [--caps LIST]: the path that the loader takes from etc/ld.so.cache; LIST: hwcaps names between colons, as in ldconfig lookup libz.so.1 --caps x86-64-v3:x86-64-v2
-usage: ldconfig resolve PATH [--caps LIST] [--library-path LIST] [--platform TEXT] [--secure]: the libraries that the program or library PATH of the image loads, and from where, as ldd lists them
-All run in the folder of an image. What they write and every exit status: README.md and docs/FORMATS.md
+/// The version and the kit.
+pub const VERSION: &str =
+    "ldconfig for images, release version 1 (made with the Rattle kit, logic dac8208d650f15bf)\n";
+
+const ROOT_USAGE: &str = "\
+usage: ldconfig -r ROOT [-N] [-X] [-f CONF] [-C CACHE] [-v] [--aux-cache FILE] [-i] [--check]: makes the links of the libraries in the directory ROOT, and then ROOT/etc/ld.so.cache; -N builds no cache, -X makes no links; CONF and CACHE are paths in ROOT in place of etc/ld.so.conf and etc/ld.so.cache; -v lists the directories and libraries; FILE, of this machine, keeps what the libraries are for the next run, and -i does not read it; --check writes nothing, lists what would change, and ends with status 1 if anything would
+usage: ldconfig -p -r ROOT [-C CACHE]: prints ROOT/etc/ld.so.cache, or CACHE, a path in ROOT
+usage: ldconfig -p -C CACHE: prints the file CACHE
+usage: ldconfig --help, or -?: prints this text; ldconfig COMMAND --help prints the line of a command; ldconfig --version, or -V: prints the first line of it
 ";
+
+const UPDATE_USAGE: &str = "\
+usage: ldconfig update [--tag N]: plans the links of the libraries in image.mtree, in the folder of an image, and makes etc/ld.so.cache; the same without arguments
+";
+
+const BATCH_USAGE: &str = "\
+usage: ldconfig batch [--tag N]: takes a script from the input: lines put LINE, with a line of a manifest, and drop PATH edit image.mtree, and each line update does what ldconfig update does; edits behind the last one aren't written
+";
+
+const SAMPLE_USAGE: &str = "\
+usage: ldconfig sample N: updates images of N made libraries, 1 to 20000, in memory, and prints what was done; no file is read or written
+";
+
+const PRINT_USAGE: &str = "\
+usage: ldconfig print [-r ROOT], or -p: prints etc/ld.so.cache, or that of the directory ROOT
+";
+
+const LOOKUP_USAGE: &str = "\
+usage: ldconfig lookup NAME [--abi ABI] [--caps LIST] [-r ROOT]: the path that the loader takes from etc/ld.so.cache, or that of the directory ROOT; LIST: hwcaps names between colons, as in ldconfig lookup libz.so.1 --caps x86-64-v3:x86-64-v2
+";
+
+const RESOLVE_USAGE: &str = "\
+usage: ldconfig resolve PATH [--caps LIST] [--library-path LIST] [--platform TEXT] [--secure] [-r ROOT]: the libraries that the program or library PATH of the image, or of the directory ROOT, loads, and from where, as ldd lists them
+";
+
+const USAGE_END: &str =
+    "Those without -r and -C run in the folder of an image. What they write and every exit status: README.md and docs/FORMATS.md\n";
+
+/// The usage text: the version, a line for each command, and where they run.
+pub const USAGE: [&str; 9] = [
+    VERSION,
+    ROOT_USAGE,
+    UPDATE_USAGE,
+    BATCH_USAGE,
+    SAMPLE_USAGE,
+    PRINT_USAGE,
+    LOOKUP_USAGE,
+    RESOLVE_USAGE,
+    USAGE_END,
+];
+
+/// The line of a command in the usage text.
+pub fn usage_of(verb: Verb) -> &'static str {
+    match verb {
+        Verb::Update => UPDATE_USAGE,
+        Verb::Batch => BATCH_USAGE,
+        Verb::Sample => SAMPLE_USAGE,
+        Verb::Print => PRINT_USAGE,
+        Verb::Lookup => LOOKUP_USAGE,
+        Verb::Resolve => RESOLVE_USAGE,
+    }
+}
 
 const NO_MANIFEST: &str =
     "ldconfig: image.mtree: No such file or directory\nldconfig: scripts/manifest makes one: scripts/manifest FOLDER >manifest && mv manifest FOLDER/image.mtree\n";
@@ -32,7 +84,7 @@ const BAD_CACHE: &str =
 const NO_PROGRAM: &str =
     "ldconfig: the path leads to no file of image.mtree, links in the image followed\n";
 
-const BAD_PROGRAM: &str =
+pub const BAD_PROGRAM: &str =
     "ldconfig: the line on the output says why the file is no program or library, docs/FORMATS.md explains it\n";
 
 /// The lines, each with its line feed, that are the same whenever a command ends so.
@@ -40,7 +92,6 @@ pub fn advice(status: Status) -> Option<&'static str>
     ensures { status ≡ Status.Done → result ≡ None }
 {
     match status {
-        Status::Usage => Some(USAGE),
         Status::NoManifest => Some(NO_MANIFEST),
         Status::NoCache => Some(NO_CACHE),
         Status::BadCache(_) => Some(BAD_CACHE),

@@ -2,21 +2,32 @@
 #![tactic(auto)]
 
 mod advice;
+mod asking;
+mod aux;
 mod notes;
+mod paths;
+mod print;
+mod root;
+mod root_notes;
 
 ghost use Rattle.std.specs.Prelude.{◌≡◌};
 ghost use Rattle.ldconfig.specs.Start.{code_of};
 
-use advice::{OUT_OF_MEMORY, advice, written_before};
+use advice::{OUT_OF_MEMORY, USAGE, advice, usage_of, written_before};
+use asking::run_asking;
 use command_runs::Status;
+use command_words::help_of;
 use commands::Devices;
-use device_rules::RunId;
+use device_rules::{RunId, SlotPaths};
 use image_folder::HeldFile;
 use ldconfig_cli::{Arguments, run_on};
 use lib_types::NoMemory;
 use notes::{note_manifest, note_size, note_update};
+use print::{print_text, word_of};
+use root::run_root;
+use root_words::is_root_command;
 use standard_streams::{Streams, write_error_line, write_text};
-use std::alloc::AllocError;
+use std::alloc::{AllocError, AllocFailed};
 use std::io::{Error, ErrorKind};
 use std::process::ExitCode;
 use std::random::RandomSource;
@@ -60,6 +71,16 @@ impl From<AllocError> for StartFault {
     ghost from_gives = { λ _ fault. fault ≡ start_fault.NoMemory };
 
     fn from(_: AllocError) -> Self {
+        StartFault::NoMemory
+    }
+}
+
+impl<T: Drop> From<AllocFailed<T>> for StartFault {
+    ghost use Rattle.ldconfig.specs.declared.StartFault.TheVariants as start_fault;
+
+    ghost from_gives = { λ _ fault. fault ≡ start_fault.NoMemory };
+
+    fn from(_: AllocFailed<T>) -> Self {
         StartFault::NoMemory
     }
 }
@@ -125,6 +146,7 @@ where
         }
         Status::TooMany { .. } | Status::TooLarge { .. } => note_size(rt, status, None),
         Status::OutputFault => say(rt, written_before(written.manifest, written.cache)),
+        Status::Usage => say_usage(rt),
         _ => say(rt, advice(status)),
     }
 }
@@ -136,8 +158,15 @@ fn say<R: Streams>(rt: &R, text: Option<&str>) -> io::Result<()> {
     }
 }
 
-// Runs the command in the current folder, and returns its exit status.
-fn run_here<R: Runtime + AllocGlobal + RandomSource + Streams>(
+fn say_usage<R: Streams>(rt: &R) -> io::Result<()> {
+    for part in USAGE {
+        write_text(rt, part)?;
+    }
+    Ok(())
+}
+
+// Runs the command of the arguments, and returns its exit status.
+fn run<R: Runtime + AllocGlobal + RandomSource + Streams>(
     rt: &R,
     process: u32,
 ) -> Result<u8, StartFault>
@@ -152,9 +181,54 @@ where
         Ok(id) => id,
         Err(error) => return Err(fault_of(rt, "random number", error)),
     };
-    let arguments = Arguments::read(rt.alloc(), &words)?;
+    if is_root_command(&words) {
+        run_root(rt, id, &words)
+    } else if let Some(verb) = help_of(&words) {
+        print_text(rt, usage_of(verb))
+    } else {
+        run_arguments(rt, id, &words)
+    }
+}
+
+// Runs the command of these arguments, which are not options, and returns its exit status.
+fn run_arguments<R: Runtime + AllocGlobal + Streams>(
+    rt: &R,
+    id: RunId,
+    words: &Vec<String>,
+) -> Result<u8, StartFault>
+where
+    R::File: HeldFile,
+{
+    let arguments = Arguments::read(rt.alloc(), words)?;
+    let root = root_of(rt, &arguments)?;
+    match root {
+        Some(root) => run_asking(rt, id, root.as_str(), arguments.into_command()),
+        None => run_here(rt, id, arguments),
+    }
+}
+
+// The directory that the command asks, if the arguments name one.
+fn root_of<R: Runtime + AllocGlobal>(
+    rt: &R,
+    arguments: &Arguments<'_>,
+) -> Result<Option<String>, AllocError> {
+    match arguments.root() {
+        Some(root) => Ok(Some(String::from_str(rt.alloc(), word_of(root))?)),
+        None => Ok(None),
+    }
+}
+
+// Runs a command in the working directory, which is that of an image, and returns its exit status.
+fn run_here<R: Runtime + AllocGlobal + Streams>(
+    rt: &R,
+    id: RunId,
+    arguments: Arguments<'_>,
+) -> Result<u8, StartFault>
+where
+    R::File: HeldFile,
+{
     let mut store = FolderStore::new(rt.clone()?, ".")?;
-    let mut disk = FolderDisk::new(rt.clone()?, ".", id)?;
+    let mut disk = FolderDisk::new(rt.clone()?, ".", id, SlotPaths::usual())?;
     let mut input = StdinSource::new(rt.clone()?);
     let mut output = StdoutSink::new(rt.clone()?);
     let devices = Devices {
@@ -171,7 +245,7 @@ where
 
 fn main(rt: HostRuntime) -> ExitCode {
     let process = process::id(rt.process());
-    match run_here(&rt, process) {
+    match run(&rt, process) {
         Ok(code) => ExitCode::from(code),
         Err(fault) => {
             if fault == StartFault::NoMemory {

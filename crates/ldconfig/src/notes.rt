@@ -25,12 +25,7 @@ pub fn note_update<R: Runtime + Streams>(
         let line = format!(in rt.alloc(); "ldconfig: etc/ld.so.cache: no libraries: {why}\n")?;
         write_text(rt, line.as_str())?;
     }
-    if let Some((old, new)) = fewer(written.entries_before, written.entries) {
-        let line = format!(in rt.alloc();
-            "ldconfig: etc/ld.so.cache: {new} libraries, and the cache before had {old}\n"
-        )?;
-        write_text(rt, line.as_str())?;
-    }
+    note_fewer(rt, "etc/ld.so.cache", written)?;
     if !store.has_read_conf() {
         let dirs = system_dirs(rt)?;
         let line = format!(in rt.alloc();
@@ -39,6 +34,17 @@ pub fn note_update<R: Runtime + Streams>(
         write_text(rt, line.as_str())?;
     }
     note_machines(rt, store.machines())
+}
+
+/// Says that a cache has fewer libraries than the one before it.
+pub fn note_fewer<R: Runtime + Streams>(rt: &R, cache: &str, written: Written) -> io::Result<()> {
+    let Some((old, new)) = fewer(written.entries_before, written.entries) else {
+        return Ok(());
+    };
+    let line = format!(in rt.alloc();
+        "ldconfig: {cache}: {new} libraries, and the cache before had {old}\n"
+    )?;
+    write_text(rt, line.as_str())
 }
 
 // The system's directories in their order, as a sentence lists them.
@@ -71,7 +77,8 @@ fn why_none(length: Option<u64>, begun: u64) -> &'static str {
     }
 }
 
-fn note_machines<R: Runtime + Streams>(rt: &R, machines: &Machines<R>) -> io::Result<()> {
+/// Says for which machines there are libraries and no cache.
+pub fn note_machines<R: Runtime + Streams>(rt: &R, machines: &Machines<R>) -> io::Result<()> {
     let Some(first) = &machines.first else {
         return Ok(());
     };

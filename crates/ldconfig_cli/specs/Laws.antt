@@ -1,5 +1,6 @@
 -- What holds of updates, whichever command is run.
 use Rattle.std.specs.Prelude.{◌≡◌}
+use Rattle.hwcap_dirs.specs.declared.kinds.Scope.TheVariants.{Image}
 use Rattle.image_tree.specs.Tree.{Nodes}
 use Rattle.ldconfig_core.specs.Texts.{AreAlike, AreTextsOf, UpdateTexts}
 use Rattle.image_session.specs.Session.{Loaded}
@@ -11,13 +12,13 @@ use Rattle.tree_face.specs.Store.{Contents}
 
 pub record UpdateLaws : Type 0 where
   -- the texts of an update are determined by the session and the contents, and every session has some
-  pub one_update : (held : Contents) (s : Loaded) (a b : UpdateTexts) → AreTextsOf held s a → AreTextsOf held s b → a ≡ b
-  pub some_update : (held : Contents) (s : Loaded) → (texts : UpdateTexts) × AreTextsOf held s texts
+  pub one_update : (held : Contents) (s : Loaded) (a b : UpdateTexts) → AreTextsOf Image held s a → AreTextsOf Image held s b → a ≡ b
+  pub some_update : (held : Contents) (s : Loaded) → (texts : UpdateTexts) × AreTextsOf Image held s texts
   -- Of an honest session (its stamps are true, its files of equal identity have equal content) each file is what it is said to be, so that an update comes
   -- to what one without stamps comes to.
-  pub right : (held : Contents) (s : Loaded) → IsHonest held s → IsSaidRight held s.tree s.stamps
+  pub right : (held : Contents) (s : Loaded) → IsHonest held s → IsSaidRight Image held s.tree s.stamps
   -- what is written depends on the tree and the contents alone, whatever true stamps an auxiliary cache has given
   pub any_stamps : (held : Contents) (s rebuilt : Loaded) (a b : UpdateTexts) → rebuilt.tree ≡ s.tree → rebuilt.edited ≡ s.edited → IsHonest held s → IsHonest held rebuilt
-      → AreTextsOf held s a → AreTextsOf held rebuilt b → AreAlike a b
+      → AreTextsOf Image held s a → AreTextsOf Image held rebuilt b → AreAlike a b
   -- the stamps that an update of it writes are true of each tree whose files of equal identity have equal content
-  pub true_stamps : (held : Contents) (s : Loaded) → IsHonest held s → (u : Nodes) → AreSame held s.tree u → AreTrue held u (stamps_in held s.tree s.stamps)
+  pub true_stamps : (held : Contents) (s : Loaded) → IsHonest held s → (u : Nodes) → AreSame held s.tree u → AreTrue held u (stamps_in Image held s.tree s.stamps)

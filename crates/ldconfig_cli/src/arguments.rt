@@ -1,10 +1,10 @@
 //! The arguments, with the command that they are.
-ghost use Rattle.std.specs.Prelude.{◌≡◌, ◌≢◌, IfOk, None, OnErr, option_copied};
+ghost use Rattle.std.specs.Prelude.{◌≡◌, ◌≢◌, IfOk, None, OnErr, option_copied, option_map};
 ghost use Rattle.command_words.specs.Language.{verb_in};
-ghost use Rattle.command_words.specs.Words.{command_in};
+ghost use Rattle.command_words.specs.Words.{command_in, root_in};
 ghost use Rattle.ldconfig_cli.specs.Runs.{texts_of};
 
-use command_words::{WordsFault, command_of};
+use command_words::{CommandLine, WordsFault, line_of};
 use commands::Command;
 use lib_types::NoMemory;
 use std::alloc::Global;
@@ -15,19 +15,19 @@ use std::marker::Model;
 #[derive(Drop)]
 pub struct Arguments<'a> {
     words: &'a Vec<String>,
-    command: Option<Command>,
+    line: Option<CommandLine>,
 }
 
 impl<'a> Model for Arguments<'a> {
     ghost use Rattle.std.specs.Prelude.{◌≡◌, ℕ, List};
-    ghost use Rattle.command_words.specs.Words.{command_in};
+    ghost use Rattle.command_words.specs.Words.{line_in};
     ghost use Rattle.ldconfig_cli.specs.Runs.{texts_of};
 
     ghost Value = { List (List ℕ) };
 
     ghost view = { λ arguments. texts_of arguments.words.now };
 
-    ghost invariant = { λ arguments. arguments.command ≡ command_in (texts_of arguments.words.now) };
+    ghost invariant = { λ arguments. arguments.line ≡ line_in (texts_of arguments.words.now) };
 }
 
 impl<'a> Arguments<'a> {
@@ -36,15 +36,12 @@ impl<'a> Arguments<'a> {
         ensures texts { IfOk result (λ arguments. arguments ≡ texts_of words.now) }
         ensures named { OnErr result (verb_in (texts_of words.now) ≢ None) }
     {
-        match command_of(alloc, words) {
-            Ok(command) => Ok(Arguments {
+        match line_of(alloc, words) {
+            Ok(line) => Ok(Arguments {
                 words,
-                command: Some(command),
+                line: Some(line),
             }),
-            Err(WordsFault::Usage) => Ok(Arguments {
-                words,
-                command: None,
-            }),
+            Err(WordsFault::Usage) => Ok(Arguments { words, line: None }),
             Err(WordsFault::NoMemory) => Err(NoMemory),
         }
     }
@@ -53,12 +50,38 @@ impl<'a> Arguments<'a> {
     pub fn command(&self) -> Option<&Command>
         ensures { option_copied result ≡ command_in self.now }
     {
-        self.command.as_ref()
+        match &self.line {
+            Some(line) => Some(&line.command),
+            None => None,
+        }
     }
 
-    pub(crate) fn into_command(self) -> Option<Command>
+    /// The directory that the command asks, if the arguments name one.
+    pub fn root(&self) -> Option<&[u8]>
+        ensures { option_map (λ root. root.now) result ≡ root_in self.now }
+    {
+        match &self.line {
+            Some(line) => root_of(line),
+            None => None,
+        }
+    }
+
+    /// The same, without the arguments.
+    pub fn into_command(self) -> Option<Command>
         ensures { result ≡ command_in self.entry }
     {
-        self.command
+        match self.line {
+            Some(line) => Some(line.command),
+            None => None,
+        }
+    }
+}
+
+fn root_of(line: &CommandLine) -> Option<&[u8]>
+    ensures { option_map (λ root. root.now) result ≡ line.now.root }
+{
+    match &line.root {
+        Some(root) => Some(root.as_bytes()),
+        None => None,
     }
 }

@@ -10,10 +10,10 @@ use table_rows::{Row, Said, Trial, Words, count, has_line, text, value};
 use tree_face::Slot;
 
 /// A row has a manifest, the store's files and an auxiliary cache, as far as there are such, and the script if `batch` is run instead of
-/// `update`. It has the exit status if that isn't 0, what is written, how many files are opened, and for a script which files are replaced,
-/// in their order, by their first letters. If some are, it has the new manifest if one is written, the new records if there are some, what is
-/// printed of the new cache, what look-ups in it answer, and its length or its bytes if they are compared. After an update without an error a
-/// second one follows, which writes `again`, or the same without the line.
+/// `update`. It has the exit status if that isn't 0 (`refused`, or `status` of a script), what is written, how many files are opened, and for
+/// a script which files are replaced, in their order, by their first letters. If some are, it has the new manifest if one is written, the new
+/// records if there are some, what is printed of the new cache, what look-ups in it answer, and its length or its bytes if they are compared.
+/// After an update without an error a second one follows, which writes `again`, or the same without the line.
 pub(crate) struct Image;
 
 const WORDS: &[Words] = &[
@@ -22,6 +22,7 @@ const WORDS: &[Words] = &[
     AUX,
     &[
         b"script",
+        b"refused",
         b"status",
         b"output",
         b"opened",
@@ -59,12 +60,21 @@ fn push_slots(slots: &mut Vec<Slot>, letters: &[u8]) -> Result<(), NoMemory> {
 fn replaced<'a>(row: Row<'a>) -> &'a [u8] {
     if has_line(row, b"script") {
         value(row, b"replaced").unwrap_or(b"")
-    } else if has_line(row, b"status") {
+    } else if has_line(row, b"refused") {
         b""
     } else if has_line(row, b"new-manifest") {
         b"MCA"
     } else {
         b"CA"
+    }
+}
+
+// The word of the exit status.
+fn status_word(row: Row<'_>) -> &'static [u8] {
+    if has_line(row, b"script") {
+        b"status"
+    } else {
+        b"refused"
     }
 }
 
@@ -83,7 +93,7 @@ fn is_first(
     };
     let output = text(alloc, row, b"output")?;
     let want = Ending {
-        status: count(row, b"status"),
+        status: count(row, status_word(row)),
         output: &output,
     };
     Ok(

@@ -1,6 +1,6 @@
 pub mod LookedUp
 pub mod OneText
 mod OutcomeRows
-mod PreparedTexts
+pub mod PreparedTexts
 pub mod WrittenSlots
 pub mod SettledImage

@@ -13,6 +13,7 @@ use Rattle.std.specs.Ordering.{int_eq, is_lt, ordering_then}
 use Rattle.std.specs.Str.{bytes_eq}
 use Rattle.std.specs.declared.cmp.Ordering.{Ordering}
 use Rattle.std.specs.declared.cmp.Ordering.TheVariants.{Less, Equal, Greater}
+use Rattle.hwcap_dirs.specs.declared.kinds.Scope.{Scope}
 use Rattle.aux_cache.specs.declared.stamps.Stamp.{Stamp}
 use Rattle.cache_entries.proofs.Led.{walk_by, walk_same}
 use Rattle.cache_entries.proofs.OneEach.{turned}
@@ -178,19 +179,19 @@ names_descend entries cache sorted back = subst (λ (es : List CachedEntry). Are
 
 -- ---- the cache of an image
 
-module _ (held : Contents) (t : Nodes) (loaded : List Stamp) where
-  pub searched : (entries : List Entry) (cache : List ℕ) → AreEntriesOf (entries_in held t loaded) entries → read cache ≡ map (as_read (hwcaps_names entries)) entries
-      → FindsAsSearched held t loaded cache
+module _ (scope : Scope) (held : Contents) (t : Nodes) (loaded : List Stamp) where
+  pub searched : (entries : List Entry) (cache : List ℕ) → AreEntriesOf (entries_in scope held t loaded) entries → read cache ≡ map (as_read (hwcaps_names entries)) entries
+      → FindsAsSearched scope held t loaded cache
   unfolding entries_in walk_in
   searched entries cache are back name abi caps =
       let names : List (List ℕ) = hwcaps_names entries in
       let marked = all_marked names entries (subst (λ (es : List CachedEntry). All (λ (e : CachedEntry). is_named e.hwcap ≡ is_some e.cap) es) back (each_named cache)) in
       ap (λ (es : List CachedEntry). scan es name abi caps) back ∙ scanned names name abi entries marked caps
-      ∙ sym (walk_by name abi caps (said_files held t loaded) (planned_in held t loaded) (places_in held t) entries are)
+      ∙ sym (walk_by name abi caps (said_files scope held t loaded) (planned_in scope held t loaded) (places_in scope held t) entries are)
 
   -- in an image of the same entries the search finds the same
-  pub searched_too : (u : Nodes) (others : List Stamp) (cache : List ℕ) → entries_in held u others ≡ entries_in held t loaded → FindsAsSearched held t loaded cache → FindsAsSearched held u others cache
+  pub searched_too : (u : Nodes) (others : List Stamp) (cache : List ℕ) → entries_in scope held u others ≡ entries_in scope held t loaded → FindsAsSearched scope held t loaded cache → FindsAsSearched scope held u others cache
   unfolding entries_in walk_in
   searched_too u others cache same finds name abi caps =
       finds name abi caps
-      ∙ sym (walk_same name abi caps (said_files held t loaded) (said_files held u others) (planned_in held t loaded) (planned_in held u others) (places_in held t) (places_in held u) same)
+      ∙ sym (walk_same name abi caps (said_files scope held t loaded) (said_files scope held u others) (planned_in scope held t loaded) (planned_in scope held u others) (places_in scope held t) (places_in scope held u) same)

@@ -10,6 +10,8 @@ use Rattle.cache_layout.specs.declared.limits.TheConstants.{ENTRIES_MAX}
 use Rattle.file_stamps.specs.Files.{what_is}
 use Rattle.elf_dynamic.specs.Begun.{file_keys, key_in, lacks_one}
 use Rattle.hwcap_dirs.specs.Places.{places}
+use Rattle.hwcap_dirs.specs.declared.kinds.Scope.{Scope}
+use Rattle.hwcap_dirs.specs.declared.kinds.Scope.TheVariants.{Image, Root}
 use Rattle.ldso_conf.specs.Reading.{conf_lacks, is_missing, reading, reading_of}
 use Rattle.lib_types.specs.declared.entry.Entry.{Entry}
 use Rattle.file_table.specs.Analyses.{Analyses}
@@ -18,7 +20,7 @@ use Rattle.library_files.specs.Search.{reached, wanted}
 use Rattle.planned_tree.proofs.Agree.{agree}
 use Rattle.planned_tree.specs.Search.{IsSearchedAlike}
 use Rattle.soname_links.specs.Apply.{nodes_with}
-use Rattle.soname_links.specs.declared.kinds.Planned.{Planned}
+use Rattle.link_plan.specs.declared.kinds.Planned.{Planned}
 use Rattle.soname_links.specs.Plan.{links, with_links}
 use Rattle.soname_links.specs.Settled.{IsSettled}
 use Rattle.file_stamps.proofs.Truth.{same_in, same_over, true_in}
@@ -32,7 +34,7 @@ use Rattle.library_search.proofs.Honest.{behind_lack, said_is, stamps_true, want
 use Rattle.ldconfig_core.proofs.OneText.{one_entries}
 use Rattle.library_search.proofs.Limits.{within}
 use Rattle.library_search.specs.Begun.{behind_keys, has_too_many_nodes, wanted_keys}
-use Rattle.library_search.specs.Ldconfig.{behind_in, conf_in, entries_in, library_paths, links_in, places_in, planned_in, reached_in, said_files, said_wanted, stamps_in, wanted_in}
+use Rattle.library_search.specs.Ldconfig.{behind_in, conf_in, conf_of, entries_in, library_paths, links_in, places_in, planned_in, reached_in, said_files, said_wanted, stamps_in, wanted_in}
 use Rattle.ldconfig_core.specs.Outcome.{Lacking, TooLarge, TooMany, Writes, first_refusal, is_too_long, manifest_with, new_manifest, size_of, update_outcome}
 use Rattle.image_session.specs.Session.{Loaded}
 use Rattle.ldconfig_core.specs.Settled.{AreCachesAgain, AreSettled}
@@ -51,19 +53,24 @@ none_holds false false false false true entries m n size count h = absurd (cc)
 none_holds false false false false false true m n size count h = absurd (cc)
 none_holds false false false false false false m n size count h = (refl, (refl, (refl, refl)))
 
--- an update that writes no manifest has planned no links, in an image that wasn't edited
-pub unwritten : (held : Contents) (s : Loaded) → new_manifest held s ≡ None → planned_in held s.tree s.stamps ≡ s.tree
+-- an image's update that writes no manifest has planned no links, and the image wasn't edited
+pub unwritten : (held : Contents) (s : Loaded) → new_manifest Image held s ≡ None → planned_in Image held s.tree s.stamps ≡ s.tree
 unfolding new_manifest planned_in
-unwritten held s h = by s.edited (links_in held s.tree s.stamps) refl h
+unwritten held s h = by s.edited (links_in Image held s.tree s.stamps) refl h
   where
-    by : (edited : Bool) (plan : List Planned) → links_in held s.tree s.stamps ≡ plan → manifest_with edited (planned_in held s.tree s.stamps) plan ≡ None
-        → with_links s.tree (links_in held s.tree s.stamps) ≡ s.tree
+    by : (edited : Bool) (plan : List Planned) → links_in Image held s.tree s.stamps ≡ plan → manifest_with Image edited (planned_in Image held s.tree s.stamps) plan ≡ None
+        → with_links s.tree (links_in Image held s.tree s.stamps) ≡ s.tree
     by true plan e h = absurd (cc)
     by false [] e h = ap (with_links s.tree) e
     by false (planned ∷ plan) e h = absurd (cc)
 
-module _ (held : Contents) (s : Loaded) (new : Nodes) (alike : IsSearchedAlike s.tree new) (put : new ≡ planned_in held s.tree s.stamps)
-    (still : IsSettled (said_wanted held s.tree s.stamps) s.tree (places_in held s.tree) new) (tree : IsTree new) where
+-- no manifest is written for an unedited tree that has its links
+none_with : (scope : Scope) (t : Nodes) → manifest_with scope false t [] ≡ None
+none_with Image t = refl
+none_with (Root conf) t = refl
+
+module _ (scope : Scope) (held : Contents) (s : Loaded) (new : Nodes) (alike : IsSearchedAlike s.tree new) (put : new ≡ planned_in scope held s.tree s.stamps)
+    (still : IsSettled (said_wanted scope held s.tree s.stamps) s.tree (places_in scope held s.tree) new) (tree : IsTree new) where
   abbrev t : Nodes
   t = s.tree
 
@@ -72,24 +79,24 @@ module _ (held : Contents) (s : Loaded) (new : Nodes) (alike : IsSearchedAlike s
   loaded = s.stamps
 
   abbrev made : List Stamp
-  made = stamps_in held t loaded
+  made = stamps_in scope held t loaded
 
-  same_conf : conf_in held new ≡ conf_in held t
+  same_conf : conf_in scope held new ≡ conf_in scope held t
   unfolding conf_in reading
-  same_conf = ap reading_of (alike.conf held)
+  same_conf = ap reading_of (alike.conf (conf_of scope) held)
 
-  same_lacks : conf_lacks held new ≡ conf_lacks held t
+  same_lacks : conf_lacks (conf_of scope) held new ≡ conf_lacks (conf_of scope) held t
   unfolding conf_lacks
-  same_lacks = ap (λ items. list_any is_missing items) (alike.conf held)
+  same_lacks = ap (λ items. list_any is_missing items) (alike.conf (conf_of scope) held)
 
-  same_places : places_in held new ≡ places_in held t
+  same_places : places_in scope held new ≡ places_in scope held t
   unfolding places_in
-  same_places = ap (λ r. places new r.dirs) same_conf ∙ alike.places (conf_in held t).dirs
+  same_places = ap (λ r. places scope new r.dirs) same_conf ∙ alike.places scope (conf_in scope held t).dirs
 
   same_keys : (paths : List (List ℕ)) → file_keys new paths ≡ file_keys t paths
   same_keys paths = ap (λ f. filter_map f paths) (agree (λ path. key_in (node_at new path)) (λ path. key_in (node_at t path)) (key_same held t new alike))
 
-  same_wanted : wanted_in held new ≡ wanted_in held t
+  same_wanted : wanted_in scope held new ≡ wanted_in scope held t
   unfolding wanted_in
   same_wanted = ap (wanted new) same_places ∙ still.files
 
@@ -111,7 +118,7 @@ module _ (held : Contents) (s : Loaded) (new : Nodes) (alike : IsSearchedAlike s
     same_there = same_in held t new ids contents same
 
     made_of : (u : Nodes) → AreSame held t u → AreTrue held u made
-    made_of = stamps_true held t same loaded are
+    made_of = stamps_true scope held t same loaded are
 
     made_true : AreTrue held new made
     made_true = made_of new (same_over held t new ids contents same)
@@ -119,92 +126,96 @@ module _ (held : Contents) (s : Loaded) (new : Nodes) (alike : IsSearchedAlike s
     same_what : what_is held new ≡ what_is held t
     same_what = agree (what_is held new) (what_is held t) (what_same held t new alike)
 
-    wanted_said : said_wanted held new made ≡ said_wanted held t loaded
-    wanted_said = wanted_is held new same_there made made_true ∙ same_what ∙ sym (wanted_is held t same loaded are)
+    wanted_said : said_wanted scope held new made ≡ said_wanted scope held t loaded
+    wanted_said = wanted_is scope held new same_there made made_true ∙ same_what ∙ sym (wanted_is scope held t same loaded are)
 
-    all_said : said_files held new made ≡ said_files held t loaded
-    all_said = said_is held new same_there made made_true ∙ same_what ∙ sym (said_is held t same loaded are)
+    all_said : said_files scope held new made ≡ said_files scope held t loaded
+    all_said = said_is scope held new same_there made made_true ∙ same_what ∙ sym (said_is scope held t same loaded are)
 
-    no_links : links_in held new made ≡ []
+    no_links : links_in scope held new made ≡ []
     unfolding links_in
-    no_links = ap (λ (w : Analyses). links w new (places_in held new)) wanted_said ∙ ap (links (said_wanted held t loaded) new) same_places ∙ still.none
+    no_links = ap (λ (w : Analyses). links w new (places_in scope held new)) wanted_said ∙ ap (links (said_wanted scope held t loaded) new) same_places ∙ still.none
 
-    stays : planned_in held new made ≡ new
+    stays : planned_in scope held new made ≡ new
     unfolding planned_in
     stays = ap (with_links new) no_links
 
-    same_tree : planned_in held new made ≡ planned_in held t loaded
+    same_tree : planned_in scope held new made ≡ planned_in scope held t loaded
     same_tree = stays ∙ put
 
-    same_reached : reached_in held new made ≡ reached_in held t loaded
+    same_reached : reached_in scope held new made ≡ reached_in scope held t loaded
     unfolding reached_in
-    same_reached = ap (λ n. reached n (places_in held new)) same_tree ∙ ap (reached (planned_in held t loaded)) same_places
+    same_reached = ap (λ n. reached n (places_in scope held new)) same_tree ∙ ap (reached (planned_in scope held t loaded)) same_places
 
-    same_entries : entries_in held new made ≡ entries_in held t loaded
+    same_entries : entries_in scope held new made ≡ entries_in scope held t loaded
     unfolding entries_in
     same_entries =
-        ap (λ (w : Analyses). found w (planned_in held new made) (places_in held new)) all_said
-        ∙ ap (λ n. found (said_files held t loaded) n (places_in held new)) same_tree
-        ∙ ap (found (said_files held t loaded) (planned_in held t loaded)) same_places
+        ap (λ (w : Analyses). found w (planned_in scope held new made) (places_in scope held new)) all_said
+        ∙ ap (λ n. found (said_files scope held t loaded) n (places_in scope held new)) same_tree
+        ∙ ap (found (said_files scope held t loaded) (planned_in scope held t loaded)) same_places
 
-    same_behind : behind_in held new made ≡ behind_in held t loaded
+    same_behind : behind_in scope held new made ≡ behind_in scope held t loaded
     same_behind =
-        ap (λ paths. filter (λ path. not (list_any (bytes_eq path) paths)) (reached_in held new made)) same_wanted
-        ∙ ap (λ paths. filter (λ path. not (list_any (bytes_eq path) (wanted_in held t))) paths) same_reached
+        ap (λ paths. filter (λ path. not (list_any (bytes_eq path) paths)) (reached_in scope held new made)) same_wanted
+        ∙ ap (λ paths. filter (λ path. not (list_any (bytes_eq path) (wanted_in scope held t))) paths) same_reached
 
-    same_stamps : stamps_in held new made ≡ stamps_in held t loaded
+    same_stamps : stamps_in scope held new made ≡ stamps_in scope held t loaded
     unfolding stamps_in
     same_stamps =
-        ap (λ (w : Analyses). with_stamps [] (stamps_said new w (library_paths held new made))) all_said
-        ∙ ap (λ f. with_stamps [] (filter_map f (library_paths held new made)))
-        (agree (λ path. stamp_by (id_at new path) (said_files held t loaded path)) (λ path. stamp_by (id_at t path) (said_files held t loaded path))
-        (λ path. ap (λ i. stamp_by i (said_files held t loaded path)) (ids path)))
-        ∙ ap (λ paths. with_stamps [] (stamps_said t (said_files held t loaded) (paths ++ behind_in held new made))) same_wanted
-        ∙ ap (λ paths. with_stamps [] (stamps_said t (said_files held t loaded) (wanted_in held t ++ paths))) same_behind
+        ap (λ (w : Analyses). with_stamps [] (stamps_said new w (library_paths scope held new made))) all_said
+        ∙ ap (λ f. with_stamps [] (filter_map f (library_paths scope held new made)))
+        (agree (λ path. stamp_by (id_at new path) (said_files scope held t loaded path)) (λ path. stamp_by (id_at t path) (said_files scope held t loaded path))
+        (λ path. ap (λ i. stamp_by i (said_files scope held t loaded path)) (ids path)))
+        ∙ ap (λ paths. with_stamps [] (stamps_said t (said_files scope held t loaded) (paths ++ behind_in scope held new made))) same_wanted
+        ∙ ap (λ paths. with_stamps [] (stamps_said t (said_files scope held t loaded) (wanted_in scope held t ++ paths))) same_behind
 
     -- a file isn't held in the one update exactly if one isn't in the other
-    wanted_again : lacks_one held (wanted_keys held new made) ≡ lacks_one held (wanted_keys held t loaded)
+    wanted_again : lacks_one held (wanted_keys scope held new made) ≡ lacks_one held (wanted_keys scope held t loaded)
     wanted_again =
-        wanted_lack held new same_there made made_true
-        ∙ ap (lacks_one held) (ap (file_keys new) same_wanted ∙ same_keys (wanted_in held t))
-        ∙ sym (wanted_lack held t same loaded are)
+        wanted_lack scope held new same_there made made_true
+        ∙ ap (lacks_one held) (ap (file_keys new) same_wanted ∙ same_keys (wanted_in scope held t))
+        ∙ sym (wanted_lack scope held t same loaded are)
 
-    behind_again : lacks_one held (behind_keys held new made) ≡ lacks_one held (behind_keys held t loaded)
+    behind_again : lacks_one held (behind_keys scope held new made) ≡ lacks_one held (behind_keys scope held t loaded)
     behind_again =
-        behind_lack held new same_there made made_true
-        ∙ ap (lacks_one held) (ap (file_keys new) same_behind ∙ same_keys (behind_in held t loaded))
-        ∙ sym (behind_lack held t same loaded are)
+        behind_lack scope held new same_there made made_true
+        ∙ ap (lacks_one held) (ap (file_keys new) same_behind ∙ same_keys (behind_in scope held t loaded))
+        ∙ sym (behind_lack scope held t same loaded are)
 
-    no_manifest : new_manifest held image ≡ None
+    no_manifest : new_manifest scope held image ≡ None
     unfolding new_manifest
-    no_manifest = ap (manifest_with false (planned_in held new made)) no_links
+    no_manifest = ap (manifest_with scope false (planned_in scope held new made)) no_links ∙ none_with scope (planned_in scope held new made)
 
-    enough : has_too_many_nodes held new made ≡ false
+    enough : has_too_many_nodes scope held new made ≡ false
     unfolding ascending
     enough = ap (λ plan. nat_lt NODES_MAX (nodes_with new plan)) no_links ∙ within NODES_MAX (nodes_with new []) (omega (arith, tree.few))
 
-    still_writes : update_outcome held s ≡ Writes → update_outcome held image ≡ Writes
+    still_writes : update_outcome scope held s ≡ Writes → update_outcome scope held image ≡ Writes
     unfolding update_outcome
     still_writes h =
-        let none = none_holds (conf_lacks held t) (lacks_one held (wanted_keys held t loaded)) (has_too_many_nodes held t loaded) (lacks_one held (behind_keys held t loaded))
-        (is_too_long (new_manifest held s)) (nat_lt ENTRIES_MAX (length (entries_in held t loaded))) (nodes_with t (links_in held t loaded)) (length (planned_in held t loaded))
-        (size_of (new_manifest held s)) (length (entries_in held t loaded)) h in
-        let conf_held : conf_lacks held new ≡ false = same_lacks ∙ none.0 in
-        let wanted_held : lacks_one held (wanted_keys held new made) ≡ false = wanted_again ∙ none.1.0 in
-        let files_held : lacks_one held (behind_keys held new made) ≡ false = behind_again ∙ none.1.1.0 in
-        let entries_few : nat_lt ENTRIES_MAX (length (entries_in held new made)) ≡ false = ap (λ found. nat_lt ENTRIES_MAX (length found)) same_entries ∙ none.1.1.1 in
+        let none = none_holds (conf_lacks (conf_of scope) held t) (lacks_one held (wanted_keys scope held t loaded)) (has_too_many_nodes scope held t loaded) (lacks_one held (behind_keys scope held t loaded))
+        (is_too_long (new_manifest scope held s)) (nat_lt ENTRIES_MAX (length (entries_in scope held t loaded))) (nodes_with t (links_in scope held t loaded)) (length (planned_in scope held t loaded))
+        (size_of (new_manifest scope held s)) (length (entries_in scope held t loaded)) h in
+        let conf_held : conf_lacks (conf_of scope) held new ≡ false = same_lacks ∙ none.0 in
+        let wanted_held : lacks_one held (wanted_keys scope held new made) ≡ false = wanted_again ∙ none.1.0 in
+        let files_held : lacks_one held (behind_keys scope held new made) ≡ false = behind_again ∙ none.1.1.0 in
+        let entries_few : nat_lt ENTRIES_MAX (length (entries_in scope held new made)) ≡ false = ap (λ found. nat_lt ENTRIES_MAX (length found)) same_entries ∙ none.1.1.1 in
         rw (conf_held, wanted_held, enough, files_held, no_manifest, entries_few) refl
 
-    caches_again : (texts again : UpdateTexts) → AreTextsOf held s texts → AreTextsOf held image again → AreCachesAgain texts again
+    caches_again : (texts again : UpdateTexts) → AreTextsOf scope held s texts → AreTextsOf scope held image again → AreCachesAgain texts again
     caches_again texts again are is =
-        let of_tree : AreEntriesOf (entries_in held t loaded) is.entries = subst (λ (found : List Entry). AreEntriesOf found is.entries) same_entries is.are in
+        let of_tree : AreEntriesOf (entries_in scope held t loaded) is.entries = subst (λ (found : List Entry). AreEntriesOf found is.entries) same_entries is.are in
         record {
           manifest = is.manifest_is ∙ no_manifest;
-          cache = is.cache_is ∙ ap cache_text (one_entries held s is.entries are.entries of_tree are.are) ∙ sym are.cache_is;
+          cache = is.cache_is ∙ ap cache_text (one_entries scope held s is.entries are.entries of_tree are.are) ∙ sym are.cache_is;
           aux = is.aux_is ∙ ap aux_text same_stamps ∙ sym are.aux_is;
         }
 
-    pub are_settled : AreSettled held s (stored_image new (stamps_in held s.tree s.stamps))
+    put_before : (scope : Scope) → new ≡ planned_in scope held s.tree s.stamps → scope ≡ Image → new_manifest scope held s ≡ None → new ≡ s.tree
+    put_before Image put e h = put ∙ unwritten held s h
+    put_before (Root conf) put e h = absurd (cc)
+
+    pub are_settled : AreSettled scope held s (stored_image new (stamps_in scope held s.tree s.stamps))
     are_settled = record {
       conf = same_conf;
       places = same_places;
@@ -215,7 +226,7 @@ module _ (held : Contents) (s : Loaded) (new : Nodes) (alike : IsSearchedAlike s
       entries = same_entries;
       stamps = same_stamps;
       no_manifest = no_manifest;
-      unchanged = λ h. put ∙ unwritten held s h;
+      unchanged = put_before scope put;
       ids = ids;
       contents = contents;
       are_true = made_true;

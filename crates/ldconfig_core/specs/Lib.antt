@@ -1,4 +1,5 @@
 pub mod Faults
+pub mod Looked
 pub mod Lookup
 pub mod Outcome
 pub mod Repair

@@ -1,5 +1,6 @@
 -- What look-ups in a cache find, against the search of the image's directories.
 use Rattle.std.specs.Prelude.{◌≡◌, ℕ, List}
+use Rattle.hwcap_dirs.specs.declared.kinds.Scope.{Scope}
 use Rattle.aux_cache.specs.declared.stamps.Stamp.{Stamp}
 use Rattle.cache_lookup.specs.Scan.{scan}
 use Rattle.cache_reader.specs.Cache.{read}
@@ -9,5 +10,5 @@ use Rattle.image_tree.specs.Tree.{Nodes}
 use Rattle.library_search.specs.Ldconfig.{walk_in}
 
 -- For each name, ABI and list of hwcaps names the loader finds by the cache what the search of the directories finds: this path, or none.
-abbrev pub FindsAsSearched : Contents → Nodes → List Stamp → List ℕ → Type 0
-FindsAsSearched held t loaded cache = (name : List ℕ) (abi : Abi) (caps : List (List ℕ)) → scan (read cache) name abi caps ≡ walk_in held t loaded name abi caps
+abbrev pub FindsAsSearched : Scope → Contents → Nodes → List Stamp → List ℕ → Type 0
+FindsAsSearched scope held t loaded cache = (name : List ℕ) (abi : Abi) (caps : List (List ℕ)) → scan (read cache) name abi caps ≡ walk_in scope held t loaded name abi caps

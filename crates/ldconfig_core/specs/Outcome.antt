@@ -1,17 +1,19 @@
 -- The outcome of an update of a loaded image, for given contents.
 use Rattle.std.specs.Prelude.{ℕ, Bool, true, false, List, [], ◌∷◌, nat_lt, if◌then◌else◌, length, Option, Some, None}
+use Rattle.hwcap_dirs.specs.declared.kinds.Scope.{Scope}
+use Rattle.hwcap_dirs.specs.declared.kinds.Scope.TheVariants.{Image, Root}
 use Rattle.cache_layout.specs.declared.limits.TheConstants.{ENTRIES_MAX}
 use Rattle.elf_dynamic.specs.Begun.{lacks_one}
 use Rattle.ldso_conf.specs.Reading.{conf_lacks}
 use Rattle.mtree_manifest.specs.Canon.{canon}
 use Rattle.mtree_manifest.specs.declared.fault.TheConstants.{TEXT_MAX}
 use Rattle.soname_links.specs.Apply.{nodes_with}
-use Rattle.soname_links.specs.declared.kinds.Planned.{Planned}
+use Rattle.link_plan.specs.declared.kinds.Planned.{Planned}
 use Rattle.tree_face.specs.Store.{Contents}
 use Rattle.image_tree.specs.Tree.{Nodes}
 use Rattle.image_session.specs.Session.{Loaded}
 use Rattle.library_search.specs.Begun.{behind_keys, has_too_many_nodes, wanted_keys}
-use Rattle.library_search.specs.Ldconfig.{entries_in, links_in, planned_in}
+use Rattle.library_search.specs.Ldconfig.{conf_of, entries_in, links_in, planned_in}
 
 pub data Outcome : Type 0 where
   -- the content of a conf file, or of a library file that is opened, isn't held
@@ -20,17 +22,18 @@ pub data Outcome : Type 0 where
   TooLarge : ℕ → ℕ → Outcome
   -- there are more entries than a cache may have
   TooMany : ℕ → Outcome
-  -- the caches are written, and before them the manifest if the image was edited or links are planned
+  -- the caches are written, and before them an image's manifest if it was edited or links are planned
   Writes : Outcome
 
--- the manifest that is written for the tree with these links, if it was edited or there are any
-abbrev pub manifest_with : Bool → Nodes → List Planned → Option (List ℕ)
-manifest_with true t plan = Some (canon t)
-manifest_with false t [] = None
-manifest_with false t (planned ∷ plan) = Some (canon t)
+-- The manifest that is written for the tree with these links, if it was edited or there are any. A directory has none.
+abbrev pub manifest_with : Scope → Bool → Nodes → List Planned → Option (List ℕ)
+manifest_with (Root conf) edited t plan = None
+manifest_with Image true t plan = Some (canon t)
+manifest_with Image false t [] = None
+manifest_with Image false t (planned ∷ plan) = Some (canon t)
 
-unfoldable pub new_manifest : Contents → Loaded → Option (List ℕ)
-new_manifest held s = manifest_with s.edited (planned_in held s.tree s.stamps) (links_in held s.tree s.stamps)
+unfoldable pub new_manifest : Scope → Contents → Loaded → Option (List ℕ)
+new_manifest scope held s = manifest_with scope s.edited (planned_in scope held s.tree s.stamps) (links_in scope held s.tree s.stamps)
 
 abbrev pub is_too_long : Option (List ℕ) → Bool
 is_too_long None = false
@@ -44,14 +47,14 @@ size_of (Some text) = length text
 abbrev pub Refusal : Type 0
 Refusal = Bool × Outcome
 
-abbrev pub refusals : Contents → Loaded → List Refusal
-refusals held s =
-    (conf_lacks held s.tree, Lacking)
-    ∷ (lacks_one held (wanted_keys held s.tree s.stamps), Lacking)
-    ∷ (has_too_many_nodes held s.tree s.stamps, TooLarge (nodes_with s.tree (links_in held s.tree s.stamps)) 0)
-    ∷ (lacks_one held (behind_keys held s.tree s.stamps), Lacking)
-    ∷ (is_too_long (new_manifest held s), TooLarge (length (planned_in held s.tree s.stamps)) (size_of (new_manifest held s)))
-    ∷ (nat_lt ENTRIES_MAX (length (entries_in held s.tree s.stamps)), TooMany (length (entries_in held s.tree s.stamps)))
+abbrev pub refusals : Scope → Contents → Loaded → List Refusal
+refusals scope held s =
+    (conf_lacks (conf_of scope) held s.tree, Lacking)
+    ∷ (lacks_one held (wanted_keys scope held s.tree s.stamps), Lacking)
+    ∷ (has_too_many_nodes scope held s.tree s.stamps, TooLarge (nodes_with s.tree (links_in scope held s.tree s.stamps)) 0)
+    ∷ (lacks_one held (behind_keys scope held s.tree s.stamps), Lacking)
+    ∷ (is_too_long (new_manifest scope held s), TooLarge (length (planned_in scope held s.tree s.stamps)) (size_of (new_manifest scope held s)))
+    ∷ (nat_lt ENTRIES_MAX (length (entries_in scope held s.tree s.stamps)), TooMany (length (entries_in scope held s.tree s.stamps)))
     ∷ []
 
 -- the first whose condition holds
@@ -59,5 +62,5 @@ abbrev pub first_refusal : List Refusal → Outcome
 first_refusal [] = Writes
 first_refusal (refusal ∷ rest) = if refusal.0 then refusal.1 else first_refusal rest
 
-unfoldable pub update_outcome : Contents → Loaded → Outcome
-update_outcome held s = first_refusal (refusals held s)
+unfoldable pub update_outcome : Scope → Contents → Loaded → Outcome
+update_outcome scope held s = first_refusal (refusals scope held s)

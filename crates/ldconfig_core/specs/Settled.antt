@@ -1,5 +1,7 @@
 -- What an update leaves is settled: an update of it finds the same, plans no link and writes the same caches.
 use Rattle.std.specs.Prelude.{◌≡◌, ℕ, false, List, [], Option, Some, None, IfSome}
+use Rattle.hwcap_dirs.specs.declared.kinds.Scope.{Scope}
+use Rattle.hwcap_dirs.specs.declared.kinds.Scope.TheVariants.{Image}
 use Rattle.image_session.specs.Manifest.{HasTree, manifest_of}
 use Rattle.image_session.specs.Session.{Loaded}
 use Rattle.library_search.specs.Ldconfig.{conf_in, entries_in, links_in, places_in, planned_in, reached_in, stamps_in, wanted_in}
@@ -10,8 +12,8 @@ use Rattle.ldconfig_core.specs.Outcome.{Writes, new_manifest, update_outcome}
 use Rattle.ldconfig_core.specs.Texts.{AreTextsOf, UpdateTexts}
 
 -- the image with the planned links, and with the stamps of its libraries
-abbrev pub planned_image : Contents → Loaded → Loaded
-planned_image held s = record { tree = planned_in held s.tree s.stamps; stamps = stamps_in held s.tree s.stamps; edited = false; damaged = None }
+abbrev pub planned_image : Scope → Contents → Loaded → Loaded
+planned_image scope held s = record { tree = planned_in scope held s.tree s.stamps; stamps = stamps_in scope held s.tree s.stamps; edited = false; damaged = None }
 
 -- the image without its auxiliary cache
 abbrev pub unstamped_image : Loaded → Loaded
@@ -28,18 +30,18 @@ pub record AreCachesAgain (texts again : UpdateTexts) : Type 0 where
   pub aux : again.aux ≡ texts.aux
 
 -- an update of the new image is that of the old one, except that the planned links are there; its stamps are true
-pub record AreSettled (held : Contents) (s new : Loaded) : Type 0 where
-  pub conf : conf_in held new.tree ≡ conf_in held s.tree
-  pub places : places_in held new.tree ≡ places_in held s.tree
-  pub wanted : wanted_in held new.tree ≡ wanted_in held s.tree
-  pub no_links : links_in held new.tree new.stamps ≡ []
-  pub planned : planned_in held new.tree new.stamps ≡ new.tree
-  pub reached : reached_in held new.tree new.stamps ≡ reached_in held s.tree s.stamps
-  pub entries : entries_in held new.tree new.stamps ≡ entries_in held s.tree s.stamps
-  pub stamps : stamps_in held new.tree new.stamps ≡ stamps_in held s.tree s.stamps
-  pub no_manifest : new_manifest held new ≡ None
-  -- no manifest is written only if the tree had its links
-  pub unchanged : new_manifest held s ≡ None → new.tree ≡ s.tree
+pub record AreSettled (scope : Scope) (held : Contents) (s new : Loaded) : Type 0 where
+  pub conf : conf_in scope held new.tree ≡ conf_in scope held s.tree
+  pub places : places_in scope held new.tree ≡ places_in scope held s.tree
+  pub wanted : wanted_in scope held new.tree ≡ wanted_in scope held s.tree
+  pub no_links : links_in scope held new.tree new.stamps ≡ []
+  pub planned : planned_in scope held new.tree new.stamps ≡ new.tree
+  pub reached : reached_in scope held new.tree new.stamps ≡ reached_in scope held s.tree s.stamps
+  pub entries : entries_in scope held new.tree new.stamps ≡ entries_in scope held s.tree s.stamps
+  pub stamps : stamps_in scope held new.tree new.stamps ≡ stamps_in scope held s.tree s.stamps
+  pub no_manifest : new_manifest scope held new ≡ None
+  -- no manifest of an image is written only if the tree had its links
+  pub unchanged : scope ≡ Image → new_manifest scope held s ≡ None → new.tree ≡ s.tree
   -- each path has the same identity and content
   pub ids : (path : List ℕ) → id_at new.tree path ≡ id_at s.tree path
   pub contents : (path : List ℕ) → content_of held new.tree path ≡ content_of held s.tree path
@@ -48,5 +50,5 @@ pub record AreSettled (held : Contents) (s new : Loaded) : Type 0 where
   -- stamps that are true of the old image are true of the new one, and the other way round
   pub true_too : (stamps : List Stamp) → AreTrue held s.tree stamps → AreTrue held new.tree stamps
   pub true_before : AreTrue held s.tree new.stamps
-  pub outcome : update_outcome held s ≡ Writes → update_outcome held new ≡ Writes
-  pub texts : (texts again : UpdateTexts) → AreTextsOf held s texts → AreTextsOf held new again → AreCachesAgain texts again
+  pub outcome : update_outcome scope held s ≡ Writes → update_outcome scope held new ≡ Writes
+  pub texts : (texts again : UpdateTexts) → AreTextsOf scope held s texts → AreTextsOf scope held new again → AreCachesAgain texts again

@@ -2,6 +2,7 @@
 use Rattle.std.specs.Prelude.{◌≡◌, ◌≤◌, ◌<◌, ℕ, Bool, true, false, List, length, map, Option, Some, None, IfSome}
 use Rattle.std.specs.List.{filter_map}
 use Rattle.std.specs.Map.{keys_of}
+use Rattle.hwcap_dirs.specs.declared.kinds.Scope.{Scope}
 use Rattle.cache_entries.specs.Entries as entries
 use Rattle.cache_entries.specs.Entries.{AreEntriesOf}
 use Rattle.cache_reader.specs.Cache.{defect, read}
@@ -11,12 +12,13 @@ use Rattle.cache_layout.specs.declared.limits.TheConstants.{ENTRIES_MAX}
 use Rattle.lib_types.specs.declared.entry.Entry.{Entry}
 use Rattle.string_pool.specs.Order.{ascending}
 use Rattle.file_table.specs.Table.{analysis_at}
-use Rattle.soname_links.specs.declared.kinds.Planned.{Planned}
+use Rattle.link_plan.specs.declared.kinds.Planned.{Planned}
 use Rattle.image_tree.specs.Tree.{Nodes}
 use Rattle.update_report.specs.Report.{Said, report_text}
 use Rattle.update_report.specs.Skips.{skip_at}
 use Rattle.library_search.specs.declared.finding.Found.{Found}
-use Rattle.ldconfig_core.specs.declared.prepare.Prepared.{Prepared}
+use Rattle.ldconfig_core.specs.declared.preparing.Looked.{Looked}
+use Rattle.ldconfig_core.specs.declared.preparing.Prepared.{Prepared}
 use Rattle.ldconfig_core.specs.Outcome.{is_too_long, manifest_with, size_of}
 use Rattle.image_session.specs.Session.{Loaded}
 use Rattle.image_session.specs.Aux.{stamps_of_slot}
@@ -52,27 +54,32 @@ said_of damaged found entries = record {
   opened = found.search.files.begun;
 }
 
+-- where it was looked for
+abbrev pub looked_of : Found → Looked
+looked_of found = record { conf = found.search.conf; dirs = found.search.dirs; bests = found.links.bests }
+
 -- a manifest, if one is written, reads as the tree
 abbrev pub IfTree : Option (List ℕ) → Nodes → Type 0
 IfTree manifest tree = IfSome manifest (λ text. manifest_of (Some text) ≡ HasTree tree)
 
 -- the manifest is too long, and these are the sizes of the image
-abbrev pub IsTooLarge : Bool → Nodes → List Planned → ℕ → ℕ → Type 0
-IsTooLarge edited tree plan nodes bytes =
-    (nodes ≡ length tree) × ((bytes ≡ size_of (manifest_with edited tree plan)) × (is_too_long (manifest_with edited tree plan) ≡ true))
+abbrev pub IsTooLarge : Scope → Bool → Nodes → List Planned → ℕ → ℕ → Type 0
+IsTooLarge scope edited tree plan nodes bytes =
+    (nodes ≡ length tree) × ((bytes ≡ size_of (manifest_with scope edited tree plan)) × (is_too_long (manifest_with scope edited tree plan) ≡ true))
 
 -- the manifest isn't too long, but this is the number of entries, which is too large
-abbrev pub HasTooMany : Bool → Found → Nodes → ℕ → Type 0
-HasTooMany edited found tree count =
-    (is_too_long (manifest_with edited tree found.links.plan) ≡ false) × ((count ≡ length (entries_of found tree)) × (ENTRIES_MAX < count))
+abbrev pub HasTooMany : Scope → Bool → Found → Nodes → ℕ → Type 0
+HasTooMany scope edited found tree count =
+    (is_too_long (manifest_with scope edited tree found.links.plan) ≡ false) × ((count ≡ length (entries_of found tree)) × (ENTRIES_MAX < count))
 
 -- the texts and the numbers of what is found
-pub record IsMadeOf (edited : Bool) (damaged : Option ℕ) (found : Found) (tree : Nodes) (prepared : Prepared) : Type 0 where
+pub record IsMadeOf (scope : Scope) (edited : Bool) (damaged : Option ℕ) (found : Found) (tree : Nodes) (prepared : Prepared) : Type 0 where
   pub entries : List Entry
   pub are : AreEntriesOf (entries_of found tree) entries
   pub few : length (entries_of found tree) ≤ ENTRIES_MAX
-  pub manifest : manifest_bytes prepared.manifest ≡ manifest_with edited tree found.links.plan
-  pub short : is_too_long (manifest_with edited tree found.links.plan) ≡ false
+  pub plan : prepared.plan ≡ found.links.plan
+  pub manifest : manifest_bytes prepared.manifest ≡ manifest_with scope edited tree found.links.plan
+  pub short : is_too_long (manifest_with scope edited tree found.links.plan) ≡ false
   pub reads : IfTree (manifest_bytes prepared.manifest) tree
   pub cache : prepared.cache.items ≡ cache_text entries
   pub accepted : defect prepared.cache.items ≡ None
@@ -81,6 +88,7 @@ pub record IsMadeOf (edited : Bool) (damaged : Option ℕ) (found : Found) (tree
   pub undamaged : damage prepared.aux.items ≡ None
   pub aux_read : stamps_of_slot (Some prepared.aux.items) ≡ found.search.files.stamps
   pub stamps : prepared.stamps ≡ found.search.files.stamps
+  pub looked : prepared.looked ≡ looked_of found
   pub text : prepared.report.text ≡ report_text (said_of damaged found entries)
   pub libs : prepared.report.libs ≡ length entries
   pub links : prepared.report.links ≡ length found.links.plan

@@ -9,6 +9,7 @@ use Rattle.cache_reader.specs.Cache.{defect, read}
 use Rattle.cache_writer.specs.CacheText.{cache_text, hwcaps_names}
 use Rattle.cache_writer.specs.ReadBack.{as_read}
 use Rattle.hwcap_dirs.specs.Places.{absent}
+use Rattle.hwcap_dirs.specs.declared.kinds.Scope.{Scope}
 use Rattle.lib_types.specs.declared.entry.Entry.{Entry}
 use Rattle.library_files.specs.Search.{dangling}
 use Rattle.soname_links.specs.Marks.{blocked, mixed}
@@ -27,19 +28,19 @@ use Rattle.aux_cache.specs.AuxText.{aux_text}
 use Rattle.aux_cache.specs.declared.stamps.Stamp.{Stamp}
 
 -- what the report says, with the entries in their order
-abbrev pub said_with : Contents → Loaded → List Entry → Said
-said_with held s entries = record {
+abbrev pub said_with : Scope → Contents → Loaded → List Entry → Said
+said_with scope held s entries = record {
   damaged = s.damaged;
-  conf = (conf_in held s.tree).reports;
-  places = places_in held s.tree;
-  absent = absent s.tree (conf_in held s.tree).dirs;
-  plan = links_in held s.tree s.stamps;
-  blocked = blocked (said_wanted held s.tree s.stamps) s.tree (places_in held s.tree);
-  mixed = mixed (said_wanted held s.tree s.stamps) s.tree (places_in held s.tree);
-  skips = filter_map (skip_at (said_files held s.tree s.stamps)) (library_files held s.tree s.stamps);
-  dangling = dangling (planned_in held s.tree s.stamps) (places_in held s.tree);
+  conf = (conf_in scope held s.tree).reports;
+  places = places_in scope held s.tree;
+  absent = absent s.tree (conf_in scope held s.tree).dirs;
+  plan = links_in scope held s.tree s.stamps;
+  blocked = blocked (said_wanted scope held s.tree s.stamps) s.tree (places_in scope held s.tree);
+  mixed = mixed (said_wanted scope held s.tree s.stamps) s.tree (places_in scope held s.tree);
+  skips = filter_map (skip_at (said_files scope held s.tree s.stamps)) (library_files scope held s.tree s.stamps);
+  dangling = dangling (planned_in scope held s.tree s.stamps) (places_in scope held s.tree);
   entries = entries;
-  opened = opened_in held s.tree s.stamps;
+  opened = opened_in scope held s.tree s.stamps;
 }
 
 -- the manifest, if it is written, the cache, the auxiliary cache, and the report of an update
@@ -50,13 +51,13 @@ pub record UpdateTexts : Type 0 where
   pub report : List ℕ
 
 -- the texts of the update of a loaded image
-pub record AreTextsOf (held : Contents) (s : Loaded) (texts : UpdateTexts) : Type 0 where
+pub record AreTextsOf (scope : Scope) (held : Contents) (s : Loaded) (texts : UpdateTexts) : Type 0 where
   pub entries : List Entry
-  pub are : AreEntriesOf (entries_in held s.tree s.stamps) entries
-  pub manifest_is : texts.manifest ≡ new_manifest held s
+  pub are : AreEntriesOf (entries_in scope held s.tree s.stamps) entries
+  pub manifest_is : texts.manifest ≡ new_manifest scope held s
   pub cache_is : texts.cache ≡ cache_text entries
-  pub aux_is : texts.aux ≡ aux_text (stamps_in held s.tree s.stamps)
-  pub report_is : texts.report ≡ report_text (said_with held s entries)
+  pub aux_is : texts.aux ≡ aux_text (stamps_in scope held s.tree s.stamps)
+  pub report_is : texts.report ≡ report_text (said_with scope held s entries)
 
 -- the same is written: manifest, cache and auxiliary cache
 pub record AreAlike (texts others : UpdateTexts) : Type 0 where

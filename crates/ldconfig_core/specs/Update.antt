@@ -1,5 +1,6 @@
 -- One update of a loaded image: what it returns, and what it leaves on the store and on the disk.
 use Rattle.std.specs.Prelude.{◌≡◌, ◌⊎◌, ◌≤◌, ◌+◌, length, Option, Some, Result, Ok, Err, IfOk, ⊤}
+use Rattle.hwcap_dirs.specs.declared.kinds.Scope.{Scope}
 use Rattle.atomic_replace.specs.declared.fault.DiskFault.{DiskFault}
 use Rattle.lib_types.specs.Counts.{HasRisen}
 use Rattle.tree_face.specs.declared.disk.Tag.{Tag}
@@ -15,7 +16,7 @@ use Rattle.ldconfig_core.specs.declared.fault.UpdateFault.{UpdateFault}
 use Rattle.ldconfig_core.specs.declared.fault.UpdateFault.TheVariants as faults
 use Rattle.ldconfig_core.specs.declared.report.Report.{Report}
 use Rattle.image_session.specs.Aux.{stamps_of_slot}
-use Rattle.library_search.specs.Ldconfig.{entries_in, links_in, stamps_in}
+use Rattle.library_search.specs.Ldconfig.{conf_of, entries_in, links_in, stamps_in}
 use Rattle.ldconfig_core.specs.Lookup.{FindsAsSearched}
 use Rattle.ldconfig_core.specs.Outcome.{Outcome, Lacking, TooLarge, TooMany, Writes, new_manifest, update_outcome}
 use Rattle.atomic_replace.specs.OneByOne.{KeepsRestMade, WritesAll, WritesPart}
@@ -47,8 +48,8 @@ update_ending (Err faults.NoMemory) = GaveUp
 -- ---- the store
 
 -- the keys of the update are begun
-abbrev pub ReadsUpdate : Loaded → Ending → StoreState → StoreState → Type 0
-ReadsUpdate s ending old new = ReadsFinding s.tree s.stamps ending old new
+abbrev pub ReadsUpdate : Scope → Loaded → Ending → StoreState → StoreState → Type 0
+ReadsUpdate scope s ending old new = ReadsFinding scope s.tree s.stamps ending old new
 
 -- ---- the disk
 
@@ -57,66 +58,66 @@ abbrev pub IfHonestly : Option Contents → Loaded → (Contents → Type 0) →
 IfHonestly known s P = IfHonest known s.tree s.stamps P
 
 -- the texts of the update of this image, if contents are known
-pub record AreUpdateTexts (s : Loaded) (known : Option Contents) (texts : UpdateTexts) : Type 0 where
+pub record AreUpdateTexts (scope : Scope) (s : Loaded) (known : Option Contents) (texts : UpdateTexts) : Type 0 where
   pub are : AreTexts texts
-  pub are_of : IfKnown known (λ held. AreTextsOf held s texts)
-  pub aux_read : IfKnown known (λ held. stamps_of_slot (Some texts.aux) ≡ stamps_in held s.tree s.stamps)
-  pub finds : IfKnown known (λ held. FindsAsSearched held s.tree s.stamps texts.cache)
+  pub are_of : IfKnown known (λ held. AreTextsOf scope held s texts)
+  pub aux_read : IfKnown known (λ held. stamps_of_slot (Some texts.aux) ≡ stamps_in scope held s.tree s.stamps)
+  pub finds : IfKnown known (λ held. FindsAsSearched scope held s.tree s.stamps texts.cache)
   -- the keys that were begun: those of the conf files, and one for each library file that was opened
-  pub counted : IfKnown known (λ held. length (update_keys held s.tree s.stamps) ≡ length (conf_keys held s.tree) + opened_in held s.tree s.stamps)
+  pub counted : IfKnown known (λ held. length (update_keys scope held s.tree s.stamps) ≡ length (conf_keys (conf_of scope) held s.tree) + opened_in scope held s.tree s.stamps)
   -- If stamps are true and files of equal identity have equal content, each file is what it is said to be, so that an update without stamps gives the
   -- same, and the image is settled.
-  pub right : IfHonestly known s (λ held. IsSaidRight held s.tree s.stamps)
-  pub settles : IfHonestly known s (λ held. AreSettled held s (planned_image held s))
-  pub reads : IfKnown known (λ held. IfReads texts.manifest (planned_image held s))
+  pub right : IfHonestly known s (λ held. IsSaidRight scope held s.tree s.stamps)
+  pub settles : IfHonestly known s (λ held. AreSettled scope held s (planned_image scope held s))
+  pub reads : IfKnown known (λ held. IfReads texts.manifest (planned_image scope held s))
 
 -- the texts of the update are written, and this is its report
-pub record LeavesTexts (tag : Tag) (s : Loaded) (known : Option Contents) (report : Report) (old new : DiskState) : Type 0 where
+pub record LeavesTexts (scope : Scope) (tag : Tag) (s : Loaded) (known : Option Contents) (report : Report) (old new : DiskState) : Type 0 where
   pub texts : UpdateTexts
-  pub are : AreUpdateTexts s known texts
+  pub are : AreUpdateTexts scope s known texts
   pub report_is : report.text ≡ texts.report
   pub written : WritesAll tag (writes_of texts) old new
 
 -- a writing call of these texts failed
-pub record MayLeaveTexts (tag : Tag) (s : Loaded) (known : Option Contents) (fault : DiskFault) (old new : DiskState) : Type 0 where
+pub record MayLeaveTexts (scope : Scope) (tag : Tag) (s : Loaded) (known : Option Contents) (fault : DiskFault) (old new : DiskState) : Type 0 where
   pub texts : UpdateTexts
-  pub are : AreUpdateTexts s known texts
+  pub are : AreUpdateTexts scope s known texts
   pub written : WritesPart tag (writes_of texts) fault old new
 
 -- Nothing is written unless all texts were made.
-abbrev pub DiskAfter : Tag → Loaded → Option Contents → Result (Loaded × Report) UpdateFault → DiskState → DiskState → Type 0
-DiskAfter tag s known (Ok updated) old new = LeavesTexts tag s known updated.1 old new
-DiskAfter tag s known (Err (faults.DiskFault fault)) old new = MayLeaveTexts tag s known fault old new
-DiskAfter tag s known (Err faults.StoreFault) old new = new ≡ old
-DiskAfter tag s known (Err (faults.TooLarge nodes bytes)) old new = new ≡ old
-DiskAfter tag s known (Err (faults.TooMany count)) old new = new ≡ old
-DiskAfter tag s known (Err faults.NoMemory) old new = new ≡ old
+abbrev pub DiskAfter : Scope → Tag → Loaded → Option Contents → Result (Loaded × Report) UpdateFault → DiskState → DiskState → Type 0
+DiskAfter scope tag s known (Ok updated) old new = LeavesTexts scope tag s known updated.1 old new
+DiskAfter scope tag s known (Err (faults.DiskFault fault)) old new = MayLeaveTexts scope tag s known fault old new
+DiskAfter scope tag s known (Err faults.StoreFault) old new = new ≡ old
+DiskAfter scope tag s known (Err (faults.TooLarge nodes bytes)) old new = new ≡ old
+DiskAfter scope tag s known (Err (faults.TooMany count)) old new = new ≡ old
+DiskAfter scope tag s known (Err faults.NoMemory) old new = new ≡ old
 
 -- ---- the updated image
 
 -- the numbers of the report are those of the update
-pub record IsReportFor (held : Contents) (s : Loaded) (report : Report) : Type 0 where
-  pub libs : report.libs ≡ length (entries_in held s.tree s.stamps)
-  pub links : report.links ≡ length (links_in held s.tree s.stamps)
-  pub opened : report.opened ≡ opened_in held s.tree s.stamps
+pub record IsReportFor (scope : Scope) (held : Contents) (s : Loaded) (report : Report) : Type 0 where
+  pub libs : report.libs ≡ length (entries_in scope held s.tree s.stamps)
+  pub links : report.links ≡ length (links_in scope held s.tree s.stamps)
+  pub opened : report.opened ≡ opened_in scope held s.tree s.stamps
 
 -- a fact of an image whose stamps are true and whose files of equal identity have equal content
 abbrev pub IfHonestIn : Contents → Loaded → Type 0 → Type 0
 IfHonestIn held s P = AreTrue held s.tree s.stamps → AreSame held s.tree s.tree → P
 
 -- It is the image with the planned links and its stamps, as which a manifest that is written reads.
-pub record IsUpdated (held : Contents) (s : Loaded) (updated : Loaded × Report) : Type 0 where
-  pub planned : updated.0 ≡ planned_image held s
-  pub reads : IfReads (new_manifest held s) updated.0
-  pub report : IsReportFor held s updated.1
-  pub settled : IfHonestIn held s (AreSettled held s updated.0)
+pub record IsUpdated (scope : Scope) (held : Contents) (s : Loaded) (updated : Loaded × Report) : Type 0 where
+  pub planned : updated.0 ≡ planned_image scope held s
+  pub reads : IfReads (new_manifest scope held s) updated.0
+  pub report : IsReportFor scope held s updated.1
+  pub settled : IfHonestIn held s (AreSettled scope held s updated.0)
 
 -- ---- one update
 
-pub record Updates (tag : Tag) (s : Loaded) (result : Result (Loaded × Report) UpdateFault) (store after_store : StoreState) (disk after_disk : DiskState) : Type 0 where
-  pub answers : IfKnown store.held (λ held. IsAnswer (update_outcome held s) result store after_store)
-  pub reads : ReadsUpdate s (update_ending result) store after_store
-  pub written : DiskAfter tag s store.held result disk after_disk
+pub record Updates (scope : Scope) (tag : Tag) (s : Loaded) (result : Result (Loaded × Report) UpdateFault) (store after_store : StoreState) (disk after_disk : DiskState) : Type 0 where
+  pub answers : IfKnown store.held (λ held. IsAnswer (update_outcome scope held s) result store after_store)
+  pub reads : ReadsUpdate scope s (update_ending result) store after_store
+  pub written : DiskAfter scope tag s store.held result disk after_disk
   pub made : KeepsRestMade tag.0 update_slots disk after_disk
   pub disk_faults : disk.faults ≤ after_disk.faults
-  pub updated : IfOk result (λ updated. IfKnown store.held (λ held. IsUpdated held s updated))
+  pub updated : IfOk result (λ updated. IfKnown store.held (λ held. IsUpdated scope held s updated))

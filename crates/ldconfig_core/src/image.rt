@@ -5,12 +5,14 @@ ghost use Rattle.atomic_replace.specs.OneByOne.{KeepsRestMade, WritesAll, Writes
 ghost use Rattle.ldconfig_core.specs.Stages.{stored_image, texts_of};
 ghost use Rattle.ldconfig_core.specs.Texts.{update_slots, writes_of};
 ghost use Rattle.ldconfig_core.specs.Update.{Updates};
+ghost use Rattle.hwcap_dirs.specs.declared.kinds.Scope.TheVariants.{Image};
 
 use crate::fault::UpdateFault;
-use crate::prepare::{Prepared, prepare};
+use crate::preparing::{Prepared, prepare};
 use crate::report::Report;
 use atomic_replace::{DiskFault, SlotWrite, replace_slots};
 use aux_cache::Stamps;
+use hwcap_dirs::Scope;
 use image_session::Session;
 use std::alloc::Global;
 use tree_face::{Disk, Slot, Store, Tag, Tree};
@@ -66,10 +68,10 @@ pub fn update<S: Store, D: Disk>(
     disk: &mut D,
     tag: Tag,
 ) -> Result<(Session, Report), UpdateFault>
-    ensures updates { Updates tag session result (S.state store.old) (S.state store.new) (D.state disk.old) (D.state disk.new) }
+    ensures updates { Updates Image tag session result (S.state store.old) (S.state store.new) (D.state disk.old) (D.state disk.new) }
 {
     let mut image = session;
-    let prepared = prepare(alloc, &mut image, store)?;
+    let prepared = prepare(alloc, &Scope::Image, &mut image, store)?;
     match write_texts(disk, tag, &prepared) {
         Ok(()) => Ok((updated(image.tree, prepared.stamps), prepared.report)),
         Err(fault) => Err(UpdateFault::DiskFault(fault)),

@@ -3,9 +3,10 @@
 
 mod fault;
 mod image;
-mod prepare;
+mod preparing;
 mod report;
 
 pub use fault::UpdateFault;
 pub use image::update;
+pub use preparing::{Looked, Prepared, prepare};
 pub use report::Report;

@@ -72,10 +72,10 @@ sound_answer known g places all (Some (answer.New f)) finds there = (there.node,
 
 -- the paths of a name that an object with this chain needs
 paths_same : (env : Env) (name : List ℕ) (chain : List Owner) (cached : Option (List ℕ)) (reach : Reach) → reach_in env chain ≡ Some reach →
-    all_paths name env.caps reach cached ≡ paths name chain env cached
+    all_paths name env reach cached ≡ paths name chain env cached
 unfolding paths
 paths_same env name [] cached reach same = absurd (cc)
-paths_same env name (o ∷ more) cached reach same = let is : reach_of env o more ≡ reach = cc in ap (λ r. all_paths name env.caps r cached) (sym is)
+paths_same env name (o ∷ more) cached reach same = let is : reach_of env o more ≡ reach = cc in ap (λ r. all_paths name env r cached) (sym is)
 
 -- the count of requests is no part of an answer
 counted_outcome : (r r2 : Record) (n : ℕ) (q : Request) (found : Option Answer) → HasOutcome (record r { answered = n }) q found r2 → HasOutcome r q found r2

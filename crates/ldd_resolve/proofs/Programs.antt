@@ -22,6 +22,7 @@ use Rattle.elf_dynamic.proofs.BegunKeys.{keys_early, keys_then, none_lacks}
 use Rattle.elf_dynamic.specs.Begun.{ReadsBy, file_keys, is_lacking, key_in, lacks_one, until_lacking}
 use Rattle.elf_dynamic.specs.declared.kinds.Object.{Object}
 use Rattle.rpath_search.specs.Places.{from_root}
+use Rattle.rpath_search.specs.Places.{env_for}
 use Rattle.rpath_search.specs.declared.kinds.Env.{Env}
 use Rattle.rpath_search.specs.declared.kinds.Found.{Found}
 use Rattle.ldd_resolve.specs.declared.kinds.Scope.{Scope}
@@ -34,7 +35,7 @@ use Rattle.ldd_resolve.proofs.Objects.{failing}
 use Rattle.ldd_resolve.specs.Listing.{Record, Inputs, left, record_after}
 use Rattle.ldd_resolve.specs.Loading.{Advances}
 use Rattle.ldd_resolve.specs.Requests.{IsListed, record_with}
-use Rattle.ldd_resolve.specs.Resolving.{AreAllHeld, AreLoaded, BeginsBy, BeginsFor, BeginsNoneLacking, BeginsRecord, IfBadProgram, IfComplete, IsBadProgram, IsNoProgram, IsScope, IsScopeOf, ReadsListing, env_for, first_record, inputs_of, object_at, program_at, record_of, resolve_ending}
+use Rattle.ldd_resolve.specs.Resolving.{AreAllHeld, AreLoaded, BeginsBy, BeginsFor, BeginsNoneLacking, BeginsRecord, IfBadProgram, IfComplete, IsBadProgram, IsNoProgram, IsScope, IsScopeOf, ReadsListing, first_record, inputs_of, object_at, program_at, record_of, resolve_ending}
 use Rattle.ldd_resolve.proofs.Records.{record_none}
 use Rattle.ldd_resolve.proofs.Standing.{or_first, or_second}
 

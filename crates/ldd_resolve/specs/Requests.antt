@@ -9,7 +9,7 @@ use Rattle.image_tree.specs.Tree.{Nodes, node_at}
 use Rattle.cache_reader.specs.Cache.{CachedEntry}
 use Rattle.rpath_search.specs.Faults.{search_ending}
 use Rattle.rpath_search.specs.Candidates.{all_paths}
-use Rattle.rpath_search.specs.Places.{Reach, paths}
+use Rattle.rpath_search.specs.Places.{Reach, env_for, paths}
 use Rattle.rpath_search.specs.Search.{first_good, is_library}
 use Rattle.rpath_search.specs.declared.fault.SearchFault.{SearchFault}
 use Rattle.rpath_search.specs.declared.kinds.Env.{Env}
@@ -25,7 +25,7 @@ use Rattle.rpath_search.specs.declared.search.LoadedFiles.{LoadedFiles}
 use Rattle.ldd_resolve.specs.Links.{behind}
 use Rattle.ldd_resolve.specs.Listing.{Inputs, Record, Request, keys_searched, left, loaded}
 use Rattle.ldd_resolve.specs.Loading.{Advances, IsSound, Stands}
-use Rattle.ldd_resolve.specs.Resolving.{IfComplete, cached_in, env_for, inputs_of, members_of, object_at}
+use Rattle.ldd_resolve.specs.Resolving.{IfComplete, cached_in, inputs_of, members_of, object_at}
 use Rattle.rpath_search.specs.Searching.{AreKnown, Finds}
 use Rattle.ldd_resolve.specs.Searching.{Begins}
 
@@ -39,7 +39,7 @@ paths_by g name chain = paths name chain g.env.now (cached_in (option_copied g.c
 
 -- the same for an object whose requests are searched there
 abbrev pub paths_at : Given → List ℕ → Reach → List (List ℕ)
-paths_at g name reach = all_paths name g.env.now.caps reach (cached_in (option_copied g.cache) g.env.now name)
+paths_at g name reach = all_paths name g.env.now reach (cached_in (option_copied g.cache) g.env.now name)
 
 -- what is known of the loaded files
 abbrev pub AreKnownBy : Option Contents → Given → LoadedFiles → Type 0

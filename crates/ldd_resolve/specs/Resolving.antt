@@ -1,7 +1,6 @@
 -- What is listed of a program, and which keys are begun for it (ldd(1), ld.so(8)).
 use Rattle.std.specs.Prelude.{◌≡◌, ◌⊎◌, ◌++◌, ℕ, false, List, [], ◌∷◌, drop, map, Option, Some, None, option_map, option_and_then, Result, Ok, Err}
 use Rattle.std.specs.List.{filter_map}
-use Rattle.lib_types.specs.declared.abi.Abi.{Abi}
 use Rattle.lib_types.specs.declared.analysis.Defect.{Defect}
 use Rattle.tree_face.specs.StoreUse.{Ending, Complete, DeviceFailed, GaveUp, ReadsFiles}
 use Rattle.tree_face.specs.Known.{Relates}
@@ -13,7 +12,7 @@ use Rattle.cache_lookup.specs.Scan.{scan}
 use Rattle.elf_dynamic.specs.Begun.{ReadsBy, file_keys, key_in, lacks_one}
 use Rattle.elf_dynamic.specs.Object.{object}
 use Rattle.elf_dynamic.specs.declared.kinds.Object.{Object}
-use Rattle.rpath_search.specs.Places.{from_root, with_caps_once}
+use Rattle.rpath_search.specs.Places.{env_for, from_root}
 use Rattle.rpath_search.specs.declared.kinds.Env.{Env}
 use Rattle.ldd_resolve.specs.declared.kinds.Item.{Item}
 use Rattle.ldd_resolve.specs.declared.kinds.ResolveFault.{ResolveFault}
@@ -43,10 +42,6 @@ pub record IsBadProgram (held : Contents) (t : Nodes) (word : List ℕ) (d : Def
 -- the path that the cache has for a name; none without a cache
 abbrev pub cached_in : Option (List CachedEntry) → Env → List ℕ → Option (List ℕ)
 cached_in cache env name = option_and_then (λ entries. scan entries name env.abi env.caps) cache
-
--- for a program of this ABI, with each hwcaps name once
-abbrev pub env_for : Env → Abi → Env
-env_for env abi = record (with_caps_once env) { abi = abi }
 
 abbrev pub inputs_of : Nodes → Option (List CachedEntry) → Env → Contents → Inputs
 inputs_of t cache env held = record { held = held; nodes = t; cached = cached_in cache env; env = env }

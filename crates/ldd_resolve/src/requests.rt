@@ -52,14 +52,7 @@ fn search_name<S: Store>(
         (search_ending result) (S.state store.old) (S.state store.new) }
 {
     let cached = cached_path(given.cache, name, given.env);
-    let paths = Candidates::new(
-        alloc,
-        &loading.loaders,
-        number,
-        name,
-        &given.env.caps,
-        cached,
-    )?;
+    let paths = Candidates::new(alloc, &loading.loaders, number, name, given.env, cached)?;
     search_paths(
         alloc,
         given.tree,

@@ -8,7 +8,7 @@ ghost use Rattle.tree_face.specs.Known.{IfKnown};
 ghost use Rattle.tree_face.specs.Store.{Contents};
 ghost use Rattle.image_tree.specs.Tree.{node_at};
 ghost use Rattle.ldd_resolve.specs.Requests.{Lists};
-ghost use Rattle.ldd_resolve.specs.Resolving.{AreLoaded, BeginsNoneLacking, IfBadProgram, IsBadProgram, IsListing, IsNoProgram, IsScope, ReadsListing, env_for, object_at, program_at, resolve_ending};
+ghost use Rattle.ldd_resolve.specs.Resolving.{AreLoaded, BeginsNoneLacking, IfBadProgram, IsBadProgram, IsListing, IsNoProgram, IsScope, ReadsListing, object_at, program_at, resolve_ending};
 
 use crate::kinds::{Listing, Members, ResolveFault, Scope};
 use crate::loading::Loading;
@@ -16,25 +16,10 @@ use crate::requests::{Given, answer_all};
 use cache_lookup::Sorted;
 use elf_dynamic::kinds::Object;
 use elf_dynamic::object;
-use lib_types::{Abi, NoMemory, Text};
 use path_walk::file_at;
 use rpath_search::{Env, Found, SearchFault, from_root, key_at};
 use std::alloc::Global;
-use string_pool::distinct;
 use tree_face::{Store, Tree};
-
-// The same for programs of another ABI, with each hwcaps name once: of a repeated one the first counts.
-fn env_for(alloc: Global, env: &Env, abi: Abi) -> Result<Env, NoMemory>
-    ensures { IfOk result (λ e. e ≡ env_for env.now abi) }
-{
-    Ok(Env {
-        abi,
-        caps: distinct(alloc, &env.caps)?,
-        library_path: Text::copy_of(alloc, env.library_path.as_bytes())?,
-        platform: Text::copy_of(alloc, env.platform.as_bytes())?,
-        secure: env.secure,
-    })
-}
 
 // Reads the file of the program, at a path without links. No key is there only if no file is.
 fn read_program<S: Store>(
@@ -69,7 +54,7 @@ fn load<S: Store>(
     requires object { IfKnown (S.state store.old).held (λ held. object_at held tree.now program.real ≡ Some (Ok program.object)) }
     ensures { Lists (S.state store.old).held tree.now (option_copied cache.entry) env.now program result (S.state store.old) (S.state store.new) }
 {
-    let env = env_for(alloc, env, program.object.abi)?;
+    let env = env.for_abi(alloc, program.object.abi)?;
     let given = Given {
         tree,
         cache,

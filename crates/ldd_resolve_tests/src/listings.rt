@@ -49,7 +49,7 @@ fn try_row(
 ) -> Result<bool, SampleFault> {
     let env = env_of(alloc, row)?;
     let mut store = store_of(alloc, row)?;
-    let program = value(row, b"at").unwrap_or(b"");
+    let program = value(row, b"main-program").unwrap_or(b"");
     let listed = resolve(alloc, tree, &mut store, cache, program, &env);
     let keys = lines_in(alloc, store.keys())?;
     Ok(is_listed(alloc, row, listed, said)? && said.is_text(alloc, row, b"keys", &keys)?)
@@ -84,7 +84,7 @@ const WORDS: &[Words] = &[
     STORE_FAILS,
     CACHE,
     LOADER,
-    &[b"at", b"listing", b"fault", b"keys"],
+    &[b"main-program", b"listing", b"fault", b"keys"],
 ];
 
 impl Trial for Listings {

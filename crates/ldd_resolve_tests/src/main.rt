@@ -9,6 +9,6 @@ use std::process::ExitCode;
 use table_rows::{status, try_tables};
 
 fn main(rt: HostRuntime) -> io::Result<ExitCode> {
-    let are_right = try_tables::<Listings>(&rt, &["listings", "objects", "refusals"])?;
+    let are_right = try_tables::<Listings>(&rt, &["listings", "objects", "refusals", "roots"])?;
     Ok(status(are_right))
 }

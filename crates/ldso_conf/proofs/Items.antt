@@ -5,7 +5,7 @@ use Rattle.std.proofs.lemmas.List.Concat.{flat_map-append}
 use Rattle.std.proofs.lemmas.List.Folds.{list_any-append}
 use Rattle.std.specs.List.{flat_map, list_any}
 use Rattle.lib_types.proofs.SortedPairs.{by_test}
-use Rattle.ldso_conf.specs.Reading.{Item, dir_in, is_missing, key_begun, place_in, report_in, until_missing}
+use Rattle.ldso_conf.specs.Reading.{Item, dir_in, is_missing, key_begun, origin_in, place_in, report_in, until_missing}
 use Rattle.ldso_conf.specs.Visits.{Progress, HasTaken, with_items}
 
 flat_more : {A B : Type 0} (f : A → List B) (r : List B) (xs ys : List A) → (r ++ flat_map f xs) ++ flat_map f ys ≡ r ++ flat_map f (xs ++ ys)
@@ -16,7 +16,7 @@ more_files n xs ys = rw (flat_map-append key_begun xs ys, length-append (flat_ma
 
 pub with_more : (r : Progress) (xs ys : List Item) → with_items (with_items r xs) ys ≡ with_items r (xs ++ ys)
 with_more r xs ys =
-    rw (flat_more dir_in r.dirs xs ys, flat_more report_in r.reports xs ys, flat_more place_in r.read xs ys, more_files r.files xs ys) refl
+    rw (flat_more dir_in r.dirs xs ys, flat_more origin_in r.origins xs ys, flat_more report_in r.reports xs ys, flat_more place_in r.read xs ys, more_files r.files xs ys) refl
 
 pub taken_more : (r s u : Progress) (xs ys : List Item) → HasTaken xs r s → HasTaken ys s u → HasTaken (xs ++ ys) r u
 taken_more r s u xs ys first next = record {

@@ -21,6 +21,7 @@ use Rattle.ldso_conf.specs.Visits.{Progress, HasTaken, IsDone, IsDoneIn, ReadsFi
 use Rattle.ldso_conf.specs.declared.fault.ConfFault.{ConfFault}
 use Rattle.ldso_conf.specs.declared.fault.ConfFault.TheVariants.{StoreFault, NoMemory}
 use Rattle.ldso_conf.specs.declared.kinds.ConfReport.{ConfReport}
+use Rattle.ldso_conf.specs.declared.kinds.Origin.{Origin}
 use Rattle.ldso_conf.specs.declared.reading.TheConstants.{CONF_MAX}
 use Rattle.ldso_conf.specs.declared.steps.Step.{Step}
 use Rattle.image_tree.specs.declared.path.TheConstants.{PATH_MAX}
@@ -49,11 +50,11 @@ reads_no_key l n s = record {
   cause = refl;
 }
 
-key_of_named : (dir : List ℕ) → key_begun (named dir) ≡ []
-key_of_named dir = by_test {P = key_begun (named dir) ≡ []} (nat_le (length dir) PATH_MAX) (λ short. rw short refl) (λ long. rw long refl)
+key_of_named : (dir : List ℕ) (origin : Origin) → key_begun (named dir origin) ≡ []
+key_of_named dir origin = by_test {P = key_begun (named dir origin) ≡ []} (nat_le (length dir) PATH_MAX) (λ short. rw short refl) (λ long. rw long refl)
 
-held_named : (dir : List ℕ) → is_missing (named dir) ≡ false
-held_named dir = by_test {P = is_missing (named dir) ≡ false} (nat_le (length dir) PATH_MAX) (λ short. rw short refl) (λ long. rw long refl)
+held_named : (dir : List ℕ) (origin : Origin) → is_missing (named dir origin) ≡ false
+held_named dir origin = by_test {P = is_missing (named dir origin) ≡ false} (nat_le (length dir) PATH_MAX) (λ short. rw short refl) (λ long. rw long refl)
 
 pub reads_nothing : (s : StoreState) → ReadsFiles ⊥ (Some []) (Some 0) Complete s s
 reads_nothing s = reads_no_key ⊥ 0 s
@@ -251,5 +252,7 @@ module _ (known : Option Contents) (r new : Progress) (s : StoreState) where
   pub report_taken : (report : ConfReport) → new ≡ with_report r report → IfKnown known (λ held. HasTaken (Reports report ∷ []) r new) × ReadsItems (λ held. Reports report ∷ []) known Complete s s
   report_taken report e = (alone_taken (Reports report) (take_report r new report e), alone_reads known (Reports report) refl refl)
 
-  pub dir_taken : (dir : List ℕ) → new ≡ with_dir r dir → IfKnown known (λ held. HasTaken (named dir ∷ []) r new) × ReadsItems (λ held. named dir ∷ []) known Complete s s
-  dir_taken dir e = (alone_taken (named dir) (take_dir r new dir e), alone_reads known (named dir) (key_of_named dir) (held_named dir))
+  pub dir_taken : (dir : List ℕ) (origin : Origin) → new ≡ with_dir r dir origin →
+      IfKnown known (λ held. HasTaken (named dir origin ∷ []) r new) × ReadsItems (λ held. named dir origin ∷ []) known Complete s s
+  dir_taken dir origin e =
+      (alone_taken (named dir origin) (take_dir r new dir origin e), alone_reads known (named dir origin) (key_of_named dir origin) (held_named dir origin))

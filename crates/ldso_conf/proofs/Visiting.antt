@@ -14,6 +14,7 @@ use Rattle.ldso_conf.specs.Steps.{steps_of}
 use Rattle.ldso_conf.specs.Visits.{Progress, HasContent, HasEnded, HasLoaded, HasTaken, IsToBeginAs, with_begun, with_dir, with_items, with_read, with_report}
 use Rattle.ldso_conf.specs.declared.kinds.ConfKind.TheVariants.{NotFile, Repeated, TooDeep, TooLarge, LongPath}
 use Rattle.ldso_conf.specs.declared.kinds.ConfReport.{ConfReport}
+use Rattle.ldso_conf.specs.declared.kinds.Origin.{Origin}
 use Rattle.ldso_conf.specs.declared.reading.TheConstants.{CONF_MAX}
 use Rattle.ldso_conf.specs.declared.steps.Step.{Step}
 
@@ -22,16 +23,16 @@ use Rattle.ldso_conf.specs.declared.steps.Step.{Step}
 pub take_report : (r new : Progress) (report : ConfReport) → new ≡ with_report r report → HasTaken (Reports report ∷ []) r new
 take_report r new report e = record { held = refl; reader = e ∙ sym same } where
   same : with_items r (Reports report ∷ []) ≡ with_report r report
-  same = rw (append-nil r.dirs, append-nil r.read, add-zero r.files) refl
+  same = rw (append-nil r.dirs, append-nil r.origins, append-nil r.read, add-zero r.files) refl
 
-pub take_dir : (r new : Progress) (dir : List ℕ) → new ≡ with_dir r dir → HasTaken (named dir ∷ []) r new
-take_dir r new dir e =
-    by_test {P = HasTaken (named dir ∷ []) r new} (nat_le (length dir) PATH_MAX)
+pub take_dir : (r new : Progress) (dir : List ℕ) (origin : Origin) → new ≡ with_dir r dir origin → HasTaken (named dir origin ∷ []) r new
+take_dir r new dir origin e =
+    by_test {P = HasTaken (named dir origin ∷ []) r new} (nat_le (length dir) PATH_MAX)
     (λ short. rw short record { held = refl; reader = (rw short at e) ∙ sym (rw (append-nil r.reports, append-nil r.read, add-zero r.files) refl) })
     (λ long. rw long (take_report r new (reported dir LongPath) (rw long at e)))
 
-pub dir_files : (r new : Progress) (dir : List ℕ) → new ≡ with_dir r dir → new.files ≡ r.files
-dir_files r new dir e =
+pub dir_files : (r new : Progress) (dir : List ℕ) (origin : Origin) → new ≡ with_dir r dir origin → new.files ≡ r.files
+dir_files r new dir origin e =
     by_test {P = new.files ≡ r.files} (nat_le (length dir) PATH_MAX)
     (λ short. ap (λ (p : Progress). p.files) (rw short at e))
     (λ long. ap (λ (p : Progress). p.files) (rw long at e))
@@ -72,12 +73,12 @@ module _ (t : Nodes) (r : Progress) (f : Found) (key : List ℕ) where
       HasLoaded t (begun f key (held key)) r (with_read (with_begun r) f.1) (steps_of t f.0 content.items)
   load_small held content h =
       let small = some_by (nat_le (length h.bytes) CONF_MAX) h.bytes content.items h.read in
-      rw (h.there, small.0, small.1) record { held = refl; reader = sym (rw (append-nil r.dirs, append-nil r.reports) refl); left = refl }
+      rw (h.there, small.0, small.1) record { held = refl; reader = sym (rw (append-nil r.dirs, append-nil r.origins, append-nil r.reports) refl); left = refl }
 
   load_large : (held : Contents) → HasContent (held key) None → HasLoaded t (begun f key (held key)) r (with_report (with_begun r) (reported f.0 TooLarge)) []
   load_large held h =
       let large = none_by (nat_le (length h.bytes) CONF_MAX) h.bytes h.read in
-      rw (h.there, large) record { held = refl; reader = sym (rw (append-nil r.dirs, append-nil r.read) refl); left = refl }
+      rw (h.there, large) record { held = refl; reader = sym (rw (append-nil r.dirs, append-nil r.origins, append-nil r.read) refl); left = refl }
 
   pub loads_small : (known : Option Contents) (content : Vec ℕ Global) (new : Progress) (steps : List Step) → new ≡ with_read (with_begun r) f.1 → steps ≡ steps_of t f.0 content.items →
       IfKnown known (λ held. HasContent (held key) (Some content)) → IfKnown known (λ held. HasLoaded t (begun f key (held key)) r new steps)

@@ -8,7 +8,7 @@ use Rattle.tree_face.specs.Store.{Contents, StoreState}
 use Rattle.tree_face.specs.StoreUse.{Ending, Complete, GaveUp, ReadsFiles}
 use Rattle.image_tree.specs.Tree.{Nodes}
 use Rattle.conf_patterns.specs.Patterns.{found_at, place_at}
-use Rattle.ldso_conf.specs.Reading.{Item, all_from, conf_bytes, conf_items, conf_keys, conf_lacks, conf_path, dir_in, included, key_begun, reading, report_in, IsConfOf, ReadsConf}
+use Rattle.ldso_conf.specs.Reading.{Item, all_from, conf_bytes, conf_items, conf_keys, conf_lacks, dir_in, included, key_begun, origin_in, reading, report_in, IsConfOf, ReadsConf}
 use Rattle.ldso_conf.specs.Visits.{Progress, HasTaken, IsConfFrom, ReadsItems, nothing_read}
 use Rattle.ldso_conf.specs.declared.kinds.Conf.{Conf}
 use Rattle.ldso_conf.specs.declared.reading.TheConstants.{DEPTH_MAX}
@@ -16,17 +16,18 @@ use Rattle.ldso_conf.proofs.Items.{until_whole}
 use Rattle.tree_face.proofs.StoreUse.{unread}
 use Rattle.ldso_conf.proofs.Uses.{reads_all, reads_none, reads_nothing}
 
-module _ (t : Nodes) where
+module _ (path : List ℕ) (t : Nodes) where
   abbrev all_items : Contents → List Item
-  all_items held = all_from t held (found_at t conf_path)
+  all_items held = all_from t held (found_at t path)
 
   -- all that is taken is what the conf files say
-  as_conf : (held : Contents) (conf : Conf) (reader : Progress) → HasTaken (all_items held) nothing_read reader → IsConfFrom conf reader → IsConfOf conf held t
+  as_conf : (held : Contents) (conf : Conf) (reader : Progress) → HasTaken (all_items held) nothing_read reader → IsConfFrom conf reader → IsConfOf path conf held t
   unfolding reading conf_items conf_keys conf_lacks
   as_conf held conf reader taken is =
       let whole = until_whole (all_items held) taken.held in
       record {
         dirs = is.dirs ∙ ap (λ (p : Progress). p.dirs) taken.reader ∙ sym (ap (flat_map dir_in) whole);
+        origins = is.origins ∙ ap (λ (p : Progress). p.origins) taken.reader ∙ sym (ap (flat_map origin_in) whole);
         reports = is.reports ∙ ap (λ (p : Progress). p.reports) taken.reader ∙ sym (ap (flat_map report_in) whole);
         files = is.files ∙ ap (λ (p : Progress). p.files) taken.reader ∙ zero-add (length (flat_map key_begun (all_items held)))
             ∙ sym (ap (λ items. length (flat_map key_begun items)) whole);
@@ -34,45 +35,45 @@ module _ (t : Nodes) where
       }
 
   as_reads : (e : Ending) (old new : StoreState) (known : Option Contents) → ReadsItems all_items known e old new →
-      ReadsFiles (IsSomeAnd known (λ held. conf_lacks held t ≡ true)) (option_map (λ held. conf_keys held t) known) (option_map (λ held. conf_bytes held t) known) e old new
+      ReadsFiles (IsSomeAnd known (λ held. conf_lacks path held t ≡ true)) (option_map (λ held. conf_keys path held t) known) (option_map (λ held. conf_bytes path held t) known) e old new
   unfolding conf_items conf_keys conf_bytes conf_lacks
   as_reads e old new None reads = reads
   as_reads e old new (Some held) reads = reads
 
   -- ---- there is no conf file
 
-  no_items : place_at t conf_path ≡ None → (held : Contents) → all_items held ≡ []
+  no_items : place_at t path ≡ None → (held : Contents) → all_items held ≡ []
   no_items e held = rw e refl
 
-  pub no_conf : (known : Option Contents) (conf : Conf) (reader : Progress) → place_at t conf_path ≡ None → reader ≡ nothing_read → IsConfFrom conf reader →
-      IfKnown known (λ held. IsConfOf conf held t)
+  pub no_conf : (known : Option Contents) (conf : Conf) (reader : Progress) → place_at t path ≡ None → reader ≡ nothing_read → IsConfFrom conf reader →
+      IfKnown known (λ held. IsConfOf path conf held t)
   no_conf None conf reader e start is = tt
   no_conf (Some held) conf reader e start is = as_conf held conf reader (rw (no_items e held) record { held = refl; reader = start }) is
 
-  pub no_reads : (s : StoreState) → place_at t conf_path ≡ None → ReadsConf t Complete s s
+  pub no_reads : (s : StoreState) → place_at t path ≡ None → ReadsConf path t Complete s s
   no_reads s e = as_reads Complete s s s.held (at s.held) where
     at : (known : Option Contents) → ReadsItems all_items known Complete s s
     at None = unread s
     at (Some held) = rw (no_items e held) (reads_all ⊥ _ _ _ s s (reads_nothing s))
 
-  pub gave_up : (s : StoreState) → ReadsConf t GaveUp s s
+  pub gave_up : (s : StoreState) → ReadsConf path t GaveUp s s
   gave_up s = reads_none _ _ _ s
 
   -- ---- there is one
 
-  module _ (start : Progress) (spelled real : List ℕ) (place : place_at t conf_path ≡ Some real) (none : start ≡ nothing_read) (path : spelled ≡ conf_path) where
+  module _ (start : Progress) (spelled real : List ℕ) (place : place_at t path ≡ Some real) (none : start ≡ nothing_read) (same : spelled ≡ path) where
     abbrev visited : Contents → List Item
     visited held = included t held (DEPTH_MAX + 1) start.read (spelled, real)
 
     from_start : (held : Contents) → visited held ≡ all_items held
-    from_start held = rw (none, path, place) refl
+    from_start held = rw (none, same, place) refl
 
     pub a_conf : (known : Option Contents) (conf : Conf) (reader : Progress) → IfKnown known (λ held. HasTaken (visited held) start reader) → IsConfFrom conf reader →
-        IfKnown known (λ held. IsConfOf conf held t)
+        IfKnown known (λ held. IsConfOf path conf held t)
     a_conf None conf reader taken is = tt
     a_conf (Some held) conf reader taken is = as_conf held conf reader (subst (λ s. HasTaken (all_items held) s reader) none (subst (λ items. HasTaken items start reader) (from_start held) taken)) is
 
-    pub a_reads : (e : Ending) (old new : StoreState) → ReadsItems visited old.held e old new → ReadsConf t e old new
+    pub a_reads : (e : Ending) (old new : StoreState) → ReadsItems visited old.held e old new → ReadsConf path t e old new
     a_reads e old new reads = as_reads e old new old.held (at old.held reads) where
       at : (known : Option Contents) → ReadsItems visited known e old new → ReadsItems all_items known e old new
       at None reads = reads

@@ -1,4 +1,4 @@
--- The reading of /etc/ld.so.conf (ldconfig(8)). The files that include one another are a tree, and what their lines ask for is written in
+-- The reading of a conf file such as /etc/ld.so.conf (ldconfig(8)). The files that include one another are a tree, and what their lines ask for is written in
 -- preorder: behind an included file stands what its own lines ask for.
 use Rattle.std.specs.Prelude.{◌≡◌, ℕ, zero, suc, ◌+◌, Bool, true, false, List, [], ◌∷◌, ◌++◌, if◌then◌else◌, nat_le, flat_map, sum_by, length, codes, Option, Some, None, IsSomeAnd, option_map}
 use Rattle.std.specs.List.{list_any}
@@ -15,14 +15,15 @@ use Rattle.ldso_conf.specs.declared.kinds.Conf.{Conf}
 use Rattle.ldso_conf.specs.declared.kinds.ConfKind.{ConfKind}
 use Rattle.ldso_conf.specs.declared.kinds.ConfKind.TheVariants.{NotFile, Repeated, TooDeep, TooLarge, LongPath}
 use Rattle.ldso_conf.specs.declared.kinds.ConfReport.{ConfReport}
+use Rattle.ldso_conf.specs.declared.kinds.Origin.{Origin}
 use Rattle.ldso_conf.specs.declared.reading.TheConstants.{CONF_MAX, DEPTH_MAX}
 use Rattle.ldso_conf.specs.declared.steps.Step.{Step}
 use Rattle.ldso_conf.specs.declared.steps.Step.TheVariants as step
 
 -- what a line asks for, or what becomes of a file that it includes
 pub data Item : Type 0 where
-  -- a directory
-  Names : List ℕ → Item
+  -- a directory, and where it is named
+  Names : List ℕ → Origin → Item
   -- a directory or a file that can't be used
   Reports : ConfReport → Item
   -- a file that is begun under its key: it is read, is too large, or isn't held
@@ -36,14 +37,21 @@ abbrev pub reported : List ℕ → ConfKind → ConfReport
 reported place kind = record { place = place; kind = kind }
 
 abbrev pub dir_in : Item → List (List ℕ)
-dir_in (Names dir) = dir ∷ []
+dir_in (Names dir origin) = dir ∷ []
 dir_in (Reports report) = []
 dir_in (Reads f key content) = []
 dir_in (Passes f key) = []
 dir_in (Misses f key) = []
 
+abbrev pub origin_in : Item → List Origin
+origin_in (Names dir origin) = origin ∷ []
+origin_in (Reports report) = []
+origin_in (Reads f key content) = []
+origin_in (Passes f key) = []
+origin_in (Misses f key) = []
+
 abbrev pub report_in : Item → List ConfReport
-report_in (Names dir) = []
+report_in (Names dir origin) = []
 report_in (Reports report) = report ∷ []
 report_in (Reads f key content) = []
 report_in (Passes f key) = reported f.0 TooLarge ∷ []
@@ -51,7 +59,7 @@ report_in (Misses f key) = []
 
 -- where a file leads that is read
 abbrev pub place_in : Item → List (List ℕ)
-place_in (Names dir) = []
+place_in (Names dir origin) = []
 place_in (Reports report) = []
 place_in (Reads f key content) = f.1 ∷ []
 place_in (Passes f key) = []
@@ -59,7 +67,7 @@ place_in (Misses f key) = []
 
 -- the key of a file that is begun
 abbrev pub key_begun : Item → List (List ℕ)
-key_begun (Names dir) = []
+key_begun (Names dir origin) = []
 key_begun (Reports report) = []
 key_begun (Reads f key content) = key ∷ []
 key_begun (Passes f key) = key ∷ []
@@ -67,14 +75,14 @@ key_begun (Misses f key) = key ∷ []
 
 -- how many bytes are taken of it
 abbrev pub bytes_taken : Item → ℕ
-bytes_taken (Names dir) = 0
+bytes_taken (Names dir origin) = 0
 bytes_taken (Reports report) = 0
 bytes_taken (Reads f key content) = length content
 bytes_taken (Passes f key) = 0
 bytes_taken (Misses f key) = 0
 
 abbrev pub is_missing : Item → Bool
-is_missing (Names dir) = false
+is_missing (Names dir origin) = false
 is_missing (Reports report) = false
 is_missing (Reads f key content) = false
 is_missing (Passes f key) = false
@@ -83,8 +91,8 @@ is_missing (Misses f key) = true
 -- ---- one item
 
 -- a directory of at most 4095 bytes
-abbrev pub named : List ℕ → Item
-named dir = if nat_le (length dir) PATH_MAX then Names dir else Reports (reported dir LongPath)
+abbrev pub named : List ℕ → Origin → Item
+named dir origin = if nat_le (length dir) PATH_MAX then Names dir origin else Reports (reported dir LongPath)
 
 -- the key of the file to which a path leads; it leads to a directory if there is none
 abbrev pub key_in : Option Node → Option (List ℕ)
@@ -119,7 +127,7 @@ included_at t held left before f = included_by held left before f (key_in (node_
 
 -- only a file that is read has lines
 abbrev pub steps_in : Nodes → Item → List Step
-steps_in t (Names dir) = []
+steps_in t (Names dir origin) = []
 steps_in t (Reports report) = []
 steps_in t (Reads f key content) = steps_of t f.0 content
 steps_in t (Passes f key) = []
@@ -127,7 +135,7 @@ steps_in t (Misses f key) = []
 
 -- what one step asks for, if files ask for so much
 abbrev pub asked_by : (List (List ℕ) → Found → List Item) → List (List ℕ) → Step → List Item
-asked_by file before (step.Directory dir) = named dir ∷ []
+asked_by file before (step.Directory dir origin) = named dir origin ∷ []
 asked_by file before (step.Report report) = Reports report ∷ []
 asked_by file before (step.Include f) = file before (f.spelled, f.real)
 
@@ -144,10 +152,11 @@ abbrev pub included : Nodes → Contents → ℕ → List (List ℕ) → Found �
 included t held zero before f = included_at t held zero before f ∷ []
 included t held (suc left) before f = with_steps (included t held left) t before (included_at t held (suc left) before f)
 
+-- The path of the conf file, unless another is given.
 abbrev pub conf_path : List ℕ
 conf_path = codes "/etc/ld.so.conf"
 
--- `/etc/ld.so.conf` has the depth 0; there are no items if it isn't there
+-- the first conf file has the depth 0; there are no items if it isn't there
 abbrev pub all_from : Nodes → Contents → Option Found → List Item
 all_from t held None = []
 all_from t held (Some f) = included t held (DEPTH_MAX + 1) [] f
@@ -159,42 +168,44 @@ until_missing (item ∷ items) = item ∷ (if is_missing item then [] else until
 
 -- ---- the reading
 
--- What the conf files ask for, in preorder. The reading stops at the first file that isn't held.
-unfoldable pub conf_items : Contents → Nodes → List Item
-conf_items held t = until_missing (all_from t held (found_at t conf_path))
+-- What the conf files ask for, in preorder, from the first one's path on. The reading stops at the first file that isn't held.
+unfoldable pub conf_items : List ℕ → Contents → Nodes → List Item
+conf_items path held t = until_missing (all_from t held (found_at t path))
 
 -- what the conf files say
 pub record Reading : Type 0 where
   pub dirs : List (List ℕ)
+  pub origins : List Origin
   pub reports : List ConfReport
 
 abbrev pub reading_of : List Item → Reading
-reading_of items = record { dirs = flat_map dir_in items; reports = flat_map report_in items }
+reading_of items = record { dirs = flat_map dir_in items; origins = flat_map origin_in items; reports = flat_map report_in items }
 
-unfoldable pub reading : Nodes → Contents → Reading
-reading t held = reading_of (conf_items held t)
+unfoldable pub reading : List ℕ → Nodes → Contents → Reading
+reading path t held = reading_of (conf_items path held t)
 
 -- the keys of the conf files that have to be begun, in their order
-unfoldable pub conf_keys : Contents → Nodes → List (List ℕ)
-conf_keys held t = flat_map key_begun (conf_items held t)
+unfoldable pub conf_keys : List ℕ → Contents → Nodes → List (List ℕ)
+conf_keys path held t = flat_map key_begun (conf_items path held t)
 
 -- the most bytes that are taken of them
-unfoldable pub conf_bytes : Contents → Nodes → ℕ
-conf_bytes held t = sum_by bytes_taken (conf_items held t)
+unfoldable pub conf_bytes : List ℕ → Contents → Nodes → ℕ
+conf_bytes path held t = sum_by bytes_taken (conf_items path held t)
 
 -- one of them isn't held
-unfoldable pub conf_lacks : Contents → Nodes → Bool
-conf_lacks held t = list_any is_missing (conf_items held t)
+unfoldable pub conf_lacks : List ℕ → Contents → Nodes → Bool
+conf_lacks path held t = list_any is_missing (conf_items path held t)
 
 -- what is found is what the reading gives, with a file counted for each key, and all are held
-pub record IsConfOf (conf : Conf) (held : Contents) (t : Nodes) : Type 0 where
-  pub dirs : conf.dirs ≡ (reading t held).dirs
-  pub reports : conf.reports ≡ (reading t held).reports
-  pub files : conf.files ≡ length (conf_keys held t)
-  pub all_held : conf_lacks held t ≡ false
+pub record IsConfOf (path : List ℕ) (conf : Conf) (held : Contents) (t : Nodes) : Type 0 where
+  pub dirs : conf.dirs ≡ (reading path t held).dirs
+  pub origins : conf.origins ≡ (reading path t held).origins
+  pub reports : conf.reports ≡ (reading path t held).reports
+  pub files : conf.files ≡ length (conf_keys path held t)
+  pub all_held : conf_lacks path held t ≡ false
 
 -- the conf files are read from a store, as far as the ending says
-abbrev pub ReadsConf : Nodes → Ending → StoreState → StoreState → Type 0
-ReadsConf t ending old new =
-    ReadsFiles (IsSomeAnd old.held (λ held. conf_lacks held t ≡ true)) (option_map (λ held. conf_keys held t) old.held)
-    (option_map (λ held. conf_bytes held t) old.held) ending old new
+abbrev pub ReadsConf : List ℕ → Nodes → Ending → StoreState → StoreState → Type 0
+ReadsConf path t ending old new =
+    ReadsFiles (IsSomeAnd old.held (λ held. conf_lacks path held t ≡ true)) (option_map (λ held. conf_keys path held t) old.held)
+    (option_map (λ held. conf_bytes path held t) old.held) ending old new

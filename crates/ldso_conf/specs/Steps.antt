@@ -1,5 +1,5 @@
 -- What each line of a conf file asks for (ldconfig(8)), as a list of steps.
-use Rattle.std.specs.Prelude.{ℕ, List, [], ◌∷◌, ◌==◌, if◌then◌else◌, map, flat_map, length, Option, Some, None}
+use Rattle.std.specs.Prelude.{ℕ, ◌+◌, List, [], ◌∷◌, ◌==◌, if◌then◌else◌, map, flat_map, length, Option, Some, None}
 use Rattle.std.specs.List.{list_any}
 use Rattle.image_tree.specs.Paths.{root}
 use Rattle.image_tree.specs.Tree.{Nodes}
@@ -9,6 +9,7 @@ use Rattle.conf_patterns.specs.Patterns.{Found, results}
 use Rattle.path_walk.specs.Names.{is_absolute}
 use Rattle.ldso_conf.specs.declared.kinds.ConfKind.{ConfKind}
 use Rattle.ldso_conf.specs.declared.kinds.ConfKind.TheVariants.{Relative, Equals, Hwcap}
+use Rattle.ldso_conf.specs.declared.kinds.Origin.{Origin}
 use Rattle.ldso_conf.specs.declared.steps.Step.{Step}
 use Rattle.ldso_conf.specs.declared.steps.Step.TheVariants.{Directory, Report, Include}
 
@@ -24,15 +25,19 @@ or_root text = if length text == 0 then root else text
 abbrev pub without_slashes : List ℕ → List ℕ
 without_slashes text = or_root (without_end slashes text)
 
--- nothing, a relative text, or a directory
-abbrev pub named : List ℕ → List Step
-named text =
-    if length text == 0 then [] else
-    if is_absolute text then Directory (without_slashes text) ∷ [] else reported text Relative ∷ []
+-- a line of a file
+abbrev pub origin_at : List ℕ → ℕ → Origin
+origin_at file line = record { file = file; line = line }
 
-abbrev pub directory_steps : List ℕ → List Step
-directory_steps text =
-    if list_any (is_in equals) text then reported (before_equals text) Equals ∷ named (before_equals text) else named text
+-- nothing, a relative text, or a directory
+abbrev pub named : Origin → List ℕ → List Step
+named origin text =
+    if length text == 0 then [] else
+    if is_absolute text then Directory (without_slashes text) origin ∷ [] else reported text Relative ∷ []
+
+abbrev pub directory_steps : Origin → List ℕ → List Step
+directory_steps origin text =
+    if list_any (is_in equals) text then reported (before_equals text) Equals ∷ named origin (before_equals text) else named origin text
 
 -- ---- the lines
 
@@ -43,17 +48,22 @@ abbrev pub include_steps : Nodes → List ℕ → List ℕ → List Step
 include_steps t file patterns = flat_map (λ pattern. map included (results t file pattern)) (words_of patterns)
 
 -- by the arguments of `include`, and those of `hwcap`
-abbrev pub steps_by : Nodes → List ℕ → List ℕ → Option (List ℕ) → Option (List ℕ) → List Step
-steps_by t file text (Some patterns) words = include_steps t file patterns
-steps_by t file text None (Some words) = reported file Hwcap ∷ []
-steps_by t file text None None = directory_steps text
+abbrev pub steps_by : Nodes → Origin → List ℕ → Option (List ℕ) → Option (List ℕ) → List Step
+steps_by t origin text (Some patterns) words = include_steps t origin.file patterns
+steps_by t origin text None (Some words) = reported origin.file Hwcap ∷ []
+steps_by t origin text None None = directory_steps origin text
 
-abbrev pub text_steps : Nodes → List ℕ → List ℕ → List Step
-text_steps t file text = steps_by t file text (arguments_of include text) (arguments_of hwcap text)
+abbrev pub text_steps : Nodes → Origin → List ℕ → List Step
+text_steps t origin text = steps_by t origin text (arguments_of include text) (arguments_of hwcap text)
 
-abbrev pub line_steps : Nodes → List ℕ → List ℕ → List Step
-line_steps t file line = text_steps t file (text_of line)
+-- lines with their numbers, from this one on
+abbrev pub numbered : ℕ → List (List ℕ) → List (ℕ × List ℕ)
+numbered n [] = []
+numbered n (line ∷ lines) = (n, line) ∷ numbered (n + 1) lines
 
--- The steps of a file of this path and content.
+abbrev pub line_steps : Nodes → List ℕ → ℕ × List ℕ → List Step
+line_steps t file line = text_steps t (origin_at file line.0) (text_of line.1)
+
+-- The steps of a file of this path and content. Its lines are numbered from 1.
 unfoldable pub steps_of : Nodes → List ℕ → List ℕ → List Step
-steps_of t file content = flat_map (line_steps t file) (lines_of content)
+steps_of t file content = flat_map (line_steps t file) (numbered 1 (lines_of content))

@@ -7,16 +7,18 @@ use Rattle.tree_face.specs.StoreUse.{Ending, Complete, ReadsFiles}
 use Rattle.image_tree.specs.Tree.{Nodes, node_at}
 use Rattle.image_tree.specs.declared.path.TheConstants.{PATH_MAX}
 use Rattle.conf_patterns.specs.Patterns.{Found}
-use Rattle.ldso_conf.specs.Reading.{Item, bytes_taken, dir_in, included, is_missing, key_begun, key_in, place_in, report_in, reported, steps_in, until_missing, was_read}
+use Rattle.ldso_conf.specs.Reading.{Item, bytes_taken, dir_in, included, is_missing, key_begun, key_in, origin_in, place_in, report_in, reported, steps_in, until_missing, was_read}
 use Rattle.ldso_conf.specs.declared.kinds.Conf.{Conf}
 use Rattle.ldso_conf.specs.declared.kinds.ConfKind.TheVariants.{LongPath}
 use Rattle.ldso_conf.specs.declared.kinds.ConfReport.{ConfReport}
+use Rattle.ldso_conf.specs.declared.kinds.Origin.{Origin}
 use Rattle.ldso_conf.specs.declared.reading.TheConstants.{CONF_MAX}
 use Rattle.ldso_conf.specs.declared.steps.Step.{Step}
 
 -- what has been read so far
 pub record Progress : Type 0 where
   pub dirs : List (List ℕ)
+  pub origins : List Origin
   pub reports : List ConfReport
   -- where the files lead that were read
   pub read : List (List ℕ)
@@ -24,13 +26,13 @@ pub record Progress : Type 0 where
   pub files : ℕ
 
 abbrev pub nothing_read : Progress
-nothing_read = record { dirs = []; reports = []; read = []; files = 0 }
+nothing_read = record { dirs = []; origins = []; reports = []; read = []; files = 0 }
 
 abbrev pub with_report : Progress → ConfReport → Progress
 with_report r report = record r { reports = r.reports ++ report ∷ [] }
 
-abbrev pub with_dir : Progress → List ℕ → Progress
-with_dir r dir = if nat_le (length dir) PATH_MAX then record r { dirs = r.dirs ++ dir ∷ [] } else with_report r (reported dir LongPath)
+abbrev pub with_dir : Progress → List ℕ → Origin → Progress
+with_dir r dir origin = if nat_le (length dir) PATH_MAX then record r { dirs = r.dirs ++ dir ∷ []; origins = r.origins ++ origin ∷ [] } else with_report r (reported dir LongPath)
 
 abbrev pub with_read : Progress → List ℕ → Progress
 with_read r place = record r { read = r.read ++ place ∷ [] }
@@ -41,6 +43,7 @@ with_begun r = record r { files = r.files + 1 }
 abbrev pub with_items : Progress → List Item → Progress
 with_items r items = record {
   dirs = r.dirs ++ flat_map dir_in items;
+  origins = r.origins ++ flat_map origin_in items;
   reports = r.reports ++ flat_map report_in items;
   read = r.read ++ flat_map place_in items;
   files = r.files + length (flat_map key_begun items);
@@ -48,6 +51,7 @@ with_items r items = record {
 
 pub record IsConfFrom (conf : Conf) (r : Progress) : Type 0 where
   pub dirs : conf.dirs ≡ r.dirs
+  pub origins : conf.origins ≡ r.origins
   pub reports : conf.reports ≡ r.reports
   pub files : conf.files ≡ r.files
 

@@ -32,10 +32,22 @@ pub struct ConfReport {
 /// A list of reports.
 pub type ConfReports = Seq<ConfReport>;
 
+/// Where a directory is named: a conf file, by its path as it is spelled, and the number of a line of it, from 1.
+#[derive(Drop)]
+pub struct Origin {
+    pub file: Text,
+    pub line: u32,
+}
+
+/// A list of origins.
+pub type Origins = Seq<Origin>;
+
 /// The directories of the conf file, in the order of the lines.
 #[derive(Drop)]
 pub struct Conf {
     pub dirs: Texts,
+    /// Where each of them is named.
+    pub origins: Origins,
     pub reports: ConfReports,
     /// How many conf files were begun, those that are too large too.
     pub files: u32,

@@ -11,5 +11,5 @@ mod steps;
 
 pub use conf_patterns::glob_match;
 pub use fault::ConfFault;
-pub use kinds::{Conf, ConfKind, ConfReport, ConfReports};
-pub use reading::{CONF_MAX, DEPTH_MAX, read_conf};
+pub use kinds::{Conf, ConfKind, ConfReport, ConfReports, Origin, Origins};
+pub use reading::{CONF_MAX, CONF_PATH, DEPTH_MAX, read_conf};

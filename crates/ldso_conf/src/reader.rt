@@ -3,7 +3,7 @@ ghost use Rattle.std.specs.Prelude.{◌≡◌, ◌≤◌, false, length, All, On
 ghost use Rattle.ldso_conf.specs.Reading.{reported, was_read};
 ghost use Rattle.ldso_conf.specs.Visits.{nothing_read, with_begun, with_dir, with_read, with_report, IsConfFrom};
 
-use crate::kinds::{Conf, ConfKind, ConfReport, ConfReports};
+use crate::kinds::{Conf, ConfKind, ConfReport, ConfReports, Origin, Origins};
 use lib_types::{NoMemory, Text, Texts};
 use std::alloc::Global;
 use std::marker::Model;
@@ -14,6 +14,7 @@ use tree_face::PATH_MAX;
 #[derive(Drop)]
 pub(crate) struct Reader {
     dirs: Texts,
+    origins: Origins,
     reports: ConfReports,
     read: TextSet,
     files: u32,
@@ -26,7 +27,7 @@ impl Model for Reader {
 
     ghost Value = { Progress };
 
-    ghost view = { λ s. record { dirs = s.dirs; reports = s.reports; read = s.read; files = s.files } };
+    ghost view = { λ s. record { dirs = s.dirs; origins = s.origins; reports = s.reports; read = s.read; files = s.files } };
 
     ghost invariant = { λ s. All (λ dir. length dir ≤ PATH_MAX) s.dirs };
 }
@@ -38,6 +39,7 @@ impl Reader {
     {
         Reader {
             dirs: Texts::new(alloc),
+            origins: Origins::new(alloc),
             reports: ConfReports::new(alloc),
             read: TextSet::new(alloc),
             files: 0,
@@ -59,13 +61,14 @@ impl Reader {
     }
 
     /// Adds a directory, or reports it if it is too long.
-    pub(crate) fn add_dir(&mut self, dir: Text) -> Result<(), NoMemory>
-        ensures { OnOk result (self.new ≡ with_dir self.old dir) }
+    pub(crate) fn add_dir(&mut self, dir: Text, origin: Origin) -> Result<(), NoMemory>
+        ensures { OnOk result (self.new ≡ with_dir self.old dir origin) }
     {
         if dir.as_bytes().len() > PATH_MAX {
             return self.report(dir, ConfKind::LongPath);
         }
-        self.dirs.push(dir)
+        self.dirs.push(dir)?;
+        self.origins.push(origin)
     }
 
     /// Whether the file at this place was read.
@@ -101,6 +104,7 @@ impl Reader {
     {
         Conf {
             dirs: self.dirs,
+            origins: self.origins,
             reports: self.reports,
             files: self.files,
         }

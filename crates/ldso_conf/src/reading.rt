@@ -21,7 +21,10 @@ use tree_face::{Node, PATH_MAX, Store, Tree};
 /// The most bytes of a conf file: far more than a real one has, and little enough to be read whole.
 pub const CONF_MAX: u64 = 1 << 20;
 
-/// The greatest depth of an included file, `/etc/ld.so.conf` itself having the depth 0.
+/// The path of the conf file, unless another is given.
+pub const CONF_PATH: &[u8] = b"/etc/ld.so.conf";
+
+/// The greatest depth of an included file, the conf file itself having the depth 0.
 pub const DEPTH_MAX: u8 = 16;
 
 // The key of the file at a place, if there is one.
@@ -115,7 +118,7 @@ fn visit<S: Store>(
     };
     for step in load(alloc, tree, store, reader, key, file)? {
         match step {
-            Step::Directory(dir) => reader.add_dir(dir)?,
+            Step::Directory(dir, origin) => reader.add_dir(dir, origin)?,
             Step::Report(report) => reader.add_report(report)?,
             Step::Include(file) => visit(alloc, tree, store, reader, left - 1, file)?,
         }
@@ -123,17 +126,21 @@ fn visit<S: Store>(
     Ok(())
 }
 
-/// Reads `/etc/ld.so.conf` with all that it includes.
+/// Reads the conf file at this path with all that it includes.
 ///
 /// Takes memory for the content of the files that are open, at most 17 of them, and for what their lines ask for.
 #[tactic(auto, using(crate::proofs::Whole::no_conf, crate::proofs::Whole::no_reads, crate::proofs::Whole::gave_up))]
-pub fn read_conf<S: Store>(alloc: Global, tree: &Tree, store: &mut S) -> Result<Conf, ConfFault>
-    ensures conf { IfOk result (λ conf. IfKnown (S.state store.old).held (λ held. IsConfOf conf held tree.now)) }
+pub fn read_conf<S: Store>(
+    alloc: Global,
+    path: &[u8],
+    tree: &Tree,
+    store: &mut S,
+) -> Result<Conf, ConfFault>
+    ensures conf { IfOk result (λ conf. IfKnown (S.state store.old).held (λ held. IsConfOf path.now conf held tree.now)) }
     ensures short { IfOk result (λ conf. All (λ dir. length dir ≤ PATH_MAX) conf.dirs) }
     ensures begun { IfOk result (λ conf. (S.state store.new).begun ≡ raised (S.state store.old).begun conf.files) }
-    ensures reads { ReadsConf tree.now (ending_of result) (S.state store.old) (S.state store.new) }
+    ensures reads { ReadsConf path.now tree.now (ending_of result) (S.state store.old) (S.state store.new) }
 {
-    let path = b"/etc/ld.so.conf";
     let mut reader = Reader::new(alloc);
     let Some(real) = place_of(alloc, tree, path)? else {
         return Ok(reader.into_conf());

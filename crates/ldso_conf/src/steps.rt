@@ -1,8 +1,8 @@
 //! What the lines of a conf file ask for.
 ghost use Rattle.std.specs.Prelude.{◌≡◌, ◌∷◌, ◌++◌, [], map, IfOk, OnOk};
-ghost use Rattle.ldso_conf.specs.Steps.{directory_steps, include_steps, included, line_steps, named, reported, steps_of, text_steps, without_slashes};
+ghost use Rattle.ldso_conf.specs.Steps.{directory_steps, include_steps, included, named, origin_at, reported, steps_of, text_steps, without_slashes};
 
-use crate::kinds::{ConfKind, ConfReport};
+use crate::kinds::{ConfKind, ConfReport, Origin};
 use crate::lines::{arguments_of, before_equals, text_of};
 use conf_patterns::patterns::{Results, results};
 use lib_types::trim::{has_one, without_end};
@@ -21,7 +21,7 @@ pub(crate) struct ConfFile {
 /// What one line, or one result of a pattern, asks for.
 #[derive(Drop)]
 pub(crate) enum Step {
-    Directory(Text),
+    Directory(Text, Origin),
     Report(ConfReport),
     Include(ConfFile),
 }
@@ -46,9 +46,22 @@ fn without_slashes(text: &[u8]) -> &[u8]
     if kept.is_empty() { b"/" } else { kept }
 }
 
+fn origin_of(alloc: Global, file: &[u8], line: u32) -> Result<Origin, NoMemory>
+    ensures { IfOk result (λ origin. origin ≡ origin_at file.now line) }
+{
+    let file = Text::copy_of(alloc, file)?;
+    Ok(Origin { file, line })
+}
+
 // Adds a directory's text, or its report, or nothing if it is empty.
-fn add_named(alloc: Global, text: &[u8], steps: &mut Vec<Step>) -> Result<(), NoMemory>
-    ensures { OnOk result (steps.new.items ≡ steps.old.items ++ named text.now) }
+fn add_named(
+    alloc: Global,
+    file: &[u8],
+    line: u32,
+    text: &[u8],
+    steps: &mut Vec<Step>,
+) -> Result<(), NoMemory>
+    ensures { OnOk result (steps.new.items ≡ steps.old.items ++ named (origin_at file.now line) text.now) }
 {
     if text.is_empty() {
         return Ok(());
@@ -57,19 +70,26 @@ fn add_named(alloc: Global, text: &[u8], steps: &mut Vec<Step>) -> Result<(), No
         return add_report(alloc, text, ConfKind::Relative, steps);
     }
     let dir = Text::copy_of(alloc, without_slashes(text))?;
-    steps.push(Step::Directory(dir))?;
+    let origin = origin_of(alloc, file, line)?;
+    steps.push(Step::Directory(dir, origin))?;
     Ok(())
 }
 
-fn add_directory(alloc: Global, text: &[u8], steps: &mut Vec<Step>) -> Result<(), NoMemory>
-    ensures { OnOk result (steps.new.items ≡ steps.old.items ++ directory_steps text.now) }
+fn add_directory(
+    alloc: Global,
+    file: &[u8],
+    line: u32,
+    text: &[u8],
+    steps: &mut Vec<Step>,
+) -> Result<(), NoMemory>
+    ensures { OnOk result (steps.new.items ≡ steps.old.items ++ directory_steps (origin_at file.now line) text.now) }
 {
     if !has_one(b"=", text) {
-        return add_named(alloc, text, steps);
+        return add_named(alloc, file, line, text, steps);
     }
     let dir = before_equals(text);
     add_report(alloc, dir, ConfKind::Equals, steps)?;
-    add_named(alloc, dir, steps)?;
+    add_named(alloc, file, line, dir, steps)?;
     Ok(())
 }
 
@@ -106,10 +126,11 @@ fn add_text(
     alloc: Global,
     tree: &Tree,
     file: &[u8],
+    line: u32,
     text: &[u8],
     steps: &mut Vec<Step>,
 ) -> Result<(), NoMemory>
-    ensures { OnOk result (steps.new.items ≡ steps.old.items ++ text_steps tree.now file.now text.now) }
+    ensures { OnOk result (steps.new.items ≡ steps.old.items ++ text_steps tree.now (origin_at file.now line) text.now) }
 {
     if let Some(patterns) = arguments_of(b"include", text) {
         return add_included(alloc, tree, file, patterns, steps);
@@ -117,7 +138,7 @@ fn add_text(
     if arguments_of(b"hwcap", text).is_some() {
         return add_report(alloc, file, ConfKind::Hwcap, steps);
     }
-    add_directory(alloc, text, steps)
+    add_directory(alloc, file, line, text, steps)
 }
 
 /// The steps of a file of this path and content.
@@ -131,8 +152,13 @@ pub(crate) fn steps_of(
     ensures { IfOk result (λ steps. steps.items ≡ steps_of tree.now file.now content.now) }
 {
     let mut steps = Vec::new(alloc);
+    let mut number = 1u32;
     for line in split(Separator::In(b"\n"), content) {
-        add_text(alloc, tree, file, text_of(line), &mut steps)?;
+        add_text(alloc, tree, file, number, text_of(line), &mut steps)?;
+        let Some(next) = number.checked_add(1) else {
+            return Err(NoMemory);
+        };
+        number = next;
     }
     Ok(steps)
 }

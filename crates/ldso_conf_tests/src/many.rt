@@ -1,5 +1,5 @@
 //! Large conf files and folders take time in proportion to their size.
-use ldso_conf::{Conf, read_conf};
+use ldso_conf::{CONF_PATH, Conf, read_conf};
 use lib_types::{NoMemory, Text};
 use mtree_manifest::read;
 use std::alloc::Global;
@@ -43,7 +43,7 @@ fn are_read(alloc: Global, tree: &Tree, conf: &str, files: u32, dirs: usize) -> 
     let Ok(mut store) = store_of(alloc, conf) else {
         return false;
     };
-    match read_conf(alloc, tree, &mut store) {
+    match read_conf(alloc, CONF_PATH, tree, &mut store) {
         Ok(conf) => has_counts(&conf, files, dirs),
         Err(_) => false,
     }

@@ -1,7 +1,7 @@
 //! What is read of conf files.
 use elf_samples::SampleFault;
 use image_rows::{FILES, MANIFEST, STORE_FAILS, is_made, store_of, tree_of};
-use ldso_conf::{Conf, ConfFault, ConfKind, ConfReports, read_conf};
+use ldso_conf::{CONF_PATH, Conf, ConfFault, ConfKind, ConfReports, read_conf};
 use lib_types::NoMemory;
 use std::alloc::Global;
 use table_rows::{Row, Said, Trial, Words, count, has_line, lines_in, value};
@@ -83,7 +83,7 @@ fn are_opened(
 
 fn try_row(alloc: Global, row: Row<'_>, tree: &Tree, said: &mut Said) -> Result<bool, SampleFault> {
     let mut store = store_of(alloc, row)?;
-    let read = read_conf(alloc, tree, &mut store);
+    let read = read_conf(alloc, CONF_PATH, tree, &mut store);
     Ok(is_answer(alloc, row, read, store.begun(), said)? && are_opened(alloc, row, &store, said)?)
 }
 

@@ -7,6 +7,7 @@ use Rattle.std.specs.Option.{is_none, option_map_or}
 use Rattle.std.specs.Prelude.{IsSomeAnd}
 use Rattle.aux_cache.specs.declared.stamps.Stamp.{Stamp}
 use Rattle.elf_dynamic.specs.Begun.{is_lacking, key_in, lacks_one}
+use Rattle.hwcap_dirs.specs.declared.kinds.Scope.{Scope}
 use Rattle.image_tree.specs.declared.node.Node.{Node}
 use Rattle.image_tree.specs.Tree.{Nodes, node_at}
 use Rattle.ldso_conf.specs.Reading.{conf_lacks}
@@ -21,7 +22,7 @@ use Rattle.tree_face.specs.StoreUse.{Ending, Complete, ReadsFiles}
 use Rattle.library_search.proofs.FilesAgree.{key_same}
 use Rattle.library_search.proofs.KeysBegun.{SearchBy}
 use Rattle.library_search.specs.Begun.{lacks_some, lacks_wanted, wanted_keys}
-use Rattle.library_search.specs.Ldconfig.{wanted_in}
+use Rattle.library_search.specs.Ldconfig.{conf_of, wanted_in}
 
 -- ---- a file of the tree
 
@@ -54,46 +55,46 @@ of_test : (b : Bool) (k : Option (List ℕ)) (key : List ℕ) → cond b k None 
 of_test true k key e = e
 of_test false k key e = absurd (cc)
 
-module _ (held : Contents) (t : Nodes) where
-  missing_some : list_any (is_missing held) t ≡ true → lacks_some held t ≡ true
+module _ (scope : Scope) (held : Contents) (t : Nodes) where
+  missing_some : list_any (is_missing held) t ≡ true → lacks_some scope held t ≡ true
   unfolding lacks_some
-  missing_some = or_right (conf_lacks held t) (list_any (is_missing held) t)
+  missing_some = or_right (conf_lacks (conf_of scope) held t) (list_any (is_missing held) t)
 
-  conf_some : conf_lacks held t ≡ true → lacks_some held t ≡ true
+  conf_some : conf_lacks (conf_of scope) held t ≡ true → lacks_some scope held t ≡ true
   unfolding lacks_some
-  conf_some = or_left (conf_lacks held t) (list_any (is_missing held) t)
+  conf_some = or_left (conf_lacks (conf_of scope) held t) (list_any (is_missing held) t)
 
   -- a file that is opened in a tree with the same files
   opened_some : (new : Nodes) (stamps : List Stamp) (paths : List (List ℕ)) → ((path : List ℕ) → key_in (node_at new path) ≡ key_in (node_at t path))
-      → lacks_one held (opened_keys held new stamps paths) ≡ true → lacks_some held t ≡ true
+      → lacks_one held (opened_keys held new stamps paths) ≡ true → lacks_some scope held t ≡ true
   opened_some new stamps paths same lacks =
       missing_some (keys_missing held t (λ path. unstamped_key (stamps_before held new stamps paths path) new path)
       (λ path key e. sym (same path) ∙ of_test (is_none (stamp_for (stamps_before held new stamps paths path) new path)) (key_in (node_at new path)) key e) paths lacks)
 
-  wanted_some : (loaded : List Stamp) → lacks_wanted held t loaded ≡ true → lacks_some held t ≡ true
-  unfolding wanted_keys
-  wanted_some loaded lacks = by_test (conf_lacks held t)
-      (λ e. conf_some e)
-      (λ e. opened_some t loaded (wanted_in held t) (λ path. refl) (sym (ap (λ b. b || lacks_one held (wanted_keys held t loaded)) e) ∙ lacks))
+wanted_some : (scope : Scope) (held : Contents) (t : Nodes) (loaded : List Stamp) → lacks_wanted scope held t loaded ≡ true → lacks_some scope held t ≡ true
+unfolding wanted_keys
+wanted_some scope held t loaded lacks = by_test (conf_lacks (conf_of scope) held t)
+    (λ e. conf_some scope held t e)
+    (λ e. opened_some scope held t t loaded (wanted_in scope held t) (λ path. refl) (sym (ap (λ b. b || lacks_one held (wanted_keys scope held t loaded)) e) ∙ lacks))
 
 -- ---- the reading
 
 -- the reading in a store that holds this
-abbrev pub AnyBy : Nodes → Option Contents → Ending → StoreState → StoreState → Type 0
-AnyBy t known e a b = ReadsFiles (IsSomeAnd known (λ held. lacks_some held t ≡ true)) None None e a b
+abbrev pub AnyBy : Scope → Nodes → Option Contents → Ending → StoreState → StoreState → Type 0
+AnyBy scope t known e a b = ReadsFiles (IsSomeAnd known (λ held. lacks_some scope held t ≡ true)) None None e a b
 
-module _ (t : Nodes) (loaded : List Stamp) (e : Ending) where
-  pub search_any : (known : Option Contents) (a b : StoreState) → SearchBy t loaded known e a b → AnyBy t known e a b
-  search_any None a b reads = reads
-  search_any (Some held) a b reads = reads_fewer _ _ _ _ e a b (wanted_some held t loaded) reads
+pub search_any : (scope : Scope) (t : Nodes) (loaded : List Stamp) (e : Ending) (known : Option Contents) (a b : StoreState) → SearchBy scope t loaded known e a b → AnyBy scope t known e a b
+search_any scope t loaded e None a b reads = reads
+search_any scope t loaded e (Some held) a b reads = reads_fewer _ _ _ _ e a b (wanted_some scope held t loaded) reads
 
+module _ (scope : Scope) (t : Nodes) (e : Ending) where
   behind_any : (known : Option Contents) (new : Nodes) (stamps : List Stamp) (paths : List (List ℕ)) (b c : StoreState) → IsSearchedAlike t new
-      → ReadsOpenedBy known (λ held. opened_keys held new stamps paths) e b c → AnyBy t known e b c
+      → ReadsOpenedBy known (λ held. opened_keys held new stamps paths) e b c → AnyBy scope t known e b c
   behind_any None new stamps paths b c alike reads = reads
-  behind_any (Some held) new stamps paths b c alike reads = reads_fewer _ _ _ _ e b c (opened_some held t new stamps paths (key_same held t new alike)) reads
+  behind_any (Some held) new stamps paths b c alike reads = reads_fewer _ _ _ _ e b c (opened_some scope held t new stamps paths (key_same held t new alike)) reads
 
-pub update_any : (t : Nodes) (loaded : List Stamp) (e : Ending) (known : Option Contents) (new : Nodes) (stamps : List Stamp) (paths : List (List ℕ)) (a b c : StoreState) → IsSearchedAlike t new
-    → SearchBy t loaded known Complete a b → ReadsOpenedBy known (λ held. opened_keys held new stamps paths) e b c → AnyBy t known e a c
-update_any t loaded e known new stamps paths a b c alike first next =
-    let some : Type 0 = IsSomeAnd known (λ held. lacks_some held t ≡ true) in
-    reads_then e a b c some some some None None None None (λ lacks. lacks) (search_any t loaded Complete known a b first) (behind_any t loaded e known new stamps paths b c alike next)
+pub update_any : (scope : Scope) (t : Nodes) (loaded : List Stamp) (e : Ending) (known : Option Contents) (new : Nodes) (stamps : List Stamp) (paths : List (List ℕ)) (a b c : StoreState) → IsSearchedAlike t new
+    → SearchBy scope t loaded known Complete a b → ReadsOpenedBy known (λ held. opened_keys held new stamps paths) e b c → AnyBy scope t known e a c
+update_any scope t loaded e known new stamps paths a b c alike first next =
+    let some : Type 0 = IsSomeAnd known (λ held. lacks_some scope held t ≡ true) in
+    reads_then e a b c some some some None None None None (λ lacks. lacks) (search_any scope t loaded Complete known a b first) (behind_any scope t e known new stamps paths b c alike next)

@@ -4,6 +4,7 @@ use Rattle.aux_cache.specs.declared.stamps.Stamp.{Stamp}
 use Rattle.elf_dynamic.specs.declared.fault.AnalyseFault.{AnalyseFault}
 use Rattle.elf_dynamic.specs.declared.fault.AnalyseFault.TheVariants as reading
 use Rattle.elf_dynamic.specs.Faults.{analyse_ending}
+use Rattle.hwcap_dirs.specs.declared.kinds.Scope.{Scope}
 use Rattle.ldso_conf.specs.declared.fault.ConfFault.{ConfFault}
 use Rattle.ldso_conf.specs.declared.fault.ConfFault.TheVariants as conf
 use Rattle.ldso_conf.specs.Endings.{ending_of}
@@ -24,50 +25,51 @@ use Rattle.library_search.specs.declared.fault.FindFault.{FindFault}
 use Rattle.library_search.specs.declared.fault.FindFault.TheVariants as finding
 use Rattle.library_search.specs.Faults.{find_ending, is_store_fault, of_apply, of_conf, of_reading}
 use Rattle.library_search.specs.Found.{ReadsFinding}
+use Rattle.library_search.specs.Ldconfig.{conf_of}
 
-module _ (A B : Type 0) (t : Nodes) (loaded : List Stamp) (known : Option Contents) where
-  pub conf_failed : (fault : ConfFault) (a b : StoreState) → ConfBy t known (ending_of {A = A} (Err fault)) a b → SearchBy t loaded known (find_ending {A = B} (Err (of_conf fault))) a b
-  conf_failed conf.StoreFault a b reads = conf_part t loaded DeviceFailed known a b tt reads
-  conf_failed conf.NoMemory a b reads = conf_part t loaded GaveUp known a b tt reads
+module _ (scope : Scope) (A B : Type 0) (t : Nodes) (loaded : List Stamp) (known : Option Contents) where
+  pub conf_failed : (fault : ConfFault) (a b : StoreState) → ConfBy scope t known (ending_of {A = A} (Err fault)) a b → SearchBy scope t loaded known (find_ending {A = B} (Err (of_conf fault))) a b
+  conf_failed conf.StoreFault a b reads = conf_part scope t loaded DeviceFailed known a b tt reads
+  conf_failed conf.NoMemory a b reads = conf_part scope t loaded GaveUp known a b tt reads
 
-  pub wanted_failed : (fault : AnalyseFault) (keys : Contents → List (List ℕ)) (a b c : StoreState) → IfKnown known (λ held. conf_lacks held t ≡ false)
-      → IfKnown known (λ held. keys held ≡ wanted_keys held t loaded) → ConfBy t known Complete a b → ReadsOpenedBy known keys (analyse_ending {X = A} (Err fault)) b c
-      → SearchBy t loaded known (find_ending {A = B} (Err (of_reading fault))) a c
-  wanted_failed reading.StoreFault keys a b c all are first next = search_all t loaded DeviceFailed known keys a b c all are first next
-  wanted_failed reading.NoMemory keys a b c all are first next = search_all t loaded GaveUp known keys a b c all are first next
+  pub wanted_failed : (fault : AnalyseFault) (keys : Contents → List (List ℕ)) (a b c : StoreState) → IfKnown known (λ held. conf_lacks (conf_of scope) held t ≡ false)
+      → IfKnown known (λ held. keys held ≡ wanted_keys scope held t loaded) → ConfBy scope t known Complete a b → ReadsOpenedBy known keys (analyse_ending {X = A} (Err fault)) b c
+      → SearchBy scope t loaded known (find_ending {A = B} (Err (of_reading fault))) a c
+  wanted_failed reading.StoreFault keys a b c all are first next = search_all scope t loaded DeviceFailed known keys a b c all are first next
+  wanted_failed reading.NoMemory keys a b c all are first next = search_all scope t loaded GaveUp known keys a b c all are first next
 
 -- ---- the reading of an update
 
-module _ (t : Nodes) (loaded : List Stamp) (a b : StoreState) where
-  early : (e : Ending) → IsPartial e → SearchBy t loaded a.held e a b → ReadsFinding t loaded e a b
-  early e partial reads = record { keys = search_part t loaded e a.held a b partial reads; any = search_any t loaded e a.held a b reads }
+module _ (scope : Scope) (t : Nodes) (loaded : List Stamp) (a b : StoreState) where
+  early : (e : Ending) → IsPartial e → SearchBy scope t loaded a.held e a b → ReadsFinding scope t loaded e a b
+  early e partial reads = record { keys = search_part scope t loaded e a.held a b partial reads; any = search_any scope t loaded e a.held a b reads }
 
   -- the search fails
-  pub search_failed : (A B : Type 0) (fault : FindFault) → is_store_fault fault ≡ true → SearchBy t loaded a.held (find_ending {A = A} (Err fault)) a b
-      → ReadsFinding t loaded (find_ending {A = B} (Err fault)) a b
+  pub search_failed : (A B : Type 0) (fault : FindFault) → is_store_fault fault ≡ true → SearchBy scope t loaded a.held (find_ending {A = A} (Err fault)) a b
+      → ReadsFinding scope t loaded (find_ending {A = B} (Err fault)) a b
   search_failed A B finding.StoreFault is reads = early DeviceFailed tt reads
   search_failed A B finding.NoMemory is reads = early GaveUp tt reads
   search_failed A B (finding.TooLarge nodes) is reads = absurd (cc)
 
   -- no links are put
-  pub links_failed : (B : Type 0) (fault : ApplyFault) → ((nodes : ℕ) → fault ≡ applying.TooLarge nodes → IfKnown a.held (λ held. has_too_many_nodes held t loaded ≡ true))
-      → SearchBy t loaded a.held Complete a b → ReadsFinding t loaded (find_ending {A = B} (Err (of_apply fault))) a b
-  links_failed B (applying.TooLarge nodes) many reads = record { keys = update_small t loaded a.held a b (many nodes refl) reads; any = search_any t loaded Complete a.held a b reads }
+  pub links_failed : (B : Type 0) (fault : ApplyFault) → ((nodes : ℕ) → fault ≡ applying.TooLarge nodes → IfKnown a.held (λ held. has_too_many_nodes scope held t loaded ≡ true))
+      → SearchBy scope t loaded a.held Complete a b → ReadsFinding scope t loaded (find_ending {A = B} (Err (of_apply fault))) a b
+  links_failed B (applying.TooLarge nodes) many reads = record { keys = update_small scope t loaded a.held a b (many nodes refl) reads; any = search_any scope t loaded Complete a.held a b reads }
   links_failed B applying.NoMemory many reads = early GaveUp tt (reads_all _ _ _ _ _ reads)
 
-  module _ (none : IfKnown a.held (λ held. lacks_wanted held t loaded ≡ false)) (few : IfKnown a.held (λ held. has_too_many_nodes held t loaded ≡ false))
+  module _ (none : IfKnown a.held (λ held. lacks_wanted scope held t loaded ≡ false)) (few : IfKnown a.held (λ held. has_too_many_nodes scope held t loaded ≡ false))
       (new : Nodes) (alike : IsSearchedAlike t new) (stamps : List Stamp) (paths : List (List ℕ))
-      (are : IfKnown a.held (λ held. opened_keys held new stamps paths ≡ behind_keys held t loaded)) (first : SearchBy t loaded a.held Complete a b) (c : StoreState) where
+      (are : IfKnown a.held (λ held. opened_keys held new stamps paths ≡ behind_keys scope held t loaded)) (first : SearchBy scope t loaded a.held Complete a b) (c : StoreState) where
     -- the files that links lead to are read
-    pub behind_read : (e : Ending) → ReadsOpenedBy a.held (λ held. opened_keys held new stamps paths) e b c → ReadsFinding t loaded e a c
+    pub behind_read : (e : Ending) → ReadsOpenedBy a.held (λ held. opened_keys held new stamps paths) e b c → ReadsFinding scope t loaded e a c
     behind_read e next = record {
-      keys = update_all t loaded e a.held (λ held. opened_keys held new stamps paths) a b c none few are first next;
-      any = update_any t loaded e a.held new stamps paths a b c alike first next;
+      keys = update_all scope t loaded e a.held (λ held. opened_keys held new stamps paths) a b c none few are first next;
+      any = update_any scope t loaded e a.held new stamps paths a b c alike first next;
     }
 
     -- they aren't
     pub behind_failed : (A B : Type 0) (fault : FindFault) → is_store_fault fault ≡ true
-        → ReadsOpenedBy a.held (λ held. opened_keys held new stamps paths) (find_ending {A = A} (Err fault)) b c → ReadsFinding t loaded (find_ending {A = B} (Err fault)) a c
+        → ReadsOpenedBy a.held (λ held. opened_keys held new stamps paths) (find_ending {A = A} (Err fault)) b c → ReadsFinding scope t loaded (find_ending {A = B} (Err fault)) a c
     behind_failed A B finding.StoreFault is next = behind_read DeviceFailed next
     behind_failed A B finding.NoMemory is next = behind_read GaveUp next
     behind_failed A B (finding.TooLarge nodes) is next = absurd (cc)

@@ -6,10 +6,13 @@ use Rattle.std.proofs.lemmas.List.Sums.{fold-append}
 use Rattle.std.specs.List.{filter_map}
 use Rattle.std.specs.Map.{keys_of}
 use Rattle.cache_entries.proofs.NoOtherFiles.{found_agrees}
+use Rattle.place_libraries.proofs.NoOtherFiles.{bests_agree}
+use Rattle.place_libraries.specs.Best.{bests_of}
 use Rattle.cache_entries.specs.Entries as entries
 use Rattle.aux_cache.specs.Stamps.{put}
 use Rattle.aux_cache.specs.declared.stamps.Stamp.{Stamp}
 use Rattle.elf_dynamic.specs.Begun.{lacks_one}
+use Rattle.hwcap_dirs.specs.declared.kinds.Scope.{Scope}
 use Rattle.lib_types.proofs.SortedPairs.{by_test}
 use Rattle.string_pool.proofs.Members.{AreSorted, is_in, kept_in}
 use Rattle.file_table.proofs.Unread.{unread_sorted}
@@ -42,50 +45,50 @@ use Rattle.library_search.specs.Begun.{behind_keys, has_too_many_nodes, opened_i
 use Rattle.library_search.specs.declared.finding.Found.{Found}
 use Rattle.library_search.specs.declared.following.Followed.{Followed}
 use Rattle.library_search.specs.declared.search.Search.{Search}
-use Rattle.library_search.specs.Ldconfig.{behind_in, entries_in, links_in, planned_in, reached_in, said_files, said_wanted, stamps_in, wanted_in}
+use Rattle.library_search.specs.Ldconfig.{behind_in, best_libraries, conf_of, entries_in, links_in, planned_in, reached_in, said_files, said_wanted, stamps_in, wanted_in}
 use Rattle.library_search.specs.Found.{HasTooManyNodes, IsFound, IsSearched}
 use Rattle.update_report.specs.Skips.{skip_at}
 
-module _ (held : Contents) (t : Nodes) (loaded : List Stamp) (search : Search) (s : IsSearched held t loaded search) where
+module _ (scope : Scope) (held : Contents) (t : Nodes) (loaded : List Stamp) (search : Search) (s : IsSearched scope held t loaded search) where
   abbrev table : Analyses
   table = analysis_at search.files.table
 
   abbrev said : Analyses
-  said = said_wanted held t loaded
+  said = said_wanted scope held t loaded
 
-  wanted_are : wanted t search.dirs.places ≡ wanted_in held t
+  wanted_are : wanted t search.dirs.places ≡ wanted_in scope held t
   unfolding wanted_in
   wanted_are = ap (wanted t) s.places
 
-  pub agree_wanted : AgreeOn (wanted t search.dirs.places) (said_wanted held t loaded) (analysis_at search.files.table)
+  pub agree_wanted : AgreeOn (wanted t search.dirs.places) (said_wanted scope held t loaded) (analysis_at search.files.table)
   agree_wanted = subst (λ (paths : List (List ℕ)). AgreeOn paths said table) (sym wanted_are) s.said
 
-  pub links_are : links (analysis_at search.files.table) t search.dirs.places ≡ links_in held t loaded
+  pub links_are : links (analysis_at search.files.table) t search.dirs.places ≡ links_in scope held t loaded
   unfolding links_in
   links_are = links_agree t said table search.dirs.places agree_wanted ∙ ap (links said t) s.places
 
-  pub tree_is : with_links t (links (analysis_at search.files.table) t search.dirs.places) ≡ planned_in held t loaded
+  pub tree_is : with_links t (links (analysis_at search.files.table) t search.dirs.places) ≡ planned_in scope held t loaded
   unfolding planned_in
   tree_is = ap (with_links t) links_are
 
-  pub few_nodes : nodes_with t (links (analysis_at search.files.table) t search.dirs.places) ≤ NODES_MAX → has_too_many_nodes held t loaded ≡ false
+  pub few_nodes : nodes_with t (links (analysis_at search.files.table) t search.dirs.places) ≤ NODES_MAX → has_too_many_nodes scope held t loaded ≡ false
   few_nodes few = rw (← links_are) (within NODES_MAX (nodes_with t (links table t search.dirs.places)) few)
 
-  pub many_nodes : (nodes : ℕ) → nodes ≡ nodes_with t (links (analysis_at search.files.table) t search.dirs.places) → NODES_MAX < nodes → has_too_many_nodes held t loaded ≡ true
+  pub many_nodes : (nodes : ℕ) → nodes ≡ nodes_with t (links (analysis_at search.files.table) t search.dirs.places) → NODES_MAX < nodes → has_too_many_nodes scope held t loaded ≡ true
   many_nodes nodes e more = rw (← links_are) (over NODES_MAX (nodes_with t (links table t search.dirs.places)) (omega (arith, more, e)))
 
-  pub too_large : (nodes : ℕ) → nodes ≡ nodes_with t (links (analysis_at search.files.table) t search.dirs.places) → NODES_MAX < nodes → HasTooManyNodes held t loaded nodes
+  pub too_large : (nodes : ℕ) → nodes ≡ nodes_with t (links (analysis_at search.files.table) t search.dirs.places) → NODES_MAX < nodes → HasTooManyNodes scope held t loaded nodes
   too_large nodes e more = record { none_lacks = s.none_lacks; many = many_nodes nodes e more; nodes_are = e ∙ ap (nodes_with t) links_are }
 
   module _ (all : HaveAnalyses (analysis_at search.files.table) (wanted t search.dirs.places))
       (only : (path : List ℕ) → is_in (keys_of search.files.table) path ≡ true → is_in (wanted t search.dirs.places) path ≡ true) (new : Nodes) (alike : IsSearchedAlike t new)
       (new_is : new ≡ with_links t (links (analysis_at search.files.table) t search.dirs.places)) where
-    pub is_planned : new ≡ planned_in held t loaded
+    pub is_planned : new ≡ planned_in scope held t loaded
     is_planned = new_is ∙ tree_is
 
-    reached_are : reached new search.dirs.places ≡ reached_in held t loaded
+    reached_are : reached new search.dirs.places ≡ reached_in scope held t loaded
     unfolding reached_in
-    reached_are = ap (λ n. reached n search.dirs.places) is_planned ∙ ap (reached (planned_in held t loaded)) s.places
+    reached_are = ap (λ n. reached n search.dirs.places) is_planned ∙ ap (reached (planned_in scope held t loaded)) s.places
 
     abbrev there : List Stamp
     there = stamps_there loaded search.files
@@ -100,56 +103,56 @@ module _ (held : Contents) (t : Nodes) (loaded : List Stamp) (search : Search) (
     others_are : behind ≡ filter (λ path. not (is_in (wanted t search.dirs.places) path)) (reached new search.dirs.places)
     others_are = unread_are search.files.table (wanted t search.dirs.places) all only (reached new search.dirs.places)
 
-    paths_are : behind ≡ behind_in held t loaded
+    paths_are : behind ≡ behind_in scope held t loaded
     paths_are =
         others_are
         ∙ ap (λ paths. filter (λ path. not (is_in (wanted t search.dirs.places) path)) paths) reached_are
-        ∙ ap (λ paths. filter (λ path. not (is_in paths path)) (reached_in held t loaded)) wanted_are
+        ∙ ap (λ paths. filter (λ path. not (is_in paths path)) (reached_in scope held t loaded)) wanted_are
 
     -- the stamps there are those of the same identities
-    opened_are : opened_keys held new there behind ≡ opened_keys held new (stamps_wanted held t loaded) behind
-    opened_are = keys_alike held new there (stamps_wanted held t loaded) behind behind_sorted s.stamped
+    opened_are : opened_keys held new there behind ≡ opened_keys held new (stamps_wanted scope held t loaded) behind
+    opened_are = keys_alike held new there (stamps_wanted scope held t loaded) behind behind_sorted s.stamped
 
-    pub behind_are : opened_keys held new (stamps_there loaded search.files) (unread_paths search.files (reached new search.dirs.places)) ≡ behind_keys held t loaded
+    pub behind_are : opened_keys held new (stamps_there loaded search.files) (unread_paths search.files (reached new search.dirs.places)) ≡ behind_keys scope held t loaded
     unfolding behind_keys
     behind_are =
         opened_are
-        ∙ keys_same held t new alike (stamps_wanted held t loaded) behind behind_sorted
-        ∙ ap (λ paths. opened_keys held t (stamps_wanted held t loaded) paths) paths_are
+        ∙ keys_same held t new alike (stamps_wanted scope held t loaded) behind behind_sorted
+        ∙ ap (λ paths. opened_keys held t (stamps_wanted scope held t loaded) paths) paths_are
 
-    none_behind : lacks_one held (opened_keys held new there behind) ≡ false → lacks_one held (behind_keys held t loaded) ≡ false
+    none_behind : lacks_one held (opened_keys held new there behind) ≡ false → lacks_one held (behind_keys scope held t loaded) ≡ false
     none_behind none = ap (lacks_one held) (sym behind_are) ∙ none
 
-    counted : nodes_with t (links table t search.dirs.places) ≤ NODES_MAX → lacks_one held (behind_keys held t loaded) ≡ false
-        → length (update_keys held t loaded) ≡ length (conf_keys held t) + opened_in held t loaded
-    counted few none = keys_counted held t loaded s.none_lacks (few_nodes few) none
+    counted : nodes_with t (links table t search.dirs.places) ≤ NODES_MAX → lacks_one held (behind_keys scope held t loaded) ≡ false
+        → length (update_keys scope held t loaded) ≡ length (conf_keys (conf_of scope) held t) + opened_in scope held t loaded
+    counted few none = keys_counted scope held t loaded s.none_lacks (few_nodes few) none
 
-    opened_is : (after : ℕ) → after ≡ search.files.begun + length (opened_keys held new there behind) → after ≡ opened_in held t loaded
+    opened_is : (after : ℕ) → after ≡ search.files.begun + length (opened_keys held new there behind) → after ≡ opened_in scope held t loaded
     opened_is after next = let keys = ap length behind_are in omega (arith, s.begun, next, keys)
 
     -- ---- what files are said to be
 
-    said_first : AgreeOn (wanted_in held t) (said_files held t loaded) (said_wanted held t loaded)
+    said_first : AgreeOn (wanted_in scope held t) (said_files scope held t loaded) (said_wanted scope held t loaded)
     unfolding said_files said_wanted
-    said_first path among = sym (said_front held t loaded (wanted_in held t) (behind_in held t loaded) path among)
+    said_first path among = sym (said_front held t loaded (wanted_in scope held t) (behind_in scope held t loaded) path among)
 
     -- the first files
-    one_agrees : (after : Analyses) → KeepsAnalyses table after → AgreeOn (wanted t search.dirs.places) (said_files held t loaded) after
+    one_agrees : (after : Analyses) → KeepsAnalyses table after → AgreeOn (wanted t search.dirs.places) (said_files scope held t loaded) after
     one_agrees after keeps path among =
         keeps path (all path among) ∙ agree_wanted path among ∙ said_first path (subst (λ (paths : List (List ℕ)). is_in paths path ≡ true) wanted_are among)
 
     -- those that links lead to
-    said_next : AgreeOn behind (said_files held t loaded) (said_in held new there behind)
+    said_next : AgreeOn behind (said_files scope held t loaded) (said_in held new there behind)
     unfolding said_files stamps_wanted
     said_next path among =
-        said_behind held t loaded (wanted_in held t) behind new alike there s.stamped path (not_wanted path among)
-        ∙ ap (λ paths. said_in held t loaded (wanted_in held t ++ paths) path) paths_are
+        said_behind held t loaded (wanted_in scope held t) behind new alike there s.stamped path (not_wanted path among)
+        ∙ ap (λ paths. said_in held t loaded (wanted_in scope held t ++ paths) path) paths_are
       where
         kept : (a b : Bool) → (not a && b) ≡ true → a ≡ false
         kept true b h = absurd (cc)
         kept false b h = refl
 
-        not_wanted : (path : List ℕ) → is_in behind path ≡ true → is_in (wanted_in held t) path ≡ false
+        not_wanted : (path : List ℕ) → is_in behind path ≡ true → is_in (wanted_in scope held t) path ≡ false
         not_wanted path among =
             ap (λ paths. is_in paths path) (sym wanted_are)
             ∙ kept (is_in (wanted t search.dirs.places) path) (is_in (reached new search.dirs.places) path)
@@ -158,7 +161,7 @@ module _ (held : Contents) (t : Nodes) (loaded : List Stamp) (search : Search) (
     module _ (after : Analyses) (keeps : KeepsAnalyses (analysis_at search.files.table) after)
         (more : AgreeOn (unread_paths search.files (reached new search.dirs.places))
         (said_in held new (stamps_there loaded search.files) (unread_paths search.files (reached new search.dirs.places))) after) where
-      other_agrees : AgreeOn (reached new search.dirs.places) (said_files held t loaded) after
+      other_agrees : AgreeOn (reached new search.dirs.places) (said_files scope held t loaded) after
       other_agrees path among = by_test (is_in (wanted t search.dirs.places) path)
           (λ e. one_agrees after keeps path e)
           (λ e.
@@ -168,18 +171,18 @@ module _ (held : Contents) (t : Nodes) (loaded : List Stamp) (search : Search) (
           ∙ ap (λ b. not b && is_in (reached new search.dirs.places) path) e ∙ among in
           more path left ∙ said_next path left)
 
-    stamps_are : (stamps : List Stamp) → stamps ≡ with_stamps search.files.stamps (stamps_said new (said_in held new there behind) behind) → stamps ≡ stamps_in held t loaded
+    stamps_are : (stamps : List Stamp) → stamps ≡ with_stamps search.files.stamps (stamps_said new (said_in held new there behind) behind) → stamps ≡ stamps_in scope held t loaded
     unfolding stamps_in
     stamps_are stamps e =
-        let first = stamps_said t (said_files held t loaded) (wanted_in held t) in
+        let first = stamps_said t (said_files scope held t loaded) (wanted_in scope held t) in
         e
         ∙ ap (λ l. with_stamps l (stamps_said new (said_in held new there behind) behind))
-        (s.stamps ∙ ap (λ l. with_stamps [] l) (stamps_agree t t (λ path. refl) (said_files held t loaded) said (wanted_in held t) said_first))
+        (s.stamps ∙ ap (λ l. with_stamps [] l) (stamps_agree t t (λ path. refl) (said_files scope held t loaded) said (wanted_in scope held t) said_first))
         ∙ ap (λ l. with_stamps (with_stamps [] first) l)
-        (stamps_agree t new (id_same held t new alike) (said_files held t loaded) (said_in held new there behind) behind said_next
-        ∙ ap (stamps_said t (said_files held t loaded)) paths_are)
-        ∙ sym (fold-append put [] first (stamps_said t (said_files held t loaded) (behind_in held t loaded)))
-        ∙ ap (λ l. with_stamps [] l) (sym (filter_map-append (λ path. stamp_by (id_at t path) (said_files held t loaded path)) (wanted_in held t) (behind_in held t loaded)))
+        (stamps_agree t new (id_same held t new alike) (said_files scope held t loaded) (said_in held new there behind) behind said_next
+        ∙ ap (stamps_said t (said_files scope held t loaded)) paths_are)
+        ∙ sym (fold-append put [] first (stamps_said t (said_files scope held t loaded) (behind_in scope held t loaded)))
+        ∙ ap (λ l. with_stamps [] l) (sym (filter_map-append (λ path. stamp_by (id_at t path) (said_files scope held t loaded path)) (wanted_in scope held t) (behind_in scope held t loaded)))
 
     module _ (made : Survey) (followed : Followed) (files : Files) (still : IsSettled (analysis_at search.files.table) t search.dirs.places new) where
       abbrev found : Found
@@ -196,10 +199,10 @@ module _ (held : Contents) (t : Nodes) (loaded : List Stamp) (search : Search) (
           (unread_paths search.files (reached new search.dirs.places)))
           → files.begun ≡ search.files.begun + length (opened_keys held new (stamps_there loaded search.files) (unread_paths search.files (reached new search.dirs.places)))
           → lacks_one held (opened_keys held new (stamps_there loaded search.files) (unread_paths search.files (reached new search.dirs.places))) ≡ false
-          → IsFound held t loaded found new
-      unfolding entries_in
+          → IsFound scope held t loaded found new
+      unfolding entries_in best_libraries
       is_found plan few b m d next keeps more stamps begun none =
-          let what = said_files held t loaded in
+          let what = said_files scope held t loaded in
           let one = one_agrees (analysis_at files.table) keeps in
           let other = other_agrees (analysis_at files.table) keeps next in
           let one_new : AgreeOn (wanted new search.dirs.places) what (analysis_at files.table) =
@@ -212,15 +215,17 @@ module _ (held : Contents) (t : Nodes) (loaded : List Stamp) (search : Search) (
             tree_is = is_planned;
             blocked_is = b ∙ blocked_agree t said table search.dirs.places agree_wanted ∙ ap (blocked said t) s.places;
             mixed_is = m ∙ mixed_agree t said table search.dirs.places agree_wanted ∙ ap (mixed said t) s.places;
-            dangling_is = d ∙ ap (λ n. dangling n search.dirs.places) is_planned ∙ ap (dangling (planned_in held t loaded)) s.places;
+            dangling_is = d ∙ ap (λ n. dangling n search.dirs.places) is_planned ∙ ap (dangling (planned_in scope held t loaded)) s.places;
             entries_are = found_agrees new what (analysis_at files.table) search.dirs.places one_new other
-                ∙ ap (λ n. entries.found what n search.dirs.places) is_planned ∙ ap (entries.found what (planned_in held t loaded)) s.places;
+                ∙ ap (λ n. entries.found what n search.dirs.places) is_planned ∙ ap (entries.found what (planned_in scope held t loaded)) s.places;
+            bests_are = bests_agree new what (analysis_at files.table) search.dirs.places one_new
+                ∙ ap (λ n. bests_of what n search.dirs.places) is_planned ∙ ap (bests_of what (planned_in scope held t loaded)) s.places;
             skips_are = skips_are what files.table (wanted t search.dirs.places) (reached new search.dirs.places) one other
                 (λ path there. by_test (is_in (keys_of search.files.table) path)
                 (λ e. or_left (is_in (wanted t search.dirs.places) path) (is_in (reached new search.dirs.places) path) (only path e))
                 (λ e. or_right (is_in (wanted t search.dirs.places) path) (is_in (reached new search.dirs.places) path) (sym (ap (λ b. b || is_in (reached new search.dirs.places) path) e) ∙ more path there)))
                 ∙ ap (λ paths. filter_map (skip_at what) (ascending (paths ++ reached new search.dirs.places))) wanted_are
-                ∙ ap (λ paths. filter_map (skip_at what) (ascending (wanted_in held t ++ paths))) reached_are;
+                ∙ ap (λ paths. filter_map (skip_at what) (ascending (wanted_in scope held t ++ paths))) reached_are;
             stamps = stamps_are files.stamps stamps;
             opened = opened_is files.begun begun;
             none_lacks = s.none_lacks;

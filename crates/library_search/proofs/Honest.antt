@@ -10,6 +10,7 @@ use Rattle.std.specs.Str.{bytes_eq}
 use Rattle.aux_cache.specs.Stamps.{stamp_of}
 use Rattle.aux_cache.specs.declared.stamps.Stamp.{Stamp}
 use Rattle.elf_dynamic.specs.Begun.{file_keys, lacks_one}
+use Rattle.hwcap_dirs.specs.declared.kinds.Scope.{Scope}
 use Rattle.string_pool.proofs.Members.{AreSorted}
 use Rattle.file_table.specs.Analyses.{Analyses}
 use Rattle.string_pool.specs.Order.{ascending}
@@ -39,92 +40,92 @@ none_true held t path = by (id_at t path)
     by None = tt
     by (Some id) = tt
 
-pub wanted_in_order : (held : Contents) (t : Nodes) → AreSorted (wanted_in held t)
+pub wanted_in_order : (scope : Scope) (held : Contents) (t : Nodes) → AreSorted (wanted_in scope held t)
 unfolding wanted_in
-wanted_in_order held t = wanted_sorted t (places_in held t)
+wanted_in_order scope held t = wanted_sorted t (places_in scope held t)
 
-pub behind_in_order : (held : Contents) (t : Nodes) (loaded : List Stamp) → AreSorted (behind_in held t loaded)
+pub behind_in_order : (scope : Scope) (held : Contents) (t : Nodes) (loaded : List Stamp) → AreSorted (behind_in scope held t loaded)
 unfolding reached_in
-behind_in_order held t loaded = IsStrictlySortedBy-filter (slice_cmp nat_cmp) _ (reached_in held t loaded) (reached_sorted (planned_in held t loaded) (places_in held t))
+behind_in_order scope held t loaded = IsStrictlySortedBy-filter (slice_cmp nat_cmp) _ (reached_in scope held t loaded) (reached_sorted (planned_in scope held t loaded) (places_in scope held t))
 
 -- ---- what follows from what is said
 
-module _ (held : Contents) (t : Nodes) (loaded others : List Stamp) (first : said_wanted held t loaded ≡ said_wanted held t others) where
-  same_links : links_in held t loaded ≡ links_in held t others
+module _ (scope : Scope) (held : Contents) (t : Nodes) (loaded others : List Stamp) (first : said_wanted scope held t loaded ≡ said_wanted scope held t others) where
+  same_links : links_in scope held t loaded ≡ links_in scope held t others
   unfolding links_in
-  same_links = ap (λ (w : Analyses). links w t (places_in held t)) first
+  same_links = ap (λ (w : Analyses). links w t (places_in scope held t)) first
 
-  same_planned : planned_in held t loaded ≡ planned_in held t others
+  same_planned : planned_in scope held t loaded ≡ planned_in scope held t others
   unfolding planned_in
   same_planned = ap (with_links t) same_links
 
-  same_reached : reached_in held t loaded ≡ reached_in held t others
+  same_reached : reached_in scope held t loaded ≡ reached_in scope held t others
   unfolding reached_in
-  same_reached = ap (λ n. reached n (places_in held t)) same_planned
+  same_reached = ap (λ n. reached n (places_in scope held t)) same_planned
 
-  same_files : library_files held t loaded ≡ library_files held t others
-  same_files = ap (λ paths. ascending (wanted_in held t ++ paths)) same_reached
+  same_files : library_files scope held t loaded ≡ library_files scope held t others
+  same_files = ap (λ paths. ascending (wanted_in scope held t ++ paths)) same_reached
 
-  same_behind : behind_in held t loaded ≡ behind_in held t others
-  same_behind = ap (λ paths. filter (λ path. not (list_any (bytes_eq path) (wanted_in held t))) paths) same_reached
+  same_behind : behind_in scope held t loaded ≡ behind_in scope held t others
+  same_behind = ap (λ paths. filter (λ path. not (list_any (bytes_eq path) (wanted_in scope held t))) paths) same_reached
 
-  module _ (all : said_files held t loaded ≡ said_files held t others) where
-    same_entries : entries_in held t loaded ≡ entries_in held t others
+  module _ (all : said_files scope held t loaded ≡ said_files scope held t others) where
+    same_entries : entries_in scope held t loaded ≡ entries_in scope held t others
     unfolding entries_in
-    same_entries = ap (λ (w : Analyses). found w (planned_in held t loaded) (places_in held t)) all ∙ ap (λ n. found (said_files held t others) n (places_in held t)) same_planned
+    same_entries = ap (λ (w : Analyses). found w (planned_in scope held t loaded) (places_in scope held t)) all ∙ ap (λ n. found (said_files scope held t others) n (places_in scope held t)) same_planned
 
-    same_walk : walk_in held t loaded ≡ walk_in held t others
+    same_walk : walk_in scope held t loaded ≡ walk_in scope held t others
     unfolding walk_in
-    same_walk = ap (λ (w : Analyses). walk w (planned_in held t loaded) (places_in held t)) all ∙ ap (λ n. walk (said_files held t others) n (places_in held t)) same_planned
+    same_walk = ap (λ (w : Analyses). walk w (planned_in scope held t loaded) (places_in scope held t)) all ∙ ap (λ n. walk (said_files scope held t others) n (places_in scope held t)) same_planned
 
-    same_stamps : stamps_in held t loaded ≡ stamps_in held t others
+    same_stamps : stamps_in scope held t loaded ≡ stamps_in scope held t others
     unfolding stamps_in
     same_stamps =
-        ap (λ (w : Analyses). with_stamps [] (stamps_said t w (library_paths held t loaded))) all
-        ∙ ap (λ paths. with_stamps [] (stamps_said t (said_files held t others) (wanted_in held t ++ paths))) same_behind
+        ap (λ (w : Analyses). with_stamps [] (stamps_said t w (library_paths scope held t loaded))) all
+        ∙ ap (λ paths. with_stamps [] (stamps_said t (said_files scope held t others) (wanted_in scope held t ++ paths))) same_behind
 
 -- ---- with true stamps
 
-module _ (held : Contents) (t : Nodes) (same : AreSame held t t) where
+module _ (scope : Scope) (held : Contents) (t : Nodes) (same : AreSame held t t) where
   module _ (loaded : List Stamp) (are : AreTrue held t loaded) where
-    pub wanted_is : said_wanted held t loaded ≡ what_is held t
+    pub wanted_is : said_wanted scope held t loaded ≡ what_is held t
     unfolding said_wanted
-    wanted_is = agree _ (what_is held t) (said_right held t same loaded are (wanted_in held t))
+    wanted_is = agree _ (what_is held t) (said_right held t same loaded are (wanted_in scope held t))
 
-    pub said_is : said_files held t loaded ≡ what_is held t
+    pub said_is : said_files scope held t loaded ≡ what_is held t
     unfolding said_files
-    said_is = agree _ (what_is held t) (said_right held t same loaded are (library_paths held t loaded))
+    said_is = agree _ (what_is held t) (said_right held t same loaded are (library_paths scope held t loaded))
 
-    pub stamps_are : stamps_in held t loaded ≡ stamps_of held t (library_paths held t loaded)
+    pub stamps_are : stamps_in scope held t loaded ≡ stamps_of held t (library_paths scope held t loaded)
     unfolding stamps_in
-    stamps_are = ap (λ (w : Analyses). with_stamps [] (stamps_said t w (library_paths held t loaded))) said_is
+    stamps_are = ap (λ (w : Analyses). with_stamps [] (stamps_said t w (library_paths scope held t loaded))) said_is
 
     -- they are true of each tree whose files of equal identity have equal content
-    pub stamps_true : (u : Nodes) → AreSame held t u → AreTrue held u (stamps_in held t loaded)
-    stamps_true u over = subst (AreTrue held u) (sym stamps_are) (true_made held u t over (library_paths held t loaded))
+    pub stamps_true : (u : Nodes) → AreSame held t u → AreTrue held u (stamps_in scope held t loaded)
+    stamps_true u over = subst (AreTrue held u) (sym stamps_are) (true_made held u t over (library_paths scope held t loaded))
 
-    pub wanted_lack : lacks_one held (wanted_keys held t loaded) ≡ lacks_one held (file_keys t (wanted_in held t))
+    pub wanted_lack : lacks_one held (wanted_keys scope held t loaded) ≡ lacks_one held (file_keys t (wanted_in scope held t))
     unfolding wanted_keys
-    wanted_lack = opened_lack_the_same held t same loaded (wanted_in held t) are (wanted_in_order held t)
+    wanted_lack = opened_lack_the_same held t same loaded (wanted_in scope held t) are (wanted_in_order scope held t)
 
-    pub behind_lack : lacks_one held (behind_keys held t loaded) ≡ lacks_one held (file_keys t (behind_in held t loaded))
+    pub behind_lack : lacks_one held (behind_keys scope held t loaded) ≡ lacks_one held (file_keys t (behind_in scope held t loaded))
     unfolding behind_keys stamps_wanted
     behind_lack =
-        opened_lack_the_same held t same (stamps_wanted held t loaded) (behind_in held t loaded) (true_behind held t t same loaded (wanted_in held t) are) (behind_in_order held t loaded)
+        opened_lack_the_same held t same (stamps_wanted scope held t loaded) (behind_in scope held t loaded) (true_behind held t t same loaded (wanted_in scope held t) are) (behind_in_order scope held t loaded)
 
-  pub said_law : (loaded : List Stamp) → AreTrue held t loaded → IsSaidRight held t loaded
+  pub said_law : (loaded : List Stamp) → AreTrue held t loaded → IsSaidRight scope held t loaded
   unfolding wanted_keys behind_keys stamps_wanted
   said_law loaded are =
-      let first : said_wanted held t loaded ≡ said_wanted held t [] = wanted_is loaded are ∙ sym (wanted_is [] (none_true held t)) in
-      let all : said_files held t loaded ≡ said_files held t [] = said_is loaded are ∙ sym (said_is [] (none_true held t)) in
+      let first : said_wanted scope held t loaded ≡ said_wanted scope held t [] = wanted_is loaded are ∙ sym (wanted_is [] (none_true held t)) in
+      let all : said_files scope held t loaded ≡ said_files scope held t [] = said_is loaded are ∙ sym (said_is [] (none_true held t)) in
       record {
         said = λ path. ap (λ (w : Analyses). w path) (said_is loaded are);
-        links = same_links held t loaded [] first;
-        files = same_files held t loaded [] first;
-        entries = same_entries held t loaded [] first all;
-        walk = same_walk held t loaded [] first all;
-        stamps = same_stamps held t loaded [] first all;
+        links = same_links scope held t loaded [] first;
+        files = same_files scope held t loaded [] first;
+        entries = same_entries scope held t loaded [] first all;
+        walk = same_walk scope held t loaded [] first all;
+        stamps = same_stamps scope held t loaded [] first all;
         wanted_lack = wanted_lack loaded are ∙ sym (wanted_lack [] (none_true held t));
-        behind_lack = behind_lack loaded are ∙ ap (λ paths. lacks_one held (file_keys t paths)) (same_behind held t loaded [] first) ∙ sym (behind_lack [] (none_true held t));
-        opened = opens_both held t same loaded (wanted_in held t) (behind_in held t loaded) (wanted_in_order held t) (behind_in_order held t loaded);
+        behind_lack = behind_lack loaded are ∙ ap (λ paths. lacks_one held (file_keys t paths)) (same_behind scope held t loaded [] first) ∙ sym (behind_lack [] (none_true held t));
+        opened = opens_both held t same loaded (wanted_in scope held t) (behind_in scope held t loaded) (wanted_in_order scope held t) (behind_in_order scope held t loaded);
       }

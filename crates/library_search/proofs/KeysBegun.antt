@@ -6,6 +6,7 @@ use Rattle.std.specs.Option.{option_map}
 use Rattle.std.specs.Prelude.{IsSomeAnd}
 use Rattle.aux_cache.specs.declared.stamps.Stamp.{Stamp}
 use Rattle.elf_dynamic.specs.Begun.{is_lacking, lacks_one, most_of, until_lacking}
+use Rattle.hwcap_dirs.specs.declared.kinds.Scope.{Scope}
 use Rattle.ldso_conf.specs.Reading.{conf_bytes, conf_keys, conf_lacks}
 use Rattle.file_stamps.specs.Opened.{ReadsOpenedBy}
 use Rattle.tree_face.proofs.StoreUse.{IsPartial, reads_as, reads_early, reads_then}
@@ -14,91 +15,92 @@ use Rattle.tree_face.specs.Store.{Contents, StoreState}
 use Rattle.tree_face.specs.StoreUse.{Ending, Complete, ReadsFiles}
 use Rattle.image_tree.specs.Tree.{Nodes}
 use Rattle.library_search.specs.Begun.{behind_keys, ends_early, has_too_many_nodes, lacks_file, lacks_wanted, opened_in, search_bytes, search_keys, update_bytes, update_keys, wanted_keys}
+use Rattle.library_search.specs.Ldconfig.{conf_of}
 
-lacking_wanted : (held : Contents) (t : Nodes) (loaded : List Stamp) → lacks_wanted held t loaded ≡ true → lacks_file held t loaded ≡ true
+lacking_wanted : (scope : Scope) (held : Contents) (t : Nodes) (loaded : List Stamp) → lacks_wanted scope held t loaded ≡ true → lacks_file scope held t loaded ≡ true
 unfolding lacks_file
-lacking_wanted held t loaded = or_left (lacks_wanted held t loaded) (not (has_too_many_nodes held t loaded) && lacks_one held (behind_keys held t loaded))
+lacking_wanted scope held t loaded = or_left (lacks_wanted scope held t loaded) (not (has_too_many_nodes scope held t loaded) && lacks_one held (behind_keys scope held t loaded))
 
-lacking_behind : (held : Contents) (t : Nodes) (loaded : List Stamp) → lacks_wanted held t loaded ≡ false → has_too_many_nodes held t loaded ≡ false → lacks_one held (behind_keys held t loaded) ≡ true
-    → lacks_file held t loaded ≡ true
+lacking_behind : (scope : Scope) (held : Contents) (t : Nodes) (loaded : List Stamp) → lacks_wanted scope held t loaded ≡ false → has_too_many_nodes scope held t loaded ≡ false → lacks_one held (behind_keys scope held t loaded) ≡ true
+    → lacks_file scope held t loaded ≡ true
 unfolding lacks_file
-lacking_behind held t loaded none few lacks = rw (none, few) lacks
+lacking_behind scope held t loaded none few lacks = rw (none, few) lacks
 
 -- the reading of the conf files in a store that holds this
-abbrev pub ConfBy : Nodes → Option Contents → Ending → StoreState → StoreState → Type 0
-ConfBy t known e a b = ReadsFiles (IsSomeAnd known (λ held. conf_lacks held t ≡ true)) (option_map (λ held. conf_keys held t) known) (option_map (λ held. conf_bytes held t) known) e a b
+abbrev pub ConfBy : Scope → Nodes → Option Contents → Ending → StoreState → StoreState → Type 0
+ConfBy scope t known e a b = ReadsFiles (IsSomeAnd known (λ held. conf_lacks (conf_of scope) held t ≡ true)) (option_map (λ held. conf_keys (conf_of scope) held t) known) (option_map (λ held. conf_bytes (conf_of scope) held t) known) e a b
 
-module _ (t : Nodes) (loaded : List Stamp) (known : Option Contents) where
+module _ (scope : Scope) (t : Nodes) (loaded : List Stamp) (known : Option Contents) where
   -- the readings of the search and of the update there
   abbrev pub SearchBy : Ending → StoreState → StoreState → Type 0
-  SearchBy e a b = ReadsFiles (IsSomeAnd known (λ held. lacks_wanted held t loaded ≡ true)) (option_map (λ held. search_keys held t loaded) known)
-      (option_map (λ held. search_bytes held t loaded) known) e a b
+  SearchBy e a b = ReadsFiles (IsSomeAnd known (λ held. lacks_wanted scope held t loaded ≡ true)) (option_map (λ held. search_keys scope held t loaded) known)
+      (option_map (λ held. search_bytes scope held t loaded) known) e a b
 
   abbrev pub UpdateBy : Ending → StoreState → StoreState → Type 0
-  UpdateBy e a b = IfKnown known (λ held. ReadsFiles (lacks_file held t loaded ≡ true) (Some (update_keys held t loaded)) (Some (update_bytes held t loaded)) e a b)
+  UpdateBy e a b = IfKnown known (λ held. ReadsFiles (lacks_file scope held t loaded ≡ true) (Some (update_keys scope held t loaded)) (Some (update_bytes scope held t loaded)) e a b)
 
-module _ (t : Nodes) (loaded : List Stamp) (e : Ending) where
+module _ (scope : Scope) (t : Nodes) (loaded : List Stamp) (e : Ending) where
   -- only conf files were begun
-  pub conf_part : (known : Option Contents) (a b : StoreState) → IsPartial e → ConfBy t known e a b → SearchBy t loaded known e a b
+  pub conf_part : (known : Option Contents) (a b : StoreState) → IsPartial e → ConfBy scope t known e a b → SearchBy scope t loaded known e a b
   unfolding search_keys search_bytes
   conf_part None a b partial reads = reads_early e a b partial _ _ None None None None (λ lacks. lacks) reads
   conf_part (Some held) a b partial reads =
-      reads_early e a b partial (conf_lacks held t ≡ true) (lacks_wanted held t loaded ≡ true) (Some (conf_keys held t)) (Some _) (Some (conf_bytes held t)) (Some _)
-      (or_left (conf_lacks held t) (lacks_one held (wanted_keys held t loaded))) reads
+      reads_early e a b partial (conf_lacks (conf_of scope) held t ≡ true) (lacks_wanted scope held t loaded ≡ true) (Some (conf_keys (conf_of scope) held t)) (Some _) (Some (conf_bytes (conf_of scope) held t)) (Some _)
+      (or_left (conf_lacks (conf_of scope) held t) (lacks_one held (wanted_keys scope held t loaded))) reads
 
   -- all conf files, and then the files with library names that are opened
-  pub search_all : (known : Option Contents) (keys : Contents → List (List ℕ)) (a b c : StoreState) → IfKnown known (λ held. conf_lacks held t ≡ false)
-      → IfKnown known (λ held. keys held ≡ wanted_keys held t loaded) → ConfBy t known Complete a b → ReadsOpenedBy known keys e b c → SearchBy t loaded known e a c
+  pub search_all : (known : Option Contents) (keys : Contents → List (List ℕ)) (a b c : StoreState) → IfKnown known (λ held. conf_lacks (conf_of scope) held t ≡ false)
+      → IfKnown known (λ held. keys held ≡ wanted_keys scope held t loaded) → ConfBy scope t known Complete a b → ReadsOpenedBy known keys e b c → SearchBy scope t loaded known e a c
   unfolding search_keys search_bytes
   search_all None keys a b c all are first next = reads_then e a b c ⊥ ⊥ ⊥ None None None None (λ lacks. lacks) first next
   search_all (Some held) keys a b c all are first next =
-      let both = reads_then e a b c (conf_lacks held t ≡ true) (lacks_one held (keys held) ≡ true) (lacks_wanted held t loaded ≡ true) (Some (conf_keys held t)) (Some (until_lacking held (keys held)))
-      (Some (conf_bytes held t)) (Some (most_of held (until_lacking held (keys held))))
-      (λ lacks. or_right (conf_lacks held t) (lacks_one held (wanted_keys held t loaded)) (ap (lacks_one held) (sym are) ∙ lacks)) first next in
+      let both = reads_then e a b c (conf_lacks (conf_of scope) held t ≡ true) (lacks_one held (keys held) ≡ true) (lacks_wanted scope held t loaded ≡ true) (Some (conf_keys (conf_of scope) held t)) (Some (until_lacking held (keys held)))
+      (Some (conf_bytes (conf_of scope) held t)) (Some (most_of held (until_lacking held (keys held))))
+      (λ lacks. or_right (conf_lacks (conf_of scope) held t) (lacks_one held (wanted_keys scope held t loaded)) (ap (lacks_one held) (sym are) ∙ lacks)) first next in
       rw all (rw (are, all) at both)
 
-module _ (t : Nodes) (loaded : List Stamp) (e : Ending) where
+module _ (scope : Scope) (t : Nodes) (loaded : List Stamp) (e : Ending) where
   -- only the search was made
-  pub search_part : (known : Option Contents) (a b : StoreState) → IsPartial e → SearchBy t loaded known e a b → UpdateBy t loaded known e a b
+  pub search_part : (known : Option Contents) (a b : StoreState) → IsPartial e → SearchBy scope t loaded known e a b → UpdateBy scope t loaded known e a b
   unfolding update_keys update_bytes
   search_part None a b partial reads = tt
   search_part (Some held) a b partial reads =
-      reads_early e a b partial (lacks_wanted held t loaded ≡ true) (lacks_file held t loaded ≡ true) (Some (search_keys held t loaded)) (Some _) (Some (search_bytes held t loaded)) (Some _)
-      (lacking_wanted held t loaded) reads
+      reads_early e a b partial (lacks_wanted scope held t loaded ≡ true) (lacks_file scope held t loaded ≡ true) (Some (search_keys scope held t loaded)) (Some _) (Some (search_bytes scope held t loaded)) (Some _)
+      (lacking_wanted scope held t loaded) reads
 
   -- all of the search, and then those files that links lead to and that are opened
-  all_held : (held : Contents) (keys : List (List ℕ)) (a b c : StoreState) → lacks_wanted held t loaded ≡ false → has_too_many_nodes held t loaded ≡ false → keys ≡ behind_keys held t loaded
-      → SearchBy t loaded (Some held) Complete a b → ReadsFiles (lacks_one held keys ≡ true) (Some (until_lacking held keys)) (Some (most_of held (until_lacking held keys))) e b c
-      → ReadsFiles (lacks_file held t loaded ≡ true) (Some (update_keys held t loaded)) (Some (update_bytes held t loaded)) e a c
+  all_held : (held : Contents) (keys : List (List ℕ)) (a b c : StoreState) → lacks_wanted scope held t loaded ≡ false → has_too_many_nodes scope held t loaded ≡ false → keys ≡ behind_keys scope held t loaded
+      → SearchBy scope t loaded (Some held) Complete a b → ReadsFiles (lacks_one held keys ≡ true) (Some (until_lacking held keys)) (Some (most_of held (until_lacking held keys))) e b c
+      → ReadsFiles (lacks_file scope held t loaded ≡ true) (Some (update_keys scope held t loaded)) (Some (update_bytes scope held t loaded)) e a c
   unfolding update_keys update_bytes
   all_held held keys a b c none few are first next =
-      let both = reads_then e a b c (lacks_wanted held t loaded ≡ true) (lacks_one held keys ≡ true) (lacks_file held t loaded ≡ true) (Some (search_keys held t loaded)) (Some (until_lacking held keys))
-      (Some (search_bytes held t loaded)) (Some (most_of held (until_lacking held keys)))
-      (λ lacks. lacking_behind held t loaded none few (ap (lacks_one held) (sym are) ∙ lacks)) first next in
+      let both = reads_then e a b c (lacks_wanted scope held t loaded ≡ true) (lacks_one held keys ≡ true) (lacks_file scope held t loaded ≡ true) (Some (search_keys scope held t loaded)) (Some (until_lacking held keys))
+      (Some (search_bytes scope held t loaded)) (Some (most_of held (until_lacking held keys)))
+      (λ lacks. lacking_behind scope held t loaded none few (ap (lacks_one held) (sym are) ∙ lacks)) first next in
       rw (none, few) (rw are at both)
 
-  pub update_all : (known : Option Contents) (keys : Contents → List (List ℕ)) (a b c : StoreState) → IfKnown known (λ held. lacks_wanted held t loaded ≡ false)
-      → IfKnown known (λ held. has_too_many_nodes held t loaded ≡ false) → IfKnown known (λ held. keys held ≡ behind_keys held t loaded)
-      → SearchBy t loaded known Complete a b → ReadsOpenedBy known keys e b c → UpdateBy t loaded known e a c
+  pub update_all : (known : Option Contents) (keys : Contents → List (List ℕ)) (a b c : StoreState) → IfKnown known (λ held. lacks_wanted scope held t loaded ≡ false)
+      → IfKnown known (λ held. has_too_many_nodes scope held t loaded ≡ false) → IfKnown known (λ held. keys held ≡ behind_keys scope held t loaded)
+      → SearchBy scope t loaded known Complete a b → ReadsOpenedBy known keys e b c → UpdateBy scope t loaded known e a c
   update_all None keys a b c none few are first next = tt
   update_all (Some held) keys a b c none few are first next = all_held held (keys held) a b c none few are first next
 
 -- the planned links have no room, so that no link is followed
-small_held : (t : Nodes) (loaded : List Stamp) (held : Contents) (a b : StoreState) → has_too_many_nodes held t loaded ≡ true → SearchBy t loaded (Some held) Complete a b
-    → ReadsFiles (lacks_file held t loaded ≡ true) (Some (update_keys held t loaded)) (Some (update_bytes held t loaded)) Complete a b
+small_held : (scope : Scope) (t : Nodes) (loaded : List Stamp) (held : Contents) (a b : StoreState) → has_too_many_nodes scope held t loaded ≡ true → SearchBy scope t loaded (Some held) Complete a b
+    → ReadsFiles (lacks_file scope held t loaded ≡ true) (Some (update_keys scope held t loaded)) (Some (update_bytes scope held t loaded)) Complete a b
 unfolding update_keys update_bytes
-small_held t loaded held a b many reads =
-    let early : ends_early held t loaded ≡ true = or_right (lacks_wanted held t loaded) (has_too_many_nodes held t loaded) many in
-    rw (early, append-nil (search_keys held t loaded), no_more (search_bytes held t loaded)) (reads_as _ _ a b (lacks_wanted held t loaded ≡ true) (lacks_file held t loaded ≡ true) Complete
-    (lacking_wanted held t loaded) reads)
+small_held scope t loaded held a b many reads =
+    let early : ends_early scope held t loaded ≡ true = or_right (lacks_wanted scope held t loaded) (has_too_many_nodes scope held t loaded) many in
+    rw (early, append-nil (search_keys scope held t loaded), no_more (search_bytes scope held t loaded)) (reads_as _ _ a b (lacks_wanted scope held t loaded ≡ true) (lacks_file scope held t loaded ≡ true) Complete
+    (lacking_wanted scope held t loaded) reads)
   where
     no_more : (n : ℕ) → n + 0 ≡ n
     no_more n = omega arith
 
-pub update_small : (t : Nodes) (loaded : List Stamp) (known : Option Contents) (a b : StoreState) → IfKnown known (λ held. has_too_many_nodes held t loaded ≡ true)
-    → SearchBy t loaded known Complete a b → UpdateBy t loaded known Complete a b
-update_small t loaded None a b many reads = tt
-update_small t loaded (Some held) a b many reads = small_held t loaded held a b many reads
+pub update_small : (scope : Scope) (t : Nodes) (loaded : List Stamp) (known : Option Contents) (a b : StoreState) → IfKnown known (λ held. has_too_many_nodes scope held t loaded ≡ true)
+    → SearchBy scope t loaded known Complete a b → UpdateBy scope t loaded known Complete a b
+update_small scope t loaded None a b many reads = tt
+update_small scope t loaded (Some held) a b many reads = small_held scope t loaded held a b many reads
 
 -- ---- how many keys are begun
 
@@ -113,15 +115,15 @@ all_begun held (key ∷ keys) none =
     rw (parts.0, all_begun held keys parts.1) refl
 
 -- if all of them are held, and the links have room
-pub keys_counted : (held : Contents) (t : Nodes) (loaded : List Stamp) → lacks_wanted held t loaded ≡ false → has_too_many_nodes held t loaded ≡ false → lacks_one held (behind_keys held t loaded) ≡ false
-    → length (update_keys held t loaded) ≡ length (conf_keys held t) + opened_in held t loaded
+pub keys_counted : (scope : Scope) (held : Contents) (t : Nodes) (loaded : List Stamp) → lacks_wanted scope held t loaded ≡ false → has_too_many_nodes scope held t loaded ≡ false → lacks_one held (behind_keys scope held t loaded) ≡ false
+    → length (update_keys scope held t loaded) ≡ length (conf_keys (conf_of scope) held t) + opened_in scope held t loaded
 unfolding update_keys search_keys
-keys_counted held t loaded none few behind =
-    let parts = neither (conf_lacks held t) (lacks_one held (wanted_keys held t loaded)) none in
-    let wanted = all_begun held (wanted_keys held t loaded) parts.1 in
-    let others = all_begun held (behind_keys held t loaded) behind in
-    let both : update_keys held t loaded ≡ (conf_keys held t ++ wanted_keys held t loaded) ++ behind_keys held t loaded = rw (none, few, parts.0, wanted, others) refl in
+keys_counted scope held t loaded none few behind =
+    let parts = neither (conf_lacks (conf_of scope) held t) (lacks_one held (wanted_keys scope held t loaded)) none in
+    let wanted = all_begun held (wanted_keys scope held t loaded) parts.1 in
+    let others = all_begun held (behind_keys scope held t loaded) behind in
+    let both : update_keys scope held t loaded ≡ (conf_keys (conf_of scope) held t ++ wanted_keys scope held t loaded) ++ behind_keys scope held t loaded = rw (none, few, parts.0, wanted, others) refl in
     let size = ap length both in
-    let first = length-append (conf_keys held t ++ wanted_keys held t loaded) (behind_keys held t loaded) in
-    let last = length-append (conf_keys held t) (wanted_keys held t loaded) in
+    let first = length-append (conf_keys (conf_of scope) held t ++ wanted_keys scope held t loaded) (behind_keys scope held t loaded) in
+    let last = length-append (conf_keys (conf_of scope) held t) (wanted_keys scope held t loaded) in
     omega (arith, size, first, last)

@@ -4,6 +4,7 @@ use Rattle.std.specs.Map.{keys_of}
 use Rattle.aux_cache.specs.declared.stamps.Stamp.{Stamp}
 use Rattle.elf_dynamic.specs.Begun.{lacks_one}
 use Rattle.hwcap_dirs.specs.declared.kinds.Place.{Place}
+use Rattle.hwcap_dirs.specs.declared.kinds.Scope.{Scope}
 use Rattle.string_pool.proofs.Members.{is_in}
 use Rattle.file_table.specs.Analyses.{AgreeOn, HaveAnalyses, KeepsAnalyses}
 use Rattle.library_files.specs.Search.{dangling, reached, wanted}
@@ -32,27 +33,27 @@ use Rattle.library_search.specs.Found.{HasTooManyNodes, IsFound, IsSearched}
 use Rattle.library_search.specs.Ldconfig.{places_in, said_wanted}
 use Rattle.tree_face.proofs.Known.{known_then}
 
-module _ (t : Nodes) (loaded : List Stamp) (search : Search) where
+module _ (scope : Scope) (t : Nodes) (loaded : List Stamp) (search : Search) where
   abbrev nodes_then : ℕ
   nodes_then = nodes_with t (links (analysis_at search.files.table) t search.dirs.places)
 
-  module _ (known : Option Contents) (s : IfKnown known (λ held. IsSearched held t loaded search)) where
-    pub none_lacks : IfKnown known (λ held. lacks_wanted held t loaded ≡ false)
-    none_lacks = known_then known _ _ (λ held (s : IsSearched held t loaded search). s.none_lacks) s
+  module _ (known : Option Contents) (s : IfKnown known (λ held. IsSearched scope held t loaded search)) where
+    pub none_lacks : IfKnown known (λ held. lacks_wanted scope held t loaded ≡ false)
+    none_lacks = known_then known _ _ (λ held (s : IsSearched scope held t loaded search). s.none_lacks) s
 
-    pub few_nodes : nodes_then ≤ NODES_MAX → IfKnown known (λ held. has_too_many_nodes held t loaded ≡ false)
-    few_nodes few = known_then known _ _ (λ held s. parts.few_nodes held t loaded search s few) s
+    pub few_nodes : nodes_then ≤ NODES_MAX → IfKnown known (λ held. has_too_many_nodes scope held t loaded ≡ false)
+    few_nodes few = known_then known _ _ (λ held s. parts.few_nodes scope held t loaded search s few) s
 
-    pub many_nodes : (nodes : ℕ) → (nodes ≡ nodes_then) × (NODES_MAX < nodes) → IfKnown known (λ held. has_too_many_nodes held t loaded ≡ true)
-    many_nodes nodes many = known_then known _ _ (λ held s. parts.many_nodes held t loaded search s nodes many.0 many.1) s
+    pub many_nodes : (nodes : ℕ) → (nodes ≡ nodes_then) × (NODES_MAX < nodes) → IfKnown known (λ held. has_too_many_nodes scope held t loaded ≡ true)
+    many_nodes nodes many = known_then known _ _ (λ held s. parts.many_nodes scope held t loaded search s nodes many.0 many.1) s
 
-    pub too_large : (nodes : ℕ) → (nodes ≡ nodes_then) × (NODES_MAX < nodes) → IfKnown known (λ held. HasTooManyNodes held t loaded nodes)
-    too_large nodes many = known_then known _ _ (λ held s. parts.too_large held t loaded search s nodes many.0 many.1) s
+    pub too_large : (nodes : ℕ) → (nodes ≡ nodes_then) × (NODES_MAX < nodes) → IfKnown known (λ held. HasTooManyNodes scope held t loaded nodes)
+    too_large nodes many = known_then known _ _ (λ held s. parts.too_large scope held t loaded search s nodes many.0 many.1) s
 
-    pub settled : (new : Nodes) → IsSettled (analysis_at search.files.table) t search.dirs.places new → IfKnown known (λ held. IsSettled (said_wanted held t loaded) t (places_in held t) new)
-    settled new still = known_then known _ _ (λ held (s : IsSearched held t loaded search).
-        subst (λ (p : List Place). IsSettled (said_wanted held t loaded) t p new) s.places
-        (settled_agrees t (analysis_at search.files.table) (said_wanted held t loaded) search.dirs.places new (λ path there. sym (parts.agree_wanted held t loaded search s path there)) still)) s
+    pub settled : (new : Nodes) → IsSettled (analysis_at search.files.table) t search.dirs.places new → IfKnown known (λ held. IsSettled (said_wanted scope held t loaded) t (places_in scope held t) new)
+    settled new still = known_then known _ _ (λ held (s : IsSearched scope held t loaded search).
+        subst (λ (p : List Place). IsSettled (said_wanted scope held t loaded) t p new) s.places
+        (settled_agrees t (analysis_at search.files.table) (said_wanted scope held t loaded) search.dirs.places new (λ path there. sym (parts.agree_wanted scope held t loaded search s path there)) still)) s
 
   module _ (all : HaveAnalyses (analysis_at search.files.table) (wanted t search.dirs.places))
       (only : (path : List ℕ) → is_in (keys_of search.files.table) path ≡ true → is_in (wanted t search.dirs.places) path ≡ true) (new : Nodes) (alike : IsSearchedAlike t new)
@@ -64,20 +65,20 @@ module _ (t : Nodes) (loaded : List Stamp) (search : Search) where
     abbrev behind : List (List ℕ)
     behind = unread_paths search.files (reached new search.dirs.places)
 
-    pub behind_are : (known : Option Contents) → IfKnown known (λ held. IsSearched held t loaded search)
-        → IfKnown known (λ held. opened_keys held new here behind ≡ behind_keys held t loaded)
-    behind_are known s = known_then known _ _ (λ held s. parts.behind_are held t loaded search s all only new alike new_is) s
+    pub behind_are : (known : Option Contents) → IfKnown known (λ held. IsSearched scope held t loaded search)
+        → IfKnown known (λ held. opened_keys held new here behind ≡ behind_keys scope held t loaded)
+    behind_are known s = known_then known _ _ (λ held s. parts.behind_are scope held t loaded search s all only new alike new_is) s
 
     module _ (still : IsSettled (analysis_at search.files.table) t search.dirs.places new) (made : Survey) (followed : Followed) (files : Files)
         (plan : made.plan ≡ links (analysis_at search.files.table) t search.dirs.places) (few : nodes_then ≤ NODES_MAX)
         (b : made.blocked ≡ blocked (analysis_at search.files.table) t search.dirs.places) (m : made.mixed ≡ mixed (analysis_at search.files.table) t search.dirs.places)
         (d : followed.dangling ≡ dangling new search.dirs.places) (keeps : KeepsAnalyses (analysis_at search.files.table) (analysis_at files.table))
         (more : (path : List ℕ) → is_in (keys_of files.table) path ≡ true → (is_in (keys_of search.files.table) path || is_in (reached new search.dirs.places) path) ≡ true) where
-      pub is_found : (known : Option Contents) → IfKnown known (λ held. IsSearched held t loaded search)
+      pub is_found : (known : Option Contents) → IfKnown known (λ held. IsSearched scope held t loaded search)
           → IfKnown known (λ held. AgreeOn behind (said_in held new here behind) (analysis_at files.table))
           → IfKnown known (λ held. files.stamps ≡ with_stamps search.files.stamps (stamps_said new (said_in held new here behind) behind))
           → IfKnown known (λ held. files.begun ≡ search.files.begun + length (opened_keys held new here behind))
           → IfKnown known (λ held. lacks_one held (opened_keys held new here behind) ≡ false)
-          → IfKnown known (λ held. IsFound held t loaded (record { search = record search { files = files }; links = made; followed = followed }) new)
+          → IfKnown known (λ held. IsFound scope held t loaded (record { search = record search { files = files }; links = made; followed = followed }) new)
       is_found None s said stamps begun none = tt
-      is_found (Some held) s said stamps begun none = parts.is_found held t loaded search s all only new alike new_is made followed files still plan few b m d said keeps more stamps begun none
+      is_found (Some held) s said stamps begun none = parts.is_found scope held t loaded search s all only new alike new_is made followed files still plan few b m d said keeps more stamps begun none

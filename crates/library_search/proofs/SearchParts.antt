@@ -5,6 +5,7 @@ use Rattle.aux_cache.specs.declared.stamps.Stamp.{Stamp}
 use Rattle.elf_dynamic.specs.Begun.{lacks_one}
 use Rattle.hwcap_dirs.specs.Places.{absent, places}
 use Rattle.hwcap_dirs.specs.declared.kinds.Place.{Place}
+use Rattle.hwcap_dirs.specs.declared.kinds.Scope.{Scope}
 use Rattle.ldso_conf.specs.Reading.{IsConfOf, conf_lacks}
 use Rattle.ldso_conf.specs.declared.kinds.Conf.{Conf}
 use Rattle.file_table.proofs.Unread.{none_read}
@@ -20,7 +21,7 @@ use Rattle.tree_face.specs.Known.{IfKnown}
 use Rattle.tree_face.specs.Store.{Contents}
 use Rattle.image_tree.specs.Tree.{Nodes}
 use Rattle.library_search.specs.Begun.{stamps_wanted, wanted_keys}
-use Rattle.library_search.specs.Ldconfig.{conf_in, places_in, said_wanted, wanted_in}
+use Rattle.library_search.specs.Ldconfig.{conf_in, conf_of, places_in, said_wanted, wanted_in}
 use Rattle.library_search.specs.Found.{IsSearched}
 use Rattle.library_search.specs.declared.search.Search.{Search}
 
@@ -30,20 +31,20 @@ pub record IsEmpty (first : Files) : Type 0 where
   pub stamps : first.stamps ≡ []
   pub begun : first.begun ≡ 0
 
-module _ (t : Nodes) (loaded : List Stamp) (conf : Conf) (found : List Place) (first : Files) (placed : found ≡ places t conf.dirs) (empty : IsEmpty first) where
+module _ (scope : Scope) (t : Nodes) (loaded : List Stamp) (conf : Conf) (found : List Place) (first : Files) (placed : found ≡ places scope t conf.dirs) (empty : IsEmpty first) where
   stamps_first : stamps_there loaded first ≡ loaded
   stamps_first = ap (λ l. loaded ++ l) empty.stamps ∙ append-nil loaded
 
-  module _ (held : Contents) (is : IsConfOf conf held t) where
-    places_are : found ≡ places_in held t
+  module _ (held : Contents) (is : IsConfOf (conf_of scope) conf held t) where
+    places_are : found ≡ places_in scope held t
     unfolding places_in conf_in
-    places_are = placed ∙ ap (places t) is.dirs
+    places_are = placed ∙ ap (places scope t) is.dirs
 
-    paths_are : unread_paths first (wanted t found) ≡ wanted_in held t
+    paths_are : unread_paths first (wanted t found) ≡ wanted_in scope held t
     unfolding wanted_in
     paths_are = ap (λ rows. unread (analysis_at rows) (wanted t found)) empty.table ∙ none_read (wanted t found) ∙ ap (wanted t) places_are
 
-    keys_are : opened_keys held t (stamps_there loaded first) (unread_paths first (wanted t found)) ≡ wanted_keys held t loaded
+    keys_are : opened_keys held t (stamps_there loaded first) (unread_paths first (wanted t found)) ≡ wanted_keys scope held t loaded
     unfolding wanted_keys
     keys_are = ap (λ l. opened_keys held t l (unread_paths first (wanted t found))) stamps_first ∙ ap (λ paths. opened_keys held t loaded paths) paths_are
 
@@ -52,12 +53,12 @@ module _ (t : Nodes) (loaded : List Stamp) (conf : Conf) (found : List Place) (f
           → search.files.stamps ≡ with_stamps first.stamps (stamps_said t (said_in held t (stamps_there loaded first) (unread_paths first (wanted t found))) (unread_paths first (wanted t found)))
           → StampTheSame (stamps_there loaded search.files) (stamps_there loaded first ++ stamps_at held t (unread_paths first (wanted t found)))
           → search.files.begun ≡ first.begun + length (opened_keys held t (stamps_there loaded first) (unread_paths first (wanted t found)))
-          → lacks_one held (opened_keys held t (stamps_there loaded first) (unread_paths first (wanted t found))) ≡ false → IsSearched held t loaded search
+          → lacks_one held (opened_keys held t (stamps_there loaded first) (unread_paths first (wanted t found))) ≡ false → IsSearched scope held t loaded search
       unfolding conf_in stamps_wanted said_wanted
       is_searched said stamps stamped begun lacks =
           let count = ap length keys_are in
           record {
-            conf = subst (λ (x : Conf). IsConfOf x held t) (sym read) is;
+            conf = subst (λ (x : Conf). IsConfOf (conf_of scope) x held t) (sym read) is;
             places = there ∙ places_are;
             absent_is = absent_are ∙ ap (absent t) is.dirs;
             said = rw (stamps_first, paths_are) at said;
@@ -68,31 +69,31 @@ module _ (t : Nodes) (loaded : List Stamp) (conf : Conf) (found : List Place) (f
             stamped = subst (λ l. StampTheSame (stamps_there loaded search.files) l)
                 (ap (λ l. l ++ stamps_at held t (unread_paths first (wanted t found))) stamps_first ∙ ap (λ paths. loaded ++ stamps_at held t paths) paths_are) stamped;
             begun = omega (arith, begun, empty.begun, count);
-            none_lacks = ap (λ b. b || lacks_one held (wanted_keys held t loaded)) is.all_held ∙ ap (lacks_one held) (sym keys_are) ∙ lacks;
+            none_lacks = ap (λ b. b || lacks_one held (wanted_keys scope held t loaded)) is.all_held ∙ ap (lacks_one held) (sym keys_are) ∙ lacks;
           }
 
   -- ---- if contents are known
 
-  pub wanted_keys_are : (known : Option Contents) → IfKnown known (λ held. IsConfOf conf held t)
-      → IfKnown known (λ held. opened_keys held t (stamps_there loaded first) (unread_paths first (wanted t found)) ≡ wanted_keys held t loaded)
+  pub wanted_keys_are : (known : Option Contents) → IfKnown known (λ held. IsConfOf (conf_of scope) conf held t)
+      → IfKnown known (λ held. opened_keys held t (stamps_there loaded first) (unread_paths first (wanted t found)) ≡ wanted_keys scope held t loaded)
   wanted_keys_are None is = tt
   wanted_keys_are (Some held) is = keys_are held is
 
   module _ (search : Search) (read : search.conf ≡ conf) (there : search.dirs.places ≡ found) (absent_are : search.dirs.absent ≡ absent t conf.dirs) where
-    pub searched : (known : Option Contents) → IfKnown known (λ held. IsConfOf conf held t)
+    pub searched : (known : Option Contents) → IfKnown known (λ held. IsConfOf (conf_of scope) conf held t)
         → IfKnown known (λ held. AgreeOn (unread_paths first (wanted t found)) (said_in held t (stamps_there loaded first) (unread_paths first (wanted t found))) (analysis_at search.files.table))
         → IfKnown known (λ held. search.files.stamps
         ≡ with_stamps first.stamps (stamps_said t (said_in held t (stamps_there loaded first) (unread_paths first (wanted t found))) (unread_paths first (wanted t found))))
         → IfKnown known (λ held. StampTheSame (stamps_there loaded search.files) (stamps_there loaded first ++ stamps_at held t (unread_paths first (wanted t found))))
         → IfKnown known (λ held. search.files.begun ≡ first.begun + length (opened_keys held t (stamps_there loaded first) (unread_paths first (wanted t found))))
         → IfKnown known (λ held. lacks_one held (opened_keys held t (stamps_there loaded first) (unread_paths first (wanted t found))) ≡ false)
-        → IfKnown known (λ held. IsSearched held t loaded search)
+        → IfKnown known (λ held. IsSearched scope held t loaded search)
     searched None is said stamps stamped begun lacks = tt
     searched (Some held) is said stamps stamped begun lacks = is_searched held is search read there absent_are said stamps stamped begun lacks
 
-pub all_conf : (t : Nodes) (conf : Conf) (known : Option Contents) → IfKnown known (λ held. IsConfOf conf held t) → IfKnown known (λ held. conf_lacks held t ≡ false)
-all_conf t conf None is = tt
-all_conf t conf (Some held) is = is.all_held
+pub all_conf : (scope : Scope) (t : Nodes) (conf : Conf) (known : Option Contents) → IfKnown known (λ held. IsConfOf (conf_of scope) conf held t) → IfKnown known (λ held. conf_lacks (conf_of scope) held t ≡ false)
+all_conf scope t conf None is = tt
+all_conf scope t conf (Some held) is = is.all_held
 
 pub is_empty : (first : Files) → first.table ≡ [] → first.stamps ≡ [] → first.begun ≡ 0 → IsEmpty first
 is_empty first none no_stamps zero_begun = record { table = none; stamps = no_stamps; begun = zero_begun }

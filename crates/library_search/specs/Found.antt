@@ -7,11 +7,13 @@ use Rattle.cache_entries.specs.Entries as entries
 use Rattle.aux_cache.specs.declared.stamps.Stamp.{Stamp}
 use Rattle.elf_dynamic.specs.Begun.{lacks_one}
 use Rattle.hwcap_dirs.specs.Places.{absent}
+use Rattle.hwcap_dirs.specs.declared.kinds.Scope.{Scope}
 use Rattle.ldso_conf.specs.Reading.{IsConfOf, conf_keys}
 use Rattle.file_table.specs.Analyses.{AgreeOn}
 use Rattle.string_pool.specs.Order.{ascending}
 use Rattle.library_files.specs.Search.{dangling}
 use Rattle.file_table.specs.Table.{analysis_at}
+use Rattle.place_libraries.specs.Best.{bests_of}
 use Rattle.soname_links.specs.Apply.{nodes_with}
 use Rattle.soname_links.specs.Marks.{blocked, mixed}
 use Rattle.file_stamps.specs.Said.{stamps_said}
@@ -24,59 +26,60 @@ use Rattle.update_report.specs.Skips.{skip_at}
 use Rattle.library_search.specs.Begun.{behind_keys, has_too_many_nodes, lacks_file, lacks_some, lacks_wanted, opened_in, search_bytes, search_keys, stamps_wanted, update_bytes, update_keys, wanted_keys}
 use Rattle.library_search.specs.declared.finding.Found.{Found}
 use Rattle.library_search.specs.declared.search.Search.{Search}
-use Rattle.library_search.specs.Ldconfig.{conf_in, entries_in, library_files, links_in, places_in, planned_in, said_files, said_wanted, stamps_in, wanted_in}
+use Rattle.library_search.specs.Ldconfig.{best_libraries, conf_in, conf_of, entries_in, library_files, links_in, places_in, planned_in, said_files, said_wanted, stamps_in, wanted_in}
 
 -- ---- before the links are planned
 
 -- what is found; all that had to be opened is held
-pub record IsSearched (held : Contents) (t : Nodes) (loaded : List Stamp) (search : Search) : Type 0 where
-  pub conf : IsConfOf search.conf held t
-  pub places : search.dirs.places ≡ places_in held t
-  pub absent_is : search.dirs.absent ≡ absent t (conf_in held t).dirs
-  pub said : AgreeOn (wanted_in held t) (said_wanted held t loaded) (analysis_at search.files.table)
-  pub stamps : search.files.stamps ≡ with_stamps [] (stamps_said t (said_wanted held t loaded) (wanted_in held t))
-  pub stamped : StampTheSame (loaded ++ search.files.stamps) (stamps_wanted held t loaded)
-  pub begun : search.files.begun ≡ length (wanted_keys held t loaded)
-  pub none_lacks : lacks_wanted held t loaded ≡ false
+pub record IsSearched (scope : Scope) (held : Contents) (t : Nodes) (loaded : List Stamp) (search : Search) : Type 0 where
+  pub conf : IsConfOf (conf_of scope) search.conf held t
+  pub places : search.dirs.places ≡ places_in scope held t
+  pub absent_is : search.dirs.absent ≡ absent t (conf_in scope held t).dirs
+  pub said : AgreeOn (wanted_in scope held t) (said_wanted scope held t loaded) (analysis_at search.files.table)
+  pub stamps : search.files.stamps ≡ with_stamps [] (stamps_said t (said_wanted scope held t loaded) (wanted_in scope held t))
+  pub stamped : StampTheSame (loaded ++ search.files.stamps) (stamps_wanted scope held t loaded)
+  pub begun : search.files.begun ≡ length (wanted_keys scope held t loaded)
+  pub none_lacks : lacks_wanted scope held t loaded ≡ false
 
 -- the keys of the search are begun, whatever stamps say
-abbrev pub ReadsSearch : Nodes → List Stamp → Ending → StoreState → StoreState → Type 0
-ReadsSearch t loaded ending old new =
-    ReadsFiles (IsSomeAnd old.held (λ held. lacks_wanted held t loaded ≡ true)) (option_map (λ held. search_keys held t loaded) old.held)
-    (option_map (λ held. search_bytes held t loaded) old.held) ending old new
+abbrev pub ReadsSearch : Scope → Nodes → List Stamp → Ending → StoreState → StoreState → Type 0
+ReadsSearch scope t loaded ending old new =
+    ReadsFiles (IsSomeAnd old.held (λ held. lacks_wanted scope held t loaded ≡ true)) (option_map (λ held. search_keys scope held t loaded) old.held)
+    (option_map (λ held. search_bytes scope held t loaded) old.held) ending old new
 
 -- ---- all that is found
 
 -- what is found in the tree and in the planned tree, for the whole update
-pub record IsFound (held : Contents) (t : Nodes) (loaded : List Stamp) (found : Found) (tree : Nodes) : Type 0 where
-  pub conf : IsConfOf found.search.conf held t
-  pub places : found.search.dirs.places ≡ places_in held t
-  pub absent_is : found.search.dirs.absent ≡ absent t (conf_in held t).dirs
-  pub plan : found.links.plan ≡ links_in held t loaded
-  pub tree_is : tree ≡ planned_in held t loaded
-  pub blocked_is : found.links.blocked ≡ blocked (said_wanted held t loaded) t (places_in held t)
-  pub mixed_is : found.links.mixed ≡ mixed (said_wanted held t loaded) t (places_in held t)
-  pub dangling_is : found.followed.dangling ≡ dangling (planned_in held t loaded) (places_in held t)
-  pub entries_are : entries.found (analysis_at found.search.files.table) tree found.search.dirs.places ≡ entries_in held t loaded
+pub record IsFound (scope : Scope) (held : Contents) (t : Nodes) (loaded : List Stamp) (found : Found) (tree : Nodes) : Type 0 where
+  pub conf : IsConfOf (conf_of scope) found.search.conf held t
+  pub places : found.search.dirs.places ≡ places_in scope held t
+  pub absent_is : found.search.dirs.absent ≡ absent t (conf_in scope held t).dirs
+  pub plan : found.links.plan ≡ links_in scope held t loaded
+  pub tree_is : tree ≡ planned_in scope held t loaded
+  pub blocked_is : found.links.blocked ≡ blocked (said_wanted scope held t loaded) t (places_in scope held t)
+  pub mixed_is : found.links.mixed ≡ mixed (said_wanted scope held t loaded) t (places_in scope held t)
+  pub dangling_is : found.followed.dangling ≡ dangling (planned_in scope held t loaded) (places_in scope held t)
+  pub entries_are : entries.found (analysis_at found.search.files.table) tree found.search.dirs.places ≡ entries_in scope held t loaded
+  pub bests_are : bests_of (analysis_at found.search.files.table) tree found.search.dirs.places ≡ best_libraries scope held t loaded
   pub skips_are : filter_map (skip_at (analysis_at found.search.files.table)) (ascending (keys_of found.search.files.table))
-      ≡ filter_map (skip_at (said_files held t loaded)) (library_files held t loaded)
-  pub stamps : found.search.files.stamps ≡ stamps_in held t loaded
-  pub opened : found.search.files.begun ≡ opened_in held t loaded
-  pub none_lacks : lacks_wanted held t loaded ≡ false
-  pub few : has_too_many_nodes held t loaded ≡ false
-  pub none_behind : lacks_one held (behind_keys held t loaded) ≡ false
+      ≡ filter_map (skip_at (said_files scope held t loaded)) (library_files scope held t loaded)
+  pub stamps : found.search.files.stamps ≡ stamps_in scope held t loaded
+  pub opened : found.search.files.begun ≡ opened_in scope held t loaded
+  pub none_lacks : lacks_wanted scope held t loaded ≡ false
+  pub few : has_too_many_nodes scope held t loaded ≡ false
+  pub none_behind : lacks_one held (behind_keys scope held t loaded) ≡ false
   -- the files that are opened: the conf files, and the library files that have to be
-  pub counted : length (update_keys held t loaded) ≡ length (conf_keys held t) + opened_in held t loaded
+  pub counted : length (update_keys scope held t loaded) ≡ length (conf_keys (conf_of scope) held t) + opened_in scope held t loaded
 
 -- The keys of the update are begun, and no others. Whatever stamps say, only a file of the image that isn't held ends the reading beside the device's
 -- faults.
-pub record ReadsFinding (t : Nodes) (loaded : List Stamp) (ending : Ending) (old new : StoreState) : Type 0 where
+pub record ReadsFinding (scope : Scope) (t : Nodes) (loaded : List Stamp) (ending : Ending) (old new : StoreState) : Type 0 where
   pub keys : IfKnown old.held (λ held.
-      ReadsFiles (lacks_file held t loaded ≡ true) (Some (update_keys held t loaded)) (Some (update_bytes held t loaded)) ending old new)
-  pub any : ReadsFiles (IsSomeAnd old.held (λ held. lacks_some held t ≡ true)) None None ending old new
+      ReadsFiles (lacks_file scope held t loaded ≡ true) (Some (update_keys scope held t loaded)) (Some (update_bytes scope held t loaded)) ending old new)
+  pub any : ReadsFiles (IsSomeAnd old.held (λ held. lacks_some scope held t ≡ true)) None None ending old new
 
 -- the files with library names that are opened are held, but the tree with the planned links would have this number of nodes, more than a tree may have
-pub record HasTooManyNodes (held : Contents) (t : Nodes) (loaded : List Stamp) (nodes : ℕ) : Type 0 where
-  pub none_lacks : lacks_wanted held t loaded ≡ false
-  pub many : has_too_many_nodes held t loaded ≡ true
-  pub nodes_are : nodes ≡ nodes_with t (links_in held t loaded)
+pub record HasTooManyNodes (scope : Scope) (held : Contents) (t : Nodes) (loaded : List Stamp) (nodes : ℕ) : Type 0 where
+  pub none_lacks : lacks_wanted scope held t loaded ≡ false
+  pub many : has_too_many_nodes scope held t loaded ≡ true
+  pub nodes_are : nodes ≡ nodes_with t (links_in scope held t loaded)

@@ -2,6 +2,7 @@
 use Rattle.std.specs.Prelude.{◌≡◌, ℕ, List, []}
 use Rattle.aux_cache.specs.declared.stamps.Stamp.{Stamp}
 use Rattle.elf_dynamic.specs.Begun.{lacks_one}
+use Rattle.hwcap_dirs.specs.declared.kinds.Scope.{Scope}
 use Rattle.image_tree.specs.Tree.{Nodes}
 use Rattle.file_stamps.specs.Files.{what_is}
 use Rattle.file_stamps.specs.Opened.{opens}
@@ -9,16 +10,16 @@ use Rattle.tree_face.specs.Store.{Contents}
 use Rattle.library_search.specs.Begun.{behind_keys, opened_in, wanted_keys}
 use Rattle.library_search.specs.Ldconfig.{entries_in, library_files, library_paths, links_in, said_files, stamps_in, walk_in}
 
-pub record IsSaidRight (held : Contents) (t : Nodes) (loaded : List Stamp) : Type 0 where
+pub record IsSaidRight (scope : Scope) (held : Contents) (t : Nodes) (loaded : List Stamp) : Type 0 where
   -- each file is said to be what it is
-  pub said : (path : List ℕ) → said_files held t loaded path ≡ what_is held t path
-  pub links : links_in held t loaded ≡ links_in held t []
-  pub files : library_files held t loaded ≡ library_files held t []
-  pub entries : entries_in held t loaded ≡ entries_in held t []
-  pub walk : walk_in held t loaded ≡ walk_in held t []
-  pub stamps : stamps_in held t loaded ≡ stamps_in held t []
+  pub said : (path : List ℕ) → said_files scope held t loaded path ≡ what_is held t path
+  pub links : links_in scope held t loaded ≡ links_in scope held t []
+  pub files : library_files scope held t loaded ≡ library_files scope held t []
+  pub entries : entries_in scope held t loaded ≡ entries_in scope held t []
+  pub walk : walk_in scope held t loaded ≡ walk_in scope held t []
+  pub stamps : stamps_in scope held t loaded ≡ stamps_in scope held t []
   -- a file isn't held in the one update exactly if one isn't in the other
-  pub wanted_lack : lacks_one held (wanted_keys held t loaded) ≡ lacks_one held (wanted_keys held t [])
-  pub behind_lack : lacks_one held (behind_keys held t loaded) ≡ lacks_one held (behind_keys held t [])
+  pub wanted_lack : lacks_one held (wanted_keys scope held t loaded) ≡ lacks_one held (wanted_keys scope held t [])
+  pub behind_lack : lacks_one held (behind_keys scope held t loaded) ≡ lacks_one held (behind_keys scope held t [])
   -- each file is opened that has no identity or no stamp, of the libraries one for each identity
-  pub opened : opened_in held t loaded ≡ opens held t loaded (library_paths held t loaded)
+  pub opened : opened_in scope held t loaded ≡ opens held t loaded (library_paths scope held t loaded)

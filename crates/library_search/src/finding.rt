@@ -6,6 +6,7 @@ ghost use Rattle.library_files.specs.Search.{followed};
 ghost use Rattle.file_table.specs.Table.{analysis_at};
 ghost use Rattle.image_tree.specs.Tree.{IsTree};
 ghost use Rattle.planned_tree.specs.Search.{IsSearchedAlike};
+ghost use Rattle.soname_links.specs.Apply.{is_plan};
 ghost use Rattle.soname_links.specs.Settled.{IsSettled};
 ghost use Rattle.aux_cache.specs.Stamps.{HaveNames};
 ghost use Rattle.tree_face.specs.Known.{IfKnown};
@@ -17,6 +18,7 @@ use crate::fault::FindFault;
 use crate::following::{Followed, follow_links};
 use crate::search::{Search, search_image};
 use aux_cache::Stamps;
+use hwcap_dirs::Scope;
 use planned_tree::plan_links;
 use soname_links::Survey;
 use std::alloc::Global;
@@ -34,24 +36,26 @@ pub struct Found {
 /// they are: none that is loaded, and none of a library that was read before.
 pub fn find<S: Store>(
     alloc: Global,
+    scope: &Scope,
     tree: &mut Tree,
     store: &mut S,
     loaded: &Stamps,
 ) -> Result<Found, FindFault>
     requires names { HaveNames loaded.now }
-    ensures found { IfOk result (λ found. IfKnown (S.state store.old).held (λ held. IsFound held tree.old loaded.now found tree.new)) }
+    ensures found { IfOk result (λ found. IfKnown (S.state store.old).held (λ held. IsFound scope.now held tree.old loaded.now found tree.new)) }
+    ensures valid { IfOk result (λ found. IsTrue (is_plan found.links.plan)) }
     ensures is_tree { OnOk result (IsTree tree.new) }
     ensures alike { OnOk result (IsSearchedAlike tree.old tree.new) }
     ensures settled { OnOk result (IfKnown (S.state store.old).held
-        (λ held. IsSettled (said_wanted held tree.old loaded.now) tree.old (places_in held tree.old) tree.new)) }
+        (λ held. IsSettled (said_wanted scope.now held tree.old loaded.now) tree.old (places_in scope.now held tree.old) tree.new)) }
     ensures links { IfOk result (λ found. found.followed.links ≡ followed tree.new found.search.dirs.places) }
     ensures bests { IfOk result (λ found. found.links.bests ≡ bests_of (analysis_at found.search.files.table) tree.new found.search.dirs.places) }
     ensures spelled { IfOk result (λ found. IsTrue (are_spelled found.search.dirs.places)) }
     ensures too_large { (nodes : ℕ) → IsErrOf result (FindFault.TooLarge nodes) →
-        IfKnown (S.state store.old).held (λ held. HasTooManyNodes held tree.old loaded.now nodes) }
-    ensures reads { ReadsFinding tree.old loaded.now (find_ending result) (S.state store.old) (S.state store.new) }
+        IfKnown (S.state store.old).held (λ held. HasTooManyNodes scope.now held tree.old loaded.now nodes) }
+    ensures reads { ReadsFinding scope.now tree.old loaded.now (find_ending result) (S.state store.old) (S.state store.new) }
 {
-    let mut search = search_image(alloc, tree, store, loaded)?;
+    let mut search = search_image(alloc, scope, tree, store, loaded)?;
     let links = plan_links(alloc, tree, &search.dirs, &search.files.table)?;
     let followed = follow_links(alloc, tree, store, loaded, &search.dirs, &mut search.files)?;
     Ok(Found {

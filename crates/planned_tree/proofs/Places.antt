@@ -4,7 +4,8 @@ use Rattle.std.proofs.lemmas.Bool.{and_parts}
 use Rattle.std.specs.List.{cons_option, filter_map, flat_map, list_all}
 use Rattle.std.specs.Option.{option_map}
 use Rattle.hwcap_dirs.proofs.Children.{children_named}
-use Rattle.hwcap_dirs.specs.Places.{dir_at, dir_by, firsts, hwcap_place, hwcap_places, hwcaps, is_dir, is_hidden, kept, led_at, place_of_name, places, places_below, places_of, system_dirs}
+use Rattle.hwcap_dirs.specs.Places.{builtin_dirs, dir_at, dir_by, firsts, hwcap_place, hwcap_places, hwcaps, is_dir, is_hidden, kept, led_at, place_of_name, places, places_below, places_of}
+use Rattle.hwcap_dirs.specs.declared.kinds.Scope.{Scope}
 use Rattle.lib_types.proofs.SortedPairs.{by_test}
 use Rattle.lib_types.specs.Name.{is_name}
 use Rattle.name_order.specs.LibraryName.{is_library_name}
@@ -97,8 +98,8 @@ module _ (t new : Nodes) (tree : IsTree t) (after : IsTree new) (alike : IsAlike
   led_same : led_at new ≡ led_at t
   led_same = agree (led_at new) (led_at t) (λ text. ap (option_map (λ dir. (text, dir))) (dir_same text))
 
-  pub same_places : (conf : List (List ℕ)) → places new conf ≡ places t conf
+  pub same_places : (scope : Scope) (conf : List (List ℕ)) → places scope new conf ≡ places scope t conf
   unfolding places
-  same_places conf =
-      ap (λ f. flat_map f (kept new conf)) of_same
-      ∙ ap (λ f. flat_map (places_of t) (firsts (filter_map f (conf ++ system_dirs)))) led_same
+  same_places scope conf =
+      ap (λ f. flat_map f (kept scope new conf)) of_same
+      ∙ ap (λ f. flat_map (places_of t) (firsts (filter_map f (conf ++ builtin_dirs scope)))) led_same

@@ -18,7 +18,7 @@ use Rattle.soname_links.proofs.Rooms.{HaveRoom, IsRoom}
 use Rattle.image_tree.proofs.OneMore.{put_here, put_other}
 use Rattle.soname_links.proofs.Put.{any_put}
 use Rattle.soname_links.specs.Plan.{is_taken, with_link, with_links}
-use Rattle.soname_links.specs.declared.kinds.Planned.{Planned}
+use Rattle.link_plan.specs.declared.kinds.Planned.{Planned}
 
 -- ---- the nodes
 

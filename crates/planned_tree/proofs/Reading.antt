@@ -3,9 +3,10 @@ use Rattle.std.proofs.Common.{◌≡◌, ℕ, zero, suc, ◌+◌, ◌++◌, List
 use Rattle.std.specs.List.{flat_map}
 use Rattle.conf_patterns.specs.Patterns.{Found, found_at, results}
 use Rattle.ldso_conf.specs.Lines.{arguments_of, hwcap, include, lines_of, text_of, words_of}
-use Rattle.ldso_conf.specs.Reading.{Item, Names, Reports, Reads, Passes, Misses, all_from, asked, conf_items, conf_path, included_at, included_by, place_in, steps_in, until_missing, with_steps}
+use Rattle.ldso_conf.specs.Reading.{Item, Names, Reports, Reads, Passes, Misses, all_from, asked, conf_items, included_at, included_by, place_in, steps_in, until_missing, with_steps}
 use Rattle.ldso_conf.specs.Reading as conf
-use Rattle.ldso_conf.specs.Steps.{included, line_steps, steps_by, steps_of}
+use Rattle.ldso_conf.specs.Steps.{included, line_steps, numbered, origin_at, steps_by, steps_of}
+use Rattle.ldso_conf.specs.declared.kinds.Origin.{Origin}
 use Rattle.ldso_conf.specs.declared.reading.TheConstants.{DEPTH_MAX}
 use Rattle.tree_face.specs.Store.{Contents}
 use Rattle.image_tree.specs.Tree.{Nodes, IsTree}
@@ -16,21 +17,21 @@ use Rattle.planned_tree.proofs.Patterns.{same_found, same_results}
 module _ (t new : Nodes) (tree : IsTree t) (after : IsTree new) (alike : IsAlike t new) where
   -- ---- the steps of a file
 
-  by_same : (file text : List ℕ) (patterns words : Option (List ℕ)) → steps_by new file text patterns words ≡ steps_by t file text patterns words
-  by_same file text (Some patterns) words =
-      ap (λ f. flat_map f (words_of patterns)) (agree (λ pattern. map included (results new file pattern)) (λ pattern. map included (results t file pattern))
-      (λ pattern. ap (map included) (same_results t new tree after alike file pattern)))
-  by_same file text None (Some words) = refl
-  by_same file text None None = refl
+  by_same : (origin : Origin) (text : List ℕ) (patterns words : Option (List ℕ)) → steps_by new origin text patterns words ≡ steps_by t origin text patterns words
+  by_same origin text (Some patterns) words =
+      ap (λ f. flat_map f (words_of patterns)) (agree (λ pattern. map included (results new origin.file pattern)) (λ pattern. map included (results t origin.file pattern))
+      (λ pattern. ap (map included) (same_results t new tree after alike origin.file pattern)))
+  by_same origin text None (Some words) = refl
+  by_same origin text None None = refl
 
   steps_same : (file content : List ℕ) → steps_of new file content ≡ steps_of t file content
   unfolding steps_of
   steps_same file content =
-      ap (λ f. flat_map f (lines_of content)) (agree (line_steps new file) (line_steps t file)
-      (λ line. by_same file (text_of line) (arguments_of include (text_of line)) (arguments_of hwcap (text_of line))))
+      ap (λ f. flat_map f (numbered 1 (lines_of content))) (agree (line_steps new file) (line_steps t file)
+      (λ line. by_same (origin_at file line.0) (text_of line.1) (arguments_of include (text_of line.1)) (arguments_of hwcap (text_of line.1))))
 
   steps_in_same : (item : Item) → steps_in new item ≡ steps_in t item
-  steps_in_same (Names dir) = refl
+  steps_in_same (Names dir origin) = refl
   steps_in_same (Reports report) = refl
   steps_in_same (Reads f key content) = steps_same f.0 content
   steps_in_same (Passes f key) = refl
@@ -56,7 +57,7 @@ module _ (t new : Nodes) (tree : IsTree t) (after : IsTree new) (alike : IsAlike
     from_same None = refl
     from_same (Some f) = items_same (DEPTH_MAX + 1) [] f
 
-  pub same_items : (held : Contents) → conf_items held new ≡ conf_items held t
+  pub same_items : (path : List ℕ) (held : Contents) → conf_items path held new ≡ conf_items path held t
   unfolding conf_items
-  same_items held =
-      ap (λ found. until_missing (all_from new held (found conf_path))) (same_found t new tree after alike) ∙ ap until_missing (from_same held (found_at t conf_path))
+  same_items path held =
+      ap (λ found. until_missing (all_from new held (found path))) (same_found t new tree after alike) ∙ ap until_missing (from_same held (found_at t path))

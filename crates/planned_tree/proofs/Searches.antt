@@ -5,7 +5,7 @@ use Rattle.hwcap_dirs.specs.declared.kinds.Place.{Place}
 use Rattle.soname_links.proofs.Rooms.{have_room}
 use Rattle.soname_links.specs.Plan.{links, with_links}
 use Rattle.file_table.specs.Analyses.{Analyses, HaveNames}
-use Rattle.soname_links.specs.declared.kinds.Planned.{Planned}
+use Rattle.link_plan.specs.declared.kinds.Planned.{Planned}
 use Rattle.image_tree.specs.Tree.{Nodes, IsTree}
 use Rattle.planned_tree.proofs.Alike.{IsAlike, same_file}
 use Rattle.planned_tree.proofs.Places.{same_places}

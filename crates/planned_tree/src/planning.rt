@@ -3,7 +3,7 @@ ghost use Rattle.std.specs.Prelude.{◌≡◌, ◌<◌, ◌≤◌, ℕ, IfOk, Is
 ghost use Rattle.hwcap_dirs.specs.Places.{are_dirs};
 ghost use Rattle.place_libraries.specs.Best.{bests_of};
 ghost use Rattle.place_libraries.specs.Rows.{AreOfPlaces};
-ghost use Rattle.soname_links.specs.Apply.{nodes_with};
+ghost use Rattle.soname_links.specs.Apply.{is_plan, nodes_with};
 ghost use Rattle.soname_links.specs.Marks.{blocked, mixed};
 ghost use Rattle.soname_links.specs.Plan.{links, with_links};
 ghost use Rattle.soname_links.specs.Settled.{IsSettled};
@@ -31,6 +31,7 @@ pub fn plan_links(
     requires dirs { IsTrue (are_dirs tree.old dirs.now.places) }
     requires rows { AreOfPlaces tree.old dirs.now.places table.now }
     ensures plan { IfOk result (λ found. found.plan ≡ links (analysis_at table.now) tree.old dirs.now.places) }
+    ensures valid { IfOk result (λ found. IsTrue (is_plan found.plan)) }
     ensures tree { IfOk result (λ found. tree.new ≡ with_links tree.old (links (analysis_at table.now) tree.old dirs.now.places)) }
     ensures alike { IfOk result (λ found. IsSearchedAlike tree.old tree.new) }
     ensures settled { IfOk result (λ found. IsSettled (analysis_at table.now) tree.old dirs.now.places tree.new) }

@@ -14,13 +14,13 @@ use tree_face::{Disk, Slot, Tag};
 
 /// What is to be written. It takes no memory any more.
 #[derive(Clone, Copy)]
-pub struct RootWrites<'a> {
+pub struct RootWrites<'l, 'p, 'f> {
     /// The links, in the order of the plan.
-    pub links: &'a [NewLink<'a>],
+    pub links: &'l [NewLink<'p>],
     /// The cache, unless the run builds none.
-    pub cache: Option<&'a [u8]>,
+    pub cache: Option<&'f [u8]>,
     /// The auxiliary cache, if the run keeps one.
-    pub aux: Option<&'a [u8]>,
+    pub aux: Option<&'f [u8]>,
 }
 
 fn cache_write(bytes: &[u8]) -> SlotWrite<'_>
@@ -73,7 +73,7 @@ pub fn write_root<F: Folder, D: Disk>(
     folder: &mut F,
     disk: &mut D,
     tag: Tag,
-    writes: &RootWrites<'_>,
+    writes: &RootWrites<'_, '_, '_>,
 ) -> Result<(), WriteFault>
     requires valid { are_valid (planned_links writes.now) ≡ true }
     ensures writes { WritesRoot tag (planned_links writes.now) (planned_files writes.now) result

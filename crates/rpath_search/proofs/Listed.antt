@@ -2,11 +2,10 @@
 use Rattle.std.proofs.Common.{◌≡◌, ◌<◌, ◌+◌, ◌-◌, ◌==◌, ℕ, zero, suc, false, List, [], ◌∷◌, ◌++◌, length, drop, get_or, Option, refl, sym, ap, ◌∙◌, arith}
 use Rattle.std.proofs.lemmas.List.{length-append, length-drop}
 use Rattle.std.proofs.Math.Seq.{get_or-append_seam}
-use Rattle.string_pool.specs.Distinct.{distinct}
 use Rattle.rpath_search.specs.Candidates.{all_paths}
 use Rattle.rpath_search.specs.Listed.{HasLast, reach_in}
 use Rattle.rpath_search.specs.Loaders.{nowhere, reach_at, reach_over}
-use Rattle.rpath_search.specs.Places.{Reach, has_slash, paths, reach_of, with_caps_once}
+use Rattle.rpath_search.specs.Places.{Reach, env_for, has_slash, paths, reach_of, with_caps_once}
 use Rattle.rpath_search.specs.declared.kinds.Env.{Env}
 use Rattle.rpath_search.specs.declared.kinds.Owner.{Owner}
 
@@ -54,7 +53,7 @@ module _ (env : Env) (owners : List Owner) where
 
 -- the paths of the first object
 pub all_listed : (name : List ℕ) (chain : List Owner) (env : Env) (cached : Option (List ℕ)) (reach : Reach) → has_slash name ≡ false → (length chain == 0) ≡ false → reach ≡ reach_in env chain →
-    all_paths name (distinct env.caps) reach cached ≡ paths name chain (with_caps_once env) cached
+    all_paths name (env_for env env.abi) reach cached ≡ paths name chain (with_caps_once env) cached
 unfolding paths
 all_listed name [] env cached reach plain some same = absurd (cc)
 all_listed name (o ∷ more) env cached reach plain some same = rw (plain, same) refl

@@ -1,17 +1,18 @@
 -- The paths of a search that are left.
 use Rattle.std.specs.Prelude.{◌≡◌, ◌<◌, ◌+◌, ◌*◌, ℕ, suc, List, [], ◌∷◌, ◌++◌, drop, flat_map, if◌then◌else◌, length, map, Option, Some, None, IfSome, option_to_list}
 use Rattle.std.specs.Option.{option_copied, option_map_or}
-use Rattle.hwcap_dirs.specs.Places.{system_dirs}
 use Rattle.rpath_search.specs.Loaders.{rpaths_from}
-use Rattle.rpath_search.specs.Places.{Reach, from_root, has_slash, hwcaps_path, paths_by, paths_in}
+use Rattle.rpath_search.specs.Places.{Reach, from_root, has_slash, hwcaps_path, paths_by, paths_in, system_dirs_of}
 use Rattle.rpath_search.specs.declared.candidates.At.{At}
 use Rattle.rpath_search.specs.declared.candidates.Candidates.{Candidates}
+use Rattle.rpath_search.specs.declared.candidates.DefaultDirs.{DefaultDirs}
 use Rattle.rpath_search.specs.declared.candidates.FirstDirs.{FirstDirs}
+use Rattle.rpath_search.specs.declared.kinds.Env.{Env}
 use Rattle.image_tree.specs.Paths.{root}
 
 -- the paths of a name that an object needs whose requests are searched in these directories
-abbrev pub all_paths : List ℕ → List (List ℕ) → Reach → Option (List ℕ) → List (List ℕ)
-all_paths name caps reach cached = if has_slash name then from_root name ∷ [] else paths_by name caps reach cached
+abbrev pub all_paths : List ℕ → Env → Reach → Option (List ℕ) → List (List ℕ)
+all_paths name env reach cached = if has_slash name then from_root name ∷ [] else paths_by name env reach cached
 
 -- ---- what is left
 
@@ -32,6 +33,10 @@ pub record IsRefilled (old new : FirstDirs) : Type 0 where
   pub inside : IsInside new
   pub fewer : lists_left new < lists_left old
 
+-- the default directories
+abbrev pub defaults_left : DefaultDirs → List (List ℕ)
+defaults_left s = drop s.done (system_dirs_of s.system)
+
 -- the paths in the directory at hand
 abbrev pub paths_at : List ℕ → Option At → List (List ℕ)
 paths_at name None = []
@@ -42,7 +47,7 @@ abbrev pub paths_behind : Candidates → List (List ℕ)
 paths_behind s =
     flat_map (paths_in s.name.now s.caps.now) (dirs_left s.first)
     ++ option_to_list (option_copied s.cached)
-    ++ flat_map (paths_in s.name.now s.caps.now) (drop s.defaults system_dirs)
+    ++ flat_map (paths_in s.name.now s.caps.now) (defaults_left s.defaults)
 
 abbrev pub paths_left : Candidates → List (List ℕ)
 paths_left s = s.listed.now ++ option_to_list s.whole ++ paths_at s.name.now s.at ++ paths_behind s

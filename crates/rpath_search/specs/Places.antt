@@ -3,11 +3,14 @@ use Rattle.std.specs.Prelude.{ℕ, Bool, ◌==◌, ◌&&◌, nat_eq, if◌then�
 use Rattle.std.specs.List.{before_last, filter_map, list_any, slice_split, starts_with}
 use Rattle.std.specs.Option.{option_map_or}
 use Rattle.lib_types.specs.Sets.{is_in, slashes, without_end}
-use Rattle.hwcap_dirs.specs.Places.{system_dirs}
+use Rattle.hwcap_dirs.specs.Places.{all_builtin_dirs, system_dirs}
 use Rattle.lib_types.specs.Abi.{lib_of}
+use Rattle.lib_types.specs.declared.abi.Abi.{Abi}
 use Rattle.string_pool.specs.Distinct.{distinct}
 use Rattle.origin_expand.specs.Tokens.{expanded, value_of}
 use Rattle.image_tree.specs.Paths.{is_below, is_slash, root}
+use Rattle.rpath_search.specs.declared.kinds.SystemDirs.{SystemDirs}
+use Rattle.rpath_search.specs.declared.kinds.SystemDirs.TheVariants.{Loader, Debian}
 use Rattle.rpath_search.specs.declared.kinds.Env.{Env}
 use Rattle.rpath_search.specs.declared.kinds.Owner.{Owner}
 
@@ -85,9 +88,14 @@ reach_of env owner loaders = record {
 abbrev pub first_dirs : Reach → List (List ℕ)
 first_dirs reach = (if is_some reach.runpath then [] else reach.rpaths) ++ reach.library ++ option_map_or (λ dirs. dirs) reach.runpath []
 
+-- the directories that are searched by default (ld.so(8)), perhaps with Debian's
+abbrev pub system_dirs_of : SystemDirs → List (List ℕ)
+system_dirs_of Loader = system_dirs
+system_dirs_of Debian = all_builtin_dirs
+
 -- the directories behind the cache
-abbrev pub default_dirs : Reach → List (List ℕ)
-default_dirs reach = if reach.nodeflib then [] else system_dirs
+abbrev pub default_dirs : Env → Reach → List (List ℕ)
+default_dirs env reach = if reach.nodeflib then [] else system_dirs_of env.system
 
 -- ---- the paths of a name
 
@@ -98,7 +106,7 @@ hwcaps_path dir name cap = dir ++ codes "/glibc-hwcaps/" ++ cap ++ root ++ name
 abbrev pub paths_in : List ℕ → List (List ℕ) → List ℕ → List (List ℕ)
 paths_in name caps dir = map (hwcaps_path dir name) caps ++ (dir ++ root ++ name) ∷ []
 
--- a path in one of the default directories or below it
+-- a path in one of the default directories or below it; Debian's are below those of the loader
 abbrev pub is_default : List ℕ → Bool
 is_default path = list_any (λ dir. is_below dir path) system_dirs
 
@@ -109,11 +117,11 @@ cached_path nodeflib path = if nodeflib && is_default path then None else Some p
 abbrev pub cached_paths : Reach → Option (List ℕ) → List (List ℕ)
 cached_paths reach cached = option_to_list (option_and_then (cached_path reach.nodeflib) cached)
 
-abbrev pub paths_by : List ℕ → List (List ℕ) → Reach → Option (List ℕ) → List (List ℕ)
-paths_by name caps reach cached =
-    flat_map (paths_in name caps) (first_dirs reach)
+abbrev pub paths_by : List ℕ → Env → Reach → Option (List ℕ) → List (List ℕ)
+paths_by name env reach cached =
+    flat_map (paths_in name env.caps) (first_dirs reach)
     ++ cached_paths reach cached
-    ++ flat_map (paths_in name caps) (default_dirs reach)
+    ++ flat_map (paths_in name env.caps) (default_dirs env reach)
 
 -- ---- the list
 
@@ -121,9 +129,13 @@ paths_by name caps reach cached =
 abbrev pub with_caps_once : Env → Env
 with_caps_once env = record env { caps = distinct env.caps }
 
+-- the same for a program of this ABI
+abbrev pub env_for : Env → Abi → Env
+env_for env abi = record (with_caps_once env) { abi = abi }
+
 abbrev pub searched : List ℕ → Env → List Owner → Option (List ℕ) → List (List ℕ)
 searched name env [] cached = []
-searched name env (owner ∷ loaders) cached = paths_by name env.caps (reach_of env owner loaders) cached
+searched name env (owner ∷ loaders) cached = paths_by name env (reach_of env owner loaders) cached
 
 -- The paths for a name that the first object of a chain needs. Behind it in the chain stands the object that was the first to
 -- request it, and so upwards to the program. `cached` is the path that the cache has for the name. A name with a slash is itself

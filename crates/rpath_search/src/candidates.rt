@@ -1,15 +1,15 @@
 //! The paths of a search, one after another.
-ghost use Rattle.std.specs.Prelude.{◌≡◌, ◌<◌, ◌∷◌, [], ℕ, Some, drop, length, option_and_then, IfOk};
+ghost use Rattle.std.specs.Prelude.{◌≡◌, ◌<◌, ◌∷◌, [], ℕ, Some, drop, if◌then◌else◌, length, option_and_then, IfOk};
 ghost use Rattle.std.specs.Option.{MatchOption, option_copied};
-ghost use Rattle.hwcap_dirs.specs.Places.{system_dirs};
-ghost use Rattle.rpath_search.specs.Candidates.{IsInside, IsNext, IsNextAt, IsRefilled, all_paths, dirs_left, paths_at, paths_left};
+ghost use Rattle.rpath_search.specs.Candidates.{IsInside, IsNext, IsNextAt, IsRefilled, all_paths, defaults_left, dirs_left, paths_at, paths_left};
 ghost use Rattle.rpath_search.specs.Loaders.{reach_at};
-ghost use Rattle.rpath_search.specs.Places.{cached_path, first_dirs, is_default, paths_by};
+ghost use Rattle.rpath_search.specs.Places.{cached_path, first_dirs, is_default, paths_by, system_dirs_of};
 
+use crate::kinds::{Env, SystemDirs};
 use crate::loaders::Loaders;
 use crate::paths::{from_root, hwcaps_path, plain_path};
-use hwcap_dirs::{SYSTEM_DIRS, next_system_dir};
-use lib_types::{NoMemory, Text, Texts, has_byte};
+use hwcap_dirs::{SYSTEM_DIRS, Scope, next_builtin_dir, next_system_dir};
+use lib_types::{NoMemory, Text, has_byte};
 use std::alloc::Global;
 use tree_face::is_below;
 
@@ -103,6 +103,54 @@ fn split_first<'a>(dirs: FirstDirs<'a>) -> Option<(&'a Text, FirstDirs<'a>)>
     Some((dir, FirstDirs { list: rest, ..left }))
 }
 
+// The next of the default directories, after the first `done`, and the number of those up to it.
+fn next_dir(system: SystemDirs, done: usize) -> Option<(&'static [u8], usize)>
+    ensures { MatchOption result (drop done (system_dirs_of system) ≡ []) (λ r. drop done (system_dirs_of system) ≡ r.0.now ∷ drop r.1 (system_dirs_of system)) }
+{
+    match system {
+        SystemDirs::Loader => next_builtin_dir(&Scope::Image, done),
+        SystemDirs::Debian => next_builtin_dir(&Scope::Root { conf: None }, done),
+    }
+}
+
+// The default directories that are left.
+#[derive(Clone, Copy)]
+struct DefaultDirs {
+    system: SystemDirs,
+    // How many of them are done.
+    done: usize,
+}
+
+impl DefaultDirs {
+    // None.
+    fn none() -> DefaultDirs
+        ensures { defaults_left result ≡ [] }
+    {
+        DefaultDirs {
+            system: SystemDirs::Loader,
+            done: SYSTEM_DIRS,
+        }
+    }
+
+    // Those of an object.
+    fn of(system: SystemDirs, nodeflib: bool) -> DefaultDirs
+        ensures { defaults_left result ≡ (if nodeflib then [] else system_dirs_of system) }
+    {
+        if nodeflib {
+            return DefaultDirs::none();
+        }
+        DefaultDirs { system, done: 0 }
+    }
+
+    // The next one, and those behind it.
+    fn split_first(self) -> Option<(&'static [u8], DefaultDirs)>
+        ensures { MatchOption result (defaults_left self ≡ []) (λ r. defaults_left self ≡ r.0.now ∷ defaults_left r.1) }
+    {
+        let (dir, done) = next_dir(self.system, self.done)?;
+        Some((dir, DefaultDirs { done, ..self }))
+    }
+}
+
 // A directory, and the hwcaps names whose subdirectories are left.
 #[derive(Clone, Copy)]
 struct At<'a> {
@@ -123,7 +171,7 @@ fn next_at<'a>(alloc: Global, name: &[u8], at: At<'a>) -> Result<(Text, Option<A
     }
 }
 
-// Whether a path is in one of the default directories or below it.
+// Whether a path is in one of the default directories or below it. Debian's are below those of the loader.
 fn is_default(path: &[u8]) -> bool
     ensures { result ≡ is_default path.now }
 {
@@ -167,8 +215,7 @@ pub struct Candidates<'a> {
     at: Option<At<'a>>,
     first: FirstDirs<'a>,
     cached: Option<&'a [u8]>,
-    // How many of the default directories are done.
-    defaults: usize,
+    defaults: DefaultDirs,
 }
 
 impl<'a> Candidates<'a> {
@@ -185,7 +232,7 @@ impl<'a> Candidates<'a> {
             at: None,
             first: FirstDirs::none(loaders),
             cached: None,
-            defaults: SYSTEM_DIRS,
+            defaults: DefaultDirs::none(),
         }
     }
 
@@ -201,7 +248,7 @@ impl<'a> Candidates<'a> {
             at: None,
             first: FirstDirs::none(loaders),
             cached: None,
-            defaults: SYSTEM_DIRS,
+            defaults: DefaultDirs::none(),
         }
     }
 
@@ -210,23 +257,23 @@ impl<'a> Candidates<'a> {
         loaders: &'a Loaders,
         number: usize,
         name: &'a [u8],
-        caps: &'a Texts,
+        env: &'a Env,
         cached: Option<&'a [u8]>,
     ) -> Candidates<'a>
         requires { number < length loaders.now }
-        ensures left { paths_left result ≡ paths_by name.entry.now caps.entry.now (reach_at loaders.entry.now number) (option_copied cached.entry) }
+        ensures left { paths_left result ≡ paths_by name.entry.now env.entry.now (reach_at loaders.entry.now number) (option_copied cached.entry) }
         ensures inside { IsInside result.first }
     {
         let nodeflib = loaders.link(number).dirs.nodeflib;
         Candidates {
             name,
-            caps: caps.as_slice(),
+            caps: env.caps.as_slice(),
             listed: &[],
             whole: None,
             at: None,
             first: FirstDirs::of(loaders, number),
             cached: tried(cached, nodeflib),
-            defaults: if nodeflib { SYSTEM_DIRS } else { 0 },
+            defaults: DefaultDirs::of(env.system, nodeflib),
         }
     }
 
@@ -236,18 +283,18 @@ impl<'a> Candidates<'a> {
         loaders: &'a Loaders,
         number: usize,
         name: &'a [u8],
-        caps: &'a Texts,
+        env: &'a Env,
         cached: Option<&'a [u8]>,
     ) -> Result<Candidates<'a>, NoMemory>
         requires { number < length loaders.now }
-        ensures left { IfOk result (λ c. paths_left c ≡ all_paths name.entry.now caps.entry.now (reach_at loaders.entry.now number) (option_copied cached.entry)) }
+        ensures left { IfOk result (λ c. paths_left c ≡ all_paths name.entry.now env.entry.now (reach_at loaders.entry.now number) (option_copied cached.entry)) }
         ensures inside { IfOk result (λ c. IsInside c.first) }
     {
         if has_byte(b'/', name) {
             let path = from_root(alloc, name)?;
             return Ok(Candidates::of_whole(loaders, name, path));
         }
-        Ok(Candidates::of_name(loaders, number, name, caps, cached))
+        Ok(Candidates::of_name(loaders, number, name, env, cached))
     }
 
     // The next path in a directory.
@@ -288,8 +335,8 @@ impl<'a> Candidates<'a> {
             self.cached = None;
             return Ok(Some(Text::copy_of(alloc, path)?));
         }
-        if let Some((dir, done)) = next_system_dir(self.defaults) {
-            self.defaults = done;
+        if let Some((dir, rest)) = self.defaults.split_first() {
+            self.defaults = rest;
             let at = At {
                 dir,
                 caps: self.caps,

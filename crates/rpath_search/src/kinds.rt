@@ -1,6 +1,20 @@
 //! What a search is made for, and what it finds.
+ghost use Rattle.std.specs.Prelude.{◌≡◌, IfOk};
+ghost use Rattle.rpath_search.specs.Places.{env_for};
+
 use elf_dynamic::kinds::Object;
-use lib_types::{Abi, Seq, Text, Texts};
+use lib_types::{Abi, NoMemory, Seq, Text, Texts};
+use std::alloc::Global;
+use string_pool::distinct;
+
+/// Which directories are searched by default, after the cache.
+#[derive(Clone, Copy, Debug, PartialEq, Eq)]
+pub enum SystemDirs {
+    /// Those that the loader searches by itself.
+    Loader,
+    /// Also Debian's of each ABI.
+    Debian,
+}
 
 /// What the loader is given beside the files.
 #[derive(Drop)]
@@ -15,6 +29,23 @@ pub struct Env {
     pub platform: Text,
     /// Secure execution, as of a set-user-ID program: without the library path, and without items that have `$ORIGIN`.
     pub secure: bool,
+    pub system: SystemDirs,
+}
+
+impl Env {
+    /// The same for programs of this ABI, with each hwcaps name once: of a repeated one the first counts.
+    pub fn for_abi(&self, alloc: Global, abi: Abi) -> Result<Env, NoMemory>
+        ensures { IfOk result (λ env. env ≡ env_for self.now abi) }
+    {
+        Ok(Env {
+            abi,
+            caps: distinct(alloc, &self.caps)?,
+            library_path: Text::copy_of(alloc, self.library_path.as_bytes())?,
+            platform: Text::copy_of(alloc, self.platform.as_bytes())?,
+            secure: self.secure,
+            system: self.system,
+        })
+    }
 }
 
 /// What an object says of the search for the libraries that it needs.

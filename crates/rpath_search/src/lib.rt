@@ -12,7 +12,7 @@ mod search;
 
 pub use candidates::Candidates;
 pub use fault::SearchFault;
-pub use kinds::{Chain, Env, Found, Owner};
+pub use kinds::{Chain, Env, Found, Owner, SystemDirs};
 pub use listing::places;
 pub use loaders::Loaders;
 pub use paths::{folder_of, from_root};

@@ -11,7 +11,6 @@ use crate::loaders::Loaders;
 use crate::paths::from_root;
 use lib_types::{NoMemory, Texts, has_byte};
 use std::alloc::Global;
-use string_pool::distinct;
 
 // The objects of a chain, the program first.
 fn loaders_of(alloc: Global, env: &Env, owners: &[Owner]) -> Result<Loaders, NoMemory>
@@ -65,7 +64,7 @@ pub fn places(
     }
     let loaders = loaders_of(alloc, env, chain.as_slice())?;
     let last = loaders.len() - 1;
-    let caps = distinct(alloc, &env.caps)?;
-    let candidates = Candidates::new(alloc, &loaders, last, name, &caps, cached)?;
+    let once = env.for_abi(alloc, env.abi)?;
+    let candidates = Candidates::new(alloc, &loaders, last, name, &once, cached)?;
     collected(alloc, candidates)
 }

@@ -42,7 +42,7 @@ fn is_found(
     tree: &Tree,
     said: &mut Said,
 ) -> Result<bool, SampleFault> {
-    let paths = list(alloc, b'\n', &text(alloc, row, b"paths")?)?;
+    let paths = list(alloc, b'\n', &text(alloc, row, b"to-try")?)?;
     let mut store = store_of(alloc, row)?;
     let search = find(alloc, tree, &mut store, &paths, Abi::X86_64);
     let keys = lines_in(alloc, store.keys())?;
@@ -53,7 +53,7 @@ const WORDS: &[Words] = &[
     MANIFEST,
     FILES,
     STORE_FAILS,
-    &[b"paths", b"found", b"fault", b"keys"],
+    &[b"to-try", b"found", b"fault", b"keys"],
 ];
 
 impl Trial for Finds {

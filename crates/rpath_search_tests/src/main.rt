@@ -11,7 +11,7 @@ use std::process::ExitCode;
 use table_rows::{status, try_tables};
 
 fn main(rt: HostRuntime) -> io::Result<ExitCode> {
-    let places = try_tables::<Places>(&rt, &["places"])?;
+    let places = try_tables::<Places>(&rt, &["places", "roots"])?;
     let finds = try_tables::<Finds>(&rt, &["finds"])?;
     Ok(status(places && finds))
 }

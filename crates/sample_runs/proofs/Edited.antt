@@ -1,5 +1,6 @@
 -- Both images of a sample are edited, so that both updates write all three slots.
 use Rattle.std.proofs.Common.{◌≡◌, ◌<◌, ◌++◌, ◌/◌, ◌%◌, ℕ, zero, suc, Bool, true, false, List, [], ◌∷◌, fold, Some, refl, ap, ◌∙◌, if◌then◌else◌, arith}
+use Rattle.hwcap_dirs.specs.declared.kinds.Scope.TheVariants.{Image}
 use Rattle.ldconfig_core.specs.Outcome.{manifest_with, new_manifest}
 use Rattle.ldconfig_core.specs.Texts.{AreTextsOf, UpdateTexts, of_manifest, update_slots, writes_of}
 use Rattle.image_session.specs.Session.{Loaded}
@@ -52,8 +53,8 @@ replaced_edited (suc n) image some = stays_replaced (files_from (next (next (suc
 
 -- ---- the slots
 
-pub writes_all : (held : Contents) (s : Loaded) (texts : UpdateTexts) → AreTextsOf held s texts → s.edited ≡ true → slots_of (writes_of texts) ≡ update_slots
+pub writes_all : (held : Contents) (s : Loaded) (texts : UpdateTexts) → AreTextsOf Image held s texts → s.edited ≡ true → slots_of (writes_of texts) ≡ update_slots
 unfolding new_manifest
 writes_all held s texts are edited =
-    let written : texts.manifest ≡ Some (canon (planned_in held s.tree s.stamps)) = are.manifest_is ∙ ap (λ b. manifest_with b (planned_in held s.tree s.stamps) (links_in held s.tree s.stamps)) edited in
+    let written : texts.manifest ≡ Some (canon (planned_in Image held s.tree s.stamps)) = are.manifest_is ∙ ap (λ b. manifest_with Image b (planned_in Image held s.tree s.stamps) (links_in Image held s.tree s.stamps)) edited in
     ap (λ m. slots_of (of_manifest m ++ (Cache, texts.cache) ∷ (Aux, texts.aux) ∷ [])) written

@@ -7,6 +7,7 @@ use Rattle.std.specs.Fmt.{decimal}
 use Rattle.std.specs.Map.{values_of}
 use Rattle.std.specs.Option.{is_some, option_and_then}
 use Rattle.std.specs.Prelude.{IfSome, ⊤}
+use Rattle.hwcap_dirs.specs.declared.kinds.Scope.TheVariants.{Image}
 use Rattle.aux_cache.specs.declared.stamps.Stamp.{Stamp}
 use Rattle.elf_dynamic.specs.Begun.{key_in}
 use Rattle.image_tree.specs.Paths.{path_cmp}
@@ -60,9 +61,9 @@ module _ (n : ℕ) where
   own_steps step keeps (a ∷ more) t own = own_steps step keeps more (step t a) (keeps t a own)
 
   -- planned links have no identities
-  own_planned : (held : Contents) (t : Nodes) (loaded : List Stamp) → HaveOwnKeys n t → HaveOwnKeys n (planned_in held t loaded)
+  own_planned : (held : Contents) (t : Nodes) (loaded : List Stamp) → HaveOwnKeys n t → HaveOwnKeys n (planned_in Image held t loaded)
   unfolding planned_in
-  own_planned held t loaded own = own_steps _ (λ u planned kept. own_put u planned.path (Link planned.file) kept tt) (links_in held t loaded) t own
+  own_planned held t loaded own = own_steps _ (λ u planned kept. own_put u planned.path (Link planned.file) kept tt) (links_in Image held t loaded) t own
 
   -- the content of a file with an identity is that of the identity's key
   content_is : (held : Contents) (t : Nodes) (path : List ℕ) (id : Id) → HaveOwnKeys n t → id_at t path ≡ Some id → content_of held t path ≡ held (key_of n id)
@@ -145,7 +146,7 @@ module _ (n : ℕ) where
 
   second_own : (held : Contents) → HaveOwnKeys n (second_image held n).tree
   unfolding second_image
-  second_own held = all_own_replaced (sample_files n) (planned_image held (first_image n)) (all_are n) (own_planned n held (first_image n).tree (first_image n).stamps first_own)
+  second_own held = all_own_replaced (sample_files n) (planned_image Image held (first_image n)) (all_are n) (own_planned n held (first_image n).tree (first_image n).stamps first_own)
 
 -- ---- stamps
 
@@ -164,9 +165,9 @@ first_stamps n = by (sample_files n) empty_image refl
     by [] image none = none
     by (file ∷ files) image none = by files (with_files n image file) (one image file ∙ none)
 
-second_stamps : (held : Contents) (n : ℕ) → (second_image held n).stamps ≡ stamps_in held (first_image n).tree (first_image n).stamps
+second_stamps : (held : Contents) (n : ℕ) → (second_image held n).stamps ≡ stamps_in Image held (first_image n).tree (first_image n).stamps
 unfolding second_image
-second_stamps held n = by (sample_files n) (planned_image held (first_image n))
+second_stamps held n = by (sample_files n) (planned_image Image held (first_image n))
   where
     one : (image : Loaded) (file : SampleFile) → (with_replaced image file).stamps ≡ image.stamps
     one image file = at (is_replaced file)
@@ -187,15 +188,15 @@ first_true held n = subst (λ stamps. AreTrue held (first_image n).tree stamps) 
 first_same : (held : Contents) (n : ℕ) → AreSame held (first_image n).tree (first_image n).tree
 first_same held n = are_same n held (first_image n).tree (first_image n).tree (first_own n) (first_own n)
 
-pub first_right : (held : Contents) (n : ℕ) → IsSaidRight held (first_image n).tree (first_image n).stamps
-first_right held n = said_law held (first_image n).tree (first_same held n) (first_image n).stamps (first_true held n)
+pub first_right : (held : Contents) (n : ℕ) → IsSaidRight Image held (first_image n).tree (first_image n).stamps
+first_right held n = said_law Image held (first_image n).tree (first_same held n) (first_image n).stamps (first_true held n)
 
 -- the stamps that the update makes of the first image are true of the second one
-pub second_right : (held : Contents) (n : ℕ) → IsSaidRight held (second_image held n).tree (second_image held n).stamps
+pub second_right : (held : Contents) (n : ℕ) → IsSaidRight Image held (second_image held n).tree (second_image held n).stamps
 second_right held n =
     let first = first_image n in
     let second = second_image held n in
     let over = are_same n held first.tree second.tree (first_own n) (second_own n held) in
     let are : AreTrue held second.tree second.stamps =
-    subst (λ stamps. AreTrue held second.tree stamps) (sym (second_stamps held n)) (stamps_true held first.tree (first_same held n) first.stamps (first_true held n) second.tree over) in
-    said_law held second.tree (are_same n held second.tree second.tree (second_own n held) (second_own n held)) second.stamps are
+    subst (λ stamps. AreTrue held second.tree stamps) (sym (second_stamps held n)) (stamps_true Image held first.tree (first_same held n) first.stamps (first_true held n) second.tree over) in
+    said_law Image held second.tree (are_same n held second.tree second.tree (second_own n held) (second_own n held)) second.stamps are

@@ -1,5 +1,6 @@
 -- Both updates of a sample, one after the other.
 use Rattle.std.proofs.Common.{◌≡◌, ℕ, true, [], ◌∷◌, Option, Some, None, sym, ap, subst, ◌∙◌, inl, inr}
+use Rattle.hwcap_dirs.specs.declared.kinds.Scope.TheVariants.{Image}
 use Rattle.ldconfig_core.specs.Repair.{slots_after}
 use Rattle.ldconfig_core.specs.Settled.{planned_image}
 use Rattle.ldconfig_core.specs.Texts.{UpdateTexts, writes_of}
@@ -22,7 +23,7 @@ use Rattle.sample_runs.specs.declared.updates.SampleUpdate.{SampleUpdate}
 use Rattle.sample_runs.specs.Images.{all_replaced, first_image, second_image}
 use Rattle.sample_runs.specs.Updates.{AreUpdatesOf, AreWritten, Goes, IsUpdateOf, Lacks, LacksFile, ReadsTwice, SampleFails, UpdateFails, UpdatesTo, UpdatesTwice, UsesPart, UsesSample, keys_of, sample_keys, sample_tag}
 
-second_is : (held : Contents) (n : ℕ) (updated : Loaded) → updated ≡ planned_image held (first_image n) → all_replaced n updated ≡ second_image held n
+second_is : (held : Contents) (n : ℕ) (updated : Loaded) → updated ≡ planned_image Image held (first_image n) → all_replaced n updated ≡ second_image held n
 unfolding second_image
 second_is held n updated planned = ap (all_replaced n) planned
 
@@ -115,7 +116,7 @@ lacks_second : (n : ℕ) (updated : Loaded) (first : SampleUpdate) (texts : Upda
     → IfKnown known (λ held. IsUpdateOf held (first_image n) texts (updated, first)) → Lacks known (all_replaced n updated) → LacksFile n known
 lacks_second n updated first texts None is lacks = absurd lacks
 lacks_second n updated first texts (Some held) is lacks =
-    inr (subst (λ (s : Loaded). lacks_some held s.tree ≡ true) (second_is held n updated is.image_is) lacks)
+    inr (subst (λ (s : Loaded). lacks_some Image held s.tree ≡ true) (second_is held n updated is.image_is) lacks)
 
 module _ (n : ℕ) (store after_store : StoreState) (disk after_disk : DiskState) where
   first_fails : (fault : SampleFault) → UpdateFails (first_image n) fault store after_store disk after_disk → SampleFails n fault store after_store disk after_disk
@@ -198,7 +199,7 @@ module _ (n : ℕ) (updating updated again : Loaded) (first : SampleUpdate) (sto
       → IfKnown known (λ held. Relates (IsFollowedByPart (sample_keys held n)) store.keys after_store.keys)
   begins_second None update keys part = tt
   begins_second (Some held) update keys part =
-      let planned : updated ≡ planned_image held (first_image n) = update.image_is ∙ ap (planned_image held) first_is in
+      let planned : updated ≡ planned_image Image held (first_image n) = update.image_is ∙ ap (planned_image Image held) first_is in
       let same : again ≡ second_image held n = again_is ∙ second_is held n updated planned in
       let one_keys = subst (λ (s : Loaded). Relates (IsFollowedBy (keys_of held s)) store.keys middle_store.keys) first_is keys in
       let other_keys = subst (λ (s : Loaded). Relates (IsFollowedByPart (keys_of held s)) middle_store.keys after_store.keys) same part in

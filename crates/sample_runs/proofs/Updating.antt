@@ -1,6 +1,7 @@
 -- One update of a sample, and both one after the other.
 use Rattle.std.proofs.Common.{◌≡◌, ◌≤◌, ℕ, true, refl, List, [], ◌∷◌, Option, Some, None, Result, Ok, Err, sym, ap, subst, ◌∙◌, arith}
 use Rattle.std.proofs.lemmas.List.{append-nil}
+use Rattle.hwcap_dirs.specs.declared.kinds.Scope.TheVariants.{Image}
 use Rattle.ldconfig_core.proofs.WrittenSlots.{slots_are, written_slots}
 use Rattle.ldconfig_core.specs.declared.fault.UpdateFault.{UpdateFault}
 use Rattle.ldconfig_core.specs.declared.fault.UpdateFault.TheVariants as faults
@@ -65,7 +66,7 @@ cache_is texts cache (Some a) (Some b) leaves is =
     let same : Some cache ≡ Some texts.cache = sym is ∙ ap (λ s. s.cache) (leaves ∙ written_slots texts a.now) in cc
 
 module _ (s : Loaded) (store after_store : StoreState) (disk middle after_disk : DiskState) where
-  module _ (updated : Loaded) (report : Report) (u : Updates sample_tag s (Ok (updated, report)) store after_store disk middle) (keeps : KeepsAll middle after_disk)
+  module _ (updated : Loaded) (report : Report) (u : Updates Image sample_tag s (Ok (updated, report)) store after_store disk middle) (keeps : KeepsAll middle after_disk)
       (cache : List ℕ) (read : IfKnown middle.contents (λ known. known.now.cache ≡ Some cache)) (no_fault : after_disk.faults ≡ middle.faults)
       (reads : Relates (IsFollowedBy (Cache ∷ [])) middle.reads after_disk.reads) where
     abbrev numbers : SampleUpdate
@@ -77,7 +78,7 @@ module _ (s : Loaded) (store after_store : StoreState) (disk middle after_disk :
     leaves : Relates (Leaves texts) disk.contents middle.contents
     leaves = relates_by _ _ (slots_are 0 (writes_of texts)) _ _ u.written.written.contents
 
-    by_held : (known : Option Contents) → IfKnown known (λ held. AreTextsOf held s texts) → IfKnown known (λ held. IsUpdated held s (updated, report))
+    by_held : (known : Option Contents) → IfKnown known (λ held. AreTextsOf Image held s texts) → IfKnown known (λ held. IsUpdated Image held s (updated, report))
         → IfKnown known (λ held. IsUpdateOf held s texts (updated, numbers))
     by_held None are is = tt
     by_held (Some held) are is = record {
@@ -90,7 +91,7 @@ module _ (s : Loaded) (store after_store : StoreState) (disk middle after_disk :
     begins None is = tt
     begins (Some held) is =
         let reads = subst (λ (known : Option Contents). IfKnown known
-        (λ held. ReadsFiles (lacks_file held s.tree s.stamps ≡ true) (Some (keys_of held s)) (Some (update_bytes held s.tree s.stamps)) Complete store after_store)) is u.reads.keys in
+        (λ held. ReadsFiles (lacks_file Image held s.tree s.stamps ≡ true) (Some (keys_of held s)) (Some (update_bytes Image held s.tree s.stamps)) Complete store after_store)) is u.reads.keys in
         reads.begins
 
     -- the update is made, and then the cache is read
@@ -107,7 +108,7 @@ module _ (s : Loaded) (store after_store : StoreState) (disk middle after_disk :
     }
 
   -- the update isn't made
-  pub is_failed : (fault : UpdateFault) → Updates sample_tag s (Err fault) store after_store disk middle → UpdateFails s (of_update fault) store after_store disk middle
+  pub is_failed : (fault : UpdateFault) → Updates Image sample_tag s (Err fault) store after_store disk middle → UpdateFails s (of_update fault) store after_store disk middle
   is_failed faults.StoreFault u = u.reads.any.cause
   is_failed (faults.DiskFault fault) u = u.written.written.faults
   is_failed (faults.TooLarge nodes bytes) u = record { store_faults = u.reads.any.cause; disk_faults = ap (λ (d : DiskState). d.faults) u.written }
@@ -115,14 +116,14 @@ module _ (s : Loaded) (store after_store : StoreState) (disk middle after_disk :
   is_failed faults.NoMemory u = record { store_faults = u.reads.any.cause; disk_faults = ap (λ (d : DiskState). d.faults) u.written }
 
   -- the cache isn't read
-  pub is_unread : (updated : Loaded × Report) → Updates sample_tag s (Ok updated) store after_store disk middle → (fault : SampleFault) → ReadFails fault middle after_disk
+  pub is_unread : (updated : Loaded × Report) → Updates Image sample_tag s (Ok updated) store after_store disk middle → (fault : SampleFault) → ReadFails fault middle after_disk
       → UpdateFails s fault store after_store disk after_disk
   is_unread updated u StoreFault failed = absurd failed
   is_unread updated u DiskFault failed = risen_since disk.faults middle.faults after_disk.faults u.disk_faults failed
   is_unread updated u NoMemory same = record { store_faults = u.reads.any.cause; disk_faults = same ∙ u.written.written.faults }
 
   -- the store holds what it held, and no count falls
-  pub goes_on : (result : Result (Loaded × Report) UpdateFault) → Updates sample_tag s result store after_store disk middle → middle.faults ≤ after_disk.faults → Goes store after_store disk after_disk
+  pub goes_on : (result : Result (Loaded × Report) UpdateFault) → Updates Image sample_tag s result store after_store disk middle → middle.faults ≤ after_disk.faults → Goes store after_store disk after_disk
   goes_on result u read = record { held = u.reads.any.held; store_faults = u.reads.any.faults; disk_faults = omega (arith, u.disk_faults, read) }
 
   -- ---- what is read, if it isn't made or the cache isn't read
@@ -135,25 +136,25 @@ module _ (s : Loaded) (store after_store : StoreState) (disk middle after_disk :
   stops_by GaveUp (Some held) begins = begins
 
   begins_by : (e : Ending) (known : Option Contents) → IfKnown known (λ held.
-      ReadsFiles (lacks_file held s.tree s.stamps ≡ true) (Some (keys_of held s)) (Some (update_bytes held s.tree s.stamps)) e store after_store)
+      ReadsFiles (lacks_file Image held s.tree s.stamps ≡ true) (Some (keys_of held s)) (Some (update_bytes Image held s.tree s.stamps)) e store after_store)
       → IfKnown known (λ held. Relates (BeginsKeys e (keys_of held s)) store.keys after_store.keys)
   begins_by e None reads = tt
   begins_by e (Some held) reads = reads.begins
 
-  no_reads : (fault : UpdateFault) → Updates sample_tag s (Err fault) store after_store disk middle → middle.reads ≡ disk.reads
+  no_reads : (fault : UpdateFault) → Updates Image sample_tag s (Err fault) store after_store disk middle → middle.reads ≡ disk.reads
   no_reads faults.StoreFault u = ap (λ (d : DiskState). d.reads) u.written
   no_reads (faults.DiskFault fault) u = u.written.written.reads
   no_reads (faults.TooLarge nodes bytes) u = ap (λ (d : DiskState). d.reads) u.written
   no_reads (faults.TooMany count) u = ap (λ (d : DiskState). d.reads) u.written
   no_reads faults.NoMemory u = ap (λ (d : DiskState). d.reads) u.written
 
-  pub stops : (fault : UpdateFault) → Updates sample_tag s (Err fault) store after_store disk middle → UsesPart (λ held. keys_of held s) (Cache ∷ []) store after_store disk middle
+  pub stops : (fault : UpdateFault) → Updates Image sample_tag s (Err fault) store after_store disk middle → UsesPart (λ held. keys_of held s) (Cache ∷ []) store after_store disk middle
   stops fault u = record {
     begins = stops_by (update_ending {A = Loaded × Report} (Err fault)) store.held (begins_by (update_ending {A = Loaded × Report} (Err fault)) store.held u.reads.keys);
     reads = none_follow (Cache ∷ []) disk.reads middle.reads (no_reads fault u);
   }
 
-  pub stops_reading : (updated : Loaded × Report) → Updates sample_tag s (Ok updated) store after_store disk middle → Relates (IsFollowedByPart (Cache ∷ [])) middle.reads after_disk.reads
+  pub stops_reading : (updated : Loaded × Report) → Updates Image sample_tag s (Ok updated) store after_store disk middle → Relates (IsFollowedByPart (Cache ∷ [])) middle.reads after_disk.reads
       → UsesPart (λ held. keys_of held s) (Cache ∷ []) store after_store disk after_disk
   stops_reading updated u part = record {
     begins = stops_by Complete store.held (begins_by Complete store.held u.reads.keys);

@@ -1,5 +1,6 @@
 -- The two images of a sample of which updates are made.
 use Rattle.std.specs.Prelude.{ℕ, ◌+◌, [], fold, length, Some, None, if◌then◌else◌}
+use Rattle.hwcap_dirs.specs.declared.kinds.Scope.TheVariants.{Image}
 use Rattle.image_tree.specs.declared.node.Id.{Id}
 use Rattle.image_tree.specs.declared.node.Node.{Node}
 use Rattle.image_tree.specs.declared.node.Node.TheVariants.{File}
@@ -54,4 +55,4 @@ all_replaced n image = fold with_replaced image (sample_files n)
 
 -- the image that the first update leaves, in which libraries are replaced
 unfoldable pub second_image : Contents → ℕ → Loaded
-second_image held n = all_replaced n (planned_image held (first_image n))
+second_image held n = all_replaced n (planned_image Image held (first_image n))

@@ -1,5 +1,6 @@
 -- The command `sample`: two updates of images of generated libraries, and its text.
 use Rattle.std.specs.Prelude.{◌≡◌, ◌⊎◌, ◌<◌, ℕ, List, Result, Ok, Err}
+use Rattle.hwcap_dirs.specs.declared.kinds.Scope.TheVariants.{Image}
 use Rattle.command_status.specs.declared.status.Status.{Status}
 use Rattle.command_status.specs.declared.status.Status.TheVariants.{Done, OutputFault}
 use Rattle.ldconfig_core.specs.Texts.{AreTextsOf, UpdateTexts, update_slots, writes_of}
@@ -19,11 +20,11 @@ use Rattle.sample_runs.specs.Updates.{AreWritten, ReadsTwice, SampleFails, UsesS
 
 -- the texts are those of the two updates, each of which writes all three slots if there are libraries, and the text of the sample has their numbers
 pub record IsTextOf (held : Contents) (n : ℕ) (text : List ℕ) (first second : UpdateTexts) : Type 0 where
-  pub first_are : AreTextsOf held (first_image n) first
-  pub second_are : AreTextsOf held (second_image held n) second
+  pub first_are : AreTextsOf Image held (first_image n) first
+  pub second_are : AreTextsOf Image held (second_image held n) second
   -- each file is said to be what it is, so that updates without stamps give the same
-  pub first_right : IsSaidRight held (first_image n).tree (first_image n).stamps
-  pub second_right : IsSaidRight held (second_image held n).tree (second_image held n).stamps
+  pub first_right : IsSaidRight Image held (first_image n).tree (first_image n).stamps
+  pub second_right : IsSaidRight Image held (second_image held n).tree (second_image held n).stamps
   pub first_all : 0 < n → slots_of (writes_of first) ≡ update_slots
   pub second_all : 0 < n → slots_of (writes_of second) ≡ update_slots
   pub text_is : text ≡ sample_text held n first.cache second.cache

@@ -2,6 +2,7 @@
 use Rattle.std.specs.Prelude.{ℕ, Bool, false, ◌==◌, List, [], ◌∷◌, ◌++◌, codes, decimal, length, Some}
 use Rattle.std.specs.List.{count_by}
 use Rattle.std.specs.Option.{is_none, is_some, option_map_or}
+use Rattle.hwcap_dirs.specs.declared.kinds.Scope.TheVariants.{Image}
 use Rattle.cache_lookup.specs.Scan.{scan}
 use Rattle.cache_reader.specs.Cache.{CachedEntry, read}
 use Rattle.lib_types.specs.declared.abi.Abi.TheVariants.{X86_64}
@@ -37,7 +38,7 @@ update_line number libs links opened bytes = libs_text number libs ++ links_text
 -- the line of the update of this image, which writes this cache
 abbrev pub line_of : Contents → ℕ → Loaded → List ℕ → List ℕ
 line_of held number s cache =
-    update_line number (length (entries_in held s.tree s.stamps)) (length (links_in held s.tree s.stamps)) (opened_in held s.tree s.stamps) (length cache)
+    update_line number (length (entries_in Image held s.tree s.stamps)) (length (links_in Image held s.tree s.stamps)) (opened_in Image held s.tree s.stamps) (length cache)
 
 -- ---- look-ups
 

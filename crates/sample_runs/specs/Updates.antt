@@ -1,5 +1,6 @@
 -- The updates of a sample, step by step.
 use Rattle.std.specs.Prelude.{◌≡◌, ◌⊎◌, ◌≤◌, ◌<◌, ℕ, true, List, [], ◌∷◌, length, Option, IsSomeAnd, ◌++◌}
+use Rattle.hwcap_dirs.specs.declared.kinds.Scope.TheVariants.{Image}
 use Rattle.ldconfig_core.specs.Repair.{slots_after}
 use Rattle.ldconfig_core.specs.Settled.{planned_image}
 use Rattle.ldconfig_core.specs.Texts.{AreTextsOf, UpdateTexts, update_slots, writes_of}
@@ -39,19 +40,19 @@ pub record NoneRise (store after_store : StoreState) (disk after_disk : DiskStat
 
 -- the numbers are those of the update of this image
 pub record AreNumbers (held : Contents) (s : Loaded) (numbers : SampleUpdate) : Type 0 where
-  pub libs : numbers.libs ≡ length (entries_in held s.tree s.stamps)
-  pub links : numbers.links ≡ length (links_in held s.tree s.stamps)
-  pub opened : numbers.opened ≡ opened_in held s.tree s.stamps
+  pub libs : numbers.libs ≡ length (entries_in Image held s.tree s.stamps)
+  pub links : numbers.links ≡ length (links_in Image held s.tree s.stamps)
+  pub opened : numbers.opened ≡ opened_in Image held s.tree s.stamps
 
 -- the texts, the numbers and the updated image are those of the update of this image
 pub record IsUpdateOf (held : Contents) (s : Loaded) (texts : UpdateTexts) (updated : Loaded × SampleUpdate) : Type 0 where
-  pub texts_are : AreTextsOf held s texts
-  pub image_is : updated.0 ≡ planned_image held s
+  pub texts_are : AreTextsOf Image held s texts
+  pub image_is : updated.0 ≡ planned_image Image held s
   pub numbers : AreNumbers held s updated.1
 
 -- the keys of the update of this image
 abbrev pub keys_of : Contents → Loaded → List (List ℕ)
-keys_of held s = update_keys held s.tree s.stamps
+keys_of held s = update_keys Image held s.tree s.stamps
 
 -- the writes of the texts are made, and the cache is then read; no other slot is, and no other key is begun
 pub record UpdatesTo (s : Loaded) (updated : Loaded × SampleUpdate) (store after_store : StoreState) (disk after_disk : DiskState) : Type 0 where
@@ -66,7 +67,7 @@ pub record UpdatesTo (s : Loaded) (updated : Loaded × SampleUpdate) (store afte
 
 -- a file of the image isn't held
 abbrev pub Lacks : Option Contents → Loaded → Type 0
-Lacks known s = IsSomeAnd known (λ held. lacks_some held s.tree ≡ true)
+Lacks known s = IsSomeAnd known (λ held. lacks_some Image held s.tree ≡ true)
 
 -- the count of the device rose, or the store doesn't hold a file of the image; memory is out only if no count rose
 abbrev pub UpdateFails : Loaded → SampleFault → StoreState → StoreState → DiskState → DiskState → Type 0
@@ -95,14 +96,14 @@ pub record AreWritten (first second : UpdateTexts) (old new : DiskState) : Type 
 -- The texts and the numbers are those of the updates of both images, each of which writes all three slots if there are libraries. Each file is said to be
 -- what it is, so that updates without stamps give the same.
 pub record AreUpdatesOf (held : Contents) (n : ℕ) (first second : UpdateTexts) (numbers : SampleUpdate × SampleUpdate) : Type 0 where
-  pub first_are : AreTextsOf held (first_image n) first
-  pub second_are : AreTextsOf held (second_image held n) second
+  pub first_are : AreTextsOf Image held (first_image n) first
+  pub second_are : AreTextsOf Image held (second_image held n) second
   pub first_all : 0 < n → slots_of (writes_of first) ≡ update_slots
   pub second_all : 0 < n → slots_of (writes_of second) ≡ update_slots
   pub first_numbers : AreNumbers held (first_image n) numbers.0
   pub second_numbers : AreNumbers held (second_image held n) numbers.1
-  pub first_right : IsSaidRight held (first_image n).tree (first_image n).stamps
-  pub second_right : IsSaidRight held (second_image held n).tree (second_image held n).stamps
+  pub first_right : IsSaidRight Image held (first_image n).tree (first_image n).stamps
+  pub second_right : IsSaidRight Image held (second_image held n).tree (second_image held n).stamps
 
 -- the keys of both updates, one after the other
 abbrev pub sample_keys : Contents → ℕ → List (List ℕ)
@@ -125,7 +126,7 @@ pub record UpdatesTwice (n : ℕ) (numbers : SampleUpdate × SampleUpdate) (stor
 
 -- a file of one of the two images isn't held
 abbrev pub LacksFile : ℕ → Option Contents → Type 0
-LacksFile n known = IsSomeAnd known (λ held. (lacks_some held (first_image n).tree ≡ true) ⊎ (lacks_some held (second_image held n).tree ≡ true))
+LacksFile n known = IsSomeAnd known (λ held. (lacks_some Image held (first_image n).tree ≡ true) ⊎ (lacks_some Image held (second_image held n).tree ≡ true))
 
 -- what is read then of the keys of both updates, and of the cache after each
 abbrev pub UsesSample : ℕ → StoreState → StoreState → DiskState → DiskState → Type 0

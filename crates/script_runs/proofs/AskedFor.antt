@@ -2,6 +2,7 @@
 use Rattle.std.proofs.Common.{◌+◌, ℕ, List, [], ◌∷◌, All, Result, Ok, Err}
 use Rattle.std.specs.List.{Contains}
 use Rattle.std.proofs.lemmas.List.Elements.{All-cons, All-contains_itself, All-head, All-nil, All-weaker, Contains-append_right}
+use Rattle.hwcap_dirs.specs.declared.kinds.Scope.TheVariants.{Image}
 use Rattle.ldconfig_core.specs.Outcome.{Lacking, Outcome, TooLarge, TooMany, Writes, update_outcome}
 use Rattle.ldconfig_core.specs.Settled.{planned_image}
 use Rattle.image_session.specs.Session.{Loaded}
@@ -30,9 +31,9 @@ AreAsked course = All (Contains course.asked) course.updates
 none_asked : (asked : List Loaded) → All (Contains asked) []
 none_asked asked = All-nil (Contains asked)
 
-update_asked : (held : Contents) (s : Loaded) (outcome : Outcome) (rest : Loaded → Course) → AreAsked (rest (planned_image held s)) → AreAsked (course_of_update held s outcome rest)
+update_asked : (held : Contents) (s : Loaded) (outcome : Outcome) (rest : Loaded → Course) → AreAsked (rest (planned_image Image held s)) → AreAsked (course_of_update held s outcome rest)
 update_asked held s Writes rest are =
-    let next = rest (planned_image held s) in
+    let next = rest (planned_image Image held s) in
     All-cons (Contains (s ∷ next.asked)) s next.updates (contains_first s next.asked)
     (All-weaker (Contains next.asked) (Contains (s ∷ next.asked)) (λ u there. contains_later s next.asked u there) next.updates are)
 update_asked held s Lacking rest are = none_asked (s ∷ [])
@@ -45,7 +46,7 @@ edit_asked number (Err fault) rest are = none_asked []
 
 line_asked : (held : Contents) (number : ℕ) (asked : Result ScriptLine LineKind) (s : Loaded) (rest : Loaded → Course) → ((image : Loaded) → AreAsked (rest image))
     → AreAsked (course_by held number asked s rest)
-line_asked held number (Ok asking.Update) s rest are = update_asked held s (update_outcome held s) rest (are (planned_image held s))
+line_asked held number (Ok asking.Update) s rest are = update_asked held s (update_outcome Image held s) rest (are (planned_image Image held s))
 line_asked held number (Ok asking.Ignored) s rest are = edit_asked number (after_line (Ok asking.Ignored) s) rest are
 line_asked held number (Ok (asking.Put entry)) s rest are = edit_asked number (after_line (Ok (asking.Put entry)) s) rest are
 line_asked held number (Ok (asking.Drop path)) s rest are = edit_asked number (after_line (Ok (asking.Drop path)) s) rest are

@@ -1,6 +1,7 @@
 -- What a crash of a script leaves.
 use Rattle.std.proofs.Common.{◌≡◌, ◌+◌, ◌++◌, ℕ, List, [], ◌∷◌, All, drop, append-nil, flat_map, get_or, Option, Some, None, Result, Ok, Err, refl, ap, sym, subst, ◌∙◌, inl, inr, arith}
 use Rattle.std.proofs.lemmas.List.Elements.{All-cons, All-nil}
+use Rattle.hwcap_dirs.specs.declared.kinds.Scope.TheVariants.{Image}
 use Rattle.atomic_replace.specs.declared.fault.DiskFault.{DiskFault}
 use Rattle.atomic_replace.specs.Replace.{StopsAt, call_by}
 use Rattle.ldconfig_core.specs.Outcome.{Outcome, update_outcome}
@@ -188,16 +189,16 @@ none_yet to known course not_done = none_of to known course (λ held session don
 -- an update, and the updates after it
 module _ (to : Result Loaded ScriptFault) (s : Loaded) (more : Contents → Loaded → Course) (texts : UpdateTexts) (updates : List UpdateTexts) where
   abbrev IsAfter : Contents → Type 0
-  IsAfter held = AreOfFirst held to (more held (planned_image held s)).updates updates
+  IsAfter held = AreOfFirst held to (more held (planned_image Image held s)).updates updates
 
   update_of : (known : Option Contents) → IfKnown known (λ held. IsUpdateOf held s texts) → IfKnown known IsAfter
-      → AreOfCourse known to (λ held. course_of_update held s (update_outcome held s) (more held)) (texts ∷ updates)
+      → AreOfCourse known to (λ held. course_of_update held s (update_outcome Image held s) (more held)) (texts ∷ updates)
   update_of None is after = tt
   update_of (Some held) is after =
       subst (λ (outcome : Outcome). AreOfFirst held to (course_of_update held s outcome (more held)).updates (texts ∷ updates)) (sym is.made) (is, after)
 
   -- the updates of the session with the planned links
-  after_of : (session : Loaded) (known between : Option Contents) → between ≡ known → IfKnown known (λ held. session ≡ planned_image held s)
+  after_of : (session : Loaded) (known between : Option Contents) → between ≡ known → IfKnown known (λ held. session ≡ planned_image Image held s)
       → AreOfCourse between to (λ held. more held session) updates → IfKnown known IsAfter
   after_of session None between same is are = tt
   after_of session (Some held) between same is are =
@@ -210,8 +211,8 @@ last_of : (to : Result Loaded ScriptFault) (s : Loaded) (more : Contents → Loa
 last_of to s more texts None not_done = tt
 last_of to s more texts (Some held) not_done = λ session done. absurd (not_done session done)
 
-planned_of : (known : Option Contents) (s session : Loaded) (done : Loaded × Report) → session ≡ done.0 → IfKnown known (λ held. IsUpdated held s done)
-    → IfKnown known (λ held. session ≡ planned_image held s)
+planned_of : (known : Option Contents) (s session : Loaded) (done : Loaded × Report) → session ≡ done.0 → IfKnown known (λ held. IsUpdated Image held s done)
+    → IfKnown known (λ held. session ≡ planned_image Image held s)
 planned_of None s session done same is = tt
 planned_of (Some held) s session done same is = same ∙ is.planned
 
@@ -233,14 +234,14 @@ module _ (tag : Tag) where
 
     module _ (between : States) where
       abbrev OfUpdate : List UpdateTexts → Type 0
-      OfUpdate = AreOfCourse old.store.held to (λ held. course_of_update held s (update_outcome held s) (more held))
+      OfUpdate = AreOfCourse old.store.held to (λ held. course_of_update held s (update_outcome Image held s) (more held))
 
       abbrev IsRun : Result (Loaded × Report) UpdateFault → Type 0
-      IsRun result = Updates tag s result old.store between.store old.disk between.disk
+      IsRun result = Updates Image tag s result old.store between.store old.disk between.disk
 
       unwritten : IsNotDone to → NoneFailed to → between.disk ≡ old.disk → new ≡ between → HasWritten tag OfUpdate to old.disk new.disk
       unwritten not_done none_fails kept same = nothing_written tag OfUpdate to old.disk new.disk none_fails
-          (none_yet to old.store.held (λ held. course_of_update held s (update_outcome held s) (more held)) not_done)
+          (none_yet to old.store.held (λ held. course_of_update held s (update_outcome Image held s) (more held)) not_done)
           (ap (λ (d : States). d.disk) same ∙ kept)
 
       failed : (fault : UpdateFault) → IsRun (Err fault) → to ≡ Err (Updating (Update fault)) → new ≡ between → HasWritten tag OfUpdate to old.disk new.disk

@@ -3,6 +3,7 @@ use Rattle.std.proofs.Common.{◌≡◌, ◌⊎◌, ◌+◌, ◌++◌, ℕ, Bool
 use Rattle.std.proofs.lemmas.List.Elements.{All-contains, All-cons, All-head, All-nil, All-tail, All-weaker}
 use Rattle.std.specs.List.{All, Contains}
 use Rattle.std.specs.Option.{option_or}
+use Rattle.hwcap_dirs.specs.declared.kinds.Scope.TheVariants.{Image}
 use Rattle.image_tree.specs.Tree.{Nodes}
 use Rattle.aux_cache.specs.declared.stamps.Stamp.{Stamp}
 use Rattle.cache_lookup.specs.Scan.{AreDescending}
@@ -24,7 +25,7 @@ use Rattle.script_lines.specs.Script.{line_of}
 use Rattle.script_lines.specs.declared.line.ScriptLine.{ScriptLine}
 use Rattle.script_lines.specs.declared.line.ScriptLine.TheVariants as asking
 use Rattle.library_search.specs.Ldconfig.{links_in, planned_in}
-use Rattle.soname_links.specs.declared.kinds.Planned.{Planned}
+use Rattle.link_plan.specs.declared.kinds.Planned.{Planned}
 use Rattle.tree_face.specs.Disk.{DiskContent, Slots}
 use Rattle.tree_face.specs.Store.{Contents}
 use Rattle.update_runs.specs.Update.{States}
@@ -57,10 +58,10 @@ ended held (u ∷ us) before after reports none made = absurd (cc)
 -- ---- the update of what is left
 
 module _ (held : Contents) where
-  held_by : (u : Loaded) (texts : UpdateTexts) (before : Slots) → IsHonest held u → IsUpdateOf held u texts → HoldUpdateOf held (planned_image held u) (slots_after (writes_of texts) before)
+  held_by : (u : Loaded) (texts : UpdateTexts) (before : Slots) → IsHonest held u → IsUpdateOf held u texts → HoldUpdateOf held (planned_image Image held u) (slots_after (writes_of texts) before)
   held_by u texts before here is =
       let settled = is.settled here in
-      let more = again held u (planned_image held u) texts settled is.are in
+      let more = again Image held u (planned_image Image held u) texts settled is.are in
       let slots = written_slots texts before in
       record {
         are_true = settled.are_true;
@@ -73,15 +74,15 @@ module _ (held : Contents) where
         aux = ap (λ (x : Slots). x.aux) slots ∙ ap (λ bytes. Some bytes) (sym more.1.1.aux);
         accepted = ap defect more.1.1.cache ∙ is.all.accepted;
         descending = subst (λ (cache : List ℕ). AreDescending (read cache)) (sym more.1.1.cache) is.all.descending;
-        finds = subst (λ (cache : List ℕ). FindsAsSearched held (planned_image held u).tree (planned_image held u).stamps cache) (sym more.1.1.cache)
-            (searched_too held u.tree u.stamps (planned_image held u).tree (planned_image held u).stamps texts.cache settled.entries is.finds);
+        finds = subst (λ (cache : List ℕ). FindsAsSearched Image held (planned_image Image held u).tree (planned_image Image held u).stamps cache) (sym more.1.1.cache)
+            (searched_too Image held u.tree u.stamps (planned_image Image held u).tree (planned_image Image held u).stamps texts.cache settled.entries is.finds);
       }
 
-  held_last : (us : List Loaded) (before after : Slots) (reports : List (List ℕ)) → All (IsHonest held) us → AreMade held us before after reports → OfLast us (λ u. HoldUpdateOf held (planned_image held u) after)
-  held_last [] before after reports honest made = none_last (λ u. HoldUpdateOf held (planned_image held u) after)
+  held_last : (us : List Loaded) (before after : Slots) (reports : List (List ℕ)) → All (IsHonest held) us → AreMade held us before after reports → OfLast us (λ u. HoldUpdateOf held (planned_image Image held u) after)
+  held_last [] before after reports honest made = none_last (λ u. HoldUpdateOf held (planned_image Image held u) after)
   held_last (u ∷ us) before after reports honest (texts, (is, (rest, (parts, made)))) =
-      last_by u us (λ u. HoldUpdateOf held (planned_image held u) after)
-      (λ none. subst (λ (slots : Slots). HoldUpdateOf held (planned_image held u) slots) (sym (ended held us (slots_after (writes_of texts) before) after rest none made)) (held_by u texts before (All-head (IsHonest held) u us honest) is))
+      last_by u us (λ u. HoldUpdateOf held (planned_image Image held u) after)
+      (λ none. subst (λ (slots : Slots). HoldUpdateOf held (planned_image Image held u) slots) (sym (ended held us (slots_after (writes_of texts) before) after rest none made)) (held_by u texts before (All-head (IsHonest held) u us honest) is))
       (held_last us (slots_after (writes_of texts) before) after rest (All-tail (IsHonest held) u us honest) made)
 
 -- ---- the manifest
@@ -89,7 +90,7 @@ module _ (held : Contents) where
 -- each session is the one before with the planned links, or it was edited
 abbrev AreChained : Contents → Loaded → List Loaded → Type 0
 AreChained held s [] = Unit {0}
-AreChained held s (u ∷ us) = (u.edited ≡ false → (u.tree ≡ s.tree) × (s.edited ≡ false)) × AreChained held (planned_image held u) us
+AreChained held s (u ∷ us) = (u.edited ≡ false → (u.tree ≡ s.tree) × (s.edited ≡ false)) × AreChained held (planned_image Image held u) us
 
 module _ (held : Contents) where
   edited_chain : (s session : Loaded) → (session ≡ s) ⊎ (session.edited ≡ true) → (us : List Loaded) → AreChained held session us → AreChained held s us
@@ -98,7 +99,7 @@ module _ (held : Contents) where
   edited_chain s session (inr edited) (u ∷ us) (first, rest) =
       ((λ not. let z : true ≡ false = sym edited ∙ (first not).1 in absurd (cc)), rest)
 
-  update_chain : (s : Loaded) (outcome : Outcome) (rest : Loaded → Course) → AreChained held (planned_image held s) (rest (planned_image held s)).updates
+  update_chain : (s : Loaded) (outcome : Outcome) (rest : Loaded → Course) → AreChained held (planned_image Image held s) (rest (planned_image Image held s)).updates
       → AreChained held s (course_of_update held s outcome rest).updates
   update_chain s Writes rest are = ((λ not. (refl, not)), are)
   update_chain s Lacking rest are = tt
@@ -111,7 +112,7 @@ module _ (held : Contents) where
     edit_chain (Err fault) is = tt
 
     line_chain : (asked : Result ScriptLine LineKind) → AreChained held s (course_by held number asked s rest).updates
-    line_chain (Ok asking.Update) = update_chain s (update_outcome held s) rest (are (planned_image held s))
+    line_chain (Ok asking.Update) = update_chain s (update_outcome Image held s) rest (are (planned_image Image held s))
     line_chain (Ok asking.Ignored) = edit_chain (after_line (Ok asking.Ignored) s) (edit_is s (Ok asking.Ignored))
     line_chain (Ok (asking.Put entry)) = edit_chain (after_line (Ok (asking.Put entry)) s) (edit_is s (Ok (asking.Put entry)))
     line_chain (Ok (asking.Drop path)) = edit_chain (after_line (Ok (asking.Drop path)) s) (edit_is s (Ok (asking.Drop path)))
@@ -124,50 +125,50 @@ module _ (held : Contents) where
 
   front_chained : (s : Loaded) (front rest : List Loaded) → AreChained held s (front ++ rest) → AreChained held s front
   front_chained s [] rest are = tt
-  front_chained s (u ∷ front) rest (first, are) = (first, front_chained (planned_image held u) front rest are)
+  front_chained s (u ∷ front) rest (first, are) = (first, front_chained (planned_image Image held u) front rest are)
 
   -- the manifest that is in the slot after an update, new or old, has the planned tree
-  unwritten : (edited : Bool) (t : Nodes) (plan : List Planned) → manifest_with edited t plan ≡ None → edited ≡ false
+  unwritten : (edited : Bool) (t : Nodes) (plan : List Planned) → manifest_with Image edited t plan ≡ None → edited ≡ false
   unwritten true t plan none = absurd (cc)
   unwritten false t plan none = refl
 
   manifest_reads : (s u : Loaded) (texts : UpdateTexts) (slots : Slots) → IsUpdateOf held u texts → (u.edited ≡ false → (u.tree ≡ s.tree) × (s.edited ≡ false)) → HasItsTree s slots
-      → manifest_of (option_or texts.manifest slots.manifest) ≡ HasTree (planned_image held u).tree
+      → manifest_of (option_or texts.manifest slots.manifest) ≡ HasTree (planned_image Image held u).tree
   unfolding new_manifest
   manifest_reads s u texts slots is chain has = by texts.manifest is.are.manifest_is is.manifest_read
     where
-      by : (m : Option (List ℕ)) → m ≡ new_manifest held u → IfReads m (planned_image held u) → manifest_of (option_or m slots.manifest) ≡ HasTree (planned_image held u).tree
+      by : (m : Option (List ℕ)) → m ≡ new_manifest Image held u → IfReads m (planned_image Image held u) → manifest_of (option_or m slots.manifest) ≡ HasTree (planned_image Image held u).tree
       by None e reads =
-          let not = unwritten u.edited (planned_in held u.tree u.stamps) (links_in held u.tree u.stamps) (sym e) in
+          let not = unwritten u.edited (planned_in Image held u.tree u.stamps) (links_in Image held u.tree u.stamps) (sym e) in
           has (chain not).1 ∙ ap HasTree (sym (chain not).0 ∙ sym (unlinked held u (sym e)))
       by (Some text) e reads = reads
 
   -- the session with the planned links is that of the slots
   stored_by : (s u : Loaded) (texts : UpdateTexts) (slots : Slots) → IsUpdateOf held u texts → (u.edited ≡ false → (u.tree ≡ s.tree) × (s.edited ≡ false)) → HasItsTree s slots
-      → IsImageIn (slots_after (writes_of texts) slots) (planned_image held u)
+      → IsImageIn (slots_after (writes_of texts) slots) (planned_image Image held u)
   stored_by s u texts slots is chain has =
       let after = written_slots texts slots in
       record {
         tree = ap (λ (x : Slots). manifest_of x.manifest) after ∙ manifest_reads s u texts slots is chain has;
         is = ap (λ (x : List Stamp). of_parts x None) (sym is.aux_read)
             ∙ ap (of_parts (stamps_of_slot (Some texts.aux))) (sym is.all.undamaged)
-            ∙ ap (λ (x : Slots). image_with (planned_image held u).tree x.aux) (sym after);
+            ∙ ap (λ (x : Slots). image_with (planned_image Image held u).tree x.aux) (sym after);
       }
     where
       of_parts : List Stamp → Option ℕ → Loaded
-      of_parts stamps damaged = record { tree = planned_in held u.tree u.stamps; stamps = stamps; edited = false; damaged = damaged }
+      of_parts stamps damaged = record { tree = planned_in Image held u.tree u.stamps; stamps = stamps; edited = false; damaged = damaged }
 
-  has_planned : (u : Loaded) (slots : Slots) → IsImageIn slots (planned_image held u) → HasItsTree (planned_image held u) slots
+  has_planned : (u : Loaded) (slots : Slots) → IsImageIn slots (planned_image Image held u) → HasItsTree (planned_image Image held u) slots
   has_planned u slots is not = is.tree
 
   stored_last : (s : Loaded) (us : List Loaded) (before after : Slots) (reports : List (List ℕ)) → AreMade held us before after reports → AreChained held s us → HasItsTree s before
-      → OfLast us (λ u. IsImageIn after (planned_image held u))
-  stored_last s [] before after reports made are has = none_last (λ u. IsImageIn after (planned_image held u))
+      → OfLast us (λ u. IsImageIn after (planned_image Image held u))
+  stored_last s [] before after reports made are has = none_last (λ u. IsImageIn after (planned_image Image held u))
   stored_last s (u ∷ us) before after reports (texts, (is, (rest, (parts, made)))) (first, are) has =
       let here = stored_by s u texts before is first has in
-      last_by u us (λ u. IsImageIn after (planned_image held u))
-      (λ none. subst (λ (slots : Slots). IsImageIn slots (planned_image held u)) (sym (ended held us (slots_after (writes_of texts) before) after rest none made)) here)
-      (stored_last (planned_image held u) us (slots_after (writes_of texts) before) after rest made are (has_planned u (slots_after (writes_of texts) before) here))
+      last_by u us (λ u. IsImageIn after (planned_image Image held u))
+      (λ none. subst (λ (slots : Slots). IsImageIn slots (planned_image Image held u)) (sym (ended held us (slots_after (writes_of texts) before) after rest none made)) here)
+      (stored_last (planned_image Image held u) us (slots_after (writes_of texts) before) after rest made are (has_planned u (slots_after (writes_of texts) before) here))
 
 -- ---- the whole script
 

@@ -1,6 +1,7 @@
 -- The assumption on identities holds for each session of a script.
 use Rattle.std.proofs.Common.{◌≡◌, ◌+◌, ℕ, List, [], ◌∷◌, All, Option, Some, Result, Ok, Err, subst, sym}
 use Rattle.std.proofs.lemmas.List.Elements.{All-cons, All-head, All-nil, All-tail, All-weaker}
+use Rattle.hwcap_dirs.specs.declared.kinds.Scope.TheVariants.{Image}
 use Rattle.ldconfig_core.specs.Outcome.{Lacking, Outcome, TooLarge, TooMany, Writes, update_outcome}
 use Rattle.ldconfig_core.specs.Settled.{planned_image}
 use Rattle.image_tree.specs.Tree.{Nodes}
@@ -25,8 +26,8 @@ pub knowing : (held : Contents) (P : Contents → Type 0) (known : Option Conten
 knowing held P known is given = subst (λ (known : Option Contents). IfKnown known P) is given
 
 -- the stamps of an update of such a session are true of each tree whose files of equal identity have equal content
-pub made_true : (held : Contents) (s : Loaded) → IsHonest held s → (t : Nodes) → AreSame held s.tree t → AreTrue held t (stamps_in held s.tree s.stamps)
-made_true held s here t same = stamps_true held s.tree here.1 s.stamps here.0 t same
+pub made_true : (held : Contents) (s : Loaded) → IsHonest held s → (t : Nodes) → AreSame held s.tree t → AreTrue held t (stamps_in Image held s.tree s.stamps)
+made_true held s here t same = stamps_true Image held s.tree here.1 s.stamps here.0 t same
 
 module _ (held : Contents) (s : Loaded) where
   -- files of equal identity have equal content in the images after it
@@ -47,7 +48,7 @@ module _ (held : Contents) (s : Loaded) where
   )
 
   -- the stamps of an update are true of the images of later ones
-  pub next_is : (images : List Loaded) → AreHonest held s.stamps (s ∷ images) → AreHonest held (planned_image held s).stamps images
+  pub next_is : (images : List Loaded) → AreHonest held s.stamps (s ∷ images) → AreHonest held (planned_image Image held s).stamps images
   next_is images honest =
       let here = first_is images honest in
       let trees = trees_of images in
@@ -55,7 +56,7 @@ module _ (held : Contents) (s : Loaded) where
       All-tail (AreSame held s.tree) s.tree trees (All-head (λ t. All (AreSame held t) (s.tree ∷ trees)) s.tree trees honest.same) in
       record {
         same = same_later images honest;
-        are_true = All-weaker (AreSame held s.tree) (λ t. AreTrue held t (stamps_in held s.tree s.stamps)) (λ t same. made_true held s here t same) trees to_first;
+        are_true = All-weaker (AreSame held s.tree) (λ t. AreTrue held t (stamps_in Image held s.tree s.stamps)) (λ t same. made_true held s here t same) trees to_first;
       }
 
 -- ---- each session of which an update is asked for meets the assumption
@@ -67,9 +68,9 @@ module _ (held : Contents) where
   one_honest : (s : Loaded) → AreHonest held s.stamps (s ∷ []) → All (IsHonest held) (s ∷ [])
   one_honest s honest = All-cons (IsHonest held) s [] (first_is held s [] honest) (All-nil (IsHonest held))
 
-  update_honest : (s : Loaded) (outcome : Outcome) (rest : Loaded → Course) → AreEach (planned_image held s) (rest (planned_image held s)) → AreEach s (course_of_update held s outcome rest)
+  update_honest : (s : Loaded) (outcome : Outcome) (rest : Loaded → Course) → AreEach (planned_image Image held s) (rest (planned_image Image held s)) → AreEach s (course_of_update held s outcome rest)
   update_honest s Writes rest are honest =
-      let images = (rest (planned_image held s)).asked in
+      let images = (rest (planned_image Image held s)).asked in
       All-cons (IsHonest held) s images (first_is held s images honest) (are (next_is held s images honest))
   update_honest s Lacking rest are honest = one_honest s honest
   update_honest s (TooLarge nodes bytes) rest are honest = one_honest s honest
@@ -81,7 +82,7 @@ module _ (held : Contents) where
     edit_honest (Err fault) is honest = All-nil (IsHonest held)
 
     line_honest : (asked : Result ScriptLine LineKind) → AreEach s (course_by held number asked s rest)
-    line_honest (Ok asking.Update) = update_honest s (update_outcome held s) rest (are (planned_image held s))
+    line_honest (Ok asking.Update) = update_honest s (update_outcome Image held s) rest (are (planned_image Image held s))
     line_honest (Ok asking.Ignored) = edit_honest (after_line (Ok asking.Ignored) s) (edit_is s (Ok asking.Ignored))
     line_honest (Ok (asking.Put entry)) = edit_honest (after_line (Ok (asking.Put entry)) s) (edit_is s (Ok (asking.Put entry)))
     line_honest (Ok (asking.Drop path)) = edit_honest (after_line (Ok (asking.Drop path)) s) (edit_is s (Ok (asking.Drop path)))

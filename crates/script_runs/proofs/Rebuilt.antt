@@ -1,5 +1,6 @@
 -- What a script leaves is what its course gives.
 use Rattle.std.proofs.Common.{◌≡◌, ◌≤◌, ◌+◌, ◌++◌, ℕ, List, [], ◌∷◌, Option, Some, None, Result, Ok, Err, append-nil, refl, ap, sym, subst, ◌∙◌, true, inl, inr, arith}
+use Rattle.hwcap_dirs.specs.declared.kinds.Scope.TheVariants.{Image}
 use Rattle.atomic_replace.specs.Replace.{Write}
 use Rattle.tree_face.specs.declared.disk.Slot.{Slot}
 use Rattle.ldconfig_core.proofs.WrittenSlots.{slots_are}
@@ -139,15 +140,15 @@ module _ (held : Contents) (course : Course) (content : DiskContent) (old new : 
 module _ (tag : Tag) (held : Contents) (s : Loaded) (more : Loaded → Course) (content : DiskContent) (old between : States)
     (is : old.store.held ≡ Some held) (known : old.disk.contents ≡ Some content) where
   -- the outcome of the update is this one
-  by_outcome : (to : Result Loaded ScriptFault) (new : States) (outcome : Outcome) → update_outcome held s ≡ outcome → LeavesRebuilt held (course_of_update held s outcome more) to content old new
-      → LeavesRebuilt held (course_of_update held s (update_outcome held s) more) to content old new
+  by_outcome : (to : Result Loaded ScriptFault) (new : States) (outcome : Outcome) → update_outcome Image held s ≡ outcome → LeavesRebuilt held (course_of_update held s outcome more) to content old new
+      → LeavesRebuilt held (course_of_update held s (update_outcome Image held s) more) to content old new
   by_outcome to new outcome e = subst (λ (o : Outcome). LeavesRebuilt held (course_of_update held s o more) to content old new) (sym e)
 
   -- an update that is made, and what the lines after it leave
   module _ (to : Result Loaded ScriptFault) (new : States) (texts : UpdateTexts) (update : IsUpdateOf held s texts) (after : DiskContent) (slots : after.now ≡ slots_after (writes_of texts) content.now)
       (first : Relates (IsFollowedBy texts.report) old.sink.written between.sink.written) (before : AreBefore old between)
-      (begun : Relates (IsFollowedBy (update_keys held s.tree s.stamps)) old.store.keys between.store.keys) where
-    made_on : LeavesRebuilt held (more (planned_image held s)) to after between new → LeavesRebuilt held (course_of_update held s Writes more) to content old new
+      (begun : Relates (IsFollowedBy (update_keys Image held s.tree s.stamps)) old.store.keys between.store.keys) where
+    made_on : LeavesRebuilt held (more (planned_image Image held s)) to after between new → LeavesRebuilt held (course_of_update held s Writes more) to content old new
     made_on left = record {
       made = s ∷ left.made;
       rest = left.rest;
@@ -157,9 +158,9 @@ module _ (tag : Tag) (held : Contents) (s : Loaded) (more : Loaded → Course) (
       are_made = (texts, (update, (left.reports, (refl, subst (λ (slots : Slots). AreMade held left.made slots left.slots left.reports) slots left.are_made))));
       now = left.now;
       written = written_on texts.report left.reports old.sink.written between.sink.written new.sink.written first to left.written;
-      ends = ends_since (more (planned_image held s)) (course_of_update held s Writes more) refl left.rest old between new before to left.ends;
-      keys = λ session e. relates_on (IsFollowedBy (update_keys held s.tree s.stamps)) (IsFollowedBy (keys_of held left.made)) (IsFollowedBy (keys_of held (s ∷ left.made)))
-          (λ x y z. follow (update_keys held s.tree s.stamps) (keys_of held left.made) x y z) old.store.keys between.store.keys new.store.keys begun (left.keys session e);
+      ends = ends_since (more (planned_image Image held s)) (course_of_update held s Writes more) refl left.rest old between new before to left.ends;
+      keys = λ session e. relates_on (IsFollowedBy (update_keys Image held s.tree s.stamps)) (IsFollowedBy (keys_of held left.made)) (IsFollowedBy (keys_of held (s ∷ left.made)))
+          (λ x y z. follow (update_keys Image held s.tree s.stamps) (keys_of held left.made) x y z) old.store.keys between.store.keys new.store.keys begun (left.keys session e);
     }
 
   -- an update that is made, and whose report isn't written in full
@@ -168,7 +169,7 @@ module _ (tag : Tag) (held : Contents) (s : Loaded) (more : Loaded → Course) (
       → LeavesRebuilt held (course_of_update held s Writes more) (Err (Updating OutputFault)) content old between
   unreported texts update after slots there part risen = record {
     made = s ∷ [];
-    rest = (more (planned_image held s)).updates;
+    rest = (more (planned_image Image held s)).updates;
     parts = refl;
     slots = slots_after (writes_of texts) content.now;
     reports = texts.report ∷ [];
@@ -195,7 +196,7 @@ module _ (tag : Tag) (held : Contents) (s : Loaded) (more : Loaded → Course) (
       → LeavesRebuilt held (course_of_update held s Writes more) (Err (Updating (Update (updating.DiskFault fault)))) content old between
   partly texts update now sink fault risen = record {
     made = [];
-    rest = s ∷ (more (planned_image held s)).updates;
+    rest = s ∷ (more (planned_image Image held s)).updates;
     parts = refl;
     slots = content.now;
     reports = [];
@@ -207,20 +208,20 @@ module _ (tag : Tag) (held : Contents) (s : Loaded) (more : Loaded → Course) (
   }
     where
       each : (c : Option DiskContent) → IfKnown c (λ left. OldOrNew (writes_of texts) content.now left.now)
-          → IfKnown c (λ left. AreSlots held (Err (Updating (Update (updating.DiskFault fault)))) (s ∷ (more (planned_image held s)).updates) content.now left.now)
+          → IfKnown c (λ left. AreSlots held (Err (Updating (Update (updating.DiskFault fault)))) (s ∷ (more (planned_image Image held s)).updates) content.now left.now)
       each None now = tt
       each (Some left) now = (texts, (update, now))
 
   -- ---- by its result
 
   abbrev IsLeft : Result Loaded ScriptFault → States → Type 0
-  IsLeft to new = LeavesRebuilt held (course_of_update held s (update_outcome held s) more) to content old new
+  IsLeft to new = LeavesRebuilt held (course_of_update held s (update_outcome Image held s) more) to content old new
 
   abbrev IsRun : Result (Loaded × Report) UpdateFault → Type 0
-  IsRun result = Updates tag s result old.store between.store old.disk between.disk
+  IsRun result = Updates Image tag s result old.store between.store old.disk between.disk
 
-  answer : (result : Result (Loaded × Report) UpdateFault) → IsRun result → IsAnswer (update_outcome held s) result old.store between.store
-  answer result u = knowing held (λ held. IsAnswer (update_outcome held s) result old.store between.store) old.store.held is u.answers
+  answer : (result : Result (Loaded × Report) UpdateFault) → IsRun result → IsAnswer (update_outcome Image held s) result old.store between.store
+  answer result u = knowing held (λ held. IsAnswer (update_outcome Image held s) result old.store between.store) old.store.held is u.answers
 
   -- the slots when all is written
   all_written : (writes : List Write) (b : Option DiskContent) → Relates (Replaces tag.0 writes) old.disk.contents b
@@ -237,9 +238,9 @@ module _ (tag : Tag) (held : Contents) (s : Loaded) (more : Loaded → Course) (
 
   not_made : (fault : UpdateFault) → IsRun (Err fault) → between.sink ≡ old.sink → IsLeft (Err (Updating (Update fault))) between
   not_made updating.NoMemory u sink =
-      stopped held (course_of_update held s (update_outcome held s) more) content old between known (Err (Updating (Update updating.NoMemory))) (λ session e. absurd (cc)) u.written sink refl (λ w. w) tt
+      stopped held (course_of_update held s (update_outcome Image held s) more) content old between known (Err (Updating (Update updating.NoMemory))) (λ session e. absurd (cc)) u.written sink refl (λ w. w) tt
   not_made updating.StoreFault u sink = elim (answer (Err updating.StoreFault) u) [
-    | inl risen ↦ stopped held (course_of_update held s (update_outcome held s) more) content old between known (Err (Updating (Update updating.StoreFault))) (λ session e. absurd (cc)) u.written sink refl (λ w. w) (inl risen)
+    | inl risen ↦ stopped held (course_of_update held s (update_outcome Image held s) more) content old between known (Err (Updating (Update updating.StoreFault))) (λ session e. absurd (cc)) u.written sink refl (λ w. w) (inl risen)
     | inr lacks ↦ by_outcome (Err (Updating (Update updating.StoreFault))) between Lacking lacks
         (stopped held (refused s updating.StoreFault) content old between known (Err (Updating (Update updating.StoreFault))) (λ session e. absurd (cc)) u.written sink refl (λ w. w) (inr (refl, refl)))
   ]
@@ -259,14 +260,14 @@ module _ (tag : Tag) (held : Contents) (s : Loaded) (more : Loaded → Course) (
       (part_slots fault.slot (writes_of left.texts) between.disk.contents left.written.contents) sink fault left.written.faults)
 
   module _ (done : Loaded × Report) (u : IsRun (Ok done)) where
-    planned : done.0 ≡ planned_image held s
-    planned = let is_updated = knowing held (λ held. IsUpdated held s done) old.store.held is u.updated in is_updated.planned
+    planned : done.0 ≡ planned_image Image held s
+    planned = let is_updated = knowing held (λ held. IsUpdated Image held s done) old.store.held is u.updated in is_updated.planned
 
     -- the keys of the update are begun
-    begun : Relates (IsFollowedBy (update_keys held s.tree s.stamps)) old.store.keys between.store.keys
+    begun : Relates (IsFollowedBy (update_keys Image held s.tree s.stamps)) old.store.keys between.store.keys
     begun =
         let reads = knowing held
-        (λ held. ReadsFiles (lacks_file held s.tree s.stamps ≡ true) (Some (update_keys held s.tree s.stamps)) (Some (update_bytes held s.tree s.stamps)) Complete old.store between.store)
+        (λ held. ReadsFiles (lacks_file Image held s.tree s.stamps ≡ true) (Some (update_keys Image held s.tree s.stamps)) (Some (update_bytes Image held s.tree s.stamps)) Complete old.store between.store)
         old.store.held is u.reads.keys in
         reads.begins
 
@@ -275,7 +276,7 @@ module _ (tag : Tag) (held : Contents) (s : Loaded) (more : Loaded → Course) (
     report_of P written = subst P u.written.report_is written
 
     reported : Relates (IsFollowedBy done.1.text) old.sink.written between.sink.written × (between.sink.faults ≡ old.sink.faults) → (to : Result Loaded ScriptFault) (new : States)
-        → ((after : DiskContent) → between.disk.contents ≡ Some after → LeavesRebuilt held (more (planned_image held s)) to after between new) → IsLeft to new
+        → ((after : DiskContent) → between.disk.contents ≡ Some after → LeavesRebuilt held (more (planned_image Image held s)) to after between new) → IsLeft to new
     reported (written, faults) to new next =
         let left = u.written in
         let all = all_written (writes_of left.texts) between.disk.contents left.written.contents in
@@ -301,7 +302,7 @@ module _ (tag : Tag) (held : Contents) (s : Loaded) (more : Loaded → Course) (
   at_end ended to new left (e, same) = subst (λ (to : Result Loaded ScriptFault). IsLeft to new) (sym e) (subst (λ (new : States). IsLeft ended new) (sym same) left)
 
   module _ (number : ℕ) (to : Result Loaded ScriptFault) (new : States) (Rest : Loaded → Type 0)
-      (next : update_outcome held s ≡ Writes → between.store.held ≡ Some held → (after : DiskContent) → between.disk.contents ≡ Some after → Rest (planned_image held s) → LeavesRebuilt held (more (planned_image held s)) to after between new) where
+      (next : update_outcome Image held s ≡ Writes → between.store.held ≡ Some held → (after : DiskContent) → between.disk.contents ≡ Some after → Rest (planned_image Image held s) → LeavesRebuilt held (more (planned_image Image held s)) to after between new) where
     by_result : (one : Result Loaded UpdatingFault) (result : Result (Loaded × Report) UpdateFault) → IsRun result → Reports result one old.sink between.sink
         → GoesOn number (updated one) Rest to between new → IsLeft to new
     by_result (Ok session) (Ok done) u reports goes =
@@ -341,11 +342,11 @@ module _ (tag : Tag) (held : Contents) where
       edited_on asked (e, same) = edit_on (after_line asked s) (edit_is s asked)
           (subst (λ (one : Result Loaded LineFault). GoesFrom old one) e (subst (λ (between : States). GoesFrom between one) same goes))
 
-      updated_on : DoesUpdate tag s one old between → LeavesRebuilt held (course_of_update held s (update_outcome held s) more) to content old new
+      updated_on : DoesUpdate tag s one old between → LeavesRebuilt held (course_of_update held s (update_outcome Image held s) more) to content old new
       updated_on (this, (u, e)) =
           by_result tag held s more content old between is known number to new
           (λ session. RunsLines tag (1 + number) lines session to between new)
-          (λ writes held_too after there runs. are (1 + number) (planned_image held s) to after between new held_too there runs)
+          (λ writes held_too after there runs. are (1 + number) (planned_image Image held s) to after between new held_too there runs)
           this u.result u.updates u.reports (subst (λ (one : Result Loaded LineFault). GoesFrom between one) e goes)
 
       line_on : (asked : Result ScriptLine LineKind) → DoesLine tag asked s one old between → LeavesRebuilt held (course_by held number asked s more) to content old new

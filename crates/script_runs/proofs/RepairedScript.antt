@@ -2,6 +2,7 @@
 use Rattle.std.proofs.Common.{◌≡◌, ◌⊎◌, ◌++◌, ℕ, List, [], ◌∷◌, All, flat_map, Option, Some, None, Result, Ok, Err, IfOk, refl, ap, sym, subst, ◌∙◌, inl, inr}
 use Rattle.std.specs.List.{Contains}
 use Rattle.std.proofs.lemmas.List.Elements.{All-cons, All-contains, All-head, All-nil, All-tail, All-weaker}
+use Rattle.hwcap_dirs.specs.declared.kinds.Scope.TheVariants.{Image}
 use Rattle.atomic_replace.specs.Replace.{Write}
 use Rattle.aux_cache.specs.declared.stamps.Stamp.{Stamp}
 use Rattle.image_tree.specs.Tree.{Nodes}
@@ -81,12 +82,12 @@ module _ (held : Contents) (s : Loaded) (c : Course) (within : AreAsked c) (hone
   first = first_is held s c.asked honest
 
   -- the stamps of an update are true of each session that is asked for
-  all_made_true : (u : Loaded) → Contains asked u → All (λ (v : Loaded). AreTrue held v.tree (stamps_in held u.tree u.stamps)) asked
+  all_made_true : (u : Loaded) → Contains asked u → All (λ (v : Loaded). AreTrue held v.tree (stamps_in Image held u.tree u.stamps)) asked
   all_made_true u there =
       let same : All (AreSame held u.tree) (trees_of asked) =
       All-contains (λ (u : Loaded). All (AreSame held u.tree) (trees_of asked)) asked u (each_tree (λ t. All (AreSame held t) (trees_of asked)) asked honest.same) there in
       let here : IsHonest held u = All-contains (IsHonest held) asked u (All-cons (IsHonest held) s c.asked first each) there in
-      All-weaker (λ (v : Loaded). AreSame held u.tree v.tree) (λ (v : Loaded). AreTrue held v.tree (stamps_in held u.tree u.stamps))
+      All-weaker (λ (v : Loaded). AreSame held u.tree v.tree) (λ (v : Loaded). AreTrue held v.tree (stamps_in Image held u.tree u.stamps))
       (λ v same. made_true held u here v.tree same) asked (each_tree (AreSame held u.tree) asked same)
 
   module _ (left : Loaded) (may : MayBeLeft held s c.updates left) where
@@ -109,13 +110,13 @@ module _ (held : Contents) (s : Loaded) (c : Course) (within : AreAsked c) (hone
       pub of_old : IsOfOld held s left
       of_old = record {
         tree = tree;
-        outcome = λ not. one_outcome held s left tree (may.fresh ∙ sym not) first.1 first.0 old_true;
-        again = λ not texts again are is. one_written held s left tree (may.fresh ∙ sym not) first.1 first.0 old_true texts again are is;
+        outcome = λ not. one_outcome Image held s left tree (may.fresh ∙ sym not) first.1 first.0 old_true;
+        again = λ not texts again are is. one_written Image held s left tree (may.fresh ∙ sym not) first.1 first.0 old_true texts again are is;
       }
 
     -- ---- of the planned tree of an update
 
-    module _ (u : Loaded) (among : Contains c.updates u) (made : update_outcome held u ≡ Writes) (settled : AreSettled held u (planned_image held u)) (tree : left.tree ≡ planned_in held u.tree u.stamps) where
+    module _ (u : Loaded) (among : Contains c.updates u) (made : update_outcome Image held u ≡ Writes) (settled : AreSettled Image held u (planned_image Image held u)) (tree : left.tree ≡ planned_in Image held u.tree u.stamps) where
       pub new_true : AreTrue held left.tree left.stamps
       new_true = subst (λ (t : Nodes). AreTrue held t left.stamps) (sym tree)
           (settled.true_too left.stamps (All-contains (λ (u : Loaded). AreTrue held u.tree left.stamps) asked u all_true (among_asked u among)))
@@ -123,21 +124,21 @@ module _ (held : Contents) (s : Loaded) (c : Course) (within : AreAsked c) (hone
       pub new_same : AreSame held left.tree left.tree
       new_same = subst (λ (t : Nodes). AreSame held t t) (sym tree) settled.same
 
-      written_again : (texts others : UpdateTexts) → AreTextsOf held u texts → AreTextsOf held left others → AreCachesAgain texts others
+      written_again : (texts others : UpdateTexts) → AreTextsOf Image held u texts → AreTextsOf Image held left others → AreCachesAgain texts others
       written_again texts others are is =
-          let more = again held u (planned_image held u) texts settled are in
-          let one : AreAlike more.0 others = one_written held (planned_image held u) left tree may.fresh settled.same settled.are_true new_true more.0 others more.1.0 is in
+          let more = again Image held u (planned_image Image held u) texts settled are in
+          let one : AreAlike more.0 others = one_written Image held (planned_image Image held u) left tree may.fresh settled.same settled.are_true new_true more.0 others more.1.0 is in
           record { manifest = one.manifest ∙ more.1.1.manifest; cache = one.cache ∙ more.1.1.cache; aux = one.aux ∙ more.1.1.aux }
 
       pub of_update : IsOfUpdate held u left
-      of_update = record { tree = tree; made = one_outcome held (planned_image held u) left tree may.fresh settled.same settled.are_true new_true ∙ settled.outcome made; again = written_again }
+      of_update = record { tree = tree; made = one_outcome Image held (planned_image Image held u) left tree may.fresh settled.same settled.are_true new_true ∙ settled.outcome made; again = written_again }
 
 -- ---- slots each of which is old, or written by an update of the course
 
 module _ (held : Contents) (slots : Slots) (s : Loaded) (in_slots : IsImageIn slots s) (c : Course) (within : AreAsked c) (honest : AreHonest held s.stamps (s ∷ c.asked)) (every : All (IsHonest held) c.asked)
     (image : Slots) (each : (slot : Slot) → (slot_of image slot ≡ slot_of slots slot) ⊎ IsWrittenOf held slot (slot_of image slot) c.updates) where
   -- the stamps are the old ones, or those of an update
-  stamps_are : (stamps_of_slot image.aux ≡ s.stamps) ⊎ ((u : Loaded) × (Contains c.updates u × (stamps_of_slot image.aux ≡ stamps_in held u.tree u.stamps)))
+  stamps_are : (stamps_of_slot image.aux ≡ s.stamps) ⊎ ((u : Loaded) × (Contains c.updates u × (stamps_of_slot image.aux ≡ stamps_in Image held u.tree u.stamps)))
   stamps_are = elim (each Aux) [
     | inl old ↦ inl (ap stamps_of_slot old ∙ ap (λ (l : Loaded). l.stamps) (sym in_slots.is))
     | inr w ↦ inr (w.image, (w.among, ap stamps_of_slot (aux_written w.texts.manifest w.texts.cache w.texts.aux image.aux w.there) ∙ w.are.aux_read))
@@ -158,14 +159,14 @@ module _ (held : Contents) (slots : Slots) (s : Loaded) (in_slots : IsImageIn sl
 
   of_new_manifest : (u : Loaded) → Contains c.updates u → (texts : UpdateTexts) → IsUpdateOf held u texts → IsOfWrites (writes_of texts) Manifest image.manifest → IsRepairable held s c.updates slots image
   of_new_manifest u among texts is there =
-      let left : Loaded = image_with (planned_in held u.tree u.stamps) image.aux in
+      let left : Loaded = image_with (planned_in Image held u.tree u.stamps) image.aux in
       let settled = is.settled (All-contains (IsHonest held) c.asked u every (All-contains (Contains c.asked) c.updates u within among)) in
       let may : MayBeLeft held s c.updates left = record { tree = inr (u, (among, refl)); stamps = stamps_are; fresh = refl } in
       let text = manifest_written texts image.manifest there in
       record {
         left = left;
         in_slots = record {
-          tree = ap manifest_of text.1.1 ∙ subst (λ (manifest : Option (List ℕ)). IfReads manifest (planned_image held u)) text.1.0 is.manifest_read;
+          tree = ap manifest_of text.1.1 ∙ subst (λ (manifest : Option (List ℕ)). IfReads manifest (planned_image Image held u)) text.1.0 is.manifest_read;
           is = refl;
         };
         may = may;

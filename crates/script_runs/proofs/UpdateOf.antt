@@ -1,5 +1,6 @@
 -- The texts of an update that is made.
 use Rattle.std.proofs.Common.{◌≡◌, Option, Some, None, refl, subst, ◌∙◌}
+use Rattle.hwcap_dirs.specs.declared.kinds.Scope.TheVariants.{Image}
 use Rattle.ldconfig_core.proofs.OneText.{one_outcome, one_written}
 use Rattle.ldconfig_core.specs.Outcome.{Writes, update_outcome}
 use Rattle.ldconfig_core.specs.Settled.{unstamped_image}
@@ -13,14 +14,14 @@ use Rattle.script_runs.specs.Course.{IsHonest}
 use Rattle.script_runs.specs.Left.{IsRebuiltOf, IsUpdateOf}
 
 -- without the auxiliary cache they are the same
-rebuilt_of : (held : Contents) (s : Loaded) (texts : UpdateTexts) → update_outcome held s ≡ Writes → AreTextsOf held s texts → IsHonest held s → IsRebuiltOf held s texts
+rebuilt_of : (held : Contents) (s : Loaded) (texts : UpdateTexts) → update_outcome Image held s ≡ Writes → AreTextsOf Image held s texts → IsHonest held s → IsRebuiltOf held s texts
 rebuilt_of held s texts writes are here = record {
-  made = one_outcome held s (unstamped_image s) refl refl here.1 here.0 (none_true held s.tree) ∙ writes;
-  same = λ again others. one_written held s (unstamped_image s) refl refl here.1 here.0 (none_true held s.tree) texts again are others;
+  made = one_outcome Image held s (unstamped_image s) refl refl here.1 here.0 (none_true held s.tree) ∙ writes;
+  same = λ again others. one_written Image held s (unstamped_image s) refl refl here.1 here.0 (none_true held s.tree) texts again are others;
 }
 
 -- they are those of the session, if contents are known
-pub of_update : (s : Loaded) (texts : UpdateTexts) (known : Option Contents) → AreUpdateTexts s known texts → IfKnown known (λ held. update_outcome held s ≡ Writes)
+pub of_update : (s : Loaded) (texts : UpdateTexts) (known : Option Contents) → AreUpdateTexts Image s known texts → IfKnown known (λ held. update_outcome Image held s ≡ Writes)
     → IfKnown known (λ held. IsUpdateOf held s texts)
 of_update s texts None are writes = tt
 of_update s texts (Some held) are writes = record {
@@ -36,5 +37,5 @@ of_update s texts (Some held) are writes = record {
   settled = λ here. are.settles here.0 here.1;
 }
 
-pub texts_are : (held : Contents) (s : Loaded) (texts : UpdateTexts) (known : Option Contents) → known ≡ Some held → update_outcome held s ≡ Writes → AreUpdateTexts s known texts → IsUpdateOf held s texts
-texts_are held s texts known is writes are = of_update s texts (Some held) (subst (λ (known : Option Contents). AreUpdateTexts s known texts) is are) writes
+pub texts_are : (held : Contents) (s : Loaded) (texts : UpdateTexts) (known : Option Contents) → known ≡ Some held → update_outcome Image held s ≡ Writes → AreUpdateTexts Image s known texts → IsUpdateOf held s texts
+texts_are held s texts known is writes are = of_update s texts (Some held) (subst (λ (known : Option Contents). AreUpdateTexts Image s known texts) is are) writes

@@ -1,6 +1,7 @@
 -- What a script does, by its lines, its session and the contents alone: of which sessions its updates are made, and how it ends.
 use Rattle.std.specs.Prelude.{◌+◌, ℕ, List, [], ◌∷◌, map, Result, Ok, Err}
 use Rattle.std.specs.List.{All}
+use Rattle.hwcap_dirs.specs.declared.kinds.Scope.TheVariants.{Image}
 use Rattle.aux_cache.specs.declared.stamps.Stamp.{Stamp}
 use Rattle.image_tree.specs.Tree.{Nodes}
 use Rattle.ldconfig_core.specs.Outcome.{Lacking, Outcome, TooLarge, TooMany, Writes, update_outcome}
@@ -43,9 +44,9 @@ course_of_update held s Lacking rest = refused s updating.StoreFault
 course_of_update held s (TooLarge nodes bytes) rest = refused s (updating.TooLarge nodes bytes)
 course_of_update held s (TooMany count) rest = refused s (updating.TooMany count)
 course_of_update held s Writes rest = record {
-  asked = s ∷ (rest (planned_image held s)).asked;
-  updates = s ∷ (rest (planned_image held s)).updates;
-  end = (rest (planned_image held s)).end;
+  asked = s ∷ (rest (planned_image Image held s)).asked;
+  updates = s ∷ (rest (planned_image Image held s)).updates;
+  end = (rest (planned_image Image held s)).end;
 }
 
 abbrev pub goes_on : ℕ → Result Loaded LineFault → (Loaded → Course) → Course
@@ -53,7 +54,7 @@ goes_on number (Ok session) rest = rest session
 goes_on number (Err fault) rest = ends (Err (numbered number fault))
 
 abbrev pub course_by : Contents → ℕ → Result ScriptLine LineKind → Loaded → (Loaded → Course) → Course
-course_by held number (Ok asking.Update) s rest = course_of_update held s (update_outcome held s) rest
+course_by held number (Ok asking.Update) s rest = course_of_update held s (update_outcome Image held s) rest
 course_by held number asked s rest = goes_on number (after_line asked s) rest
 
 -- the course of lines of which the first has this number, from a session on

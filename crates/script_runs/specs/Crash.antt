@@ -1,6 +1,7 @@
 -- What a crash of a script of a session leaves, and what an update makes of it.
 use Rattle.std.specs.Prelude.{◌≡◌, ◌⊎◌, ◌++◌, ℕ, false, true, List, [], ◌∷◌, flat_map, Option, Result, Ok, Err}
 use Rattle.std.specs.List.{All, Contains}
+use Rattle.hwcap_dirs.specs.declared.kinds.Scope.TheVariants.{Image}
 use Rattle.atomic_replace.specs.declared.fault.DiskFault.{DiskFault}
 use Rattle.ldconfig_core.specs.Outcome.{Writes, update_outcome}
 use Rattle.ldconfig_core.specs.Settled.{AreCachesAgain}
@@ -82,18 +83,18 @@ pub record LeavesWholeCaches (tag : Tag) (known : Option Contents) (number : ℕ
 -- a session that a crash may have left: of the old tree or of that with the planned links of an update, with the old stamps or those of an update, and
 -- without edits
 pub record MayBeLeft (held : Contents) (s : Loaded) (updates : List Loaded) (left : Loaded) : Type 0 where
-  pub tree : (left.tree ≡ s.tree) ⊎ ((u : Loaded) × (Contains updates u × (left.tree ≡ planned_in held u.tree u.stamps)))
-  pub stamps : (left.stamps ≡ s.stamps) ⊎ ((u : Loaded) × (Contains updates u × (left.stamps ≡ stamps_in held u.tree u.stamps)))
+  pub tree : (left.tree ≡ s.tree) ⊎ ((u : Loaded) × (Contains updates u × (left.tree ≡ planned_in Image held u.tree u.stamps)))
+  pub stamps : (left.stamps ≡ s.stamps) ⊎ ((u : Loaded) × (Contains updates u × (left.stamps ≡ stamps_in Image held u.tree u.stamps)))
   pub fresh : left.edited ≡ false
 
 -- its tree is the old one, and an update of it has the outcome of one of the old session if that isn't edited, and writes the same
 pub record IsOfOld (held : Contents) (s left : Loaded) : Type 0 where
   pub tree : left.tree ≡ s.tree
-  pub outcome : s.edited ≡ false → update_outcome held left ≡ update_outcome held s
-  pub again : s.edited ≡ false → (texts again : UpdateTexts) → AreTextsOf held s texts → AreTextsOf held left again → AreAlike texts again
+  pub outcome : s.edited ≡ false → update_outcome Image held left ≡ update_outcome Image held s
+  pub again : s.edited ≡ false → (texts again : UpdateTexts) → AreTextsOf Image held s texts → AreTextsOf Image held left again → AreAlike texts again
 
 -- its tree is that of an update of the session u, and a further update is made, writes no manifest, and the very caches of that one
 pub record IsOfUpdate (held : Contents) (u left : Loaded) : Type 0 where
-  pub tree : left.tree ≡ planned_in held u.tree u.stamps
-  pub made : update_outcome held left ≡ Writes
-  pub again : (texts again : UpdateTexts) → AreTextsOf held u texts → AreTextsOf held left again → AreCachesAgain texts again
+  pub tree : left.tree ≡ planned_in Image held u.tree u.stamps
+  pub made : update_outcome Image held left ≡ Writes
+  pub again : (texts again : UpdateTexts) → AreTextsOf Image held u texts → AreTextsOf Image held left again → AreCachesAgain texts again

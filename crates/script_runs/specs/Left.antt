@@ -2,6 +2,7 @@
 -- those that rebuilding without an auxiliary cache gives.
 use Rattle.std.specs.Prelude.{◌≡◌, ◌⊎◌, ◌+◌, ◌++◌, ℕ, false, List, [], ◌∷◌, flat_map, length, Option, Some, None, Result, Ok, Err, ⊤}
 use Rattle.std.specs.List.{All}
+use Rattle.hwcap_dirs.specs.declared.kinds.Scope.TheVariants.{Image}
 use Rattle.cache_lookup.specs.Scan.{AreDescending}
 use Rattle.cache_reader.specs.Cache.{defect, read}
 use Rattle.ldconfig_core.specs.Lookup.{FindsAsSearched}
@@ -18,7 +19,7 @@ use Rattle.image_session.specs.Manifest.{HasTree, manifest_of}
 use Rattle.image_session.specs.Session.{Loaded}
 use Rattle.library_search.specs.Begun.{opened_in, update_keys}
 use Rattle.library_search.specs.Laws.{IsSaidRight}
-use Rattle.library_search.specs.Ldconfig.{stamps_in}
+use Rattle.library_search.specs.Ldconfig.{conf_of, stamps_in}
 use Rattle.file_stamps.specs.Stamped.{AreSame, AreTrue}
 use Rattle.tree_face.specs.Disk.{DiskContent, Slots}
 use Rattle.tree_face.specs.Follows.{IsFollowedBy, IsFollowedByPart}
@@ -34,23 +35,23 @@ use Rattle.script_runs.specs.Course.{AreHonest, Course, IsHonest, course}
 
 -- an update of the session without its auxiliary cache is made, and writes the same
 pub record IsRebuiltOf (held : Contents) (u : Loaded) (texts : UpdateTexts) : Type 0 where
-  pub made : update_outcome held (unstamped_image u) ≡ Writes
-  pub same : (again : UpdateTexts) → AreTextsOf held (unstamped_image u) again → AreAlike texts again
+  pub made : update_outcome Image held (unstamped_image u) ≡ Writes
+  pub same : (again : UpdateTexts) → AreTextsOf Image held (unstamped_image u) again → AreAlike texts again
 
 -- These are the texts of the update of the session: a manifest reads as the session with the planned links, the auxiliary cache as its stamps, and by the
 -- cache the loader finds what the search of the directories finds. Under the assumption on identities an update without the auxiliary cache writes the same, and
 -- the session is settled.
 pub record IsUpdateOf (held : Contents) (u : Loaded) (texts : UpdateTexts) : Type 0 where
-  pub made : update_outcome held u ≡ Writes
-  pub are : AreTextsOf held u texts
+  pub made : update_outcome Image held u ≡ Writes
+  pub are : AreTextsOf Image held u texts
   pub all : AreTexts texts
-  pub finds : FindsAsSearched held u.tree u.stamps texts.cache
-  pub manifest_read : IfReads texts.manifest (planned_image held u)
-  pub aux_read : stamps_of_slot (Some texts.aux) ≡ stamps_in held u.tree u.stamps
-  pub counted : length (update_keys held u.tree u.stamps) ≡ length (conf_keys held u.tree) + opened_in held u.tree u.stamps
-  pub right : IsHonest held u → IsSaidRight held u.tree u.stamps
+  pub finds : FindsAsSearched Image held u.tree u.stamps texts.cache
+  pub manifest_read : IfReads texts.manifest (planned_image Image held u)
+  pub aux_read : stamps_of_slot (Some texts.aux) ≡ stamps_in Image held u.tree u.stamps
+  pub counted : length (update_keys Image held u.tree u.stamps) ≡ length (conf_keys (conf_of Image) held u.tree) + opened_in Image held u.tree u.stamps
+  pub right : IsHonest held u → IsSaidRight Image held u.tree u.stamps
   pub rebuilt : IsHonest held u → IsRebuiltOf held u texts
-  pub settled : IsHonest held u → AreSettled held u (planned_image held u)
+  pub settled : IsHonest held u → AreSettled Image held u (planned_image Image held u)
 
 -- the updates of these sessions are made one after the other, from the one slots to the others, and these are their reports
 abbrev pub AreMade : Contents → List Loaded → Slots → Slots → List (List ℕ) → Type 0
@@ -101,7 +102,7 @@ EndsBy (Err NoMemory) course rest old new = ⊤
 
 -- the keys that updates of these sessions begin, one after the other
 abbrev pub keys_of : Contents → List Loaded → List (List ℕ)
-keys_of held sessions = flat_map (λ (u : Loaded). update_keys held u.tree u.stamps) sessions
+keys_of held sessions = flat_map (λ (u : Loaded). update_keys Image held u.tree u.stamps) sessions
 
 pub record LeavesRebuilt (held : Contents) (course : Course) (to : Result Loaded ScriptFault) (content : DiskContent) (old new : States) : Type 0 where
   -- the updates that were made, and those that weren't
@@ -128,15 +129,15 @@ OfLast sessions P = (front : List Loaded) (last : Loaded) → sessions ≡ front
 pub record HoldUpdateOf (held : Contents) (s : Loaded) (slots : Slots) : Type 0 where
   pub are_true : AreTrue held s.tree s.stamps
   pub same : AreSame held s.tree s.tree
-  pub made : update_outcome held s ≡ Writes
+  pub made : update_outcome Image held s ≡ Writes
   pub texts : UpdateTexts
-  pub are : AreTextsOf held s texts
+  pub are : AreTextsOf Image held s texts
   pub manifest : texts.manifest ≡ None
   pub cache : slots.cache ≡ Some texts.cache
   pub aux : slots.aux ≡ Some texts.aux
   pub accepted : defect texts.cache ≡ None
   pub descending : AreDescending (read texts.cache)
-  pub finds : FindsAsSearched held s.tree s.stamps texts.cache
+  pub finds : FindsAsSearched Image held s.tree s.stamps texts.cache
 
 -- the Manifest slot has the tree of a session that isn't edited
 abbrev pub HasItsTree : Loaded → Slots → Type 0
@@ -149,6 +150,6 @@ HasItsTree s slots = s.edited ≡ false → manifest_of slots.manifest ≡ HasTr
 -- further update of the last one.
 pub record RebuildsScript (held : Contents) (number : ℕ) (lines : List (List ℕ)) (s : Loaded) (to : Result Loaded ScriptFault) (content : DiskContent) (old new : States) : Type 0 where
   pub left : LeavesRebuilt held (course held number lines s) to content old new
-  pub stored : HasItsTree s content.now → OfLast left.made (λ u. IsImageIn left.slots (planned_image held u))
+  pub stored : HasItsTree s content.now → OfLast left.made (λ u. IsImageIn left.slots (planned_image Image held u))
   pub honest : AreHonest held s.stamps (course held number lines s).asked → All (IsHonest held) left.made
-  pub settled : AreHonest held s.stamps (course held number lines s).asked → OfLast left.made (λ u. HoldUpdateOf held (planned_image held u) left.slots)
+  pub settled : AreHonest held s.stamps (course held number lines s).asked → OfLast left.made (λ u. HoldUpdateOf held (planned_image Image held u) left.slots)

@@ -1,6 +1,7 @@
 -- A script of the session that is loaded from the slots: its run, what it leaves, and what a crash of it leaves.
 use Rattle.std.specs.Prelude.{◌≡◌, ◌⊎◌, ℕ, true, List, [], ◌∷◌, codes, Option, Result, Ok, Err, IfOk, ⊤}
 use Rattle.std.specs.List.{Contains}
+use Rattle.hwcap_dirs.specs.declared.kinds.Scope.TheVariants.{Image}
 use Rattle.commands.specs.Devices.{IfBothKnown}
 use Rattle.ldconfig_core.specs.Outcome.{new_manifest}
 use Rattle.ldconfig_core.specs.Repair.{IsImageIn, LeavesOnly, MightBeLeft}
@@ -102,7 +103,7 @@ pub record LeavesWhole (tag : Tag) (known : Option Contents) (lines : List (List
 abbrev pub WritesAgain : Contents → Loaded → List Loaded → Slots → Slots → Loaded → Type 0
 WritesAgain held s updates slots image left =
     ((image.manifest ≡ slots.manifest) × IsOfOld held s left)
-    ⊎ ((u : Loaded) × (Contains updates u × ((image.manifest ≡ new_manifest held u) × IsOfUpdate held u left)))
+    ⊎ ((u : Loaded) × (Contains updates u × ((image.manifest ≡ new_manifest Image held u) × IsOfUpdate held u left)))
 
 -- The slots that a crash has left are those of a session whose stamps are true and whose files of equal identity have equal content, and which the next
 -- update repairs.

@@ -1,17 +1,18 @@
 //! The files of an image's slots, and how they are replaced.
 ghost use Rattle.std.specs.Prelude.{◌≡◌, IfOk, IsSomeAnd};
 
+use crate::places::Places;
 use crate::same_bytes::have_same_bytes;
 use crate::temporary::{Temporary, make_own, remove_left};
 use device_rules::{
-    HEAD_SIZE, Owner, RunId, Stamp, Standing, entries_in, file_of, folder_of, has_room, is_as_read,
-    is_missing, length_to_read, mode_of, mode_until_whole, name_of, owner_of, owner_to_give,
+    HEAD_SIZE, Owner, RunId, SlotPaths, Stamp, Standing, entries_in, has_room, is_as_read,
+    is_missing, largest, length_to_read, mode_of, mode_until_whole, owner_of, owner_to_give,
     stamp_of, standing_of, too_long,
 };
 use image_folder::{HeldFile, ImageFolder, Missing, changed, open_file, read_whole, shorter};
 use lib_types::NoMemory;
 use standard_streams::{Streams, file_limit};
-use std::alloc::Global;
+use std::alloc::{AllocError, Global};
 use std::fs::{OpenFile, Permissions};
 use std::io::{self, Error, ErrorKind, Read, Write};
 use std::os::unix::fs::{FileExt, MetadataExt, PermissionsExt};
@@ -41,13 +42,14 @@ impl Written {
     }
 }
 
-/// The files `image.mtree`, `etc/ld.so.cache` and `var/cache/ldconfig/aux-cache` of an image.
+/// The files `image.mtree`, `etc/ld.so.cache` and `var/cache/ldconfig/aux-cache` of an image, or the cache at another path.
 ///
 /// A temporary file stands beside its slot's file. One is open at a time: it is made by `create`, and ends with its
 /// publishing, with a failure, or with the next `create`.
 #[derive(Drop)]
 pub struct SlotFiles<R: Runtime> {
     image: ImageFolder<R>,
+    places: Places,
     run: RunId,
     temporary: Option<Temporary<R>>,
     // Which manifest was read, if it was: none if there was none.
@@ -58,17 +60,32 @@ pub struct SlotFiles<R: Runtime> {
 }
 
 impl<R: Runtime> SlotFiles<R> {
-    /// The slots of the image in the folder `root`.
-    pub fn new(rt: R, root: &str, run: RunId) -> Result<SlotFiles<R>, NoMemory> {
+    /// The slots of the image in the folder `root`, at these paths in it.
+    pub fn new(rt: R, root: &str, run: RunId, paths: SlotPaths) -> Result<SlotFiles<R>, NoMemory> {
+        SlotFiles::at(rt, root, run, Places::Image(paths))
+    }
+
+    /// The slot of the auxiliary cache alone, whose file has this name in the folder `root`.
+    pub fn of_aux(rt: R, root: &str, run: RunId, name: String) -> Result<SlotFiles<R>, NoMemory> {
+        SlotFiles::at(rt, root, run, Places::Aux(name))
+    }
+
+    fn at(rt: R, root: &str, run: RunId, places: Places) -> Result<SlotFiles<R>, NoMemory> {
         let image = ImageFolder::new(rt, root)?;
         Ok(SlotFiles {
             image,
+            places,
             run,
             temporary: None,
             manifest: None,
             is_clean: false,
             written: Written::default(),
         })
+    }
+
+    /// The cache's file, below the root.
+    pub fn cache_file(&self) -> &str {
+        self.places.file_of(Slot::Cache)
     }
 
     /// What was replaced, and how many entries caches have.
@@ -92,7 +109,7 @@ where
 
     // Opens a slot's file, if there is one.
     fn open_slot(&mut self, slot: Slot) -> io::Result<Option<(R::File, Stamp)>> {
-        match self.image.open(file_of(slot)) {
+        match self.image.open(self.places.file_of(slot)) {
             Ok((file, stamp)) => {
                 self.note_read(slot, Some(stamp));
                 Ok(Some((file, stamp)))
@@ -117,7 +134,8 @@ where
     pub fn create(&mut self, tag: Tag, slot: Slot) -> io::Result<()> {
         self.discard();
         self.clean();
-        self.image.enter(folder_of(slot), Missing::IsMade)?;
+        let (folder, _) = self.places.place_of(slot);
+        self.image.enter(folder, Missing::IsMade)?;
         let stood = self.what_stands(slot)?;
         self.begin(tag, slot, stood)
     }
@@ -125,7 +143,8 @@ where
     // Makes an empty temporary file in the folder that was entered.
     fn begin(&mut self, tag: Tag, slot: Slot, stood: Option<Standing>) -> io::Result<()> {
         let mode = mode_after(slot, stood);
-        let (name, file) = make_own(&self.image, name_of(slot), tag, self.run)?;
+        let (_, slot_name) = self.places.place_of(slot);
+        let (name, file) = make_own(&self.image, slot_name, tag, self.run)?;
         let done = hand_over(&file, stood, mode);
         self.temporary = Some(Temporary {
             tag,
@@ -139,7 +158,8 @@ where
 
     // What the slot's file hands on to its successor, if there is one.
     fn what_stands(&mut self, slot: Slot) -> io::Result<Option<Standing>> {
-        let found = self.image.look(name_of(slot))?;
+        let (_, name) = self.places.place_of(slot);
+        let found = self.image.look(name)?;
         if slot == Slot::Cache {
             self.written.entries_before = self.entries_there();
         }
@@ -156,22 +176,25 @@ where
         if !self.is_clean {
             self.is_clean = true;
             for slot in [Slot::Manifest, Slot::Cache, Slot::Aux] {
-                let _ = self.clean_beside(slot);
+                if self.places.has(slot) {
+                    let _ = self.clean_beside(slot);
+                }
             }
         }
     }
 
     fn clean_beside(&mut self, slot: Slot) -> io::Result<()> {
-        self.image.enter(folder_of(slot), Missing::IsFault)?;
-        let folder = self.image.path_beside("")?;
-        remove_left(&self.image.rt, folder.as_str(), name_of(slot))
+        let (folder, name) = self.places.place_of(slot);
+        self.image.enter(folder, Missing::IsFault)?;
+        let path = self.image.path_beside("")?;
+        remove_left(&self.image.rt, path.as_str(), name)
     }
 
     // The open temporary file of this tag and slot.
     fn opened(&mut self, tag: Tag, slot: Slot) -> io::Result<&mut Temporary<R>>
         ensures { IfOk result (λ _. IsSomeAnd self.old.temporary (λ t. (t.tag ≡ tag) × (t.slot ≡ slot))) }
     {
-        go_to_slot(&mut self.image, slot)?;
+        go_to_file(&mut self.image, self.places.place_of(slot))?;
         match &mut self.temporary {
             Some(temporary) if temporary.tag == tag && temporary.slot == slot => Ok(temporary),
             _ => Err(Error::new(ErrorKind::NotFound, "no temporary file is open")),
@@ -213,10 +236,8 @@ where
         if slot != Slot::Manifest {
             return Ok(true);
         }
-        let now = self
-            .image
-            .look(name_of(slot))?
-            .map(|found| stamp_of(&found));
+        let (_, name) = self.places.place_of(slot);
+        let now = self.image.look(name)?.map(|found| stamp_of(&found));
         if is_as_read(self.manifest, now) {
             return Ok(true);
         }
@@ -237,7 +258,8 @@ where
 
     fn replace(&mut self, slot: Slot) -> io::Result<()> {
         if let Some(temporary) = &self.temporary {
-            rename_beside(&self.image, temporary.name.as_str(), name_of(slot))?;
+            let (_, name) = self.places.place_of(slot);
+            rename_beside(&self.image, temporary.name.as_str(), name)?;
             if slot == Slot::Manifest {
                 // The renaming changes its stamp.
                 self.manifest = stamp_in(&temporary.file);
@@ -249,14 +271,16 @@ where
 
     /// Flushes the root and the folders on the way to a slot's file, some of which `create` may have made.
     pub fn settle(&mut self, slot: Slot) -> io::Result<()> {
-        self.image.enter(folder_of(slot), Missing::IsFault)?;
+        let (folder, _) = self.places.place_of(slot);
+        self.image.enter(folder, Missing::IsFault)?;
         self.image.sync_folders()
     }
 
     // Removes the temporary file that is open.
     fn discard(&mut self) {
         if let Some(temporary) = &self.temporary {
-            let _ = remove_beside(&mut self.image, temporary.slot, temporary.name.as_str());
+            let (folder, _) = self.places.place_of(temporary.slot);
+            let _ = remove_in(&mut self.image, folder, temporary.name.as_str());
         }
         self.temporary = None;
     }
@@ -300,22 +324,23 @@ fn flush<F: OpenFile>(file: &F, mode: u32) -> io::Result<()> {
     file.sync_all()
 }
 
-// From here on faults are about the slot's file.
-fn go_to_slot<R: Runtime>(image: &mut ImageFolder<R>, slot: Slot) -> io::Result<()>
+// From here on faults are about the file of this name in this folder.
+fn go_to_file<R: Runtime>(image: &mut ImageFolder<R>, place: (&str, &str)) -> io::Result<()>
 where
     R::File: HeldFile,
 {
-    image.enter(folder_of(slot), Missing::IsFault)?;
-    image.go_to(name_of(slot))?;
+    let (folder, name) = place;
+    image.enter(folder, Missing::IsFault)?;
+    image.go_to(name)?;
     Ok(())
 }
 
-// Removes the file of this name beside the slot's.
-fn remove_beside<R: Runtime>(image: &mut ImageFolder<R>, slot: Slot, name: &str) -> io::Result<()>
+// Removes the file of this name in this folder.
+fn remove_in<R: Runtime>(image: &mut ImageFolder<R>, folder: &str, name: &str) -> io::Result<()>
 where
     R::File: HeldFile,
 {
-    image.enter(folder_of(slot), Missing::IsFault)?;
+    image.enter(folder, Missing::IsFault)?;
     let path = image.path_beside(name)?;
     image.rt.remove_file(path.as_str())
 }
@@ -391,7 +416,8 @@ fn read_slot<F: HeldFile + Read + Drop>(
 ) -> io::Result<Vec<u8>> {
     let is_cache = slot == Slot::Cache && begins_cache(&file, size)?;
     let Some(length) = length_to_read(slot, is_cache, size) else {
-        return Err(Error::new(ErrorKind::FileTooLarge, too_large(slot)));
+        let text = too_large(alloc, slot)?;
+        return Err(Error::new(ErrorKind::FileTooLarge, text.as_str()));
     };
     let mut bytes = vec![in alloc; 0u8; length as usize]?;
     read_whole(&mut file, &mut bytes)?;
@@ -409,11 +435,9 @@ fn begins_cache<F: HeldFile>(file: &F, length: u64) -> io::Result<bool> {
 }
 
 // Why a slot's file isn't read.
-fn too_large(slot: Slot) -> &'static str {
-    match slot {
-        Slot::Cache => "more than 1076953088 bytes",
-        Slot::Manifest | Slot::Aux => "more than 2147483648 bytes",
-    }
+fn too_large(alloc: Global, slot: Slot) -> Result<String, AllocError> {
+    let most = largest(slot);
+    format!(in alloc; "more than {most} bytes")
 }
 
 // How many entries the cache of a path has, if it says.

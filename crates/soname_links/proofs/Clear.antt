@@ -28,7 +28,7 @@ use Rattle.image_tree.specs.declared.tree.Kind.TheVariants as kinds
 use Rattle.soname_links.proofs.Rooms.{HaveRoom, IsRoom, have_room}
 use Rattle.soname_links.specs.Apply.{are_clear}
 use Rattle.soname_links.specs.Plan.{is_taken, links, with_link}
-use Rattle.soname_links.specs.declared.kinds.Planned.{Planned}
+use Rattle.link_plan.specs.declared.kinds.Planned.{Planned}
 
 -- ---- a path that has room
 

@@ -20,7 +20,7 @@ use Rattle.image_tree.proofs.OneMore.{put_here, put_other}
 use Rattle.soname_links.specs.Apply.{new_path, nodes_with}
 use Rattle.string_pool.specs.Order.{ascending}
 use Rattle.soname_links.specs.Plan.{with_link, with_links}
-use Rattle.soname_links.specs.declared.kinds.Planned.{Planned}
+use Rattle.link_plan.specs.declared.kinds.Planned.{Planned}
 use Rattle.string_pool.proofs.InByteOrder.{count_more}
 
 -- ---- the nodes

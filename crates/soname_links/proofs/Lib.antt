@@ -17,5 +17,5 @@ mod Settled
 mod Spots
 mod Stays
 mod Summed
-mod Targets
+pub mod Targets
 mod WantedRows

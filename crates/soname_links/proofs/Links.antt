@@ -14,7 +14,7 @@ use Rattle.library_files.specs.Places.{by_place, has_no_cap, links_to}
 use Rattle.soname_links.specs.Plan.{is_blocked, is_regarded, link_for, links, links_in}
 use Rattle.file_table.specs.Analyses.{Analyses}
 use Rattle.place_libraries.specs.Library.{Library}
-use Rattle.soname_links.specs.declared.kinds.Planned.{Planned}
+use Rattle.link_plan.specs.declared.kinds.Planned.{Planned}
 
 -- the link is planned for this library
 pub record IsLinkFor (t : Nodes) (place : Place) (library : Library) (planned : Planned) : Type 0 where

@@ -21,7 +21,7 @@ use Rattle.place_libraries.specs.Libraries.{libraries_in}
 use Rattle.soname_links.specs.Plan.{is_taken, links}
 use Rattle.file_table.specs.Analyses.{Analyses, HaveNames}
 use Rattle.place_libraries.specs.Library.{Library}
-use Rattle.soname_links.specs.declared.kinds.Planned.{Planned}
+use Rattle.link_plan.specs.declared.kinds.Planned.{Planned}
 
 short : (n : ℕ) → nat_lt PATH_MAX n ≡ false → nat_le n PATH_MAX ≡ true
 short n h = grind (arith, nat_tests)

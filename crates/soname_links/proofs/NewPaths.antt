@@ -11,7 +11,7 @@ use Rattle.string_pool.proofs.Members.{is_in}
 use Rattle.string_pool.specs.Order.{ascending}
 use Rattle.image_tree.specs.Tree.{Nodes, node_at}
 use Rattle.soname_links.specs.Apply.{is_at_path, is_last_new, new_path, new_paths}
-use Rattle.soname_links.specs.declared.kinds.Planned.{Planned}
+use Rattle.link_plan.specs.declared.kinds.Planned.{Planned}
 
 abbrev pub one_if : Bool → ℕ
 one_if true = 1

@@ -21,7 +21,7 @@ use Rattle.place_libraries.specs.Libraries.{libraries_in, library_in}
 use Rattle.soname_links.specs.Plan.{links}
 use Rattle.file_table.specs.Analyses.{Analyses, HaveNames}
 use Rattle.place_libraries.specs.Library.{Library}
-use Rattle.soname_links.specs.declared.kinds.Planned.{Planned}
+use Rattle.link_plan.specs.declared.kinds.Planned.{Planned}
 
 module _ (what : Analyses) (named : HaveNames what) (t : Nodes) (tree : IsTree t) where
   same_best : (place other : Place) (library more : Library) → place.real ≡ other.real → library.soname ≡ more.soname

@@ -24,7 +24,7 @@ use Rattle.image_tree.specs.declared.tree.Kind.TheVariants as kinds
 use Rattle.soname_links.proofs.Links.{IsLinkFor, each_link}
 use Rattle.soname_links.proofs.Named.{is_dir_kind, link_named}
 use Rattle.soname_links.specs.Plan.{is_taken, links}
-use Rattle.soname_links.specs.declared.kinds.Planned.{Planned}
+use Rattle.link_plan.specs.declared.kinds.Planned.{Planned}
 
 -- a path with a library name where nothing or a link is, and above it directories
 pub record IsRoom (t : Nodes) (path : List ℕ) : Type 0 where

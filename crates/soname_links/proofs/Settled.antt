@@ -25,7 +25,7 @@ use Rattle.library_files.specs.Search.{files_in, wanted}
 use Rattle.soname_links.specs.Settled.{IsSettled, Settles}
 use Rattle.file_table.specs.Analyses.{Analyses, HaveNames}
 use Rattle.place_libraries.specs.Library.{Library}
-use Rattle.soname_links.specs.declared.kinds.Planned.{Planned}
+use Rattle.link_plan.specs.declared.kinds.Planned.{Planned}
 use Rattle.soname_links.proofs.OneText.{all_same, one_text}
 
 all_open : (t : Nodes) (plan : List Planned) → is_plan plan ≡ true → list_all (λ planned. not (is_blocked t planned.path)) plan ≡ true → are_open t plan ≡ true

@@ -17,7 +17,7 @@ use Rattle.soname_links.specs.Apply.{are_clear}
 use Rattle.library_files.specs.Places.{is_link_to}
 use Rattle.soname_links.specs.Plan.{is_taken, with_link, with_links}
 use Rattle.library_files.specs.Search.{file_in}
-use Rattle.soname_links.specs.declared.kinds.Planned.{Planned}
+use Rattle.link_plan.specs.declared.kinds.Planned.{Planned}
 
 -- ---- links that can be put one after another
 

@@ -9,7 +9,7 @@ use Rattle.path_walk.proofs.NoNul.{name_clean}
 use Rattle.image_tree.specs.Node.{is_target}
 use Rattle.image_tree.specs.Paths.{is_path}
 use Rattle.soname_links.specs.Apply.{is_link, is_plan}
-use Rattle.soname_links.specs.declared.kinds.Planned.{Planned}
+use Rattle.link_plan.specs.declared.kinds.Planned.{Planned}
 
 longer : (n : ℕ) → nat_le n 255 ≡ true → nat_le n 4095 ≡ true
 longer n h = grind arith

@@ -12,7 +12,7 @@ use Rattle.library_files.specs.Places.{by_place, has_no_cap}
 use Rattle.soname_links.specs.Plan.{is_blocked, is_regarded}
 use Rattle.file_table.specs.Analyses.{Analyses}
 use Rattle.place_libraries.specs.Library.{Library}
-use Rattle.soname_links.specs.declared.kinds.Mark.{Mark}
+use Rattle.link_plan.specs.declared.kinds.Mark.{Mark}
 
 abbrev pub mark : ℕ → List ℕ → Mark
 mark number soname = record { place = number; soname = soname }

@@ -14,7 +14,7 @@ use Rattle.place_libraries.specs.Libraries.{libraries_in}
 use Rattle.library_files.specs.Places.{by_place, has_no_cap, links_to}
 use Rattle.file_table.specs.Analyses.{Analyses}
 use Rattle.place_libraries.specs.Library.{Library}
-use Rattle.soname_links.specs.declared.kinds.Planned.{Planned}
+use Rattle.link_plan.specs.declared.kinds.Planned.{Planned}
 
 -- the best library of its soname wants a link: the soname is a library name, and no file of that soname has it as its name
 abbrev pub is_regarded : Library → Bool

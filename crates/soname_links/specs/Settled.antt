@@ -7,7 +7,7 @@ use Rattle.place_libraries.specs.Libraries.{libraries_in}
 use Rattle.soname_links.specs.Plan.{links}
 use Rattle.library_files.specs.Search.{wanted}
 use Rattle.file_table.specs.Analyses.{Analyses, HaveNames}
-use Rattle.soname_links.specs.declared.kinds.Planned.{Planned}
+use Rattle.link_plan.specs.declared.kinds.Planned.{Planned}
 
 -- the places are directories still, have the same files and libraries, and want no link
 pub record IsSettled (what : Analyses) (t : Nodes) (places : List Place) (new : Nodes) : Type 0 where

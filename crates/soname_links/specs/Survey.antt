@@ -15,8 +15,8 @@ use Rattle.soname_links.specs.Plan.{is_blocked, link_for}
 use Rattle.library_files.specs.Places.{has_no_cap, links_to}
 use Rattle.soname_links.specs.declared.groups.Group.{Group}
 use Rattle.place_libraries.specs.Library.{Library}
-use Rattle.soname_links.specs.declared.kinds.Mark.{Mark}
-use Rattle.soname_links.specs.declared.kinds.Planned.{Planned}
+use Rattle.link_plan.specs.declared.kinds.Mark.{Mark}
+use Rattle.link_plan.specs.declared.kinds.Planned.{Planned}
 use Rattle.soname_links.specs.declared.surveying.Spot.{Spot}
 use Rattle.soname_links.specs.declared.surveying.Spot.TheVariants.{Blocked, Linked, Free}
 

@@ -11,8 +11,9 @@ ghost use Rattle.soname_links.specs.Apply.{are_clear, is_at_path, is_last_new, i
 ghost use Rattle.soname_links.specs.Plan.{with_link, with_links};
 ghost use Rattle.soname_links.specs.Settled.{Settles};
 
-use crate::kinds::{ApplyFault, Plan, Planned};
+use crate::kinds::ApplyFault;
 use lib_types::{NoMemory, Text, Texts, is_name};
+use link_plan::{Plan, Planned};
 use std::alloc::Global;
 use string_pool::ascending;
 use tree_face::{NODES_MAX, Node, Tree, is_path};

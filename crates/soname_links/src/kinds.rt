@@ -2,34 +2,9 @@
 ghost use Rattle.std.specs.Prelude.{◌≡◌};
 
 pub use cache_entries::EntryFault;
-use lib_types::{NoMemory, Seq, Text};
+use lib_types::NoMemory;
+use link_plan::{Marks, Plan};
 use place_libraries::PlaceBests;
-
-/// A link that is planned.
-#[derive(Drop)]
-pub struct Planned {
-    /// The number of the place that gets it.
-    pub place: u32,
-    pub soname: Text,
-    /// The name of the file to which it leads, which is its text.
-    pub file: Text,
-    /// Its path in the tree, without links.
-    pub path: Text,
-}
-
-/// The links that are planned, by place and then by the bytes of their sonames.
-pub type Plan = Seq<Planned>;
-
-/// A soname in a place.
-#[derive(Drop)]
-pub struct Mark {
-    /// The number of the place.
-    pub place: u32,
-    pub soname: Text,
-}
-
-/// Sonames in places, by place and then by the bytes of the sonames.
-pub type Marks = Seq<Mark>;
 
 /// What is planned and what is reported of an image's places.
 #[derive(Drop)]

@@ -3,7 +3,7 @@
 
 mod applying;
 mod groups;
-pub mod kinds;
+mod kinds;
 mod marks;
 mod planning;
 mod summary;
@@ -12,7 +12,7 @@ mod wanted_table;
 mod winners;
 
 pub use applying::{apply, is_plan};
-pub use kinds::{ApplyFault, EntryFault, Mark, Marks, Planned, Survey};
+pub use kinds::{ApplyFault, EntryFault, Survey};
 pub use marks::{blocked, mixed};
 pub use planning::plan;
 pub use surveying::survey;

@@ -3,12 +3,12 @@ ghost use Rattle.std.specs.Prelude.{◌≡◌, IfOk};
 ghost use Rattle.soname_links.specs.Marks.{blocked, mixed};
 ghost use Rattle.file_table.specs.Table.{analysis_at};
 
-use crate::kinds::Marks;
 use crate::surveying::survey;
 use crate::wanted_table::wanted_table;
 use file_table::Table;
 use hwcap_dirs::Dirs;
 use lib_types::NoMemory;
+use link_plan::Marks;
 use std::alloc::Global;
 use tree_face::Tree;
 

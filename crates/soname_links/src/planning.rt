@@ -6,12 +6,12 @@ ghost use Rattle.file_table.specs.Analyses.{HaveNames};
 ghost use Rattle.soname_links.specs.Plan.{links};
 ghost use Rattle.file_table.specs.Table.{analysis_at};
 
-use crate::kinds::Plan;
 use crate::surveying::survey;
 use crate::wanted_table::wanted_table;
 use file_table::Table;
 use hwcap_dirs::Dirs;
 use lib_types::NoMemory;
+use link_plan::Plan;
 use std::alloc::Global;
 use tree_face::Tree;
 

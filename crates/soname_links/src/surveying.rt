@@ -11,12 +11,13 @@ ghost use Rattle.file_table.specs.Analyses.{HaveNames};
 ghost use Rattle.place_libraries.specs.Rows.{AreOfPlaces};
 ghost use Rattle.file_table.specs.Table.{analysis_at};
 
-use crate::kinds::{Mark, Marks, Plan, Planned, Survey};
+use crate::kinds::Survey;
 use crate::summary::place_summaries;
 use file_table::Table;
 use hwcap_dirs::{Dirs, Place};
 use lib_types::{NoMemory, Seq, Text, Texts};
 use library_files::has_no_cap;
+use link_plan::{Mark, Marks, Plan, Planned};
 use name_order::is_library_name;
 use path_walk::join_into;
 use place_libraries::{BestLibraries, Library, PlaceBests, is_own};

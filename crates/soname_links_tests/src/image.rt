@@ -1,7 +1,7 @@
 //! Images of links, libraries and other files.
 use crate::fault::ImageFault;
 use file_table::Table;
-use hwcap_dirs::{Dirs, order};
+use hwcap_dirs::{Dirs, Scope, order};
 use lib_types::{Abi, Analysis, NoMemory, Text, Texts, is_name};
 use std::alloc::Global;
 use tree_face::{Node, Tree, TreeFault, is_node, is_path};
@@ -105,13 +105,13 @@ pub(crate) fn image_of(
     let tree = tree_of(alloc, links)?;
     let conf = texts_of(alloc, conf)?;
     let mut image = Image {
-        dirs: order(alloc, &tree, &conf)?,
+        dirs: order(alloc, &Scope::Image, &tree, &conf)?,
         tree,
         table: Table::new(alloc),
     };
     for (path, soname) in libraries {
         put_library(alloc, &mut image, path, Abi::X86_64, soname)?;
     }
-    image.dirs = order(alloc, &image.tree, &conf)?;
+    image.dirs = order(alloc, &Scope::Image, &image.tree, &conf)?;
     Ok(image)
 }

@@ -1,7 +1,6 @@
 //! Lists as texts of one line, each item with a bar behind it.
 use lib_types::{Entries, NoMemory, Texts};
-use soname_links::Marks;
-use soname_links::kinds::Plan;
+use link_plan::{Marks, Plan};
 use std::alloc::Global;
 
 // The number of a place, of which the tests have fewer than ten.

@@ -5,10 +5,10 @@ ghost use Rattle.lib_types.specs.Counts.{HasRisen};
 ghost use Rattle.tree_real.specs.Unknown.{unknown_disk, unknown_moments};
 
 use crate::counts::one_more;
-use device_rules::{RunId, is_out_of_memory};
+use device_rules::{RunId, SlotPaths, is_out_of_memory};
 use image_folder::HeldFile;
 use lib_types::{Failed, NoMemory};
-use slot_files::{SlotFiles, Written};
+use slot_files::{ImageSlots, SlotFiles, Written};
 use standard_streams::Streams;
 use std::alloc::Global;
 use std::io;
@@ -18,23 +18,35 @@ use tree_face::{Disk, DiskRead, Slot, Tag};
 /// The slots in a folder, with a count of the calls that failed.
 #[derive(Drop)]
 pub struct FolderDisk<R: Runtime> {
-    files: SlotFiles<R>,
+    files: ImageSlots<R>,
     faults: u64,
     // How many of the faults were of readings.
     read_faults: u64,
 }
 
 impl<R: Runtime> FolderDisk<R> {
-    /// The slots of the image in the folder `root`.
-    pub fn new(rt: R, root: &str, run: RunId) -> Result<FolderDisk<R>, NoMemory>
+    /// The slots of the image in the folder `root`, at these paths in it.
+    pub fn new(rt: R, root: &str, run: RunId, paths: SlotPaths) -> Result<FolderDisk<R>, NoMemory>
         ensures { IfOk result (λ disk. unknown_disk disk.faults disk.read_faults ≡ unknown_disk 0 0) }
     {
-        let files = SlotFiles::new(rt, root, run)?;
+        let files = ImageSlots::new(rt, root, run, paths)?;
         Ok(FolderDisk {
             files,
             faults: 0,
             read_faults: 0,
         })
+    }
+
+    /// From here on the auxiliary cache is this one.
+    pub fn set_aux(&mut self, aux: SlotFiles<R>)
+        ensures { unknown_disk self.new.faults self.new.read_faults ≡ unknown_disk self.old.faults self.old.read_faults }
+    {
+        self.files.set_aux(aux);
+    }
+
+    /// The cache's file, below the root.
+    pub fn cache_file(&self) -> &str {
+        self.files.cache_file()
     }
 
     /// What was replaced, and how many entries caches have.
@@ -61,7 +73,7 @@ where
     R::File: HeldFile,
 {
     // The result of a writing call, which counts a failure.
-    fn result(&mut self, call: &str, done: io::Result<()>) -> Result<(), Failed>
+    fn result(&mut self, slot: Slot, call: &str, done: io::Result<()>) -> Result<(), Failed>
         ensures same { is_err result ≡ is_err done }
         ensures faults { self.old.faults ≤ self.new.faults }
         ensures not_counted { OnOk result (self.new.faults ≡ self.old.faults) }
@@ -71,7 +83,7 @@ where
         match done {
             Ok(()) => Ok(()),
             Err(error) => {
-                self.files.fail(call, error);
+                self.files.fail(slot, call, error);
                 self.faults = one_more(self.faults);
                 Err(Failed)
             }
@@ -94,7 +106,7 @@ where
             Ok(found) => Ok(found),
             Err(error) if is_out_of_memory(error.kind()) => Err(DiskRead::NoMemory),
             Err(error) => {
-                self.files.fail("read: ", error);
+                self.files.fail(slot, "read: ", error);
                 self.faults = one_more(self.faults);
                 self.read_faults = one_more(self.read_faults);
                 Err(DiskRead::Failed)
@@ -104,27 +116,27 @@ where
 
     fn create(&mut self, tag: Tag, slot: Slot) -> Result<(), Failed> {
         let done = self.files.create(tag, slot);
-        self.result("create: ", done)
+        self.result(slot, "create: ", done)
     }
 
     fn append(&mut self, tag: Tag, slot: Slot, bytes: &[u8]) -> Result<(), Failed> {
         let done = self.files.append(tag, slot, bytes);
-        self.result("write: ", done)
+        self.result(slot, "write: ", done)
     }
 
     fn sync(&mut self, tag: Tag, slot: Slot) -> Result<(), Failed> {
         let done = self.files.sync(tag, slot);
-        self.result("sync: ", done)
+        self.result(slot, "sync: ", done)
     }
 
     fn publish(&mut self, tag: Tag, slot: Slot) -> Result<(), Failed> {
         let done = self.files.publish(tag, slot);
-        self.result("replace: ", done)
+        self.result(slot, "replace: ", done)
     }
 
     fn settle(&mut self, slot: Slot) -> Result<(), Failed> {
         let done = self.files.settle(slot);
-        self.result("settle: ", done)
+        self.result(slot, "settle: ", done)
     }
 }
 

@@ -9,8 +9,8 @@ use Rattle.ldso_conf.specs.declared.kinds.ConfKind.TheVariants.{NotFile, Repeate
 use Rattle.ldso_conf.specs.declared.kinds.ConfReport.{ConfReport}
 use Rattle.name_order.specs.Order.{token_order}
 use Rattle.image_tree.specs.Paths.{join}
-use Rattle.soname_links.specs.declared.kinds.Mark.{Mark}
-use Rattle.soname_links.specs.declared.kinds.Planned.{Planned}
+use Rattle.link_plan.specs.declared.kinds.Mark.{Mark}
+use Rattle.link_plan.specs.declared.kinds.Planned.{Planned}
 use Rattle.lib_types.specs.Defects.{defect_text}
 use Rattle.update_report.specs.declared.kinds.Skipped.{Skipped}
 

@@ -4,8 +4,8 @@ use Rattle.std.specs.List.{zip}
 use Rattle.hwcap_dirs.specs.declared.kinds.Place.{Place}
 use Rattle.ldso_conf.specs.declared.kinds.ConfReport.{ConfReport}
 use Rattle.lib_types.specs.declared.entry.Entry.{Entry}
-use Rattle.soname_links.specs.declared.kinds.Mark.{Mark}
-use Rattle.soname_links.specs.declared.kinds.Planned.{Planned}
+use Rattle.link_plan.specs.declared.kinds.Mark.{Mark}
+use Rattle.link_plan.specs.declared.kinds.Planned.{Planned}
 use Rattle.update_report.specs.Lines.{absent_line, blocked_line, conf_line, damaged_line, dangling_line, last_line, line_of_twins, link_line, mixed_line, skip_line}
 use Rattle.update_report.specs.declared.kinds.Findings.{Findings}
 use Rattle.update_report.specs.declared.kinds.Skipped.{Skipped}

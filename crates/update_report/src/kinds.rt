@@ -2,8 +2,7 @@
 use hwcap_dirs::Dirs;
 use ldso_conf::ConfReports;
 use lib_types::{Defect, Entries, Seq, Text, Texts};
-use soname_links::Marks;
-use soname_links::kinds::Plan;
+use link_plan::{Marks, Plan};
 
 /// A library file that is no library, and why.
 #[derive(Drop)]

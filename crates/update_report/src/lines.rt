@@ -9,8 +9,8 @@ use crate::kinds::Skipped;
 use hwcap_dirs::Places;
 use ldso_conf::{ConfKind, ConfReport};
 use lib_types::{NoMemory, Text};
+use link_plan::{Mark, Planned};
 use name_order::compare_tokens;
-use soname_links::{Mark, Planned};
 use std::alloc::Global;
 use std::cmp::Ordering;
 

@@ -11,7 +11,7 @@ use crate::lines::{
 use hwcap_dirs::Places;
 use ldso_conf::ConfReport;
 use lib_types::{Entry, NoMemory, Text};
-use soname_links::{Mark, Planned};
+use link_plan::{Mark, Planned};
 use std::alloc::Global;
 
 fn put_conf_lines(out: &mut Vec<u8>, reports: &[ConfReport]) -> Result<(), NoMemory>

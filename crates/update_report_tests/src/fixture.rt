@@ -2,8 +2,7 @@
 use hwcap_dirs::{Dirs, Place};
 use ldso_conf::{ConfKind, ConfReport, ConfReports};
 use lib_types::{Abi, Defect, Entries, Entry, NoMemory, Seq, Text, Texts};
-use soname_links::kinds::Plan;
-use soname_links::{Mark, Marks, Planned};
+use link_plan::{Mark, Marks, Plan, Planned};
 use std::alloc::Global;
 use std::test::Fail;
 use update_report::{Findings, Skipped, Skips, report};

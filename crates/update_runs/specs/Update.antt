@@ -1,5 +1,6 @@
 -- One update of a session, with its report.
 use Rattle.std.specs.Prelude.{◌≡◌, Result, Ok, Err}
+use Rattle.hwcap_dirs.specs.declared.kinds.Scope.TheVariants.{Image}
 use Rattle.lib_types.specs.Counts.{HasRisen}
 use Rattle.tree_face.specs.declared.disk.Tag.{Tag}
 use Rattle.tree_face.specs.Disk.{DiskState}
@@ -41,5 +42,5 @@ Reports (Err fault) to old new = (to ≡ Err (Update fault)) × (new ≡ old)
 -- one update and its report: the updated session, or why there is none
 pub record UpdatesTo (tag : Tag) (s : Loaded) (to : Result Loaded UpdatingFault) (old new : States) : Type 0 where
   pub result : Result (Loaded × Report) UpdateFault
-  pub updates : Updates tag s result old.store new.store old.disk new.disk
+  pub updates : Updates Image tag s result old.store new.store old.disk new.disk
   pub reports : Reports result to old.sink new.sink

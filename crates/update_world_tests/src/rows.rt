@@ -59,7 +59,7 @@ fn are_right(
 ) -> Result<bool, NoMemory> {
     let got = take_rounds(alloc, world, value(row, b"rounds").unwrap_or(b""))?;
     let read = said.is_text(alloc, row, b"readings", &got.read)?;
-    Ok(said.is_text(alloc, row, b"left", &got.left)? && read)
+    Ok(said.is_text(alloc, row, b"after-crash", &got.left)? && read)
 }
 
 fn is_tag(alloc: Global, tag: Tag, want: &[u8], said: &mut Said) -> Result<bool, NoMemory> {
@@ -72,7 +72,7 @@ const WORDS: &[Words] = &[&[
     b"post",
     b"rounds",
     b"readings",
-    b"left",
+    b"after-crash",
     b"same-tag",
 ]];
 

@@ -1,11 +1,12 @@
 use Rattle.std.proofs.Common.{◌≡◌, Err, sym, subst, rules}
 use Rattle.std.specs.Option.{option_copied}
 use Rattle.tree_face.specs.StoreUse.{Complete}
+use Rattle.rpath_search.specs.Places.{env_for}
 use Rattle.rpath_search.specs.declared.fault.SearchFault.TheVariants.{NoMemory}
 use Rattle.rpath_search.specs.declared.kinds.Env.{Env}
 use Rattle.ldd_resolve.specs.Loading.{Advances, IsSound}
 use Rattle.ldd_resolve.specs.Requests.{IsListed, record_with}
-use Rattle.ldd_resolve.specs.Resolving.{env_for, inputs_of}
+use Rattle.ldd_resolve.specs.Resolving.{inputs_of}
 use Rattle.ldd_resolve.proofs.Advances.{gives_up}
 use Rattle.ldd_resolve.proofs.Objects.{failing, fails_as}
 use Rattle.ldd_resolve.proofs.resolving.load.Goals as goal

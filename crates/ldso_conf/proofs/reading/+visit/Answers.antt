@@ -50,14 +50,14 @@ loop-step-init g t c =
 pub loop-step-preserved-in-Continue-branch-4 : goal.loop-step-preserved-in-Continue-branch-4
 loop-step-preserved-in-Continue-branch-4 g t c =
     let left = rw (c.in-Some-step.ensures.steps.0, c.in-Directory.is) at c.loop-step.invariant.done in
-    let parts = dir_taken (g.S.Store.state c.args.store.now).held c.loop-step.reader c.add_dir.new.self (g.S.Store.state c.loop-step.store) c.in-Directory.dir c.in_ok-add_dir-in-Directory.ensures in
-    let same = dir_files c.loop-step.reader c.add_dir.new.self c.in-Directory.dir c.in_ok-add_dir-in-Directory.ensures in
+    let parts = dir_taken (g.S.Store.state c.args.store.now).held c.loop-step.reader c.add_dir.new.self (g.S.Store.state c.loop-step.store) c.in-Directory.dir c.in-Directory.origin c.in_ok-add_dir-in-Directory.ensures in
+    let same = dir_files c.loop-step.reader c.add_dir.new.self c.in-Directory.dir c.in-Directory.origin c.in_ok-add_dir-in-Directory.ensures in
     let files = c.loop-step.invariant.files in
     let begins = c.loop-step.invariant.begun in
     record {
       deep = c.loop-step.invariant.deep;
       done = step_done (λ held. included c.args.tree.now held c.args.left c.args.reader.now.read (c.args.file.spelled, c.args.file.real)) (λ held. included c.args.tree.now held (c.args.left - 1))
-          (step.Directory c.in-Directory.dir) c.next.new.self.rest.items c.args.reader.now c.loop-step.reader c.add_dir.new.self (g.S.Store.state c.args.store.now) (g.S.Store.state c.loop-step.store) (g.S.Store.state c.loop-step.store) (g.S.Store.state c.args.store.now).held left parts.0 parts.1;
+          (step.Directory c.in-Directory.dir c.in-Directory.origin) c.next.new.self.rest.items c.args.reader.now c.loop-step.reader c.add_dir.new.self (g.S.Store.state c.args.store.now) (g.S.Store.state c.loop-step.store) (g.S.Store.state c.loop-step.store) (g.S.Store.state c.args.store.now).held left parts.0 parts.1;
       held = c.loop-step.invariant.held;
       files = omega (arith, files, same);
       begun = omega (arith, same, begins);

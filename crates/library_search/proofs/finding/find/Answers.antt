@@ -15,17 +15,17 @@ use Rattle.library_search.proofs.finding.find.Goals as goal
 pub returns-in_err-search-clause-reads : goal.returns-in_err-search-clause-reads
 returns-in_err-search-clause-reads g c =
     let same : c.from_residual.result ≡ Err c.in_err-search.field-0.0 = search rules in
-    rw same (search_failed c.args.tree.now c.args.loaded.now _ _ Search Found c.in_err-search.field-0.0 c.in_err-search.ensures.others (rw c.in_err-search.was at c.search_image.ensures.reads))
+    rw same (search_failed c.args.scope.now c.args.tree.now c.args.loaded.now _ _ Search Found c.in_err-search.field-0.0 c.in_err-search.ensures.others (rw c.in_err-search.was at c.search_image.ensures.reads))
 
 pub returns-in_err-links-clause-too_large : goal.returns-in_err-links-clause-too_large
 returns-in_err-links-clause-too_large g c nodes is =
-    too_large c.args.tree.now c.args.loaded.now c.in_ok-search.search _ c.in_ok-search.ensures.found nodes (search rules)
+    too_large c.args.scope.now c.args.tree.now c.args.loaded.now c.in_ok-search.search _ c.in_ok-search.ensures.found nodes (search rules)
 
 pub returns-in_err-links-clause-reads : goal.returns-in_err-links-clause-reads
 returns-in_err-links-clause-reads g c =
     let same : c.from_residual-in_err-links.result ≡ Err (of_apply c.in_err-links.field-0.0) = search rules in
-    rw same (links_failed c.args.tree.now c.args.loaded.now _ _ Found c.in_err-links.field-0.0
-    (λ nodes e. many_nodes c.args.tree.now c.args.loaded.now c.in_ok-search.search _ c.in_ok-search.ensures.found nodes
+    rw same (links_failed c.args.scope.now c.args.tree.now c.args.loaded.now _ _ Found c.in_err-links.field-0.0
+    (λ nodes e. many_nodes c.args.scope.now c.args.tree.now c.args.loaded.now c.in_ok-search.search _ c.in_ok-search.ensures.found nodes
     (c.in_err-links.ensures.too_large nodes (ap Err e)))
     c.in_ok-search.ensures.reads)
 
@@ -35,11 +35,11 @@ returns-in_err-followed-clause-reads g c =
     let found = c.in_ok-search.search in
     let ensured = c.in_ok-search.ensures in
     let new = c.plan_links.new.tree in
-    rw same (behind_failed c.args.tree.now c.args.loaded.now _ _
-    (none_lacks c.args.tree.now c.args.loaded.now found _ ensured.found)
-    (few_nodes c.args.tree.now c.args.loaded.now found _ ensured.found c.in_ok-links.ensures.few)
+    rw same (behind_failed c.args.scope.now c.args.tree.now c.args.loaded.now _ _
+    (none_lacks c.args.scope.now c.args.tree.now c.args.loaded.now found _ ensured.found)
+    (few_nodes c.args.scope.now c.args.tree.now c.args.loaded.now found _ ensured.found c.in_ok-links.ensures.few)
     new c.in_ok-links.ensures.alike (stamps_there c.args.loaded.now found.files) (unread_paths found.files (reached new found.dirs.places))
-    (behind_are c.args.tree.now c.args.loaded.now found ensured.all ensured.only new c.in_ok-links.ensures.alike c.in_ok-links.ensures.tree _ ensured.found)
+    (behind_are c.args.scope.now c.args.tree.now c.args.loaded.now found ensured.all ensured.only new c.in_ok-links.ensures.alike c.in_ok-links.ensures.tree _ ensured.found)
     ensured.reads _ Followed Found c.in_err-followed.field-0.0 c.in_err-followed.ensures.others
     (rw (c.in_err-followed.was, ensured.reads.held) at c.follow_links.ensures.reads))
 
@@ -48,14 +48,14 @@ returns-clause-found g c =
     let ensured = c.in_ok-search.ensures in
     let planned = c.in_ok-links.ensures in
     let followed = c.in_ok-followed.ensures in
-    is_found c.args.tree.now c.args.loaded.now c.in_ok-search.search ensured.all ensured.only c.plan_links.new.tree planned.alike planned.tree
+    is_found c.args.scope.now c.args.tree.now c.args.loaded.now c.in_ok-search.search ensured.all ensured.only c.plan_links.new.tree planned.alike planned.tree
     planned.settled c.in_ok-links.links c.in_ok-followed.followed c.follow_links.new.files planned.plan planned.few planned.blocked planned.mixed followed.dangling
     followed.kept followed.only _ ensured.found (rw ensured.reads.held at followed.said) (rw ensured.reads.held at followed.stamps) (rw ensured.reads.held at followed.begun)
     (rw ensured.reads.held at followed.none_lacks)
 
 pub returns-clause-settled : goal.returns-clause-settled
 returns-clause-settled g c =
-    settled c.args.tree.now c.args.loaded.now c.in_ok-search.search _ c.in_ok-search.ensures.found c.plan_links.new.tree c.in_ok-links.ensures.settled
+    settled c.args.scope.now c.args.tree.now c.args.loaded.now c.in_ok-search.search _ c.in_ok-search.ensures.found c.plan_links.new.tree c.in_ok-links.ensures.settled
 
 pub returns-clause-bests : goal.returns-clause-bests
 returns-clause-bests g c =
@@ -67,9 +67,9 @@ returns-clause-reads g c =
     let found = c.in_ok-search.search in
     let ensured = c.in_ok-search.ensures in
     let new = c.plan_links.new.tree in
-    behind_read c.args.tree.now c.args.loaded.now _ _
-    (none_lacks c.args.tree.now c.args.loaded.now found _ ensured.found)
-    (few_nodes c.args.tree.now c.args.loaded.now found _ ensured.found c.in_ok-links.ensures.few)
+    behind_read c.args.scope.now c.args.tree.now c.args.loaded.now _ _
+    (none_lacks c.args.scope.now c.args.tree.now c.args.loaded.now found _ ensured.found)
+    (few_nodes c.args.scope.now c.args.tree.now c.args.loaded.now found _ ensured.found c.in_ok-links.ensures.few)
     new c.in_ok-links.ensures.alike (stamps_there c.args.loaded.now found.files) (unread_paths found.files (reached new found.dirs.places))
-    (behind_are c.args.tree.now c.args.loaded.now found ensured.all ensured.only new c.in_ok-links.ensures.alike c.in_ok-links.ensures.tree _ ensured.found)
+    (behind_are c.args.scope.now c.args.tree.now c.args.loaded.now found ensured.all ensured.only new c.in_ok-links.ensures.alike c.in_ok-links.ensures.tree _ ensured.found)
     ensured.reads _ Complete (rw ensured.reads.held at c.in_ok-followed.ensures.reads)

@@ -22,17 +22,17 @@ use Rattle.library_search.proofs.search.search_image.Goals as goal
 pub returns-in_err-conf-clause-reads : goal.returns-in_err-conf-clause-reads
 returns-in_err-conf-clause-reads g c =
     let same : c.from_residual.result ≡ Err (of_conf c.in_err-conf.field-0.0) = search rules in
-    rw same (conf_failed Conf Search c.args.tree.now c.args.loaded.now _ c.in_err-conf.field-0.0 _ _ (rw c.in_err-conf.was at c.read_conf.ensures.reads))
+    rw same (conf_failed c.args.scope.now Conf Search c.args.tree.now c.args.loaded.now _ c.in_err-conf.field-0.0 _ _ (rw (c.in_err-conf.was, c.conf_of.ensures) at c.read_conf.ensures.reads))
 
 pub returns-in_err-dirs-clause-reads : goal.returns-in_err-dirs-clause-reads
 returns-in_err-dirs-clause-reads g c =
     let same : c.from_residual-in_err-dirs.result ≡ Err finding.NoMemory = search rules in
-    rw same (conf_part c.args.tree.now c.args.loaded.now GaveUp _ _ _ tt (reads_all _ _ _ _ _ c.in_ok-conf.ensures.reads))
+    rw same (conf_part c.args.scope.now c.args.tree.now c.args.loaded.now GaveUp _ _ _ tt (reads_all _ _ _ _ _ (rw c.conf_of.ensures at c.in_ok-conf.ensures.reads)))
 
 pub returns-in_err-found-clause-reads : goal.returns-in_err-found-clause-reads
 returns-in_err-found-clause-reads g c =
     let same : c.from_residual-in_err-found.result ≡ Err finding.NoMemory = search rules in
-    rw same (conf_part c.args.tree.now c.args.loaded.now GaveUp _ _ _ tt (reads_all _ _ _ _ _ c.in_ok-conf.ensures.reads))
+    rw same (conf_part c.args.scope.now c.args.tree.now c.args.loaded.now GaveUp _ _ _ tt (reads_all _ _ _ _ _ (rw c.conf_of.ensures at c.in_ok-conf.ensures.reads)))
 
 pub read_files-requires : goal.read_files-requires
 read_files-requires g c = record {
@@ -46,10 +46,10 @@ returns-in_err-read_files-clause-reads g c =
     let same : c.from_residual-in_err-read_files.result ≡ Err (of_reading c.in_err-read_files.field-0.0) = search rules in
     let first = c.new-files.result in
     let empty = is_empty first c.new-files.ensures.table c.new-files.ensures.stamps c.new-files.ensures.begun in
-    rw same (wanted_failed (Unit {0}) Search c.args.tree.now c.args.loaded.now _ c.in_err-read_files.field-0.0 _ _ _ _
-    (all_conf c.args.tree.now c.in_ok-conf.conf _ c.in_ok-conf.ensures.conf)
-    (wanted_keys_are c.args.tree.now c.args.loaded.now c.in_ok-conf.conf c.in_ok-dirs.dirs.places first c.in_ok-dirs.ensures.places empty _ c.in_ok-conf.ensures.conf)
-    c.in_ok-conf.ensures.reads (rw (c.in_err-read_files.was, c.in_ok-conf.ensures.reads.held, c.in_ok-found.ensures.paths) at c.read_files.ensures.reads))
+    rw same (wanted_failed c.args.scope.now (Unit {0}) Search c.args.tree.now c.args.loaded.now _ c.in_err-read_files.field-0.0 _ _ _ _
+    (all_conf c.args.scope.now c.args.tree.now c.in_ok-conf.conf _ (rw c.conf_of.ensures at c.in_ok-conf.ensures.conf))
+    (wanted_keys_are c.args.scope.now c.args.tree.now c.args.loaded.now c.in_ok-conf.conf c.in_ok-dirs.dirs.places first c.in_ok-dirs.ensures.places empty _ (rw c.conf_of.ensures at c.in_ok-conf.ensures.conf))
+    (rw c.conf_of.ensures at c.in_ok-conf.ensures.reads) (rw (c.in_err-read_files.was, c.in_ok-conf.ensures.reads.held, c.in_ok-found.ensures.paths) at c.read_files.ensures.reads))
 
 pub returns-clause-found : goal.returns-clause-found
 returns-clause-found g c =
@@ -57,8 +57,8 @@ returns-clause-found g c =
     let empty = is_empty first c.new-files.ensures.table c.new-files.ensures.stamps c.new-files.ensures.begun in
     let held = c.in_ok-conf.ensures.reads.held in
     let read = c.in_ok-read_files.ensures in
-    searched c.args.tree.now c.args.loaded.now c.in_ok-conf.conf c.in_ok-dirs.dirs.places first c.in_ok-dirs.ensures.places empty
-    (record { conf = c.in_ok-conf.conf; dirs = c.in_ok-dirs.dirs; files = c.read_files.new.files }) refl refl c.in_ok-dirs.ensures.absent _ c.in_ok-conf.ensures.conf
+    searched c.args.scope.now c.args.tree.now c.args.loaded.now c.in_ok-conf.conf c.in_ok-dirs.dirs.places first c.in_ok-dirs.ensures.places empty
+    (record { conf = c.in_ok-conf.conf; dirs = c.in_ok-dirs.dirs; files = c.read_files.new.files }) refl refl c.in_ok-dirs.ensures.absent _ (rw c.conf_of.ensures at c.in_ok-conf.ensures.conf)
     (rw (held, c.in_ok-found.ensures.paths) at read.said) (rw (held, c.in_ok-found.ensures.paths) at read.stamps) (rw (held, c.in_ok-found.ensures.paths) at read.stamped)
     (rw (held, c.in_ok-found.ensures.paths) at read.begun) (rw (held, c.in_ok-found.ensures.paths) at read.none_lacks)
 
@@ -66,9 +66,9 @@ pub returns-clause-reads : goal.returns-clause-reads
 returns-clause-reads g c =
     let first = c.new-files.result in
     let empty = is_empty first c.new-files.ensures.table c.new-files.ensures.stamps c.new-files.ensures.begun in
-    search_all c.args.tree.now c.args.loaded.now Complete _ _ _ _ _ (all_conf c.args.tree.now c.in_ok-conf.conf _ c.in_ok-conf.ensures.conf)
-    (wanted_keys_are c.args.tree.now c.args.loaded.now c.in_ok-conf.conf c.in_ok-dirs.dirs.places first c.in_ok-dirs.ensures.places empty _ c.in_ok-conf.ensures.conf)
-    c.in_ok-conf.ensures.reads (rw (c.in_ok-conf.ensures.reads.held, c.in_ok-found.ensures.paths) at c.in_ok-read_files.ensures.reads)
+    search_all c.args.scope.now c.args.tree.now c.args.loaded.now Complete _ _ _ _ _ (all_conf c.args.scope.now c.args.tree.now c.in_ok-conf.conf _ (rw c.conf_of.ensures at c.in_ok-conf.ensures.conf))
+    (wanted_keys_are c.args.scope.now c.args.tree.now c.args.loaded.now c.in_ok-conf.conf c.in_ok-dirs.dirs.places first c.in_ok-dirs.ensures.places empty _ (rw c.conf_of.ensures at c.in_ok-conf.ensures.conf))
+    (rw c.conf_of.ensures at c.in_ok-conf.ensures.reads) (rw (c.in_ok-conf.ensures.reads.held, c.in_ok-found.ensures.paths) at c.in_ok-read_files.ensures.reads)
 
 pub returns-clause-all : goal.returns-clause-all
 returns-clause-all g c =

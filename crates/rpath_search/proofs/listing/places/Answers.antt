@@ -1,10 +1,9 @@
 use Rattle.std.proofs.Common.{◌≡◌, ◌==◌, ◌∙◌, ◌-◌, false, length, subst, IfOk, rules}
 use Rattle.std.specs.Option.{option_copied}
-use Rattle.string_pool.specs.Distinct.{distinct}
 use Rattle.rpath_search.specs.Candidates.{all_paths, paths_left}
 use Rattle.rpath_search.specs.Listed.{reach_in}
 use Rattle.rpath_search.specs.Loaders.{reach_at}
-use Rattle.rpath_search.specs.Places.{has_slash}
+use Rattle.rpath_search.specs.Places.{env_for, has_slash}
 use Rattle.rpath_search.proofs.Listed.{all_listed}
 use Rattle.rpath_search.proofs.listing.places.Goals as goal
 
@@ -18,5 +17,5 @@ returns c =
     let plain : has_slash name ≡ false = search rules in
     let some : (length chain == 0) ≡ false = search rules in
     let last : reach ≡ reach_in env chain = rw c.as_slice.ensures at c.in_ok-loaders.ensures.last in
-    let left : paths_left c.in_ok-candidates.candidates ≡ all_paths name (distinct env.caps) reach cached = rw (c.len-last.ensures, c.in_ok-caps.ensures) at c.in_ok-candidates.ensures.left in
+    let left : paths_left c.in_ok-candidates.candidates ≡ all_paths name (env_for env env.abi) reach cached = rw (c.len-last.ensures, c.in_ok-once.ensures) at c.in_ok-candidates.ensures.left in
     subst (λ p. IfOk c.collected.result (λ list. list ≡ p)) (left ∙ all_listed name chain env cached reach plain some last) c.collected.ensures

@@ -2,7 +2,7 @@ use Rattle.std.proofs.Common.{◌≡◌, ◌∙◌, true, List, ap, subst}
 use Rattle.soname_links.proofs.Settled.{settles}
 use Rattle.soname_links.specs.Apply.{are_clear}
 use Rattle.soname_links.specs.Plan.{with_links}
-use Rattle.soname_links.specs.declared.kinds.Planned.{Planned}
+use Rattle.link_plan.specs.declared.kinds.Planned.{Planned}
 use Rattle.soname_links.proofs.applying.apply.Goals as goal
 
 pub returns-clause-settled : goal.returns-clause-settled

@@ -1,0 +1,36 @@
+//! Paths of this machine.
+use device_rules::divided;
+use std::alloc::AllocError;
+use std::rt::Runtime;
+
+/// The path without links. If there is no such file, that is its directory without links, and its name. There is none if there is no such
+/// directory.
+pub fn real_path<R: Runtime>(rt: &R, path: &str) -> Result<Option<String<R::A>>, AllocError> {
+    match rt.canonicalize(rt.alloc(), path) {
+        Ok(real) => Ok(Some(real.into_string())),
+        Err(_) => real_beside(rt, path),
+    }
+}
+
+fn real_beside<R: Runtime>(rt: &R, path: &str) -> Result<Option<String<R::A>>, AllocError> {
+    let (directory, name) = divided(path);
+    match rt.canonicalize(rt.alloc(), directory_of(path, directory)) {
+        Ok(real) => {
+            let real = real.into_string();
+            let directory = real.as_str().trim_end_matches('/');
+            Ok(Some(format!(in rt.alloc(); "{directory}/{name}")?))
+        }
+        Err(_) => Ok(None),
+    }
+}
+
+/// The directory of a path, which `divided` gives without a slash at its end.
+pub fn directory_of<'a>(path: &str, directory: &'a str) -> &'a str {
+    if !directory.is_empty() {
+        directory
+    } else if path.starts_with('/') {
+        "/"
+    } else {
+        "."
+    }
+}

@@ -1,0 +1,135 @@
+-- The sonames in what files are said to be are names.
+use Rattle.std.proofs.Common.{◌≡◌, ◌++◌, ℕ, zero, suc, Bool, true, false, cond, drop, find, not, List, [], ◌∷◌, Option, Some, None, option_map, refl, ap, sym, subst, ◌∙◌}
+use Rattle.std.proofs.lemmas.List.Elements.{All-append, All-cons, All-nil}
+use Rattle.std.specs.List.{All, before_first, cons_option}
+use Rattle.std.specs.Option.{option_and_then, option_map_or, option_or}
+use Rattle.std.specs.Prelude.{IfSome}
+use Rattle.std.specs.Str.{bytes_eq}
+use Rattle.aux_cache.specs.Stamps as stamps
+use Rattle.aux_cache.specs.Stamps.{stamp_of}
+use Rattle.aux_cache.specs.declared.stamps.Stamp.{Stamp}
+use Rattle.elf_dynamic.specs.Analysis.{analysis, analysis_by, defect, sentences}
+use Rattle.elf_dynamic.specs.Begun.{key_in}
+use Rattle.elf_dynamic.specs.Object.{entries, soname_of, table}
+use Rattle.elf_headers.specs.Header.{Sentence, abi, first_defect}
+use Rattle.elf_headers.specs.Layout.{is_wide, machine, word_size}
+use Rattle.file_stamps.proofs.Stamps.{name_found, stamp_by_says}
+use Rattle.file_stamps.specs.Files.{what_is}
+use Rattle.file_stamps.specs.Said.{said_in}
+use Rattle.file_stamps.specs.Stamped.{id_at, of_stamp, stamp_at, stamp_by, stamp_for, stamps_at}
+use Rattle.file_table.specs.Analyses.{HaveNames, has_name, is_soname}
+use Rattle.image_tree.specs.Tree.{Nodes, node_at}
+use Rattle.image_tree.specs.declared.node.Id.{Id}
+use Rattle.lib_types.proofs.SortedPairs.{by_test}
+use Rattle.lib_types.specs.Name.{is_name}
+use Rattle.lib_types.specs.declared.abi.Abi.{Abi}
+use Rattle.lib_types.specs.declared.analysis.Analysis.{Analysis}
+use Rattle.lib_types.specs.declared.analysis.Analysis.TheVariants.{Lib, Not}
+use Rattle.lib_types.specs.declared.analysis.Defect.{Defect}
+use Rattle.lib_types.specs.declared.analysis.Defect.TheVariants.{BadMachine}
+use Rattle.tree_face.specs.Store.{Contents}
+
+-- ---- what a file is
+
+no_defect : (n : ℕ) (xs : List Sentence) → first_defect xs ≡ None → first_defect (drop n xs) ≡ None
+no_defect zero xs h = h
+no_defect (suc n) [] h = h
+no_defect (suc n) (x ∷ xs) h = by_test x.0
+    (λ e. let z : Some x.1 ≡ None = sym (ap (λ b. option_map (λ (s : Sentence). s.1) (cond b (Some x) (find (λ s. s.0) xs))) e) ∙ h in absurd (cc))
+    (λ e. no_defect n xs (sym (ap (λ b. option_map (λ (s : Sentence). s.1) (cond b (Some x) (find (λ s. s.0) xs))) e) ∙ h))
+
+-- whether the first sentence holds
+abbrev holds_first : List Sentence → Bool
+holds_first [] = false
+holds_first (x ∷ xs) = x.0
+
+first_false : (xs : List Sentence) → first_defect xs ≡ None → holds_first xs ≡ false
+first_false [] h = refl
+first_false (x ∷ xs) h = by_test x.0
+    (λ e. let z : Some x.1 ≡ None = sym (ap (λ b. option_map (λ (s : Sentence). s.1) (cond b (Some x) (find (λ s. s.0) xs))) e) ∙ h in absurd (cc))
+    (λ e. e)
+
+not_false : (b : Bool) → not b ≡ false → b ≡ true
+not_false true h = refl
+not_false false h = absurd (cc)
+
+soname_named : (soname : Option (List ℕ)) → option_map_or is_name soname true ≡ true → is_soname soname ≡ true
+soname_named None h = refl
+soname_named (Some soname) h = h
+
+-- the soname of a file without a defect is a name: that it isn't is the last but one of the sentences
+soname_good : (bytes : List ℕ) → defect bytes ≡ None → is_soname (soname_of (table (word_size (is_wide bytes)) bytes) (entries (word_size (is_wide bytes)) bytes)) ≡ true
+soname_good bytes none =
+    let soname = soname_of (table (word_size (is_wide bytes)) bytes) (entries (word_size (is_wide bytes)) bytes) in
+    let named : not (option_map_or is_name soname true) ≡ false = first_false (drop 13 (sentences bytes)) (no_defect 13 (sentences bytes) none) in
+    soname_named soname (not_false (option_map_or is_name soname true) named)
+
+as_named : (o : Option Abi) (soname : Option (List ℕ)) (d : Defect) → is_soname soname ≡ true → has_name (option_map_or (λ abi. Lib abi soname) o (Not d)) ≡ true
+as_named None soname d h = refl
+as_named (Some abi) soname d h = h
+
+analysis_named : (bytes : List ℕ) → has_name (analysis bytes) ≡ true
+unfolding analysis
+analysis_named bytes = by (defect bytes) refl
+  where
+    by : (o : Option Defect) → defect bytes ≡ o → has_name (analysis_by o bytes) ≡ true
+    by (Some d) e = refl
+    by None e = as_named (abi bytes) (soname_of (table (word_size (is_wide bytes)) bytes) (entries (word_size (is_wide bytes)) bytes)) (BadMachine (machine bytes)) (soname_good bytes e)
+
+-- ---- stamps
+
+stamp_named : (s : Stamp) → has_name (of_stamp s) ≡ true → stamps.HasName s
+stamp_named s h = by s.soname h
+  where
+    by : (o : Option (List ℕ)) → is_soname o ≡ true → IfSome o (λ soname. is_name soname ≡ true)
+    by None h = tt
+    by (Some soname) h = h
+
+named_stamp : (s : Stamp) → stamps.HasName s → has_name (of_stamp s) ≡ true
+named_stamp s h = by s.soname h
+  where
+    by : (o : Option (List ℕ)) → IfSome o (λ soname. is_name soname ≡ true) → is_soname o ≡ true
+    by None h = refl
+    by (Some soname) h = h
+
+module _ (held : Contents) (t : Nodes) where
+  what_named : HaveNames (what_is held t)
+  what_named path found e = by (option_and_then held (key_in (node_at t path))) e
+    where
+      by : (o : Option (List ℕ)) → option_map analysis o ≡ Some found → has_name found ≡ true
+      by None e = absurd (cc)
+      by (Some bytes) e = let same : analysis bytes ≡ found = cc in subst (λ (a : Analysis). has_name a ≡ true) same (analysis_named bytes)
+
+  at_named : (path : List ℕ) (s : Stamp) → stamp_at held t path ≡ Some s → stamps.HasName s
+  at_named path s e = by (id_at t path) (what_is held t path) refl e
+    where
+      by : (id : Option Id) (o : Option Analysis) → what_is held t path ≡ o → stamp_by id o ≡ Some s → stamps.HasName s
+      by None o is e = absurd (cc)
+      by (Some id) None is e = absurd (cc)
+      by (Some id) (Some found) is e =
+          stamp_named s (subst (λ (a : Analysis). has_name a ≡ true) (stamp_by_says (Some id) found s e) (what_named path found is))
+
+  all_named : (paths : List (List ℕ)) → All stamps.HasName (stamps_at held t paths)
+  all_named [] = All-nil stamps.HasName
+  all_named (path ∷ paths) = elim (stamp_at held t path) as (λ o. stamp_at held t path ≡ o → All stamps.HasName (cons_option o (stamps_at held t paths))) [
+    | None ↦ λ e. all_named paths
+    | Some s ↦ λ e. All-cons stamps.HasName s (stamps_at held t paths) (at_named path s e) (all_named paths)
+  ] refl
+
+  -- ---- what files are said to be
+
+  pub said_named : (loaded : List Stamp) → stamps.HaveNames loaded → (paths : List (List ℕ)) → HaveNames (said_in held t loaded paths)
+  said_named loaded names paths path found e = by_stamp (stamp_for xs t path) (by_id (id_at t path)) e
+    where
+      xs : List Stamp
+      xs = loaded ++ stamps_at held t (before_first (bytes_eq path) paths)
+
+      by_id : (o : Option Id) (s : Stamp) → option_and_then (stamp_of xs) o ≡ Some s → stamps.HasName s
+      by_id None s e = absurd (cc)
+      by_id (Some id) s e = name_found xs id s (All-append stamps.HasName loaded _ names (all_named (before_first (bytes_eq path) paths))) (sym e)
+
+      by_stamp : (o : Option Stamp) → ((s : Stamp) → o ≡ Some s → stamps.HasName s) → option_or (option_map of_stamp o) (what_is held t path) ≡ Some found → has_name found ≡ true
+      by_stamp None named e = what_named path found e
+      by_stamp (Some s) named e =
+          let same : of_stamp s ≡ found = cc in
+          subst (λ (a : Analysis). has_name a ≡ true) same (named_stamp s (named s refl))

@@ -1,0 +1,64 @@
+-- The conf file reads the same in trees that are alike.
+-- A copy of a module that is private in planned_tree.
+use Rattle.std.proofs.Common.{◌≡◌, ℕ, zero, suc, ◌+◌, ◌++◌, List, map, [], ◌∷◌, refl, ap, ◌∙◌, Option, Some, None}
+use Rattle.std.specs.List.{flat_map}
+use Rattle.conf_patterns.specs.Patterns.{Found, found_at, results}
+use Rattle.ldso_conf.specs.Lines.{arguments_of, hwcap, include, lines_of, text_of, words_of}
+use Rattle.ldso_conf.specs.Reading.{Item, Names, Reports, Reads, Passes, Misses, all_from, asked, conf_items, included_at, included_by, place_in, steps_in, until_missing, with_steps}
+use Rattle.ldso_conf.specs.Reading as conf
+use Rattle.ldso_conf.specs.Steps.{included, line_steps, numbered, origin_at, steps_by, steps_of}
+use Rattle.ldso_conf.specs.declared.kinds.Origin.{Origin}
+use Rattle.ldso_conf.specs.declared.reading.TheConstants.{DEPTH_MAX}
+use Rattle.tree_face.specs.Store.{Contents}
+use Rattle.image_tree.specs.Tree.{Nodes, IsTree}
+use Rattle.planned_tree.proofs.Agree.{agree}
+use Rattle.partial_links.proofs.Alike.{IsAlike, same_key}
+use Rattle.partial_links.proofs.Patterns.{same_found, same_results}
+
+module _ (t new : Nodes) (tree : IsTree t) (after : IsTree new) (alike : IsAlike t new) where
+  -- ---- the steps of a file
+
+  by_same : (origin : Origin) (text : List ℕ) (patterns words : Option (List ℕ)) → steps_by new origin text patterns words ≡ steps_by t origin text patterns words
+  by_same origin text (Some patterns) words =
+      ap (λ f. flat_map f (words_of patterns)) (agree (λ pattern. map included (results new origin.file pattern)) (λ pattern. map included (results t origin.file pattern))
+      (λ pattern. ap (map included) (same_results t new tree after alike origin.file pattern)))
+  by_same origin text None (Some words) = refl
+  by_same origin text None None = refl
+
+  steps_same : (file content : List ℕ) → steps_of new file content ≡ steps_of t file content
+  unfolding steps_of
+  steps_same file content =
+      ap (λ f. flat_map f (numbered 1 (lines_of content))) (agree (line_steps new file) (line_steps t file)
+      (λ line. by_same (origin_at file line.0) (text_of line.1) (arguments_of include (text_of line.1)) (arguments_of hwcap (text_of line.1))))
+
+  steps_in_same : (item : Item) → steps_in new item ≡ steps_in t item
+  steps_in_same (Names dir origin) = refl
+  steps_in_same (Reports report) = refl
+  steps_in_same (Reads f key content) = steps_same f.0 content
+  steps_in_same (Passes f key) = refl
+  steps_in_same (Misses f key) = refl
+
+  -- ---- the items
+
+  module _ (held : Contents) where
+    item_same : (left : ℕ) (before : List (List ℕ)) (f : Found) → included_at new held left before f ≡ included_at t held left before f
+    item_same left before f = ap (included_by held left before f) (same_key t new alike f.1)
+
+    items_same : (left : ℕ) (before : List (List ℕ)) (f : Found) → conf.included new held left before f ≡ conf.included t held left before f
+    items_same zero before f = ap (λ item. item ∷ []) (item_same zero before f)
+    items_same (suc left) before f =
+        let item = included_at t held (suc left) before f in
+        let next = agree (conf.included new held left) (conf.included t held left)
+        (λ b. agree (conf.included new held left b) (conf.included t held left b) (λ g. items_same left b g)) in
+        ap (with_steps (conf.included new held left) new before) (item_same (suc left) before f)
+        ∙ ap (λ steps. item ∷ asked (conf.included new held left) (before ++ place_in item) steps) (steps_in_same item)
+        ∙ ap (λ file. with_steps file t before item) next
+
+    from_same : (o : Option Found) → all_from new held o ≡ all_from t held o
+    from_same None = refl
+    from_same (Some f) = items_same (DEPTH_MAX + 1) [] f
+
+  pub same_items : (path : List ℕ) (held : Contents) → conf_items path held new ≡ conf_items path held t
+  unfolding conf_items
+  same_items path held =
+      ap (λ found. until_missing (all_from new held (found path))) (same_found t new tree after alike) ∙ ap until_missing (from_same held (found_at t path))

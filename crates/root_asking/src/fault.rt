@@ -1,0 +1,54 @@
+//! Why a command that only asks a directory has no answer.
+use asking_runs::ListFault;
+use command_status::{Fault, Status};
+use image_session::SlotFault;
+use root_tree::TreeRead;
+use root_update::{RootFault, status_of};
+
+/// Why a directory isn't read.
+#[derive(Drop)]
+pub(crate) enum ReadFault {
+    /// Its tree isn't read.
+    Tree(TreeRead),
+    /// Its cache isn't read.
+    Cache(SlotFault),
+}
+
+/// Why a program of a directory isn't listed.
+#[derive(Drop)]
+pub(crate) enum RootListFault {
+    /// The directory isn't read.
+    Read(ReadFault),
+    /// The cache is refused, or the program has no listing.
+    List(ListFault),
+}
+
+impl Fault for ReadFault {
+    ghost use Rattle.root_asking.specs.Faults.{of_read, read_no_usage};
+
+    ghost status_of = { of_read };
+
+    fn status(self) -> Status {
+        match self {
+            ReadFault::Tree(fault) => status_of(&RootFault::Tree(fault)),
+            ReadFault::Cache(fault) => status_of(&RootFault::Slot(fault)),
+        }
+    }
+
+    ghost not_usage = { read_no_usage };
+}
+
+impl Fault for RootListFault {
+    ghost use Rattle.root_asking.specs.Faults.{of_root_list, root_list_no_usage};
+
+    ghost status_of = { of_root_list };
+
+    fn status(self) -> Status {
+        match self {
+            RootListFault::Read(fault) => fault.status(),
+            RootListFault::List(fault) => fault.status(),
+        }
+    }
+
+    ghost not_usage = { root_list_no_usage };
+}

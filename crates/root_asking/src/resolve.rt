@@ -1,0 +1,55 @@
+//! The command `resolve` of a directory.
+ghost use Rattle.std.specs.Prelude.{◌≡◌};
+ghost use Rattle.asking_runs.specs.Resolve.{listed_text};
+ghost use Rattle.commands.specs.Devices.{states};
+ghost use Rattle.root_asking.specs.Resolve.{AnswersRoot, ResolvesRoot, root_answer};
+ghost use Rattle.tree_face.specs.Stream.{SourceState};
+
+use crate::fault::{ReadFault, RootListFault};
+use crate::reading::read_root;
+use asking_runs::{Listed, list_image};
+use command_status::{Status, end};
+use commands::Resolve;
+use image_session::ReadImage;
+use root_folder::Folder;
+use rpath_search::SystemDirs;
+use std::alloc::Global;
+use tree_face::{Disk, Sink, Store};
+
+// The answer of what was read of a directory.
+fn resolve<S: Store>(
+    alloc: Global,
+    asked: Resolve,
+    read: Result<ReadImage, ReadFault>,
+    store: &mut S,
+) -> Result<Listed, RootListFault>
+    ensures { AnswersRoot asked read (root_answer result) (S.state store.old) (S.state store.new) }
+{
+    let image = match read {
+        Ok(image) => image,
+        Err(fault) => return Err(RootListFault::Read(fault)),
+    };
+    match list_image(alloc, asked, SystemDirs::Debian, &image, store) {
+        Ok(listed) => Ok(listed),
+        Err(fault) => Err(RootListFault::List(fault)),
+    }
+}
+
+/// Runs the command `resolve` for a program of a directory that has no manifest. Debian's directories of each ABI are searched too, and
+/// nothing is written. The state of the input is any, since nothing is read from it.
+pub fn resolve_root<F: Folder, S: Store, D: Disk, O: Sink>(
+    alloc: Global,
+    asked: Resolve,
+    folder: &mut F,
+    store: &mut S,
+    disk: &mut D,
+    sink: &mut O,
+) -> Status
+    ensures resolves { (source : SourceState) → ResolvesRoot asked (F.state folder.old) (F.state folder.new)
+        (states (S.state store.old) (D.state disk.old) source (O.state sink.old))
+        (states (S.state store.new) (D.state disk.new) source (O.state sink.new)) result }
+    ensures no_usage { result ≡ Status.Usage → ⊥ }
+{
+    let read = read_root(alloc, folder, disk);
+    end(resolve(alloc, asked, read, store), sink)
+}

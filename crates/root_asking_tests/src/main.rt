@@ -1,0 +1,14 @@
+//! Tests of the command `resolve` of a directory: its status, what it writes, which files it opens, and that it writes nothing to the
+//! directory. The table is a file of data/.
+#![tactic(auto)]
+
+mod trial;
+
+use crate::trial::Listed;
+use std::io;
+use std::process::ExitCode;
+use table_rows::{status, try_tables};
+
+fn main(rt: HostRuntime) -> io::Result<ExitCode> {
+    Ok(status(try_tables::<Listed>(&rt, &["listings"])?))
+}

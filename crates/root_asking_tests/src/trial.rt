@@ -1,0 +1,112 @@
+//! One row: a run of `resolve` of a directory.
+use commands::Resolve;
+use elf_samples::SampleFault;
+use image_rows::{
+    CACHE, DISK_FAILS, FILES, LOADER, MANIFEST, STORE_FAILS, disk_of, env_of, is_made, slots_in,
+    store_of, tree_of,
+};
+use lib_types::{NoMemory, Text};
+use root_asking::resolve_root;
+use root_folder::MemFolder;
+use rpath_search::Env;
+use std::alloc::Global;
+use table_rows::{Row, Said, Trial, Words, calls, count, lines_in, value};
+use tree_face::{MemDisk, MemSink};
+
+/// A row has the tree of a directory as a manifest, the store's files, the cache, what the loader is given, the path of the program, the
+/// calls that fail, the exit status, what is written, the keys of the files that are opened and the files of the disk that are read.
+pub(crate) struct Listed;
+
+fn asked_of(alloc: Global, row: Row<'_>) -> Result<Resolve, NoMemory> {
+    let path = Text::copy_of(alloc, value(row, b"main-program").unwrap_or(b""))?;
+    let Env {
+        caps,
+        library_path,
+        platform,
+        secure,
+        ..
+    } = env_of(alloc, row)?;
+    Ok(Resolve {
+        path,
+        caps,
+        library_path,
+        platform,
+        secure,
+    })
+}
+
+// The directory of a row, whose manifest has a line for each directory.
+fn folder_of(alloc: Global, row: Row<'_>, said: &mut Said) -> Result<Option<MemFolder>, NoMemory> {
+    let Some(tree) = tree_of(alloc, row, said)? else {
+        return Ok(None);
+    };
+    let folder = MemFolder::new(alloc, tree, calls(alloc, row, b"folder-fails")?);
+    if folder.is_none() {
+        said.say(b"a directory without a line", b"")?;
+    }
+    Ok(folder)
+}
+
+fn is_unwritten(folder: &MemFolder, disk: &MemDisk, said: &mut Said) -> Result<bool, NoMemory> {
+    let counts = folder.counts();
+    let is_so = counts.links == 0 && counts.settles == 0 && disk.calls().is_empty();
+    if !is_so {
+        said.say(b"a call that writes was made", b"")?;
+    }
+    Ok(is_so)
+}
+
+fn try_folder(
+    alloc: Global,
+    row: Row<'_>,
+    folder: &mut MemFolder,
+    said: &mut Said,
+) -> Result<bool, SampleFault> {
+    let asked = asked_of(alloc, row)?;
+    let mut store = store_of(alloc, row)?;
+    let mut disk = disk_of(alloc, row)?;
+    let mut sink = MemSink::new(alloc, calls(alloc, row, b"out-fails")?);
+    let ended = resolve_root(alloc, asked, folder, &mut store, &mut disk, &mut sink);
+    let code = u64::from(ended.code());
+    let keys = lines_in(alloc, store.keys())?;
+    let reads = slots_in(alloc, disk.reads())?;
+    Ok(
+        said.is_number(alloc, b"status", count(row, b"status"), code)?
+            && said.is_text(alloc, row, b"output", sink.written())?
+            && said.is_text(alloc, row, b"keys", &keys)?
+            && said.is_text(alloc, row, b"reads", &reads)?
+            && is_unwritten(folder, &disk, said)?,
+    )
+}
+
+const WORDS: &[Words] = &[
+    MANIFEST,
+    FILES,
+    STORE_FAILS,
+    CACHE,
+    DISK_FAILS,
+    LOADER,
+    &[
+        b"folder-fails",
+        b"out-fails",
+        b"main-program",
+        b"status",
+        b"output",
+        b"keys",
+        b"reads",
+    ],
+];
+
+impl Trial for Listed {
+    fn words() -> &'static [Words] {
+        WORDS
+    }
+
+    fn is_right(alloc: Global, row: Row<'_>, said: &mut Said) -> Result<bool, NoMemory> {
+        let Some(mut folder) = folder_of(alloc, row, said)? else {
+            return Ok(false);
+        };
+        let tried = try_folder(alloc, row, &mut folder, said);
+        is_made(tried, said)
+    }
+}

@@ -1,0 +1,2 @@
+mod SortedNames
+mod UnknownCalls

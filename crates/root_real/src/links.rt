@@ -1,0 +1,95 @@
+//! Links are made, and directories flushed.
+use crate::paths::{below_root, dir_below_root, no_path};
+use crate::temporary::{make_temporary, remove_left};
+use device_rules::{RunId, divided};
+use image_folder::{HeldFile, ImageFolder, Missing};
+use std::fs::{self, FileType, OpenFile};
+use std::io::{self, Error, ErrorKind};
+use std::os::unix::fs::symlink;
+use std::rt::Runtime;
+use std::str::from_utf8;
+use tree_face::Tag;
+
+/// Makes a link where there is nothing, or in place of a link. Where there is something else the call fails and changes nothing.
+pub(crate) fn make_link<R: Runtime>(
+    image: &mut ImageFolder<R>,
+    run: RunId,
+    tag: Tag,
+    path: &[u8],
+    target: &[u8],
+) -> io::Result<()>
+where
+    R::File: HeldFile,
+{
+    let Some(path) = below_root(path) else {
+        return Err(no_path());
+    };
+    let (dir, name) = divided(path);
+    let target = text_of(target)?;
+    image.enter(dir, Missing::IsFault)?;
+    match image.look(name)? {
+        None => symlink(&image.rt, target, image.path()),
+        Some(found) if found.is_symlink() => replace(image, run, tag, target),
+        Some(found) => Err(in_the_way(found.file_type())),
+    }
+}
+
+fn text_of(target: &[u8]) -> io::Result<&str> {
+    match from_utf8(target) {
+        Ok(text) => Ok(text),
+        Err(_) => Err(Error::new(ErrorKind::InvalidInput, "its target isn't UTF-8 text")),
+    }
+}
+
+// Replaces the link that was looked at last. The new one is made under a temporary name in the same directory and renamed, so
+// there is the old link or the new one at each moment. A file that takes the old link's place before the rename is lost: the
+// library has no rename that refuses to replace it.
+fn replace<R: Runtime>(
+    image: &ImageFolder<R>,
+    run: RunId,
+    tag: Tag,
+    target: &str,
+) -> io::Result<()> {
+    let temporary = make_temporary(image, run, tag, target)?;
+    match image.rt.rename(temporary.as_str(), image.path()) {
+        Ok(()) => Ok(()),
+        Err(error) => {
+            let _ = image.rt.remove_file(temporary.as_str());
+            Err(error)
+        }
+    }
+}
+
+fn in_the_way(kind: FileType) -> Error {
+    let found = if kind.is_dir() {
+        "a directory in the link's place"
+    } else if kind.is_file() {
+        "a regular file in the link's place"
+    } else {
+        "a special file in the link's place"
+    };
+    Error::new(ErrorKind::AlreadyExists, found)
+}
+
+/// Removes the temporary links that runs have left in a directory below the image's.
+pub(crate) fn clean<R: Runtime>(image: &mut ImageFolder<R>, dir: &str) -> io::Result<()>
+where
+    R::File: HeldFile,
+{
+    image.enter(dir, Missing::IsFault)?;
+    image.go_to("")?;
+    remove_left(&image.rt, image.path())
+}
+
+/// Flushes a directory to stable storage.
+pub(crate) fn settle<R: Runtime>(image: &mut ImageFolder<R>, dir: &[u8]) -> io::Result<()>
+where
+    R::File: HeldFile,
+{
+    let Some(dir) = dir_below_root(dir) else {
+        return Err(no_path());
+    };
+    image.enter(dir, Missing::IsFault)?;
+    let path = image.path_beside(".")?;
+    fs::open(&image.rt, path.as_str())?.sync_all()
+}

@@ -1,0 +1,42 @@
+//! Paths of a tree as names below the directory of the image.
+ghost use Rattle.std.specs.Prelude.{◌≡◌, ◌∷◌, IfSome};
+
+use device_rules::behind;
+use std::io::{Error, ErrorKind};
+use std::str::from_utf8;
+use tree_face::is_path;
+
+/// A path without its first slash. The root and what isn't a path have none.
+pub(crate) fn below_root(path: &[u8]) -> Option<&str>
+    ensures { IfSome result (λ below. path.now ≡ 47 ∷ below.now) }
+{
+    if is_path(path) {
+        without_slash(path)
+    } else {
+        None
+    }
+}
+
+/// The same of a directory. The root's is empty.
+pub(crate) fn dir_below_root(dir: &[u8]) -> Option<&str>
+    ensures { IfSome result (λ below. dir.now ≡ 47 ∷ below.now) }
+{
+    if dir == b"/".as_slice() {
+        return without_slash(dir);
+    }
+    below_root(dir)
+}
+
+fn without_slash(path: &[u8]) -> Option<&str>
+    ensures { IfSome result (λ below. path.now ≡ 47 ∷ below.now) }
+{
+    match from_utf8(path) {
+        Ok(text) => behind(text, "/"),
+        Err(_) => None,
+    }
+}
+
+/// The error of a text that isn't the path of anything.
+pub(crate) fn no_path() -> Error {
+    Error::new(ErrorKind::InvalidInput, "not a path of an image")
+}

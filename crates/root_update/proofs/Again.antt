@@ -1,0 +1,84 @@
+-- A second update of a directory plans no link and makes the same caches, and an update without an auxiliary cache makes the same.
+use Rattle.std.proofs.Common.{◌≡◌, ◌∙◌, ℕ, List, [], Some, ap, refl, subst, sym}
+use Rattle.aux_cache.specs.declared.stamps.Stamp.{Stamp}
+use Rattle.file_stamps.specs.Opened.{opens}
+use Rattle.file_stamps.specs.Stamped.{AreSame, AreTrue, stamps_of}
+use Rattle.hwcap_dirs.specs.declared.kinds.Scope.{Scope}
+use Rattle.hwcap_dirs.specs.declared.kinds.Scope.TheVariants.{Image}
+use Rattle.image_session.specs.Aux.{stamps_of_slot}
+use Rattle.image_session.specs.Session.{Loaded, image_with}
+use Rattle.ldconfig_core.proofs.OneText.{again, both_links, one_outcome, one_written, some_texts}
+use Rattle.ldconfig_core.specs.Settled.{AreCachesAgain, AreSettled, planned_image, unstamped_image}
+use Rattle.ldconfig_core.specs.Texts.{AreTextsOf, UpdateTexts}
+use Rattle.library_search.proofs.Honest.{none_true, said_law, stamps_are}
+use Rattle.library_search.specs.Begun.{opened_in}
+use Rattle.library_search.specs.Ldconfig.{library_paths, places_in, stamps_in}
+use Rattle.root_update.proofs.AsImage.{same_cache}
+use Rattle.root_update.proofs.Reopened.{opens_again}
+use Rattle.root_update.specs.Made.{ChangesNothing, IsRootRebuilt, IsRootSettled, tree_after, unstamped_in}
+use Rattle.tree_face.specs.Disk.{Content}
+use Rattle.tree_face.specs.Store.{Contents}
+
+module _ (scope : Scope) (held : Contents) (image : Loaded) (texts : UpdateTexts) (are : AreTextsOf scope held image texts) where
+  -- ---- again
+
+  module _ (settled : AreSettled scope held image (planned_image scope held image)) where
+    -- the planned tree, with the stamps of its libraries
+    abbrev stamped : Loaded
+    stamped = planned_image scope held image
+
+    module _ (aux : Content) (too : AreTrue held (tree_after scope held image) (stamps_of_slot aux)) where
+      abbrev next : Loaded
+      next = image_with (tree_after scope held image) aux
+
+      caches : (others : UpdateTexts) → AreTextsOf scope held next others → AreCachesAgain texts others
+      caches others is =
+          let more = again scope held image stamped texts settled are in
+          let alike = one_written scope held stamped next refl refl settled.same settled.are_true too more.0 others more.1.0 is in
+          record { manifest = alike.manifest ∙ more.1.1.manifest; cache = alike.cache ∙ more.1.1.cache; aux = alike.aux ∙ more.1.1.aux }
+
+      nothing : ChangesNothing scope held image next texts
+      nothing = record {
+        no_links = both_links scope held stamped next refl refl settled.same settled.are_true too ∙ settled.no_links;
+        writes = λ h. one_outcome scope held stamped next refl refl settled.same settled.are_true too ∙ settled.outcome h;
+        caches = caches;
+      }
+
+    abbrev made : List Stamp
+    made = stamps_in scope held image.tree image.stamps
+
+    opened : opened_in scope held stamped.tree made ≡ unstamped_in scope held stamped.tree made
+    opened =
+        let paths : List (List ℕ) = library_paths scope held stamped.tree made in
+        let are_those : made ≡ stamps_of held stamped.tree paths = sym settled.stamps ∙ stamps_are scope held stamped.tree settled.same made settled.are_true in
+        (said_law scope held stamped.tree settled.same made settled.are_true).opened ∙ ap (λ (stamps : List Stamp). opens held stamped.tree stamps paths) are_those
+        ∙ opens_again held stamped.tree paths (subst (λ (stamps : List Stamp). AreTrue held stamped.tree stamps) are_those settled.are_true)
+
+    pub is_settled : stamps_of_slot (Some texts.aux) ≡ stamps_in scope held image.tree image.stamps → IsRootSettled scope held image texts
+    is_settled read = record {
+      again = nothing;
+      still_true = settled.true_too;
+      made_true = subst (λ (stamps : List Stamp). AreTrue held (tree_after scope held image) stamps) (sym read) settled.are_true;
+      opened = subst (λ (stamps : List Stamp). opened_in scope held stamped.tree stamps ≡ unstamped_in scope held stamped.tree stamps) (sym read) opened;
+    }
+
+  -- ---- without the auxiliary cache
+
+  module _ (truth : AreTrue held image.tree image.stamps) (same : AreSame held image.tree image.tree) where
+    abbrev bare : Loaded
+    bare = unstamped_image image
+
+    abbrev none : AreTrue held image.tree []
+    none = none_true held image.tree
+
+    as_image : places_in Image held image.tree ≡ places_in scope held image.tree → (others : UpdateTexts) → AreTextsOf Image held bare others → others.cache ≡ texts.cache
+    as_image alike others is =
+        let mid = some_texts scope held bare in
+        same_cache scope held bare alike mid.0 others mid.1 is ∙ (one_written scope held image bare refl refl same truth none texts mid.0 are mid.1).cache
+
+    pub is_rebuilt : IsRootRebuilt scope held image texts
+    is_rebuilt = record {
+      outcome = one_outcome scope held image bare refl refl same truth none;
+      same = λ others is. one_written scope held image bare refl refl same truth none texts others are is;
+      as_image = as_image;
+    }

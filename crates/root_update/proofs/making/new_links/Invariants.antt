@@ -1,0 +1,8 @@
+use Rattle.std.proofs.Common.{◌≡◌, ◌++◌, drop, map}
+use Rattle.root_links.specs.Links.{links_in}
+use Rattle.root_update.specs.Update.{linking}
+use Rattle.root_update.proofs.making.new_links.Given as goal
+
+-- what is left gives the rest
+abbrev pub invariant-loop-planned : goal.invariant-loop-planned
+invariant-loop-planned l = links_in l.links.items ++ map linking (drop l.planned-index l.plan) ≡ map linking l.plan

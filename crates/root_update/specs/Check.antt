@@ -1,0 +1,73 @@
+-- What an update of a directory would change. Nothing is written.
+use Rattle.std.specs.Prelude.{◌≡◌, ◌⊎◌, ◌∷◌, ◌++◌, ◌&&◌, ℕ, Bool, true, false, List, [], not, if◌then◌else◌, Some, Result, Ok, Err}
+use Rattle.image_session.specs.Reading.{ReadsContent}
+use Rattle.image_session.specs.Session.{Loaded}
+use Rattle.image_session.specs.declared.fault.SlotFault.{SlotFault}
+use Rattle.ldconfig_core.specs.Texts.{UpdateTexts}
+use Rattle.link_plan.specs.declared.kinds.Planned.{Planned}
+use Rattle.root_update.specs.Made.{MakesNone, MakesRoot, RootStates, root_states}
+use Rattle.root_update.specs.Update.{IsSaidOf}
+use Rattle.root_update.specs.declared.checking.RootChanges.{RootChanges}
+use Rattle.root_update.specs.declared.fault.RootFault.{RootFault}
+use Rattle.root_update.specs.declared.fault.RootFault.TheVariants as faults
+use Rattle.root_update.specs.declared.parts.AuxUse.{AuxUse}
+use Rattle.root_update.specs.declared.parts.AuxUse.TheVariants as uses
+use Rattle.root_update.specs.declared.parts.RootParts.{RootParts}
+use Rattle.root_update.specs.declared.updating.Updated.{Updated}
+use Rattle.tree_face.specs.Disk.{DiskState, content_eq}
+use Rattle.tree_face.specs.DiskUse.{ReadsOnly}
+use Rattle.tree_face.specs.Known.{IfKnown}
+use Rattle.tree_face.specs.StoreUse.{Complete}
+use Rattle.tree_face.specs.declared.disk.Slot.{Slot}
+use Rattle.tree_face.specs.declared.disk.Slot.TheVariants.{Aux, Cache}
+
+-- the slots that are read: the auxiliary cache, if it is used, and then the cache that is there, if one is asked for
+abbrev pub aux_slots : AuxUse → List Slot
+aux_slots uses.Unused = []
+aux_slots uses.Replaced = []
+aux_slots uses.Updated = Aux ∷ []
+
+abbrev pub slots_checked : RootParts → List Slot
+slots_checked parts = aux_slots parts.aux ++ (if parts.cache then Cache ∷ [] else [])
+
+-- what is said of them, as of an update
+abbrev pub said_of : RootChanges → Updated
+said_of changes = record { report = changes.report; links = changes.links; looked = changes.looked }
+
+-- All is made as for an update, and compared with what is there: the links that it would make, and whether the cache is another.
+pub record FindsChanges (parts : RootParts) (changes : RootChanges) (old new : RootStates) : Type 0 where
+  pub image : Loaded
+  pub plan : List Planned
+  pub texts : UpdateTexts
+  -- the disk when all was made
+  pub disk : DiskState
+  pub makes : MakesRoot parts.scope parts.aux image plan texts old (root_states new.folder new.store disk)
+  pub said : IsSaidOf parts old.store.held image plan texts (said_of changes)
+  pub cache_is : IfKnown old.disk.contents (λ c. changes.cache ≡ (parts.cache && not (content_eq c.now.cache (Some texts.cache))))
+  pub reads : ReadsOnly (slots_checked parts) Complete old.disk new.disk
+
+-- all is made, but the cache that is there isn't read
+pub record ReadsNoCache (parts : RootParts) (fault : SlotFault) (old new : RootStates) : Type 0 where
+  pub asked : parts.cache ≡ true
+  pub image : Loaded
+  pub plan : List Planned
+  pub texts : UpdateTexts
+  pub disk : DiskState
+  pub makes : MakesRoot parts.scope parts.aux image plan texts old (root_states new.folder new.store disk)
+  pub reads : ReadsContent Cache (Err fault) disk new.disk
+
+abbrev pub ChecksRoot : RootParts → Result RootChanges RootFault → RootStates → RootStates → Type 0
+ChecksRoot parts (Ok changes) old new = FindsChanges parts changes old new
+ChecksRoot parts (Err (faults.Slot fault)) old new = MakesNone parts.scope parts.aux (faults.Slot fault) old new ⊎ ReadsNoCache parts fault old new
+ChecksRoot parts (Err (faults.Tree fault)) old new = MakesNone parts.scope parts.aux (faults.Tree fault) old new
+ChecksRoot parts (Err (faults.Update fault)) old new = MakesNone parts.scope parts.aux (faults.Update fault) old new
+ChecksRoot parts (Err (faults.Write fault)) old new = ⊥
+
+-- ---- what private functions say
+
+-- the cache that is there is read and compared with this one, if one is asked for
+abbrev pub Compares : Bool → List ℕ → Result Bool SlotFault → DiskState → DiskState → Type 0
+Compares true cache (Ok differs) old new = IfKnown old.contents (λ c. differs ≡ not (content_eq c.now.cache (Some cache))) × ReadsOnly (Cache ∷ []) Complete old new
+Compares true cache (Err fault) old new = ReadsContent Cache (Err fault) old new
+Compares false cache (Ok differs) old new = (differs ≡ false) × (new ≡ old)
+Compares false cache (Err fault) old new = ⊥

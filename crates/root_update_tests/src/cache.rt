@@ -1,0 +1,109 @@
+//! The caches that an update leaves.
+use crate::devices::{Devices, TAG, aux_use};
+use crate::left::{file_left, new_file};
+use cache_reader::{CacheView, print};
+use lib_types::NoMemory;
+use root_update::AuxUse;
+use std::alloc::Global;
+use table_rows::{Row, Said, count, has_line, text};
+use tree_face::{Call, DoneCall, MemSink, Slot, Tag};
+
+// Whether the cache is printed so; a malformed one isn't printed at all.
+fn is_printed(
+    alloc: Global,
+    row: Row<'_>,
+    cache: &[u8],
+    said: &mut Said,
+) -> Result<bool, NoMemory> {
+    let mut sink = MemSink::new(alloc, Vec::new(alloc));
+    if let Ok(view) = CacheView::parse(cache) {
+        let _ = print(&view, b"/etc/ld.so.cache", &mut sink);
+    }
+    said.is_text(alloc, row, b"print", sink.written())
+}
+
+/// Whether the cache is the one that the row says, or without `print` the one that was there.
+pub(crate) fn has_cache(
+    alloc: Global,
+    row: Row<'_>,
+    devices: &mut Devices,
+    said: &mut Said,
+) -> Result<bool, NoMemory> {
+    let cache = file_left(alloc, Slot::Cache, devices);
+    if !has_line(row, b"print") {
+        return said.is_text(alloc, row, b"cache", &cache);
+    }
+    let size = count(row, b"size");
+    Ok(
+        is_printed(alloc, row, &cache, said)?
+            && (size == 0 || said.is_number(alloc, b"size", size, cache.len() as u64)?)
+            && (!has_line(row, b"new-cache") || said.is_text(alloc, row, b"new-cache", &cache)?),
+    )
+}
+
+/// Whether the auxiliary cache has the records of the row, or is as before if the row has none.
+pub(crate) fn has_records(
+    alloc: Global,
+    row: Row<'_>,
+    devices: &mut Devices,
+    said: &mut Said,
+) -> Result<bool, NoMemory> {
+    let want = new_file(alloc, row, Slot::Aux)?;
+    let got = file_left(alloc, Slot::Aux, devices);
+    said.is_same(b"new-records", &want, &got)
+}
+
+const REPLACING: &[Call] = &[
+    Call::Create,
+    Call::Append,
+    Call::Sync,
+    Call::Publish,
+    Call::Settle,
+];
+
+// The tag with which a call is listed: flushing a file's directory has none.
+fn tag_of(call: Call) -> Tag {
+    if call == Call::Settle { Tag(0) } else { TAG }
+}
+
+// Adds the calls that replace a file.
+fn push_calls(calls: &mut Vec<DoneCall>, slot: Slot) -> Result<(), NoMemory> {
+    for call in REPLACING {
+        calls.push(DoneCall {
+            tag: tag_of(*call),
+            slot,
+            call: *call,
+        })?;
+    }
+    Ok(())
+}
+
+// Adds the disk's writing calls of an update.
+fn push_update(calls: &mut Vec<DoneCall>, row: Row<'_>) -> Result<(), NoMemory> {
+    if !has_line(row, b"no-cache") {
+        push_calls(calls, Slot::Cache)?;
+    }
+    if aux_use(row) != AuxUse::Unused {
+        push_calls(calls, Slot::Aux)?;
+    }
+    Ok(())
+}
+
+/// Whether the disk was asked to replace the cache, and then the auxiliary cache, in each of so many updates, and nothing else.
+pub(crate) fn has_calls(
+    alloc: Global,
+    row: Row<'_>,
+    updates: u64,
+    devices: &Devices,
+    said: &mut Said,
+) -> Result<bool, NoMemory> {
+    let mut calls = Vec::new(alloc);
+    for _ in 0..updates {
+        push_update(&mut calls, row)?;
+    }
+    let is_so = devices.disk.calls() == calls.as_slice();
+    if !is_so {
+        said.say(b"other writing calls of the disk", b"")?;
+    }
+    Ok(is_so)
+}

@@ -1,0 +1,4 @@
+mod Apps
+mod Chain
+mod Parsed
+mod Rows

@@ -1,0 +1,4 @@
+pub mod Faults
+pub mod Language
+pub mod Requests
+pub mod Words

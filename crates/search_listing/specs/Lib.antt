@@ -1,0 +1,4 @@
+pub mod FirstNamed
+pub mod Lines
+pub mod Listing
+pub mod MadePaths

@@ -1,0 +1,6 @@
+mod Calls
+pub mod Children
+mod Found
+pub mod Looked
+pub mod Same
+pub mod WithNode
