@@ -6,17 +6,22 @@ _ldconfig_image() {
     ldconfig-image:--abi) words='i386 x86-64 x32 aarch64' ;;
     ldconfig-image:--caps) words='x86-64-v2 x86-64-v3 x86-64-v4' ;;
     *:--manifest | *:-o | *:--aux-cache) compopt -o filenames; mapfile -t COMPREPLY < <(compgen -f -- "$current"); return ;;
+    ldconfig-image:-C) [ "${COMP_WORDS[1]}" != -p ] || mapfile -t COMPREPLY < <(compgen -f -- "$current"); return ;;
     ldconfig-image:-r) compopt -o filenames; mapfile -t COMPREPLY < <(compgen -d -- "$current"); return ;;
-    *:--exclude | *:--tag | *:--platform | *:--library-path) return ;;
+    *:--exclude | *:--tag | *:--platform | *:--library-path | ldconfig-image:-f) return ;;
     esac
     if [ -z "$words" ]; then
         case $command:$current in
         ldconfig-image:*)
             if [ "$COMP_CWORD" = 1 ]; then
-                words='-r update batch sample print -p lookup resolve --help'
+                words='-r -n update batch sample print -p lookup resolve --help'
             else
                 case ${COMP_WORDS[1]} in
-                -r) words='-N -X -f -C -v --aux-cache -i --check' ;;
+                -n)
+                    words='-r -X -v --aux-cache -i --check'
+                    case $current in -*) ;; *) compopt -o filenames; mapfile -t COMPREPLY < <(compgen -d -- "$current"); return ;; esac
+                    ;;
+                -r) words='-n -N -X -f -C -v --aux-cache -i --check' ;;
                 update | batch) words='--tag' ;;
                 print) words='-r' ;;
                 -p) words='-r -C' ;;

@@ -1,12 +1,13 @@
 """A plain reader of the scripts of `ldconfig batch`: lines that put a node into a tree, drop one, or update the image.
 
-It is written from docs/FORMATS.md and shares nothing with the program. Trees, and the lines of `put`, are those of scripts/mtree_model.py.
+It is written from docs/FORMATS.md and shares nothing with the program. Trees, and the lines of `put`, are those of tools/mtree_model.py.
 """
 
 import re
 import sys
 
 sys.dont_write_bytecode = True
+import tool_modules  # noqa: E402,F401
 from mtree_model import KINDS, LONGEST_PATH, Faults, Node, Reader, decode, is_name  # noqa: E402
 
 # Of several errors of one line the first in this order counts.

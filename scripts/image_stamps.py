@@ -8,6 +8,7 @@ import struct
 import sys
 
 sys.dont_write_bytecode = True
+import tool_modules  # noqa: E402,F401
 from image_facts import ABIS, LONGEST_NAME  # noqa: E402
 from image_facts import AUX_MAGIC as MAGIC  # noqa: E402
 

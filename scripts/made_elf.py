@@ -2,6 +2,7 @@
 
 import struct
 
+import tool_modules  # noqa: F401
 from image_facts import ABIS
 
 

@@ -10,6 +10,7 @@ import os
 import shutil
 import stat
 
+import tool_modules  # noqa: F401
 from elf_parts import library_of
 from image_facts import MOST_LINKS, OLDER_CAPS, SYSTEM_DIRS, is_like_library
 

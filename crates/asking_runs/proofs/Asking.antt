@@ -1,4 +1,4 @@
--- A command that only asks, by what it reads, what is answered of that, and how it ends.
+-- A command that only asks, from what it reads, its answer, and how it ends.
 use Rattle.std.proofs.Common.{◌≡◌, ℕ, List, Option, Some, None, Result, Ok, Err, inr, refl, subst}
 use Rattle.std.specs.Result.{result_map_both}
 use Rattle.commands.specs.Devices.{DeviceStates}
@@ -33,7 +33,7 @@ use Rattle.asking_runs.specs.declared.fault.ListFault.{ListFault}
 use Rattle.asking_runs.specs.declared.fault.ListFault.TheVariants as faults
 use Rattle.asking_runs.specs.declared.resolve.Listed.{Listed}
 
--- a command that ends by an answer ends by what that is
+-- a command that ends with an answer ends with the text or the status of that answer
 module _ {A F : Type 0} (f : A → AnswerText) (g : F → Status) (status : Status) (a b : SinkState) where
   ends_by : (r : Result A F) (expected : Result AnswerText F) → result_map_both f (λ e. e) r ≡ expected → EndsAs (result_map_both f g r) status a b
       → EndsAs (result_map_both (λ answer. answer) g expected) status a b
@@ -63,7 +63,7 @@ module _ (old new : DeviceStates) (status : Status) where
         complete = completes_listing old new status asked read (listed_answer result) reads answers by_answer;
       }
 
--- ---- a listing whose text has no memory
+-- ---- a listing for whose text memory runs out
 
 module _ (t : Nodes) (cache : Option (List CachedEntry)) (path : List ℕ) (env : Env) (a b : StoreState) where
   by_object : (held : Contents) (key : List (List ℕ)) (at : Object → ℕ → Record) (o : Option (Result Object Defect)) → BeginsBy o at key held Complete a b → BeginsBy o at key held GaveUp a b

@@ -1,4 +1,4 @@
--- A command that finds what it asks for ends by its answer.
+-- A command that finds what it asks for ends with its answer.
 use Rattle.std.proofs.Common.{◌≡◌, ◌⊎◌, ◌∷◌, [], ℕ, List, Bool, true, false, Option, Some, None, Result, Ok, Err, inl, inr, ap, refl, subst, sym, ◌∙◌}
 use Rattle.std.proofs.lemmas.Bool.{true≢false}
 use Rattle.std.specs.Prelude.{IfOk, if◌then◌else◌, not}
@@ -54,7 +54,7 @@ module _ (old new : DeviceStates) (status : Status) where
   ended answer (inl whole) none = whole.0
   ended answer (inr cut) none = absurd (none.sink cut.1.1)
 
-  -- ---- of the cache alone
+  -- ---- a command that reads only the cache
 
   by_answer : (r : Result AnswerText CacheFault) → EndsAs (result_map_both (λ answer. answer) of_cache r) status old.sink new.sink → Completes r old new status
   by_answer (Ok answer) ends = λ none. inl (ended answer ends none)
@@ -78,7 +78,7 @@ module _ (old new : DeviceStates) (status : Status) where
     completes (Err (slot_faults.DiskFailed slot)) reads ends = if_known old.disk.contents (λ none. absurd (failed _ _ none.disk reads.reads.cause))
     completes (Err slot_faults.NoMemory) reads ends = if_known old.disk.contents (λ none. ends.0)
 
-  -- ---- of an image
+  -- ---- a command that reads an image
 
   abbrev Ends : Type 0
   Ends = ((status ≡ Done) ⊎ (status ≡ Missing)) ⊎ (status ≡ NoMemory)

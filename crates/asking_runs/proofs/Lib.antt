@@ -1,3 +1,2 @@
 mod Asking
 pub mod Completing
-mod FirstRise

@@ -1,4 +1,4 @@
--- A command that asks the cache alone.
+-- A command that reads only the cache.
 use Rattle.std.specs.Prelude.{◌≡◌, ℕ, List, Result, Ok, Err}
 use Rattle.std.specs.Result.{result_map_both}
 use Rattle.commands.specs.Devices.{DeviceStates}
@@ -14,7 +14,7 @@ use Rattle.asking_runs.specs.Complete.{Completes}
 use Rattle.asking_runs.specs.Faults.{of_cache}
 use Rattle.asking_runs.specs.declared.fault.CacheFault.{CacheFault}
 
--- what is answered of a cache's bytes
+-- the answer for a cache's bytes
 abbrev pub CacheAnswer : Type 0
 CacheAnswer = List ℕ → Result AnswerText CacheFault
 
@@ -22,11 +22,11 @@ abbrev pub answer_by : CacheAnswer → Result (List ℕ) CacheFault → Result A
 answer_by answer (Ok bytes) = answer bytes
 answer_by answer (Err fault) = Err fault
 
--- the same of what was read of the Cache slot
+-- the same, for what was read of the cache file
 abbrev pub answer_of : CacheAnswer → Result Content SlotFault → Result AnswerText CacheFault
 answer_of answer read = answer_by answer (cache_in read)
 
--- The Cache slot is read once, and the command ends by the answer of that.
+-- The cache file is read once, and the command ends with the answer.
 pub record AsksCache (answer : CacheAnswer) (old new : DeviceStates) (status : Status) : Type 0 where
   pub read : Result Content SlotFault
   pub reads : ReadsContent slots.Cache read old.disk new.disk

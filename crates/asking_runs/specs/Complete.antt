@@ -13,6 +13,6 @@ pub record NoFault (old new : DeviceStates) : Type 0 where
   pub source : HasRisen old.source.faults new.source.faults → ⊥
   pub sink : HasRisen old.sink.faults new.sink.faults → ⊥
 
--- if there is an answer, the command ends by it
+-- if there is an answer, the command ends with it
 abbrev pub Completes : {F : Type 0} → Result AnswerText F → DeviceStates → DeviceStates → Status → Type 0
 Completes result old new status = IfOk result (λ answer. NoFault old new → (status ≡ answered answer) ⊎ (status ≡ NoMemory))

@@ -11,7 +11,7 @@ use Rattle.asking_runs.specs.declared.fault.CacheFault.TheVariants as caches
 use Rattle.asking_runs.specs.declared.fault.ListFault.{ListFault}
 use Rattle.asking_runs.specs.declared.fault.ListFault.TheVariants as lists
 
--- the fault of the Cache slot
+-- a fault of the cache file
 abbrev pub of_slot : SlotFault → CacheFault
 of_slot (slot_faults.DiskFailed slot) = caches.DiskFailed
 of_slot slot_faults.NoMemory = caches.NoMemory
@@ -27,7 +27,7 @@ of_list (lists.Image fault) = of_load fault
 of_list (lists.BadCache defect) = statuses.BadCache defect
 of_list (lists.Program fault) = of_resolve fault
 
--- ---- no reason is that of arguments which are those of no command
+-- ---- no reason has the status of invalid arguments
 
 pub cache_no_usage : (fault : CacheFault) → of_cache fault ≡ statuses.Usage → ⊥
 cache_no_usage caches.DiskFailed e = absurd (cc)

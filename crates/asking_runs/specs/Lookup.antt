@@ -1,6 +1,7 @@
 -- The command `lookup`: the path that the loader takes from the cache (ld.so(8)).
 use Rattle.std.specs.Prelude.{ℕ, List, codes, Option, Some, None, is_none, Result, Ok, Err}
 use Rattle.cache_lookup.specs.Scan.{scan}
+use Rattle.cache_lookup.specs.Sorted.{sorted_in}
 use Rattle.cache_reader.specs.Cache.{CachedEntry}
 use Rattle.cache_reader.specs.declared.defect.CacheDefect.{CacheDefect}
 use Rattle.commands.specs.declared.kinds.Lookup.{Lookup}
@@ -9,11 +10,10 @@ use Rattle.update_report.specs.Lines.{line}
 use Rattle.command_status.specs.Ending.{AnswerText}
 use Rattle.command_status.specs.declared.status.Status.{Status}
 use Rattle.asking_runs.specs.AskCache.{AsksCache}
-use Rattle.asking_runs.specs.Cache.{sorted_in}
 use Rattle.asking_runs.specs.declared.fault.CacheFault.{CacheFault}
 use Rattle.asking_runs.specs.declared.fault.CacheFault.TheVariants.{BadCache}
 
--- what is written of the path
+-- the text for the path
 abbrev pub path_text : Option (List ℕ) → List ℕ
 path_text None = line (codes "not found")
 path_text (Some path) = line path
@@ -25,7 +25,7 @@ abbrev pub lookup_by : Lookup → Result (List CachedEntry) CacheDefect → Resu
 lookup_by asked (Err d) = Err (BadCache d)
 lookup_by asked (Ok entries) = Ok (path_answer (scan entries asked.name asked.abi asked.caps))
 
--- the answer of a cache's bytes
+-- the answer for a cache's bytes
 abbrev pub lookup_answer : Lookup → List ℕ → Result AnswerText CacheFault
 lookup_answer asked bytes = lookup_by asked (sorted_in bytes)
 

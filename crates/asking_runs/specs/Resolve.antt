@@ -2,6 +2,7 @@
 use Rattle.std.specs.Prelude.{◌≡◌, ◌⊎◌, ℕ, Bool, false, List, Option, Some, None, is_some, not, Result, Ok, Err, IfOk}
 use Rattle.std.specs.List.{list_all}
 use Rattle.std.specs.Result.{result_map_both}
+use Rattle.cache_lookup.specs.Sorted.{sorted_in}
 use Rattle.cache_reader.specs.Cache.{CachedEntry}
 use Rattle.cache_reader.specs.declared.defect.CacheDefect.{CacheDefect}
 use Rattle.commands.specs.declared.kinds.Resolve.{Resolve}
@@ -28,7 +29,6 @@ use Rattle.image_session.specs.declared.reading.TreeSource.TheVariants as source
 use Rattle.command_status.specs.Ending.{AnswerText, EndsAs}
 use Rattle.command_status.specs.declared.status.Status.{Status}
 use Rattle.command_status.specs.declared.status.Status.TheVariants.{Done, Missing, NoMemory}
-use Rattle.asking_runs.specs.Cache.{sorted_in}
 use Rattle.asking_runs.specs.Complete.{NoFault}
 use Rattle.asking_runs.specs.Faults.{of_list}
 use Rattle.asking_runs.specs.declared.fault.ListFault.{ListFault}
@@ -37,7 +37,7 @@ use Rattle.asking_runs.specs.declared.resolve.Listed.{Listed}
 
 -- ---- the answer
 
--- The ABI is that of the program: the listing doesn't depend on the one in here.
+-- The loader's environment. Its `abi` is a filler: the listing uses the program's ABI.
 abbrev pub env_of : SystemDirs → Resolve → Env
 env_of system asked = record {
   abi = X86_64;
@@ -65,19 +65,19 @@ pub record ListsProgram (path : List ℕ) (env : Env) (tree : Nodes) (cache : Op
   pub reads : ReadsListing old.held tree cache path env (resolve_ending listing) old new
   pub answer_is : answer ≡ list_answer listing
 
--- ---- of what was read
+-- ---- from what was read
 
 -- the entries of the cache, if there is one, or its first defect
 abbrev pub cache_of : Content → Result (Option (List CachedEntry)) CacheDefect
 cache_of None = Ok None
 cache_of (Some bytes) = result_map_both Some (λ d. d) (sorted_in bytes)
 
--- the cache is refused, or the program is listed with it
+-- the cache is malformed, or the program is listed with it
 abbrev pub ListsWith : List ℕ → Env → Nodes → Result (Option (List CachedEntry)) CacheDefect → Result AnswerText ListFault → StoreState → StoreState → Type 0
 ListsWith path env tree (Err d) answer old new = (answer ≡ Err (faults.BadCache d)) × (new ≡ old)
 ListsWith path env tree (Ok cache) answer old new = ListsProgram path env tree cache answer old new
 
--- the same of what was read of an image
+-- the same, for an image that was read
 abbrev pub ListsImage : SystemDirs → Resolve → ReadImage → Result AnswerText ListFault → StoreState → StoreState → Type 0
 ListsImage system asked image answer old new = ListsWith asked.path (env_of system asked) image.tree (cache_of image.cache) answer old new
 
@@ -87,7 +87,7 @@ AnswersImage asked (Ok image) answer old new = ListsImage systems.Loader asked i
 
 -- ---- completeness
 
--- the program has an object, and each key that its listing begins is held
+-- the program's file is an ELF object, and the store holds each file that its listing opens
 pub record HasListing (system : SystemDirs) (asked : Resolve) (tree : Nodes) (cache : Option (List CachedEntry)) (held : Contents) : Type 0 where
   pub real : List ℕ
   pub file : program_at tree asked.path ≡ Some real
@@ -95,7 +95,7 @@ pub record HasListing (system : SystemDirs) (asked : Resolve) (tree : Nodes) (ca
   pub says : object_at held tree real ≡ Some (Ok object)
   pub holds : (requests : ℕ) → lacks_one held (record_of tree cache asked.path (env_of system asked) held real object requests).keys ≡ false
 
--- the manifest has a tree, the cache is in order if there is one, and the program has a listing
+-- the manifest has a tree, the cache is well-formed if there is one, and the program has a listing
 pub record IsAnswerable (asked : Resolve) (held : Contents) (slots : Slots) : Type 0 where
   pub tree : Nodes
   pub manifest : manifest_of slots.manifest ≡ HasTree tree
@@ -109,7 +109,7 @@ CompletesListing asked held slots old new status =
 
 -- ---- the command
 
--- The image is read, and the command ends by the answer of that.
+-- The image is read, and the command ends with the answer.
 pub record ResolveRun (asked : Resolve) (old new : DeviceStates) (status : Status) : Type 0 where
   pub read : Result ReadImage LoadFault
   pub reads : ReadsImage sources.Manifest read old.disk new.disk

@@ -11,13 +11,13 @@ use image_session::{LoadFault, SlotFault};
 use ldd_resolve::ResolveFault;
 use lib_types::NoMemory;
 
-/// Why the cache isn't asked.
+/// Why a cache can't be read.
 #[derive(Clone, Copy, Debug, PartialEq, Eq)]
 pub(crate) enum CacheFault {
     /// The disk has failed.
     DiskFailed,
     NoMemory,
-    /// The Cache slot holds nothing.
+    /// The cache file is missing.
     NoCache,
     /// The first defect of the cache.
     BadCache(CacheDefect),
@@ -26,7 +26,7 @@ pub(crate) enum CacheFault {
 /// Why a program isn't listed.
 #[derive(Clone, Copy, Debug, PartialEq, Eq)]
 pub enum ListFault {
-    /// The image isn't read.
+    /// The image can't be read.
     Image(LoadFault),
     /// The first defect of the cache.
     BadCache(CacheDefect),

@@ -9,9 +9,9 @@ ghost use Rattle.update_report.specs.Lines.{line};
 ghost use Rattle.asking_runs.specs.AskCache.{answer_of};
 ghost use Rattle.asking_runs.specs.Lookup.{LookupRun, lookup_answer, path_answer};
 
-use crate::cache::{cache_in, sorted_cache};
+use crate::cache::cache_in;
 use crate::fault::CacheFault;
-use cache_lookup::{Counted, Sorted};
+use cache_lookup::{Counted, Sorted, sorted_cache};
 use command_status::{Answer, Status, end};
 use commands::Lookup;
 use image_session::{SlotFault, read_slot};
@@ -60,7 +60,7 @@ fn path_in<'a>(cache: &Sorted<'a>, asked: &Lookup) -> Option<&'a [u8]>
     cache.path(index)
 }
 
-// The answer of what was read of the Cache slot.
+// The answer for what was read of the cache file.
 fn look_up<'a>(
     read: &'a Result<Option<Text>, SlotFault>,
     asked: &Lookup,
@@ -74,7 +74,7 @@ fn look_up<'a>(
     })
 }
 
-/// Runs the command `lookup`. The states of the store and the input are any, since nothing is read from them.
+/// Runs the command `lookup`. The store and the input may be in any state, because nothing is read from them.
 pub fn run_lookup<D: Disk, O: Sink>(
     alloc: Global,
     asked: &Lookup,

@@ -16,7 +16,7 @@ use lib_types::{Failed, Text};
 use std::alloc::Global;
 use tree_face::{Disk, Sink, Slot};
 
-// The cache, to be printed with this name of it on the first line.
+// The cache, to be printed with this name on the first line.
 #[derive(Drop)]
 struct Printed<'a, 'n> {
     view: CacheView<'a>,
@@ -37,14 +37,14 @@ impl<'a, 'n> Answer for Printed<'a, 'n> {
     }
 }
 
-// The name of the usual cache, as the loader and ldconfig -p name it.
+// The name of the usual cache, as the loader and `ldconfig -p` name it.
 fn cache_name() -> &'static [u8]
     ensures { result.now ≡ cache_name }
 {
     b"/etc/ld.so.cache"
 }
 
-// The answer of what was read of the Cache slot.
+// The answer for what was read of the cache file.
 fn print<'a, 'n>(
     read: &'a Result<Option<Text>, SlotFault>,
     name: &'n [u8],
@@ -55,7 +55,7 @@ fn print<'a, 'n>(
     Ok(Printed { view, name })
 }
 
-/// Prints the cache with this name of it on the first line. The states of the store and the input are any, since nothing is read from them.
+/// Prints the cache with this name on the first line. The store and the input may be in any state, because nothing is read from them.
 pub fn run_print_named<D: Disk, O: Sink>(
     alloc: Global,
     name: &[u8],
@@ -70,7 +70,7 @@ pub fn run_print_named<D: Disk, O: Sink>(
     end(print(&read, name), sink)
 }
 
-/// Runs the command `print`. The states of the store and the input are any, since nothing is read from them.
+/// Runs the command `print`. The store and the input may be in any state, because nothing is read from them.
 pub fn run_print<D: Disk, O: Sink>(alloc: Global, disk: &mut D, sink: &mut O) -> Status
     ensures runs { (store : StoreState) (source : SourceState) → PrintRun
         (states store (D.state disk.old) source (O.state sink.old)) (states store (D.state disk.new) source (O.state sink.new)) result }

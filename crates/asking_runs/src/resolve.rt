@@ -5,9 +5,8 @@ ghost use Rattle.commands.specs.Devices.{states};
 ghost use Rattle.tree_face.specs.Stream.{SourceState};
 ghost use Rattle.asking_runs.specs.Resolve.{AnswersImage, ListsImage, ListsProgram, ListsWith, ResolveRun, cache_of, env_of, is_whole, listed_answer};
 
-use crate::cache::sorted_cache;
 use crate::fault::ListFault;
-use cache_lookup::Sorted;
+use cache_lookup::{Sorted, sorted_cache};
 use command_status::{Answer, Status, end};
 use commands::Resolve;
 use image_session::{LoadFault, ReadImage, TreeSource, read_image};
@@ -17,7 +16,7 @@ use rpath_search::{Env, SystemDirs};
 use std::alloc::Global;
 use tree_face::{Disk, Sink, Store, Tree, put_all};
 
-// The program that is listed, and what the loader is given.
+// The program to list, and the loader's environment.
 #[derive(Drop)]
 struct Program {
     path: Text,
@@ -46,7 +45,7 @@ impl Answer for Listed {
     }
 }
 
-// What the loader is given.
+// The program and the loader's environment.
 fn program_of(asked: Resolve, system: SystemDirs) -> Program
     ensures path { result.path ≡ asked.path }
     ensures env { result.env ≡ env_of system asked }
@@ -101,7 +100,7 @@ fn list<S: Store>(
     })
 }
 
-// The answer of an image, if its cache is in order.
+// The answer for an image, if its cache is well-formed.
 fn list_in<S: Store>(
     alloc: Global,
     program: &Program,
@@ -131,7 +130,7 @@ pub fn list_image<S: Store>(
     list_in(alloc, &program, image, store)
 }
 
-// The answer of what was read of an image.
+// The answer for what was read of an image.
 fn resolve<S: Store>(
     alloc: Global,
     asked: Resolve,
@@ -146,7 +145,7 @@ fn resolve<S: Store>(
     }
 }
 
-/// Runs the command `resolve`. The state of the input is any, since nothing is read from it.
+/// Runs the command `resolve`. The input may be in any state, because nothing is read from it.
 pub fn run_resolve<S: Store, D: Disk, O: Sink>(
     alloc: Global,
     asked: Resolve,

@@ -1,4 +1,4 @@
--- Writing calls that are made one after another.
+-- Consecutive writing calls.
 use Rattle.std.proofs.Common.{◌≡◌, ◌⊎◌, ◌+◌, ℕ, zero, suc, List, [], ◌∷◌, ◌++◌, length, take, refl, sym, ap, ◌∙◌, append_assoc, inl, inr, arith}
 use Rattle.std.proofs.Math.Seq.{take-append-add, take-append_seam}
 use Rattle.std.specs.List.{slice_get}
@@ -22,7 +22,7 @@ no_more : (l : List DoneCall) → l ++ [] ≡ l
 no_more [] = refl
 no_more (x ∷ l) = ap (λ m. x ∷ m) (no_more l)
 
--- the calls before it were made, and perhaps this one, which failed
+-- the calls before this one were made; this one failed and may or may not have had its effect
 pub stop : (front : List DoneCall) (call : DoneCall) (rest a b c : List DoneCall) → IsFollowedBy front a b → IsFollowedByPart (call ∷ []) b c → StopsAt call (front ++ call ∷ rest) a c
 stop front call rest a b c first (n, last) = record { number = length front; at = get_later front (call ∷ rest) 0 (length front) (omega arith); made = by n last }
   where

@@ -1,4 +1,4 @@
--- What a crash leaves while slots are replaced one after another.
+-- The contents after a crash while slots are replaced one after another.
 use Rattle.std.proofs.Common.{◌≡◌, ◌⊎◌, ◌≤◌, ◌||◌, Bool, true, false, List, [], ◌∷◌, ◌++◌, Option, Some, None, refl, sym, ap, subst, ◌∙◌, inl, inr, arith}
 use Rattle.atomic_replace.specs.Replace.{IsWritten, Write}
 use Rattle.tree_face.proofs.Crash.{content_is, slot_is}

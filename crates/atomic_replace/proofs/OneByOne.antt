@@ -17,7 +17,7 @@ itself Manifest = refl
 itself Cache = refl
 itself Aux = refl
 
--- a slot of the list is among its slots
+-- the slot of a list's item is in the list's slots
 among : (done : List Write) (w : Write) (rest : List Write) → list_any (slot_eq w.0) (slots_of (done ++ w ∷ rest)) ≡ true
 among [] w rest = ap (λ b. b || list_any (slot_eq w.0) (slots_of rest)) (itself w.0)
 among (x ∷ done) w rest = ap (λ b. slot_eq w.0 x.0 || b) (among done w rest) ∙ or_true (slot_eq w.0 x.0)
@@ -43,7 +43,7 @@ module _ (tag : Tag) (all : List Write) where
       subst (λ l. WritesPart tag l fault a c) (sym so_far.parts)
       (part_second tag so_far.done (w ∷ rest) a b c fault so_far.written (part_first tag (w ∷ []) rest b c c fault part))
 
--- the next item of a list that is passed
+-- the next item of the given list
 pub next_is : (writes : List SlotWrite) (i : ℕ) (d : SlotWrite) → i < length writes →
     writes_in (drop i writes) ≡ ((get_or writes i d).slot, (get_or writes i d).bytes.now) ∷ writes_in (drop (i + 1) writes)
 next_is writes i d less =

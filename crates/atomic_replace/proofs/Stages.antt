@@ -1,4 +1,4 @@
--- How a disk stands between two calls of a replacement.
+-- The state of a disk between two calls of a replacement.
 use Rattle.std.proofs.Common.{◌≡◌, ◌-◌, ◌≤◌, ◌||◌, ℕ, Bool, true, false, arith, List, [], ◌∷◌, ◌++◌, length, take, drop, Option, Some, None, refl, sym, ap, subst, ◌∙◌, inl, inr, Result, Ok, Err}
 use Rattle.std.specs.Option.{IfSome, option_map}
 use Rattle.std.specs.Result.{OnOk}
@@ -24,17 +24,17 @@ use Rattle.atomic_replace.specs.Order.{calls_from, needs_file, next_of}
 use Rattle.atomic_replace.specs.Replace.{FailsToWrite, IsWritten, MayReplaceSlot, ReplacesSlot, StopsAt, Write, WritesSlot, call_by, comes_before_publish}
 use Rattle.atomic_replace.specs.Step.{LeftBy, MadeBy, Makes, Replacement, change_of, failure_of}
 
--- the temporary file has these bytes, and the slots are as they were
+-- the temporary file has these bytes, and the slots are unchanged
 pub record Holds (tag : ℕ) (slot : Slot) (bytes : List ℕ) (a b : DiskContent) : Type 0 where
   pub touches : Touches tag slot a b
   pub holds : b.temporary tag slot ≡ Some bytes
 
--- .. flushed
+-- the same, and the temporary file is flushed
 pub record HoldsFlushed (tag : ℕ) (slot : Slot) (bytes : List ℕ) (a b : DiskContent) : Type 0 where
   pub holds : Holds tag slot bytes a b
   pub flushed : b.synced tag slot ≡ true
 
--- the contents where this call is next
+-- the contents when this call is next
 abbrev pub Before : ℕ → Write → Option Call → DiskContent → DiskContent → Type 0
 Before tag write None = ReplacesSlot tag write
 Before tag write (Some Create) = IsSame
@@ -43,19 +43,19 @@ Before tag write (Some Sync) = Holds tag write.0 write.1
 Before tag write (Some Publish) = HoldsFlushed tag write.0 write.1
 Before tag write (Some Settle) = ReplacesSlot tag write
 
--- the calls made before it
+-- the calls made before this one
 abbrev pub calls_before : Tag → Slot → Option Call → List DoneCall
 calls_before tag slot next = take (5 - length (calls_from next)) (replacement tag slot)
 
 abbrev pub after : Call → Option Call
 after call = next_of (drop 1 (calls_from (Some call)))
 
--- the slot is flushed
+-- the slot's name is flushed
 pub record Ended (write : Write) (old new : DiskState) : Type 0 where
   pub during : (t : ℕ) (b : Content) → t ≤ old.time → new.since t write.0 b ≡ (old.since t write.0 b || content_eq (Some write.1) b)
   pub now : (b : Content) → new.may write.0 b ≡ content_eq (Some write.1) b
 
--- what a crash leaves in the slot where this call is next
+-- the contents of the slot after a crash when this call is next
 abbrev pub LeftBefore : Write → Option Call → DiskState → DiskState → Type 0
 LeftBefore write None old new = IfKnown old.contents (λ _. Ended write old new)
 LeftBefore write (Some Create) old new = LeavesSame write.0 old new
@@ -64,7 +64,7 @@ LeftBefore write (Some Sync) old new = LeavesSame write.0 old new
 LeftBefore write (Some Publish) old new = LeavesSame write.0 old new
 LeftBefore write (Some Settle) old new = IfKnown old.contents (λ _. LeavesMore (content_eq (Some write.1)) write.0 old new)
 
--- the disk where this call is next
+-- the state of the disk when this call is next
 pub record Stands (tag : Tag) (write : Write) (next : Option Call) (old new : DiskState) : Type 0 where
   pub contents : Relates (Before tag.0 write next) old.contents new.contents
   pub calls : Relates (IsFollowedBy (calls_before tag write.0 next)) old.calls new.calls
@@ -77,7 +77,7 @@ pub record Stands (tag : Tag) (write : Write) (next : Option Call) (old new : Di
   pub others : LeavesOthers write.0 old new
   pub left : LeftBefore write next old new
 
--- this call, if there is one, is made
+-- this call is made, if there is one
 abbrev pub MakesNext : Tag → Write → Option Call → DiskState → DiskState → Result Bool DiskFault → Type 0
 MakesNext tag write next old new result = IfSome next (λ call. Makes tag write call old new result)
 
@@ -111,7 +111,7 @@ module _ (tag : ℕ) (write : Write) (a b c : DiskContent) where
   unchanged : Touches tag write.0 a c → MayReplaceSlot tag write a c
   unchanged touches = record { slots = inl touches.slots; others = touches.others }
 
-  -- a call before the publishing
+  -- a call before the rename
   touched : (call : Call) → comes_before_publish call ≡ true → Before tag write (Some call) a b → failure_of tag write call b c → Touches tag write.0 a c
   touched Create is first next = subst (λ (d : DiskContent). Touches tag write.0 d c) first next.touches
   touched Append is first next = touch_on first.touches next.touches
@@ -162,7 +162,7 @@ module _ (tag : ℕ) (write : Write) (old middle new : DiskState) (later : old.t
   time_by Publish r adds = adds.goes_on
   time_by Settle r settles = settles.goes_on
 
-  -- a publishing of flushed bytes
+  -- the rename of a flushed file
   published_on : (a b : Option DiskContent) → Relates (Before tag write (Some Publish)) a b → LeavesSame write.0 old middle
       → IfKnown b (λ c. LeavesMore (published c tag write.0) write.0 middle new) → IfKnown a (λ _. LeavesMore (content_eq (Some write.1)) write.0 old new)
   published_on None None holds same adds = tt
@@ -181,7 +181,7 @@ module _ (tag : ℕ) (write : Write) (old middle new : DiskState) (later : old.t
       at_most_by write.0 old new (published b tag write.0) (content_eq (Some write.1)) (flushed_only (b.temporary tag write.0) (b.synced tag write.0) write.1 holds.holds.holds holds.flushed)
       (at_most_on old middle new later (published b tag write.0) write.0 same adds)
 
-  -- a flushing of what was published
+  -- the flush of a renamed file's name
   settled_on : (a b : Option DiskContent) → Relates (ReplacesSlot tag write) a b → IfKnown a (λ _. LeavesMore (content_eq (Some write.1)) write.0 old middle)
       → ((t : ℕ) (x : Content) → t ≤ middle.time → new.since t write.0 x ≡ middle.since t write.0 x)
       → IfKnown b (λ c. (x : Content) → new.may write.0 x ≡ content_eq (slot_of c.now write.0) x) → IfKnown a (λ _. Ended write old new)
@@ -217,7 +217,7 @@ module _ (tag : ℕ) (write : Write) (old middle new : DiskState) (later : old.t
     during = λ t x le since. sym (more.during t x le) ∙ sym (same.during t x (omega (arith, le, later))) ∙ since;
   }
 
-  -- a call that failed
+  -- a failed call
   most_left : (call : Call) → Relates (Before tag write (Some call)) old.contents middle.contents → LeftBefore write (Some call) old middle → LeftBy tag write.0 call middle new (Err (record {}))
       → IfKnown old.contents (λ _. LeavesAtMost (content_eq (Some write.1)) write.0 old new)
   most_left Create holds same keeps = at_most_same (same_on old middle new later write.0 same (keeps.slots write.0)) old.contents
@@ -233,7 +233,7 @@ module _ (tag : ℕ) (write : Write) (old middle new : DiskState) (later : old.t
   untouched_by Publish is same keeps = absurd (false≢true is)
   untouched_by Settle is same keeps = absurd (false≢true is)
 
--- all slots are untouched
+-- no slot changes
 slots_by : (slot : Slot) (old new : DiskState) → LeavesSame slot old new → LeavesOthers slot old new → (here : Bool) (s : Slot) → slot_eq s slot ≡ here → LeavesSame s old new
 slots_by slot old new same others true s e = subst (λ (s : Slot). LeavesSame s old new) (sym (slot_is s slot e)) same
 slots_by slot old new same others false s e = others s e
@@ -358,7 +358,7 @@ suffix Sync = refl
 suffix Publish = refl
 suffix Settle = refl
 
--- r is what the updater was at first, u what it is before the step
+-- r is the updater at the start, u is the updater before the step
 module _ (r u : Replacement) (old middle new : DiskState) (laws : HasMoments old) (same : u ≡ record r { left = u.left }) (stands : Stands r.tag r.write (next_of u.left) old middle) where
   -- a call was made
   pub step_on : (left : List Call) (x : Bool) → u.left ≡ calls_from (next_of u.left) → (u.left ≡ [] → ⊥) → left ≡ drop 1 u.left

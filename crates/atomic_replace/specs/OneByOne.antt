@@ -1,4 +1,4 @@
--- What the replacement of slots, one after the other, by way of a tag's temporary files leaves.
+-- The effect of replacing several slots one after another, by way of temporary files with a tag.
 use Rattle.std.specs.Prelude.{◌≡◌, ◌⊎◌, ◌==◌, ◌&&◌, ℕ, Bool, true, false, List, [], ◌∷◌, ◌++◌, flat_map, map}
 use Rattle.std.specs.List.{list_any}
 use Rattle.atomic_replace.specs.declared.fault.DiskFault.{DiskFault}
@@ -14,18 +14,18 @@ use Rattle.tree_face.specs.Follows.{IsFollowedBy}
 use Rattle.tree_face.specs.Known.{IfKnown, IsSame, Relates}
 use Rattle.atomic_replace.specs.declared.slots.SlotWrite.{SlotWrite}
 
--- ---- slots one after the other
+-- ---- several slots, one after another
 
--- the one relation, and then the other
+-- the composition of two relations
 abbrev pub Then : (DiskContent → DiskContent → Type 0) → (DiskContent → DiskContent → Type 0) → DiskContent → DiskContent → Type 0
 Then R S a c = (b : DiskContent) × (R a b × S b c)
 
--- all are replaced
+-- all slots are replaced
 abbrev pub Replaces : ℕ → List Write → DiskContent → DiskContent → Type 0
 Replaces tag [] = IsSame
 Replaces tag (write ∷ writes) = Then (ReplacesSlot tag write) (Replaces tag writes)
 
--- those before this slot are replaced, and its replacement failed
+-- the slots before this one are replaced, and the replacement of this one failed
 abbrev pub FailsToReplace : ℕ → Slot → List Write → DiskContent → DiskContent → Type 0
 FailsToReplace tag slot [] a c = ⊥
 FailsToReplace tag slot (write ∷ writes) a c =
@@ -33,13 +33,13 @@ FailsToReplace tag slot (write ∷ writes) a c =
 
 -- ---- the writing calls
 
--- the calls of all replacements, in their order
+-- the calls of all replacements, in order
 abbrev pub calls_of : Tag → List Write → List DoneCall
 calls_of tag writes = flat_map (λ write. replacement tag write.0) writes
 
 -- ---- crashes
 
--- one of these writes this content into this slot
+-- one of the writes puts this content into this slot
 abbrev pub IsOfWrites : List Write → Slot → Content → Type 0
 IsOfWrites [] slot b = ⊥
 IsOfWrites (write ∷ writes) slot b = IsWritten write slot b ⊎ IsOfWrites writes slot b
@@ -50,34 +50,34 @@ is_written writes slot = list_any (λ write. slot_eq slot write.0) writes
 abbrev pub slots_of : List Write → List Slot
 slots_of writes = map (λ write. write.0) writes
 
--- there is a moment before which no other slot was touched, and from which on a crash leaves in this one only what is written there
+-- Up to a moment no other slot changes. From that moment on a crash leaves in this slot only content that was written to it.
 pub record SettlesBefore (write : Write) (later : List Write) (old settled new : DiskState) : Type 0 where
   pub until : Leaves (IsOfWrites (write ∷ [])) old settled
   pub on : (b : Content) → new.since settled.time write.0 b ≡ true → IsOfWrites (write ∷ later) write.0 b
 
--- each slot is settled before a later one is touched
+-- each slot is settled (its name is flushed) before a later slot changes
 abbrev pub SettlesInOrder : List Write → DiskState → DiskState → Type 0
 SettlesInOrder [] old new = new ≡ old
 SettlesInOrder (write ∷ writes) old new = (settled : DiskState) × (SettlesBefore write writes old settled new × SettlesInOrder writes settled new)
 
--- those before this slot are settled in order, and then only this slot is touched
+-- the slots before this one are settled in order, and then only this slot changes
 abbrev pub StopsInOrder : Slot → List Write → DiskState → DiskState → Type 0
 StopsInOrder slot [] old new = ⊥
 StopsInOrder slot (write ∷ writes) old new =
     ((write.0 ≡ slot) × Leaves (IsOfWrites (write ∷ [])) old new)
     ⊎ ((settled : DiskState) × (SettlesBefore write writes old settled new × StopsInOrder slot writes settled new))
 
--- in each slot that is written, a crash leaves only what is written there
+-- in each written slot, a crash leaves only content that was written to it
 abbrev pub LeavesOnlyWritten : List Write → DiskState → Type 0
 LeavesOnlyWritten writes s = (slot : Slot) (b : Content) → is_written writes slot ≡ true → s.may slot b ≡ true → IsOfWrites writes slot b
 
 -- ---- on the whole disk
 
--- the same temporary files but those of this tag and of these slots are made as before
+-- apart from the temporary files of this tag and these slots, the same temporary files exist as before
 abbrev pub KeepsRestMade : ℕ → List Slot → DiskState → DiskState → Type 0
 KeepsRestMade tag slots old new = (t : ℕ) (s : Slot) → (t == tag) && list_any (slot_eq s) slots ≡ false → new.made t s ≡ old.made t s
 
--- all are replaced, by these calls, and no count of faults rises
+-- all slots are replaced by exactly these calls, and the number of failed calls stays the same
 pub record WritesAll (tag : Tag) (writes : List Write) (old new : DiskState) : Type 0 where
   pub contents : Relates (Replaces tag.0 writes) old.contents new.contents
   pub calls : Relates (IsFollowedBy (calls_of tag writes)) old.calls new.calls
@@ -88,7 +88,7 @@ pub record WritesAll (tag : Tag) (writes : List Write) (old new : DiskState) : T
   pub faults : new.faults ≡ old.faults
   pub read_faults : new.read_faults ≡ old.read_faults
 
--- a call failed, which the fault names and for which the count rises
+-- one call failed; the fault names it, and the number of failed calls rises
 pub record WritesPart (tag : Tag) (writes : List Write) (fault : DiskFault) (old new : DiskState) : Type 0 where
   pub contents : Relates (FailsToReplace tag.0 fault.slot writes) old.contents new.contents
   pub calls : Relates (StopsAt (call_by tag fault.slot fault.call) (calls_of tag writes)) old.calls new.calls
@@ -98,13 +98,13 @@ pub record WritesPart (tag : Tag) (writes : List Write) (fault : DiskFault) (old
   pub faults : HasRisen old.faults new.faults
   pub read_faults : new.read_faults ≡ old.read_faults
 
--- the writes of a list that is passed
+-- the writes as slots with bytes
 abbrev pub writes_in : List SlotWrite → List Write
 writes_in writes = map (λ w. (w.slot, w.bytes.now)) writes
 
--- ---- what private functions say
+-- ---- what private functions do
 
--- the front of all is replaced, and these are left
+-- the first items are replaced, and these items are left
 pub record HasReplaced (tag : Tag) (all left : List Write) (old new : DiskState) : Type 0 where
   pub done : List Write
   pub parts : all ≡ done ++ left

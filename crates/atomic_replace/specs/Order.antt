@@ -1,4 +1,4 @@
--- The order of the calls that replace a slot's content: write to a temporary file, flush, rename(2), flush the name (fsync(2)).
+-- The order of the calls that replace a slot: create and write a temporary file, fsync it, rename(2) it, fsync the directory.
 use Rattle.std.specs.Prelude.{Bool, true, false, List, [], ◌∷◌, Option, Some, None}
 use Rattle.tree_face.specs.declared.disk.Call.{Call}
 use Rattle.tree_face.specs.declared.disk.Call.TheVariants.{Create, Append, Sync, Publish, Settle}
@@ -6,12 +6,12 @@ use Rattle.tree_face.specs.declared.disk.Call.TheVariants.{Create, Append, Sync,
 abbrev pub all_calls : List Call
 all_calls = Create ∷ Append ∷ Sync ∷ Publish ∷ Settle ∷ []
 
--- the first of the calls that are left
+-- the first remaining call
 abbrev pub next_of : List Call → Option Call
 next_of [] = None
 next_of (call ∷ calls) = Some call
 
--- the calls that are left where this one is next
+-- the remaining calls when this one is next
 abbrev pub calls_from : Option Call → List Call
 calls_from None = []
 calls_from (Some Create) = all_calls
@@ -20,7 +20,7 @@ calls_from (Some Sync) = Sync ∷ Publish ∷ Settle ∷ []
 calls_from (Some Publish) = Publish ∷ Settle ∷ []
 calls_from (Some Settle) = Settle ∷ []
 
--- the calls that act on a temporary file that was created before
+-- these calls need a temporary file that was created before
 abbrev pub needs_file : Call → Bool
 needs_file Create = false
 needs_file Append = true

@@ -1,4 +1,4 @@
--- What the replacement of a slot's content leaves, by way of a tag's temporary file.
+-- The effect of replacing a slot's content by way of a temporary file with a tag.
 use Rattle.std.specs.Prelude.{◌≡◌, ◌⊎◌, ◌+◌, ◌++◌, ℕ, Bool, true, false, List, take, Some, None}
 use Rattle.std.specs.List.{slice_get}
 use Rattle.lib_types.specs.Counts.{HasRisen}
@@ -14,26 +14,26 @@ use Rattle.tree_face.specs.Follows.{IsFollowedBy}
 use Rattle.tree_face.specs.Known.{IfKnown, Relates}
 use Rattle.atomic_replace.specs.declared.fault.DiskFault.{DiskFault}
 
--- the content that a slot gets
+-- a slot and its new content
 abbrev pub Write : Type 0
 Write = Slot × List ℕ
 
 -- ---- contents
 
--- the slot has these bytes, the temporary file is gone, and all else is as it was
+-- the slot has these bytes, the temporary file is gone, and all else is unchanged
 pub record ReplacesSlot (tag : ℕ) (write : Write) (a b : DiskContent) : Type 0 where
   pub slots : b.now ≡ with_slot a.now write.0 (Some write.1)
   pub ended : b.temporary tag write.0 ≡ None
   pub others : KeepsOthers tag write.0 a b
 
--- a replacement that failed: the slot has these bytes or is as it was; of all else only the temporary file may have changed
+-- a failed replacement: the slot has these bytes or is unchanged, and apart from it only the temporary file may have changed
 pub record MayReplaceSlot (tag : ℕ) (write : Write) (a b : DiskContent) : Type 0 where
   pub slots : (b.now ≡ a.now) ⊎ (b.now ≡ with_slot a.now write.0 (Some write.1))
   pub others : KeepsOthers tag write.0 a b
 
--- ---- what a crash leaves
+-- ---- contents after a crash
 
--- these bytes in this slot
+-- this slot has these bytes
 abbrev pub IsWritten : Write → Slot → Content → Type 0
 IsWritten write slot b = (slot ≡ write.0) × (b ≡ Some write.1)
 
@@ -46,7 +46,7 @@ comes_before_publish Sync = true
 comes_before_publish Publish = false
 comes_before_publish Settle = false
 
--- how a disk records a call of a replacement
+-- the record of a replacement's call in the list of calls
 abbrev pub call_by : Tag → Slot → Call → DoneCall
 call_by tag slot Settle = settling slot
 call_by tag slot Create = made_call tag slot Create
@@ -54,7 +54,7 @@ call_by tag slot Append = made_call tag slot Append
 call_by tag slot Sync = made_call tag slot Sync
 call_by tag slot Publish = made_call tag slot Publish
 
--- the calls before this one were made, and perhaps this one; it is the one that failed
+-- the calls before this one were made; this one failed and may or may not be recorded
 pub record StopsAt (call : DoneCall) (calls : List DoneCall) (a b : List DoneCall) : Type 0 where
   pub number : ℕ
   pub at : slice_get calls number ≡ Some call
@@ -62,20 +62,20 @@ pub record StopsAt (call : DoneCall) (calls : List DoneCall) (a b : List DoneCal
 
 -- ---- on the whole disk
 
--- the slot is replaced, by the five calls, and no count of faults rises
+-- the slot is replaced by the five calls, and the number of failed calls stays the same
 pub record WritesSlot (tag : Tag) (write : Write) (old new : DiskState) : Type 0 where
   pub contents : Relates (ReplacesSlot tag.0 write) old.contents new.contents
   pub calls : Relates (IsFollowedBy (replacement tag write.0)) old.calls new.calls
   pub reads : new.reads ≡ old.reads
   pub faults : new.faults ≡ old.faults
   pub read_faults : new.read_faults ≡ old.read_faults
-  -- at each moment a crash leaves in the slot what it might have left before, or these bytes; and in the end these bytes alone
+  -- At each moment, a crash leaves in the slot these bytes or content that was possible before. At the end only these bytes are possible.
   pub leaves : Leaves (IsWritten write) old new
   pub settled : IfKnown new.contents (λ _. (b : Content) → new.may write.0 b ≡ content_eq (Some write.1) b)
   pub goes_on : GoesOn old new
   pub others : LeavesOthers write.0 old new
 
--- one of the calls failed, which the fault names and for which the count rises
+-- one of the calls failed; the fault names it, and the number of failed calls rises
 pub record FailsToWrite (tag : Tag) (write : Write) (fault : DiskFault) (old new : DiskState) : Type 0 where
   pub slot : fault.slot ≡ write.0
   pub contents : Relates (MayReplaceSlot tag.0 write) old.contents new.contents
@@ -86,6 +86,6 @@ pub record FailsToWrite (tag : Tag) (write : Write) (fault : DiskFault) (old new
   pub leaves : Leaves (IsWritten write) old new
   pub goes_on : GoesOn old new
   pub others : LeavesOthers write.0 old new
-  -- before the publishing the slot has the old content, for a reading and for a crash
+  -- if a call before the rename failed, the slot keeps its old content, for readers and after a crash
   pub unpublished : comes_before_publish fault.call ≡ true → Relates (Touches tag.0 write.0) old.contents new.contents
   pub untouched : comes_before_publish fault.call ≡ true → KeepsSlots old new

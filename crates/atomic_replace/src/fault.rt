@@ -1,4 +1,4 @@
-//! Why a slot isn't replaced.
+//! Why a slot wasn't replaced.
 use tree_face::{Call, Slot};
 
 /// The writing call that failed.

@@ -1,4 +1,4 @@
-//! The replacement of the content of one slot, which leaves the old content or the new one, and of several, one after the other.
+//! Atomic replacement of a slot, which leaves the old content or the new one, and of several slots one after another.
 #![tactic(auto)]
 
 mod fault;

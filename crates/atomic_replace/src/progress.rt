@@ -1,11 +1,11 @@
-//! How far a replacement has come.
+//! The progress of a replacement.
 ghost use Rattle.std.specs.Prelude.{◌≡◌, [], drop, if◌then◌else◌};
 ghost use Rattle.atomic_replace.specs.Order.{all_calls, next_of};
 
 use std::marker::Model;
 use tree_face::Call;
 
-/// The calls of a replacement that are left. It holds no bytes.
+/// The remaining calls of a replacement. It holds no bytes.
 #[derive(Drop)]
 pub struct Progress {
     next: Option<Call>,
@@ -22,7 +22,7 @@ impl Model for Progress {
 }
 
 impl Progress {
-    /// No call was made.
+    /// The progress before the first call.
     pub fn new() -> Progress
         ensures { result ≡ all_calls }
     {
@@ -31,14 +31,14 @@ impl Progress {
         }
     }
 
-    /// The call to be made next: None after the last, or after one that failed.
+    /// The next call; None after the last call or after a failed one.
     pub fn next(&self) -> Option<Call>
         ensures { result ≡ next_of self.now }
     {
         self.next
     }
 
-    /// Takes the next call as made, or as failed where `ok` is false. After one that failed, none is left.
+    /// Records that the next call succeeded, or failed if `ok` is false. After a failure no call is left.
     pub fn advance(&mut self, ok: bool)
         ensures { self.new ≡ (if ok then drop 1 self.old else []) }
     {

@@ -1,4 +1,4 @@
-//! Slots of a disk, replaced one after the other.
+//! Slots of a disk, replaced one after another.
 ghost use Rattle.std.specs.Prelude.{◌≡◌, ◌≤◌, ◌∷◌, [], OnOk, IfErr};
 ghost use Rattle.tree_face.specs.Disk.{KeepsOthersMade};
 ghost use Rattle.atomic_replace.specs.OneByOne.{slots_of, writes_in, KeepsRestMade, WritesAll, WritesPart};
@@ -6,14 +6,14 @@ ghost use Rattle.atomic_replace.specs.OneByOne.{slots_of, writes_in, KeepsRestMa
 use crate::{DiskFault, Updater};
 use tree_face::{Disk, Slot, Tag};
 
-/// The content that a slot gets.
+/// A slot and its new content.
 #[derive(Clone, Copy)]
 pub struct SlotWrite<'a> {
     pub slot: Slot,
     pub bytes: &'a [u8],
 }
 
-// Replaces what a slot holds by these bytes.
+// Replaces the content of a slot by these bytes.
 fn replace<D: Disk>(disk: &mut D, tag: Tag, slot: Slot, bytes: &[u8]) -> Result<(), DiskFault>
     ensures done { OnOk result (WritesAll tag ((slot, bytes.now) ∷ []) (D.state disk.old) (D.state disk.new)) }
     ensures failed { IfErr result (λ fault. WritesPart tag ((slot, bytes.now) ∷ []) fault (D.state disk.old) (D.state disk.new)) }
@@ -24,8 +24,8 @@ fn replace<D: Disk>(disk: &mut D, tag: Tag, slot: Slot, bytes: &[u8]) -> Result<
     updater.commit(disk)
 }
 
-/// Replaces what these slots hold, in their order, by way of the tag's temporary files. No slot is touched before those ahead of it are
-/// settled, and no memory is taken. After a fault those ahead of its slot are replaced, and its own holds the old content or the new one.
+/// Replaces the contents of these slots in order, by way of the tag's temporary files. A slot changes only after the earlier ones are
+/// settled (fsynced). It allocates no memory. If it fails at a slot, the earlier slots are replaced. That slot has its old or new content.
 pub fn replace_slots<D: Disk>(
     disk: &mut D,
     tag: Tag,

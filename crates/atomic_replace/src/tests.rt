@@ -1,4 +1,4 @@
-// What replacements leave on disks in memory.
+// The effects of replacements on disks in memory.
 ghost use Rattle.std.specs.Prelude.{◌≡◌, [], OnOk};
 ghost use Rattle.atomic_replace.specs.Order.{all_calls};
 
@@ -18,7 +18,7 @@ const CALLS: &[Call] = &[
     Call::Settle,
 ];
 
-// A disk whose slots hold "old", and whose calls of these numbers fail.
+// A disk whose slots have the content "old" and on which the calls with these numbers fail.
 fn disk_of(alloc: Global, fail: &[u64]) -> Result<MemDisk, Fail> {
     let manifest = Some(Vec::from_slice(alloc, b"old")?);
     let cache = Some(Vec::from_slice(alloc, b"old")?);
@@ -34,7 +34,7 @@ fn has<D: Disk>(alloc: Global, disk: &mut D, slot: Slot, want: &[u8]) -> bool {
     }
 }
 
-// Whether these are the calls of a replacement, up to their length.
+// Whether the records are the first calls of a replacement.
 fn are_calls(done: &[DoneCall], tag: Tag, slot: Slot) -> bool {
     done.iter().zip(CALLS).all(|(done, call)| {
         let settles = *call == Call::Settle;
@@ -42,7 +42,7 @@ fn are_calls(done: &[DoneCall], tag: Tag, slot: Slot) -> bool {
     })
 }
 
-// The call that fails by its number, and what the slot holds then.
+// For each failing call: its number, the call, and the slot's content afterwards.
 const FAULTS: &[(u64, Call, &[u8])] = &[
     (0, Call::Create, b"old"),
     (1, Call::Append, b"old"),
@@ -100,7 +100,7 @@ fn a_slot_is_replaced(rt: HostRuntime) -> Result<(), Fail> {
     Ok(())
 }
 
-// After so many calls, what the slot of an image holds, by whether a publishing that isn't settled counts as done.
+// For each number of calls before a crash: the slot's content if an unsettled rename is lost, and if it is kept.
 const LEFT: &[(u64, &[u8], &[u8])] = &[
     (0, b"old", b"old"),
     (1, b"old", b"old"),
@@ -110,7 +110,7 @@ const LEFT: &[(u64, &[u8], &[u8])] = &[
     (5, b"new", b"new"),
 ];
 
-// The bit of a slot in the choice of an image.
+// The slot's bit in the number that selects an image.
 fn bit_of(slot: Slot) -> u8 {
     match slot {
         Slot::Manifest => 1,
@@ -119,7 +119,7 @@ fn bit_of(slot: Slot) -> u8 {
     }
 }
 
-// The slot of this image holds these bytes, and the others what they held.
+// Asserts that this slot of the image has these bytes, and that the others have their old content.
 fn assert_image(
     rt: &impl Abort,
     alloc: Global,
@@ -170,7 +170,7 @@ fn a_stop_leaves_the_old_content_or_the_new(rt: HostRuntime) -> Result<(), Fail>
     Ok(())
 }
 
-// Makes the steps of a replacement, and returns which calls they were.
+// Makes the steps of a replacement. Returns the next call before each step and after the last.
 fn make_steps<D: Disk>(
     updater: &mut Updater<'_>,
     disk: &mut D,

@@ -1,4 +1,4 @@
-//! The calls of a replacement, made on a disk.
+//! The calls of a replacement on a disk.
 ghost use Rattle.std.specs.Prelude.{◌≡◌, ◌≤◌, ◌↔◌, true, false, [], drop, Ok, OnOk, IfErr, if◌then◌else◌};
 ghost use Rattle.std.specs.Result.{is_ok};
 ghost use Rattle.atomic_replace.specs.Order.{all_calls, needs_file, next_of};
@@ -12,7 +12,7 @@ use lib_types::Failed;
 use std::marker::Model;
 use tree_face::{Call, Disk, Slot, Tag};
 
-/// Replaces what a slot holds by these bytes, by way of the tag's temporary file.
+/// Replaces the content of a slot by these bytes, by way of the tag's temporary file.
 #[derive(Drop)]
 pub struct Updater<'a> {
     tag: Tag,
@@ -44,7 +44,7 @@ fn make<D: Disk>(disk: &mut D, call: Call, tag: Tag, slot: Slot, bytes: &[u8]) -
 }
 
 impl<'a> Updater<'a> {
-    /// A replacement of which no call was made.
+    /// A replacement before its first call.
     pub fn new(tag: Tag, slot: Slot, bytes: &'a [u8]) -> Updater<'a>
         ensures { result ≡ record { tag = tag; write = (slot, bytes.now); left = all_calls } }
     {
@@ -56,14 +56,14 @@ impl<'a> Updater<'a> {
         }
     }
 
-    /// The call to be made next: None after the last, or after one that failed.
+    /// The next call; None after the last call or after a failed one.
     pub fn next(&self) -> Option<Call>
         ensures { result ≡ next_of self.now.left }
     {
         self.progress.next()
     }
 
-    /// Makes the next call. False, and no call, if none is left.
+    /// Makes the next call. If none is left, returns false.
     pub fn step<D: Disk>(&mut self, disk: &mut D) -> Result<bool, DiskFault>
         requires { HasFile self.old (D.state disk.old) }
         ensures ends { (result ≡ Ok false) ↔ (self.old.left ≡ []) }
@@ -86,7 +86,7 @@ impl<'a> Updater<'a> {
         }
     }
 
-    /// Makes all calls, up to the first that fails.
+    /// Makes all calls, and stops at the first that fails.
     pub fn commit<D: Disk>(&mut self, disk: &mut D) -> Result<(), DiskFault>
         requires { self.old.left ≡ all_calls }
         ensures done { OnOk result (WritesSlot self.old.tag self.old.write (D.state disk.old) (D.state disk.new)) }

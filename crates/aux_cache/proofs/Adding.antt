@@ -1,4 +1,4 @@
--- The strings of stamps, as they are gathered.
+-- The strings of stamps, while they are gathered.
 use Rattle.std.proofs.Common.{◌≡◌, ℕ, zero, suc, ◌+◌, ◌*◌, ◌<◌, ◌≤◌, true, ◌&&◌, not, nat_le, List, [], ◌∷◌, ◌++◌, length, map, fold, take, get_or, Option, Some, None, IfSome, unwrap_or, sym, ap, subst, ◌∙◌, bytes_eq, arith}
 use Rattle.std.proofs.lemmas.Bool.{and_parts}
 use Rattle.std.proofs.lemmas.Bool.Decides.{nat_tests}
@@ -27,13 +27,13 @@ pub strings_push : (xs : List Stamp) (x : Stamp) → strings (xs ++ x ∷ []) �
 strings_push xs x =
     ap (λ ts. distinct ([] ∷ ts)) (map-append soname_of xs (x ∷ [])) ∙ distinct_push ([] ∷ map soname_of xs) (soname_of x)
 
--- each text is among the texts with those that are added
+-- each of the added texts is in the list afterwards
 there : (ss ts : List (List ℕ)) (i : ℕ) (d : List ℕ) → i < length ts → list_any (bytes_eq (get_or ts i d)) (fold (insert_key bytes_eq) ss ts) ≡ true
 there ss [] i d h = absurd (omega arith)
 there ss (t ∷ ts) zero d h = among_all (insert_key bytes_eq ss t) ts t (among ss t)
 there ss (t ∷ ts) (suc i) d h = there (insert_key bytes_eq ss t) ts i d (omega arith)
 
--- so is each soname among the strings
+-- the soname of each stamp is among the strings
 pub own_there : (xs : List Stamp) → All (λ x. list_any (bytes_eq (soname_of x)) (strings xs) ≡ true) xs
 own_there xs i d h =
     let at : get_or (map soname_of xs) i (soname_of d) ≡ soname_of (get_or xs i d) = get_or-map soname_of xs i d (soname_of d) h in
@@ -74,7 +74,7 @@ strings_small xs names =
     let same : length (table_of (strings xs)) ≡ length (table_of (fold (insert_key bytes_eq) ([] ∷ []) (map soname_of xs))) = ap (λ ts. length (table_of ts)) (distinct_folded ([] ∷ map soname_of xs)) in
     subst (λ n. n ≤ 256 * length xs + 1) (sym same) (omega (arith, small))
 
--- ---- stamps with the numbers of their sonames
+-- ---- stamps with the indexes of their sonames
 
 pub numbered : (old new : List (List ℕ)) (n : NumberedStamp) (t : List ℕ) → new ≡ insert_key bytes_eq old t → t ≡ soname_of n.stamp.now → n.soname ≡ number_of new t → HasNumber new n
 numbered old new n t added is number = record {
@@ -82,14 +82,14 @@ numbered old new n t added is number = record {
   number = rw (← is) number;
 }
 
--- another text that is added changes no number
+-- adding another text doesn't change the index of a soname
 number_kept : (texts : List (List ℕ)) (t : List ℕ) (n : NumberedStamp) → HasNumber texts n → HasNumber (insert_key bytes_eq texts t) n
 number_kept texts t n h = record {
   among = among_more texts (soname_of n.stamp.now) t h.among;
   number = h.number ∙ sym (number_more texts (soname_of n.stamp.now) t h.among);
 }
 
--- a stamp of a list
+-- the first i + 1 stamps are the first i and the stamp at index i
 pub next_taken : (xs : List Stamp) (i : ℕ) (x : Stamp) → i < length xs → x ≡ get_or xs i x → take (i + 1) xs ≡ take i xs ++ x ∷ []
 next_taken xs i x h is = take_more xs i x h ∙ ap (λ y. take i xs ++ y ∷ []) (sym is)
 
@@ -105,6 +105,6 @@ pub numbers_step : (old new : List (List ℕ)) (t : List ℕ) (ns more : List Nu
 numbers_step old new t ns more n added next all last =
     rw next (All-push (HasNumber new) ns n (rw added (All-weaker (HasNumber old) (HasNumber (insert_key bytes_eq old t)) (λ x h. number_kept old t x h) ns all)) last)
 
--- each stamp adds a string at most
+-- each stamp adds at most one string
 pub few_strings : (xs : List Stamp) → length (strings xs) ≤ length xs + 1
 few_strings xs = omega (arith, length_distinct ([] ∷ map soname_of xs), length-map xs soname_of)

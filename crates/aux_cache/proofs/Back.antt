@@ -1,4 +1,4 @@
--- What is read of a written file.
+-- Reading a written file back.
 use Rattle.std.proofs.Common.{◌≡◌, ℕ, zero, suc, ◌+◌, ◌*◌, ◌^◌, ◌<◌, ◌≤◌, ◌==◌, ◌&&◌, Bool, true, false, not, cond, nat_eq, nat_lt, List, [], ◌∷◌, ◌++◌, length, map, flat_map, drop, get_or, slice_index, Option, Some, None, IfSome, unwrap_or, refl, sym, ap, subst, ◌∙◌, append_assoc, arith, true≢false, length-append}
 use Rattle.std.proofs.Math.Bool.{or-true}
 use Rattle.std.proofs.Math.Seq.{drop-append-add}
@@ -33,7 +33,7 @@ use Rattle.aux_cache.specs.Range.{AreNumbers, AreInRange}
 use Rattle.aux_cache.specs.Stamps.{HaveNames, IsSortedById}
 use Rattle.aux_cache.specs.declared.stamps.Stamp.{Stamp}
 
--- what writing knows of the stamps
+-- what the writer requires of the stamps
 pub record IsWritten (xs : List Stamp) : Type 0 where
   pub few : length xs ≤ STAMPS_MAX
   pub names : HaveNames xs
@@ -164,7 +164,7 @@ string_back xs w i d h =
     ap (λ bytes. read.string_at bytes (place xs (soname_of x))) (strings_back xs w) ∙ ap (read.string_at (strings_bytes xs)) at
     ∙ string_read texts (soname_of x) (plain x.soname (w.names i d h)) (own_there xs i d h)
 
--- the place of no soname is 0, and that of a name isn't
+-- The offset is 0 exactly if the stamp has no soname.
 soname_read : (strings : List ℕ) (rest : List ℕ) (soname : Option (List ℕ)) (place : ℕ) → strings ≡ 0 ∷ rest → IfSome soname (λ soname. is_name soname ≡ true) → (soname ≡ None → place ≡ 0)
     → read.string_at strings place ≡ unwrap_or soname [] → (cond (place == 0) None (Some (read.string_at strings place)) ≡ soname) × (read.is_soname strings place ≡ true)
 soname_read strings rest None place begins named none is = let zero_is = none refl in (rw zero_is refl, rw zero_is refl)
@@ -217,7 +217,7 @@ all_back xs w =
     ap (λ n. map (read.stamp_at (aux_text xs)) (range_with_len 0 n)) (count_back xs w)
     ∙ by_items (read.stamp_at (aux_text xs)) xs 0 (λ i d h. let e : 0 + i ≡ i = omega arith in ap (read.stamp_at (aux_text xs)) e ∙ stamp_back xs w i d h)
 
--- ---- no damage
+-- ---- the file is not corrupt
 
 is_same : (n m : ℕ) → n ≡ m → (n == m) ≡ true
 is_same n m h = grind (arith, nat_tests)

@@ -1,4 +1,4 @@
--- A map from identities to stamps, as the list of its stamps.
+-- A map from file identities to stamps, as the list of its stamps.
 use Rattle.std.proofs.Common.{◌≡◌, List, ap, sym, subst, ◌∙◌}
 use Rattle.std.specs.BTreeMap.{insert_entry}
 use Rattle.std.specs.List.Sorted.{IsStrictlySortedBy}

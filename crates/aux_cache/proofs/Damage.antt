@@ -1,4 +1,4 @@
--- The first damage of a file, and the stamps of one without.
+-- The first corrupt part of a file, and the stamps of a file that is not corrupt.
 use Rattle.std.proofs.Common.{◌≡◌, ℕ, zero, suc, ◌+◌, ◌-◌, ◌<◌, ◌≤◌, ◌==◌, ◌&&◌, ◌||◌, Bool, true, false, cond, if◌then◌else◌, subst, ⊎_elim, List, [], ◌∷◌, ◌++◌, map, find, Option, Some, None, IfSome, option_map, is_some, Ordering, refl, sym, ap, ◌∙◌, true≢false, arith}
 use Rattle.std.proofs.lemmas.Bool.Decides.{nat_tests}
 use Rattle.std.proofs.lemmas.Bool.{and_parts, cases_lt}
@@ -22,7 +22,7 @@ use Rattle.aux_cache.specs.declared.fault.AuxFault.{AuxFault}
 use Rattle.aux_cache.specs.declared.fault.AuxFault.TheVariants.{Damaged}
 use Rattle.aux_cache.specs.declared.stamps.Stamp.{Stamp}
 
--- ---- the first of sentences
+-- ---- the first rule that applies
 
 first-append : (xs ys : List Sentence) → first_place (xs ++ ys) ≡ option_or (first_place xs) (first_place ys)
 first-append [] ys = refl
@@ -31,7 +31,7 @@ first-append (x ∷ xs) ys = let rest = first-append xs ys in elim x.0 as (λ b.
   | false ↦ rest
 ]
 
--- none of a range holds
+-- no rule of a range applies
 none_holds : (S : ℕ → Sentence) (a n : ℕ) → ((k : ℕ) → k < n → (S (a + k)).0 ≡ false) → first_place (map S (range_with_len a n)) ≡ None
 none_holds S a zero h = refl
 none_holds S a (suc n) h =
@@ -39,7 +39,7 @@ none_holds S a (suc n) h =
     let first : (S a).0 ≡ false = ap (λ k. (S k).0) (sym here) ∙ h 0 (omega arith) in
     rw first (none_holds S (a + 1) n (λ k less. let next : a + 1 + k ≡ a + suc k = omega arith in ap (λ j. (S j).0) next ∙ h (suc k) (omega arith)))
 
--- the first that holds
+-- the first rule that applies
 first_holds : (S : ℕ → Sentence) (a n i : ℕ) → i < n → ((k : ℕ) → k < i → (S (a + k)).0 ≡ false) → (S (a + i)).0 ≡ true → first_place (map S (range_with_len a n)) ≡ Some (S (a + i)).1
 first_holds S a zero i h before at = absurd (omega arith)
 first_holds S a (suc n) zero h before at =
@@ -53,9 +53,9 @@ first_holds S a (suc n) (suc i) h before at =
     rw first (first_holds S (a + 1) n i (omega arith) (λ k less. let later : a + 1 + k ≡ a + suc k = omega arith in ap (λ j. (S j).0) later ∙ before (suc k) (omega arith)) (ap (λ j. (S j).0) next ∙ at)
     ∙ ap (λ j. Some (S j).1) next)
 
--- ---- the damage
+-- ---- corrupt files
 
--- the records before this index are those of stamps
+-- the records before this index are valid
 abbrev pub AreRecords : List ℕ → ℕ → Type 0
 AreRecords bytes n = (k : ℕ) → k < n → is_record (strings_in bytes) (id_before bytes k) (from_record bytes k) ≡ true
 
@@ -88,7 +88,7 @@ record_damaged bytes i file all h bad =
     first-append (file_sentences bytes) (map (record_sentence bytes) (indexes bytes)) ∙ rw file (first_holds (record_sentence bytes) 0 (count bytes) i h (holds_not bytes i all) last) in
     ap (option_map Damaged) whole ∙ ap (λ k. Some (Damaged (record_place k))) e
 
--- ---- a range item by item
+-- ---- a range, one item at a time
 
 range_push : {X : Type 0} (f : ℕ → X) (a n : ℕ) → map f (range_with_len a (n + 1)) ≡ map f (range_with_len a n) ++ f (a + n) ∷ []
 range_push f a zero = let e : a + 0 ≡ a = omega arith in rw e refl
@@ -113,7 +113,7 @@ next_before bytes n = sym (before_next bytes n)
 
 -- ---- the stamps
 
--- what a record of a stamp has
+-- what a valid record has
 pub record HasParts (strings : List ℕ) (before : Option Id) (record_bytes : List ℕ) : Type 0 where
   pub follows : follows before (id_in record_bytes) ≡ true
   pub abi : is_some (abi_of_flags (flags_in record_bytes)) ≡ true
@@ -147,7 +147,7 @@ is_less Less h = refl
 is_less Equal h = absurd (true≢false (sym h))
 is_less Greater h = absurd (true≢false (sym h))
 
--- a record's identity is above that of the one before
+-- The identity of a record is greater than that of the record before.
 above : (bytes : List ℕ) (n : ℕ) → AreRecords bytes n → (j : ℕ) → j + 1 < n → id_cmp (id_in (from_record bytes j)) (id_in (from_record bytes (j + 1))) ≡ Less
 above bytes n all j h =
     let has = parts (strings_in bytes) (id_before bytes (j + 1)) (from_record bytes (j + 1)) (all (j + 1) h) in
@@ -180,14 +180,14 @@ named_stamps bytes n all = named_from 0 n (λ k low high. all k (omega arith))
         (named (strings_in bytes) (from_record bytes a) (parts (strings_in bytes) (id_before bytes a) (from_record bytes a) (all a (omega arith) (omega arith))).soname)
         (named_from (a + 1) n (λ k low high. all k (omega arith) (omega arith)))
 
--- ---- a record that was read, or was none
+-- ---- reading one record
 
 module _ (bytes : List ℕ) (i : ℕ) (strings record_bytes : List ℕ) (before : Option Id) where
-  -- what these bytes were read as
+  -- the result of reading these bytes: a stamp if they are a valid record
   abbrev pub Reads : Option Stamp → Type 0
   Reads o = o ≡ (if is_record strings before record_bytes then Some (stamp_in strings record_bytes) else None)
 
-  -- they are the record with this index
+  -- these bytes are the record with this index
   abbrev pub IsAt : Type 0
   IsAt = (strings ≡ strings_in bytes) × (record_bytes ≡ from_record bytes i) × (before ≡ id_before bytes i)
 

@@ -1,4 +1,4 @@
--- What is found among stamps.
+-- Looking up stamps by identity.
 use Rattle.std.proofs.Common.{◌≡◌, ◌+◌, ◌++◌, ◌||◌, Bool, true, false, cond, List, [], ◌∷◌, All, length, map, Option, Some, None, refl, ap, sym, subst, ◌∙◌, arith, Ordering}
 use Rattle.std.proofs.lemmas.Cmp.{tied_itself}
 use Rattle.std.proofs.lemmas.Map.Views.{IfSome-lookup_from_All}
@@ -17,9 +17,9 @@ use Rattle.aux_cache.specs.Ids.{id_cmp}
 use Rattle.aux_cache.specs.Stamps.{IsSortedById, by_id, put, stamp_of}
 use Rattle.aux_cache.specs.declared.stamps.Stamp.{Stamp}
 
--- ---- among two lists
+-- ---- in two lists
 
--- the first of both
+-- the first result that is Some
 abbrev pub first_of : Option Stamp → Option Stamp → Option Stamp
 first_of (Some s) other = Some s
 first_of None other = other
@@ -34,7 +34,7 @@ pub some_of_both : (xs ys : List Stamp) (id : Id) → is_some (stamp_of (xs ++ y
 some_of_both xs ys id = ap is_some (stamp_of_both xs ys id) ∙ elim (stamp_of xs id) as (λ o. is_some (first_of o (stamp_of ys id)) ≡ (is_some o || is_some (stamp_of ys id)))
     [ Some s ↦ refl | None ↦ refl ]
 
--- ---- after a stamp was put
+-- ---- after inserting a stamp
 
 abbrev pub is_same : Id → Id → Bool
 is_same id other = is_eq (id_cmp id other)
@@ -75,14 +75,14 @@ stamp_of_put xs s id = ap (λ es. lookup (is_at (id_cmp id)) es) (sym (put_pairs
             absurd (cc))
             (λ second. second)
 
--- what holds of each stamp holds of the one that is found
+-- A fact about each stamp is a fact about the stamp that is found.
 pub found_holds : (P : Stamp → Type 0) (xs : List Stamp) (id : Id) → All P xs → IfSome (stamp_of xs id) P
 found_holds P xs id all = IfSome-lookup_from_All P (is_at (id_cmp id)) (by_id xs) (rw (values_are xs) all)
 
--- ---- how many stamps there are then
+-- ---- the number of stamps after an insertion
 
 module _ (s : Stamp) where
-  -- another identity
+  -- a stamp with a new identity
   pub more_put : (xs : List Stamp) → stamp_of xs s.id ≡ None → length (put xs s) ≡ length xs + 1
   more_put [] none = refl
   more_put (x ∷ xs) none = by_ordering (id_cmp s.id x.id)
@@ -98,7 +98,7 @@ module _ (s : Stamp) where
   all_below x [] less all = tt
   all_below x (id ∷ ids) less all = (id_total.trans s.id x id less all.0, all_below x ids less all.1)
 
-  -- one that is there
+  -- a stamp whose identity is already there
   pub same_put : (xs : List Stamp) → IsSortedById xs → is_some (stamp_of xs s.id) ≡ true → length (put xs s) ≡ length xs
   unfolding IsStrictlySortedBy
   same_put [] sorted there = absurd (cc)

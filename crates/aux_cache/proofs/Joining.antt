@@ -1,4 +1,4 @@
--- The records of the file, one after the other.
+-- The records of the file, one after another.
 use Rattle.std.proofs.Common.{◌≡◌, ℕ, List, [], ◌∷◌, ◌++◌, length, map, flat_map, refl, ap, append_assoc}
 use Rattle.std.proofs.lemmas.List.{append-nil, map-append}
 use Rattle.std.proofs.lemmas.List.Concat.{flat_map-append}
@@ -13,7 +13,7 @@ use Rattle.aux_cache.specs.Range.{IsInRange, AreInRange}
 use Rattle.aux_cache.specs.declared.numbers.NumberedStamp.{NumberedStamp}
 use Rattle.aux_cache.specs.declared.stamps.Stamp.{Stamp}
 
--- the fields of a record, one after the other
+-- the fields of a record, one after another
 pub put_fields : (s : Strings) (x : Stamp) (out : List ℕ) (flags offset : ℕ) → flags ≡ flags_of x.abi → offset ≡ place_of s (soname_of x)
     → out ++ laid_out record_fields (x.id.inode ∷ x.id.ctime ∷ x.id.size ∷ x.id.dev ∷ flags ∷ offset ∷ 0 ∷ 0 ∷ []) ≡ out ++ record_bytes (place_of s) x
 unfolding record_bytes

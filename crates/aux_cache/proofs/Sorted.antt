@@ -1,4 +1,4 @@
--- What an index among stamps says.
+-- Index results of searching and inserting in sorted stamps.
 use Rattle.std.proofs.Common.{◌≡◌, ℕ, zero, suc, ◌<◌, ◌≤◌, List, [], ◌∷◌, length, map, get_or, set, Some, None, Result, Ok, Err, Ordering, refl, sym, ap, ◌∙◌, arith}
 use Rattle.std.proofs.lemmas.List.{get_or-map, length-map, map-set}
 use Rattle.std.proofs.lemmas.Map.Lookups.{exact_bytes}
@@ -32,11 +32,11 @@ same_id a b e =
     let s : a.size ≡ b.size = cc in
     λ i. record { dev = d i; inode = n i; ctime = c i; size = s i }
 
--- equal identities are the same
+-- identities that compare equal are equal
 pub exact : (a b : Id) → id_cmp a b ≡ Equal → a ≡ b
 exact a b e = same_id a b (exact_bytes (numbers_of a) (numbers_of b) e)
 
--- ---- stamps with their identities as keys
+-- ---- stamps keyed by identity
 
 pub ids_of : (xs : List Stamp) → keys_of (by_id xs) ≡ map (λ s. s.id) xs
 ids_of [] = refl
@@ -68,7 +68,7 @@ module _ (P : Id → Type 0) (xs : List Stamp) where
   pairs_hold : (low high : ℕ) → high ≤ length xs → AllWithin (λ s. P s.id) xs low high → AllWithin (λ e. P e.0) (by_id xs) low high
   pairs_hold low high h all i e l k = rw (pair_at xs i e (omega arith)) (all i e.1 l k)
 
--- ---- what is searched
+-- ---- searching
 
 pub searched : (xs : List Stamp) (id : Id) (r : Result ℕ ℕ) → IsSortedById xs → IsSearchInRange r (length xs) → IsBinarySearchResult (λ s. id_cmp s.id id) xs r
     → MatchResult r (IsIndexOf xs id) (IsGapFor xs id)
@@ -112,7 +112,7 @@ module _ (xs : List Stamp) (id : Id) (at : ℕ) where
   pub absent_stamp : IsGapFor xs id at → None ≡ stamp_of xs id
   absent_stamp p = sym (pairs.none_in_gap id_total id (by_id xs) at (gap_within p) (gap_before p) (gap_after p))
 
--- ---- what is put
+-- ---- inserting
 
 pub inserted : (xs : List Stamp) (s : Stamp) (at : ℕ) → IsGapFor xs s.id at → insert xs at s ≡ put xs s
 inserted xs s at p =
@@ -140,6 +140,6 @@ put_pairs (x ∷ xs) s = by (id_cmp s.id x.id) refl (put_pairs xs s)
     by Equal e rest = let same : x.id ≡ s.id = sym (exact s.id x.id e) in λ i. (same i, s) ∷ kept i
     by Greater e rest = ap (λ es. (x.id, x) ∷ es) rest
 
--- stamps stay in their order
+-- inserting keeps stamps sorted
 pub sorted_put : (xs : List Stamp) (s : Stamp) → IsSortedById xs → IsSortedById (put xs s)
 sorted_put xs s sorted = rw (ids_of (put xs s)) at (rw (put_pairs xs s) at (pairs.sorted_put id_total s.id (by_id xs) s (sorted_pairs xs sorted)))

@@ -1,4 +1,4 @@
--- Where strings of a table are read.
+-- Reading strings at their offsets in the string table.
 use Rattle.std.proofs.Common.{◌≡◌, ℕ, ◌+◌, ◌-◌, ◌<◌, true, List, [], ◌∷◌, ◌++◌, length, drop, sym, ap, ◌∙◌, append_assoc, arith, bytes_eq, length-append}
 use Rattle.std.proofs.Math.Seq.{drop-append-add}
 use Rattle.std.proofs.lemmas.List.{take-append-drop, append-nil}
@@ -10,7 +10,7 @@ use Rattle.string_pool.specs.InOrder.{table_of, offset_of}
 use Rattle.string_pool.proofs.InOrder.{stands}
 use Rattle.image_tree.specs.Node.{has_no_nul}
 
--- a string of a table is read at its offset
+-- reading at the offset of a string gives this string
 pub string_read : (ts : List (List ℕ)) (t : List ℕ) → has_no_nul t ≡ true → list_any (bytes_eq t) ts ≡ true → before_first (is_byte 0) (drop (offset_of ts t) (table_of ts)) ≡ t
 string_read ts t plain among =
     let here = drop (offset_of ts t) (table_of ts) in
@@ -18,7 +18,7 @@ string_read ts t plain among =
     let parts : here ≡ t ++ 0 ∷ tail = sym (take-append-drop (length t + 1) here) ∙ ap (λ xs. xs ++ tail) (stands ts t among) ∙ append_assoc t (0 ∷ []) tail in
     ap (before_first (is_byte 0)) parts ∙ before_nul t tail plain
 
--- a table ends with a NUL
+-- the string table ends with a NUL
 pub last_nul : (t : List ℕ) (ts : List (List ℕ)) → drop (length (table_of (t ∷ ts)) - 1) (table_of (t ∷ ts)) ≡ 0 ∷ []
 last_nul t [] =
     let e : table_of (t ∷ []) ≡ t ++ 0 ∷ [] = append-nil (with_nul t) in

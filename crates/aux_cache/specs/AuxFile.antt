@@ -1,4 +1,4 @@
--- What an auxiliary cache says, and the first place at which it is damaged.
+-- The contents of an auxiliary cache file, and the offset of its first corrupt part.
 use Rattle.std.specs.Prelude.{ℕ, ◌+◌, ◌-◌, ℤ, Bool, true, ◌==◌, ◌&&◌, ◌||◌, not, nat_eq, nat_lt, List, [], ◌∷◌, ◌++◌, length, map, drop, find, is_some, unwrap_or, Option, Some, None, option_map, if◌then◌else◌}
 use Rattle.std.specs.Int.{cast_signed, w32}
 use Rattle.std.specs.List.{starts_with, ends_with, before_first, range_with_len}
@@ -28,19 +28,19 @@ count bytes = header_number 0 bytes
 abbrev pub strings_length : List ℕ → ℕ
 strings_length bytes = header_number 1 bytes
 
--- the bytes from the record with this index on
+-- the bytes from the record with this index to the end
 abbrev pub from_record : List ℕ → ℕ → List ℕ
 from_record bytes index = drop (record_place index) bytes
 
--- the strings stand behind the records
+-- the strings: the bytes after the records
 abbrev pub strings_in : List ℕ → List ℕ
 strings_in bytes = from_record bytes (count bytes)
 
--- the string at an offset: the bytes up to the first NUL
+-- the string at an offset: the bytes before the first NUL
 abbrev pub string_at : List ℕ → ℕ → List ℕ
 string_at strings offset = before_first (is_byte 0) (drop offset strings)
 
--- ---- what a record says, by the bytes from its first one on
+-- ---- the fields of a record, which is the start of these bytes
 
 abbrev pub id_in : List ℕ → Id
 id_in record_bytes = record {
@@ -53,19 +53,19 @@ id_in record_bytes = record {
 abbrev pub flags_in : List ℕ → ℤ
 flags_in record_bytes = cast_signed w32 (number record_fields 4 record_bytes)
 
--- the offset of the soname in the strings, where 0 means that there is none
+-- the offset of the soname in the strings; 0 means no soname
 abbrev pub offset_in : List ℕ → ℕ
 offset_in record_bytes = number record_fields 5 record_bytes
 
--- the identity is above the one before, if there is one
+-- the identity is greater than the one before, if there is one
 abbrev pub follows : Option Id → Id → Bool
 follows before id = option_map_or (λ last. is_lt (id_cmp last id)) before true
 
--- no soname, or a name; at a NUL and behind the strings there is none
+-- No soname, or a name. A NUL at the offset or an offset past the strings gives an empty string, which isn't a name.
 abbrev pub is_soname : List ℕ → ℕ → Bool
 is_soname strings offset = offset == 0 || is_name (string_at strings offset)
 
--- the record is that of a stamp, if this is the identity before it
+-- the bytes start with a valid record, if `before` is the identity of the record before
 abbrev pub is_record : List ℕ → Option Id → List ℕ → Bool
 is_record strings before record_bytes =
     follows before (id_in record_bytes)
@@ -74,7 +74,7 @@ is_record strings before record_bytes =
     && number record_fields 7 record_bytes == 0
     && is_soname strings (offset_in record_bytes)
 
--- that stamp
+-- the stamp of this record
 unfoldable pub stamp_in : List ℕ → List ℕ → Stamp
 stamp_in strings record_bytes = record {
   id = id_in record_bytes;
@@ -82,7 +82,7 @@ stamp_in strings record_bytes = record {
   soname = if offset_in record_bytes == 0 then None else Some (string_at strings (offset_in record_bytes));
 }
 
--- ---- the damage: the place of the first sentence that holds
+-- ---- corrupt files: the offset of the first rule that applies
 
 abbrev pub Sentence : Type 0
 Sentence = Bool × ℕ
@@ -90,7 +90,7 @@ Sentence = Bool × ℕ
 abbrev pub first_place : List Sentence → Option ℕ
 first_place sentences = option_map (λ s. s.1) (find (λ s. s.0) sentences)
 
--- strings begin with a NUL, the empty string, and end with one
+-- The strings start with a NUL, which is the empty string, and end with a NUL.
 abbrev pub are_strings : List ℕ → Bool
 are_strings strings = starts_with nat_eq strings (0 ∷ []) && ends_with nat_eq strings (0 ∷ [])
 
@@ -101,7 +101,7 @@ file_sentences bytes =
     ∷ (not (are_strings (strings_in bytes)), record_place (count bytes))
     ∷ []
 
--- the identity before the record with this index
+-- the identity of the record before this index
 abbrev pub id_before : List ℕ → ℕ → Option Id
 id_before bytes index = if index == 0 then None else Some (id_in (from_record bytes (index - 1)))
 
@@ -116,15 +116,15 @@ indexes bytes = range_with_len 0 (count bytes)
 unfoldable pub sentences : List ℕ → List Sentence
 sentences bytes = file_sentences bytes ++ map (record_sentence bytes) (indexes bytes)
 
--- the place of the first damage; a file without one is read
+-- The offset of the first corrupt part. A file without one is accepted.
 abbrev pub damage : List ℕ → Option ℕ
 damage bytes = first_place (sentences bytes)
 
--- as a fault
+-- the same as a fault
 abbrev pub fault : List ℕ → Option AuxFault
 fault bytes = option_map Damaged (damage bytes)
 
--- ---- the stamps of a file without damage
+-- ---- the stamps of a file that is not corrupt
 
 abbrev pub stamp_at : List ℕ → ℕ → Stamp
 stamp_at bytes index = stamp_in (strings_in bytes) (from_record bytes index)

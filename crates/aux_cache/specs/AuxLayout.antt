@@ -1,11 +1,12 @@
--- The layout of the auxiliary cache (the file of glibc's ldconfig(8), /var/cache/ldconfig/aux-cache): its magic, and this project's
--- records. Numbers have their lowest byte first. Each struct is the list of its fields' sizes.
+-- The layout of the auxiliary cache (/var/cache/ldconfig/aux-cache of glibc's ldconfig(8)). The magic is glibc's, and the records are
+-- this
+-- project's. Numbers are little-endian. Each struct is the list of its field sizes.
 use Rattle.std.specs.Prelude.{ℕ, ◌+◌, ◌*◌, List, [], ◌∷◌, length, sum, codes}
 
 abbrev pub magic : List ℕ
 magic = codes "glibc-ld.so.auxcache-1.0"
 
--- behind the magic: the number of records, and the length of the strings
+-- after the magic: the number of records, and the length of the strings
 abbrev pub header_fields : List ℕ
 header_fields = 4 ∷ 4 ∷ []
 
@@ -19,6 +20,6 @@ record_fields = 8 ∷ 8 ∷ 8 ∷ 8 ∷ 4 ∷ 4 ∷ 4 ∷ 4 ∷ []
 abbrev pub record_size : ℕ
 record_size = sum record_fields
 
--- the offset of the record with this index, and of what is behind so many
+-- the offset of the record with this index; equally, of the end of this number of records
 abbrev pub record_place : ℕ → ℕ
 record_place index = header_size + record_size * index

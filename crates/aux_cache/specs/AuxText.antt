@@ -1,4 +1,4 @@
--- The file of an auxiliary cache: the header, a record for each stamp, and the strings.
+-- The bytes of an auxiliary cache file: the header, a record for each stamp, and the strings.
 use Rattle.std.specs.Prelude.{ℕ, List, [], ◌∷◌, ◌++◌, length, map, flat_map, unwrap_or}
 use Rattle.lib_types.specs.Abi.{flags_of}
 use Rattle.cache_layout.specs.Layout.{laid_out}
@@ -11,18 +11,18 @@ use Rattle.aux_cache.specs.declared.stamps.Stamp.{Stamp}
 abbrev pub soname_of : Stamp → List ℕ
 soname_of stamp = unwrap_or stamp.soname []
 
--- the strings: the empty one, and each soname once, in the order of first use
+-- the empty string, then each soname once, in the order of first use
 abbrev pub strings : List Stamp → List (List ℕ)
 strings stamps = distinct ([] ∷ map soname_of stamps)
 
--- they are laid out one after the other: their bytes, and the offset of one of them, which counts from the first
+-- the bytes of the strings, one after another; offsets of strings count from the first of these bytes
 abbrev pub strings_bytes : List Stamp → List ℕ
 strings_bytes stamps = table_of (strings stamps)
 
 abbrev pub place : List Stamp → List ℕ → ℕ
 place stamps string = place_of (record { base = 0; texts = strings stamps }) string
 
--- the header before so many records and strings of this length
+-- the header of a file with this number of records and this length of its strings
 unfoldable pub header : ℕ → ℕ → List ℕ
 header records strings = magic ++ laid_out header_fields (records ∷ strings ∷ [])
 

@@ -1,4 +1,4 @@
--- The index of an identity among stamps, or of its gap there.
+-- The index of an identity in sorted stamps, or the index at which it would be inserted.
 use Rattle.std.specs.Prelude.{◌≡◌, ℕ, ◌<◌, ◌≤◌, List, length}
 use Rattle.std.specs.List.{AllWithin, HoldsAt}
 use Rattle.std.specs.declared.cmp.Ordering.TheVariants.{Less, Equal, Greater}
@@ -11,7 +11,7 @@ pub record IsIndexOf (stamps : List Stamp) (id : Id) (index : ℕ) : Type 0 wher
   pub within : index < length stamps
   pub same : HoldsAt (λ s. id_cmp s.id id ≡ Equal) stamps index
 
--- no stamp has the identity, whose stamp would be inserted at this index
+-- No stamp has the identity. A stamp with it would be inserted at this index.
 pub record IsGapFor (stamps : List Stamp) (id : Id) (index : ℕ) : Type 0 where
   pub within : index ≤ length stamps
   pub before : AllWithin (λ s. id_cmp s.id id ≡ Less) stamps 0 index

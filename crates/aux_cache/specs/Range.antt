@@ -1,4 +1,4 @@
--- The numbers of identities, of which each has 64 bits.
+-- The fields of identities have 64 bits each.
 use Rattle.std.specs.Prelude.{ℕ, ◌<◌, ◌^◌, List}
 use Rattle.std.specs.List.{All}
 use Rattle.aux_cache.specs.declared.stamps.Stamp.{Stamp}

@@ -1,4 +1,4 @@
--- Stamps as a map from identities.
+-- Stamps as a map from file identities.
 use Rattle.std.specs.Prelude.{◌≡◌, List, map, Option, IfSome, true}
 use Rattle.std.specs.BTreeMap.{insert_entry, is_at}
 use Rattle.std.specs.List.{All}
@@ -9,11 +9,11 @@ use Rattle.image_tree.specs.declared.node.Id.{Id}
 use Rattle.aux_cache.specs.Ids.{id_cmp}
 use Rattle.aux_cache.specs.declared.stamps.Stamp.{Stamp}
 
--- the stamps with their identities as keys
+-- the stamps keyed by identity
 abbrev pub by_id : List Stamp → List (Id × Stamp)
 by_id stamps = map (λ s. (s.id, s)) stamps
 
--- their identities ascend, so each is different from the others
+-- the identities are strictly ascending, so they are distinct
 abbrev pub IsSortedById : List Stamp → Type 0
 IsSortedById stamps = IsStrictlySortedBy id_cmp (map (λ s. s.id) stamps)
 
@@ -21,7 +21,7 @@ IsSortedById stamps = IsStrictlySortedBy id_cmp (map (λ s. s.id) stamps)
 abbrev pub stamp_of : List Stamp → Id → Option Stamp
 stamp_of stamps id = lookup (is_at (id_cmp id)) (by_id stamps)
 
--- the stamps after one is put among them, in the place of the one with its identity if there is one
+-- the stamps after an insertion; a stamp with the same identity is replaced
 abbrev pub put : List Stamp → Stamp → List Stamp
 put stamps stamp = values_of (insert_entry id_cmp (by_id stamps) stamp.id stamp)
 

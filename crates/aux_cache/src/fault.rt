@@ -1,4 +1,4 @@
-//! Why a file gives no stamps.
+//! Why a file can't be read as an auxiliary cache.
 ghost use Rattle.std.specs.Prelude.{◌≡◌};
 
 use lib_types::NoMemory;
@@ -7,8 +7,8 @@ use std::alloc::{AllocError, AllocFailed};
 /// Why no stamps were read.
 #[derive(Clone, Copy, Debug, PartialEq, Eq)]
 pub enum AuxFault {
-    /// The file is no auxiliary cache. The offset is that of the first part that is wrong: 0 of the header, 24 of its numbers, else
-    /// that of the strings or of a record.
+    /// The file isn't a valid auxiliary cache. `at` is the offset of the first corrupt part: 0 if the file is too short or has another
+    /// magic, 24 for the numbers in the header, otherwise the offset of the strings or of a record.
     Damaged { at: u64 },
     NoMemory,
 }

@@ -1,4 +1,4 @@
-//! Stamps that come in any order.
+//! Stamps that are inserted in any order.
 ghost use Rattle.std.proofs.Common.{refl};
 ghost use Rattle.std.specs.Cmp.{eq_by_cmp_equiv, partial_equiv_from_equiv, partial_order_from_total};
 ghost use Rattle.std.specs.Cmp.Lexicographic.{on_texts};
@@ -19,7 +19,7 @@ use std::collections::BTreeMap;
 use std::marker::Model;
 use tree_face::Id;
 
-// An identity as a key.
+// An identity as a map key.
 #[derive(Drop)]
 struct Key {
     id: Id,
@@ -71,8 +71,8 @@ impl Ord for Key {
     }
 }
 
-// Whether an identity comes after all of these, so that there is no need to search. Files that were made one after another
-// mostly have ascending inodes.
+// Whether an identity is greater than all keys of the map. Then no search is needed. Files that were created one after another
+// usually have ascending inodes.
 fn is_behind(stamps: &BTreeMap<Key, Stamp>, key: &Key) -> bool
     ensures { result ≡ true → lookup (is_at (id_cmp key.now)) stamps.now.entries ≡ None }
 {
@@ -82,10 +82,10 @@ fn is_behind(stamps: &BTreeMap<Key, Stamp>, key: &Key) -> bool
     }
 }
 
-/// Stamps with different identities, put in any order, in which each soname is a name. Contracts see the list of the stamps in the
-/// order of their identities.
+/// Stamps with distinct identities, inserted in any order. Each soname is a name. Contracts see the list of the stamps, sorted by
+/// identity.
 ///
-/// A look-up and a stamp more take the time of a few comparisons, however the identities come.
+/// A look-up or an insertion takes a few comparisons, in whatever order the identities come.
 #[derive(Drop)]
 pub struct GatheredStamps {
     stamps: BTreeMap<Key, Stamp>,
@@ -105,7 +105,7 @@ impl Model for GatheredStamps {
 }
 
 impl GatheredStamps {
-    /// No stamps. It keeps the allocator and takes no memory.
+    /// An empty map. It keeps the allocator and allocates no memory.
     pub fn new(alloc: Global) -> GatheredStamps
         ensures { result ≡ [] }
     {
@@ -126,7 +126,7 @@ impl GatheredStamps {
         self.stamps.get(&key)
     }
 
-    /// Puts the stamp in the place of the one with its identity, or among the others.
+    /// Inserts the stamp. A stamp with the same identity is replaced.
     pub fn insert(&mut self, stamp: Stamp) -> Result<(), NoMemory>
         requires { HasName stamp }
         ensures done { OnOk result (self.new ≡ put self.old stamp) }
@@ -136,7 +136,7 @@ impl GatheredStamps {
         Ok(())
     }
 
-    /// The stamps.
+    /// The stamps, sorted by identity.
     pub fn into_stamps(self, alloc: Global) -> Result<Stamps, NoMemory>
         ensures stamps { IfOk result (λ stamps. stamps ≡ self) }
         ensures names { IfOk result HaveNames }

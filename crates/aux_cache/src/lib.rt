@@ -1,4 +1,4 @@
-//! The auxiliary cache: what earlier updates read of the libraries, by the identities of their files.
+//! The auxiliary cache: what earlier updates read from the libraries, by the identities of their files.
 #![tactic(auto)]
 
 mod fault;

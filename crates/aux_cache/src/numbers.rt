@@ -1,4 +1,4 @@
-//! The strings of the file of stamps, gathered.
+//! Gathers the strings of the auxiliary cache file.
 ghost use Rattle.std.specs.Prelude.{◌≡◌, ◌∷◌, ◌^◌, ◌≤◌, ◌<◌, [], length, map, All, IfOk, OnOk, bytes_eq};
 ghost use Rattle.indexmap.specs.IndexSet.{insert_key};
 ghost use Rattle.aux_cache.specs.AuxText.{soname_of, strings};
@@ -10,14 +10,14 @@ use lib_types::NoMemory;
 use std::alloc::Global;
 use string_pool::Texts;
 
-/// A stamp, and the number of its soname among the strings.
+/// A stamp, and the index of its soname among the strings.
 #[derive(Drop)]
 pub struct NumberedStamp<'a> {
     pub stamp: &'a Stamp,
     pub soname: u32,
 }
 
-/// These stamps, when the empty string and their sonames are added.
+/// Adds the empty string and the sonames of these stamps to the strings. Returns the stamps with the indexes of their sonames.
 pub fn number_stamps<'a>(
     alloc: Global,
     texts: &mut Texts<'a>,

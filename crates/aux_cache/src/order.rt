@@ -5,7 +5,7 @@ ghost use Rattle.aux_cache.specs.Ids.{id_cmp, numbers_of};
 use std::cmp::Ordering;
 use tree_face::Id;
 
-// The four numbers, in the order in which they are compared.
+// The four fields, in the order of comparison.
 fn numbers_of(id: &Id) -> [u64; 4]
     ensures { result ≡ numbers_of id.now }
 {

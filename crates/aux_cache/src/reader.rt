@@ -1,4 +1,4 @@
-//! Stamps out of a file.
+//! Reads stamps from a file.
 ghost use Rattle.std.specs.Prelude.{◌≡◌, ◌⊎◌, ◌^◌, ◌≤◌, None, Some, length, position, option_map, if◌then◌else◌, IfOk, IfErr, IfSome, ◌<◌};
 ghost use Rattle.std.specs.List.{before_first};
 ghost use Rattle.lib_types.specs.Bytes.{is_byte};
@@ -16,7 +16,7 @@ use lib_types::{Abi, NoMemory, Text, before_byte, is_name};
 use std::alloc::Global;
 use tree_face::Id;
 
-/// The stamps of a file, or the place of its first damage.
+/// The stamps of a file, or the offset of its first corrupt part.
 #[tactic(auto, using(crate::proofs::Damage::none_damaged, crate::proofs::Damage::file_damaged, crate::proofs::Damage::sorted_stamps, crate::proofs::Damage::named_stamps))]
 pub fn read(alloc: Global, bytes: &[u8]) -> Result<Stamps, AuxFault>
     ensures stamps { IfOk result (λ stamps. stamps ≡ stamps_in bytes.now) }
@@ -40,7 +40,7 @@ pub fn read(alloc: Global, bytes: &[u8]) -> Result<Stamps, AuxFault>
     Ok(Stamps::from_sorted(stamps))
 }
 
-// The offset of a record, and of what is behind so many.
+// The offset of the record with this index, which is also the end of the records before it.
 fn record_place(index: usize) -> usize
     requires { index < 2 ^ 32 }
     ensures { result ≡ record_place index }
@@ -48,7 +48,7 @@ fn record_place(index: usize) -> usize
     HEADER_SIZE + RECORD_SIZE * index
 }
 
-// The bytes from a record on, and those behind so many.
+// The bytes from the record with this index to the end. If the index is the number of records, these are the strings.
 fn from_record(bytes: &[u8], index: usize) -> &[u8]
     requires index { index < 2 ^ 32 }
     requires within { record_place index ≤ length bytes.now }
@@ -57,7 +57,7 @@ fn from_record(bytes: &[u8], index: usize) -> &[u8]
     &bytes[record_place(index)..]
 }
 
-// The number of records of a file whose header and strings have no damage.
+// Checks the header and the strings. Returns the number of records.
 fn check_file(bytes: &[u8]) -> Result<usize, AuxFault>
     ensures count { IfOk result (λ n. n ≡ count bytes.now) }
     ensures small { IfOk result (λ n. n < 2 ^ 32) }
@@ -97,14 +97,14 @@ fn strings_length(bytes: &[u8]) -> usize
     u32_at(&bytes[MAGIC.len()..], 4) as usize
 }
 
-// Whether strings begin and end with a NUL.
+// Whether strings start and end with a NUL.
 fn are_strings(strings: &[u8]) -> bool
     ensures { result ≡ are_strings strings.now }
 {
     strings.starts_with(b"\0") && strings.ends_with(b"\0")
 }
 
-// The stamp that these bytes begin with the record of, if this is the identity of the record before.
+// The stamp of the record at the start of these bytes, if the record is valid. `before` is the identity of the record before it.
 #[tactic(auto, unfolding(crate::specs::AuxFile::stamp_in))]
 fn read_record(
     alloc: Global,
@@ -160,7 +160,7 @@ fn id_in(record: &[u8]) -> Id
     }
 }
 
-// Whether an identity is above the one before, if there is one.
+// Whether an identity is greater than the one before, if there is one.
 fn follows(before: Option<Id>, id: &Id) -> bool
     ensures { result ≡ follows before id.now }
 {

@@ -1,4 +1,4 @@
-//! Stamps by the identities of their files.
+//! Stamps, sorted by the identities of their files.
 ghost use Rattle.std.specs.Prelude.{◌≡◌, ◌==◌, ◌<◌, ◌≤◌, [], length, slice_get, slice_set, OnOk, OnErr, IfOk, IfErr};
 ghost use Rattle.std.specs.List.{insert};
 ghost use Rattle.std.specs.Option.{option_copied};
@@ -13,10 +13,10 @@ use std::cmp::Ordering;
 use std::marker::Model;
 use tree_face::Id;
 
-/// The most stamps of a file: one for each node that a tree may have.
+/// The maximum number of stamps in a file: one for each node that a tree may have.
 pub const STAMPS_MAX: usize = 1 << 20;
 
-/// What an update read of a library, with the identity that the library's file had.
+/// The cached ELF information of a library, with the identity of the library's file.
 #[derive(Drop)]
 pub struct Stamp {
     pub id: Id,
@@ -25,7 +25,7 @@ pub struct Stamp {
     pub soname: Option<Text>,
 }
 
-/// Stamps with different identities. Contracts see the list of the stamps in the order of their identities.
+/// Stamps with distinct identities. Contracts see the list of the stamps, sorted by identity.
 #[derive(Drop)]
 pub struct Stamps {
     stamps: Vec<Stamp>,
@@ -44,7 +44,7 @@ impl Model for Stamps {
 }
 
 impl Stamps {
-    /// No stamps. It keeps the allocator and takes no memory.
+    /// No stamps. Keeps the allocator and allocates no memory.
     pub fn new(alloc: Global) -> Stamps
         ensures { result ≡ [] }
     {
@@ -53,7 +53,7 @@ impl Stamps {
         }
     }
 
-    /// These stamps, which are in the order of their identities.
+    /// These stamps, which are already sorted by identity.
     pub(crate) fn from_sorted(stamps: Vec<Stamp>) -> Stamps
         requires { IsSortedById stamps.items }
         ensures { result ≡ stamps.items }
@@ -68,21 +68,21 @@ impl Stamps {
         self.stamps.len()
     }
 
-    /// Whether there is no stamp.
+    /// Whether the list is empty.
     pub fn is_empty(&self) -> bool
         ensures { result ≡ (length self.now == 0) }
     {
         self.stamps.is_empty()
     }
 
-    /// The stamp at this index, counted from 0.
+    /// The stamp at this index, starting from 0.
     pub fn get(&self, i: usize) -> Option<&Stamp>
         ensures { option_copied result ≡ slice_get self.now i }
     {
         self.stamps.as_slice().get(i)
     }
 
-    /// The stamps in the order of their identities.
+    /// The stamps, sorted by identity.
     pub fn as_slice(&self) -> &[Stamp]
         ensures stamps { result.now ≡ self.now }
         ensures sorted { IsSortedById self.now }
@@ -90,7 +90,7 @@ impl Stamps {
         self.stamps.as_slice()
     }
 
-    /// The stamp with this identity, found by halves.
+    /// The stamp with this identity, by binary search.
     #[tactic(auto, using(crate::proofs::Sorted::found_stamp, crate::proofs::Sorted::absent_stamp))]
     pub fn find(&self, id: &Id) -> Option<&Stamp>
         ensures { option_copied result ≡ stamp_of self.now id.now }
@@ -101,7 +101,7 @@ impl Stamps {
         }
     }
 
-    /// Puts the stamp in the place of the one with its identity, or among the others. One that comes after all others moves none.
+    /// Inserts the stamp. A stamp with the same identity is replaced. If the identity is the greatest, no stamp is moved.
     #[tactic(auto, using(crate::proofs::Sorted::inserted, crate::proofs::Sorted::replaced, crate::proofs::Sorted::sorted_put))]
     pub fn insert(&mut self, stamp: Stamp) -> Result<(), NoMemory>
         ensures done { OnOk result (self.new ≡ put self.old stamp) }
@@ -115,7 +115,7 @@ impl Stamps {
     }
 }
 
-// The index of the stamp with this identity, or that at which it would be inserted.
+// The index of the stamp with this identity, or the index at which it would be inserted.
 fn search(stamps: &Vec<Stamp>, id: &Id) -> Result<usize, usize>
     requires { IsSortedById stamps.now.items }
     ensures found { IfOk result (IsIndexOf stamps.now.items id.now) }

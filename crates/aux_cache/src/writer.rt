@@ -1,4 +1,4 @@
-//! The file of stamps.
+//! Writes stamps into a file.
 ghost use Rattle.std.specs.Prelude.{◌≡◌, ◌∷◌, ◌++◌, ◌≤◌, [], length, map, flat_map, All, None, IfOk, OnOk};
 ghost use Rattle.cache_layout.specs.Layout.{laid_out};
 ghost use Rattle.lib_types.specs.Abi.{flags_of};
@@ -19,7 +19,7 @@ use lib_types::{Abi, NoMemory};
 use std::alloc::Global;
 use string_pool::{Pool, Texts};
 
-/// The bytes of a file of these stamps.
+/// The bytes of an auxiliary cache file with these stamps.
 pub fn write(alloc: Global, stamps: &Stamps) -> Result<Vec<u8>, NoMemory>
     requires few { length stamps.now ≤ STAMPS_MAX }
     requires names { HaveNames stamps.now }
@@ -96,7 +96,7 @@ fn flags(abi: Abi) -> u32
     abi.flags() as u32
 }
 
-// The fields of a record, with two unused numbers at its end.
+// The fields of a record. The last two are unused.
 fn fields_of(
     inode: u64,
     ctime: u64,

@@ -11,7 +11,7 @@ fn digit(byte: u8) -> Option<u8> {
     }
 }
 
-// Adds the bytes of these digits. What is no digit stands between them.
+// Adds the bytes of these hexadecimal digits. Characters between them that aren't digits are skipped.
 fn push_hex(out: &mut Vec<u8>, digits: &[u8]) -> Result<(), NoMemory> {
     let mut high = None;
     for byte in digits {
@@ -47,7 +47,7 @@ pub(crate) fn bytes_of(alloc: Global, row: Row<'_>) -> Result<Vec<u8>, NoMemory>
     Ok(bytes)
 }
 
-/// The file with these bytes at this offset instead, as far as it goes.
+/// The file with its bytes at this offset replaced by these. Bytes past the end are dropped.
 pub(crate) fn with_bytes(
     alloc: Global,
     file: &[u8],

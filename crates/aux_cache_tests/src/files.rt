@@ -1,4 +1,4 @@
-//! What is read of files, and written.
+//! Reading files and writing them.
 use crate::bytes::{bytes_of, hex, with_bytes};
 use crate::lines::{Back, Outcome, have_same, id_of, read_back, stamps_of};
 use aux_cache::{AuxFault, Stamps, read};
@@ -6,13 +6,14 @@ use lib_types::NoMemory;
 use std::alloc::Global;
 use table_rows::{Row, Said, Trial, Words, divide, has_line, number, value};
 
-/// A row has the bytes of a file after `hex`, and after each `stamp` a stamp that is read of it: device, inode, ctime, size, ABI and
-/// soname (`-` for none). `no-stamp` has an identity without a stamp. The stamps are written as the file, unless another writer made it
-/// (`other`). `damaged PLACE` says that the file is damaged, `bad AT HEX PLACE` that the file is with these bytes at this offset, and
-/// `more HEX PLACE` with these bytes behind it; `good AT HEX` that it is read with them. Each file without some of its last bytes is damaged.
+/// A row has the bytes of a file after `hex`. After each `stamp` it has a stamp that is read from the file: device, inode, ctime, size,
+/// ABI and soname (`-` for none). `no-stamp` has an identity without a stamp. Writing the stamps gives the file again, unless another
+/// writer made it (`other`). `damaged PLACE` says that the file is malformed at this offset. `bad AT HEX PLACE` says so of the file with
+/// these bytes at offset AT. `more HEX PLACE` says so of the file followed by these bytes. `good AT HEX` says that the file with these
+/// bytes can be read. Each file without some of its last bytes is malformed.
 pub(crate) struct Files;
 
-// The place of the damage.
+// The offset at which the file is malformed.
 fn damage(alloc: Global, file: &[u8]) -> Result<Option<u64>, NoMemory> {
     match read(alloc, file) {
         Ok(_) => Ok(None),
@@ -37,7 +38,7 @@ fn is_damaged(
     }
 }
 
-// `AT HEX PLACE`, or `AT HEX` if the file is good.
+// `AT HEX PLACE`, or `AT HEX` if the file can be read.
 fn is_changed(
     alloc: Global,
     file: &[u8],
@@ -62,7 +63,7 @@ fn is_longer(alloc: Global, file: &[u8], line: &[u8], said: &mut Said) -> Result
     is_damaged(alloc, &longer, number(place), line, said)
 }
 
-// Whether each line of a changed file is as it says.
+// Whether each changed file is read as its line says.
 fn are_changed(
     alloc: Global,
     file: &[u8],
@@ -85,7 +86,8 @@ fn are_changed(
     Ok(right)
 }
 
-// Whether the file is damaged without its last bytes, however many these are: at 0 without a whole header, else at its numbers.
+// Whether the file is malformed without its last bytes, for each number of them: at offset 0 if the header is incomplete, else at the
+// counts.
 fn are_cut(alloc: Global, file: &[u8], said: &mut Said) -> Result<bool, NoMemory> {
     let mut right = true;
     for len in 0..file.len() {
@@ -95,7 +97,7 @@ fn are_cut(alloc: Global, file: &[u8], said: &mut Said) -> Result<bool, NoMemory
     Ok(right)
 }
 
-// Whether no line `no-stamp` has an identity with a stamp.
+// Whether no stamp has an identity of a line `no-stamp`.
 fn are_absent(stamps: &Stamps, row: Row<'_>) -> bool {
     let mut right = true;
     for line in row {
@@ -107,7 +109,7 @@ fn are_absent(stamps: &Stamps, row: Row<'_>) -> bool {
     right
 }
 
-// Whether the file has the stamps of the row, and is what is written of them.
+// Whether the file has the stamps of the row, and writing them gives the file.
 fn is_read(
     alloc: Global,
     file: &[u8],

@@ -1,4 +1,4 @@
-//! Stamps as a row has them.
+//! Stamps in the notation of the rows.
 use aux_cache::{AuxFault, STAMPS_MAX, Stamp, Stamps, read, write};
 use lib_types::{Abi, NoMemory, Text};
 use std::alloc::Global;
@@ -20,7 +20,7 @@ pub(crate) fn id_of(line: &[u8]) -> (Id, &[u8]) {
     (id, rest)
 }
 
-// `DEV INODE CTIME SIZE ABI SONAME`, where `-` stands for no soname.
+// `DEV INODE CTIME SIZE ABI SONAME`, where `-` means no soname.
 fn stamp_of(alloc: Global, line: &[u8]) -> Result<Stamp, NoMemory> {
     let (id, rest) = id_of(line);
     let (word, name) = divide(b' ', rest);
@@ -33,7 +33,7 @@ fn stamp_of(alloc: Global, line: &[u8]) -> Result<Stamp, NoMemory> {
     Ok(Stamp { id, abi, soname })
 }
 
-/// The stamps of the lines `stamp`, put the last one first, each in the place of another one with its identity.
+/// The stamps of the lines `stamp`, put in reverse order. Each replaces an earlier one with its identity.
 pub(crate) fn stamps_of(alloc: Global, row: Row<'_>) -> Result<Stamps, NoMemory> {
     let mut stamps = Stamps::new(alloc);
     for line in row.iter().rev() {
@@ -64,7 +64,7 @@ fn is_same(a: &Stamp, b: &Stamp) -> bool {
     a.id == b.id && a.abi == b.abi && same_sonames(&a.soname, &b.soname)
 }
 
-// Whether both at this index, or found by the identity, are the same.
+// Whether both have the same stamp at this index, and for its identity.
 fn same_at(stamps: &Stamps, others: &Stamps, index: usize) -> bool {
     let Some(stamp) = stamps.get(index) else {
         return false;
@@ -80,7 +80,7 @@ fn same_at(stamps: &Stamps, others: &Stamps, index: usize) -> bool {
     same && found
 }
 
-/// Whether both have the same stamps in one order, each found by its identity.
+/// Whether both have the same stamps in the same order, and find each by its identity.
 pub(crate) fn have_same(
     alloc: Global,
     want: &Stamps,
@@ -94,21 +94,21 @@ pub(crate) fn have_same(
     Ok(same)
 }
 
-/// What is read of a file, and the file that is written of it.
+/// The stamps that are read from a file, and the file that is written from them.
 #[derive(Drop)]
 pub(crate) struct Back {
     pub(crate) stamps: Stamps,
     pub(crate) written: Vec<u8>,
 }
 
-/// What is read of a file and written again, or the place of its damage.
+/// The stamps and the file written from them, or the offset at which the file is malformed.
 #[derive(Drop)]
 pub(crate) enum Outcome {
     Read(Back),
     Damaged(u64),
 }
 
-/// What comes of a file.
+/// Reads a file, and writes it again.
 pub(crate) fn read_back(alloc: Global, file: &[u8]) -> Result<Outcome, NoMemory> {
     match read(alloc, file) {
         Ok(stamps) => {

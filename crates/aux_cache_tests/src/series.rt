@@ -6,8 +6,8 @@ use std::alloc::Global;
 use table_rows::{Row, Said, Trial, Words, count};
 use tree_face::Id;
 
-/// A row has the number of stamps, which are put in their order, and the number of their different sonames. Their file, made here by its
-/// format, has them, and is written of them.
+/// A row has the number of stamps, which are put in order, and the number of different sonames. The test builds their file by its format.
+/// The file has the stamps, and writing the stamps gives the file.
 pub(crate) struct Series;
 
 fn soname(alloc: Global, number: u64) -> Result<Text, NoMemory> {
@@ -15,7 +15,7 @@ fn soname(alloc: Global, number: u64) -> Result<Text, NoMemory> {
     Text::copy_of(alloc, soname.as_bytes())
 }
 
-// The number of a stamp's soname.
+// The index of a stamp's soname.
 fn soname_of(number: u64, sonames: u64) -> u64 {
     if sonames == 0 { 0 } else { number % sonames }
 }

@@ -1,4 +1,4 @@
--- A soname has one best library of a place, and one winner.
+-- In a search directory, a soname has one best library and one winner.
 use Rattle.std.proofs.Common.{◌≡◌, ℕ, Bool, true, false, cond, ◌||◌, List, [], ◌∷◌, ◌++◌, map, refl, ap, sym, ◌∙◌, Option, Some, None}
 use Rattle.std.specs.List.{cons_option, filter, fold}
 use Rattle.std.specs.Option.{is_some}
@@ -17,7 +17,7 @@ use Rattle.cache_entries.specs.Winner.{named_links, or_else, other_links, winner
 abbrev pub names_of : List Library → List (List ℕ)
 names_of libraries = map (λ library. library.soname) libraries
 
--- ---- the best one is there if a library has the soname
+-- ---- a soname has a best library exactly if a library has the soname
 
 still_some : (libraries : List Library) (found : Option Library) → is_some found ≡ true → is_some (fold better found libraries) ≡ true
 still_some [] found h = h
@@ -30,7 +30,7 @@ best_there (library ∷ libraries) soname = by_test (bytes_eq library.soname son
     (λ e. rw (turned library.soname soname, e) (sym (still_some (filter (has_soname soname) libraries) (Some library) refl)))
     (λ e. rw (turned library.soname soname, e) (best_there libraries soname))
 
--- and none is if none has it
+-- If none of the libraries has the soname, it has no best library.
 pub none_best : (libraries : List Library) (soname : List ℕ) → is_in (names_of libraries) soname ≡ false → best libraries soname ≡ None
 none_best libraries soname h = elim (best libraries soname) as (λ o. is_some o ≡ false → o ≡ None)
     [ None ↦ λ e. refl | Some library ↦ λ e. absurd (cc) ] (sym (best_there libraries soname) ∙ h)
@@ -43,7 +43,7 @@ in_more (x ∷ xs) more z = ap (λ b. bytes_eq z x.soname || b) (in_more xs more
     grouped true b c = refl
     grouped false b c = refl
 
--- ---- each of the best ones is the only one of its soname
+-- ---- each of the best libraries is the only one with its soname
 
 pub one_best : (files : List Library) (soname : List ℕ) → filter (has_soname soname) (bests files) ≡ cons_option (best files soname) []
 one_best files soname = by_test (is_in (sonames files) soname)
@@ -51,7 +51,7 @@ one_best files soname = by_test (is_in (sonames files) soname)
     (λ h. none_left (best files) (best_has files) soname (sonames files) h
     ∙ sym (ap (λ o. cons_option o []) (none_best files soname (sym (in_ascending (names_of files) soname) ∙ h))))
 
--- ---- a soname has one winner in a place
+-- ---- a soname has one winner in a search directory
 
 no_winner : (files links : List Library) (soname : List ℕ) → is_in (names_of (files ++ (named_links links ++ other_links links))) soname ≡ false → winner files links soname ≡ None
 no_winner files links soname h =

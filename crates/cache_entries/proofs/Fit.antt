@@ -1,4 +1,4 @@
--- The entries fit a cache: their names are names, and their paths are short and have no NUL.
+-- The entries fit into a cache: their sonames and hwcaps names are names, and their paths are short and have no NUL.
 use Rattle.std.proofs.Common.{◌≡◌, ◌≤◌, ◌+◌, ℕ, Bool, true, false, cond, ◌&&◌, nat_le, List, [], ◌∷◌, ◌++◌, length, map, refl, ap, sym, subst, ◌∙◌, Option, Some, None, arith}
 use Rattle.std.proofs.lemmas.Bool.{and_from, and_parts}
 use Rattle.std.proofs.lemmas.Bool.Decides.{nat_tests}
@@ -44,7 +44,7 @@ use Rattle.file_table.specs.Analyses.{Analyses, HaveNames}
 use Rattle.cache_entries.specs.Winner.{has_own_name, library_behind, linked, links_to_libraries, named, named_links, or_else, other_links, unnamed, winner, winners_in}
 use Rattle.place_libraries.specs.Library.{Library}
 
--- ---- the libraries behind links
+-- ---- the libraries that links lead to
 
 module _ (t : Nodes) where
   -- a file has a path
@@ -53,7 +53,7 @@ module _ (t : Nodes) where
       (λ e. let z : is_file (kind_at t path) ≡ false = rw e refl in absurd (cc))
       (λ e. by_test (is_path path) (λ f. f) (λ f. let z : is_file (kind_at t path) ≡ false = rw (e, f) refl in absurd (cc)))
 
-  -- the last name of a file to which a link leads is a name
+  -- If a link leads to a file, the last component of the file's path is a name.
   abbrev is_led : Option (List ℕ) → Bool
   is_led None = true
   is_led (Some file) = is_name (last file)
@@ -177,11 +177,11 @@ module _ (what : Analyses) (names : HaveNames what) (t : Nodes) (tree : IsTree t
   unfolding found
   found_fit places all = by_place_fit places 0 all
 
-  -- in any order
+  -- the same for the entries in any order
   pub sorted_fit : (places : List Place) (entries : List Entry) → AreEntriesOf (found what t places) entries → are_spelled places ≡ true → All IsFit entries
   sorted_fit places entries are all = All-permutation IsFit (found what t places) entries are.all (each_fits (found what t places) (found_fit places all))
 
--- ---- what a cache's writer asks of the entries
+-- ---- what the writer of a cache requires of the entries
 
 named_cap : (cap : Option (List ℕ)) → is_cap cap ≡ true → IfSome cap (λ name. is_name name ≡ true)
 named_cap None h = tt

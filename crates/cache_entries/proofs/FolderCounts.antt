@@ -1,4 +1,4 @@
--- The numbers of winners of folders: one that is found, and one more.
+-- Cached numbers of winners by directory: looking one up, and adding one.
 use Rattle.std.proofs.Common.{◌≡◌, ℕ, cond, List, [], ◌∷◌, length, ap, sym, ◌∙◌, Some}
 use Rattle.std.proofs.lemmas.Slice.Eq.{bytes_eq-Decides}
 use Rattle.std.specs.Map.{lookup}

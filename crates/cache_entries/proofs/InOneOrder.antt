@@ -1,4 +1,4 @@
--- Whatever is found has a list in the order of entries.
+-- The entries that are found always have a sorted list.
 use Rattle.std.proofs.Common.{◌≡◌, ◌+◌, ◌<◌, Bool, true, false, cond, zero, suc, List, [], ◌∷◌, length, get_or, refl, ap, subst, ◌∙◌, arith}
 use Rattle.std.proofs.lemmas.List.Sorted.{IsPermutation-cons, IsPermutation-middle, IsPermutation-refl, IsPermutation-trans, ranks_by}
 use Rattle.std.specs.Cmp.{IsTotalOrder}
@@ -23,7 +23,7 @@ module _ {X : Type 0} (cmp : X → X → Ordering) (total : IsTotalOrder cmp) wh
       turned Equal e = absurd (cc)
       turned Greater e = absurd (cc)
 
-  -- ---- an item more, in front of the first that isn't below it
+  -- ---- inserting an item before the first item that isn't smaller
 
   abbrev inserted : X → List X → List X
   inserted x [] = x ∷ []
@@ -58,7 +58,7 @@ module _ {X : Type 0} (cmp : X → X → Ordering) (total : IsTotalOrder cmp) wh
       (λ e. rw e (IsPermutation-trans _ _ _ (IsPermutation-middle (x ∷ []) y ys) (IsPermutation-cons y _ _ (same_items x ys))))
       (λ e. rw e (IsPermutation-refl (x ∷ y ∷ ys)))
 
-  -- ---- all of them
+  -- ---- inserting all items
 
   abbrev sorted_of : List X → List X
   sorted_of [] = []

@@ -1,5 +1,5 @@
--- Sorted entries lead where the search of the directories leads: of the entries of one soname, ABI and hwcaps name that of the first
--- place comes first, and each place has one at most.
+-- A look-up in the sorted entries gives the same library as the search of the directories. Of the entries with one soname, ABI and
+-- hwcaps name, the entry of the first search directory comes first. Each search directory has at most one of these entries.
 use Rattle.std.proofs.Common.{◌≡◌, ◌<◌, ◌≤◌, ◌+◌, ℕ, pos, Bool, true, false, cond, nat_eq, nat_lt, ◌&&◌, List, [], ◌∷◌, ◌++◌, get_or, map, refl, ap, sym, subst, ◌∙◌, Option, Some, None, arith}
 use Rattle.std.proofs.lemmas.Bool.{and_from, and_parts}
 use Rattle.std.proofs.lemmas.Bool.Decides.{nat_tests}
@@ -57,7 +57,7 @@ filter_map_of p f (x ∷ xs) =
       | false ↦ filter_map_of p f xs
     ]
 
--- ---- entries of one soname, ABI and hwcaps name differ by their places
+-- ---- entries with one soname, ABI and hwcaps name have different search directories
 
 same_cap : (a b : Option (List ℕ)) → is_same_cap a b ≡ true → a ≡ b
 same_cap None None e = refl
@@ -106,7 +106,7 @@ module _ (what : Analyses) (t : Nodes) (soname : List ℕ) (abi : Abi) (cap : Op
   abbrev counts : Place → Library → Bool
   counts place library = is_same_abi library.abi abi && is_same_cap place.cap cap
 
-  -- the entry of a place that passes, if there is one
+  -- the entry of a search directory, if it has one that matches
   abbrev passing : ℕ → Place → List Entry
   passing number place = map (entry_of t number place) (filter (counts place) (cons_option (won place) []))
 
@@ -123,7 +123,7 @@ module _ (what : Analyses) (t : Nodes) (soname : List ℕ) (abi : Abi) (cap : Op
       ∙ ap (λ xs. xs ++ filter (passes soname abi cap) (by_place (entries_in what t) (number + 1) places)) (passing_in number place)
       ∙ ap (λ xs. passing number place ++ xs) (passing_of places (number + 1))
 
-  -- ---- they stand in the order of entries
+  -- ---- they are in the order of entries
 
   all_passing : (places : List Place) (number : ℕ) → All (IsFoundAt what t number places) (by_place passing number places)
   all_passing places number =
@@ -155,7 +155,7 @@ module _ (what : Analyses) (t : Nodes) (soname : List ℕ) (abi : Abi) (cap : Op
             (λ c. rw c rest)
       ] refl
 
-  -- ---- the first is that of the first place
+  -- ---- the first one belongs to the first search directory
 
   first_passing : (places : List Place) (number : ℕ) → option_map (λ (e : Entry). e.path) (slice_get (by_place passing number places) 0)
       ≡ first_value (path_in what t soname abi) (filter (λ place. is_same_cap place.cap cap) places)
@@ -201,14 +201,14 @@ first_same f g same [] = refl
 first_same f g same (x ∷ xs) = ap (λ o. option_or o (first_value f xs)) (same x) ∙ ap (option_or (g x)) (first_same f g same xs)
 
 module _ (soname : List ℕ) (abi : Abi) (caps : List (List ℕ)) where
-  -- the search gives what the first entries give
+  -- the search gives the same path as the first matching entries
   pub walk_by : (what : Analyses) (t : Nodes) (places : List Place) (entries : List Entry) → AreEntriesOf (found what t places) entries
       → walk what t places soname abi caps ≡ first_value (path_among entries soname abi) (in_turn caps)
   unfolding walk
   walk_by what t places entries are =
       first_same (path_with what t places soname abi) (path_among entries soname abi) (λ cap. sym (led what t places entries are soname abi cap)) (in_turn caps)
 
-  -- what is found is all that it depends on
+  -- the search depends only on the entries that are found
   pub walk_same : (what new : Analyses) (t u : Nodes) (places more : List Place) → found new u more ≡ found what t places
       → walk new u more soname abi caps ≡ walk what t places soname abi caps
   walk_same what new t u places more same =

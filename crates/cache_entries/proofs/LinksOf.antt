@@ -1,4 +1,4 @@
--- Links that were followed stand in their folder.
+-- Followed links are in their directory.
 use Rattle.std.proofs.Common.{◌≡◌, ℕ, true, false, cond, List, [], ◌∷◌, ap, subst, sym, refl, Option, Some, None}
 use Rattle.std.specs.Cmp.Lexicographic.{slice_cmp}
 use Rattle.std.specs.List.{cons_option, filter_map, slice_get}
@@ -43,12 +43,12 @@ module _ (t : Nodes) (path : List ℕ) where
 pub all_left : (links : List FollowedLink) → AreLeftOf links links
 all_left links = λ folder h. h
 
--- those behind the first, if there is one
+-- the links after the first, if there is one
 pub rest_left : (links left rest : List FollowedLink) (first : Option FollowedLink) → AreLeftOf links left → YieldsFirstBy (λ x. x) (λ s. s) left first rest → AreLeftOf links rest
 rest_left links left rest (Some link) are first = λ folder h. (subst (AreLinked folder) first (are folder h)).1
 rest_left links left rest None are first = λ folder h. subst (AreLinked folder) (sym first.1) tt
 
--- the first of them has this name
+-- the target of the first link that is left, if it has this name
 pub first_target : (links left : List FollowedLink) (link : FollowedLink) (name : List ℕ) → AreLeftOf links left → slice_get left 0 ≡ Some link
     → slice_cmp nat_cmp link.name name ≡ Equal → IsTargetAmong links name link.target
 first_target links [] link name are first tied = absurd (cc)
@@ -57,7 +57,7 @@ first_target links (x ∷ left) link name are first tied = λ folder h.
     let same : link.name ≡ name = same_text link.name name tied in
     subst (λ n. IsLinked folder n link.target) same (subst (λ (l : FollowedLink). IsLinked folder l.name l.target) here (are folder h).0)
 
--- ---- the folder that they are in
+-- ---- the directory that contains the links
 
 pub still_linked : (folder : Folder) (links left : List FollowedLink) → AreLinked folder links → AreLeftOf links left → AreLinked folder left
 still_linked folder links left h are = are folder h

@@ -1,4 +1,4 @@
--- Best files and winners among links, merged by their sonames, are the winners of a place.
+-- Merging the best files and the winners among the links by soname gives the winners of a search directory.
 use Rattle.std.proofs.Common.{◌≡◌, ◌<◌, length, arith, ℕ, true, false, cond, List, [], ◌∷◌, ◌++◌, refl, ap, sym, subst, ◌∙◌, Option, Some, None, Ordering}
 use Rattle.std.proofs.lemmas.Cmp.{nat_list_cmp_total}
 use Rattle.std.proofs.lemmas.Map.Keys.{sorted_head, sorted_tail}
@@ -34,7 +34,7 @@ at libraries soname = find (has_soname soname) libraries
 differs : (x z : List ℕ) → cmp z x ≡ Less → bytes_eq x z ≡ false
 differs x z less = texts_ties x z ∙ ap is_eq (flipped nat_list_cmp_total z x Less less)
 
--- none of libraries behind a soname has it
+-- If a soname is smaller than those of all libraries, none of them has it.
 none_at : (soname : List ℕ) (libraries : List Library) → AllByRecursion (λ x. cmp soname x ≡ Less) (names_of libraries) → at libraries soname ≡ None
 none_at soname [] a = refl
 none_at soname (library ∷ libraries) a = rw (differs library.soname soname a.0) (none_at soname libraries a.1)
@@ -42,7 +42,7 @@ none_at soname (library ∷ libraries) a = rw (differs library.soname soname a.0
 at_first : (library : Library) (libraries : List Library) → at (library ∷ libraries) library.soname ≡ Some library
 at_first library libraries = rw (itself library.soname) refl
 
--- ---- sorted libraries are the same if they are the same for each soname
+-- ---- sorted libraries are equal if they are equal for each soname
 
 none_before : (x y : Library) (xs ys : List Library) → AreSorted (names_of (y ∷ ys)) → cmp x.soname y.soname ≡ Less → at (x ∷ xs) x.soname ≡ at (y ∷ ys) x.soname → ⊥
 none_before x y xs ys s less h =
@@ -77,7 +77,7 @@ same_at (x ∷ xs) (y ∷ ys) s r h = by_ordering (cmp x.soname y.soname)
     ap (λ l. l ∷ xs) first ∙ ap (λ ls. y ∷ ls) rest)
     (λ greater. absurd (none_before y x ys xs s (flipped nat_list_cmp_total x.soname y.soname Greater greater) (sym (h y.soname))))
 
--- ---- what libraries by their sonames are
+-- ---- looking up libraries by soname
 
 module _ (f : List ℕ → Option Library) (own : (soname : List ℕ) (library : Library) → f soname ≡ Some library → library.soname ≡ soname) where
   names_meet : (P : List ℕ → Type 0) (names : List (List ℕ)) → AllByRecursion P names → AllByRecursion P (names_of (filter_map f names))
@@ -115,7 +115,7 @@ module _ (soname : List ℕ) (file : Library) (files : List Library) (up : AreSo
       subst (λ (q : List ℕ). at (file ∷ files) q ≡ None) ((bytes_eq-Decides link.soname soname).0 here)
       (none_at link.soname (file ∷ files) (less, all_below nat_list_cmp_total link.soname file.soname (names_of files) less (sorted_head cmp file.soname (names_of files) up)))
 
-  -- the file is there, or else what is behind it
+  -- Looking up a soname gives the file if it has the soname, otherwise a later file or link.
   file_first : (links : List Library) → at (file ∷ merged files links) soname ≡ or_else (at (file ∷ files) soname) (at links soname)
   file_first links =
       let behind = rest links in
@@ -142,7 +142,7 @@ merged_at soname [] links up = refl
 merged_at soname (file ∷ files) links up =
     placed_at soname file files up (λ links. merged_at soname files links (sorted_tail cmp file.soname (names_of files) up)) links
 
--- ---- their order
+-- ---- the merged libraries are sorted
 
 abbrev Meet : (List ℕ → Type 0) → List Library → Type 0
 Meet P libraries = AllByRecursion P (names_of libraries)
@@ -164,7 +164,7 @@ module _ (P : List ℕ → Type 0) where
 
 module _ (file : Library) (files : List Library) (up : AreSorted (names_of (file ∷ files)))
     (rest : (links : List Library) → AreSorted (names_of links) → AreSorted (names_of (merged files links))) where
-  -- the file is before the rest, if it is before these links
+  -- the file comes before the merged rest, if it comes before these links
   file_then : (links : List Library) → Meet (λ y. cmp file.soname y ≡ Less) links → AreSorted (names_of links) → AreSorted (names_of (file ∷ merged files links))
   unfolding IsStrictlySortedBy
   file_then links behind s = (merged_meet (λ y. cmp file.soname y ≡ Less) files links up.0 behind, rest links s)
@@ -189,7 +189,7 @@ merged_sorted (file ∷ files) links up s =
 winners_sorted : (files links : List Library) → AreSorted (names_of (winners_among files links))
 winners_sorted files links = let all : List Library = files ++ (named_links links ++ other_links links) in still_sorted (winner files links) (winner_has files links) (sonames all) (ascending_sorted (names_of all))
 
--- a soname is a file's, or else that of a link which is kept
+-- the winner of a soname is a file with it, or else a link that is kept
 kept_at : (files links kept : List Library) → HaveOthers (bests files) links kept → (soname : List ℕ)
     → or_else (best files soname) (winner [] kept soname) ≡ winner files links soname
 kept_at files links kept h soname =
@@ -200,7 +200,7 @@ kept_at files links kept h soname =
           ∙ ap (λ xs. or_else (best (named_links links) soname) (best xs soname)) h.others
     ] (only_at soname (bests files) (best files soname) (one_best files soname))
 
--- the best files and the winners among the links that are kept
+-- merging the best files with the winners among the kept links
 pub merged_winners : (files links kept : List Library) → HaveOthers (bests files) links kept → merged (bests files) (winners_among [] kept) ≡ winners_among files links
 merged_winners files links kept h =
     let up = still_sorted (best files) (best_has files) (sonames files) (ascending_sorted (names_of files)) in
@@ -211,13 +211,13 @@ merged_winners files links kept h =
     ∙ kept_at files links kept h soname
     ∙ sym (only_at soname (winners_among files links) (winner files links soname) (one_winner files links soname)))
 
--- ---- one winner after another
+-- ---- iterating over the winners
 
--- the first of these libraries, and what is left of them
+-- the first of these libraries, and the libraries that are left after it
 abbrev pub Begins : List Library → Option Library → List Library → Type 0
 Begins libraries first left = YieldsFirstBy (λ x. x) (λ s. s) libraries first left
 
--- so that calls for the first end
+-- a call for the first library makes progress
 abbrev pub Goes : List Library → Option Library → List Library → Type 0
 Goes libraries first left = MakesProgress (λ _. Unit {0}) (item_count (λ s. s)) libraries first left
 
@@ -243,7 +243,7 @@ file_next (file ∷ files) (link ∷ links) left (Some first) h y =
     let rest : files ≡ left = cc in
     rw h (ap (λ l. l ∷ merged files (link ∷ links)) here ∙ ap (λ fs. first ∷ merged fs (link ∷ links)) rest)
 
--- one less is left after one
+-- after each call one library less is left
 pub goes_on : (libraries left : List Library) (first : Option Library) → Begins libraries first left → Goes libraries first left
 goes_on libraries left None y = record { on = λ f. tt; keeps = tt; rests = λ f. tt }
 goes_on libraries left (Some first) y =

@@ -1,4 +1,4 @@
--- Winners and entries depend on the files of the places and on those behind their links alone.
+-- Winners and entries depend only on the files in the search directories and on the files that their links lead to.
 use Rattle.std.proofs.Common.{◌≡◌, ℕ, List, [], ◌∷◌, flat_map, map, refl, ap, ◌∙◌, Some, None}
 use Rattle.std.proofs.lemmas.Bool.{or_left, or_right}
 use Rattle.std.specs.List.{cons_option, filter_map}

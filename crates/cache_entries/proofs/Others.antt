@@ -22,7 +22,7 @@ all_among files = λ soname h. h
 pub among_both : (left more files : List Library) → AreAmong left more → AreAmong more files → AreAmong left files
 among_both left more files inner outer = λ soname h. outer soname (inner soname h)
 
--- those behind the first
+-- the files after the first are among the files
 pub rest_among : (file : Library) (left files : List Library) → AreAmong (file ∷ left) files → AreAmong left files
 rest_among file left files among = λ soname h. among soname
     (elim (bytes_eq file.soname soname) as (λ b. b ≡ bytes_eq file.soname soname → has_file (file ∷ left) soname ≡ true) [
@@ -30,7 +30,7 @@ rest_among file left files among = λ soname h. among soname
       | false ↦ λ e. rw (sym e) h
     ] refl)
 
--- the first of these has its soname
+-- the soname of the first of these files is the soname of a file
 pub first_there : (left files : List Library) (file : Library) (soname : List ℕ) → AreAmong left files → slice_get left 0 ≡ Some file → slice_cmp nat_cmp file.soname soname ≡ Equal
     → has_file files soname ≡ true
 first_there [] files file soname among first tied = absurd (cc)
@@ -43,7 +43,7 @@ pub passed_among : (left files : List Library) (link : Library) → AreAmong lef
 passed_among left files link among passed = record { own = passed.own; there = among link.name passed.there }
 
 module _ (files : List Library) (link : Library) (passed : IsPassed files link) where
-  -- it isn't looked up by a soname that no file has
+  -- If no file has a soname, this link isn't looked up by it.
   other_soname : (soname : List ℕ) → has_file files soname ≡ false → bytes_eq link.name soname ≡ false
   other_soname soname none = by_test (bytes_eq link.name soname)
       (λ e.
@@ -75,7 +75,7 @@ module _ (files : List Library) (link : Library) (passed : IsPassed files link) 
     others = others_less kept rest ∙ h.others;
   }
 
--- the first of these links leads to a library that loses
+-- A link may be dropped if it is the first that is left and loses to a file.
 pub link_less : {L : Type 0} (f : L → Option Library) (files all kept : List Library) (links rest : List L) (link : L) (library : Library) → links ≡ link ∷ rest → f link ≡ Some library
     → IsPassed files library → HaveOthers files all (kept ++ filter_map f links) → HaveOthers files all (kept ++ filter_map f rest)
 link_less f files all kept links rest link library first leads passed h =

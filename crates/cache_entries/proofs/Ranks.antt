@@ -1,4 +1,4 @@
--- The winners among links alone are what the links come to by their sonames.
+-- Gathering links by soname gives the winners among the links, with files ignored.
 use Rattle.std.proofs.Common.{◌≡◌, ℕ, true, false, cond, ◌||◌, List, [], ◌∷◌, ◌++◌, map, refl, ap, sym, ◌∙◌, Option, Some, None}
 use Rattle.std.specs.Cmp.Lexicographic.{nat_list_cmp_total}
 use Rattle.std.specs.List.{cons_option, filter, filter_map, fold}
@@ -28,7 +28,7 @@ ranked class library = record { library = library; class = class }
 abbrev pub library_of : Ranked → Library
 library_of item = item.library
 
--- the best of two classes, with its class
+-- the best link of the first class, or else of the second, with its class
 abbrev first_of : Option Library → Option Library → Option Ranked
 first_of (Some link) other = Some (ranked Named link)
 first_of None (Some link) = Some (ranked Other link)
@@ -39,7 +39,7 @@ its_library (Some link) b = refl
 its_library None (Some link) = refl
 its_library None None = refl
 
--- ---- one item more makes the best of its class better
+-- ---- one more item is compared with the best of its class
 
 named_more : (a b : Option Library) (link : Library) → better_by is_before (first_of a b) (ranked Named link) ≡ first_of (better a link) b
 named_more (Some best) b link =
@@ -53,7 +53,7 @@ other_more None (Some best) link =
     elim (is_preferred link best) as (λ p. cond p (Some (ranked Other link)) (Some (ranked Other best)) ≡ first_of None (cond p (Some link) (Some best))) [ true ↦ refl | false ↦ refl ]
 other_more None None link = refl
 
--- ---- all items make the best of each class
+-- ---- after all items, the best of each class is known
 
 module _ (soname : List ℕ) where
   abbrev all : Option Ranked → List Ranked → Option Ranked
@@ -81,11 +81,11 @@ module _ (soname : List ℕ) where
             ]
       ]
 
-  -- the best of all is the winner
+  -- the best of all links is the winner
   winner_of : (links : List Library) → option_map library_of (all None (map ranked_link links)) ≡ winner [] links soname
   winner_of links = ap (option_map library_of) (all_links links None None) ∙ its_library (best (named_links links) soname) (best (other_links links) soname)
 
--- ---- their sonames
+-- ---- the sonames of the links
 
 module _ (z : List ℕ) where
   in_middle : (xs : List Library) (library : Library) (ys : List Library) → (bytes_eq z library.soname || is_in (names_of (xs ++ ys)) z) ≡ is_in (names_of (xs ++ library ∷ ys)) z
@@ -120,7 +120,7 @@ map_given g f (x ∷ xs) =
       | Some y ↦ ap (λ ys. g y ∷ ys) (map_given g f xs)
     ]
 
--- what the links come to by their sonames
+-- gathering links by soname gives the winners among the links
 pub link_winners : (links : List Library) (es : List (List ℕ × Ranked)) → AreGathered (better_by is_before) (by_sonames (map ranked_link links)) es
     → libraries_of es ≡ winners_among [] links
 link_winners links es all =

@@ -1,4 +1,5 @@
--- An image has one entry list: entries that tie in the order have one soname and one place, and a place has one entry of a soname.
+-- An image has exactly one entry list. Entries that compare equal have one soname and one search directory, and a search directory has
+-- at most one entry for a soname.
 use Rattle.std.proofs.Common.{◌≡◌, ◌≤◌, ◌+◌, ℕ, true, false, cond, nat_eq, List, [], ◌∷◌, map, refl, ap, sym, ◌∙◌, Option, Some, None, arith}
 use Rattle.std.proofs.lemmas.Bool.Decides.{nat_tests}
 use Rattle.std.proofs.lemmas.List.Elements.{All-append, All-cons, All-nil}
@@ -36,31 +37,31 @@ winner_has files links soname library e =
     either_has (best files soname) _ library soname (best_has files soname)
     (λ l f. either_has (best (named_links links) soname) _ l soname (best_has (named_links links) soname) (best_has (other_links links) soname) f) e
 
--- two orders one after the other find no difference
+-- If two orders are combined and give Equal, both give Equal.
 both_equal : (r s : Ordering) → ordering_then r s ≡ Equal → (r ≡ Equal) × (s ≡ Equal)
 both_equal Less s e = absurd (cc)
 both_equal Equal s e = (refl, e)
 both_equal Greater s e = absurd (cc)
 
--- ---- an entry by its soname and the number of its place
+-- ---- an entry by its soname and the number of its search directory
 
 module _ (what : Analyses) (t : Nodes) where
   abbrev pub winner_in : Place → List ℕ → Option Library
   winner_in place soname = winner (libraries_in what t place) (links_to_libraries what t place) soname
 
-  -- the entry of a soname in the place with this number, where the first place has the first number
+  -- the entry of a soname in the search directory with this number, if the first search directory has number `first`
   abbrev pub entry_at : ℕ → List Place → ℕ → List ℕ → Option Entry
   entry_at first [] number soname = None
   entry_at first (place ∷ places) number soname =
       cond (nat_eq first number) (option_map (entry_of t first place) (winner_in place soname)) (entry_at (first + 1) places number soname)
 
-  -- the entry is the one of its soname and its place
+  -- this entry is the entry of its soname in its search directory
   pub record IsFoundAt (first : ℕ) (places : List Place) (entry : Entry) : Type 0 where
     pub from : first ≤ entry.place
     pub at : entry_at first places entry.place entry.soname ≡ Some entry
 
   module _ (first : ℕ) (place : Place) (places : List Place) where
-    -- the entry of a winner
+    -- the entry of a winner in the first search directory
     here : (soname : List ℕ) (library : Library) → winner_in place soname ≡ Some library → IsFoundAt first (place ∷ places) (entry_of t first place library)
     here soname library e =
         let own : library.soname ≡ soname = winner_has (libraries_in what t place) (links_to_libraries what t place) soname library e in
@@ -76,7 +77,7 @@ module _ (what : Analyses) (t : Nodes) where
           | Some library ↦ λ e. All-cons (IsFoundAt first (place ∷ places)) (entry_of t first place library) _ (here soname library e) (each_here names)
         ] refl
 
-    -- the entry of a later place
+    -- the entry of a later search directory
     behind : (entry : Entry) → IsFoundAt (first + 1) places entry → IsFoundAt first (place ∷ places) entry
     behind entry is =
         let from = is.from in
@@ -90,7 +91,7 @@ module _ (what : Analyses) (t : Nodes) where
       (each_here first place places _)
       (λ k d within. behind first place places _ (each_found places (first + 1) k d within))
 
-  -- entries that tie have one soname and one place, so they are one entry
+  -- Entries that compare equal have one soname and one search directory, so they are equal.
   pub tied_same : (first : ℕ) (places : List Place) (x y : Entry) → IsFoundAt first places x → IsFoundAt first places y → entry_order x y ≡ Equal → x ≡ y
   tied_same first places x y h k e =
       let names = both_equal (name_order y.soname x.soname) _ e in
@@ -102,7 +103,7 @@ module _ (what : Analyses) (t : Nodes) where
       let found : Some x ≡ Some y = sym h.at ∙ ap (λ n. entry_at first places n x.soname) number ∙ ap (entry_at first places y.place) (sym soname) ∙ k.at in
       cc
 
--- two sorted lists of the entries are one list
+-- two sorted lists of the entries are equal
 pub one_list : (what : Analyses) (t : Nodes) (places : List Place) (a b : List Entry) → AreEntriesOf (found what t places) a → AreEntriesOf (found what t places) b → a ≡ b
 unfolding found
 one_list what t places a b are others =

@@ -1,4 +1,4 @@
--- A list has one sorted permutation where items that tie are equal.
+-- A list has exactly one sorted permutation, if items that compare equal are equal.
 use Rattle.std.proofs.Common.{◌≡◌, ℕ, ◌+◌, ◌≤◌, Bool, true, false, cond, List, [], ◌∷◌, get_or, suc, refl, sym, ap, subst, ◌∙◌, arith}
 use Rattle.std.proofs.lemmas.List.Elements.{All-filter, All-from_get_or, All-head, All-tail}
 use Rattle.std.proofs.lemmas.List.Kept.{IsSortedBy-filter}
@@ -11,12 +11,12 @@ use Rattle.std.specs.Ordering.{is_lt, ordering_reverse}
 use Rattle.std.specs.declared.cmp.Ordering.{Ordering}
 use Rattle.std.specs.declared.cmp.Ordering.TheVariants.{Less, Equal, Greater}
 
--- lists of which each function has the same sum have the same items
+-- Two lists have the same items if the sums over both lists are equal for each function.
 abbrev HaveSameSums : {X : Type 0} → List X → List X → Type 0
 HaveSameSums {X} xs ys = (f : X → ℕ) → sum_by f ys ≡ sum_by f xs
 
 module _ {X : Type 0} (lt : X → X → Bool) (o : IsStrictWeakOrder lt) where
-  -- the first of a sorted list is not above an item of the same list in another order
+  -- the first item of a sorted list isn't greater than any item of a permutation of the list
   least_first : (x y : X) (xs ys : List X) → IsSortedBy lt (x ∷ xs) → HaveSameSums (x ∷ xs) (y ∷ ys) → lt y x ≡ false
   least_first x y xs ys sorted same = by (lt y x) refl
     where
@@ -40,7 +40,7 @@ module _ {X : Type 0} (lt : X → X → Bool) (o : IsStrictWeakOrder lt) where
       subst (λ n. lt (get_or (x ∷ xs) n d) (get_or xs k d) ≡ false) e (sorted (suc k) d (omega arith) (omega arith))
 
   module _ (P : X → Type 0) (exact : (x y : X) → P x → P y → lt x y ≡ false → lt y x ≡ false → x ≡ y) where
-    -- sorted lists with the same items are the same list if items that tie are equal
+    -- sorted lists with the same items are equal, if items that compare equal are equal
     sorted_same : (xs ys : List X) → HaveSameSums xs ys → All P xs → All P ys → IsSortedBy lt xs → IsSortedBy lt ys → xs ≡ ys
     sorted_same [] [] same ps qs up upward = refl
     sorted_same [] (y ∷ ys) same ps qs up upward = absurd (omega (arith, same (λ _. 1), sum_by-cons (λ _. 1) y ys))
@@ -58,7 +58,7 @@ tie Less a b = cc
 tie Equal a b = refl
 tie Greater a b = cc
 
--- two sorted permutations of a list are one list
+-- two sorted permutations of a list are equal
 pub one_sorted : {X : Type 0} {cmp : X → X → Ordering} → IsTotalOrder cmp → (P : X → Type 0) → ((x y : X) → P x → P y → cmp x y ≡ Equal → x ≡ y)
     → (items a b : List X) → All P items → IsPermutation items a → IsSorted cmp a → IsPermutation items b → IsSorted cmp b → a ≡ b
 one_sorted {cmp = cmp} o P exact items a b all p up q upward =
@@ -67,7 +67,7 @@ one_sorted {cmp = cmp} o P exact items a b all p up q upward =
     a b (λ f. sum_by-IsPermutation f a b (IsPermutation-trans _ _ _ (IsPermutation-sym _ _ p) q))
     (All-permutation P items a p all) (All-permutation P items b q all) up upward
 
--- ---- what passes a test
+-- ---- filtered items
 
 module _ {X : Type 0} (p : X → Bool) where
   kept_sum : (f : X → ℕ) (xs : List X) → sum_by f (filter p xs) ≡ sum_by (λ x. cond (p x) (f x) 0) xs
@@ -81,7 +81,7 @@ module _ {X : Type 0} (p : X → Bool) where
       ] in
       more ∙ sym (sum_by-cons g x xs)
 
--- what passes a test stands in a sorted list as it stood before, if it stood in this order
+-- If the items that pass a test are already sorted, sorting the whole list keeps their order.
 pub same_kept : {X : Type 0} {cmp : X → X → Ordering} → IsTotalOrder cmp → (P : X → Type 0) → ((x y : X) → P x → P y → cmp x y ≡ Equal → x ≡ y) → (p : X → Bool)
     → (items a : List X) → All P items → IsPermutation items a → IsSorted cmp a → IsSorted cmp (filter p items) → filter p a ≡ filter p items
 same_kept {X = X} {cmp = cmp} o P exact p items a all moved up upward =

@@ -1,4 +1,4 @@
--- The entries of a cache: one for each place and soname with a winner (ldconfig(8), dl-cache.h).
+-- The entries of a cache: one for each search directory and soname with a winner (ldconfig(8), dl-cache.h).
 use Rattle.std.specs.Prelude.{◌≡◌, ◌<◌, ℕ, ℤ, pos, Bool, List, [], ◌&&◌, ◌||◌, if◌then◌else◌, length, map, nat_le, unwrap_or}
 use Rattle.std.specs.Cmp.{IsTotalOrder, back_total, bool_cmp_total, int_cmp_total, nat_cmp_total, on_total, then_total}
 use Rattle.std.specs.Cmp.Lexicographic.{nat_list_cmp_total, slice_cmp}
@@ -26,7 +26,7 @@ use Rattle.cache_entries.specs.declared.fault.EntryFault.{EntryFault}
 use Rattle.cache_entries.specs.declared.fault.EntryFault.TheVariants.{TooMany, NoMemory}
 use Rattle.place_libraries.specs.Library.{Library}
 
--- the soname leads to the winner: it is its name, or a link with its name as its text is there
+-- The soname leads to the winner: it is the winner's name, or there is a link from the soname to the winner's name.
 abbrev pub is_by_soname : Nodes → Place → Library → Bool
 is_by_soname t place winner = has_no_cap place && (is_own winner || links_to t (join place.real winner.soname) winner.name)
 
@@ -45,11 +45,11 @@ entry_of t number place winner = record {
 abbrev pub entries_in : Analyses → Nodes → ℕ → Place → List Entry
 entries_in what t number place = map (entry_of t number place) (winners_in what t place)
 
--- All entries, place by place.
+-- All entries, one search directory after another.
 unfoldable pub found : Analyses → Nodes → List Place → List Entry
 found what t places = by_place (entries_in what t) 0 places
 
--- ---- their order
+-- ---- the order of the entries
 
 abbrev pub soname_of : Entry → List ℕ
 soname_of entry = entry.soname
@@ -66,7 +66,8 @@ cap_of entry = unwrap_or entry.cap []
 abbrev pub place_of : Entry → ℕ
 place_of entry = entry.place
 
--- descending sonames; then descending flags; then those with a hwcaps name first, these by that name; then by the place
+-- Descending sonames, then descending flags. Then entries with a hwcaps name come first, sorted by it. Last, the search directory
+-- decides.
 abbrev pub entry_order : Entry → Entry → Ordering
 entry_order =
     then_cmp (flip_args (on soname_of name_order)) (then_cmp (flip_args (on flags_in int_cmp))
@@ -77,24 +78,24 @@ entry_order-total =
     then_total (back_total (on_total soname_of name_order-total)) (then_total (back_total (on_total flags_in int_cmp_total))
     (then_total (on_total is_capless bool_cmp_total) (then_total (on_total cap_of nat_list_cmp_total) (on_total place_of nat_cmp_total))))
 
--- ---- their sizes
+-- ---- limits
 
--- the entry fits a cache: its names are names, and its path is short and has no NUL
+-- The entry fits into a cache: its soname and hwcaps name are names, and its path is short and has no NUL.
 abbrev pub is_fit : Entry → Bool
 is_fit entry = is_name entry.soname && is_cap entry.cap && nat_le (length entry.path) STRING_MAX && has_no_nul entry.path
 
--- ---- the list
+-- ---- the list of entries
 
--- all entries in their order
+-- all entries, sorted
 pub record AreEntriesOf (found : List Entry) (entries : List Entry) : Type 0 where
   pub all : IsPermutation found entries
   pub ordered : IsSorted entry_order entries
 
--- there is no other list of them in this order
+-- this is the only sorted list of the entries
 abbrev pub IsOnlyListOf : List Entry → List Entry → Type 0
 IsOnlyListOf found entries = (others : List Entry) → AreEntriesOf found others → others ≡ entries
 
--- too many, and how many
+-- the entries are too many, and this is their number
 abbrev pub IsEntryFault : List Entry → EntryFault → Type 0
 IsEntryFault found (TooMany count) = (count ≡ length found) × (ENTRIES_MAX < count)
 IsEntryFault found NoMemory = Unit {0}

@@ -1,4 +1,4 @@
--- A list of entries leads where the search of the directories leads.
+-- A look-up in a list of entries gives the same library as the search of the directories.
 use Rattle.std.specs.Prelude.{◌≡◌, ℕ, Bool, List, ◌&&◌, find, Option, option_map}
 use Rattle.std.specs.Str.{bytes_eq}
 use Rattle.hwcap_dirs.specs.declared.kinds.Place.{Place}
@@ -8,7 +8,7 @@ use Rattle.file_table.specs.Analyses.{Analyses}
 use Rattle.image_tree.specs.Tree.{Nodes}
 use Rattle.cache_entries.specs.Walk.{is_same_abi, is_same_cap, path_with}
 
--- an entry of this soname, this ABI and this hwcaps name
+-- the entry has this soname, this ABI and this hwcaps name
 abbrev pub is_entry_of : List ℕ → Abi → Option (List ℕ) → Entry → Bool
 is_entry_of soname abi cap entry = bytes_eq entry.soname soname && (is_same_abi entry.abi abi && is_same_cap entry.cap cap)
 
@@ -16,7 +16,7 @@ is_entry_of soname abi cap entry = bytes_eq entry.soname soname && (is_same_abi 
 abbrev pub path_among : List Entry → List ℕ → Abi → Option (List ℕ) → Option (List ℕ)
 path_among entries soname abi cap = option_map (λ entry. entry.path) (find (is_entry_of soname abi cap) entries)
 
--- it is the first path in the places with this hwcaps name
+-- this path is the first path in the search directories with this hwcaps name
 abbrev pub LeadAsSearched : Analyses → Nodes → List Place → List Entry → Type 0
 LeadAsSearched what t places entries =
     (soname : List ℕ) (abi : Abi) (cap : Option (List ℕ)) → path_among entries soname abi cap ≡ path_with what t places soname abi cap

@@ -1,4 +1,4 @@
--- What private functions say of the links of a place, each with its class.
+-- What private functions use: the links of a search directory, each with its class.
 use Rattle.std.specs.Prelude.{ℕ, Bool, List, ◌&&◌, ◌||◌, map, nat_eq, nat_lt, if◌then◌else◌}
 use Rattle.std.specs.Map.{values_of}
 use Rattle.place_libraries.specs.Best.{is_preferred}
@@ -8,12 +8,12 @@ use Rattle.cache_entries.specs.declared.winner.Class.{Class}
 use Rattle.cache_entries.specs.declared.winner.Class.TheVariants.{Named, Other}
 use Rattle.cache_entries.specs.declared.winner.Ranked.{Ranked}
 
--- the links that are looked up by their own names are first, then the others
+-- links that are looked up by their own name come first
 abbrev pub rank_of : Class → ℕ
 rank_of Named = 0
 rank_of Other = 1
 
--- of two of one soname the first is preferred: its class is before the other's, or it is the better one of their class
+-- Of two links with one soname, the first is preferred. Its class comes first, or the classes are equal and it is the better one.
 abbrev pub is_before : Ranked → Ranked → Bool
 is_before ranked other =
     nat_lt (rank_of ranked.class) (rank_of other.class) || (nat_eq (rank_of ranked.class) (rank_of other.class) && is_preferred ranked.library other.library)
@@ -21,14 +21,14 @@ is_before ranked other =
 abbrev pub soname_of : Ranked → List ℕ
 soname_of ranked = ranked.library.soname
 
--- by its own name if it is looked up by that
+-- the link with its own name as soname, if it is looked up by its own name
 abbrev pub ranked_link : Library → Ranked
 ranked_link link =
     if has_own_name link
     then record { library = record { name = link.name; soname = link.name; abi = link.abi }; class = Named }
     else record { library = link; class = Other }
 
--- the libraries of what was found by sonames
+-- the libraries that were gathered by soname
 abbrev pub libraries_of : List (List ℕ × Ranked) → List Library
 libraries_of found = map (λ ranked. ranked.library) (values_of found)
 

@@ -1,4 +1,5 @@
--- Which file or link of a place a soname is looked up at: the winner (ldconfig(8); names of links count as ld(1) and the loader use them).
+-- The file or link of a search directory by which a soname is looked up: the winner (ldconfig(8); link names as ld(1) and the loader use
+-- them).
 use Rattle.std.specs.Prelude.{ℕ, Bool, List, ◌++◌, ◌&&◌, ◌||◌, nat_eq, nat_lt, if◌then◌else◌, length, codes, Option, Some, None}
 use Rattle.std.specs.List.{ends_with, filter_map, starts_with}
 use Rattle.hwcap_dirs.specs.declared.kinds.Place.{Place}
@@ -13,7 +14,7 @@ use Rattle.library_files.specs.Link.{FollowedLink}
 
 -- ---- links to libraries
 
--- the library to which a link leads, by the link's name
+-- the library that a link leads to, with the link's name
 abbrev pub library_behind : Analyses → List ℕ → Option (List ℕ) → Option Library
 library_behind what name (Some file) = library_at what file name (last file)
 library_behind what name None = None
@@ -21,13 +22,13 @@ library_behind what name None = None
 abbrev pub linked : Analyses → FollowedLink → Option Library
 linked what link = library_behind what link.name link.file
 
--- the links with library names in a place that lead to libraries
+-- the links of a search directory that have library names and lead to libraries
 abbrev pub links_to_libraries : Analyses → Nodes → Place → List Library
 links_to_libraries what t place = filter_map (linked what) (followed_in t place.real)
 
 -- ---- the classes
 
--- the name has the soname behind it, as that of a link for ld(1) has
+-- The name is a proper prefix of the soname and ends in .so, as the link for ld(1) does.
 abbrev pub is_dev_name : List ℕ → List ℕ → Bool
 is_dev_name name soname = ends_with nat_eq name (codes ".so") && (starts_with nat_eq soname name && nat_lt (length name) (length soname))
 
@@ -35,11 +36,11 @@ is_dev_name name soname = ends_with nat_eq name (codes ".so") && (starts_with na
 abbrev pub has_own_name : Library → Bool
 has_own_name link = is_own link || is_dev_name link.name link.soname
 
--- looked up by its own name
+-- the link as a library with its own name as soname, if it is looked up by its own name
 abbrev pub named : Library → Option Library
 named link = if has_own_name link then Some (record { name = link.name; soname = link.name; abi = link.abi }) else None
 
--- looked up by its library's soname
+-- the link, if it is looked up by its library's soname
 abbrev pub unnamed : Library → Option Library
 unnamed link = if has_own_name link then None else Some link
 
@@ -55,11 +56,11 @@ abbrev pub or_else : Option Library → Option Library → Option Library
 or_else (Some library) other = Some library
 or_else None other = other
 
--- The best file, or else the link with this name, or else the best of the other links.
+-- The best file, otherwise the link with this name, otherwise the best of the other links.
 abbrev pub winner : List Library → List Library → List ℕ → Option Library
 winner files links soname = or_else (best files soname) (or_else (best (named_links links) soname) (best (other_links links) soname))
 
--- the winners of a place, by the bytes of their sonames
+-- the winners of a search directory, sorted by the bytes of their sonames
 abbrev pub winners_among : List Library → List Library → List Library
 winners_among files links = filter_map (winner files links) (sonames (files ++ (named_links links ++ other_links links)))
 

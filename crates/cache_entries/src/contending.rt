@@ -1,4 +1,4 @@
-//! The links of a place that may win a soname.
+//! The links of a search directory that may win a soname.
 ghost use Rattle.std.specs.List.{filter_map};
 ghost use Rattle.std.specs.Prelude.{◌≡◌, true, IfOk, IsTrue};
 ghost use Rattle.file_table.specs.Table.{analysis_at};
@@ -13,8 +13,8 @@ use place_libraries::{BestIter, BestLibraries, Library};
 use std::alloc::Global;
 use std::cmp::Ordering;
 
-// Whether one of the files that are left has this soname. Those of lower sonames are passed by: links are asked for nearly in the order of
-// theirs.
+// Whether one of the files that are left has this soname. Files with smaller sonames are skipped, because callers ask for links in nearly
+// ascending order of soname.
 #[tactic(auto, using(crate::proofs::Others::all_among, crate::proofs::Others::rest_among, crate::proofs::Others::first_there))]
 fn reaches(left: &mut BestIter<'_>, soname: &[u8]) -> bool
     ensures left { AreAmong left.new left.old }
@@ -40,8 +40,8 @@ fn is_passed(left: &mut BestIter<'_>, link: &Library<'_>) -> bool
     has_own_name(link) && reaches(left, link.name)
 }
 
-/// The libraries to which the links of a place lead, but for those that lose to a file: most links have the soname of a file beside them
-/// as their name, so few are left to be sorted. One that loses may be left.
+/// The libraries that the links of a search directory lead to, except most of those that lose to a file. Most links are named after the
+/// soname of a file beside them, so few are left to sort. Some links that lose may be left.
 #[tactic(auto, using(crate::proofs::Others::all_among, crate::proofs::Others::among_both, crate::proofs::Others::all_kept))]
 pub(crate) fn contenders<'a>(
     alloc: Global,

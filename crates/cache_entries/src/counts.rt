@@ -1,4 +1,4 @@
-//! How many winners places have.
+//! The numbers of winners of search directories.
 ghost use Rattle.std.specs.Prelude.{◌≡◌, IfOk, length};
 ghost use Rattle.file_table.specs.Table.{analysis_at};
 ghost use Rattle.cache_entries.specs.Counts.{CountsEach};
@@ -11,7 +11,7 @@ use library_files::FolderLinks;
 use place_libraries::BestLibraries;
 use std::alloc::Global;
 
-// How many winners these are.
+// The number of these winners.
 fn count_of(winners: &Winners<'_>) -> Result<usize, NoMemory>
     ensures { IfOk result (λ count. count ≡ length winners.now) }
 {
@@ -22,8 +22,9 @@ fn count_of(winners: &Winners<'_>) -> Result<usize, NoMemory>
     Ok(count)
 }
 
-/// The number of winners of a place, given the best library of each soname and the links there. It is found once for each folder, whose
-/// number is kept.
+/// The number of winners of a search directory, from its links and the best library of each soname. It is computed once for each
+/// directory
+/// and then cached.
 pub(crate) fn count_in(
     alloc: Global,
     table: &Table,

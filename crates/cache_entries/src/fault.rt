@@ -1,12 +1,12 @@
-//! Why an image has no list of entries.
+//! Why the entries of an image can't be listed.
 ghost use Rattle.std.specs.Prelude.{◌≡◌};
 
 use lib_types::NoMemory;
 
-/// Why an image has no list of entries.
+/// Why the entries of an image can't be listed.
 #[derive(Clone, Copy, Debug, PartialEq, Eq)]
 pub enum EntryFault {
-    /// More entries than a cache may have.
+    /// There are more entries than a cache may have.
     TooMany { count: u64 },
     NoMemory,
 }

@@ -1,4 +1,4 @@
-//! The entries of a cache: the library that wins a soname in a place, and where it is looked up.
+//! The entries of a cache: the winner of each soname in a search directory, and its path.
 #![tactic(auto)]
 
 mod contending;

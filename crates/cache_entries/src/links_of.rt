@@ -1,4 +1,4 @@
-//! Where the names in a folder lead, by the links that were followed there.
+//! The targets of the names in a directory, from the links that were followed there.
 ghost use Rattle.std.specs.Prelude.{◌≡◌, IfOk, IfSome};
 ghost use Rattle.image_tree.specs.Paths.{join};
 ghost use Rattle.library_files.specs.Places.{links_to};
@@ -14,7 +14,7 @@ use std::cmp::Ordering;
 use std::marker::Model;
 use tree_face::Tree;
 
-// The target of the link with this name, if it is among those that are left. Those of lower names are passed by.
+// The target of the link with this name, if it is among the links that are left. Links with smaller names are skipped.
 #[tactic(auto, using(crate::proofs::LinksOf::all_left, crate::proofs::LinksOf::first_target))]
 fn target_of<'a>(left: &mut FollowedIter<'a>, name: &[u8]) -> Option<&'a [u8]>
     ensures left { AreLeftOf left.old left.new }
@@ -32,14 +32,14 @@ fn target_of<'a>(left: &mut FollowedIter<'a>, name: &[u8]) -> Option<&'a [u8]>
     None
 }
 
-/// The links of a folder, which are asked for by rising names, so that all are gone through once. Contracts see the folder.
+/// The links of a directory. Callers ask for them by ascending names, so one pass is enough. Contracts see the directory.
 #[derive(Drop)]
 pub(crate) struct LinksOf<'a> {
     tree: &'a Tree,
     folder: &'a [u8],
-    // Those that were not passed by.
+    // The links that were not skipped yet.
     left: FollowedIter<'a>,
-    // Room for a link's path.
+    // A buffer for the path of a link.
     path: Vec<u8>,
 }
 
@@ -54,7 +54,7 @@ impl<'a> Model for LinksOf<'a> {
 }
 
 impl<'a> LinksOf<'a> {
-    /// The links of a place's folder, as they were followed.
+    /// The followed links of the search directory.
     #[tactic(auto, using(crate::proofs::LinksOf::all_linked))]
     pub(crate) fn new(
         alloc: Global,
@@ -73,8 +73,9 @@ impl<'a> LinksOf<'a> {
         }
     }
 
-    /// Whether there is a link of the first name with the second as its target. The tree is searched only for one that is no followed
-    /// link: its name is no library's, or it isn't there.
+    /// Whether the directory has a link from the first name to the second. A followed link is found without searching the tree. The tree
+    /// is
+    /// searched if the name isn't a library name or the link is missing.
     #[tactic(auto, using(crate::proofs::LinksOf::still_linked))]
     pub(crate) fn has(&mut self, name: &[u8], target: &[u8]) -> Result<bool, NoMemory>
         ensures same { self.new ≡ self.old }

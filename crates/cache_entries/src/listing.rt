@@ -29,7 +29,7 @@ use tree_face::Tree;
 
 // ---- the order of entries
 
-// The name of the subdirectory that an entry's library is in, or nothing.
+// The hwcaps name of an entry, or nothing if it has none.
 fn cap_of(entry: &Entry) -> &[u8]
     ensures { result.now ≡ cap_of entry.now }
 {
@@ -53,9 +53,9 @@ fn compare_entries(a: &Entry, b: &Entry) -> Ordering
     })
 }
 
-// ---- the entries of the places
+// ---- the entries of the search directories
 
-// Whether the soname leads to the winner, given the links of the place.
+// Whether the soname leads to the winner, given the links of the search directory.
 fn is_by_soname(
     place: &Place,
     winner: &Library<'_>,
@@ -74,7 +74,7 @@ fn is_by_soname(
     links.has(winner.soname, winner.name)
 }
 
-// The entry of a winner, given the links of the place.
+// The entry of a winner, given the links of the search directory.
 fn entry_of(
     alloc: Global,
     number: u32,
@@ -100,8 +100,8 @@ fn entry_of(
     })
 }
 
-/// What is found: the entries, and how many they are. Past the limit they are counted and not kept, with the numbers of winners of the
-/// folders.
+/// The entries that are found, and their number. Past the limit, entries are only counted. `winners` caches the numbers of winners by
+/// directory.
 #[derive(Drop)]
 struct Counted {
     entries: Vec<Entry>,
@@ -109,7 +109,7 @@ struct Counted {
     winners: IndexMap<Text, usize>,
 }
 
-/// A place with its number, and what is there: the best libraries of its folder and the links.
+/// A search directory with its number, its links and its best libraries.
 #[derive(Drop)]
 struct Searched<'a> {
     number: u32,
@@ -118,7 +118,7 @@ struct Searched<'a> {
     links: &'a FolderLinks,
 }
 
-// Adds the entries of a place's winners, which are counted as they come.
+// Adds the entries of the winners of a search directory, and counts them.
 fn add_entries(
     alloc: Global,
     tree: &Tree,
@@ -150,7 +150,7 @@ fn add_entries(
     Ok(())
 }
 
-// Adds the entries of a place.
+// Adds the entries of a search directory.
 fn add_place(
     alloc: Global,
     tree: &Tree,
@@ -169,7 +169,7 @@ fn add_place(
     add_entries(alloc, tree, searched, &winners, found)
 }
 
-// Adds the entries of a place, or counts them past the limit.
+// Adds the entries of a search directory. Past the limit it only counts them.
 fn take_place(
     alloc: Global,
     tree: &Tree,
@@ -199,7 +199,7 @@ fn take_place(
     Ok(())
 }
 
-// All entries, place by place.
+// All entries, one search directory after another.
 #[tactic(auto, unfolding(crate::specs::Entries::found, place_libraries::specs::Best::bests_of, library_files::specs::Search::followed))]
 fn found(
     alloc: Global,
@@ -234,9 +234,9 @@ fn found(
     Ok(found)
 }
 
-// ---- their list
+// ---- the list of entries
 
-// Puts entries in their order, where they stand: no two are equal in it, so no order before has to stay.
+// Sorts entries in place. No two compare equal, so the sort doesn't have to be stable.
 fn sort_entries(entries: &mut Vec<Entry>)
     ensures { AreEntriesOf entries.old.items entries.new.items }
 {
@@ -247,7 +247,7 @@ fn sort_entries(entries: &mut Vec<Entry>)
     );
 }
 
-// The entries that were found in their order, unless they are too many.
+// The entries, sorted. Fails if they are too many.
 fn in_order(found: Counted) -> Result<Entries, EntryFault>
     ensures entries { IfOk result (AreEntriesOf found.entries.items) }
     ensures few { IfOk result (λ _. found.count ≤ ENTRIES_MAX) }
@@ -263,8 +263,8 @@ fn in_order(found: Counted) -> Result<Entries, EntryFault>
     Ok(Seq::from_vec(entries))
 }
 
-/// The entries of a cache, one for each place and soname with a winner, given the best libraries and the links of the places. The
-/// tree is one that has all planned links.
+/// The entries of a cache, from the best libraries and the links of the search directories: one for each search directory and soname with
+/// a winner. The tree must have all planned links.
 pub fn entries_by(
     alloc: Global,
     tree: &Tree,

@@ -1,4 +1,4 @@
-//! The links of a place: the libraries to which they lead, and which of them win.
+//! The links of a search directory: the libraries that they lead to, and the links that win.
 ghost use Rattle.std.specs.Prelude.{◌≡◌, [], map, unwrap_or, IfOk};
 ghost use Rattle.place_libraries.specs.Libraries.{library_at};
 ghost use Rattle.place_libraries.specs.Pick.{better_by};
@@ -18,7 +18,7 @@ use std::alloc::Global;
 
 // ---- links to libraries
 
-// The soname of a file's analysis, or the file's own name if it has none, which is searched for only then.
+// The soname in a file's analysis. If it has none, the file's own name, which is extracted only in this case.
 fn soname_behind<'a>(soname: &'a Option<Text>, file: &'a [u8]) -> &'a [u8]
     ensures { result.now ≡ unwrap_or soname.now (last file.now) }
 {
@@ -28,7 +28,7 @@ fn soname_behind<'a>(soname: &'a Option<Text>, file: &'a [u8]) -> &'a [u8]
     }
 }
 
-// What a name is the name of, given the path of the file to which it leads.
+// The library that a name leads to, given the path of its file.
 fn library_behind<'a>(table: &'a Table, name: &'a [u8], file: &'a [u8]) -> Option<Library<'a>>
     ensures { result ≡ library_at (analysis_at table.now) file.now name.now (last file.now) }
 {
@@ -42,7 +42,7 @@ fn library_behind<'a>(table: &'a Table, name: &'a [u8], file: &'a [u8]) -> Optio
     }
 }
 
-/// The library to which a link leads.
+/// The library that a link leads to.
 pub(crate) fn linked<'a>(table: &'a Table, link: &FollowedLink<'a>) -> Option<Library<'a>>
     ensures { result ≡ linked (analysis_at table.now) link.now }
 {
@@ -64,7 +64,7 @@ pub(crate) fn has_own_name(link: &Library<'_>) -> bool
     is_own(link) || is_dev_name(link.name, link.soname)
 }
 
-// The links that are looked up by their own names are first, then the others.
+// Links that are looked up by their own names come first.
 #[derive(Clone, Copy)]
 enum Class {
     Named,
@@ -82,7 +82,7 @@ impl Class {
     }
 }
 
-// The library of a link by the soname at which it is looked up, and its class.
+// The library of a link, with the soname by which it is looked up, and its class.
 #[derive(Drop)]
 struct Ranked<'a> {
     library: Library<'a>,
@@ -109,7 +109,7 @@ fn ranked_link(link: Library<'_>) -> Ranked<'_>
 
 // ---- the winners
 
-// Whether the first of two of one soname is preferred.
+// Whether the first of two libraries with one soname is preferred.
 fn is_before(ranked: &Ranked<'_>, other: &Ranked<'_>) -> bool
     ensures { result ≡ is_before ranked.now other.now }
 {
@@ -117,7 +117,7 @@ fn is_before(ranked: &Ranked<'_>, other: &Ranked<'_>) -> bool
     rank < others || (rank == others && is_preferred(&ranked.library, &other.library))
 }
 
-// Of two of one soname the first wins, unless the second is preferred.
+// Of two libraries with one soname, the first wins unless the second is preferred.
 impl<'a> Gather<Ranked<'a>> for Ranked<'a> {
     ghost step = { better_by is_before };
 
@@ -134,7 +134,7 @@ impl<'a> Gather<Ranked<'a>> for Ranked<'a> {
     }
 }
 
-// Links by the sonames at which they are looked up.
+// Links by the soname by which they are looked up.
 type Candidates<'a> = Vec<BySoname<'a, Ranked<'a>>>;
 
 fn by_soname<'a>(ranked: Ranked<'a>) -> BySoname<'a, Ranked<'a>>
@@ -143,7 +143,7 @@ fn by_soname<'a>(ranked: Ranked<'a>) -> BySoname<'a, Ranked<'a>>
     BySoname::new(ranked.library.soname(), ranked)
 }
 
-// Each by the soname at which it is looked up.
+// Each link by the soname by which it is looked up.
 fn candidates<'a>(alloc: Global, links: Vec<Library<'a>>) -> Result<Candidates<'a>, NoMemory>
     ensures { IfOk result (λ candidates. candidates.items ≡ by_sonames (map ranked_link links.entry.items)) }
 {
@@ -164,7 +164,7 @@ fn listed(alloc: Global, winners: Candidates<'_>) -> Result<BestLibraries, NoMem
     Ok(libraries)
 }
 
-/// The winners among links, as if there were no files, by the bytes of their sonames.
+/// The winners among the links, sorted by the bytes of their sonames. Files are ignored.
 #[tactic(auto, using(crate::proofs::Ranks::link_winners))]
 pub(crate) fn link_winners(
     alloc: Global,

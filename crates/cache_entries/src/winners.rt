@@ -1,4 +1,4 @@
-//! The winners of a place.
+//! The winners of a search directory.
 ghost use Rattle.std.specs.List.{slice_get};
 ghost use Rattle.std.specs.Prelude.{◌≡◌, IfOk};
 ghost use Rattle.hwcap_dirs.specs.declared.kinds.Place.{Place};
@@ -19,8 +19,8 @@ use std::alloc::Global;
 use std::cmp::Ordering;
 use std::marker::Model;
 
-/// The winners of a place, by the bytes of their sonames: its best files, which stay where they are since they are many, and the winners
-/// among its links. Contracts see it as the list of the winners.
+/// The winners of a search directory, sorted by the bytes of their sonames. They are its best files and the winners among its links. The
+/// best files are borrowed, because there are many. Contracts see the list of the winners.
 #[derive(Drop)]
 pub(crate) struct Winners<'a> {
     files: &'a BestLibraries,
@@ -38,12 +38,12 @@ impl<'a> Model for Winners<'a> {
 }
 
 impl<'a> Winners<'a> {
-    /// How many they are at most, for which room is taken.
+    /// An upper bound on the number of winners, for reserving memory.
     pub(crate) fn most(&self) -> usize {
         self.files.len().saturating_add(self.links.len())
     }
 
-    /// The winners, one after another.
+    /// The winners, in order.
     pub(crate) fn iter(&self) -> InTurn<'_>
         ensures { result ≡ self.now }
     {
@@ -54,8 +54,8 @@ impl<'a> Winners<'a> {
     }
 }
 
-/// The files and links of a place in turn, by the bytes of their sonames; a link is passed over if a file has its soname. Contracts see it
-/// as the list of the winners that are left.
+/// Merges the files and links of a search directory, sorted by the bytes of their sonames. A link is skipped if a file has its soname.
+/// Contracts see the list of the winners that are left.
 #[derive(Drop)]
 pub(crate) struct InTurn<'a> {
     files: BestIter<'a>,
@@ -72,7 +72,7 @@ impl<'a> Model for InTurn<'a> {
     ghost view = { λ w. merged w.files w.links };
 }
 
-// Whose turn it is: Less for the first link, Greater for the first file, and Equal where both have one soname.
+// What is next: Less for the first link, Greater for the first file, Equal if both have one soname.
 fn turn(files: &BestIter<'_>, links: &BestIter<'_>) -> Ordering
     ensures { result ≡ turn (slice_get files.now 0) (slice_get links.now 0) }
 {
@@ -107,7 +107,7 @@ impl<'a> Iterator for InTurn<'a> {
     }
 }
 
-/// The winners of a place, given the best library of each soname and the links there.
+/// The winners of a search directory, from its links and the best library of each soname.
 #[tactic(auto, using(crate::proofs::Merged::merged_winners))]
 pub(crate) fn winners_in<'a>(
     alloc: Global,

@@ -1,11 +1,11 @@
--- How many steps halves take.
+-- The number of steps of a binary search.
 use Rattle.std.proofs.Common.{◌≡◌, ◌<◌, ◌≤◌, ℕ, zero, suc, ◌+◌, ◌-◌, ◌/◌, ◌^◌, refl, subst, arith}
 use Rattle.std.proofs.Math.Nat.{pow-suc}
 use Rattle.tree_face.proofs.StoreUse.{raised-add, raised-mono}
 use Rattle.lib_types.specs.Counts.{raised}
 use Rattle.cache_lookup.specs.Searches.{Halves}
 
--- a step more, behind which at most half is left
+-- One more step, after which at most half of the entries are left.
 pub halved : (k old count new width narrower : ℕ) → Halves k old count width → 0 < width → narrower ≤ width / 2 → new ≡ raised count 1 → Halves k old new narrower
 halved k old count new width narrower h some half step = by h.left refl
   where

@@ -1,4 +1,4 @@
--- The entries of a file by their indexes.
+-- The entries of a file, by index.
 use Rattle.std.proofs.Common.{◌≡◌, ◌<◌, ℕ, List, length, get_or, Some, None, true, false, Bool, cond, refl, sym, ap, ◌∙◌, subst, arith}
 use Rattle.std.proofs.lemmas.Option.{slice_get-get_or}
 use Rattle.std.specs.List.{slice_get}
@@ -7,7 +7,7 @@ use Rattle.std.proofs.lemmas.List.FromFn.{length-map-range_with_len, get_or-map-
 use Rattle.cache_reader.specs.Cache.{CachedEntry, read, nlibs, entry_at}
 use Rattle.cache_lookup.specs.Searches.{IsEntryOf, IsNameAt, IsTied}
 
--- the entry with an index, among all
+-- the entry with this index in the list of entries
 pub entry_is : (bytes : List ℕ) (i : ℕ) (entry : CachedEntry) → i < length (read bytes) → entry ≡ entry_at bytes i → IsEntryOf (read bytes) i entry
 entry_is bytes i entry h e d =
     let size = length-map-range_with_len (entry_at bytes) 0 (nlibs bytes) in
@@ -28,13 +28,13 @@ tied_at bytes i = named _ _
 pub tied : (bytes : List ℕ) (i : ℕ) (entry : CachedEntry) → entry ≡ entry_at bytes i → IsTied entry
 tied bytes i entry e = rw e (tied_at bytes i)
 
--- what holds of the entry at an index
+-- a fact about the entry at an index
 pub at_entry : (P : CachedEntry → Type 0) (entries : List CachedEntry) (i : ℕ) (entry : CachedEntry) → i < length entries → IsEntryOf entries i entry → P entry → IfSome (slice_get entries i) P
 at_entry P entries i entry h is p = rw (slice_get-get_or entries i entry h, is entry) p
 
 from_entry : (P : CachedEntry → Type 0) (entries : List CachedEntry) (i : ℕ) → i < length entries → IfSome (slice_get entries i) P → (d : CachedEntry) → P (get_or entries i d)
 from_entry P entries i h p d = subst (λ o. IfSome o P) (slice_get-get_or entries i d h) p
 
--- the same of entries that stayed
+-- the same if the entries didn't change
 pub probed : (P : CachedEntry → Type 0) (these those : List CachedEntry) (i : ℕ) → these ≡ those → i < length those → IfSome (slice_get these i) P → (d : CachedEntry) → P (get_or those i d)
 probed P these those i e h p = from_entry P those i h (subst (λ es. IfSome (slice_get es i) P) e p)

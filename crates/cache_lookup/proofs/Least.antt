@@ -1,4 +1,4 @@
--- The first candidate of least rank is the entry that the loader takes.
+-- The first candidate with the lowest rank is the entry that the loader takes.
 use Rattle.std.proofs.Common.{◌≡◌, ◌<◌, ◌≤◌, ℕ, zero, suc, ◌+◌, Bool, true, false, cond, nat_lt, ◌&&◌, pos, List, [], ◌∷◌, length, get_or, Option, Some, None, option_map, refl, sym, ap, ◌∙◌, subst, arith}
 use Rattle.std.proofs.Math.Decide.{dec_lt}
 use Rattle.std.proofs.lemmas.Bool.Decides.{nat_tests}
@@ -23,7 +23,7 @@ candidate_equal name entry e =
     let same : entry.name ≡ name = (bytes_decides entry.name name).0 e in
     rw (same, tied_itself token_order-total name) refl
 
--- an entry whose name isn't equal to it in the loader's order is no candidate
+-- If an entry's name isn't equal to the looked-up name in the loader's order, the entry isn't a candidate.
 pub no_rank : (name : List ℕ) (abi : Abi) (caps : List (List ℕ)) (entry : CachedEntry) → is_eq (order_to name entry) ≡ false → rank_of name abi caps entry ≡ None
 no_rank name abi caps entry e = by (bytes_eq entry.name name) refl
   where
@@ -31,16 +31,16 @@ no_rank name abi caps entry e = by (bytes_eq entry.name name) refl
     by true h = absurd (let is : is_eq (order_to name entry) ≡ true = candidate_equal name entry h in cc)
     by false h = rw h refl
 
--- ---- an entry more
+-- ---- one more entry
 
--- what holds of all before n and of n holds of all before n + 1
+-- A fact about all indexes before n and about n is a fact about all indexes before n + 1.
 and_last : (P : ℕ → Type 0) (n : ℕ) → ((k : ℕ) → k < n → P k) → P n → (k : ℕ) → k < n + 1 → P k
 and_last P n before last k h = elim (dec_lt k n) as (λ _. P k) [
   | yes less ↦ before k less
   | no ge ↦ let e : n ≡ k = omega arith in subst P e last
 ]
 
--- a rank that isn't below a bound isn't below a lesser one
+-- If a rank isn't below a bound, it isn't below a smaller bound.
 lesser : (a b : ℕ) (o : Option ℕ) → a ≤ b → is_below b o ≡ false → is_below a o ≡ false
 lesser a b None h e = refl
 lesser a b (Some r) h e = grind (arith, nat_tests)
@@ -80,12 +80,12 @@ module _ (rank : CachedEntry → Option ℕ) (entries : List CachedEntry) (n : �
         all = λ k d h. and_last (λ k. is_below c.rank (rank (get_or entries k d)) ≡ false) n (λ k before. least.all k d before) (rw (is d) e) k h;
       }
 
-  -- the best of the entries before n and of the one at n
+  -- the best of the entries before n and of the entry at n
   pub least_more : (best : Option Choice) (o : Option ℕ) → IsLeast rank entries n best → ((d : CachedEntry) → rank (get_or entries n d) ≡ o) → IsLeast rank entries (n + 1) (better best n o)
   least_more best None least is = last_none best least is
   least_more best (Some r) least is = last_some best r least is
 
--- entries without a rank behind n change nothing
+-- If no entry from n on has a rank, these entries don't change the best one.
 pub least_rest : (rank : CachedEntry → Option ℕ) (entries : List CachedEntry) (n more : ℕ) (best : Option Choice) → IsLeast rank entries n best
     → ((k : ℕ) (d : CachedEntry) → n ≤ k → k < n + more → rank (get_or entries k d) ≡ None) → IsLeast rank entries (n + more) best
 least_rest rank entries n zero best least none = let e : n ≡ n + zero = omega arith in subst (λ m. IsLeast rank entries m best) e least
@@ -157,7 +157,7 @@ module _ (entries : List CachedEntry) (candidate : CachedEntry → Bool) where
       } in
       rw (none_is (λ e. candidate e && test e) entries (λ k d h. (all k d h).0)) (least_first tests i m rest)
 
--- the best of all entries is the one that the loader takes
+-- the best of all entries is the entry that the loader takes
 pub least_chosen : (entries : List CachedEntry) (name : List ℕ) (abi : Abi) (caps : List (List ℕ)) (best : Option Choice)
     → IsLeast (rank_of name abi caps) entries (length entries) best → option_map (λ c. c.index) best ≡ chosen entries name abi caps
 unfolding chosen

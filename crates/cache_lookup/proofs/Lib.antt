@@ -1,3 +1,4 @@
+mod FirstRise
 mod Halving
 mod Indexed
 mod Least

@@ -30,19 +30,19 @@ position-cons {X} p x xs = by (p x) refl
     by true e = let first : nat_lt 0 (suc (length xs)) ≡ true = grind (arith, nat_tests) in rw (e, first) refl
     by false e = rw e (behind (position_or_len p xs))
 
--- the index of the first item that passes
+-- the index of the first item that passes the test
 pub first_is : {X : Type 0} (p : X → Bool) (xs : List X) (i : ℕ) → i < length xs → ((d : X) → p (get_or xs i d) ≡ true) → ((k : ℕ) (d : X) → k < i → p (get_or xs k d) ≡ false) → position p xs ≡ Some i
 first_is p [] i h passes fails = absurd (omega arith)
 first_is p (x ∷ xs) zero h passes fails = position-cons p x xs ∙ rw (passes x) refl
 first_is p (x ∷ xs) (suc i) h passes fails =
     position-cons p x xs ∙ rw (fails 0 x (omega arith), first_is p xs i (omega arith) passes (λ k d less. fails (suc k) d (omega arith))) refl
 
--- no item passes
+-- no item passes the test
 pub none_is : {X : Type 0} (p : X → Bool) (xs : List X) → ((k : ℕ) (d : X) → k < length xs → p (get_or xs k d) ≡ false) → position p xs ≡ None
 none_is p [] fails = refl
 none_is p (x ∷ xs) fails = position-cons p x xs ∙ rw (fails 0 x (omega arith), none_is p xs (λ k d less. fails (suc k) d (omega arith))) refl
 
--- which of the uses an entry is for, by the hwcaps names that it is for
+-- the use that an entry is for, from the hwcaps names that it is for
 pub use_is : (entry : CachedEntry) (p : List ℕ → Bool) → ((c : List ℕ) → is_for c entry ≡ p c) → (caps : List (List ℕ))
     → position (λ fits. fits entry) (uses caps) ≡ option_or (position p caps) (cond (has_no_hwcap entry) (Some (length caps)) None)
 use_is entry p same [] = position-cons (λ fits. fits entry) has_no_hwcap []
@@ -56,7 +56,7 @@ use_is entry p same (c ∷ caps) =
     by false None true = refl
     by false None false = refl
 
--- an entry with a hwcaps name is for it alone
+-- an entry with a hwcaps name is only for this name
 pub named_use : (entry : CachedEntry) (text : List ℕ) → IsTied entry → entry.cap ≡ Some text → (caps : List (List ℕ))
     → position (λ c. bytes_eq c text) caps ≡ position (λ fits. fits entry) (uses caps)
 named_use entry text tied is caps =
@@ -73,7 +73,7 @@ named_use entry text tied is caps =
     not_plain zero e = cc
     not_plain (suc n) e = grind (arith, nat_tests)
 
--- one without is for none of them
+-- an entry without a hwcaps name is for none of these names
 pub other_use : (entry : CachedEntry) → IsTied entry → entry.cap ≡ None → (caps : List (List ℕ))
     → cond (has_no_hwcap entry) (Some (length caps)) None ≡ position (λ fits. fits entry) (uses caps)
 other_use entry tied is caps =

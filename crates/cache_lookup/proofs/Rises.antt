@@ -1,4 +1,4 @@
--- Entries whose names don't rise, up to an index.
+-- Entries whose names don't rise before an index.
 use Rattle.std.proofs.Common.{◌≡◌, ◌<◌, ◌≤◌, ℕ, ◌+◌, ◌-◌, true, false, List, length, get_or, sym, subst, arith}
 use Rattle.std.proofs.Math.Decide.{dec_lt}
 use Rattle.std.proofs.lemmas.List.{get_or-take, length-take}
@@ -13,7 +13,7 @@ module _ (entries : List CachedEntry) (i : ℕ) (before name : List ℕ) (behind
   same_before : (k : ℕ) (d : CachedEntry) → k + 1 ≡ i → (get_or entries k d).name ≡ before
   same_before k d e = let same : i - 1 ≡ k = omega (arith, e) in subst (λ n. (get_or entries n d).name ≡ before) same (above d)
 
-  -- one entry more
+  -- one more entry
   pub one_more : is_lt (token_order before name) ≡ false → AreDescendingTo entries (i + 1)
   one_more falls k d from to = elim (dec_lt (k + 1) i) as (λ _. is_lt (token_order (get_or entries k d).name (get_or entries (k + 1) d).name) ≡ false) [
     | yes less ↦ so_far k d from less
@@ -23,7 +23,7 @@ module _ (entries : List CachedEntry) (i : ℕ) (before name : List ℕ) (behind
         rw (same_before k d e, last) falls
   ]
 
-  -- the first that rises
+  -- the first entry whose name rises
   pub first : is_lt (token_order before name) ≡ true → IsFirstRise entries i
   first rises = record {
     behind = omega arith;

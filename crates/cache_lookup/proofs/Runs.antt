@@ -18,7 +18,7 @@ use Rattle.tree_face.proofs.StoreUse.{raised-add, raised-mono}
 use Rattle.cache_lookup.proofs.Least.{blank, least_rest, no_rank}
 use Rattle.cache_lookup.proofs.Standing.{unequal}
 
--- ---- how many there are
+-- ---- the number of these entries
 
 counted_front : {X : Type 0} (p : X → Bool) (xs : List X) (d : X) (start more : ℕ) → start + more ≤ length xs
     → ((k : ℕ) → start ≤ k → k < start + more → p (get_or xs k d) ≡ true) → more ≤ count_by p (take (start + more) xs)
@@ -35,7 +35,7 @@ front_counted p xs n =
     let all = ap (count_by p) (take-append-drop n xs) in
     omega (arith, parts, all)
 
--- the indexes from one up to another, if all between pass
+-- the number of entries from `start` to `end`, if all of them pass the test
 pub counted_run : {X : Type 0} (p : X → Bool) (xs : List X) (d : X) (start end : ℕ) → start ≤ end → end ≤ length xs
     → ((k : ℕ) (d : X) → start ≤ k → k < end → p (get_or xs k d) ≡ true) → end - start ≤ count_by p xs
 counted_run p xs d start end order within pass =
@@ -44,7 +44,7 @@ counted_run p xs d start end order within pass =
     let all = front_counted p xs (start + (end - start)) in
     omega (arith, front, all)
 
--- ---- what has a rank
+-- ---- entries with a rank
 
 module _ (name : List ℕ) (abi : Abi) (caps : List (List ℕ)) (entries : List CachedEntry) where
   above_unequal : (r : Ordering) → is_gt r ≡ true → is_eq r ≡ false
@@ -52,11 +52,11 @@ module _ (name : List ℕ) (abi : Abi) (caps : List (List ℕ)) (entries : List 
   above_unequal Equal e = cc
   above_unequal Greater e = refl
 
-  -- before the first that isn't above there is no candidate
+  -- Before the first entry that isn't above the name, none of the entries is a candidate.
   pub none_before : (start : ℕ) → AreAbove name entries start → IsLeast (rank_of name abi caps) entries start None
   none_before start above = λ k d h. no_rank name abi caps (get_or entries k d) (above_unequal _ (above k d h))
 
-  -- behind the first that is neither above nor equal there is none
+  -- Starting with the first entry that is below the name, none of the entries is a candidate.
   pub none_behind : AreDescending entries → (i : ℕ) (best : Option Choice) → i < length entries → IsLeast (rank_of name abi caps) entries i best
       → ((d : CachedEntry) → is_lt (order_to name (get_or entries i d)) ≡ true) → IsLeast (rank_of name abi caps) entries (length entries) best
   none_behind sorted i best within least below =
@@ -64,7 +64,7 @@ module _ (name : List ℕ) (abi : Abi) (caps : List (List ℕ)) (entries : List 
       subst (λ n. IsLeast (rank_of name abi caps) entries n best) e
       (least_rest (rank_of name abi caps) entries i (length entries - i) best least (λ k d from to. no_rank name abi caps (get_or entries k d) (unequal entries sorted name i k d from (omega arith) (below d))))
 
--- ---- how far a run was seen
+-- ---- the part of a run that was probed
 
 pub one_equal : (name : List ℕ) (entries : List CachedEntry) (start i : ℕ) → AreEqual name entries start i
     → ((d : CachedEntry) → is_eq (order_to name (get_or entries i d)) ≡ true) → AreEqual name entries start (i + 1)
@@ -77,7 +77,7 @@ pub more_steps : (old count new start i : ℕ) → start ≤ i → count ≤ rai
 more_steps old count new start i order steps step =
     raised-mono old new (i - start + 1) (i + 1 - start) (omega arith) (raised-add old count new (i - start) 1 steps (omega (arith, step)))
 
--- a run that was seen, and one entry behind it at most
+-- the steps for a probed run and at most one entry after it
 pub run_steps : (name : List ℕ) (entries : List CachedEntry) (start i old count new : ℕ) → start ≤ i → i ≤ length entries → AreEqual name entries start i
     → count ≤ raised old (i - start) → new ≤ raised count 1 → new ≤ raised old (1 + count_equal name entries)
 run_steps name entries start i old count new order within equal steps step =

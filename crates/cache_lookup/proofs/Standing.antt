@@ -1,4 +1,4 @@
--- How the names of entries in order stand to a name.
+-- How the names of sorted entries compare to a name.
 use Rattle.std.proofs.Common.{◌≡◌, ◌<◌, ◌≤◌, ℕ, ◌==◌, Bool, true, false, not, List, length, get_or, refl, sym, ap, ◌∙◌, arith}
 use Rattle.std.specs.declared.cmp.Ordering.{Ordering}
 use Rattle.std.specs.declared.cmp.Ordering.TheVariants.{Less, Equal, Greater}
@@ -11,12 +11,12 @@ use Rattle.cache_reader.specs.Cache.{CachedEntry}
 use Rattle.cache_lookup.specs.Scan.{AreDescending, name_of}
 use Rattle.cache_lookup.specs.Probing.{order_to}
 
--- names don't rise
+-- the names don't rise
 falls : (entries : List CachedEntry) → AreDescending entries → (name : List ℕ) (i j : ℕ) (d : CachedEntry) → i ≤ j → j < length entries
     → ordering_index (token_order name (get_or entries i d).name) ≤ ordering_index (token_order name (get_or entries j d).name)
 falls entries sorted name = searchable_from_sorted (back_total token_order-total) name_of entries name sorted
 
--- the order of an entry's name against a name is that of the name against it, turned round
+-- The order of an entry's name against a name is the reverse of the order of the name against the entry's name.
 turned : (name : List ℕ) (entry : CachedEntry) → order_to name entry ≡ ordering_reverse (token_order name entry.name)
 turned name entry = token_order-total.antisymm entry.name name
 
@@ -44,19 +44,19 @@ lower Less b h e = cc
 lower Equal b h e = cc
 
 module _ (entries : List CachedEntry) (sorted : AreDescending entries) (name : List ℕ) (i j : ℕ) (d : CachedEntry) (order : i ≤ j) (within : j < length entries) where
-  -- before a name that is above, all are
+  -- If a name is above, all names before it are above.
   pub above : is_gt (order_to name (get_or entries j d)) ≡ true → is_gt (order_to name (get_or entries i d)) ≡ true
   above e = rw (turned name (get_or entries i d)) (up _ _ (falls entries sorted name i j d order within) (sym (ap is_gt (turned name (get_or entries j d))) ∙ e))
 
-  -- behind a name that isn't above, none is
+  -- If a name isn't above, none of the names after it is above.
   pub not_above : is_gt (order_to name (get_or entries i d)) ≡ false → is_gt (order_to name (get_or entries j d)) ≡ false
   not_above e = rw (turned name (get_or entries j d)) (down _ _ (falls entries sorted name i j d order within) (sym (ap is_gt (turned name (get_or entries i d))) ∙ e))
 
-  -- behind a name that is below, none is equal
+  -- If a name is below, none of the names after it is equal.
   pub unequal : is_lt (order_to name (get_or entries i d)) ≡ true → is_eq (order_to name (get_or entries j d)) ≡ false
   unequal e = rw (turned name (get_or entries j d)) (lower _ _ (falls entries sorted name i j d order within) (sym (ap is_lt (turned name (get_or entries i d))) ∙ e))
 
--- what a comparison with an order says of it
+-- the result of comparing with one of the orders
 pub is_greater : (b : Bool) (r : Ordering) → b ≡ (ordering_index r == 2) → is_gt r ≡ b
 is_greater b Less e = sym e
 is_greater b Equal e = sym e
@@ -72,7 +72,7 @@ is_equal b Less e = rw e refl
 is_equal b Equal e = rw e refl
 is_equal b Greater e = rw e refl
 
--- neither equal nor above
+-- If an order is not Equal and not Greater, it is Less.
 pub is_below : (r : Ordering) → is_eq r ≡ false → is_gt r ≡ false → is_lt r ≡ true
 is_below Less e h = refl
 is_below Equal e h = cc

@@ -1,3 +1,4 @@
 pub mod Probing
 pub mod Scan
 pub mod Searches
+pub mod Sorted

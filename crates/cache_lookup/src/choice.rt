@@ -1,4 +1,4 @@
-//! The best candidate that a search has seen.
+//! The best candidate that a search has seen so far.
 ghost use Rattle.std.specs.Prelude.{◌≡◌, option_map};
 ghost use Rattle.cache_lookup.specs.Searches.{better};
 
@@ -9,7 +9,7 @@ pub(crate) struct Choice {
     pub rank: usize,
 }
 
-/// The better of a choice and an entry behind it, of which the lesser rank is better, and of equal ones the first.
+/// The better of a choice and a later entry. The lower rank is better. If the ranks are equal, the first entry is better.
 pub(crate) fn better(best: Option<Choice>, index: usize, rank: Option<usize>) -> Option<Choice>
     ensures { result ≡ better best index rank }
 {

@@ -1,4 +1,4 @@
-//! The entries of a cache, read where they stand and counted.
+//! The entries of a cache, read in place, with a count of the probes.
 ghost use Rattle.std.specs.Prelude.{◌≡◌, ◌<◌, IfSome, length, slice_get};
 ghost use Rattle.std.specs.List.{position};
 ghost use Rattle.std.specs.Str.{bytes_eq};
@@ -14,7 +14,7 @@ use lib_types::{Abi, Steps, Texts};
 use name_order::compare_tokens;
 use std::marker::Model;
 
-/// The entries of a sorted cache, each looked at by a counted step.
+/// The entries of a sorted cache. Each probe of an entry counts as a step.
 #[derive(Drop)]
 pub struct Counted<'s, 'a> {
     view: &'s CacheView<'a>,
@@ -31,7 +31,7 @@ impl<'s, 'a> Model for Counted<'s, 'a> {
 }
 
 impl<'s, 'a> Counted<'s, 'a> {
-    /// The entries, with no step counted.
+    /// The entries, with 0 steps.
     pub fn new(sorted: &'s Sorted<'a>) -> Counted<'s, 'a>
         ensures entries { result.entries ≡ sorted.now }
         ensures sorted { AreDescending result.entries }
@@ -67,7 +67,7 @@ fn is_candidate(entry: &EntryView<'_>, name: &[u8], abi: Abi) -> bool
     entry.flags == abi.flags() && entry.name == name
 }
 
-// The index of a hwcaps name in the caller's list.
+// The index of a hwcaps name in the caller's list. None if it isn't there.
 fn cap_index(caps: &Texts, cap: &[u8]) -> Option<usize>
     ensures { result ≡ position (λ text. bytes_eq text cap.now) caps.now }
 {
@@ -76,7 +76,7 @@ fn cap_index(caps: &Texts, cap: &[u8]) -> Option<usize>
         .position(|text| text.as_bytes() == cap)
 }
 
-// Which of the uses the entry is for.
+// The index of the use that the entry is for.
 fn use_of(entry: &EntryView<'_>, caps: &Texts) -> Option<usize>
     requires { IsTied (entry_of entry.now) }
     ensures { result ≡ position (λ fits. fits (entry_of entry.now)) (uses caps.now) }

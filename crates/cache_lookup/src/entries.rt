@@ -1,11 +1,11 @@
-//! Caches whose entries stand in the order in which the loader searches them.
+//! Caches whose entries are sorted in the order in which the loader searches them.
 ghost use Rattle.std.specs.Prelude.{◌≡◌, option_map};
 ghost use Rattle.cache_lookup.specs.Scan.{path_at};
 
 use cache_reader::CacheView;
 use std::marker::Model;
 
-/// A cache whose names never rise in the loader's order. Contracts see its entries.
+/// A cache whose names are descending in the loader's order. Contracts see its entries.
 #[derive(Drop)]
 pub struct Sorted<'a> {
     pub(crate) view: CacheView<'a>,
@@ -24,7 +24,7 @@ impl<'a> Model for Sorted<'a> {
 }
 
 impl<'a> Sorted<'a> {
-    /// The path of the entry with this index; None past the last.
+    /// The path of the entry with this index. None after the last entry.
     pub fn path(&self, i: usize) -> Option<&'a [u8]>
         ensures { option_map (λ t. t.now) result ≡ path_at self.now i }
     {

@@ -1,4 +1,4 @@
-//! Looks up a name in a cache as the loader does, without taking memory.
+//! Looks up a name in a cache as the loader does, without allocating memory.
 #![tactic(auto)]
 
 mod check;
@@ -8,7 +8,7 @@ mod entries;
 mod probes;
 mod search;
 
-pub use check::{Unsorted, sorted};
+pub use check::{Unsorted, sorted, sorted_cache};
 pub use counted::Counted;
 pub use entries::Sorted;
 pub use probes::{Probe, Probes};

@@ -1,4 +1,4 @@
-//! What a search learns of the entries of a cache.
+//! What a search sees of the entries of a cache.
 ghost use Rattle.std.specs.Prelude.{◌≡◌, ◌<◌, length, slice_get, IfSome};
 ghost use Rattle.lib_types.specs.Counts.{raised};
 ghost use Rattle.cache_lookup.specs.Probing.{Probed, order_to, rank_of};
@@ -6,16 +6,18 @@ ghost use Rattle.cache_lookup.specs.Probing.{Probed, order_to, rank_of};
 use lib_types::{Abi, Texts};
 use std::cmp::Ordering;
 
-/// What a probe tells of an entry.
+/// The result of probing an entry.
 #[derive(Clone, Copy)]
 pub struct Probe {
-    /// The loader's order of the entry's name against the name that is looked up.
+    /// How the entry's name compares to the looked-up name, in the loader's order.
     pub order: Ordering,
-    /// Of a candidate: the index of its hwcaps name among the caller's, or the number of these if it is for any processor.
+    /// The rank of a candidate, None if the entry isn't one. It is the index of the entry's hwcaps name in the caller's list. If the
+    /// entry is
+    /// for any processor, it is the length of the list.
     pub rank: Option<usize>,
 }
 
-/// The entries of a cache, of which a search sees one at a time. Each probe is a step, and all of them are counted.
+/// The entries of a cache. A search probes them one at a time, and each probe counts as a step.
 pub trait Probes {
     ghost state: { Self → Probed };
 
@@ -23,7 +25,7 @@ pub trait Probes {
     fn len(&self) -> usize
         ensures { result ≡ length (state self.now).entries };
 
-    /// Looks at the entry with this index.
+    /// Probes the entry with this index.
     fn probe(&mut self, i: usize, name: &[u8], abi: Abi, caps: &Texts) -> Probe
         requires { i < length (state self.old).entries }
         ensures entries { (state self.new).entries ≡ (state self.old).entries }

@@ -1,4 +1,4 @@
-//! The search by halves.
+//! The binary search.
 ghost use Rattle.std.specs.Prelude.{◌≡◌, ◌<◌, ◌≤◌, ◌+◌, ◌-◌, ◌^◌, ℕ, length};
 ghost use Rattle.lib_types.specs.Counts.{raised};
 ghost use Rattle.cache_lookup.specs.Scan.{AreDescending, chosen};
@@ -10,7 +10,7 @@ use crate::probes::Probes;
 use lib_types::{Abi, Texts};
 use std::cmp::Ordering;
 
-// The index of the first entry whose name isn't above this one.
+// The index of the first entry whose name isn't above this name.
 fn first_not_above<P: Probes>(probes: &mut P, name: &[u8], abi: Abi, caps: &Texts) -> usize
     requires { AreDescending (P.state probes.old).entries }
     ensures entries { (P.state probes.new).entries ≡ (P.state probes.old).entries }
@@ -32,7 +32,7 @@ fn first_not_above<P: Probes>(probes: &mut P, name: &[u8], abi: Abi, caps: &Text
     low
 }
 
-// The candidate among the entries that are equal to the name in the loader's order, of which the first has this index.
+// The best candidate among the entries that are equal to the name in the loader's order. The first of these entries is at `start`.
 fn best_from<P: Probes>(
     probes: &mut P,
     start: usize,
@@ -59,7 +59,7 @@ fn best_from<P: Probes>(
     index_of(best)
 }
 
-/// The index of the entry that the loader takes for this name, ABI and list of hwcaps names, found by halves.
+/// The index of the entry that the loader takes for this name, ABI and list of hwcaps names, by binary search.
 pub fn lookup<P: Probes>(probes: &mut P, name: &[u8], abi: Abi, caps: &Texts) -> Option<usize>
     requires { AreDescending (P.state probes.old).entries }
     ensures entries { (P.state probes.new).entries ≡ (P.state probes.old).entries }

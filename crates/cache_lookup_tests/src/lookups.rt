@@ -1,4 +1,4 @@
-//! Which path a cache gives for a name, an ABI and hwcaps names, in how many steps.
+//! The path that a cache gives for a name, an ABI and hwcaps names, and the number of steps.
 use cache_lookup::{Counted, Sorted, lookup, sorted};
 use cache_reader::CacheView;
 use cache_rows::{ENTRIES, cache_of};
@@ -6,9 +6,9 @@ use lib_types::{Abi, NoMemory, Texts};
 use std::alloc::Global;
 use table_rows::{Row, Said, Trial, Words, count, divide, list, number, value};
 
-/// A row has the entries of a cache in their order. A line `find` has an ABI, hwcaps names between colons (`-` for none), a name, and the
-/// path (`-` for none); each takes at most as many steps as `steps` says. `rises` has the index of the first entry whose name is above the
-/// name before it.
+/// A row has the entries of a cache, in order. A line `find` has an ABI, hwcaps names between colons (`-` for none), a name, and the path
+/// (`-` for none). `steps` has the most steps that each of these look-ups may take. `rises` has the index of the first entry whose name is
+/// above its predecessor's.
 pub(crate) struct Lookups;
 
 // The hwcaps names of a list, which is `-` if there is none.
@@ -52,7 +52,7 @@ fn is_found(
     said.is_same(line, want, path.unwrap_or(b"-"))
 }
 
-// Whether each line `find` is as it says.
+// Whether each line `find` has its result.
 fn are_found(
     alloc: Global,
     cache: &Sorted<'_>,

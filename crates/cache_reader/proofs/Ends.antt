@@ -1,4 +1,4 @@
--- The texts that end in a file are those that begin before the last NUL's end.
+-- A text is terminated in the file exactly if it starts before the end of the last NUL.
 use Rattle.std.proofs.Common.{◌≡◌, ℕ, zero, suc, ◌+◌, ◌-◌, ◌<◌, ◌≤◌, ◌||◌, Bool, true, false, nat_lt, List, [], ◌∷◌, length, drop, get_or, slice_index, refl, ap, ◌∙◌, true≢false, arith, get_or-drop, length-drop}
 use Rattle.std.proofs.lemmas.Bool.Decides.{nat_tests}
 use Rattle.std.proofs.lemmas.List.{drop-drop}
@@ -6,7 +6,7 @@ use Rattle.std.specs.List.{list_any}
 use Rattle.cache_reader.specs.Cache.{is_nul, is_ended}
 use Rattle.cache_reader.specs.Checks.{EndsAt}
 
--- a part of bytes without a NUL has none
+-- If the bytes have no NUL, their suffixes have none.
 none_behind : (k : ℕ) (xs : List ℕ) → list_any is_nul xs ≡ false → list_any is_nul (drop k xs) ≡ false
 none_behind zero xs h = h
 none_behind (suc k) [] h = h
@@ -16,7 +16,7 @@ none_behind (suc k) (x ∷ xs) h = none_behind k xs (without (is_nul x) (list_an
     without true b h = absurd (true≢false h)
     without false b h = h
 
--- a NUL behind is found
+-- If the byte at an index is a NUL, the bytes have a NUL.
 one_behind : (k : ℕ) (xs : List ℕ) → k < length xs → is_nul (slice_index xs k) ≡ true → list_any is_nul xs ≡ true
 one_behind k [] h e = absurd (omega arith)
 one_behind zero (x ∷ xs) h e = rw e refl

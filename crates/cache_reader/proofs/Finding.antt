@@ -1,4 +1,4 @@
--- Tests of the items from one on.
+-- Tests of the items from an index on.
 use Rattle.std.proofs.Common.{◌≡◌, ℕ, ◌+◌, ◌-◌, ◌<◌, Bool, true, false, List, [], ◌∷◌, map, Some, None, refl, sym, ap, ◌∙◌, true≢false, arith, find}
 use Rattle.std.specs.List.{range_with_len, list_all}
 use Rattle.cache_reader.specs.Checks.{items_from}
@@ -41,7 +41,7 @@ all_hold p f i n h = rw (no_items f i n h) refl
 pub to_hold : {X : Type 0} (p : X → Bool) (f : ℕ → X) (n : ℕ) → list_all p (items_from f 0 n) ≡ list_all p (map f (range_with_len 0 n))
 to_hold p f n = ap (list_all p) (all_items f n)
 
--- an item that is found passes what all pass
+-- If all items pass a test, an item found by another test passes it too.
 pub found_passes : {X : Type 0} (p q : X → Bool) (xs : List X) (x : X) → list_all p xs ≡ true → find q xs ≡ Some x → p x ≡ true
 found_passes p q [] x h e = cc
 found_passes p q (y ∷ ys) x h e = by (p y) (q y) refl refl (found_passes p q ys x)

@@ -1,4 +1,4 @@
--- The list of entries by its indexes.
+-- The list of entries, by index.
 use Rattle.std.proofs.Common.{◌≡◌, ℕ, ◌+◌, ◌<◌, ◌≤◌, List, [], ◌∷◌, ◌++◌, length, take, drop, get_or, flat_map, Some, None, sym, ap, ◌∙◌, arith}
 use Rattle.std.proofs.lemmas.List.FromFn.{length-map-range_with_len, get_or-map-range_with_len}
 use Rattle.std.proofs.lemmas.Option.{slice_get-get_or, slice_get_past}
@@ -23,7 +23,7 @@ read_within bytes n i e h =
     let item = get_or-map-range_with_len (entry_at bytes) 0 (nlibs bytes) i i (entry_at bytes i) (omega arith) (omega arith) in
     sym (slice_get-get_or (read bytes) i (entry_at bytes i) (omega arith) ∙ ap Some item)
 
--- ---- the lines of the entries one after another
+-- ---- the lines of the entries, one after another
 
 pub line_more : (bytes : List ℕ) (i : ℕ) → i < length (read bytes) → flat_map entry_line (take (i + 1) (read bytes)) ≡ flat_map entry_line (take i (read bytes)) ++ entry_line (entry_at bytes i)
 line_more bytes i h =

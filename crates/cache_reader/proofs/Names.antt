@@ -16,7 +16,7 @@ counted : (bytes : List ℕ) (o : Option Section) → option_map_or (λ s. s.siz
 counted bytes None = refl
 counted bytes (Some s) = sym (length-map-range_with_len (λ index. field bytes (s.offset + 4 * index) 4) 0 (s.size / 4))
 
--- as many names as numbers of 4 bytes in the section
+-- The number of hwcaps names is the number of 4-byte numbers in the section.
 pub count_of_names : (bytes : List ℕ) → option_map_or (λ s. s.size / 4) (names_section bytes) 0 ≡ length (name_offsets bytes)
 count_of_names bytes = counted bytes (names_section bytes)
 
@@ -29,7 +29,7 @@ offsets_are bytes s e = offsets_in bytes (names_section bytes) s e
 pub length_is : (bytes : List ℕ) (s : Section) → names_section bytes ≡ Some s → length (name_offsets bytes) ≡ s.size / 4
 length_is bytes s e = ap length (offsets_are bytes s e) ∙ length-map-range_with_len (λ index. field bytes (s.offset + 4 * index) 4) 0 (s.size / 4)
 
--- an offset is the number with its index in the section
+-- the offset of the name with this index is the number with this index in the section
 pub offset_is : (bytes : List ℕ) (s : Section) (i : ℕ) → names_section bytes ≡ Some s → i < s.size / 4 → slice_index (name_offsets bytes) i ≡ field bytes (s.offset + 4 * i) 4
 offset_is bytes s i e below =
     ap (λ xs. slice_index xs i) (offsets_are bytes s e)
@@ -51,12 +51,12 @@ ended_within bytes at h = by (nat_le at (length bytes)) refl
         let past : length bytes ≤ at = grind (arith, nat_tests, e) in
         absurd (true≢false (sym h ∙ rw (drop_of_length-le bytes past) refl))
 
--- a text of a hwcaps name begins in the file
+-- the text of a hwcaps name starts inside the file
 pub offset_within : (bytes : List ℕ) (s : Section) (i : ℕ) → IsSound bytes → names_section bytes ≡ Some s → i < length (name_offsets bytes) → slice_index (name_offsets bytes) i ≤ length bytes
 offset_within bytes s i sound e below =
     let same = offsets_are bytes s e in
     ended_within bytes _ (all_at (is_ended bytes) (name_offsets bytes) i 0 below (rw same (sound.ended s e)))
 
--- a section with a tag is inside
+-- the section with this tag is inside the file
 pub tagged_inside : (bytes : List ℕ) (tag : ℕ) (s : Section) → IsSound bytes → with_tag tag (sections bytes) ≡ Some s → is_inside bytes s ≡ true
 tagged_inside bytes tag s sound e = found_passes (is_inside bytes) _ (sections bytes) s sound.inside e

@@ -1,4 +1,4 @@
--- Texts that are put one after another.
+-- Writing texts one after another through a buffer.
 use Rattle.std.proofs.Common.{◌≡◌, ℕ, ◌+◌, ◌++◌, List, [], length, take, drop, Option, Some, None, Result, Ok, Err, OnOk, sym, ap, subst, ◌∙◌, append_assoc, arith}
 use Rattle.std.proofs.lemmas.List.{append-nil, take-append-drop}
 use Rattle.std.proofs.Math.Seq.{take-append-add, take-append_seam}
@@ -8,7 +8,7 @@ use Rattle.tree_face.specs.Follows.{IsFollowedBy, IsFollowedByPart}
 use Rattle.tree_face.specs.Stream.{SinkState, TakesAll}
 use Rattle.cache_reader.specs.Buffers.{Moves, Puts}
 
--- ---- what the sink has
+-- ---- what the sink has received
 
 moves_on : (t1 t2 b0 b1 b2 : List ℕ) (w0 w1 w2 : Option (List ℕ)) → Relates (Moves (b0 ++ t1) b1) w0 w1 → Relates (Moves (b1 ++ t2) b2) w1 w2 → Relates (Moves (b0 ++ (t1 ++ t2)) b2) w0 w2
 moves_on t1 t2 b0 b1 b2 None None None p q = tt
@@ -22,7 +22,7 @@ moves_on t1 t2 b0 b1 b2 (Some a) (Some b) (Some c) p q = record {
   taken = q.taken ∙ ap (λ (xs : List ℕ). xs ++ q.moved) p.taken ∙ append_assoc a p.moved q.moved;
 }
 
--- a part of a part is that many of the whole
+-- a prefix of xs is a prefix of xs ++ ys
 part_of : (n : ℕ) (xs ys : List ℕ) → take n xs ≡ take (length (take n xs)) (xs ++ ys)
 part_of n xs ys =
     let whole : xs ++ ys ≡ take n xs ++ (drop n xs ++ ys) = ap (λ (zs : List ℕ). zs ++ ys) (sym (take-append-drop n xs)) ∙ append_assoc (take n xs) (drop n xs) ys in
@@ -54,7 +54,7 @@ all_moved text None (Some b) p = absurd p
 all_moved text (Some a) None p = absurd p
 all_moved text (Some a) (Some b) p = record { moved = text; parts = sym (append-nil text); taken = p }
 
--- a text that goes past an empty buffer
+-- a text that is written directly, because the buffer is empty
 pub passed_on : (text : List ℕ) (s0 s1 : SinkState) (r : Result (Unit {0}) Failed) → TakesAll s0 s1 text r → Puts text [] [] s0 s1 r
 passed_on text s0 s1 (Ok u) p = record { done = all_moved text s0.written s1.written p.done; failed = tt; faults = p.faults; no_fault = p.no_fault; cause = tt }
 passed_on text s0 s1 (Err e) p = record { done = tt; failed = p.failed; faults = p.faults; no_fault = tt; cause = p.cause }
@@ -92,11 +92,11 @@ stop {t1 = t1} {b0 = b0} {b1 = b1} {s0 = s0} {s1 = s1} {e = e} t2 p = record {
   cause = p.cause;
 }
 
--- the same text in other words
+-- the same for an equal text
 pub same_text : {t u b0 b1 : List ℕ} {s0 s1 : SinkState} {r : Result (Unit {0}) Failed} → t ≡ u → Puts t b0 b1 s0 s1 r → Puts u b0 b1 s0 s1 r
 same_text {b0 = b0} {b1 = b1} {s0 = s0} {s1 = s1} {r = r} e p = subst (λ (x : List ℕ). Puts x b0 b1 s0 s1 r) e p
 
--- ---- the whole, from an empty buffer on
+-- ---- all texts, starting with an empty buffer
 
 finished : (text after : List ℕ) (s0 s1 : SinkState) (r : Result (Unit {0}) Failed) → OnOk r (after ≡ []) → Puts text [] after s0 s1 r → TakesAll s0 s1 text r
 finished text after s0 s1 (Ok u) e p = record { done = all_taken text s0.written s1.written (rw e at p.done); failed = tt; faults = p.faults; no_fault = p.no_fault; cause = tt }

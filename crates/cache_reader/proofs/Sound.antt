@@ -1,4 +1,4 @@
--- What holds of a file without a defect, and which defect is the first of all.
+-- Facts about a file without a defect, and about the first defect of a file.
 use Rattle.std.proofs.Common.{◌≡◌, ℕ, zero, suc, ◌+◌, ◌*◌, ◌%◌, ◌<◌, ◌≤◌, ◌==◌, ◌&&◌, ◌||◌, not, Bool, true, false, cond, nat_lt, nat_le, List, [], ◌∷◌, ◌++◌, length, flat_map, Option, Some, None, refl, sym, ap, ◌∙◌, true≢false, arith}
 use Rattle.std.proofs.lemmas.Bool.Decides.{nat_tests}
 use Rattle.std.specs.List.{range_with_len, list_all}
@@ -11,7 +11,7 @@ use Rattle.cache_reader.specs.Cache.{Sentence, first_defect, sentences, defect, 
 use Rattle.cache_reader.specs.Checks.{IsSound, HasEntries}
 use Rattle.cache_reader.proofs.Ranges.{first-append}
 
--- ---- the first of all defects, by the parts of the sentences
+-- ---- the first defect of a file, from the parts of the rules
 
 abbrev of_magic : List ℕ → Option CacheDefect
 of_magic bytes = first_defect (magic_sentences bytes)
@@ -39,7 +39,7 @@ pub defect_by_parts : (bytes : List ℕ) → defect bytes ≡ option_or (option_
 unfolding sentences
 defect_by_parts bytes = by_parts (magic_sentences bytes) (header_sentences bytes) (flat_map (entry_sentences bytes) (indexes bytes)) (extension_sentences bytes) (flat_map (hwcap_sentences bytes) (indexes bytes))
 
--- ---- a check that found a defect found the first
+-- ---- If a check fails, it returns the first defect.
 
 pub bad_magic : (bytes : List ℕ) (d : CacheDefect) → of_magic bytes ≡ Some d → defect bytes ≡ Some d
 bad_magic bytes d m = defect_by_parts bytes ∙ rw m refl
@@ -56,7 +56,7 @@ bad_extension bytes d m h e x = defect_by_parts bytes ∙ rw (m, h, e, x) refl
 pub last_part : (bytes : List ℕ) (o : Option CacheDefect) → of_magic bytes ≡ None → of_header bytes ≡ None → of_entries bytes ≡ None → of_extension bytes ≡ None → of_hwcaps bytes ≡ o → defect bytes ≡ o
 last_part bytes o m h e x w = defect_by_parts bytes ∙ rw (m, h, e, x) w
 
--- ---- what holds if there is none
+-- ---- facts about a file without a defect
 
 both_none : (a b : Option CacheDefect) → option_or a b ≡ None → (a ≡ None) × (b ≡ None)
 both_none None b h = (refl, h)
@@ -78,7 +78,7 @@ not_with : (a b : Bool) → a ≡ true → (a && b) ≡ false → b ≡ false
 not_with true b e h = h
 not_with false b e h = absurd (true≢false (sym e))
 
--- none of many has one
+-- If a range has no defect, none of its indexes has one.
 in_each : (S : ℕ → List Sentence) (a n i : ℕ) → first_defect (flat_map S (range_with_len a n)) ≡ None → a ≤ i → i < a + n → first_defect (S i) ≡ None
 in_each S a zero i h low high = absurd (omega arith)
 in_each S a (suc n) i h low high =
@@ -92,7 +92,7 @@ in_each S a (suc n) i h low high =
         let same : a ≡ i = omega arith in
         rw (← same) first
 
--- the directory of a file whose extension has no defect
+-- If the extension has no defect, its directory is good.
 good_directory : (bytes : List ℕ) → not (extension bytes == 0) ≡ true → of_extension bytes ≡ None → is_bad_directory bytes (extension bytes) ≡ false
 good_directory bytes there h =
     not_with (not (extension bytes == 0)) (is_bad_directory bytes (extension bytes)) there (head_false (not (extension bytes == 0) && is_bad_directory bytes (extension bytes)) (BadExtension (extension bytes)) [] h).0
@@ -120,7 +120,7 @@ ended bytes s false e h found =
     let good = neither (is_no_directory bytes (extension bytes) || not all) names (good_directory bytes (rw e refl) h) in
     ended_in bytes (with_tag names_tag (sections_at bytes (extension bytes))) s good.1 found
 
--- the sizes that the header's sentences speak of
+-- the sizes in the header fit in the file
 fits : (bytes : List ℕ) → of_header bytes ≡ None → HasEntries bytes
 fits bytes h =
     let size : Bool = nat_lt (length bytes) (48 + 24 * nlibs bytes + strings_length bytes) in
@@ -128,7 +128,7 @@ fits bytes h =
     let enough = (head_false size (EntriesOutside (nlibs bytes)) [] behind.1).0 in
     grind (arith, nat_tests, enough)
 
--- the offsets of an entry whose strings have no defect
+-- If the strings of an entry have no defect, their offsets are in the file.
 begin_inside : (bytes : List ℕ) (i : ℕ) → first_defect (entry_sentences bytes i) ≡ None → (key bytes i < length bytes) × (value bytes i < length bytes)
 begin_inside bytes i h =
     let ends : Sentence = (not (is_ended bytes (key bytes i) && is_ended bytes (value bytes i)), NoNul i) in
@@ -139,7 +139,7 @@ begin_inside bytes i h =
       grind (arith, nat_tests, second),
     )
 
--- the index of an entry whose hwcap has no defect
+-- If the hwcap of an entry has no defect, its index is the index of a hwcaps name.
 named_within : (bytes : List ℕ) (i : ℕ) → first_defect (hwcap_sentences bytes i) ≡ None → is_named (hwcap bytes i) ≡ true → name_index (hwcap bytes i) < length (name_offsets bytes)
 named_within bytes i h named =
     let bad = not_with (is_named (hwcap bytes i)) (nat_le (length (name_offsets bytes)) (name_index (hwcap bytes i))) named (head_false _ (BadHwcap i) [] h).0 in

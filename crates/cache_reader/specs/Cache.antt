@@ -1,5 +1,5 @@
--- What a cache file says, and the first of its defects (glibc's dl-cache.h and what its ld.so and ldconfig read; the order of the
--- defects and what each of them is are this project's).
+-- The contents of a cache file, and its first defect (glibc's dl-cache.h, and what glibc's ld.so and ldconfig read). The defects and
+-- their order are this project's.
 use Rattle.std.specs.Prelude.{ℕ, ◌+◌, ◌*◌, ◌/◌, ◌%◌, ℤ, Bool, false, ◌==◌, ◌&&◌, ◌||◌, not, nat_eq, nat_lt, nat_le, List, [], ◌∷◌, ◌++◌, length, map, drop, take, slice_index, find, flat_map, Option, Some, None, option_map, if◌then◌else◌}
 use Rattle.std.specs.List.{starts_with, list_all, list_any, before_first, range_with_len}
 use Rattle.std.specs.Option.{option_map_or}
@@ -30,7 +30,7 @@ extension bytes = header 4 bytes
 
 -- ---- the entries and their strings
 
--- the bytes from the entry with this index on
+-- the bytes from the entry with this index to the end
 abbrev pub from_entry : List ℕ → ℕ → List ℕ
 from_entry bytes index = drop (header_size + entry_size * index) bytes
 
@@ -46,11 +46,11 @@ hwcap bytes index = number entry_fields 4 (from_entry bytes index)
 abbrev pub is_nul : ℕ → Bool
 is_nul byte = byte == 0
 
--- the text at an offset: the bytes up to the first NUL
+-- the text at an offset: the bytes before the first NUL
 abbrev pub text_at : List ℕ → ℕ → List ℕ
 text_at bytes at = before_first is_nul (drop at bytes)
 
--- whether a text at an offset ends in the file: the offset isn't behind the last NUL
+-- whether the text at an offset is terminated in the file: there is a NUL at the offset or after it
 abbrev pub is_ended : List ℕ → ℕ → Bool
 is_ended bytes at = list_any is_nul (drop at bytes)
 
@@ -72,18 +72,18 @@ section_at bytes at index =
 abbrev pub sections_at : List ℕ → ℕ → List Section
 sections_at bytes at = map (section_at bytes at) (range_with_len 0 (section_count bytes at))
 
--- the sections of a file; no other place has some
+-- the sections of a file, none if there isn't an extension directory
 abbrev pub sections : List ℕ → List Section
 sections bytes = if extension bytes == 0 then [] else sections_at bytes (extension bytes)
 
--- of a repeated tag the first section counts
+-- If several sections have one tag, the first one counts.
 abbrev pub with_tag : ℕ → List Section → Option Section
 with_tag tag sections = find (λ s. s.tag == tag) sections
 
 abbrev pub is_inside : List ℕ → Section → Bool
 is_inside bytes s = nat_le (s.offset + s.size) (length bytes)
 
--- the numbers of 4 bytes in a section
+-- the 4-byte numbers in a section
 abbrev pub numbers_in : List ℕ → Section → List ℕ
 numbers_in bytes s = map (λ index. field bytes (s.offset + 4 * index) 4) (range_with_len 0 (s.size / 4))
 
@@ -98,11 +98,11 @@ name_offsets bytes = option_map_or (numbers_in bytes) (names_section bytes) []
 abbrev pub bytes_in : List ℕ → Section → List ℕ
 bytes_in bytes s = take s.size (drop s.offset bytes)
 
--- the generator's text, which may have NULs
+-- the text of the generator section, which may contain NULs
 abbrev pub generator : List ℕ → Option (List ℕ)
 generator bytes = option_map (bytes_in bytes) (with_tag generator_tag (sections bytes))
 
--- ---- the defects: the first sentence that holds gives the defect
+-- ---- the defects: the first rule that applies gives the defect
 
 abbrev pub Sentence : Type 0
 Sentence = Bool × CacheDefect
@@ -130,12 +130,12 @@ entry_sentences bytes index =
     ∷ (not (is_ended bytes (key bytes index) && is_ended bytes (value bytes index)), NoNul index)
     ∷ []
 
--- a section of offsets isn't made of whole numbers, or one of them is behind the last NUL
+-- The section isn't aligned to 4 bytes, its size isn't a multiple of 4, or one of the texts at its offsets has no NUL.
 abbrev pub has_bad_offsets : List ℕ → Section → Bool
 has_bad_offsets bytes s =
     not (s.offset % 4 == 0) || not (s.size % 4 == 0) || not (list_all (is_ended bytes) (numbers_in bytes s))
 
--- no directory is at this offset, or it isn't in the file
+-- This offset doesn't have an extension directory, or the directory isn't completely in the file.
 abbrev pub is_no_directory : List ℕ → ℕ → Bool
 is_no_directory bytes at =
     not (at % 4 == 0)
@@ -143,7 +143,7 @@ is_no_directory bytes at =
     || not (number directory_fields 0 (drop at bytes) == extension_magic)
     || nat_lt (length bytes) (at + directory_size + section_size * section_count bytes at)
 
--- no directory is there, or a section of it isn't in the file, or its offsets of hwcaps names are bad
+-- The directory isn't there, one of its sections isn't in the file, or its offsets of hwcaps names are bad.
 abbrev pub is_bad_directory : List ℕ → ℕ → Bool
 is_bad_directory bytes at =
     is_no_directory bytes at
@@ -170,11 +170,11 @@ sentences bytes =
     ++ extension_sentences bytes
     ++ flat_map (hwcap_sentences bytes) (indexes bytes)
 
--- the first defect of a file; one without is accepted
+-- The first defect of a file. A file without one is accepted.
 abbrev pub defect : List ℕ → Option CacheDefect
 defect bytes = first_defect (sentences bytes)
 
--- ---- what an accepted file says
+-- ---- the contents of an accepted file
 
 pub record CachedEntry : Type 0 where
   pub flags : ℤ

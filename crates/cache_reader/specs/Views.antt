@@ -1,11 +1,11 @@
--- What a view keeps of the file, and what its entries are.
+-- The parts of a file that a view keeps, and the entries of a view.
 use Rattle.std.specs.Prelude.{◌≡◌, ◌<◌, ◌^◌, ℕ, List, Option, None, option_map}
 use Rattle.std.specs.Borrow.{Bor}
 use Rattle.cache_reader.specs.declared.extension.Section.{Section}
 use Rattle.cache_reader.specs.declared.view.EntryView.{EntryView}
 use Rattle.cache_reader.specs.Cache.{CachedEntry, defect, nlibs, names_section, generator}
 
--- an accepted file, with the number of its entries, the offsets of its hwcaps names, and its generator's text
+-- an accepted file, with its number of entries, the offsets of its hwcaps names, and its generator text
 pub record IsView (bytes : List ℕ) (count : ℕ) (section : Option Section) (text : Option (Bor (List ℕ))) : Type 0 where
   pub accepted : defect bytes ≡ None
   pub entries : count ≡ nlibs bytes

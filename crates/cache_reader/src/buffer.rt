@@ -1,4 +1,4 @@
-//! A buffer before a sink, so that words aren't written one by one.
+//! A buffer before a sink, so that words aren't written one at a time.
 ghost use Rattle.std.specs.Prelude.{◌≡◌, ◌+◌, ◌++◌, ◌≤◌, [], length, OnOk};
 ghost use Rattle.cache_reader.specs.Buffers.{Puts};
 
@@ -6,10 +6,10 @@ use lib_types::Failed;
 use std::marker::Model;
 use tree_face::{Sink, put_all};
 
-// The bytes of a buffer.
+// The size of a buffer in bytes.
 const SIZE: usize = 4096;
 
-/// Bytes that wait to be written. Contracts see the list of them.
+/// Bytes that are not yet written. Contracts see the list of them.
 #[derive(Drop)]
 pub struct Buffer {
     bytes: [u8; SIZE],
@@ -56,7 +56,7 @@ impl Buffer {
         self.len = 0;
     }
 
-    // Adds a text that has room.
+    // Appends a text. It must fit.
     fn push(&mut self, text: &[u8])
         requires { length self.old + length text.now ≤ 4096 }
         ensures { self.new ≡ self.old ++ text.now }
@@ -67,7 +67,7 @@ impl Buffer {
     }
 }
 
-/// Writes what waits.
+/// Writes the buffered bytes.
 pub fn flush<O: Sink>(sink: &mut O, buffer: &mut Buffer) -> Result<(), Failed>
     ensures puts { Puts [] buffer.old buffer.new (O.state sink.old) (O.state sink.new) result }
     ensures empty { OnOk result (buffer.new ≡ []) }
@@ -77,7 +77,7 @@ pub fn flush<O: Sink>(sink: &mut O, buffer: &mut Buffer) -> Result<(), Failed>
     Ok(())
 }
 
-// Writes a text after what waits, without keeping it.
+// Writes the buffered bytes, then the text.
 fn put_through<O: Sink>(sink: &mut O, buffer: &mut Buffer, text: &[u8]) -> Result<(), Failed>
     ensures { Puts text.now buffer.old buffer.new (O.state sink.old) (O.state sink.new) result }
 {
@@ -85,7 +85,7 @@ fn put_through<O: Sink>(sink: &mut O, buffer: &mut Buffer, text: &[u8]) -> Resul
     put_all(sink, text)
 }
 
-/// Writes a text after what waits; it may wait itself.
+/// Writes a text after the buffered bytes. The text may be buffered too.
 pub fn put<O: Sink>(sink: &mut O, buffer: &mut Buffer, text: &[u8]) -> Result<(), Failed>
     ensures { Puts text.now buffer.old buffer.new (O.state sink.old) (O.state sink.new) result }
 {
@@ -96,7 +96,7 @@ pub fn put<O: Sink>(sink: &mut O, buffer: &mut Buffer, text: &[u8]) -> Result<()
     Ok(())
 }
 
-/// Writes a text between two others, after what waits.
+/// Writes three texts after the buffered bytes: a text, with another text before it and one after it.
 pub fn put_between<O: Sink>(
     sink: &mut O,
     buffer: &mut Buffer,

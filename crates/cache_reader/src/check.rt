@@ -1,4 +1,4 @@
-//! The header and the entries of a file, checked.
+//! Checks the header and the entries of a file.
 ghost use Rattle.std.specs.Prelude.{◌≡◌, ◌<◌, ◌≤◌, length, flat_map};
 ghost use Rattle.cache_layout.specs.Layout.{is_named, name_index};
 ghost use Rattle.cache_reader.specs.Cache.{nlibs, first_defect, magic_sentences, header_sentences, entry_sentences, hwcap_sentences, indexes, from_entry, name_offsets, flags, extension, strings_length};
@@ -37,7 +37,7 @@ pub fn extension(bytes: &[u8]) -> u32
     u32_at(&bytes[20..], 12)
 }
 
-/// The bytes from an entry on.
+/// The bytes from the entry with this index to the end.
 pub fn from_entry(bytes: &[u8], index: usize) -> &[u8]
     requires entries { HasEntries bytes.now }
     requires index { index < nlibs bytes.now }
@@ -46,7 +46,7 @@ pub fn from_entry(bytes: &[u8], index: usize) -> &[u8]
     &bytes[HEADER_SIZE + ENTRY_SIZE * index..]
 }
 
-/// The offset directly behind the last NUL, or 0.
+/// The offset directly after the last NUL, or 0 if there isn't one.
 pub fn end_of_texts(bytes: &[u8]) -> usize
     ensures { EndsAt bytes.now result }
 {
@@ -57,7 +57,7 @@ pub fn end_of_texts(bytes: &[u8]) -> usize
     end
 }
 
-/// The defects of magic and version.
+/// Checks the magic and the version.
 pub fn check_magic(bytes: &[u8]) -> Result<(), CacheDefect>
     ensures { result ≡ checked (first_defect (magic_sentences bytes.now)) }
 {
@@ -75,7 +75,7 @@ pub fn check_magic(bytes: &[u8]) -> Result<(), CacheDefect>
     Ok(())
 }
 
-/// The defects of the header's numbers.
+/// Checks the numbers in the header.
 pub fn check_header(bytes: &[u8]) -> Result<(), CacheDefect>
     requires { 48 ≤ length bytes.now }
     ensures { result ≡ checked (first_defect (header_sentences bytes.now)) }
@@ -96,7 +96,7 @@ pub fn check_header(bytes: &[u8]) -> Result<(), CacheDefect>
     Ok(())
 }
 
-// The defects of an entry's strings.
+// Checks the strings of an entry.
 fn check_entry(bytes: &[u8], index: usize, end: usize) -> Result<(), CacheDefect>
     requires entries { HasEntries bytes.now }
     requires index { index < nlibs bytes.now }
@@ -119,7 +119,7 @@ fn check_entry(bytes: &[u8], index: usize, end: usize) -> Result<(), CacheDefect
     Ok(())
 }
 
-/// The defects of the entries' strings, entry by entry.
+/// Checks the strings of all entries, in order.
 #[tactic(auto, using(crate::proofs::Ranges::passed, crate::proofs::Ranges::failed, crate::proofs::Ranges::all_passed, crate::proofs::Ranges::none_passed))]
 pub fn check_entries(bytes: &[u8], end: usize) -> Result<(), CacheDefect>
     requires entries { HasEntries bytes.now }
@@ -140,14 +140,14 @@ pub fn is_named(hwcap: u64) -> bool
     (hwcap >> 62) % 2 == 1
 }
 
-/// That index.
+/// The index of the hwcaps name: the low 32 bits of the hwcap.
 pub fn name_index(hwcap: u64) -> usize
     ensures { result ≡ name_index hwcap }
 {
     (hwcap % (1 << 32)) as usize
 }
 
-// The defect of an entry's hwcap, if there are this many hwcaps names.
+// Checks the hwcap of an entry, if there are this many hwcaps names.
 fn check_hwcap(bytes: &[u8], index: usize, names: usize) -> Result<(), CacheDefect>
     requires entries { HasEntries bytes.now }
     requires index { index < nlibs bytes.now }
@@ -163,7 +163,7 @@ fn check_hwcap(bytes: &[u8], index: usize, names: usize) -> Result<(), CacheDefe
     Ok(())
 }
 
-/// The defects of the entries' hwcaps, if there are this many hwcaps names.
+/// Checks the hwcaps of all entries, if there are this many hwcaps names.
 #[tactic(auto, using(crate::proofs::Ranges::passed, crate::proofs::Ranges::failed, crate::proofs::Ranges::all_passed, crate::proofs::Ranges::none_passed))]
 pub fn check_hwcaps(bytes: &[u8], names: usize) -> Result<(), CacheDefect>
     requires entries { HasEntries bytes.now }

@@ -1,26 +1,26 @@
-//! Why a file is no cache.
+//! Why a file can't be read as a cache.
 
-/// The first thing that is wrong with a cache. The numbers are those that the file has in the field; entries are counted from 0.
+/// The first defect of a cache. The numbers are the values of the field in the file. Entries are counted from 0.
 #[derive(Clone, Copy, Debug, PartialEq, Eq)]
 pub enum CacheDefect {
-    /// A file of the format before this one.
+    /// A file of the older cache format.
     OldFormat,
-    /// Fewer bytes than the header has.
+    /// The file is shorter than a header.
     Short { len: u64 },
-    /// Another magic or version.
+    /// The magic or the version is different.
     BadMagic,
-    /// A big-endian or an invalid file.
+    /// The file is big-endian, or its flags are invalid.
     BadEndian { flags: u64 },
-    /// The entries and the strings aren't in the file.
+    /// The entries and the strings don't fit in the file.
     EntriesOutside { nlibs: u64 },
-    /// An offset of the entry is past the end.
+    /// An offset of the entry is past the end of the file.
     StringOutside { entry: u64 },
-    /// A string of the entry has no NUL.
+    /// A string of the entry has no terminating NUL.
     NoNul { entry: u64 },
-    /// The extension directory, a section of it or the offsets of the hwcaps names.
+    /// The extension directory, one of its sections, or the offsets of the hwcaps names are malformed.
     BadExtension { offset: u64 },
-    /// The entry has no hwcaps name of its index.
+    /// The entry's hwcap has an index without a hwcaps name.
     BadHwcap { entry: u64 },
-    /// The names of the entries aren't in the loader's order. `parse` doesn't look at it.
+    /// The names of the entries aren't in the loader's order. `parse` doesn't check this.
     Unsorted { entry: u64 },
 }

@@ -1,4 +1,4 @@
-//! The extension directory.
+//! Reads the extension directory.
 ghost use Rattle.std.specs.Prelude.{◌≡◌, ◌+◌, ◌*◌, ◌/◌, ◌<◌, ◌≤◌, ◌^◌, true, length, IfOk, IfErr, Some, None, if◌then◌else◌};
 ghost use Rattle.std.specs.List.{list_all};
 ghost use Rattle.std.specs.Option.{option_map_or};
@@ -12,7 +12,7 @@ use cache_layout::{
     DIRECTORY_SIZE, EXTENSION_MAGIC, GENERATOR_TAG, NAMES_TAG, SECTION_SIZE, u32_at,
 };
 
-/// A section: its tag, and its bytes in the file.
+/// A section: its tag, and its byte range in the file.
 #[derive(Clone, Copy)]
 pub struct Section {
     pub tag: u32,
@@ -20,14 +20,14 @@ pub struct Section {
     pub size: u32,
 }
 
-/// The sections that have a meaning, each the first of its tag.
+/// The sections with a known tag. The first section of each tag counts.
 #[derive(Clone, Copy)]
 pub struct Sections {
     pub names: Option<Section>,
     pub generator: Option<Section>,
 }
 
-// Whether there is no directory at this offset, or not all of it.
+// Whether the directory at this offset is missing or incomplete.
 fn is_no_directory(bytes: &[u8], at: usize) -> bool
     requires { at < 2 ^ 32 }
     ensures { result ≡ is_no_directory bytes.now at }
@@ -64,7 +64,7 @@ fn section_at(bytes: &[u8], at: usize, index: usize) -> Section
     }
 }
 
-// The first section of this tag.
+// The first section with this tag.
 #[tactic(auto, using(crate::proofs::Finding::passed_over, crate::proofs::Finding::found, crate::proofs::Finding::not_found, crate::proofs::Finding::to_find))]
 fn with_tag(bytes: &[u8], at: usize, tag: u32) -> Option<Section>
     requires { HasSections bytes.now at }
@@ -86,7 +86,7 @@ fn is_inside(bytes: &[u8], section: Section) -> bool
     section.offset as usize + section.size as usize <= bytes.len()
 }
 
-// Whether all sections are in the file.
+// Whether all sections are inside the file.
 #[tactic(auto, using(crate::proofs::Finding::holds, crate::proofs::Finding::fails, crate::proofs::Finding::all_hold, crate::proofs::Finding::to_hold))]
 fn are_inside(bytes: &[u8], at: usize) -> bool
     requires { HasSections bytes.now at }
@@ -110,7 +110,7 @@ pub fn number_in(bytes: &[u8], section: Section, index: usize) -> usize
     u32_at(bytes, section.offset as usize + 4 * index) as usize
 }
 
-// Whether the texts at all offsets of a section end in the file.
+// Whether the texts at all offsets of a section are terminated in the file.
 #[tactic(auto, using(crate::proofs::Finding::holds, crate::proofs::Finding::fails, crate::proofs::Finding::all_hold, crate::proofs::Finding::to_hold))]
 fn are_ended(bytes: &[u8], section: Section, end: usize) -> bool
     requires section { is_inside bytes.now section ≡ true }
@@ -154,7 +154,7 @@ fn sections_at(bytes: &[u8], at: usize, end: usize) -> Option<Sections>
     })
 }
 
-/// The sections of a file, if its extension has no defect.
+/// The sections of a file. Fails if its extension has a defect.
 pub fn read_sections(bytes: &[u8], end: usize) -> Result<Sections, CacheDefect>
     requires header { 48 ≤ length bytes.now }
     requires end { EndsAt bytes.now end }

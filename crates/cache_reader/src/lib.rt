@@ -1,4 +1,4 @@
-//! Reads cache files without taking memory, and prints them.
+//! Reads cache files without allocating memory, and prints them.
 #![tactic(auto)]
 
 mod buffer;

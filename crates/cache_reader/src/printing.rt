@@ -1,4 +1,4 @@
-//! The text of `ldconfig -p`.
+//! The output of `ldconfig -p`.
 ghost use Rattle.std.specs.Prelude.{◌≡◌, ◌++◌, flat_map, option_map, codes};
 ghost use Rattle.std.specs.Fmt.{decimal};
 ghost use Rattle.std.specs.Int.{cast_unsigned, w32};
@@ -32,7 +32,7 @@ fn abi_number(flags: u32) -> u16
     (flags / 256 % 256 * 256) as u16
 }
 
-// Sixteen hexadecimal digits.
+// 16 hexadecimal digits.
 fn hex_digits(number: u64) -> [u8; 16]
     ensures { result ≡ hex_digits number }
 {
@@ -58,7 +58,7 @@ fn put_decimal<O: Sink>(sink: &mut O, buffer: &mut Buffer, number: u64) -> Resul
     put(sink, buffer, itoa::Buffer::new().format(number).as_bytes())
 }
 
-// The number of what isn't a known ABI.
+// Prints the number of an unknown ABI.
 fn put_number<O: Sink>(sink: &mut O, buffer: &mut Buffer, number: u16) -> Result<(), Failed>
     ensures { Puts (codes "," ++ decimal number) buffer.old buffer.new (O.state sink.old) (O.state sink.new) result }
 {
@@ -80,7 +80,7 @@ fn put_hwcap<O: Sink>(
     }
 }
 
-// A hwcap that is no index of a name.
+// Prints a hwcap that isn't the index of a name.
 fn put_unnamed<O: Sink>(sink: &mut O, buffer: &mut Buffer, number: u64) -> Result<(), Failed>
     ensures { Puts (hwcap number None) buffer.old buffer.new (O.state sink.old) (O.state sink.new) result }
 {
@@ -98,7 +98,7 @@ fn put_hex<O: Sink>(sink: &mut O, buffer: &mut Buffer, number: u64) -> Result<()
     put(sink, buffer, &hex_digits(number))
 }
 
-// The name of an entry, and the words of its flags.
+// Prints the soname of an entry and the words of its flags.
 fn put_name<O: Sink>(
     sink: &mut O,
     buffer: &mut Buffer,
@@ -112,7 +112,7 @@ fn put_name<O: Sink>(
     put_abi(sink, buffer, abi_number(flags))
 }
 
-// The flags as bits.
+// The flags as an unsigned number.
 fn bits(entry: &EntryView<'_>) -> u32
     ensures { result ≡ cast_unsigned w32 entry.now.flags }
 {
@@ -182,7 +182,7 @@ fn put_cache<O: Sink>(
     put_generator(sink, buffer, view.generator())
 }
 
-/// Prints a cache as `ldconfig -p` does; the name stands in the first line. After an error a front part was written.
+/// Prints a cache as `ldconfig -p` does. The first line has the name of the cache. After an error a first part of the output was written.
 pub fn print<O: Sink>(view: &CacheView<'_>, name: &[u8], sink: &mut O) -> Result<(), Failed>
     ensures { TakesAll (O.state sink.old) (O.state sink.new) (printed view.now name.now) result }
 {

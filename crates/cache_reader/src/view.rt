@@ -1,4 +1,4 @@
-//! A cache file that was accepted, read in place.
+//! An accepted cache file that is read in place.
 ghost use Rattle.std.specs.Prelude.{◌≡◌, ◌<◌, ◌≤◌, ◌^◌, true, None, Some, length, option_map, IfOk, IfErr, IfSome};
 ghost use Rattle.std.specs.List.{slice_get, slice_index};
 ghost use Rattle.cache_layout.specs.Layout.{is_named, name_index};
@@ -26,14 +26,14 @@ pub struct CacheView<'a> {
     generator: Option<&'a [u8]>,
 }
 
-/// What an entry says. The texts are parts of the file.
+/// The fields of an entry. The texts are slices of the file.
 #[derive(Clone, Copy)]
 pub struct EntryView<'a> {
     pub flags: i32,
     pub name: &'a [u8],
     pub path: &'a [u8],
     pub hwcap: u64,
-    /// The hwcaps name, if the hwcap is the index of one.
+    /// The hwcaps name, if the hwcap has the index of one.
     pub cap: Option<&'a [u8]>,
 }
 
@@ -57,7 +57,7 @@ fn text_at(bytes: &[u8], at: usize) -> &[u8]
 }
 
 impl<'a> CacheView<'a> {
-    /// The cache of these bytes, or the first of its defects.
+    /// The cache in these bytes, or its first defect.
     pub fn parse(bytes: &'a [u8]) -> Result<CacheView<'a>, CacheDefect>
         ensures view { IfOk result (λ view. view ≡ bytes.now) }
         ensures accepted { IfOk result (λ _. defect bytes.now ≡ None) }
@@ -72,7 +72,7 @@ impl<'a> CacheView<'a> {
         })
     }
 
-    /// The number of entries, which fits 32 bits.
+    /// The number of entries. It fits in 32 bits.
     pub fn len(&self) -> usize
         ensures value { result ≡ length (read self.now) }
         ensures few { result < 2 ^ 32 }
@@ -80,7 +80,7 @@ impl<'a> CacheView<'a> {
         self.count
     }
 
-    /// The entry with this index; None past the last.
+    /// The entry with this index. None after the last entry.
     pub fn entry(&self, i: usize) -> Option<EntryView<'a>>
         ensures { option_map entry_of result ≡ slice_get (read self.now) i }
     {
@@ -90,7 +90,7 @@ impl<'a> CacheView<'a> {
         Some(self.entry_within(i))
     }
 
-    /// The entry with this index, which is one of the file's.
+    /// The entry with this index, which must be an index of the file.
     pub fn entry_within(&self, i: usize) -> EntryView<'a>
         requires { i < length (read self.now) }
         ensures { entry_of result ≡ entry_at self.now i }
@@ -98,7 +98,7 @@ impl<'a> CacheView<'a> {
         entry_view(self.bytes, self.names, i)
     }
 
-    /// The text of the generator's section, if there is one. NULs are bytes of it like others.
+    /// The text of the generator section, if there is one. It may contain NULs.
     pub fn generator(&self) -> Option<&'a [u8]>
         ensures { option_map (λ t. t.now) result ≡ spec.generator self.now }
     {
@@ -106,7 +106,7 @@ impl<'a> CacheView<'a> {
     }
 }
 
-// Looks for all defects in their order.
+// Checks for all defects, in order.
 fn check(bytes: &[u8]) -> Result<Sections, CacheDefect>
     ensures accepted { IfOk result (λ _. defect bytes.now ≡ None) }
     ensures sections { IfOk result (AreSectionsOf bytes.now) }
@@ -149,7 +149,7 @@ fn name_offset(bytes: &[u8], names: Section, index: usize) -> usize
     number_in(bytes, names, index)
 }
 
-// The hwcaps name that a hwcap has the index of.
+// The hwcaps name of a hwcap, if it has the index of one.
 fn cap<'a>(bytes: &'a [u8], names: Option<Section>, hwcap: u64) -> Option<&'a [u8]>
     requires sound { IsSound bytes.now }
     requires names { names ≡ names_section bytes.now }

@@ -1,4 +1,4 @@
-// Caches that are written out here, part by part.
+// Caches that are written part by part.
 use std::alloc::Global;
 use std::test::Fail;
 

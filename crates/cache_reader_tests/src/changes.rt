@@ -1,4 +1,4 @@
-// Changed files have the defect that a plain program finds, or are read.
+// Changed files have the defect that a simple program finds, or are read.
 use crate::caches::{set_byte, two_places};
 use crate::plain::plain_defect;
 use cache_reader::{CacheDefect, CacheView};
@@ -43,7 +43,7 @@ fn changed_bytes(rt: HostRuntime) -> Result<(), Fail> {
             }
         }
     }
-    // At least each of the 20 bytes of magic and version was changed to another three times.
+    // At least three changes of each of the 20 bytes of magic and version are rejected.
     assert!(rt; refused >= 60);
     Ok(())
 }

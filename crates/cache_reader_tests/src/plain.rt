@@ -1,4 +1,4 @@
-// The nine sentences once more, each as it is read.
+// A second, simple implementation of the nine checks of a cache file.
 use cache_reader::CacheDefect;
 
 fn byte(bytes: &[u8], at: usize) -> usize {

@@ -1,4 +1,4 @@
-//! Caches with the entries of a row of tests, in their order there, as another program may have written them.
+//! Synthetic caches for tests. Each has the entries of a test row, in the order of the row, as another program may have written them.
 #![tactic(auto)]
 
 use cache_layout::{EXTENSION_MAGIC, MAGIC, NAMES_TAG};
@@ -6,13 +6,13 @@ use lib_types::NoMemory;
 use std::alloc::Global;
 use table_rows::{Row, Words, divide, number};
 
-/// The words of the entries: `entry FLAGS CAP NAME PATH`, where CAP is the hwcaps name, `-` for none, or `#NUMBER` for a hwcap with this
-/// value, and `series COUNT` for this number of entries with falling names.
+/// The words for entries. `entry FLAGS CAP NAME PATH` is an entry. CAP is a hwcaps name, `-` for none, or `#NUMBER` for a hwcap with this
+/// value. `series COUNT` is this number of entries with descending names.
 pub const ENTRIES: Words = &[b"entry", b"series"];
 
 const NAMED: u64 = 1 << 62;
 
-// The parts of a cache, and where its strings begin.
+// The parts of a cache, and the offset of its strings.
 #[derive(Drop)]
 struct Parts {
     start: usize,
@@ -38,7 +38,7 @@ impl Parts {
         }
     }
 
-    // Puts a string, and returns its offset in the file.
+    // Appends a string, and returns its offset in the file.
     fn put_string(&mut self, text: &[u8]) -> Result<u32, NoMemory> {
         let at = self.start.saturating_add(self.strings.len());
         self.strings.extend_from_slice(text)?;
@@ -46,7 +46,7 @@ impl Parts {
         Ok(u32::try_from(at).unwrap_or(0))
     }
 
-    // The hwcap of an entry: 0 for `-`, a number after `#`, and for another text the index of this hwcaps name.
+    // The hwcap of an entry: 0 for `-`, the number after `#`, otherwise the index of this hwcaps name.
     fn hwcap(&mut self, cap: &[u8]) -> Result<u64, NoMemory> {
         if cap == b"-".as_slice() {
             return Ok(0);
@@ -80,7 +80,7 @@ impl Parts {
     }
 }
 
-// `FLAGS CAP NAME PATH`
+// Adds an entry from `FLAGS CAP NAME PATH`.
 fn put_line(parts: &mut Parts, line: &[u8]) -> Result<(), NoMemory> {
     let (flags, rest) = divide(b' ', line);
     let (cap, rest) = divide(b' ', rest);
@@ -88,7 +88,7 @@ fn put_line(parts: &mut Parts, line: &[u8]) -> Result<(), NoMemory> {
     parts.put_entry(number(flags), cap, name, path)
 }
 
-// Libraries with falling names: the last has the number 0.
+// Adds libraries with descending names. The last has the number 0.
 fn put_series(alloc: Global, parts: &mut Parts, count: u64) -> Result<(), NoMemory> {
     for index in 0..count {
         let number = count.saturating_sub(index).saturating_sub(1);
@@ -135,7 +135,7 @@ fn pad(out: &mut Vec<u8>) -> Result<(), NoMemory> {
     Ok(())
 }
 
-// The extension, with the section of the hwcaps names alone.
+// Writes the extension, which has only the section of the hwcaps names.
 fn put_extension(out: &mut Vec<u8>, parts: &Parts) -> Result<(), NoMemory> {
     let at = u32::try_from(out.len()).unwrap_or(0).saturating_add(24);
     let size = parts.count.saturating_mul(4);

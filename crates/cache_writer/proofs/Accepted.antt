@@ -20,7 +20,7 @@ use Rattle.cache_writer.proofs.Sections.{count, body, offsets, by_body, length_b
 use Rattle.cache_writer.proofs.ReadBack.{with_bit, cap_known}
 use Rattle.cache_writer.proofs.Members.{index_there}
 
--- ---- lists by their indexes
+-- ---- lists by index
 
 no_defects : (S : ℕ → List Sentence) (a n : ℕ) → ((i : ℕ) → i < n → first_defect (S (a + i)) ≡ None) → first_defect (flat_map S (range_with_len a n)) ≡ None
 no_defects S a zero h = refl

@@ -1,4 +1,4 @@
--- The strings of entries and the hwcaps names, as they are gathered.
+-- The strings of the entries and the hwcaps names, while they are gathered.
 use Rattle.std.proofs.Common.{◌≡◌, ℕ, ◌+◌, ◌*◌, ◌<◌, ◌≤◌, true, List, [], ◌∷◌, ◌++◌, length, map, flat_map, fold, take, get_or, refl, sym, ap, ◌∙◌, Bor, bytes_eq, arith}
 use Rattle.std.proofs.lemmas.List.{append-nil, map-append, take_more}
 use Rattle.std.proofs.lemmas.List.Concat.{flat_map-append}
@@ -20,14 +20,14 @@ with_all texts us = fold (insert_key bytes_eq) texts us
 
 -- ---- one entry
 
--- the strings of an entry that are added are there
+-- after adding the strings of an entry, they are in the list
 own_there : (texts : List (List ℕ)) (e : Entry) → HasOwn (with_all texts (own_strings e)) e
 own_there texts e = record {
   soname = among_more (insert_key bytes_eq texts e.soname) e.soname e.path (among texts e.soname);
   path = among (insert_key bytes_eq texts e.soname) e.path;
 }
 
--- so it has its numbers
+-- so the entry has its indexes
 pub numbered : (old mid new : List (List ℕ)) (n : NumberedEntry) (t u : List ℕ) → mid ≡ insert_key bytes_eq old t → new ≡ insert_key bytes_eq mid u → t ≡ n.entry.now.soname → u ≡ n.entry.now.path
     → n.soname ≡ number_of mid t → n.path ≡ number_of new u → HasNumbers new n
 numbered old mid new n t u one two first second soname path =
@@ -42,7 +42,7 @@ numbered old mid new n t u one two first second soname path =
 
 -- ---- the entries
 
--- others that are added change nothing
+-- adding more strings keeps the strings of an entry in the list
 pub own_kept : (texts us : List (List ℕ)) (e : Entry) → HasOwn texts e → HasOwn (with_all texts us) e
 own_kept texts us e h = record {
   soname = among_all texts us e.soname h.soname;
@@ -56,7 +56,7 @@ numbers_kept texts us n h = record {
   path = h.path ∙ sym (number_stays texts us n.entry.now.path h.own.path);
 }
 
--- an entry of a list
+-- the first i + 1 entries are the first i and the entry at index i
 pub next_entry : (es : List Entry) (i : ℕ) (e : Entry) → i < length es → e ≡ get_or es i e → take (i + 1) es ≡ take i es ++ e ∷ []
 next_entry es i e h is = take_more es i e h ∙ ap (λ x. take i es ++ x ∷ []) (sym is)
 
@@ -89,7 +89,7 @@ among_push texts ns n all =
 pub next_name : (xs : List (Bor (List ℕ))) (i : ℕ) (d : Bor (List ℕ)) → i < length xs → map (λ n. n.now) (take (i + 1) xs) ≡ map (λ n. n.now) (take i xs) ++ (get_or xs i d).now ∷ []
 next_name xs i d h = ap (map (λ (n : Bor (List ℕ)). n.now)) (take_more xs i d h) ∙ map-append (λ (n : Bor (List ℕ)). n.now) (take i xs) (get_or xs i d ∷ [])
 
--- the numbers of names that are there stay
+-- adding a name doesn't change the indexes of names that are in the list
 numbers_stay : (texts : List (List ℕ)) (n : List ℕ) (ns : List (List ℕ)) → AreAmong texts ns → map (number_of (insert_key bytes_eq texts n)) ns ≡ map (number_of texts) ns
 numbers_stay texts n [] all = refl
 numbers_stay texts n (m ∷ ns) all =
@@ -108,7 +108,7 @@ name_numbers old new ns more n numbers last number next all added are is put =
 pub name_among : (old new ns more : List (List ℕ)) (n : List ℕ) → more ≡ ns ++ n ∷ [] → new ≡ insert_key bytes_eq old n → AreAmong old ns → AreAmong new more
 name_among old new ns more n next added all = rw (added, next) (among_push old ns n all)
 
--- ---- how many strings there are
+-- ---- the number of strings
 
 length_own : (es : List Entry) → length (flat_map own_strings es) ≡ 2 * length es
 length_own [] = refl

@@ -1,4 +1,4 @@
--- What is read of a written cache: the header, and the entries.
+-- Reading back the header and the entries of a written cache.
 use Rattle.std.proofs.Common.{◌≡◌, ℕ, suc, ◌+◌, ◌*◌, ◌^◌, ◌<◌, ◌≤◌, true, List, [], ◌∷◌, ◌++◌, length, flat_map, drop, get_or, slice_index, Option, Some, None, refl, sym, ap, ◌∙◌, append_assoc, arith, bytes_eq, length-append}
 use Rattle.std.proofs.lemmas.List.{length-replicate}
 use Rattle.std.proofs.lemmas.List.Sums.{prefix_len-le-length}
@@ -18,7 +18,7 @@ use Rattle.cache_writer.proofs.Bounds.{few_names}
 use Rattle.cache_writer.proofs.Standing.{HasText, string_there}
 use Rattle.lib_types.proofs.OneSize.{behind, part_there, length_parts}
 
--- what writing knows of the entries and their strings
+-- the requirements of the writer on the entries and their strings
 pub record IsLaidOut (es : List Entry) : Type 0 where
   pub few : length es ≤ ENTRIES_MAX
   pub small : length (strings_bytes es) < STRINGS_LIMIT
@@ -30,7 +30,7 @@ pub record IsLaidOut (es : List Entry) : Type 0 where
 header_fit : (n s x : ℕ) → n < 2 ^ 32 → s < 2 ^ 32 → x < 2 ^ 32 → Fit header_fields (n ∷ s ∷ 2 ∷ 0 ∷ x ∷ 0 ∷ 0 ∷ 0 ∷ [])
 header_fit n s x hn hs hx = (omega arith, (omega arith, (omega arith, (omega arith, (omega arith, (omega arith, (omega arith, (omega arith, tt))))))))
 
--- what is behind the strings, behind the entries, and behind the header
+-- the parts of the file after the strings, after the entries, and after the header
 abbrev pub behind_strings : List Entry → List ℕ
 behind_strings es =
     padding (strings_end es)
@@ -48,7 +48,7 @@ behind_header es = table es ++ behind_entries es
 abbrev pub front : List Entry → List ℕ
 front es = header (length es) (length (strings_bytes es)) (extension_start es)
 
--- the file is its header and what is behind it
+-- the file is its header and the parts after it
 pub text_is : (es : List Entry) → cache_text es ≡ front es ++ behind_header es
 unfolding cache_text
 text_is es = simp append_assoc
@@ -60,7 +60,7 @@ length_front es = refl
 pub length_padding : (n : ℕ) → length (padding n) < 4
 length_padding n = rw length-replicate (omega arith)
 
-pub start_small : (es : List Entry) → IsLaidOut es → extension_start es < 2 ^ 31
+pub start_small : (es : List Entry) → IsLaidOut es → extension_start es < 2 * STRINGS_LIMIT
 start_small es l =
     let pad = length_padding (strings_end es) in
     omega (arith, pad, l.few, l.small)

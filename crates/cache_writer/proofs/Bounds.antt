@@ -1,4 +1,4 @@
--- How many hwcaps names there are, and how long names are.
+-- The number of hwcaps names, and their lengths.
 use Rattle.std.proofs.Common.{◌≡◌, ℕ, ◌+◌, ◌≤◌, Bool, true, false, ◌&&◌, nat_le, not, List, [], ◌∷◌, length, fold, Option, Some, None, IfSome, refl, Ordering, arith}
 use Rattle.std.proofs.lemmas.Bool.Decides.{nat_tests}
 use Rattle.std.proofs.lemmas.List.Elements.{All-head, All-nil, All-tail, All-weaker}
@@ -15,7 +15,7 @@ use Rattle.lib_types.specs.declared.name.TheConstants.{NAME_MAX}
 use Rattle.lib_types.specs.Name.{is_name, are_dots, have_no_slash}
 use Rattle.cache_writer.specs.CacheText.{hwcaps_names, with_name}
 
--- ---- how many
+-- ---- the number
 
 one_more : (r : Ordering) (k x : List ℕ) (xs more : List (List ℕ)) → length more ≤ length xs + 1 → length (match_ordering r (k ∷ x ∷ xs) (x ∷ xs) (x ∷ more)) ≤ length xs + 2
 one_more Less k x xs more h = omega arith
@@ -43,7 +43,7 @@ pub few_names : (es : List Entry) → length (hwcaps_names es) ≤ length es
 unfolding hwcaps_names
 few_names es = omega (arith, few_with [] es)
 
--- ---- how long
+-- ---- the lengths
 
 pub both_hold : (a b : Bool) → (a && b) ≡ true → (a ≡ true) × (b ≡ true)
 both_hold true b h = (refl, h)
@@ -58,7 +58,7 @@ short name h =
     let most = sizes.1 in
     grind (arith, nat_tests, most)
 
--- all hwcaps names are names
+-- each hwcaps name is a name
 named_with : (ns : List (List ℕ)) (e : Entry) → All (λ n. is_name n ≡ true) ns → IfSome e.cap (λ cap. is_name cap ≡ true) → All (λ n. is_name n ≡ true) (with_name ns e)
 named_with ns e all good = by e.cap good
   where

@@ -1,4 +1,4 @@
--- The parts of the file, one after the other.
+-- The parts of the file, one after another.
 use Rattle.std.proofs.Common.{◌≡◌, ℕ, ◌+◌, ◌-◌, ◌*◌, ◌%◌, ◌<◌, ◌==◌, true, false, List, [], ◌∷◌, ◌++◌, length, map, take, replicate, flat_map, bytes_eq, refl, sym, ap, append_assoc}
 use Rattle.std.proofs.lemmas.List.{length-map, length-replicate}
 use Rattle.std.proofs.lemmas.List.Elements.{All-map, All-weaker}
@@ -26,7 +26,7 @@ pub without_names : (out : List ℕ) (place names : ℕ) → (names == 0) ≡ tr
 unfolding directory generator
 without_names out place names h = rw h (simp append_assoc)
 
--- the fields of an entry, one after the other
+-- the fields of an entry, one after another
 pub put_fields : (s : Strings) (names : List (List ℕ)) (e : Entry) (out : List ℕ) (flags soname path hwcap : ℕ) → flags ≡ flags_of e.abi
     → soname ≡ place_of s e.soname → path ≡ place_of s e.path → hwcap ≡ hwcap_of names e.cap
     → out ++ (little_bytes 4 flags ++ little_bytes 4 soname ++ little_bytes 4 path ++ little_bytes 4 0 ++ little_bytes 8 hwcap) ≡ out ++ entry_bytes (place_of s) names e
@@ -35,7 +35,7 @@ put_fields s names e out flags soname path hwcap f k v h = rw (← f, ← k, ←
 
 -- ---- the parts
 
--- the numbers of names that are there
+-- the indexes of names that are in the list are in range
 pub numbers_within : (texts names : List (List ℕ)) → AreAmong texts names → All (λ number. number < length texts) (map (number_of texts) names)
 numbers_within texts names among =
     All-map (λ number. number < length texts) (number_of texts) names
@@ -70,7 +70,7 @@ unfolding joined
 parts_joined s names es out table bytes offsets count many end pad start none c m t b o e p f =
     rw (none, f, p, e, c, m, t, b, o) (simp (append_assoc, length-replicate))
 
--- the file of the strings of entries is their cache
+-- joining the strings of the entries gives their cache
 is_cache : (es : List Entry) → joined (record { base = strings_start es; texts = strings es }) (hwcaps_names es) es ≡ cache_text es
 unfolding cache_text joined
 is_cache es = refl

@@ -1,4 +1,4 @@
--- How many bytes the strings of a cache take, and what writing knows of them.
+-- The size of the strings of a cache, and the facts that the writer uses.
 use Rattle.std.proofs.Common.{◌≡◌, ◌≤◌, ◌<◌, ◌+◌, ◌*◌, ℕ, List, [], ◌∷◌, ◌++◌, length, flat_map, map, ap, sym, ◌∙◌, bytes_eq, arith, true, IfSome}
 use Rattle.std.proofs.lemmas.List.Elements.{All-head, All-tail, All-map, All-weaker}
 use Rattle.std.proofs.lemmas.List.Sums.{fold-append}
@@ -22,14 +22,14 @@ use Rattle.cache_writer.proofs.Bounds.{few_names, short_names, short_sonames}
 
 -- ---- their size
 
-names_size : (ts ns : List (List ℕ)) → All (λ n. length n ≤ NAME_MAX) ns → length (table_of (with_all ts ns)) ≤ length (table_of ts) + 256 * length ns
+names_size : (ts ns : List (List ℕ)) → All (λ n. length n ≤ NAME_MAX) ns → length (table_of (with_all ts ns)) ≤ length (table_of ts) + (NAME_MAX + 1) * length ns
 names_size ts [] short = omega arith
 names_size ts (n ∷ ns) short =
     let P : List ℕ → Type 0 = λ n. length n ≤ NAME_MAX in
     omega (arith, All-head P n ns short, length_table_insert ts n, names_size (insert_key bytes_eq ts n) ns (All-tail P n ns short))
 
 own_size : (ts : List (List ℕ)) (es : List Entry) → All (λ e. length e.soname ≤ NAME_MAX) es → All (λ e. length e.path ≤ STRING_MAX) es
-    → length (table_of (with_all ts (flat_map own_strings es))) ≤ length (table_of ts) + 4957 * length es
+    → length (table_of (with_all ts (flat_map own_strings es))) ≤ length (table_of ts) + (NAME_MAX + STRING_MAX + 2) * length es
 own_size ts [] sonames paths = omega arith
 own_size ts (e ∷ es) sonames paths =
     let P : Entry → Type 0 = λ e. length e.soname ≤ NAME_MAX in
@@ -38,7 +38,7 @@ own_size ts (e ∷ es) sonames paths =
     let two = insert_key bytes_eq one e.path in
     omega (arith, All-head P e es sonames, All-head Q e es paths, length_table_insert ts e.soname, length_table_insert one e.path, own_size two es (All-tail P e es sonames) (All-tail Q e es paths))
 
--- all strings have fewer bytes than the limit
+-- the total size of the strings is below the limit
 small_strings : (es : List Entry) → length es ≤ ENTRIES_MAX → All (λ e. length e.soname ≤ NAME_MAX) es → All (λ e. length e.path ≤ STRING_MAX) es → All (λ n. length n ≤ NAME_MAX) (hwcaps_names es)
     → length (table_of (strings es)) < STRINGS_LIMIT
 small_strings es few sonames paths names =
@@ -47,17 +47,17 @@ small_strings es few sonames paths names =
     ap (λ ts. length (table_of ts)) (distinct_append [] (own ++ hwcaps_names es) ∙ fold-append (insert_key bytes_eq) [] own (hwcaps_names es)) in
     omega (arith, few, all, few_names es, own_size [] es sonames paths, names_size (with_all [] own) (hwcaps_names es) names)
 
--- ---- what is known once all are gathered
+-- ---- after all strings are gathered
 
--- the strings of the entries, and then the names
+-- the strings of the entries, followed by the names
 all_strings : (es : List Entry) (names own all : List (List ℕ)) → names ≡ hwcaps_names es → own ≡ distinct (flat_map own_strings es) → all ≡ with_all own names → all ≡ strings es
 all_strings es names own all is first second = second ∙ rw (first, is) (sym (distinct_append (flat_map own_strings es) (hwcaps_names es)))
 
--- each entry has its strings among them
+-- the strings of each entry are in the list
 own_among : (texts : List (List ℕ)) (ns : List NumberedEntry) → All (HasNumbers texts) ns → All (HasOwn texts) (map (λ n. n.entry.now) ns)
 own_among texts ns all = All-map (HasOwn texts) (λ (n : NumberedEntry). n.entry.now) ns (All-weaker (HasNumbers texts) (λ n. HasOwn texts n.entry.now) (λ n h. h.own) ns all)
 
--- what is given to `write`, and what it gathers
+-- the arguments of `write`, and what it gathers
 module _ (es entries : List Entry) (names own all : List (List ℕ)) (ns : List NumberedEntry) (same : es ≡ entries) (many : length entries ≤ ENTRIES_MAX)
     (named : All (λ entry. is_name entry.soname ≡ true) entries) (caps : All (λ entry. IfSome entry.cap (λ cap. is_name cap ≡ true)) entries) (paths : All (λ entry. length entry.path ≤ STRING_MAX) entries)
     (is : names ≡ hwcaps_names es) (first : own ≡ distinct (flat_map own_strings es)) (second : all ≡ with_all own names) where
@@ -73,7 +73,7 @@ module _ (es entries : List Entry) (names own all : List (List ℕ)) (ns : List 
   pub small : length (table_of all) < STRINGS_LIMIT
   small = rw gathered (small_strings es few (short_sonames es (rw same named)) (rw same paths) (short_names es (rw same caps)))
 
-  -- the names that are added change no number
+  -- adding the names doesn't change the index of a string
   pub kept : All (HasNumbers own) ns → All (HasNumbers all) ns
   kept numbers = rw second (All-weaker (HasNumbers own) (HasNumbers (with_all own names)) (λ n h. numbers_kept own names n h) ns numbers)
 

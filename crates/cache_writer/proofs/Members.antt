@@ -1,4 +1,4 @@
--- The hwcaps name of each entry is among the names, at its index.
+-- The hwcaps name of each entry is in the list of names, at its index.
 use Rattle.std.proofs.Common.{◌≡◌, ℕ, zero, suc, ◌+◌, ◌<◌, ◌||◌, Bool, true, false, not, cond, List, [], ◌∷◌, length, fold, get_or, Option, Some, None, Ordering, refl, sym, arith, bytes_eq, true≢false}
 use Rattle.std.proofs.Math.Bool.{or-true}
 use Rattle.std.proofs.lemmas.Map.Lookups.{exact_bytes}
@@ -15,7 +15,7 @@ use Rattle.cache_writer.specs.CacheText.{hwcaps_names, with_name}
 itself : (t : List ℕ) → bytes_eq t t ≡ true
 itself t = (bytes_eq-Decides t t).1 refl
 
--- a name that is put in is there
+-- an inserted name is in the list
 put_there : (xs : List (List ℕ)) (k : List ℕ) → list_any (bytes_eq k) (insert_key (slice_cmp nat_cmp) xs k) ≡ true
 put_there [] k = rw itself refl
 put_there (x ∷ xs) k = by (slice_cmp nat_cmp k x) refl (put_there xs k)
@@ -30,7 +30,7 @@ or_cases : (a b c : Bool) → (a || b) ≡ true → (b ≡ true → c ≡ true) 
 or_cases true b c h f = refl
 or_cases false b c h f = f h
 
--- and others stay
+-- names that were in the list are still there
 put_keeps : (xs : List (List ℕ)) (k t : List ℕ) → list_any (bytes_eq t) xs ≡ true → list_any (bytes_eq t) (insert_key (slice_cmp nat_cmp) xs k) ≡ true
 put_keeps [] k t h = absurd (true≢false (sym h))
 put_keeps (x ∷ xs) k t h = by (slice_cmp nat_cmp k x) (put_keeps xs k t)
@@ -63,7 +63,7 @@ pub cap_among : (es : List Entry) (i : ℕ) (d : Entry) (c : List ℕ) → i < l
 unfolding hwcaps_names
 cap_among es i d c h is = cap_there [] es i d c h is
 
--- the index of a name among others
+-- the index of a name in the list
 pub index_there : (c : List ℕ) (ns : List (List ℕ)) (d : List ℕ) → list_any (bytes_eq c) ns ≡ true → (position_or_len (bytes_eq c) ns < length ns) × (get_or ns (position_or_len (bytes_eq c) ns) d ≡ c)
 index_there c [] d h = absurd (true≢false (sym h))
 index_there c (n ∷ ns) d h = by (bytes_eq c n) refl h (index_there c ns d)

@@ -1,4 +1,4 @@
--- The entries that are read of a written cache are those that were written.
+-- Reading back a written cache gives the entries that were written.
 use Rattle.std.proofs.Common.{◌≡◌, ℕ, suc, ◌+◌, ◌/◌, ◌^◌, ◌<◌, ◌==◌, ◌&&◌, true, false, not, List, [], ◌∷◌, length, map, get_or, slice_index, Option, Some, None, IfSome, refl, sym, ap, ◌∙◌, arith, bytes_eq}
 use Rattle.std.proofs.lemmas.Bool.Decides.{nat_tests}
 use Rattle.std.proofs.lemmas.List.FromFn.{get_or-map-range_with_len}
@@ -18,7 +18,7 @@ use Rattle.cache_writer.proofs.Back.{IsLaidOut, nlibs_back, entry_back, string_b
 use Rattle.cache_writer.proofs.Sections.{count, names_are, offset_back, number_at}
 use Rattle.cache_writer.proofs.Members.{cap_among, index_there}
 
--- what is written has no NUL
+-- the written strings have no NUL
 pub record IsPlain (e : Entry) : Type 0 where
   pub soname : has_no_nul e.soname ≡ true
   pub path : has_no_nul e.path ≡ true
@@ -95,7 +95,7 @@ all_read es l plain =
     ap (λ n. map (read.entry_at (cache_text es)) (range_with_len 0 n)) (nlibs_back es l)
     ∙ by_items (read.entry_at (cache_text es)) (as_read (hwcaps_names es)) es 0 (λ i d h. let e : 0 + i ≡ i = omega arith in rw e (entry_read es l plain i d h))
 
--- ---- what the conditions of writing give
+-- ---- what follows from the preconditions of writing
 
 pub all_plain : (es : List Entry) → All (λ entry. is_name entry.soname ≡ true) es → All (λ entry. IfSome entry.cap (λ cap. is_name cap ≡ true)) es → All (λ entry. has_no_nul entry.path ≡ true) es → All IsPlain es
 all_plain es sonames caps paths i d h = record {

@@ -1,4 +1,4 @@
--- What is read of a written cache: the extension directory and the offsets of the hwcaps names.
+-- Reading back the extension directory and the offsets of the hwcaps names of a written cache.
 use Rattle.std.proofs.Common.{◌≡◌, ℕ, suc, ◌+◌, ◌*◌, ◌/◌, ◌^◌, ◌<◌, ◌≤◌, ◌==◌, Bool, true, false, cond, List, [], ◌∷◌, ◌++◌, length, flat_map, drop, get_or, map, slice_index, Option, Some, None, refl, sym, ap, ◌∙◌, append_assoc, arith, length-append, if◌then◌else◌}
 use Rattle.std.proofs.lemmas.Bool.Decides.{nat_tests}
 use Rattle.std.specs.List.{range_with_len}
@@ -21,7 +21,7 @@ use Rattle.cache_writer.proofs.Back.{IsLaidOut, front, table, text_is, length_fr
 abbrev pub count : List Entry → ℕ
 count es = length (hwcaps_names es)
 
--- ---- the parts of the file before and behind the directory
+-- ---- the parts of the file before and after the directory
 
 abbrev pub body : List Entry → List ℕ
 body es = front es ++ (table es ++ (strings_bytes es ++ padding (strings_end es)))
@@ -44,7 +44,7 @@ pub length_generator : length generator ≡ 42
 unfolding generator
 length_generator = refl
 
--- the directory with its sections
+-- the directory entry of the section of hwcaps names, if there are names
 abbrev names_part : ℕ → ℕ → List ℕ
 names_part x m = if m == 0 then [] else section names_tag (names_start x m) (4 * m)
 
@@ -62,7 +62,7 @@ length_directory x m = by (m == 0)
     by true = refl
     by false = refl
 
--- ---- the sections that are read
+-- ---- the sections, read back
 
 abbrev pub first_section : ℕ → ℕ → Section
 first_section x m = record { tag = 0; offset = generator_start x m; size = 42 }
@@ -88,7 +88,7 @@ few es l = let n = few_names es in omega (arith, n, l.few)
 pub counted : (m : ℕ) → section_count m ≤ 2
 counted m = elim (m == 0) as (λ t. cond t 1 2 ≤ 2) [ true ↦ omega arith | false ↦ omega arith ]
 
--- the bytes from a place of the directory on
+-- the bytes from an offset inside the directory on
 in_directory : (es : List Entry) (k : ℕ) → drop (extension_start es + k) (cache_text es)
     ≡ drop k (laid_out directory_fields (extension_magic ∷ section_count (count es) ∷ []) ++ (section generator_tag (generator_start (extension_start es) (count es)) 42 ++ (names_part (extension_start es) (count es) ++ (offsets es ++ generator))))
 in_directory es k =
@@ -126,7 +126,7 @@ second_back es l some =
     section_there (cache_text es) (offsets es ++ generator) x 1 1 (names_start x m) (4 * m)
     (ap (λ k. drop k (cache_text es)) place ∙ in_directory es 24 ∙ there) (omega arith) (omega (arith, start, many, sections)) (omega (arith, many))
 
--- the extension begins behind the header
+-- reading back the offset of the extension directory
 pub extension_back : (es : List Entry) → IsLaidOut es → read.extension (cache_text es) ≡ extension_start es
 extension_back es l = header_back es l 4 (omega arith)
 

@@ -1,4 +1,4 @@
--- Names in the order of their bytes, as they are gathered.
+-- Names sorted by their bytes, while they are gathered.
 use Rattle.std.proofs.Common.{◌≡◌, ℕ, ◌+◌, ◌≤◌, nat_lt, Bool, true, false, cond, not, List, [], ◌∷◌, ◌++◌, length, map, Some, None, refl, ap, ◌∙◌, Bor, Ordering, bytes_eq, unwrap_or, arith, append_assoc}
 use Rattle.std.proofs.lemmas.Bool.Decides.{nat_tests}
 use Rattle.std.proofs.lemmas.Cmp.{nat_list_cmp_total}
@@ -17,7 +17,7 @@ use Rattle.indexmap.specs.IndexSet.{insert_key as put_last}
 abbrev pub by_bytes : Bor (List ℕ) → Bor (List ℕ) → Ordering
 by_bytes a b = slice_cmp nat_cmp a.now b.now
 
--- ---- a name at its place in the order
+-- ---- inserting a name in sorted order
 
 placed : (r : Ordering) (k x : Bor (List ℕ)) (xs more : List (Bor (List ℕ))) (rest : List (List ℕ)) → map (λ n. n.now) more ≡ rest
     → map (λ n. n.now) (match_ordering r (k ∷ x ∷ xs) (x ∷ xs) (x ∷ more)) ≡ match_ordering r (k.now ∷ x.now ∷ map (λ n. n.now) xs) (x.now ∷ map (λ n. n.now) xs) (x.now ∷ rest)
@@ -29,7 +29,7 @@ pub inserted : (xs : List (Bor (List ℕ))) (k : Bor (List ℕ)) → map (λ n. 
 inserted [] k = refl
 inserted (x ∷ xs) k = placed (by_bytes k x) k x xs (insert_key by_bytes xs k) (insert_key (slice_cmp nat_cmp) (map (λ n. n.now) xs) k.now) (inserted xs k)
 
--- ---- names that are gathered in this order
+-- ---- gathering names in this order
 
 tied : (x : List ℕ) → slice_cmp nat_cmp x x ≡ Equal
 tied x = by (slice_cmp nat_cmp x x) refl
@@ -56,7 +56,7 @@ at_end : (P : Bor (List ℕ) → Type 0) (xs : List (Bor (List ℕ))) (k : Bor (
 at_end P [] k rest all = all.0
 at_end P (x ∷ xs) k rest all = at_end P xs k rest all.1
 
--- the next name is none of those before it
+-- the next name is different from all names before it
 pub next_is_new : (xs : List (Bor (List ℕ))) (k : Bor (List ℕ)) (rest : List (Bor (List ℕ))) → IsStrictlySortedBy by_bytes (xs ++ k ∷ rest)
     → list_any (λ n. bytes_eq k.now n.now) xs ≡ false
 next_is_new [] k rest s = refl
@@ -64,7 +64,7 @@ next_is_new (x ∷ xs) k rest s =
     let less : by_bytes x k ≡ Less = at_end (λ y. by_bytes x y ≡ Less) xs k rest (sorted_head by_bytes x (xs ++ k ∷ rest) s) in
     rw (apart x.now k.now less) (next_is_new xs k rest (sorted_tail by_bytes x (xs ++ k ∷ rest) s))
 
--- so it is put last, and those that are left stay
+-- so it is added at the end, and the names that are left stay the same
 pub gathered : (xs : List (Bor (List ℕ))) (k : Bor (List ℕ)) (rest : List (Bor (List ℕ))) → IsStrictlySortedBy by_bytes (xs ++ k ∷ rest)
     → put_last (λ a b. bytes_eq a.now b.now) xs k ++ rest ≡ xs ++ k ∷ rest
 gathered xs k rest s = rw (next_is_new xs k rest s) (append_assoc xs (k ∷ []) rest)

@@ -1,4 +1,4 @@
--- Where the entries and the strings of a cache are read.
+-- Reading the entries and the strings of a cache at their offsets.
 use Rattle.std.proofs.Common.{◌≡◌, ℕ, zero, suc, ◌+◌, ◌-◌, ◌<◌, ◌≤◌, ◌==◌, ◌||◌, true, false, List, [], ◌∷◌, ◌++◌, length, drop, refl, sym, ap, ◌∙◌, append_assoc, arith, bytes_eq, length-append}
 use Rattle.std.proofs.lemmas.List.{length-drop, take-append-drop}
 use Rattle.std.specs.List.{list_any, before_first}
@@ -9,7 +9,7 @@ use Rattle.string_pool.proofs.InOrder.{stands, place_of_le}
 use Rattle.cache_reader.specs.Cache.{is_nul, text_at, is_ended}
 use Rattle.image_tree.specs.Node.{has_no_nul}
 
--- the bytes at an offset are a text and its NUL
+-- the bytes at this offset are a text and its NUL
 pub record HasText (bytes : List ℕ) (at : ℕ) (text : List ℕ) : Type 0 where
   pub rest : List ℕ
   pub there : drop at bytes ≡ text ++ 0 ∷ rest
@@ -19,7 +19,7 @@ drop_in zero xs ys h = refl
 drop_in (suc k) [] ys h = absurd (omega arith)
 drop_in (suc k) (x ∷ xs) ys h = drop_in k xs ys (omega arith)
 
--- a string of a table
+-- a string of the string table is at its offset
 pub string_there : (front rest : List ℕ) (ts : List (List ℕ)) (t : List ℕ) (base : ℕ) → length front ≡ base → list_any (bytes_eq t) ts ≡ true
     → HasText (front ++ (table_of ts ++ rest)) (base + offset_of ts t) t
 string_there front rest ts t base size among =

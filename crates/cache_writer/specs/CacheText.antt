@@ -1,5 +1,5 @@
--- The file of a cache, as glibc's dl-cache.h lays it out: struct cache_file_new, struct file_entry_new for each entry, the strings, and
--- struct cache_extension with its sections. All numbers have their lowest byte first.
+-- The bytes of a cache file, as in glibc's dl-cache.h: struct cache_file_new, struct file_entry_new for each entry, the strings, and
+-- struct cache_extension with its sections. All numbers are little-endian.
 use Rattle.std.specs.Prelude.{ℕ, ◌+◌, ◌-◌, ◌*◌, ◌%◌, ◌==◌, List, [], ◌∷◌, ◌++◌, length, flat_map, fold, replicate, Option, Some, None, codes, if◌then◌else◌}
 use Rattle.std.specs.BTreeSet.{insert_key}
 use Rattle.std.specs.Cmp.Lexicographic.{slice_cmp}
@@ -16,11 +16,11 @@ use Rattle.cache_layout.specs.Layout.{laid_out, magic, header_fields, header_siz
 
 -- ---- the hwcaps names and the strings
 
--- with the hwcaps name of an entry, at its place in the order of the bytes
+-- the names with the hwcaps name of an entry inserted, sorted by bytes
 abbrev pub with_name : List (List ℕ) → Entry → List (List ℕ)
 with_name names entry = option_map_or (insert_key (slice_cmp nat_cmp) names) entry.cap names
 
--- the hwcaps names of entries, each once, in the order of their bytes
+-- the hwcaps names of the entries, each once, sorted by bytes
 unfoldable pub hwcaps_names : List Entry → List (List ℕ)
 hwcaps_names entries = fold with_name [] entries
 
@@ -28,15 +28,15 @@ hwcaps_names entries = fold with_name [] entries
 abbrev pub own_strings : Entry → List (List ℕ)
 own_strings entry = entry.soname ∷ entry.path ∷ []
 
--- the strings of a cache, each once: those of each entry, and then the hwcaps names
+-- the strings of a cache, each once: first those of the entries, then the hwcaps names
 abbrev pub strings : List Entry → List (List ℕ)
 strings entries = distinct (flat_map own_strings entries ++ hwcaps_names entries)
 
--- they begin behind the entries
+-- the strings start after the entries
 abbrev pub strings_start : List Entry → ℕ
 strings_start entries = header_size + entry_size * length entries
 
--- they are laid out one after the other: their bytes, and the offset of one of them in the file
+-- the bytes of the strings, one after another; below, the offset of a string in the file
 abbrev pub strings_bytes : List Entry → List ℕ
 strings_bytes entries = table_of (strings entries)
 
@@ -53,34 +53,36 @@ unfoldable pub header : ℕ → ℕ → ℕ → List ℕ
 header entries strings extension =
     magic ++ laid_out header_fields (entries ∷ strings ∷ little_endian ∷ 0 ∷ extension ∷ 0 ∷ 0 ∷ 0 ∷ [])
 
--- the hwcap of an entry: the index of its name among these, or 0
+-- the hwcap of an entry: the index of its name in the list, or 0 if it has no name
 abbrev pub hwcap_of : List (List ℕ) → Option (List ℕ) → ℕ
 hwcap_of names None = 0
 hwcap_of names (Some cap) = named_hwcap (position_or_len (bytes_eq cap) names)
 
--- the flags, the offsets of the soname and of the path in the file, an unused number, and the hwcap, if `place` gives the offset of a string
+-- The flags, the offsets of the soname and of the path in the file, an unused number, and the hwcap. `place` gives the offset of a
+-- string.
 unfoldable pub entry_bytes : (List ℕ → ℕ) → List (List ℕ) → Entry → List ℕ
 entry_bytes place names entry =
     laid_out entry_fields (flags_of entry.abi ∷ place entry.soname ∷ place entry.path ∷ 0 ∷ hwcap_of names entry.cap ∷ [])
 
 -- ---- the extension
 
--- the zero bytes from this offset to a multiple of four
+-- zero bytes up to the next multiple of four
 abbrev pub padding : ℕ → List ℕ
 padding place = replicate ((4 - place % 4) % 4) 0
 
 abbrev pub extension_start : List Entry → ℕ
 extension_start entries = strings_end entries + length (padding (strings_end entries))
 
--- the text of the section with tag 0
+-- the text of the generator section
 unfoldable pub generator : List ℕ
 generator = codes "ldconfig (image profile) release version 1"
 
--- the generator's section, and that of the hwcaps names if there are any
+-- the generator section, and the section of the hwcaps names if there are any
 abbrev pub section_count : ℕ → ℕ
 section_count names = if names == 0 then 1 else 2
 
--- behind the sections of a directory at this offset, the offsets of so many hwcaps names, and then the generator's text
+-- After the sections of a directory at this offset come the offsets of the hwcaps names, and then the generator's text.
+-- `names` is the number of hwcaps names.
 abbrev pub names_start : ℕ → ℕ → ℕ
 names_start place names = place + directory_size + section_size * section_count names
 
@@ -91,7 +93,7 @@ generator_start place names = names_start place names + 4 * names
 abbrev pub section : ℕ → ℕ → ℕ → List ℕ
 section tag offset size = laid_out section_fields (tag ∷ 0 ∷ offset ∷ size ∷ [])
 
--- the extension directory at this offset, for so many hwcaps names
+-- the extension directory at this offset, for this number of hwcaps names
 unfoldable pub directory : ℕ → ℕ → List ℕ
 directory place names =
     laid_out directory_fields (extension_magic ∷ section_count names ∷ [])

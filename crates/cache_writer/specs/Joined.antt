@@ -1,11 +1,11 @@
--- A cache of strings that are laid out one after the other.
+-- A cache in terms of its list of strings.
 use Rattle.std.specs.Prelude.{ℕ, ◌+◌, ◌*◌, ◌++◌, List, length, flat_map}
 use Rattle.cache_layout.specs.Layout.{header_size, entry_size}
 use Rattle.lib_types.specs.declared.entry.Entry.{Entry}
 use Rattle.string_pool.specs.InOrder.{Strings, table_of, place_of}
 use Rattle.cache_writer.specs.CacheText.{header, entry_bytes, padding, directory, name_bytes, generator}
 
--- the file of these strings, hwcaps names and entries
+-- the bytes of a file with these strings, hwcaps names and entries
 unfoldable pub joined : Strings → List (List ℕ) → List Entry → List ℕ
 joined strings names entries =
     let bytes = table_of strings.texts in

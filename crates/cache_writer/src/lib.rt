@@ -1,4 +1,4 @@
-//! The file of a cache, which glibc's loader reads.
+//! Writes the cache file that glibc's loader reads.
 #![tactic(auto)]
 
 mod names;

@@ -9,7 +9,7 @@ use std::alloc::Global;
 use std::collections::BTreeSet;
 use std::marker::Model;
 
-/// The hwcaps names of entries, each once, in the order of their bytes. Contracts see the list of them.
+/// The hwcaps names of the entries, each once, sorted by bytes. Contracts see the list of them.
 #[derive(Drop)]
 pub struct Names<'a> {
     names: IndexSet<&'a [u8]>,
@@ -24,7 +24,7 @@ impl<'a> Model for Names<'a> {
 }
 
 impl<'a> Names<'a> {
-    /// The names of these entries.
+    /// The hwcaps names of these entries.
     #[tactic(auto, using(crate::proofs::Sorted::gathered))]
     pub fn of(alloc: Global, entries: &'a [Entry]) -> Result<Names<'a>, NoMemory>
         ensures { IfOk result (λ names. names ≡ hwcaps_names entries.now) }
@@ -37,7 +37,7 @@ impl<'a> Names<'a> {
     }
 
     #[tactic(auto, using(crate::proofs::Sorted::index_is))]
-    /// The index of a name; their number if it isn't among them.
+    /// The index of a name, or the number of names if it isn't in the list.
     pub fn index(&self, name: &[u8]) -> usize
         ensures value { result ≡ position_or_len (bytes_eq name.now) self.now }
         ensures within { result ≤ length self.now }
@@ -60,7 +60,7 @@ impl<'a> Names<'a> {
     }
 }
 
-// The names of these entries, sorted.
+// The hwcaps names of these entries, sorted.
 #[tactic(auto, unfolding(crate::specs::CacheText::hwcaps_names))]
 fn ascending<'a>(alloc: Global, entries: &'a [Entry]) -> Result<BTreeSet<&'a [u8]>, NoMemory>
     ensures { IfOk result (λ names. map (λ name. name.now) names.keys ≡ hwcaps_names entries.now) }
@@ -72,7 +72,7 @@ fn ascending<'a>(alloc: Global, entries: &'a [Entry]) -> Result<BTreeSet<&'a [u8
     Ok(names)
 }
 
-// Adds the name of an entry, if it has one that is new.
+// Adds the hwcaps name of an entry, if the entry has one and it is new.
 #[tactic(auto, using(crate::proofs::Sorted::inserted))]
 fn add_name<'a>(names: &mut BTreeSet<&'a [u8]>, entry: &'a Entry) -> Result<(), NoMemory>
     ensures { OnOk result (map (λ name. name.now) names.new.keys ≡ with_name (map (λ name. name.now) names.old.keys) entry.now) }

@@ -1,4 +1,4 @@
-//! The strings of a cache, gathered.
+//! Gathers the strings of a cache.
 ghost use Rattle.std.specs.Prelude.{◌≡◌, ◌*◌, ◌^◌, ◌≤◌, ◌<◌, ◌+◌, [], length, map, flat_map, fold, All, IfOk, OnOk, bytes_eq};
 ghost use Rattle.indexmap.specs.IndexSet.{insert_key};
 ghost use Rattle.string_pool.specs.Texts.{number_of};
@@ -13,7 +13,7 @@ use lib_types::{Entry, NoMemory};
 use std::alloc::Global;
 use string_pool::Texts;
 
-/// An entry, and the numbers of its soname and of its path among the strings.
+/// An entry, and the indexes of its soname and its path in the list of strings.
 #[derive(Drop)]
 pub struct NumberedEntry<'a> {
     pub entry: &'a Entry,
@@ -21,7 +21,7 @@ pub struct NumberedEntry<'a> {
     pub path: u32,
 }
 
-/// These entries, when their strings are added.
+/// Adds the strings of these entries to the list. Returns the entries with the indexes of their strings.
 pub fn number_entries<'a>(
     alloc: Global,
     texts: &mut Texts<'a>,
@@ -55,7 +55,7 @@ fn number_entry<'a>(texts: &mut Texts<'a>, entry: &'a Entry) -> Result<NumberedE
     })
 }
 
-/// The numbers of the hwcaps names, when they are added.
+/// Adds the hwcaps names to the list of strings. Returns their indexes.
 pub fn number_names<'a>(
     alloc: Global,
     texts: &mut Texts<'a>,

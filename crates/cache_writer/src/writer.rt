@@ -1,5 +1,5 @@
 //! The bytes of a cache.
-ghost use Rattle.std.specs.Prelude.{◌≡◌, ◌+◌, ◌*◌, ◌++◌, ◌^◌, ◌<◌, ◌≤◌, ℕ, true, length, take, All, IfOk, IfSome, None, OnOk, map, flat_map, replicate};
+ghost use Rattle.std.specs.Prelude.{◌≡◌, ◌+◌, ◌*◌, ◌++◌, ◌<◌, ◌≤◌, ℕ, true, length, take, All, IfOk, IfSome, None, OnOk, map, flat_map, replicate};
 ghost use Rattle.byteorder.specs.Endian.{little_bytes};
 ghost use Rattle.lib_types.specs.Abi.{flags_of};
 ghost use Rattle.lib_types.specs.Name.{is_name};
@@ -25,16 +25,16 @@ use lib_types::{Abi, Entries, Entry, NAME_MAX, NoMemory};
 use std::alloc::Global;
 use string_pool::{Pool, Texts};
 
-/// The most bytes of a path, which is that of a file in a folder as the folder is spelled. With it all offsets of a cache fit in
-/// their four bytes.
+/// The maximum length of a path in bytes. A path is a directory's normalized path and a file name. With this limit the strings of
+/// `ENTRIES_MAX` entries have fewer than `STRINGS_LIMIT` bytes, so that all offsets in a cache fit in 4 bytes.
 pub const STRING_MAX: usize = 4700;
 
-// The bit of a hwcap that is the index of a hwcaps name.
+// The bit that marks a hwcap as the index of a hwcaps name.
 const NAMED: u64 = 1 << 62;
 
 const GENERATOR: &[u8] = b"ldconfig (image profile) release version 1";
 
-/// The bytes of a cache of these entries.
+/// The bytes of a cache with these entries.
 pub fn write(alloc: Global, entries: &Entries) -> Result<Vec<u8>, NoMemory>
     requires few { length entries.now ≤ ENTRIES_MAX }
     requires sonames { All (λ entry. is_name entry.soname ≡ true) entries.now }
@@ -55,7 +55,7 @@ pub fn write(alloc: Global, entries: &Entries) -> Result<Vec<u8>, NoMemory>
     join(alloc, &strings, &names, &numbered, &numbers)
 }
 
-// The file of these strings, entries and hwcaps names, if these are the numbers of the names.
+// The bytes of a file with these strings, entries and hwcaps names. `numbers` are the indexes of the names in the list of strings.
 #[tactic(auto, unfolding(crate::specs::CacheText::generator))]
 fn join(
     alloc: Global,
@@ -143,7 +143,7 @@ fn flags(abi: Abi) -> u32
     abi.flags() as u32
 }
 
-// The index of an entry's hwcaps name, with the bit that says so, or 0.
+// The index of an entry's hwcaps name with the `NAMED` bit set, or 0.
 fn hwcap(names: &Names<'_>, entry: &Entry) -> u64
     requires { length names.now ≤ ENTRIES_MAX }
     ensures { result ≡ hwcap_of names.now entry.now.cap }
@@ -154,7 +154,7 @@ fn hwcap(names: &Names<'_>, entry: &Entry) -> u64
     }
 }
 
-// Puts the offsets of the strings with these numbers.
+// Writes the offsets of the strings with these indexes.
 fn put_offsets(out: &mut Vec<u8>, strings: &Pool<'_>, numbers: &[u32]) -> Result<(), NoMemory>
     requires { All (λ number. number < length strings.now.texts) numbers.now }
     ensures { OnOk result (out.new.items ≡ out.old.items ++ flat_map (λ number. little_bytes 4 (strings.now.base + length (table_of (take number strings.now.texts)))) numbers.now) }
@@ -185,11 +185,11 @@ fn section_count(names: u32) -> u32
     if names == 0 { 1 } else { 2 }
 }
 
-// The directory with its sections.
+// Writes the directory with its sections.
 #[tactic(auto, unfolding(crate::specs::CacheText::directory, crate::specs::CacheText::generator))]
 fn put_directory(out: &mut Vec<u8>, place: u32, names: u32) -> Result<(), NoMemory>
     requires names { names ≤ ENTRIES_MAX }
-    requires place { place < 2 ^ 31 }
+    requires place { place < 2 * STRINGS_LIMIT }
     ensures { OnOk result (out.new.items ≡ out.old.items ++ directory place names) }
 {
     let sections = section_count(names);

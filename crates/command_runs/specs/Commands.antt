@@ -1,4 +1,4 @@
--- What a command does, with the values that it was given.
+-- What a command does with its values.
 use Rattle.commands.specs.declared.kinds.Command.{Command}
 use Rattle.commands.specs.declared.kinds.Command.TheVariants as commands
 use Rattle.command_status.specs.declared.status.Status.{Status}

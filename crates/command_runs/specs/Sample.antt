@@ -1,4 +1,4 @@
--- The command `sample`, which works on devices in memory of its own and on the output.
+-- The command `sample`, which works in memory and writes only to the output.
 use Rattle.std.specs.Prelude.{◌≡◌, ℕ}
 use Rattle.command_status.specs.declared.status.Status.{Status}
 use Rattle.commands.specs.Devices.{DeviceStates}

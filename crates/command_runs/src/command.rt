@@ -13,7 +13,7 @@ use std::alloc::Global;
 use tree_face::{Disk, Sink, Source, Store};
 use update_runs::Updater;
 
-/// Writes the fault line of arguments that are those of no command, and returns that status.
+/// Writes the fault line of invalid arguments, and returns their status.
 pub fn refuse_arguments<O: Sink>(out: &mut O) -> Status
     ensures status { result ≡ Status.Usage }
     ensures line { EndsWith Status.Usage (O.state out.old) (O.state out.new) }
@@ -24,12 +24,13 @@ pub fn refuse_arguments<O: Sink>(out: &mut O) -> Status
 
 /// Runs a command.
 ///
-/// `update` plans the links of the libraries of the manifest's tree, puts them into the Manifest slot, the cache of the entries into
-/// the Cache slot and the stamps of the libraries into the Aux slot, and writes a report. `batch` takes a script of edits of the tree and
-/// of updates from the input.
-/// `print` writes the entries of the cache as text, and `lookup` the path that the loader takes from it for a name. `resolve` lists the
-/// libraries that a program of the manifest's tree loads. Every other status than Done and Missing but OutputFault and NoMemory writes
-/// its fault line. Only `batch` reads the input. `sample` makes updates of images of made libraries on devices in memory of its own.
+/// `update` plans the links of the libraries in the manifest's tree and adds them to the manifest file. It writes the cache of the entries
+/// to the cache file, the libraries' stamps to the auxiliary cache file, and a report to the output. `batch` reads a script from the
+/// input, with edits of the tree and updates. `print` writes the entries of the cache as text. `lookup` writes the path that the loader
+/// takes from the cache for a name. `resolve` lists the libraries that a program of the manifest's tree loads. `sample` updates images of
+/// synthetic libraries in memory.
+///
+/// Only `batch` reads the input. The statuses `Done`, `Missing`, `OutputFault` and `NoMemory` write no fault line, every other status does.
 pub fn run_command<S: Store, D: Disk, I: Source, O: Sink>(
     alloc: Global,
     command: Command,

@@ -1,4 +1,4 @@
--- What a command leaves of the temporary files of another tag than its own.
+-- A command leaves the temporary files of another tag as they are.
 use Rattle.std.proofs.Common.{◌≡◌, [], Result, Ok, Err, refl, ap, ◌∙◌, inl, inr}
 use Rattle.commands.specs.Devices.{DeviceStates}
 use Rattle.tree_face.specs.declared.disk.Slot.{Slot}

@@ -13,7 +13,7 @@ use std::process::Abort;
 use std::test::Fail;
 use tree_face::{Disk, Slot, Tag};
 
-// Runs an update, compares all that it leaves, and returns how many files it begins.
+// Runs an update, compares everything that it leaves, and returns the number of files that it opens.
 fn assert_update(
     rt: &impl Abort,
     alloc: Global,
@@ -27,7 +27,7 @@ fn assert_update(
     Ok(devices.store.begun())
 }
 
-// Runs an update whose store fails or lacks a file, which has to leave all as it was, and returns how many files it begins.
+// Runs an update whose store fails or lacks a file. The update must leave everything as it was. Returns the number of files that it opens.
 fn assert_store_fault(
     rt: &impl Abort,
     alloc: Global,
@@ -46,7 +46,7 @@ fn assert_store_fault(
 #[test]
 fn the_store_fails(rt: HostRuntime) -> Result<(), Fail> {
     let alloc = rt.alloc();
-    // the key is begun; then header, program headers, dynamic entries and the text are read, in one call each
+    // the file is opened; then header, program headers, dynamic entries and the text are read, in one call each
     for call in 0..5 {
         let _ = assert_store_fault(&rt, alloc, LIBZ_MANIFEST, LIBZ.held, Some(call))?;
     }
@@ -86,7 +86,7 @@ const LINKED_CACHE: &[u8] = b"\
     \x74\x21\xa4\xea\x01\x00\x00\x00\x00\x00\x00\x00\x00\x00\x00\x00\xb8\x00\x00\x00\x2a\x00\x00\x00\
     ldconfig (image profile) release version 1";
 
-// Each file in turn isn't held; and how many files are begun up to that one.
+// The store lacks each file in turn. The number is how many files are opened, including the missing one.
 const LACKING: &[(&[Held<'_>], u64)] = &[(&[FOO, Q], 1), (&[CONF, Q], 2), (&[CONF, FOO], 3)];
 
 // What an update of the linked image leaves.
@@ -97,7 +97,7 @@ fn linked() -> Wanted<'static> {
     }
 }
 
-// The conf file takes a beginning and a reading, and each library five calls: 12 in all.
+// The conf file takes two calls, to open it and to read it. Each library takes five, so there are 12 in all.
 #[test]
 fn the_store_fails_at_each_file(rt: HostRuntime) -> Result<(), Fail> {
     let alloc = rt.alloc();
@@ -123,7 +123,7 @@ struct Update<'a> {
     manifest: &'a [u8],
     cache: &'a [u8],
     slots: &'a [Slot],
-    /// How many writing calls it makes.
+    /// The number of its writing calls.
     calls: u64,
     held: &'a [Held<'a>],
 }
@@ -148,7 +148,7 @@ const LINKED: Update<'_> = Update {
 
 const UPDATES: &[Update<'_>] = &[LIBZ, LINKED];
 
-// How many calls of the disk read slots, before any writes one.
+// The number of disk calls that read a file. They come before the writing calls.
 const READS: u64 = 2;
 
 fn devices_of(
@@ -163,8 +163,8 @@ fn devices_of(
     Ok(make_devices(alloc, setting, all(alloc, update.held)?)?)
 }
 
-// Whether the slot has an old content or a new one, None being none, if its publishing is one call and another fails. A publishing that
-// fails leaves the old content or the new one.
+// Whether the slot's file has a possible content, if the call `publishing` renames it into place and the call `failing` fails. The content
+// None means that there is no file. If the renaming call itself fails, the file has the old content or the new one.
 fn is_old_or_new(
     alloc: Global,
     devices: &mut Devices,
@@ -191,8 +191,8 @@ fn are_first(
     Ok(devices.disk.calls() == calls.as_slice())
 }
 
-// Whether an update whose disk failed at a call has left what it may leave. The disk's calls 0 and 1 read the manifest and the auxiliary
-// cache, and then five calls replace each slot, the fourth of them by publishing; the last but one publishes the auxiliary cache.
+// Whether an update in which a disk call failed has left a possible state. Calls 0 and 1 read the manifest and the auxiliary cache. Then
+// five calls replace each file. The fourth of them renames it into place, so the last call but one does so for the auxiliary cache.
 fn is_cut_short(alloc: Global, update: &Update<'_>, devices: &mut Devices, call: u64) -> bool {
     let manifests = (Some(update.before), update.manifest);
     let caches = (Some(OLD), update.cache);
@@ -228,7 +228,7 @@ fn assert_disk_fault(
     Ok(())
 }
 
-// Runs an update whose disk fails at this call.
+// Runs an update in which this disk call fails.
 fn assert_fails(
     rt: &impl Abort,
     alloc: Global,
@@ -265,14 +265,14 @@ fn assert_stops(
     devices.disk.stop_after(calls);
     let status = run_update(alloc, &mut devices);
     assert!(rt; !is_readable(alloc, &mut devices), "after {calls}");
-    // the disk goes on
+    // the disk works again
     devices.disk.stop_after(99);
     let failing = calls.saturating_add(READS);
     assert_disk_fault(rt, alloc, update, status, &mut devices, failing)?;
     assert_mended(rt, alloc, update, &mut devices)
 }
 
-// The next update leaves what one leaves that wasn't stopped.
+// The next update leaves what an undisturbed update leaves.
 fn assert_mended(
     rt: &impl Abort,
     alloc: Global,
@@ -318,7 +318,7 @@ const BAD: ManifestFault = ManifestFault::Bad {
     kind: LineKind::BadType,
 };
 
-// Manifests of which something else is refused first.
+// Manifests with another error, which is reported first.
 const REFUSED: &[(&[u8], Status)] = &[
     (b"./a type=x\n", Status::BadManifest(BAD)),
     (

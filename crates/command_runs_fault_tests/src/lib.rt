@@ -1,4 +1,4 @@
-//! Tests of the command `update` over devices that fail, each at each of its calls, and of several updaters at one disk.
+//! Tests of the command `update` over devices each of whose calls fails, and of several updaters at one disk.
 #![tactic(auto)]
 
 #[cfg(test)]

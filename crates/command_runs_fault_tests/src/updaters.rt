@@ -1,4 +1,4 @@
-//! Several updaters at one disk: each has temporary files of its own.
+//! Several updaters at one disk: each has its own temporary files.
 use command_runs::{Status, run_command};
 use command_runs_fixture::{LIBZ_MANIFEST, ONE_CACHE, has, image, libz_held, make_devices};
 use commands::{Command, Devices};
@@ -13,7 +13,7 @@ fn is(found: &Option<Vec<u8>>, want: &[u8]) -> bool {
     }
 }
 
-// Whether an update between two calls of another is done, and both caches are written.
+// Whether an update succeeds if it runs between two calls of another, and both caches are written.
 fn are_both_written(alloc: Global) -> Result<bool, Fail> {
     let devices = make_devices(alloc, image(LIBZ_MANIFEST), libz_held(alloc)?)?;
     let mut store = devices.store;

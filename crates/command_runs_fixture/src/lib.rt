@@ -1,6 +1,5 @@
-//! Devices in memory for one run of the command, what they have to hold after it, and libraries and caches that several
-//! tests speak of.
-//! Tests of the command use it in crates of their own, so that no check of them is long.
+//! Devices in memory for one run of a command, their expected contents after it, and libraries and caches that several tests use. The
+//! tests of the commands are in several crates, so that each of them can be checked quickly.
 #![tactic(auto)]
 
 mod libraries;

@@ -9,10 +9,10 @@ use elf_samples::{SampleFault, file_of, library_file, needing};
 use lib_types::{Abi, NoMemory, Text, Texts};
 use std::alloc::Global;
 
-/// What a store holds under a key.
+/// The content that a store holds under a key.
 #[derive(Clone, Copy)]
 pub enum Held<'a> {
-    /// A shared object for x86-64 with this DT_SONAME alone.
+    /// A shared object for x86-64 that has only this DT_SONAME.
     Library(&'a str, &'a str),
     /// A shared object for another ABI.
     LibraryFor(Abi, &'a str, &'a str),
@@ -21,7 +21,7 @@ pub enum Held<'a> {
     Text(&'a str, &'a str),
 }
 
-/// A shared object for x86-64 with this DT_SONAME alone.
+/// A shared object for x86-64 that has only this DT_SONAME.
 pub fn library(alloc: Global, soname: &[u8]) -> Result<Vec<u8>, SampleFault>
     ensures { IfOk result (λ bytes. bytes.items ≡ made (samples.library X86_64 soname.now)) }
 {
@@ -35,7 +35,7 @@ pub fn libz(alloc: Global, abi: Abi) -> Result<Vec<u8>, SampleFault>
     library_file(alloc, abi, b"libz.so.1")
 }
 
-/// What holds only `libz.so.1` for x86-64, where the example's manifest has it.
+/// The contents of a store that has only `libz.so.1` for x86-64, at its path in the example's manifest.
 pub fn libz_held(alloc: Global) -> Result<Pairs, SampleFault> {
     let content = libz(alloc, Abi::X86_64)?;
     Ok(one(alloc, LIBZ_KEY, &content)?)
@@ -74,7 +74,7 @@ fn push(pairs: &mut Pairs, key: Text, content: Text) -> Result<(), NoMemory>
     Ok(())
 }
 
-/// What holds all of these.
+/// The contents of a store that has all of these.
 pub fn all(alloc: Global, held: &[Held<'_>]) -> Result<Pairs, SampleFault>
     ensures { IfOk result (λ pairs. length pairs.items ≡ length held.now) }
 {

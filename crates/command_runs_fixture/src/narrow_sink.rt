@@ -1,4 +1,4 @@
-//! A sink that takes few bytes at a call.
+//! A sink that accepts few bytes per call.
 ghost use Rattle.tree_face.specs.SureStream.{failing_sink_state};
 
 use crate::setting::number;
@@ -6,21 +6,21 @@ use lib_types::{Failed, NoMemory};
 use std::alloc::Global;
 use tree_face::{MemSink, Sink};
 
-/// A sink that takes at most seven bytes at a call.
+/// A sink that accepts at most seven bytes per call.
 #[derive(Drop)]
 pub struct NarrowSink {
     sink: MemSink,
 }
 
 impl NarrowSink {
-    /// A sink whose call of this number fails, counted from 0.
+    /// A sink in which the call with this number fails, counted from 0.
     pub fn new(alloc: Global, call: u64) -> Result<NarrowSink, NoMemory> {
         Ok(NarrowSink {
             sink: MemSink::new(alloc, number(alloc, Some(call))?),
         })
     }
 
-    /// What it took.
+    /// The bytes that it accepted.
     pub fn written(&self) -> &[u8] {
         self.sink.written()
     }

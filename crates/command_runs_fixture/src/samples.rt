@@ -1,7 +1,6 @@
-//! Caches that several tests speak of, byte by byte as glibc's dl-cache.h lays them out, and auxiliary caches, as docs/FORMATS.md lays
-//! them out.
+//! Caches that several tests use, byte by byte in the layout of glibc's dl-cache.h, and auxiliary caches in the layout of docs/FORMATS.md.
 
-/// A cache of no entries: 114 bytes.
+/// A cache without entries: 114 bytes.
 pub const EMPTY_CACHE: &[u8] = b"\
     glibc-ld.so.cache1.1\x00\x00\x00\x00\x00\x00\x00\x00\
     \x02\x00\x00\x00\x30\x00\x00\x00\x00\x00\x00\x00\x00\x00\x00\x00\x00\x00\x00\x00\

@@ -1,4 +1,4 @@
-//! Devices in memory for one run of the command, and what they have to hold after it.
+//! Devices in memory for one run of a command, and their expected contents after it.
 ghost use Rattle.std.specs.Prelude.{◌≡◌, ◌∷◌, [], Some, None, IfOk, IfSome, IsSomeAnd, option_map, option_copied};
 
 use crate::narrow_sink::NarrowSink;
@@ -9,7 +9,7 @@ use lib_types::{NoMemory, Text};
 use std::alloc::Global;
 use tree_face::{Call, Disk, DoneCall, MemDisk, MemSink, MemSource, MemStore, Slot, Tag};
 
-/// What the Cache slot holds before a run.
+/// The content of the cache file before a run.
 pub const OLD: &[u8] = b"old";
 
 pub const LIBZ_MANIFEST: &[u8] = b"#mtree\n./usr/lib/libz.so.1 type=file\n";
@@ -18,7 +18,7 @@ pub const LIBZ_KEY: &[u8] = b"usr/lib/libz.so.1";
 
 pub const LIBZ_REPORT: &[u8] = b"1 libs, 0 links, 1 files opened\n";
 
-/// What a store holds: keys and contents.
+/// The contents of a store: keys and contents.
 pub type Pairs = Vec<(Text, Text)>;
 
 /// The files of a disk, and for each device the number of the call that fails.
@@ -32,7 +32,7 @@ pub struct Setting<'a> {
     pub out_fails: Option<u64>,
 }
 
-/// What a run has to leave.
+/// The expected results of a run.
 #[derive(Clone, Copy)]
 pub struct Wanted<'a> {
     pub status: Status,
@@ -64,7 +64,7 @@ pub fn image(manifest: &[u8]) -> Setting<'_> {
     }
 }
 
-/// What a run that is done leaves, if no links are planned and no file has an identity.
+/// The results of a successful run, if no links are planned and no file has an identity.
 pub fn done<'a>(written: &'a [u8], cache: &'a [u8]) -> Wanted<'a>
     ensures status { result.status ≡ Status.Done }
     ensures written { result.written.now ≡ written.entry.now }
@@ -81,7 +81,7 @@ pub fn done<'a>(written: &'a [u8], cache: &'a [u8]) -> Wanted<'a>
     }
 }
 
-/// What a refused run leaves: the old slots.
+/// The results of a rejected run: the old files.
 pub fn refused(status: Status, written: &[u8]) -> Wanted<'_>
     ensures status { result.status ≡ status }
     ensures written { result.written.now ≡ written.entry.now }
@@ -98,7 +98,7 @@ pub fn refused(status: Status, written: &[u8]) -> Wanted<'_>
     }
 }
 
-/// What holds only this.
+/// The contents of a store that has only this.
 pub fn one(alloc: Global, key: &[u8], content: &[u8]) -> Result<Pairs, NoMemory>
     ensures { IfOk result (λ held. held.items ≡ (key.now, content.now) ∷ []) }
 {
@@ -107,7 +107,7 @@ pub fn one(alloc: Global, key: &[u8], content: &[u8]) -> Result<Pairs, NoMemory>
     Ok(held)
 }
 
-/// A list of this call, or of none.
+/// A list of this call, or an empty list.
 pub fn number(alloc: Global, call: Option<u64>) -> Result<Vec<u64>, NoMemory> {
     let mut calls = Vec::new(alloc);
     if let Some(call) = call {
@@ -124,7 +124,7 @@ pub fn copy(alloc: Global, bytes: Option<&[u8]>) -> Result<Option<Vec<u8>>, NoMe
     }
 }
 
-/// Devices in memory of this setting.
+/// Devices in memory with this setting.
 pub fn make_devices(alloc: Global, setting: Setting<'_>, held: Pairs) -> Result<Devices, NoMemory> {
     Ok(Devices {
         store: MemStore::new(alloc, held, number(alloc, setting.store_fails)?),
@@ -153,12 +153,12 @@ fn run(alloc: Global, command: Command, devices: &mut Devices) -> Status {
     )
 }
 
-/// Updates the image by way of the temporary files of the tag 0.
+/// Updates the image, with the tag 0 for temporary files.
 pub fn run_update(alloc: Global, devices: &mut Devices) -> Status {
     run(alloc, Command::Update { tag: Tag(0) }, devices)
 }
 
-/// Takes the script that is the input, by way of the temporary files of the tag 0.
+/// Runs the script that is the input, with the tag 0 for temporary files.
 pub fn run_script(alloc: Global, devices: &mut Devices) -> Status {
     run(alloc, Command::Batch { tag: Tag(0) }, devices)
 }
@@ -182,7 +182,7 @@ pub fn run_into(
     )
 }
 
-/// Whether the slot holds these bytes, or nothing if they are None.
+/// Whether the slot's file has these bytes, or is missing if `want` is None.
 pub fn has<D: Disk>(alloc: Global, disk: &mut D, slot: Slot, want: Option<&[u8]>) -> bool {
     match (disk.read(alloc, slot), want) {
         (Ok(Some(found)), Some(want)) => found.as_slice() == want,
@@ -191,7 +191,7 @@ pub fn has<D: Disk>(alloc: Global, disk: &mut D, slot: Slot, want: Option<&[u8]>
     }
 }
 
-/// Whether a run with this status has left what is wanted.
+/// Whether a run with this status has left the expected results.
 pub fn is_left(
     alloc: Global,
     setting: Setting<'_>,

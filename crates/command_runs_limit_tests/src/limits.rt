@@ -1,4 +1,4 @@
-//! As many entries, nodes and bytes as there may be, and one more.
+//! The largest numbers of entries, nodes and bytes, and one more of each.
 use command_runs::Status;
 use command_runs_fixture::{
     Devices, EMPTY_CACHE, Held, OLD, all, has, image, make_devices, run_script, run_update,
@@ -14,10 +14,10 @@ const MOST_ENTRIES: usize = 131072;
 
 const MOST_NODES: usize = 1048576;
 
-// 2^26 - 7 - 43 - 47 - 68548 * 979, without the 24 bytes of `./rest/folder/` and ` type=dir` and the newline
+// 2^26 - 7 - 43 - 47 - 68548 * 979, minus the 24 bytes of `./rest/folder/` and ` type=dir` and the newline
 const REST: usize = 251;
 
-// A manifest of so many lines, each with a number of seven digits between two texts.
+// A manifest of `count` lines, each with a number of seven digits between two texts.
 fn numbered(alloc: Global, before: &str, count: usize, behind: &str) -> Result<Vec<u8>, Fail> {
     let mut text = Vec::from_slice(alloc, b"#mtree\n")?;
     for n in 0..count {
@@ -39,7 +39,7 @@ fn numbered(alloc: Global, before: &str, count: usize, behind: &str) -> Result<V
     Ok(text)
 }
 
-// Runs an update of a manifest that is too much, which has to leave all as it was.
+// Runs an update of a manifest that is too large. The update must leave everything as it was.
 fn assert_refused(
     rt: &impl Abort,
     alloc: Global,
@@ -60,7 +60,7 @@ fn assert_refused(
     Ok(())
 }
 
-// Runs an update of a manifest that isn't too much, and gives the lengths of the manifest and of the cache that it leaves.
+// Runs an update of a manifest that isn't too large, and returns the lengths of the manifest and of the cache that it leaves.
 fn assert_done(
     rt: &impl Abort,
     alloc: Global,
@@ -76,7 +76,7 @@ fn assert_done(
     Ok((manifest, size(alloc, &mut devices, Slot::Cache)?))
 }
 
-// How many bytes the slot holds.
+// The number of bytes in the slot's file.
 fn size(alloc: Global, devices: &mut Devices, slot: Slot) -> Result<usize, Fail> {
     match devices.disk.read(alloc, slot)? {
         Some(bytes) => Ok(bytes.len()),
@@ -84,7 +84,7 @@ fn size(alloc: Global, devices: &mut Devices, slot: Slot) -> Result<usize, Fail>
     }
 }
 
-// All files have one content, which has no DT_SONAME.
+// All files have the same content, which has no DT_SONAME.
 #[test]
 fn entries_of_a_cache(rt: HostRuntime) -> Result<(), Fail> {
     let alloc = rt.alloc();
@@ -92,14 +92,14 @@ fn entries_of_a_cache(rt: HostRuntime) -> Result<(), Fail> {
     let most = numbered(alloc, "./usr/lib/lib", MOST_ENTRIES, ".so contents=k\n")?;
     let report = "131072 libs, 0 links, 131072 files opened\n";
     let sizes = assert_done(&rt, alloc, &most, &held, report)?;
-    // an entry has 24 bytes, a soname 14 and a path 23; the strings end at a multiple of four
+    // an entry has 24 bytes, a soname 14 and a path 23; the strings are padded to a multiple of four
     assert!(rt; sizes == (most.len(), 48 + MOST_ENTRIES * (24 + 14 + 23) + 24 + 42));
     let more = numbered(alloc, "./usr/lib/lib", MOST_ENTRIES + 1, ".so contents=k\n")?;
     let want = Status::TooMany { count: 131073 };
     assert_refused(&rt, alloc, &more, &held, want, "fault: TooMany 131073\n")
 }
 
-// A library for which a link is planned, among folders.
+// A library for which a link is planned, among directories.
 #[test]
 fn nodes_of_a_tree(rt: HostRuntime) -> Result<(), Fail> {
     let alloc = rt.alloc();
@@ -109,7 +109,7 @@ fn nodes_of_a_tree(rt: HostRuntime) -> Result<(), Fail> {
     most.extend_from_slice(library)?;
     let report = "link: /usr/lib/libk.so.1 -> libk.so.1.2\n1 libs, 1 links, 1 files opened\n";
     let (size, _) = assert_done(&rt, alloc, &most, &held, report)?;
-    // ` type=file` is written, and the link's line
+    // the update adds ` type=file` and the link's line
     let wanted = most.len().saturating_add(10 + 47);
     assert!(rt; size == wanted);
     let mut more = numbered(alloc, "./d", MOST_NODES - 1, " type=dir\n")?;
@@ -119,7 +119,8 @@ fn nodes_of_a_tree(rt: HostRuntime) -> Result<(), Fail> {
         bytes: 0,
     };
     assert_refused(&rt, alloc, &more, &held, want, "fault: TooLarge\n")?;
-    // a file that is looked for isn't held: this comes first; then one to which a link leads, and this doesn't
+    // the store first lacks a library that a search needs, whose fault comes first; then it lacks one that only a link leads to, whose
+    // fault doesn't
     assert_refused(
         &rt,
         alloc,
@@ -134,9 +135,9 @@ fn nodes_of_a_tree(rt: HostRuntime) -> Result<(), Fail> {
     assert_refused(&rt, alloc, &lacking, &held, want, "fault: TooLarge\n")
 }
 
-// A manifest whose new one has 2^26 bytes, and as many more as are added to a folder's name: 68,548 folders have 979 bytes each,
-// since a byte that isn't ASCII is written with four; then come the head with 7, the library with 43, its link with 47, and
-// a folder with the rest.
+// A manifest whose new text has 2^26 bytes plus `added` ones in the name of a directory. It has 68,548 directories of 979 bytes each,
+// because a byte that isn't ASCII is written as four bytes. The rest is the head with 7 bytes, the library with 43, its link with 47, and
+// a directory that fills the remaining bytes.
 fn expanding(alloc: Global, added: usize) -> Result<Vec<u8>, Fail> {
     let mut name = String::from_str(alloc, "./")?;
     for _ in 0..120 {
@@ -167,10 +168,10 @@ fn bytes_of_a_manifest(rt: HostRuntime) -> Result<(), Fail> {
     assert_refused(&rt, alloc, &more, &held, want, "fault: TooLarge\n")
 }
 
-// A comment of 64 bytes with its newline.
+// A comment of 64 bytes, including its newline.
 const COMMENT: &[u8] = b"# a comment of a script, which asks for nothing, and is ignored\n";
 
-// A script of 2^26 bytes that has one update, and so many bytes more.
+// A script of 2^26 bytes with one update, followed by `more` bytes.
 fn script_of(alloc: Global, more: usize) -> Result<Vec<u8>, Fail> {
     let mut text = Vec::new(alloc);
     for _ in 1..1 << 20 {
@@ -183,7 +184,7 @@ fn script_of(alloc: Global, more: usize) -> Result<Vec<u8>, Fail> {
     Ok(text)
 }
 
-// How many bytes the source has left, of at most eight.
+// The number of bytes that the source has left, up to eight.
 fn left_in(devices: &mut Devices) -> Result<usize, Failed> {
     devices.input.read(&mut [0; 8])
 }
@@ -197,7 +198,7 @@ fn bytes_of_a_script(rt: HostRuntime) -> Result<(), Fail> {
     assert!(rt; run_script(alloc, &mut devices) == Status::Done);
     assert!(rt; devices.out.written() == b"0 libs, 0 links, 0 files opened\n".as_slice());
     assert!(rt; has(alloc, &mut devices.disk, Slot::Cache, Some(EMPTY_CACHE)));
-    // one byte more than a script may have is taken of those that there are, and nothing is done
+    // one byte more than a script may have is read, and nothing is done
     let mut devices = make_devices(alloc, image(manifest), Vec::new(alloc))?;
     devices.input = MemSource::new(script_of(alloc, 3)?, Vec::new(alloc));
     let want = Status::TooLong { taken: 67108865 };

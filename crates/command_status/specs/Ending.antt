@@ -5,16 +5,16 @@ use Rattle.command_status.specs.Status.{EndsWith, IsCut, IsWritten}
 use Rattle.command_status.specs.declared.status.Status.{Status}
 use Rattle.command_status.specs.declared.status.Status.TheVariants.{Done, Missing, OutputFault}
 
--- what is answered
+-- the text of an answer
 pub record AnswerText : Type 0 where
   pub text : List ℕ
-  -- whether something that was asked for isn't there
+  -- whether something that was asked for is missing
   pub missing : Bool
 
 abbrev pub answered : AnswerText → Status
 answered answer = if answer.missing then Missing else Done
 
--- the whole answer is written, or the sink fails, and a prefix of it is written and no fault line
+-- the whole answer is written; or the sink fails, and a prefix of it is written without a fault line
 abbrev pub AnswersBy : AnswerText → Status → SinkState → SinkState → Type 0
 AnswersBy answer status old new = ((status ≡ answered answer) × IsWritten answer.text old new) ⊎ ((status ≡ OutputFault) × IsCut answer.text old new)
 

@@ -1,4 +1,4 @@
--- The statuses: which fault has which, the exit status of each, and the fault line on the output.
+-- The statuses: the status of each fault, its exit status, and its fault line on the output.
 use Rattle.std.specs.Prelude.{◌≡◌, ◌⊎◌, ℕ, List, [], ◌++◌, codes, Option, Some, None}
 use Rattle.std.specs.Fmt.{decimal}
 use Rattle.lib_types.specs.Counts.{HasRisen}
@@ -116,7 +116,7 @@ fault_line status = (row_of status).fault
 abbrev pub IsWritten : List ℕ → SinkState → SinkState → Type 0
 IsWritten text old new = Relates (IsFollowedBy text) old.written new.written × (new.faults ≡ old.faults)
 
--- a prefix of it is written, since the sink has failed
+-- a prefix of it is written, because the sink has failed
 abbrev pub IsCut : List ℕ → SinkState → SinkState → Type 0
 IsCut text old new = Relates (IsFollowedByPart text) old.written new.written × HasRisen old.faults new.faults
 
@@ -127,6 +127,6 @@ abbrev pub EndsBy : Option (List ℕ) → SinkState → SinkState → Type 0
 EndsBy None old new = new ≡ old
 EndsBy (Some text) old new = Says text old new
 
--- The fault line, if the status has one, ends the output. A sink that fails at it changes no status.
+-- The fault line, if the status has one, ends the output. If the sink fails there, the status stays the same.
 abbrev pub EndsWith : Status → SinkState → SinkState → Type 0
 EndsWith status old new = EndsBy (fault_line status) old new

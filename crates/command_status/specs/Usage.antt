@@ -1,4 +1,4 @@
--- No fault of a part is that of arguments which are those of no command.
+-- No fault of a part has the status of invalid arguments.
 use Rattle.std.specs.Prelude.{◌≡◌}
 use Rattle.image_session.specs.declared.fault.LoadFault.{LoadFault}
 use Rattle.image_session.specs.declared.fault.LoadFault.TheVariants as loading

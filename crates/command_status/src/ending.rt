@@ -11,7 +11,7 @@ use ldd_resolve::ResolveFault;
 use lib_types::Failed;
 use tree_face::Sink;
 
-/// What a command answers that only asks. It may be written in pieces.
+/// The answer of a command that only asks. It may be written in pieces.
 pub trait Answer {
     ghost answer: { Self → AnswerText };
 
@@ -19,7 +19,7 @@ pub trait Answer {
     fn write<O: Sink>(&self, out: &mut O) -> Result<(), Failed>
         ensures { TakesAll (O.state out.old) (O.state out.new) (answer self.now).text result };
 
-    /// Whether something that was asked for isn't there.
+    /// Whether something that was asked for is missing.
     fn is_missing(&self) -> bool
         ensures { result ≡ (answer self.now).missing };
 }
@@ -31,11 +31,11 @@ pub trait Fault {
 
     ghost status_of: { Self → Status };
 
-    /// The status of a command that ends so.
+    /// The status of a command that ends with this fault.
     fn status(self) -> Status
         ensures { result ≡ status_of self };
 
-    // Only arguments have that status.
+    // Only invalid arguments have the status `Usage`.
     ghost not_usage: { (fault : Self) → status_of fault ≡ statuses.Usage → ⊥ };
 }
 

@@ -14,7 +14,7 @@ use lib_types::{Defect, Failed};
 use mtree_manifest::{LineKind, ManifestFault};
 use tree_face::{Sink, put_all};
 
-/// A line in its parts. A number follows a space.
+/// The parts of a line. A number follows a space.
 #[derive(Clone, Copy)]
 pub(crate) struct FaultLine {
     lead: &'static [u8],
@@ -47,7 +47,7 @@ pub(crate) fn numbered(front: &'static [u8], number: u64, back: &'static [u8]) -
     }
 }
 
-// What stands behind the number of a manifest's line.
+// The text after the line number of a manifest's fault line.
 fn kind_text(kind: LineKind) -> &'static [u8]
     ensures { result.now ≡ codes ": " ++ kind_text kind ++ codes "\n" }
 {
@@ -60,7 +60,7 @@ fn kind_text(kind: LineKind) -> &'static [u8]
     }
 }
 
-/// The fault line of a manifest without a tree.
+/// The fault line of a manifest that has no tree.
 pub(crate) fn manifest_line(fault: ManifestFault) -> FaultLine
     ensures { line_bytes result ≡ manifest_text fault }
 {
@@ -74,7 +74,7 @@ pub(crate) fn manifest_line(fault: ManifestFault) -> FaultLine
     }
 }
 
-// What stands behind the number of a script's line.
+// The text after the line number of a script's fault line.
 fn script_kind_text(kind: ScriptKind) -> &'static [u8]
     ensures { result.now ≡ codes ": " ++ script_kind_text kind ++ codes "\n" }
 {
@@ -86,7 +86,7 @@ fn script_kind_text(kind: ScriptKind) -> &'static [u8]
     }
 }
 
-/// The fault line of a script whose line isn't taken.
+/// The fault line of a script with a line that isn't accepted.
 pub(crate) fn script_line(line: u64, kind: ScriptKind) -> FaultLine
     ensures { line_bytes result ≡ script_text line kind }
 {

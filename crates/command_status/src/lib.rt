@@ -1,4 +1,4 @@
-//! How a command ends: its status, and the fault line of that.
+//! How a command ends: its status, and the fault line of that status.
 #![tactic(auto)]
 
 mod ending;

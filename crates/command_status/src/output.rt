@@ -5,7 +5,7 @@ use crate::fault_line::put_line;
 use crate::status::Status;
 use tree_face::Sink;
 
-/// Writes the fault line of a status that has one. No status depends on whether it can be written.
+/// Writes the fault line of a status that has one. The status doesn't depend on whether the line can be written.
 pub fn put_fault_line<O: Sink>(out: &mut O, status: Status)
     ensures { EndsWith status (O.state out.old) (O.state out.new) }
 {

@@ -15,16 +15,16 @@ use ldd_resolve::ResolveFault;
 use lib_types::Defect;
 use mtree_manifest::{LineKind, ManifestFault};
 
-/// Why a line of a script isn't taken.
+/// Why a line of a script isn't accepted.
 #[derive(Clone, Copy, Debug, PartialEq, Eq)]
 pub enum ScriptKind {
-    /// It is no line of a script.
+    /// It is not a line of a script.
     Bad(LineKind),
     /// A file or a link would have something below it.
     Clash,
-    /// There is no node to be removed.
+    /// The path that it removes has no node.
     NotThere,
-    /// The tree has as many nodes as a tree may have.
+    /// The tree already has the most nodes that a tree may have.
     Full,
 }
 
@@ -35,11 +35,11 @@ pub enum Status {
     Done,
     /// The cache has no path for the name, or a library that the program needs isn't found.
     Missing,
-    /// The arguments are those of no command.
+    /// The arguments are not a command.
     Usage,
-    /// The manifest has no tree. This fault is never NoMemory.
+    /// The manifest has no tree. This fault is never `NoMemory`.
     BadManifest(ManifestFault),
-    /// This line of the script, counted from 1, isn't taken. Those before it were.
+    /// This line of the script, counted from 1, isn't accepted. The lines before it were.
     BadScript { line: u64, kind: ScriptKind },
     /// The Cache slot holds nothing.
     NoCache,
@@ -61,7 +61,7 @@ pub enum Status {
     OutputFault,
     /// Out of memory.
     NoMemory,
-    /// The input has more bytes than a script may have; so many were taken.
+    /// The input has more bytes than a script may have. `taken` bytes of it were read.
     TooLong { taken: u64 },
     /// The disk has no manifest.
     NoManifest,
@@ -92,7 +92,7 @@ fn saying(code: u8, line: FaultLine) -> Row
 }
 
 impl Status {
-    // The table of the statuses: a status is a row here, and one of `row_of`.
+    // The table of the statuses: each status has a row here and a clause in `row_of`.
     fn row(self) -> Row
         ensures { row_bytes result ≡ row_of self }
     {

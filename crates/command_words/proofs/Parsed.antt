@@ -22,7 +22,7 @@ module _ (verb : Verb) (a : App) (words : List (List ℕ)) (is : a ≡ app verb)
   memory_alone e (inl memory) = memory
   memory_alone e (inr among) = absurd among
 
-  -- if there is no fault, only memory can run out
+  -- if the arguments have no error, parsing can only run out of memory
   pub refused : (e : Error) → (is_simple_and_free a ≡ true → HasKind (fault_of a words) e) → fault_of (app verb) words ≡ [] → kind_of e ≡ OutOfMemory
   refused e has none = memory_alone e (subst (λ ks. HasKind ks e) none (kinds e has))
 

@@ -53,11 +53,11 @@ without_requests =
     let empty = new_app (codes "ldconfig") in
     record empty { top = record empty.top { disable_help_flag = true; disable_version_flag = true } }
 
--- what only asks, and may ask a directory
+-- a command that only reads, and takes a directory with -r
 abbrev pub asking : App
 asking = with_rule without_requests root_rule
 
--- what may be given the number of its temporary files
+-- a command that takes the number of its temporary files
 abbrev pub tagged : App
 tagged = with_rule without_requests (option_rule (codes "tag"))
 

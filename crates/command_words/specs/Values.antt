@@ -5,7 +5,7 @@ use Rattle.std.specs.List.{list_all, slice_split}
 use Rattle.std.specs.Str.{byte, bytes_eq}
 use Rattle.std.specs.Str.Parse.{digits_value}
 
--- `-` alone is no value
+-- `-` alone is not a value
 abbrev pub is_value : List ℕ → Bool
 is_value text = not (bytes_eq text (codes "-"))
 

@@ -18,9 +18,9 @@ use Rattle.command_words.specs.declared.reading.TheConstants.{SAMPLE_MAX}
 use Rattle.command_words.specs.declared.verb.Verb.{Verb}
 use Rattle.command_words.specs.declared.verb.Verb.TheVariants as verbs
 
--- ---- values, by what `clap` found
+-- ---- values, from what `clap` found
 
--- the value of an argument, or what stands for it if it isn't given; none if that is no value
+-- the value of an argument, or its default if it isn't given; None if that text is not a value
 abbrev pub value_by : List ℕ → List ℕ → List Row → Option (List ℕ)
 value_by id other found =
     let text = unwrap_or (first_of id found) other in
@@ -57,7 +57,7 @@ resolve_by found = option_and_then (λ path. option_and_then (λ caps. option_an
     record { path = path; caps = caps; library_path = library_path; platform = platform; secure = secure_by found })
     (value_by (codes "platform") [] found)) (value_by (codes "library-path") [] found)) (caps_by found)) (value_by (codes "PATH") [] found)
 
--- the command with these values, if they are values
+-- the command with these values, if all of them are valid
 abbrev pub command_by : Verb → List Row → Option Command
 command_by verbs.Update found = option_map commands.Update (tag_by found)
 command_by verbs.Batch found = option_map commands.Batch (tag_by found)
@@ -66,7 +66,7 @@ command_by verbs.Print found = Some commands.Print
 command_by verbs.Lookup found = option_map commands.Lookup (lookup_by found)
 command_by verbs.Resolve found = option_map commands.Resolve (resolve_by found)
 
--- the directory, if one is given; none at all if that is no value
+-- the directory, if one is given; None if its text is not a value
 abbrev pub root_as : Option (List ℕ) → Option (Option (List ℕ))
 root_as None = Some None
 root_as (Some text) = if is_value text then Some (Some text) else None
@@ -74,29 +74,29 @@ root_as (Some text) = if is_value text then Some (Some text) else None
 abbrev pub root_by : List Row → Option (Option (List ℕ))
 root_by found = root_as (first_of (codes "ROOT") found)
 
--- the command, and the directory that it asks
+-- the command, and the directory that it reads
 abbrev pub line_by : Verb → List Row → Option CommandLine
 line_by verb found = option_and_then (λ command. option_map (λ root. record { command = command; root = root }) (root_by found)) (command_by verb found)
 
 -- ---- arguments
 
--- what the values say that `clap` finds
+-- the command line with the values that `clap` finds
 abbrev pub values_in : List (List ℕ) → Option CommandLine
 values_in words = option_and_then (λ verb. line_by verb (matches_of (app verb) words)) (verb_in words)
 
--- `clap` has something against the arguments behind the first
+-- `clap` reports an error in the arguments after the first
 abbrev pub are_refused : List (List ℕ) → Bool
 are_refused words = option_map_or (λ verb. not (length (fault_of (app verb) words) == 0)) (verb_in words) false
 
--- what the arguments say, if they are those of a command
+-- the command line of the arguments, if they name a command
 unfoldable pub line_in : List (List ℕ) → Option CommandLine
 line_in words = if are_refused words then None else values_in words
 
--- the command, if the arguments are those of one
+-- the command, if the arguments name one
 abbrev pub command_in : List (List ℕ) → Option Command
 command_in words = option_map (λ line. line.command) (line_in words)
 
--- the directory that the command asks, if the arguments name one
+-- the directory that the command reads, if the arguments name one
 abbrev pub root_in : List (List ℕ) → Option (List ℕ)
 root_in words = option_and_then (λ line. line.root) (line_in words)
 

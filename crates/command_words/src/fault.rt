@@ -1,14 +1,14 @@
-//! Why there is no command.
+//! Why the arguments are not a command.
 ghost use Rattle.std.specs.Prelude.{◌≡◌};
 ghost use Rattle.command_words.specs.declared.fault.WordsFault.TheVariants as faults;
 
 use lib_types::NoMemory;
 use std::alloc::AllocError;
 
-/// Why arguments have no command.
+/// Why the arguments are not a command.
 #[derive(Clone, Copy, Debug, PartialEq, Eq)]
 pub enum WordsFault {
-    /// They are those of no command.
+    /// They match no command.
     Usage,
     NoMemory,
 }

@@ -1,11 +1,11 @@
-//! What the arguments say.
+//! The command line.
 use commands::Command;
 use lib_types::Text;
 
-/// A command, and the directory that it asks.
+/// A command, and the directory that it reads.
 #[derive(Drop)]
 pub struct CommandLine {
     pub command: Command,
-    /// `-r`: the directory that is the image. It is the working directory if there is none.
+    /// `-r`: the directory that is the image. Without it, the image is the working directory.
     pub root: Option<Text>,
 }

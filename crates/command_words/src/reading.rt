@@ -18,8 +18,7 @@ use lib_types::{Abi, Text, Texts};
 use std::alloc::Global;
 use tree_face::Tag;
 
-// The most libraries of a sample. The usage text of `ldconfig` (advice.rt) repeats it, because `concat!` takes literals and no
-// constants.
+// The most libraries of a sample. The usage text of `ldconfig` (advice.rt) repeats it, because `concat!` takes only literals.
 const SAMPLE_MAX: u16 = 20_000;
 
 // What `clap` finds in the arguments of this command.
@@ -51,7 +50,7 @@ fn first_of<'a>(found: &ArgMatches<'a>, id: &str) -> Option<&'a str>
     found.get_str(id)
 }
 
-// The value of this argument, or what stands for it if it isn't given.
+// The value of this argument, or its default `other` if it isn't given.
 fn value_by<'a>(found: &ArgMatches<'a>, id: &str, other: &'a str) -> Option<&'a str>
     ensures { option_map (λ t. t.now) result ≡ value_by id.now other.now (rows_of (found_of found.now)) }
 {
@@ -177,7 +176,7 @@ fn line_by(alloc: Global, verb: Verb, found: &ArgMatches<'_>) -> Result<CommandL
     Ok(CommandLine { command, root })
 }
 
-/// What these arguments say, the program's name not among them.
+/// The command line of these arguments, which don't include the program's name.
 #[tactic(auto, unfolding(crate::specs::Words::are_taken, crate::specs::Words::line_in))]
 pub fn line_of(alloc: Global, arguments: &Vec<String>) -> Result<CommandLine, WordsFault>
     ensures line { Gives (line_in (map string_bytes arguments.now.items)) result }

@@ -1,4 +1,4 @@
-//! Tests of the program's arguments: which command they are, with its values. Each table is a file of data/.
+//! Tests of the program's arguments: the command that they name, with its values. Each table is a file of data/.
 #![tactic(auto)]
 
 mod shown;

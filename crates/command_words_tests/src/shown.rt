@@ -106,7 +106,7 @@ pub(crate) fn shown_help(alloc: Global, help: Option<Verb>) -> Result<Vec<u8>, N
     Ok(text)
 }
 
-/// The text of a command and the directory that it asks, or of the fault.
+/// The text of a command and the directory that it reads, or of the fault.
 pub(crate) fn shown(
     alloc: Global,
     line: Result<CommandLine, WordsFault>,

@@ -1,4 +1,4 @@
-//! One row: arguments, and the command that they are.
+//! One row: arguments, and the command that they name.
 use crate::shown::{shown, shown_help};
 use command_words::{help_of, line_of};
 use lib_types::NoMemory;
@@ -6,8 +6,8 @@ use std::alloc::Global;
 use std::str::from_utf8;
 use table_rows::{Row, Said, Trial, Words, divide, has_line, text};
 
-/// A row has a line for each argument, and the command with its values, or `Usage`; or the command whose usage the arguments ask for, or
-/// `none`.
+/// A row has a line for each argument. It has the command with its values, or `Usage`. Or it has the command whose usage the arguments ask
+/// for, or `none`.
 pub(crate) struct Arguments;
 
 // The lines of a text.
@@ -32,7 +32,7 @@ impl Trial for Arguments {
         WORDS
     }
 
-    // A body that always returns NoMemory meets the contract; the rows refuse it.
+    // A body that always returns NoMemory meets the contract, but not the rows.
     fn is_right(alloc: Global, row: Row<'_>, said: &mut Said) -> Result<bool, NoMemory> {
         let words = words_of(alloc, &text(alloc, row, b"arguments")?)?;
         if has_line(row, b"help") {

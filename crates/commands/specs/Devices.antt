@@ -16,15 +16,15 @@ pub record DeviceStates : Type 0 where
 abbrev pub states : StoreState → DiskState → SourceState → SinkState → DeviceStates
 states store disk source sink = record { store = store; disk = disk; source = source; sink = sink }
 
--- those of devices that are handed over as one value, by the state of each
+-- the states of devices that are passed as one value
 abbrev pub states_in : {S D I O : Type 0} → (S → StoreState) → (D → DiskState) → (I → SourceState) → (O → SinkState) → Devices S D I O → DeviceStates
 states_in store disk source sink d = states (store d.store.now) (disk d.disk.now) (source d.source.now) (sink d.sink.now)
 
--- those that the call leaves, which takes the value apart
+-- the states after a call that takes this value apart
 abbrev pub states_left : {S D I O : Type 0} → (S → StoreState) → (D → DiskState) → (I → SourceState) → (O → SinkState)
     → MutBor S × (MutBor D × (MutBor I × (MutBor O × Unit {0}))) → DeviceStates
 states_left store disk source sink d = states (store d.0.now) (disk d.1.0.now) (source d.1.1.0.now) (sink d.1.1.1.0.now)
 
--- a fact of the contents that the store holds and of the disk's, if both are known
+-- a property of the store's contents and the disk's content, if both are known
 abbrev pub IfBothKnown : Option Contents → Option DiskContent → (Contents → DiskContent → Type 0) → Type 0
 IfBothKnown held disk P = IfKnown held (λ contents. IfKnown disk (λ content. P contents content))

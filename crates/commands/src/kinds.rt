@@ -20,7 +20,7 @@ pub struct Resolve {
     pub caps: Texts,
     /// `LD_LIBRARY_PATH`; empty, if there is none.
     pub library_path: Text,
-    /// What `$PLATFORM` stands for.
+    /// The value of `$PLATFORM`.
     pub platform: Text,
     /// Whether the program runs in secure execution, as a set-user-ID program does.
     pub secure: bool,
@@ -33,7 +33,7 @@ pub enum Command {
     Update { tag: Tag },
     /// To take the script of edits and updates on the input, by way of the temporary files of this tag.
     Batch { tag: Tag },
-    /// To update images of so many made libraries, on devices in memory.
+    /// To update images of `n` synthetic libraries, held in memory.
     Sample { n: u16 },
     /// To print the cache.
     Print,

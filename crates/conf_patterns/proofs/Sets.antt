@@ -1,4 +1,4 @@
--- The ranges of sets, and where a set has its end.
+-- The ranges of sets, and where a set ends.
 use Rattle.std.proofs.Common.{◌≡◌, ◌<◌, ◌≤◌, ◌-◌, ◌+◌, ℕ, true, false, List, [], ◌∷◌, length, drop, get_or, ltb, None, refl, ap, arith, eqb}
 use Rattle.std.proofs.lemmas.Bool.{and_parts, lt-ltb}
 use Rattle.std.specs.List.{list_any}

@@ -1,4 +1,4 @@
--- What stands between two stars may take the first place where it fits.
+-- The parts between two stars may take the first position where they fit.
 use Rattle.std.proofs.Common.{◌≡◌, ◌<◌, ℕ, zero, suc, Bool, true, false, ◌&&◌, List, [], ◌∷◌, length, drop, eqb, refl, ap, sym, ◌∙◌, arith}
 use Rattle.std.proofs.lemmas.Bool.{and_parts}
 use Rattle.lib_types.proofs.SortedPairs.{by_test}
@@ -21,12 +21,12 @@ module _ (f : List ℕ → Bool) where
   next_tail [] e h = absurd (omega arith)
   next_tail (b ∷ rest) e h = rw h refl
 
-  -- a tail that passes is at some index
+  -- a suffix that passes the test begins at some index
   tail_at : (xs : List ℕ) → some_tail f xs ≡ true → (n : ℕ) × (f (drop n xs) ≡ true)
   tail_at [] h = (0, h)
   tail_at (b ∷ rest) h = by_test (f (b ∷ rest)) (λ e. (0, e)) (λ e. let more = tail_at rest (rw e at h) in (suc more.0, more.1))
 
-  -- what passes for a tail passes for the whole
+  -- if a suffix of a suffix passes the test, a suffix of the whole list passes it
   tail_of_tail : (n : ℕ) (xs : List ℕ) → some_tail f (drop n xs) ≡ true → some_tail f xs ≡ true
   tail_of_tail zero xs h = h
   tail_of_tail (suc n) [] h = h

@@ -3,36 +3,37 @@ use Rattle.std.specs.Prelude.{ℕ, zero, suc, ◌+◌, Bool, true, false, List, 
 use Rattle.std.specs.List.{list_any, starts_with}
 use Rattle.std.specs.Str.{byte}
 
--- what one part of a pattern stands for
+-- one part of a pattern
 pub data Part : Type 0 where
-  -- `*`: any bytes, none too
+  -- `*`: zero or more bytes
   Star : Part
   -- `?`: any one byte
   One : Part
   -- this byte
   Byte : ℕ → Part
-  -- `[..]`: one byte of the set that stands between the brackets
+  -- `[..]`: one byte of the set between the brackets
   Set : List ℕ → Part
 
 -- ---- sets
 
--- a first `!` or `^` negates a set
+-- a `!` or `^` as the first byte negates the set
 abbrev pub is_negated : List ℕ → Bool
 is_negated [] = false
 is_negated (b ∷ rest) = b == byte "!" || b == byte "^"
 
--- A `]` directly behind the opening or the negation belongs to the set: so many bytes behind a `[` end no set.
+-- A `]` directly after the `[` or after the negation is a member of the set.
+-- This is the number of bytes after the `[` that can't close the set.
 abbrev pub no_end : List ℕ → ℕ
 no_end behind = if is_negated behind then 2 else 1
 
 abbrev pub is_close : ℕ → Bool
 is_close b = b == byte "]"
 
--- how many bytes behind a `[` stand before the `]` that ends the set, if one does
+-- the number of bytes between a `[` and the `]` that closes the set, if there is one
 abbrev pub set_len : List ℕ → Option ℕ
 set_len behind = option_map (λ n. no_end behind + n) (position is_close (drop (no_end behind) behind))
 
--- the ranges of a set, each by its first and last byte: `a-z`, or a byte by itself
+-- the ranges of a set, as pairs of first and last byte: `a-z`, or a single byte
 abbrev pub ranges : List ℕ → List (ℕ × ℕ)
 ranges [] = []
 ranges (low ∷ []) = (low, low) ∷ []
@@ -48,7 +49,7 @@ is_in_set set b = if is_negated set then not (is_member (drop 1 set) b) else is_
 
 -- ---- patterns
 
--- a `[` that ends no set stands for itself
+-- a `[` without a closing `]` matches itself
 abbrev pub set_or : ℕ → List ℕ → Option ℕ → Part
 set_or b behind (Some n) = Set (take n behind)
 set_or b behind None = Byte b
@@ -60,14 +61,14 @@ part_at b behind =
     if b == byte "?" then One else
     if b == byte "[" then set_or b behind (set_len behind) else Byte b
 
--- how many bytes a part has behind its first one: a set has its own, and the bracket that ends it
+-- the number of bytes of a part after its first byte: a set has its members and the closing bracket
 abbrev pub more_of : Part → ℕ
 more_of Star = 0
 more_of One = 0
 more_of (Byte b) = 0
 more_of (Set set) = length set + 1
 
--- the parts of a pattern whose first so many bytes belong to a part before
+-- the parts of a pattern, except its first `n` bytes, which belong to an earlier part
 abbrev pub parts_behind : ℕ → List ℕ → List Part
 parts_behind n [] = []
 parts_behind zero (b ∷ behind) = part_at b behind ∷ parts_behind (more_of (part_at b behind)) behind
@@ -82,24 +83,24 @@ is_star One = false
 is_star (Byte b) = false
 is_star (Set set) = false
 
--- the part, if it is no star, is this byte
+-- whether the part matches this byte; false for a star, which isn't matched byte by byte
 abbrev pub takes : Part → ℕ → Bool
 takes Star b = false
 takes One b = true
 takes (Byte x) b = x == b
 takes (Set set) b = is_in_set set b
 
--- the test passes what is left of a name without some of its first bytes, perhaps none or all
+-- the test passes on some suffix of the name; the whole name and the empty suffix count too
 abbrev pub some_tail : (List ℕ → Bool) → List ℕ → Bool
 some_tail test [] = test []
 some_tail test (b ∷ rest) = test (b ∷ rest) || some_tail test rest
 
--- the part takes the first byte, and the test passes what is left
+-- the part matches the first byte of the name, and the test passes on the rest
 abbrev pub first_and_rest : Part → (List ℕ → Bool) → List ℕ → Bool
 first_and_rest part test [] = false
 first_and_rest part test (b ∷ rest) = takes part b && test rest
 
--- the parts match the name as a whole
+-- the parts match the whole name
 abbrev pub matches : List Part → List ℕ → Bool
 matches [] name = length name == 0
 matches (part ∷ rest) name =
@@ -109,6 +110,6 @@ matches (part ∷ rest) name =
 abbrev pub is_hidden : List ℕ → Bool
 is_hidden name = starts_with nat_eq name (codes ".")
 
--- Only a pattern that begins with a dot itself matches a name that does.
+-- If a name begins with a dot, only a pattern that begins with a dot matches it.
 unfoldable pub glob_match : List ℕ → List ℕ → Bool
 glob_match pattern name = (is_hidden pattern || not (is_hidden name)) && matches (parts pattern) name

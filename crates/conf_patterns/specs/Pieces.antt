@@ -1,4 +1,4 @@
--- What the parts of a pattern stand for, as the code has them.
+-- The parts of a pattern that the code's pieces represent.
 use Rattle.std.specs.Prelude.{◌-◌, ◌==◌, ◌&&◌, ℕ, Bool, false, List, [], ◌∷◌, length, drop, nat_lt}
 use Rattle.std.specs.List.{list_any, slice_index}
 use Rattle.std.specs.Str.{byte}
@@ -12,15 +12,15 @@ part_in piece.One = One
 part_in (piece.Byte b) = Byte b
 part_in (piece.Set set) = Set set.now
 
--- the last so many bytes have a `]`
+-- the last `n` bytes contain a `]`
 abbrev pub has_close : ℕ → List ℕ → Bool
 has_close n bytes = list_any is_close (drop (length bytes - n) bytes)
 
--- a set goes on from its first byte to another one
+-- the set begins with a range such as `a-z`
 abbrev pub begins_with_range : List ℕ → Bool
 begins_with_range set = nat_lt 2 (length set) && (slice_index set 1 == byte "-")
 
--- a part is the first byte of a name
+-- the part matches the first byte of the name
 abbrev pub takes_first : Part → List ℕ → Bool
 takes_first part [] = false
 takes_first part (b ∷ rest) = takes part b

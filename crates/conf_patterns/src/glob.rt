@@ -1,9 +1,9 @@
 //! Which names a pattern matches.
 //!
 //! A match takes at most (length of the pattern + 1) times (length of the name + 1) steps. It goes back only to the last
-//! star: what stands between two stars takes the first place where it fits, since from a later place no more of the name
-//! would be left for what follows. So each part of the pattern is tried at most once at each byte of the name, there is no
-//! recursion, and stars cost nothing by their number.
+//! star. The parts between two stars take the first position where they fit, since a later position would leave less of
+//! the name for the parts that follow. So each part of the pattern is tried at most once at each byte of the name. The
+//! code doesn't recurse, and more stars don't multiply the cost.
 ghost use Rattle.std.specs.Prelude.{◌≡◌, length};
 ghost use Rattle.conf_patterns.specs.Glob.{glob_match, is_hidden, matches, some_tail};
 ghost use Rattle.conf_patterns.specs.Matching.{comes_to, is_failure, Decides, IsShorter};
@@ -11,14 +11,14 @@ ghost use Rattle.conf_patterns.specs.Matching.{comes_to, is_failure, Decides, Is
 use crate::pieces::{Pieces, is_star, takes_first};
 use lib_types::trim::after;
 
-// How far the parts of a pattern go with a name.
+// How far the parts of a pattern match a name.
 #[derive(Drop)]
 enum Reach<'p, 'n> {
     // They don't match.
     Fails,
     // They match the whole name.
     Ends,
-    // They match up to a star: the parts behind it, and what is left of the name.
+    // They match up to a star: the parts after the star, and the rest of the name.
     Star(Pieces<'p>, &'n [u8]),
 }
 
@@ -31,7 +31,7 @@ fn is_failure(run: &Reach<'_, '_>) -> bool
     }
 }
 
-// The parts up to the next star, or all of them, at the front of the name.
+// Matches the parts up to the next star, or all of them, at the front of the name.
 #[tactic(auto, using(crate::proofs::Stars::goes_none, crate::proofs::Stars::goes_on, crate::proofs::Stars::goes_not, crate::proofs::Stars::goes_to_star, crate::proofs::Stars::ends))]
 fn run<'p, 'n>(pieces: Pieces<'p>, name: &'n [u8]) -> Reach<'p, 'n>
     ensures decides { Decides pieces.entry name.now result }
@@ -56,7 +56,7 @@ fn run<'p, 'n>(pieces: Pieces<'p>, name: &'n [u8]) -> Reach<'p, 'n>
     }
 }
 
-// The parts at the first place of the name, from its front on, where they don't fail.
+// Matches the parts at the first position of the name where they don't fail.
 #[tactic(auto, using(crate::proofs::Stars::found, crate::proofs::Stars::failed, crate::proofs::Stars::no_tail, crate::proofs::Stars::next_tail))]
 fn seek<'p, 'n>(pieces: Pieces<'p>, name: &'n [u8]) -> Reach<'p, 'n>
     ensures finds { comes_to result ≡ some_tail (matches pieces.entry) name.now }
@@ -95,7 +95,7 @@ fn is_hidden(name: &[u8]) -> bool
     name.starts_with(b".")
 }
 
-/// Whether one component of a pattern matches a name. Takes no memory.
+/// Whether one component of a pattern matches a name. Allocates no memory.
 #[tactic(auto, unfolding(crate::specs::Glob::glob_match))]
 pub fn glob_match(pattern: &[u8], name: &[u8]) -> bool
     ensures { result ≡ glob_match pattern.now name.now }

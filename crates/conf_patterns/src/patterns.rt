@@ -14,10 +14,10 @@ use std::alloc::Global;
 use std::collections::BTreeMap;
 use tree_face::{Kind, Tree};
 
-/// The results of a pattern: their texts, and where these lead.
+/// The results of a pattern: each path as written, and the path that it resolves to.
 pub type Results = BTreeMap<Text, Text>;
 
-// The text below which a pattern's components are taken.
+// The path that a pattern's components are relative to.
 fn base_of<'a>(file: &'a [u8], pattern: &[u8]) -> &'a [u8]
     ensures { result.now ≡ base_of file.now pattern.now }
 {
@@ -53,7 +53,7 @@ fn is_link(kind: Kind) -> bool
     }
 }
 
-// The path of a name in a folder.
+// The path of a name in a directory.
 fn path_in(alloc: Global, folder: &[u8], name: &[u8]) -> Result<Vec<u8>, NoMemory>
     ensures { IfOk result (λ path. path.items ≡ join folder.now name.now) }
 {
@@ -66,7 +66,7 @@ fn path_in(alloc: Global, folder: &[u8], name: &[u8]) -> Result<Vec<u8>, NoMemor
     Ok(path)
 }
 
-// Whether the name is that of a link that ldconfig makes.
+// Whether the name is that of a symlink that ldconfig makes.
 fn is_library_link(alloc: Global, tree: &Tree, folder: &[u8], name: &[u8]) -> Result<bool, NoMemory>
     ensures { IfOk result (λ is. is ≡ is_library_link tree.now folder.now name.now) }
 {
@@ -77,7 +77,7 @@ fn is_library_link(alloc: Global, tree: &Tree, folder: &[u8], name: &[u8]) -> Re
     Ok(is_link(tree.kind(&path)))
 }
 
-// Whether a text goes on with the name.
+// Whether the component selects this name of the directory.
 fn is_chosen(
     alloc: Global,
     tree: &Tree,
@@ -93,7 +93,7 @@ fn is_chosen(
     Ok(!is_library_link(alloc, tree, folder, name)?)
 }
 
-// A text that goes on with a name.
+// The path extended by a name.
 fn longer(alloc: Global, text: &[u8], name: &[u8]) -> Result<Text, NoMemory>
     ensures { IfOk result (λ more. more ≡ text.now ++ slash ∷ name.now) }
 {
@@ -104,7 +104,7 @@ fn longer(alloc: Global, text: &[u8], name: &[u8]) -> Result<Text, NoMemory>
     Ok(Text::from_vec(more))
 }
 
-/// Where a text leads; none if it leads nowhere.
+/// The path that a text resolves to, or None if it doesn't resolve.
 pub fn place_of(alloc: Global, tree: &Tree, text: &[u8]) -> Result<Option<Text>, NoMemory>
     ensures { IfOk result (λ place. place ≡ place_at tree.now text.now) }
 {
@@ -115,7 +115,7 @@ pub fn place_of(alloc: Global, tree: &Tree, text: &[u8]) -> Result<Option<Text>,
     }
 }
 
-// Adds the text, gone on with by each name of the folder that the component matches.
+// Adds the path, extended by each name of the directory that the component matches.
 fn add_chosen(
     alloc: Global,
     tree: &Tree,
@@ -134,7 +134,7 @@ fn add_chosen(
     Ok(())
 }
 
-// The same in the folder to which the text leads.
+// The same for the directory that the path resolves to.
 fn add_matches(
     alloc: Global,
     tree: &Tree,
@@ -151,7 +151,7 @@ fn add_matches(
     Ok(())
 }
 
-// Adds the text, gone on with by each name for the component.
+// Adds the path, extended by each name for the component.
 fn add_texts(
     alloc: Global,
     tree: &Tree,
@@ -168,7 +168,7 @@ fn add_texts(
     Ok(())
 }
 
-// The texts, each gone on with by each name for the component.
+// The paths, each extended by each name for the component.
 fn gone_on(
     alloc: Global,
     tree: &Tree,
@@ -184,7 +184,7 @@ fn gone_on(
     Ok(more)
 }
 
-// The texts that a pattern gives.
+// The paths that a pattern expands to.
 fn texts_of(alloc: Global, tree: &Tree, file: &[u8], pattern: &[u8]) -> Result<Vec<Text>, NoMemory>
     ensures { IfOk result (λ texts. texts.items ≡ texts_by tree.now (base_of file.now pattern.now ∷ []) (components_of pattern.now)) }
 {
@@ -196,7 +196,7 @@ fn texts_of(alloc: Global, tree: &Tree, file: &[u8], pattern: &[u8]) -> Result<V
     Ok(texts)
 }
 
-// Adds a text, if it leads somewhere.
+// Adds the path if it resolves.
 fn add_found(alloc: Global, tree: &Tree, found: &mut Results, text: Text) -> Result<(), NoMemory>
     ensures { OnOk result (found.new.entries ≡ with_text tree.now found.old.entries text) }
 {
@@ -207,7 +207,7 @@ fn add_found(alloc: Global, tree: &Tree, found: &mut Results, text: Text) -> Res
     Ok(())
 }
 
-/// The results of a pattern in a file, in the order of the bytes of their texts.
+/// The results of a pattern in a file, sorted by the bytes of their paths.
 #[tactic(auto, unfolding(crate::specs::Patterns::results))]
 pub fn results(alloc: Global, tree: &Tree, file: &[u8], pattern: &[u8]) -> Result<Results, NoMemory>
     ensures { IfOk result (λ found. found.entries ≡ results tree.now file.now pattern.now) }

@@ -13,15 +13,15 @@ pub(crate) enum Piece<'p> {
     Star,
     One,
     Byte(u8),
-    /// What stands between the brackets
+    /// The bytes between the brackets
     Set(&'p [u8]),
 }
 
-/// What is left of a pattern, which contracts see as the list of its parts.
+/// The rest of a pattern. Contracts see it as the list of its parts.
 #[derive(Drop)]
 pub(crate) struct Pieces<'p> {
     rest: &'p [u8],
-    // So many bytes at the end of the pattern have no `]`. A `[` among them begins no set, which is seen without a search.
+    // The last `unclosed` bytes of the pattern contain no `]`. So a `[` among them opens no set, and no search is needed.
     unclosed: usize,
 }
 
@@ -74,7 +74,7 @@ pub(crate) fn is_star(piece: Piece<'_>) -> bool
     }
 }
 
-// Whether the part is this byte; a star is none.
+// Whether the part matches this byte. False for a star.
 fn takes(piece: Piece<'_>, b: u8) -> bool
     ensures { result ≡ takes (part_in piece.entry) b }
 {
@@ -86,7 +86,7 @@ fn takes(piece: Piece<'_>, b: u8) -> bool
     }
 }
 
-/// Whether the part is the first byte of the name.
+/// Whether the part matches the first byte of the name.
 pub(crate) fn takes_first(piece: Piece<'_>, name: &[u8]) -> bool
     ensures first { result ≡ takes_first (part_in piece.entry) name.now }
     ensures some { IsTrue result → 0 < length name.now }
@@ -105,7 +105,7 @@ impl<'p> Pieces<'p> {
         }
     }
 
-    /// The same parts once more.
+    /// A copy of these parts.
     pub(crate) fn again(&self) -> Pieces<'p>
         ensures { result ≡ self.now }
     {
@@ -115,7 +115,7 @@ impl<'p> Pieces<'p> {
         }
     }
 
-    /// The first part, and those behind it.
+    /// The first part, and the parts after it.
     #[tactic(auto, using(crate::proofs::Skips::first_part, crate::proofs::Skips::unclosed_behind))]
     pub(crate) fn split_first(self) -> Option<(Piece<'p>, Pieces<'p>)>
         ensures { MatchOption result (self.entry ≡ []) (λ r. self.entry ≡ part_in r.0 ∷ r.1) }

@@ -9,14 +9,14 @@ fn is_negated(set: &[u8]) -> bool
     set.len() > 0 && (set[0] == b'!' || set[0] == b'^')
 }
 
-// Whether the set goes on from its first byte to another one.
+// Whether the set begins with a range such as `a-z`.
 fn begins_with_range(set: &[u8]) -> bool
     ensures { result ≡ begins_with_range set.now }
 {
     set.len() > 2 && set[1] == b'-'
 }
 
-// The first range of a set, and what stands behind it.
+// The first range of a set, and the bytes after it.
 #[tactic(auto, using(crate::proofs::Sets::range_of_two, crate::proofs::Sets::range_of_one))]
 fn first_range(set: &[u8]) -> Option<(u8, u8, &[u8])>
     ensures range { MatchOption result (ranges set.now ≡ []) (λ r. ranges set.now ≡ (r.0, r.1) ∷ ranges r.2.now) }
@@ -44,7 +44,7 @@ fn is_member(set: &[u8], b: u8) -> bool
     false
 }
 
-/// Whether the byte is of the set that stands between these brackets.
+/// Whether the byte is in the set between these brackets.
 pub(crate) fn is_in_set(set: &[u8], b: u8) -> bool
     ensures { result ≡ is_in_set set.now b }
 {
@@ -55,7 +55,7 @@ pub(crate) fn is_in_set(set: &[u8], b: u8) -> bool
     }
 }
 
-/// How many bytes at the end have no `]`.
+/// The number of bytes after the last `]`, or of all bytes if there is none.
 pub(crate) fn unclosed_len(bytes: &[u8]) -> usize
     ensures { has_close result bytes.now ≡ false }
 {
@@ -66,7 +66,7 @@ pub(crate) fn unclosed_len(bytes: &[u8]) -> usize
     n
 }
 
-// How many bytes behind a `[` can't end a set.
+// The number of bytes after a `[` that can't close the set.
 fn no_end(behind: &[u8]) -> usize
     ensures { result ≡ no_end behind.now }
 {
@@ -80,7 +80,7 @@ fn first_close(bytes: &[u8]) -> Option<usize>
     bytes.iter().position(|&b| b == b']')
 }
 
-/// How many bytes behind a `[` stand before the end of the set, if it has one.
+/// The number of bytes between a `[` and the `]` that closes the set, if there is one.
 #[tactic(auto, using(crate::proofs::Sets::no_set))]
 pub(crate) fn set_len(behind: &[u8], unclosed: usize) -> Option<usize>
     requires { has_close unclosed behind.now ≡ false }

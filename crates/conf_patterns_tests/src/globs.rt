@@ -1,4 +1,4 @@
-//! Which names a component of a pattern matches.
+//! Which names match a component of a pattern.
 use conf_patterns::glob_match;
 use lib_types::NoMemory;
 use std::alloc::Global;

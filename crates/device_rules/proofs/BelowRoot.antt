@@ -1,4 +1,4 @@
--- A path that begins with no slash is below the root as it is.
+-- A path without a leading slash is its own path below the root.
 use Rattle.std.proofs.Common.{◌≡◌, ◌==◌, ℕ, false, List, [], ◌∷◌, refl, arith}
 use Rattle.std.proofs.lemmas.Bool.Decides.{nat_tests}
 use Rattle.device_rules.specs.Places.{below_root}

@@ -8,11 +8,11 @@ abbrev pub ends_part : List ℕ → Bool
 ends_part [] = true
 ends_part (b ∷ _) = b == 47
 
--- the first folder is the second one or on the way to it: the second is the first, or goes on behind it with a slash
+-- the first directory is the second one or an ancestor of it: the second path is the first, or continues after it with a slash
 abbrev pub is_at_or_above : List ℕ → List ℕ → Bool
 is_at_or_above folder other =
     length folder == 0 || (starts_with nat_eq other folder && ends_part (drop (length folder) other))
 
--- the component leads up
+-- the component is `..`
 abbrev pub leads_up : List ℕ → Bool
 leads_up component = bytes_eq component (codes "..")

@@ -1,5 +1,5 @@
--- Where the files of an image are, as paths below its root: the cache where ld.so(8) reads it ("FILES") or where option -C of ldconfig(8)
--- puts it, the auxiliary cache where ldconfig(8) keeps it.
+-- The paths of an image's files, below its root. The cache is where ld.so(8) reads it ("FILES") or where option -C of ldconfig(8) puts it.
+-- The auxiliary cache is where ldconfig(8) keeps it.
 use Rattle.std.specs.Prelude.{◌≡◌, ◌⊎◌, ◌==◌, ◌&&◌, ℕ, Bool, not, List, [], ◌∷◌, ◌++◌, codes, length, nat_eq, Option, Some, None, if◌then◌else◌}
 use Rattle.std.specs.List.{ends_with, list_any, slice_split}
 use Rattle.std.specs.Str.{bytes_eq}
@@ -11,31 +11,31 @@ use Rattle.tree_face.specs.declared.disk.Slot.TheVariants.{Manifest, Cache, Aux}
 abbrev pub usual_cache : List ℕ
 usual_cache = codes "etc/ld.so.cache"
 
--- the slot's file, if this is the cache's
+-- the slot's file, if the cache has this path
 abbrev pub file_of : List ℕ → Slot → List ℕ
 file_of cache Manifest = codes "image.mtree"
 file_of cache Cache = cache
 file_of cache Aux = codes "var/cache/ldconfig/aux-cache"
 
--- the file is the one of this name in this directory, which is empty if it is the root
+-- the file has this name in this directory, which is empty for the root
 abbrev pub IsIn : List ℕ → List ℕ → List ℕ → Type 0
 IsIn directory name file = (file ≡ directory ++ 47 ∷ name) ⊎ ((directory ≡ []) × (name ≡ file))
 
 -- ---- a cache of another path
 
--- the path ends with a file's name: neither with a slash nor with the component `.`
+-- the path ends with a file name: it doesn't end with a slash or with the component `.`
 abbrev pub ends_in_name : List ℕ → Bool
 ends_in_name path = not (length path == 0) && not (ends_with nat_eq path (codes "/")) && not (bytes_eq path (codes ".")) && not (ends_with nat_eq path (codes "/."))
 
--- the path may be a file's below the root: no component of it is `..`
+-- the path can name a file below the root: no component of it is `..`
 abbrev pub is_file_path : List ℕ → Bool
 is_file_path path = ends_in_name path && not (list_any leads_up (slice_split (is_byte 47) path))
 
--- a path in the image, below its root
+-- a path in the image, relative to its root
 abbrev pub below_root : List ℕ → List ℕ
 below_root [] = []
 below_root (b ∷ path) = if b == 47 then path else b ∷ path
 
--- the cache's file of this path in the image, if the path may be a file's
+-- the path of the cache file, relative to the root, if the path can name a file
 abbrev pub cache_at : List ℕ → Option (List ℕ)
 cache_at path = if is_file_path (below_root path) then Some (below_root path) else None

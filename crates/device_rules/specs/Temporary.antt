@@ -1,4 +1,4 @@
--- The names of temporary files, by which a later run knows whose they were.
+-- The names of temporary files. They show a later run which process made them.
 use Rattle.std.specs.Prelude.{◌≡◌, ◌==◌, ◌&&◌, ℕ, Bool, true, not, List, length, ◌++◌, codes}
 use Rattle.std.specs.Char.{is_ascii_digit}
 use Rattle.std.specs.List.{list_all}
@@ -7,12 +7,11 @@ use Rattle.std.specs.List.{list_all}
 abbrev pub is_number : List ℕ → Bool
 is_number text = not (length text == 0) && list_all is_ascii_digit text
 
--- behind the name of the slot's file stand `.tmp`, the tag, the number of the process and the random number of its run,
--- with dots between the numbers
+-- after the name of the slot's file follow `.tmp`, the tag, the process number and the run's random number, with dots between the numbers
 abbrev pub temporary_name : List ℕ → List ℕ → List ℕ → List ℕ → List ℕ
 temporary_name file tag process random = file ++ (codes ".tmp" ++ (tag ++ (codes "." ++ (process ++ (codes "." ++ random)))))
 
--- this is the name of a temporary file for the slot's file that this process has made
+-- this process made a temporary file of this name for the slot's file
 pub record IsMadeBy (file process name : List ℕ) : Type 0 where
   pub tag : List ℕ
   pub random : List ℕ

@@ -1,11 +1,11 @@
-//! How many entries a cache has, by the first bytes of its file.
+//! The number of entries in a cache, from the first bytes of its file.
 ghost use Rattle.std.specs.Prelude.{◌≡◌};
 ghost use Rattle.device_rules.specs.Head.{entries_in};
 
-/// So many first bytes of a cache have the number of its entries.
+/// The number of first bytes of a cache file that include its entry count.
 pub const HEAD_SIZE: usize = 24;
 
-/// The number of entries that a cache says it has, if these are a cache's first bytes.
+/// The entry count in these first bytes of a file, if they are those of a cache.
 pub fn entries_in(bytes: &[u8]) -> Option<u32>
     ensures { result ≡ entries_in bytes.now }
 {

@@ -1,4 +1,4 @@
-//! What the devices over a real folder decide without a call of the system.
+//! What the devices over a real directory decide without a system call.
 #![tactic(auto)]
 
 mod head;
@@ -22,4 +22,4 @@ pub use standing::{
     Identity, Owner, Stamp, Standing, identity_of, is_as_read, largest, length_to_read, mode_of,
     mode_until_whole, owner_of, owner_to_give, stamp_of, standing_of,
 };
-pub use temporary::{RunId, maker_of, temporary_path};
+pub use temporary::{MOST_NAMES, RunId, maker_of, temporary_path};

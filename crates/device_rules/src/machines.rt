@@ -16,7 +16,7 @@ pub fn foreign_machine(head: &[u8]) -> Option<u16>
     }
 }
 
-// Its bytes are in the order that the file says it has.
+// The machine number, in the byte order that the file has.
 fn machine_in(head: &[u8]) -> Option<u16>
     ensures { result ≡ machine_in head.now }
 {
@@ -30,7 +30,7 @@ fn machine_in(head: &[u8]) -> Option<u16>
     }
 }
 
-/// A machine's name, as it is known.
+/// The usual name of a machine.
 pub fn machine_name(number: u16) -> Option<&'static str> {
     match number {
         2 | 43 => Some("SPARC"),

@@ -1,8 +1,8 @@
-//! What is decided about paths without a call.
+//! What is decided about paths without a system call.
 ghost use Rattle.std.specs.Prelude.{◌≡◌, ◌↔◌, ◌++◌, ◌⊎◌, ◌≢◌, ◌∷◌, [], codes, IfSome, IsTrue};
 ghost use Rattle.device_rules.specs.Paths.{ends_part, is_at_or_above, leads_up};
 
-/// Whether the first folder is the second one, or on the way to it from the root. The root's name is empty.
+/// Whether the first directory is the second one or an ancestor of it. The root's path is empty.
 pub fn is_at_or_above(folder: &[u8], other: &[u8]) -> bool
     ensures { result ≡ is_at_or_above folder.now other.now }
 {
@@ -15,28 +15,28 @@ fn ends_part(rest: &[u8]) -> bool
     rest.is_empty() || rest[0] == b'/'
 }
 
-/// What stands behind the front of a text.
+/// The rest of a text after this prefix, if the text has it.
 pub fn behind<'a>(text: &'a str, front: &str) -> Option<&'a str>
     ensures { IfSome result (λ rest. text.now ≡ front.now ++ rest.now) }
 {
     text.strip_prefix(front)
 }
 
-/// Whether a part of a path leads on: it isn't empty and no `.`.
+/// Whether a component of a path names a child: it isn't empty or `.`.
 pub fn leads_on(part: &[u8]) -> bool
     ensures { IsTrue result ↔ (part.now ≢ [] × part.now ≢ codes ".") }
 {
     !part.is_empty() && part != b".".as_slice()
 }
 
-/// Whether a part of a path leads up.
+/// Whether a component of a path is `..`.
 pub fn leads_up(part: &[u8]) -> bool
     ensures { result ≡ leads_up part.now }
 {
     part == b"..".as_slice()
 }
 
-/// A path's folder, which is empty if it is the root, and the name there.
+/// A path's directory, which is empty for the root, and its last name.
 pub fn divided(path: &str) -> (&str, &str)
     ensures { (path.now ≡ result.0.now ++ 47 ∷ result.1.now) ⊎ ((result.0.now ≡ []) × (result.1.now ≡ path.now)) }
 {

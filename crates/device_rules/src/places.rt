@@ -1,4 +1,4 @@
-//! Where the files of an image are.
+//! The paths of an image's files.
 ghost use Rattle.std.specs.Prelude.{◌≡◌, IfOk};
 ghost use Rattle.std.specs.List.{list_any, slice_split};
 ghost use Rattle.lib_types.specs.Bytes.{is_byte};
@@ -11,7 +11,7 @@ use std::alloc::Global;
 use std::marker::Model;
 use tree_face::Slot;
 
-/// Where the files of an image are, as paths below its root. Contracts see the path of the cache, which may be another than the usual one.
+/// The paths of an image's files, below its root. Contracts see the path of the cache, which may differ from the usual one.
 #[derive(Drop)]
 pub struct SlotPaths {
     cache: Option<String>,
@@ -28,15 +28,15 @@ impl Model for SlotPaths {
 }
 
 impl SlotPaths {
-    /// Those of each image.
+    /// The usual paths.
     pub fn usual() -> SlotPaths
         ensures { result ≡ usual_cache }
     {
         SlotPaths { cache: None }
     }
 
-    /// The usual ones, with the cache at this path in the image. There are none if the path can't be a file's: it must have a name after
-    /// its last slash, and no component `..`.
+    /// The usual paths, except that the cache has this path in the image. The result is None if the path can't name a file: it must have a
+    /// name after its last slash, and no component `..`.
     pub fn with_cache(alloc: Global, path: &str) -> Result<Option<SlotPaths>, NoMemory>
         ensures { IfOk result (λ paths. paths ≡ cache_at path.now) }
     {
@@ -68,7 +68,7 @@ impl SlotPaths {
         }
     }
 
-    /// The directory of a slot's file, and its name there.
+    /// The directory of a slot's file, and its name.
     pub fn place_of(&self, slot: Slot) -> (&str, &str)
         ensures { IsIn result.0.now result.1.now (file_of self.now slot) }
     {
@@ -76,7 +76,7 @@ impl SlotPaths {
     }
 }
 
-// A path in the image, below its root.
+// A path in the image, relative to its root.
 fn below_root(path: &str) -> &str
     ensures { result.now ≡ below_root path.now }
 {
@@ -92,7 +92,7 @@ fn ends_in_name(path: &[u8]) -> bool
     !path.is_empty() && !path.ends_with(b"/") && path != b".".as_slice() && !path.ends_with(b"/.")
 }
 
-// Whether a component of the path leads up.
+// Whether a component of the path is `..`.
 fn has_up(path: &[u8]) -> bool
     ensures { result ≡ list_any leads_up (slice_split (is_byte 47) path.now) }
 {

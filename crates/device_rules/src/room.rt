@@ -1,10 +1,10 @@
-//! Whether a file has room, if no file may have more bytes than a limit.
+//! Whether a file can grow, if the length of files is limited.
 ghost use Rattle.std.specs.Prelude.{◌≡◌};
 ghost use Rattle.device_rules.specs.Folder.{has_room};
 
 use std::io::{Error, ErrorKind};
 
-/// Whether a file of this length has room for so many bytes more.
+/// Whether `more` bytes can be added to a file of this length.
 pub fn has_room(limit: Option<u64>, length: u64, more: usize) -> bool
     ensures { result ≡ has_room limit length more }
 {
@@ -14,7 +14,7 @@ pub fn has_room(limit: Option<u64>, length: u64, more: usize) -> bool
     }
 }
 
-/// The error of a file that would have more bytes, in the system's words.
+/// The error of a file that would become longer than the limit, in the system's words.
 pub fn too_long() -> Error {
     Error::new(ErrorKind::FileTooLarge, "File too large")
 }

@@ -1,22 +1,22 @@
-//! The file that stands in a slot's place, and what its successor takes over from it.
+//! The existing file of a slot, and what the new file takes over from it.
 ghost use Rattle.std.specs.Prelude.{◌≡◌, ◌↔◌, Some, IsTrue, bit_and};
 ghost use Rattle.device_rules.specs.Folder.{IsAsRead, largest, length_to_read, mode_of, owner_to_give};
 
-use cache_layout::{ENTRIES_MAX, ENTRY_SIZE};
+use cache_layout::{ENTRIES_MAX, ENTRY_SIZE, STRINGS_LIMIT};
 use mtree_manifest::TEXT_MAX;
 use std::fs::Metadata;
 use std::os::unix::fs::MetadataExt;
 use tree_face::Slot;
 
-/// Which file it is, as the system tells files apart.
+/// The identity of a file, as the system tells files apart.
 #[derive(Clone, Copy, Debug, PartialEq, Eq)]
 pub struct Identity {
     pub device: u64,
     pub inode: u64,
 }
 
-/// Which file it is, and when its content or its name was changed last. Times are the bits of signed numbers: seconds since 1970,
-/// and nanoseconds.
+/// The identity of a file, and when its content or its name last changed. Times are the bits of signed numbers: seconds since 1970, and
+/// nanoseconds.
 #[derive(Clone, Copy, Debug, PartialEq, Eq)]
 pub struct Stamp {
     pub device: u64,
@@ -29,7 +29,7 @@ pub struct Stamp {
 }
 
 impl Stamp {
-    /// Which file it is.
+    /// The identity of the file.
     pub fn identity(self) -> Identity
         ensures device { result.device ≡ self.device }
         ensures inode { result.inode ≡ self.inode }
@@ -41,14 +41,14 @@ impl Stamp {
     }
 }
 
-/// Whom a file belongs to.
+/// The owner of a file.
 #[derive(Clone, Copy, Debug, PartialEq, Eq)]
 pub struct Owner {
     pub user: u32,
     pub group: u32,
 }
 
-/// What a regular file hands on to the one that takes its place.
+/// What a new file takes over from the regular file that it replaces.
 #[derive(Clone, Copy, Debug)]
 pub struct Standing {
     pub mode: u32,
@@ -92,7 +92,7 @@ pub fn owner_of(found: &Metadata) -> Owner {
     }
 }
 
-/// Whether the slot's file is the one that was read, if it was. A file that isn't there has no stamp.
+/// Whether the slot's file is still the one that was read, if it was read. A missing file has no stamp.
 pub fn is_as_read(read: Option<Option<Stamp>>, now: Option<Stamp>) -> bool
     ensures { IsTrue result ↔ IsAsRead read now }
 {
@@ -118,26 +118,31 @@ fn is_same(now: Stamp, read: Stamp) -> bool
     now == read
 }
 
-// The bytes of a cache's entry with two strings of a path's length.
-const CACHED_ENTRY: u64 = ENTRY_SIZE as u64 + 2 * 4096;
+/// The length in bytes above which a cache isn't read: the most entries and strings, and 64 KiB for the header and the extension.
+pub const CACHE_MAX: u64 = ENTRIES_MAX as u64 * ENTRY_SIZE as u64
+    + STRINGS_LIMIT as u64
+    + (1 << 16);
 
-/// The most bytes of a slot's file that is read.
+/// The length in bytes above which a manifest or an auxiliary cache isn't read.
+pub const LENGTH_MAX: u64 = 1 << 31;
+
+/// The length above which a slot's file isn't read.
 pub fn largest(slot: Slot) -> u64
     ensures { result ≡ largest slot }
 {
     match slot {
-        Slot::Cache => ENTRIES_MAX as u64 * CACHED_ENTRY + (1 << 16),
-        Slot::Manifest | Slot::Aux => 1 << 31,
+        Slot::Cache => CACHE_MAX,
+        Slot::Manifest | Slot::Aux => LENGTH_MAX,
     }
 }
 
-// One byte more than a manifest may have shows that it is too long.
+// One byte more than a manifest may have is enough to show that it is too long.
 const TOO_LONG_MANIFEST: u64 = TEXT_MAX as u64 + 1;
 
-// So many first bytes show what is no cache.
+// This number of first bytes is enough to show that a file is not a cache.
 const NO_CACHE: u64 = 64;
 
-/// How many bytes of a slot's file of this length are read, if it is read. What doesn't begin as a cache isn't read as one.
+/// The number of bytes to read of a file of this length. A file that doesn't begin like a cache isn't read as one.
 pub fn length_to_read(slot: Slot, is_cache: bool, size: u64) -> Option<u64>
     ensures { result ≡ length_to_read slot is_cache size }
 {
@@ -151,13 +156,12 @@ pub fn length_to_read(slot: Slot, is_cache: bool, size: u64) -> Option<u64>
     }
 }
 
-// Who may do what with a file, of all bits of a mode.
+// The permission bits of a mode.
 const PERMISSIONS: u32 = 0o777;
 
 const USUAL_MODE: u32 = 0o644;
 
-/// The mode of a slot's new file, if the one that stood there has this mode: everybody reads the cache, whatever mode new files
-/// have otherwise.
+/// The mode of a slot's new file, given the mode of the file that it replaces. Everybody may read the cache, whatever the umask is.
 pub fn mode_of(slot: Slot, stood: Option<u32>) -> u32
     ensures { result ≡ mode_of slot stood }
 {
@@ -167,14 +171,14 @@ pub fn mode_of(slot: Slot, stood: Option<u32>) -> u32
     }
 }
 
-/// The mode of a new file while it is written: nobody else may write it.
+/// The mode of a new file while it is written: only its owner may write it.
 pub fn mode_until_whole(mode: u32) -> u32
     ensures { result ≡ bit_and mode 0o755 }
 {
     mode & 0o755
 }
 
-/// The owner that a new file is to get, if it is another than it has. Only root gives files away.
+/// The owner to give to a new file, if any. Only root can give files away.
 pub fn owner_to_give(made: Owner, stood: Option<Owner>) -> Option<Owner>
     ensures { result ≡ owner_to_give made stood }
 {

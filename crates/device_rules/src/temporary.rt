@@ -10,16 +10,19 @@ use std::alloc::AllocError;
 use std::rt::Runtime;
 use tree_face::Tag;
 
-/// What no other running program has.
+/// How many temporary names are tried if names are taken.
+pub const MOST_NAMES: u64 = 100;
+
+/// The numbers that no other running program has together.
 #[derive(Clone, Copy)]
 pub struct RunId {
-    /// The process's number, which tells a person where a file is from.
+    /// The process number, which shows a person what made a file.
     pub process: u32,
-    /// A random number, since programs that don't see each other's processes can have one process number.
+    /// A random number, because programs that don't see each other's processes can have equal process numbers.
     pub random: u64,
 }
 
-/// The name of a run's temporary file for the slot's file of this name.
+/// The name of this run's temporary file for the slot's file of this name.
 pub fn temporary_path<R: Runtime>(
     rt: &R,
     path: &str,
@@ -49,7 +52,7 @@ pub fn maker_of<'a>(name: &'a str, file: &str) -> Option<&'a str>
     }
 }
 
-// The parts before and behind the first dot.
+// The parts before and after the first dot.
 fn at_dot(text: &str) -> Option<(&str, &str)>
     ensures { IfSome result (λ parts. text.now ≡ parts.0.now ++ 46 ∷ parts.1.now) }
 {

@@ -1,4 +1,4 @@
--- The keys that are begun, file by file.
+-- The files that are opened, by their keys and in order.
 use Rattle.std.proofs.Common.{◌≡◌, ◌+◌, ◌||◌, ◌++◌, ℕ, Bool, true, false, cond, List, [], ◌∷◌, Option, Some, None, refl, ap, sym, subst, ◌∙◌}
 use Rattle.std.proofs.lemmas.List.Folds.{list_any-append}
 use Rattle.std.proofs.lemmas.List.Sums.{sum_by-append}
@@ -10,7 +10,7 @@ use Rattle.tree_face.specs.Store.{Contents, StoreState}
 use Rattle.tree_face.specs.StoreUse.{Ending, Complete, ReadsFiles}
 use Rattle.elf_dynamic.specs.Begun.{LacksOne, ReadsBy, is_lacking, lacks_one, most_known_of, most_of, until_known, until_lacking}
 
--- ---- up to and with the first key that isn't held
+-- ---- up to and including the first key that isn't held
 
 module _ (held : Contents) where
   abbrev rest : List (List ℕ) → List (List ℕ) → List (List ℕ)
@@ -35,11 +35,11 @@ module _ (held : Contents) where
   lacks_before : (ks more : List (List ℕ)) → lacks_one held ks ≡ true → lacks_one held (ks ++ more) ≡ true
   lacks_before ks more e = list_any-append (is_lacking held) ks more ∙ ap (λ b. b || lacks_one held more) e
 
-  -- none of them lacks
+  -- none of them is missing
   pub none_lacks : (ks more : List (List ℕ)) → lacks_one held ks ≡ false → lacks_one held more ≡ false → lacks_one held (ks ++ more) ≡ false
   none_lacks ks more e f = list_any-append (is_lacking held) ks more ∙ ap (λ b. b || lacks_one held more) e ∙ f
 
--- ---- the same as far as it is known what is held
+-- ---- the same, if it may be unknown which keys are held
 
 abbrev rest_known : Option Contents → List (List ℕ) → List (List ℕ) → List (List ℕ)
 rest_known None ks more = more
@@ -49,7 +49,7 @@ until_known_append : (known : Option Contents) (ks more : List (List ℕ)) → u
 until_known_append None ks more = refl
 until_known_append (Some held) ks more = until_append held ks more
 
--- behind keys that are held come the next ones
+-- If all of these keys are held, the next keys follow.
 rest_held : (known : Option Contents) (ks more : List (List ℕ)) → IfKnown known (λ held. lacks_one held ks ≡ false) → rest_known known ks more ≡ until_known known more
 rest_held None ks more e = refl
 rest_held (Some held) ks more e = ap (λ b. cond b [] (until_lacking held more)) e
@@ -67,7 +67,7 @@ before_known None ks more e = e
 before_known (Some held) ks more e = lacks_before held ks more e
 
 module _ (known : Option Contents) (ks more : List (List ℕ)) (e : Ending) (a b c : StoreState) where
-  -- some keys, all of which are held, and then others
+  -- first some keys, which are all held, and then more keys
   pub keys_then : IfKnown known (λ held. lacks_one held ks ≡ false) → ReadsBy known ks Complete a b → ReadsBy known more e b c → ReadsBy known (ks ++ more) e a c
   keys_then none first next =
       let keys : until_known known (ks ++ more) ≡ until_known known ks ++ until_known known more =
@@ -77,7 +77,7 @@ module _ (known : Option Contents) (ks more : List (List ℕ)) (e : Ending) (a b
       (rw (summed_known known (until_known known ks) (until_known known more)) at both)
 
 module _ (known : Option Contents) (ks more : List (List ℕ)) (e : Ending) (a b : StoreState) where
-  -- the reading ends before all of the keys were begun
+  -- the call ends before it has opened all keys
   pub keys_early : IsPartial e → ReadsBy known ks e a b → ReadsBy known (ks ++ more) e a b
   keys_early partial first =
       let tail = rest_known known ks more in

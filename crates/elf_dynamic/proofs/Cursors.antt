@@ -1,4 +1,4 @@
--- A cursor that reads on.
+-- A cursor that has read more of its file.
 use Rattle.std.proofs.Common.{◌≡◌, ◌≤◌, ◌-◌, refl, ap, sym, subst, ◌∙◌, rules}
 use Rattle.tree_face.specs.Store.{StoreState}
 use Rattle.tree_face.specs.StoreUse.{Ending, Complete}
@@ -24,7 +24,7 @@ on a b c f g h r t = record {
 pub unmoved : (s : StoreState) (f : Cursor) → IsCursorOf s f → ReadsOn Complete s s f f
 unmoved s f cursor = record { reads = search rules; cursor = cursor; head = refl; strings = refl }
 
--- through the window of the headers
+-- reads through the window of the headers
 pub by_headers : {e : Ending} (a b : StoreState) (f : Cursor) (w : Window) → IsCursorOf a f → ReadsThrough e f.head w a b → ReadsOn e a b f (record f { headers = w })
 by_headers a b f w cursor r = record {
   reads = r.reads;
@@ -33,7 +33,7 @@ by_headers a b f w cursor r = record {
   strings = refl;
 }
 
--- a reader of entries stays one if the window of the entries stays
+-- A reader of entries stays valid if the window of the entries stays the same.
 pub reader_after : (f g : Cursor) (r : Entries) → IsReaderOf f r → g.section ≡ f.section → g.head ≡ f.head → IsReaderOf g r
 reader_after f g r reader section head = record {
   wide = reader.wide ∙ ap (λ h. h.wide) (sym head);
@@ -43,6 +43,6 @@ reader_after f g r reader section head = record {
   ready = subst (λ w. r.held ≤ ready w (r.end - r.left)) (sym section) reader.ready;
 }
 
--- what holds of a cursor whose string table was given holds of this table
+-- A fact about a cursor with its string table set is a fact about this table.
 pub given_strings : (P : StoreState → Head → Place → Type 0) (a b : StoreState) (f g : Cursor) (h : Head) (t : Place) → a ≡ b → f ≡ record g { strings = t } → g.head ≡ h → P a f.head f.strings → P b h t
 given_strings P a b f g h t same is head p = subst (λ s. P s h t) same (subst (λ x. P a x t) head (subst (λ (x : Cursor). P a x.head x.strings) is p))

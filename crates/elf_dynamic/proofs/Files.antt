@@ -37,7 +37,7 @@ module _ (s : StoreState) (h : Head) (o : Option Segment) (found : OfKnown s (λ
       with {P = λ bytes. o ≡ dynamic_segment w bytes} {Q = λ bytes. kept_in_file keep (sections_in w bytes) ≡ Ok None} (known_content s) found (λ bytes found. ap (kept_in_file keep) (without w bytes (sym found ∙ none)))
 
 module _ (s : StoreState) (h : Head) (o : Option Segment) (found : OfKnown s (λ bytes. o ≡ dynamic_segment (word_size h.wide) bytes)) (is_head : IsHeadOf s h) (d : Segment) (is : o ≡ Some d) where
-  -- what follows of the section's segment, if it ends in the file or past it as this says
+  -- A fact about the section's segment, by whether the segment ends past the end of the file.
   here : (outside : Bool) (P Q : List ℕ → Type 0) → nat_lt h.length (d.offset + d.filesz) ≡ outside → OfKnown s P →
       ((bytes : List ℕ) → dynamic_segment (word_size h.wide) bytes ≡ Some d → is_outside bytes d ≡ outside → P bytes → Q bytes) → OfKnown s Q
   here outside P Q e read f =

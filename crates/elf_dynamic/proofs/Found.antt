@@ -1,4 +1,4 @@
--- The first of what numbers give that passes a test.
+-- The first value, over a range of numbers, that passes a test.
 use Rattle.std.proofs.Common.{◌≡◌, ℕ, suc, ◌+◌, ◌-◌, ◌*◌, ◌<◌, ◌≤◌, Bool, true, false, List, ◌∷◌, length, take, drop, map, find, Option, Some, Ok, refl, ap, sym, ◌∙◌, arith}
 use Rattle.std.specs.List.{range_with_len}
 use Rattle.tree_face.specs.Known.{IfKnown}
@@ -15,7 +15,7 @@ use Rattle.elf_dynamic.proofs.Known.{with, both}
 range_first : {X : Type 0} (f : ℕ → X) (i n : ℕ) → i < n → map f (range_with_len i (n - i)) ≡ f i ∷ map f (range_with_len (i + 1) (n - (i + 1)))
 range_first f i n h = let e : n - i ≡ suc (n - (i + 1)) = omega arith in ap (λ k. map f (range_with_len i k)) e
 
--- of the numbers from i to n
+-- the first of the values for the numbers from i to n
 abbrev pub found_from : {X : Type 0} → (X → Bool) → (ℕ → X) → ℕ → ℕ → Option X
 found_from p f i n = find p (map f (range_with_len i (n - i)))
 
@@ -55,7 +55,7 @@ here_known known p w i n s whole h e here all =
     both {P = λ bytes. s ≡ segment w bytes i} {Q = λ bytes. whole bytes ≡ found_from p (segment w bytes) i n} {R = λ bytes. Some s ≡ whole bytes} known here all
     (λ bytes is all. ap Some is ∙ sym (found_here p (segment w bytes) i n h (ap p (sym is) ∙ e)) ∙ sym all)
 
--- ---- the bytes that were taken
+-- ---- the bytes that were read
 
 abbrev Few : Bool → ℕ → ℕ → Type 0
 Few wide at n = at + n * program_header_length (word_size wide) - (at + 0 * program_header_length (word_size wide)) ≤ 56 * n

@@ -1,4 +1,4 @@
--- The texts that are gathered one entry after another are those of the section.
+-- Gathering the texts entry by entry gives the texts of the section.
 use Rattle.std.proofs.Common.{◌≡◌, ℕ, suc, ◌+◌, ◌-◌, ◌*◌, ◌≤◌, Bool, true, false, cond, not, ◌==◌, List, [], ◌∷◌, ◌++◌, length, map, filter, find, Option, Some, None, is_some, Result, Ok, Err, refl, ap, sym, subst, ◌∙◌, arith, append_assoc, append-nil}
 use Rattle.std.proofs.lemmas.Bool.{eqb-true}
 use Rattle.std.specs.List.{list_any}
@@ -22,7 +22,7 @@ use Rattle.elf_dynamic.proofs.Joined.{texts_more}
 use Rattle.elf_dynamic.specs.Texts.{counts, with_text, no_texts, add_one, gathered, counted}
 use Rattle.elf_dynamic.proofs.Kept.{unkept, unkept_bad, gathered_alike, counted_alike}
 
--- ---- one entry more
+-- ---- one more entry
 
 gather_ok : (t : List ℕ) (d new : Dynamic) (e : DynamicEntry) (rest : List DynamicEntry) → add_one t d e ≡ Ok new → gathered t d (e ∷ rest) ≡ gathered t new rest
 gather_ok t d new e rest h = by (counts d e.tag) (has_text_at t e.value) h
@@ -54,7 +54,7 @@ count_ok t d new e rest h = by (counts d e.tag) (has_text_at t e.value) h
     by true false h = absurd (cc)
     by false b h = let same : d ≡ new = cc in let e = ap (λ d. counted t d rest) same in omega arith
 
--- the same with what is kept
+-- the same for the texts that are kept
 kept_ok : (keep : Keep) (t : List ℕ) (d new : Dynamic) (e : DynamicEntry) (rest : List DynamicEntry) → kept_of keep (add_one t d e) ≡ Ok (kept keep new) →
     kept_of keep (gathered t d (e ∷ rest)) ≡ kept_of keep (gathered t new rest)
 kept_ok keep t d new e rest h =
@@ -67,7 +67,7 @@ count_kept keep t d new e rest h =
     let (x, added, alike) = unkept keep (add_one t d e) new h in
     count_ok t d x e rest added ∙ ap (λ n. one_if (counts d e.tag) + n) (counted_alike keep t rest x new alike)
 
--- an entry that counts is one of those that count
+-- If this entry counts, it is one of the counted entries.
 count_one : (t : List ℕ) (d : Dynamic) (e : DynamicEntry) (rest : List DynamicEntry) → one_if (counts d e.tag) ≤ counted t d (e ∷ rest)
 count_one t d e rest = by (counts d e.tag)
   where
@@ -75,13 +75,13 @@ count_one t d e rest = by (counts d e.tag)
     by true = omega arith
     by false = omega arith
 
--- ---- the bytes that were taken so far
+-- ---- the bytes read so far
 
 pub record Stays (old new : StoreState) (most unread : ℕ) (t : List ℕ) (d : Dynamic) (rest : List DynamicEntry) (first : Dynamic) (all : List DynamicEntry) : Type 0 where
   pub fewer : counted t d rest ≤ counted t first all
   pub taken : new.taken ≤ raised old.taken (most - unread + 65536 * (counted t first all - counted t d rest))
 
--- ---- the loop over the entries, in known content
+-- ---- the loop over the entries, if the content is known
 
 pub rests_on : (keep : Keep) (known : Option (List ℕ)) (table : List ℕ → List ℕ) (rest next : List ℕ → List DynamicEntry) (all : List ℕ → Result Dynamic Defect) (d new : Dynamic) (e : DynamicEntry) →
     IfKnown known (λ bytes. rest bytes ≡ e ∷ next bytes) → IfKnown known (λ bytes. kept_of keep (add_one (table bytes) d e) ≡ Ok (kept keep new)) →
@@ -98,7 +98,7 @@ rests_bad keep None table rest next all d x e on bad whole = tt
 rests_bad keep (Some bytes) table rest next all d x e on bad whole =
     unkept_bad keep (all bytes) x (sym whole ∙ ap (λ es. kept_of keep (gathered (table bytes) d es)) on ∙ ap (kept_of keep) (gather_bad (table bytes) d x e (next bytes) bad))
 
--- ---- the bytes that were taken, in known content
+-- ---- the bytes that were read, if the content is known
 
 raised_three : (a b c d n m k p : ℕ) → b ≤ raised a n → c ≤ raised b m → d ≤ raised c k → n + m + k ≤ p → d ≤ raised a p
 raised_three a b c d n m k p x y z h = raised-mono a d (n + m + k) p h (raised-add a c d (n + m) k (raised-add a b c n m x y) z)
@@ -135,7 +135,7 @@ stays_on keep (Some bytes) old mid mid2 new most u v table rest next all d found
           (sum_on most u v (counted (table bytes) first (all bytes)) (counted (table bytes) d (rest bytes)) (counted (table bytes) found (next bytes)) 0 0 count stays.fewer h k refl);
     }
 
--- a call that fails has taken no more than all
+-- A call that fails has read at most the bytes that the whole loop may read.
 pub stays_fault : (known : Option (List ℕ)) (old mid mid2 new : StoreState) (most u v : ℕ) (table : List ℕ → List ℕ) (rest next all : List ℕ → List DynamicEntry) (d first : Dynamic) (e : DynamicEntry) →
     IfKnown known (λ bytes. Stays old mid most u (table bytes) d (rest bytes) first (all bytes)) → IfKnown known (λ bytes. rest bytes ≡ e ∷ next bytes) →
     u ≤ most → v ≤ u → mid2.taken ≤ raised mid.taken (u - v) → new.taken ≤ raised mid2.taken (cond (counts d e.tag) 65536 0) →
@@ -170,7 +170,7 @@ pub rests_first : (keep : Keep) (known : Option (List ℕ)) (table : List ℕ �
 rests_first keep None table rest all d first e same = tt
 rests_first keep (Some bytes) table rest all d first e same = ap (λ d. kept_of keep (gathered (table bytes) d (rest bytes))) e ∙ ap (λ es. kept_of keep (gathered (table bytes) first es)) same
 
--- the fault of an entry is that of the whole
+-- the fault at an entry is the fault of the whole section
 pub fault_on : (keep : Keep) (known mid : Option (List ℕ)) (table : List ℕ → List ℕ) (rest next : List ℕ → List DynamicEntry) (all : List ℕ → Result Dynamic Defect) (d : Dynamic) (e : DynamicEntry) (fault : ObjectFault) → mid ≡ known →
     IfKnown known (λ bytes. rest bytes ≡ e ∷ next bytes) → IfKnown known (λ bytes. kept_of keep (gathered (table bytes) d (rest bytes)) ≡ kept_of keep (all bytes)) →
     IfBad {X = Unit {0}} (Err fault) (λ x. IfKnown mid (λ bytes. add_one (table bytes) d e ≡ Err x)) → IfBad {X = Unit {0}} (Err fault) (λ x. IfKnown known (λ bytes. all bytes ≡ Err x))
@@ -202,7 +202,7 @@ pub rests_done : (keep : Keep) (known : Option (List ℕ)) (table : List ℕ →
 rests_done keep None table left rest all d none is whole = tt
 rests_done keep (Some bytes) table left rest all d none is whole = sym whole ∙ ap (kept_of keep) (gathered_none (table bytes) d (rest bytes) (sym is ∙ none))
 
--- how many are left after one entry more
+-- the number of entries with a text that are left after one more entry
 pub left_on : (known : Option (List ℕ)) (left new : ℕ) (e : DynamicEntry) (rest next : List ℕ → List DynamicEntry) → new ≡ left - texts_in (e ∷ []) →
     IfKnown known (λ bytes. rest bytes ≡ e ∷ next bytes) → IfKnown known (λ bytes. left ≡ texts_in (rest bytes)) → IfKnown known (λ bytes. new ≡ texts_in (next bytes))
 left_on None left new e rest next is on had = tt
@@ -241,7 +241,7 @@ record Seen (s r u : Option (List ℕ)) (earlier : List DynamicEntry) : Type 0 w
   rpaths : list_any (has_tag 15) earlier ≡ is_some r
   runpaths : list_any (has_tag 29) earlier ≡ is_some u
 
--- what is gathered of the entries, and how many of them count
+-- the texts gathered from the entries, and the number of entries that count
 record Is (t : List ℕ) (es earlier : List DynamicEntry) (s : Option (List ℕ)) (n : List (List ℕ)) (r u : Option (List ℕ)) (f : Bool) : Type 0 where
   all : gathered t (dyn s n r u f) es ≡ pick (find (bad_in t) (counting_after earlier es)) (filled t s n r u f es)
   count : counted t (dyn s n r u f) es ≡ length (counting_after earlier es)
@@ -273,7 +273,7 @@ counts_on t rest tag value earlier d new whole c k w all count = rw (c, k, w) (b
     by true = all
     by false = refl
 
--- one that doesn't
+-- an entry that doesn't count
 passes_on : (t : List ℕ) (rest : List DynamicEntry) (e : DynamicEntry) (earlier : List DynamicEntry) (d : Dynamic) (whole : Dynamic) → counts d e.tag ≡ false → counts_after earlier e ≡ false →
     gathered t d rest ≡ pick (find (bad_in t) (counting_after (e ∷ earlier) rest)) whole → counted t d rest ≡ length (counting_after (e ∷ earlier) rest) →
     (gathered t d (e ∷ rest) ≡ pick (find (bad_in t) (counting_after earlier (e ∷ rest))) whole) × (counted t d (e ∷ rest) ≡ length (counting_after earlier (e ∷ rest)))
@@ -349,7 +349,7 @@ claims : (t : List ℕ) (es : List DynamicEntry) → Claim t es
 claims t [] = claim_none t
 claims t (e ∷ rest) = claim_on t rest e (claims t rest)
 
--- the texts of a section without its DT_SONAME's further rules
+-- the texts of a section, before the rules for its DT_SONAME
 abbrev pub all_texts : List ℕ → Bool → List DynamicEntry → Dynamic
 all_texts t f es = record {
   soname = text_of 14 (Some t) es;

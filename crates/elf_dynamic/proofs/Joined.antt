@@ -1,4 +1,4 @@
--- What entries say, one after another.
+-- The values of the entries, one entry at a time.
 use Rattle.std.proofs.Common.{◌≡◌, ℕ, ◌+◌, ◌≤◌, Bool, true, false, cond, List, [], ◌∷◌, length, filter, find, Option, Some, None, option_map, refl, ap, sym, ◌∙◌, arith}
 use Rattle.tree_face.specs.Known.{IfKnown}
 use Rattle.elf_dynamic.specs.declared.kinds.DynamicEntry.{DynamicEntry}

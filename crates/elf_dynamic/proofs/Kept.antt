@@ -1,4 +1,4 @@
--- What is left of a section if not all of its texts are kept: what the entries behind it add doesn't depend on the rest.
+-- The part of a section that is kept, if not all texts are kept. What later entries add doesn't depend on the texts that are dropped.
 use Rattle.std.proofs.Common.{◌≡◌, ℕ, ◌+◌, Bool, true, false, cond, ◌==◌, List, [], ◌∷◌, ◌++◌, Option, Some, None, is_none, option_map, Result, Ok, Err, refl, ap, sym, ◌∙◌}
 use Rattle.lib_types.specs.declared.abi.Abi.{Abi}
 use Rattle.lib_types.specs.declared.analysis.Defect.{Defect}
@@ -14,7 +14,7 @@ use Rattle.elf_dynamic.specs.Section.{has_text_at, text_at}
 use Rattle.elf_dynamic.specs.Sections.{name_of}
 use Rattle.elf_dynamic.specs.Texts.{counts, with_text, gathered, counted}
 
--- ---- the whole of which something is left
+-- ---- two sections whose kept parts are equal
 
 pub unkept : (keep : Keep) (r : Result Dynamic Defect) (d : Dynamic) → kept_of keep r ≡ Ok (kept keep d) → (x : Dynamic) × (r ≡ Ok x) × (kept keep x ≡ kept keep d)
 unkept keep (Ok x) d h = (x, refl, cc)
@@ -40,7 +40,7 @@ all_kept (Some d) = refl
 pub whole_object : (o : Object) → kept_object All o ≡ o
 whole_object o = ap (λ d. record o { dynamic = d }) (all_kept o.dynamic)
 
--- ---- what is seen of it
+-- ---- what is read from the kept part
 
 pub soname_alike : (keep : Keep) (d e : Dynamic) → kept keep d ≡ kept keep e → d.soname ≡ e.soname
 soname_alike All d e h = ap (λ (d : Dynamic). d.soname) h
@@ -72,7 +72,7 @@ counts_kept Soname d tag = rw (none_kept d.rpath, none_kept d.runpath) refl
 counts_alike : (keep : Keep) (d e : Dynamic) (tag : ℕ) → kept keep d ≡ kept keep e → counts d tag ≡ counts e tag
 counts_alike keep d e tag h = sym (counts_kept keep d tag) ∙ ap (λ (d : Dynamic). counts d tag) h ∙ counts_kept keep e tag
 
--- ---- one text more
+-- ---- one more text
 
 twice : (o : Option (List ℕ)) → option_map (kept_text false) (option_map (kept_text false) o) ≡ option_map (kept_text false) o
 twice None = refl
@@ -101,7 +101,7 @@ text_kept Soname tag text d = by (tag == 1) (tag == 14) (tag == 15)
 text_alike : (keep : Keep) (tag : ℕ) (text : List ℕ) (d e : Dynamic) → kept keep d ≡ kept keep e → kept keep (with_text tag text d) ≡ kept keep (with_text tag text e)
 text_alike keep tag text d e h = sym (text_kept keep tag text d) ∙ ap (λ (d : Dynamic). kept keep (with_text tag text d)) h ∙ text_kept keep tag text e
 
--- ---- all further texts
+-- ---- all later texts
 
 abbrev ok_of : Dynamic → Result Dynamic Defect
 ok_of d = Ok d

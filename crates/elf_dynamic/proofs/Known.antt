@@ -1,4 +1,4 @@
--- Facts of the content that a store reads from.
+-- Facts about the content that a store reads from.
 use Rattle.std.proofs.Common.{◌≡◌, ℕ, List, length, Option, Some, None, IfSome, Ok, refl, sym, subst, ◌∙◌, arith}
 use Rattle.tree_face.specs.Known.{IfKnown}
 use Rattle.tree_face.specs.Store.{StoreState}
@@ -11,7 +11,7 @@ use Rattle.elf_headers.specs.Reading.{known_content, CountsFaults, OnlyReads, Is
 pub same : {e : Ending} (s t : StoreState) → OnlyReads e s t → known_content t ≡ known_content s
 same s t r = rw (r.held, r.content) refl
 
--- what holds of the content before holds after, and the other way round
+-- A fact about the content before a read is a fact about the content after it, and the reverse.
 pub before : {e : Ending} (P : List ℕ → Type 0) (s t : StoreState) → OnlyReads e s t → IfKnown (known_content t) P → IfKnown (known_content s) P
 before P s t r h = subst (λ o. IfKnown o P) (same s t r) h
 
@@ -26,11 +26,11 @@ pub both : {P Q R : List ℕ → Type 0} (known : Option (List ℕ)) → IfKnown
 both None h k f = tt
 both (Some bytes) h k f = f bytes h k
 
--- a fact of an optional value that is there
+-- a fact about an optional value that is Some
 pub at_some : {X : Type 0} (P : X → Type 0) (o : Option X) (x : X) → o ≡ Some x → IfSome o P → P x
 at_some P o x e h = subst (λ o. IfSome o P) e h
 
--- the content has the header's length
+-- the length of the content is the length in the header
 pub sized : (s : StoreState) (h : Head) → IsHeadOf s h → IfKnown (known_content s) (λ bytes. length bytes ≡ h.length)
 sized s h i =
     with {P = λ bytes. head bytes ≡ Ok h} {Q = λ bytes. length bytes ≡ h.length} (known_content s) i.content

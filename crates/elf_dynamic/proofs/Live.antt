@@ -1,4 +1,4 @@
--- The entries that are left to a reader, one entry on.
+-- The entries that a reader has left, after one more entry.
 use Rattle.std.proofs.Common.{◌≡◌, ℕ, zero, suc, ◌+◌, ◌-◌, ◌*◌, ◌/◌, ◌<◌, ◌≤◌, Bool, true, false, not, ◌==◌, List, [], ◌∷◌, map, take, drop, Option, Some, None, MatchOption, refl, ap, sym, subst, ◌∙◌, arith}
 use Rattle.std.proofs.lemmas.List.{drop-take, drop-drop}
 use Rattle.std.specs.List.{range_with_len, take_while, prefix_len}
@@ -28,7 +28,7 @@ count_more : (b : Bool) (left : ℕ) → 2 * word_size b ≤ left → left / (2 
 count_more true left h = omega arith
 count_more false left h = omega arith
 
--- ---- the next of them
+-- ---- the next entry
 
 pub while_true : {X : Type 0} (p : X → Bool) (x : X) (xs : List X) → p x ≡ true → take_while p (x ∷ xs) ≡ x ∷ take_while p xs
 while_true p x xs h = rw h (let e : 1 + prefix_len p xs ≡ suc (prefix_len p xs) = omega arith in ap (λ n. take n (x ∷ xs)) e)
@@ -55,7 +55,7 @@ unfolding live_entries
 live_next b bytes at left h e =
     live_more b bytes at left h ∙ while_true (λ e. not (e.tag == 0)) (entry_at (word_size b) bytes at) (entries_in (word_size b) bytes (at + 2 * word_size b) ((left - 2 * word_size b) / (2 * word_size b))) e
 
--- ---- all of them
+-- ---- all entries
 
 from_index : (w a i n : ℕ) (bytes : List ℕ) → map (λ index. entry_at w bytes (a + index * (2 * w))) (range_with_len i n) ≡ entries_in w bytes (a + i * (2 * w)) n
 from_index w a i zero bytes = refl
@@ -74,7 +74,7 @@ live_all w bytes s =
 entry_window : (w n at : ℕ) (bytes : List ℕ) → 2 * w ≤ n → entry_at w (take n (drop at bytes)) 0 ≡ entry_at w bytes at
 entry_window w n at bytes h = rw (field_window n at 0 at w bytes (omega arith) (omega arith), field_window n at (0 + w) (at + w) w bytes (omega arith) (omega arith)) refl
 
--- ---- the reader's next entry, in known content
+-- ---- the reader's next entry, if the content is known
 
 always : {P : List ℕ → Type 0} (known : Option (List ℕ)) → ((bytes : List ℕ) → P bytes) → IfKnown known P
 always None f = tt
@@ -83,11 +83,11 @@ always (Some bytes) f = f bytes
 pub ended : (known : Option (List ℕ)) (c : Entries) → c.left < 2 * word_size c.wide → IfKnown known (λ bytes. rest_of c bytes ≡ [])
 ended known c h = always {P = λ bytes. rest_of c bytes ≡ []} known (λ bytes. live_short c.wide bytes (c.end - c.left) c.left h)
 
--- so many of the next bytes
+-- the next n bytes
 abbrev Next : Entries → ℕ → List ℕ → List ℕ → Type 0
 Next c n front bytes = front ≡ take n (drop (c.end - c.left) bytes)
 
--- the entry that was taken of them is the next of the section
+-- the entry at the start of the next bytes is the next entry of the section
 here : (c : Entries) (n : ℕ) (front bytes : List ℕ) (e : DynamicEntry) → 2 * word_size c.wide ≤ n → e ≡ entry_at (word_size c.wide) front 0 → Next c n front bytes →
     e ≡ entry_at (word_size c.wide) bytes (c.end - c.left)
 here c n front bytes e enough taken next =
@@ -129,7 +129,7 @@ window_on n r f at buf bytes h e = sym (part_on n r f buf h) ∙ ap (drop n) e �
 abbrev Begun : Head → Segment → Entries → Type 0
 Begun h d c = c ≡ record { wide = h.wide; end = d.offset + d.filesz; left = d.filesz; held = 0 }
 
--- it reads in the file, and knows of no byte that the window holds
+-- A new reader is in the file. It doesn't know of any bytes in the window.
 pub opened : (f : Cursor) (d : Segment) (c : Entries) → Begun f.head d c → d.offset + d.filesz ≤ f.head.length → IsReaderOf f c
 opened f d c new inside =
     let end_is : c.end ≡ d.offset + d.filesz = ap (λ x. x.end) new in
@@ -161,7 +161,7 @@ begun_unread h d c w new =
     let left_is : c.left ≡ d.filesz = ap (λ x. x.left) new in
     omega arith
 
--- ---- what the reader returned
+-- ---- the entry that the reader returned
 
 abbrev IsNext : (List ℕ → List DynamicEntry) → (List ℕ → List DynamicEntry) → Option DynamicEntry → List ℕ → Type 0
 IsNext old new o bytes = MatchOption o (old bytes ≡ []) (λ e. old bytes ≡ e ∷ new bytes)
@@ -169,6 +169,6 @@ IsNext old new o bytes = MatchOption o (old bytes ≡ []) (λ e. old bytes ≡ e
 pub next_is : (known : Option (List ℕ)) (old new : List ℕ → List DynamicEntry) (e : DynamicEntry) (o : Option DynamicEntry) → o ≡ Some e → IfKnown known (IsNext old new o) → IfKnown known (λ bytes. old bytes ≡ e ∷ new bytes)
 next_is known old new e o is h = subst (λ o. IfKnown known (IsNext old new o)) is h
 
--- the same in the content before
+-- the same for the content before the read
 pub next_before : {ending : Ending} (s t : StoreState) (c new : Entries) (e : DynamicEntry) (o : Option DynamicEntry) → OnlyReads ending s t → o ≡ Some e → OfKnown t (IsNext (rest_of c) (rest_of new) o) → OfKnown s (λ bytes. rest_of c bytes ≡ e ∷ rest_of new bytes)
 next_before s t c new e o reads is h = before (λ bytes. rest_of c bytes ≡ e ∷ rest_of new bytes) s t reads (next_is (known_content t) (rest_of c) (rest_of new) e o is h)

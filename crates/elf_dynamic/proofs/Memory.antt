@@ -1,4 +1,4 @@
--- What is found before memory is taken.
+-- What is found before memory is allocated.
 use Rattle.std.proofs.Common.{◌≡◌, ℕ, ◌<◌, ◌||◌, ◌==◌, Bool, true, false, cond, not, is_some, is_none, List, Option, Some, None, Result, Ok, Err, IfErr, IsErrOf, IsSome, refl, sym, ap, subst, arith}
 use Rattle.std.proofs.lemmas.Bool.Decides.{nat_tests}
 use Rattle.std.specs.List.{list_any}
@@ -31,7 +31,7 @@ use Rattle.elf_dynamic.proofs.Known.{both}
 use Rattle.elf_dynamic.proofs.Objects.{object_ok, object_bad, analysis_ok, analysis_bad, at_known}
 use Rattle.elf_dynamic.proofs.Sections.{with_table, strings_there, some_with_text}
 
--- the fault of a call is that of the function
+-- the fault of the inner call is the fault of the function
 pub fault_is : (X Y : Type 0) (f g : ObjectFault) → IsErrOf {T = X} (Err f) g → IsErrOf {T = Y} (Err f) g
 fault_is X Y f g h = let same : f ≡ g = cc in ap Err same
 
@@ -73,7 +73,7 @@ content_takes held key known h content is_head takes =
     (λ bytes e. object_takes bytes h (at_known (λ bytes. head bytes ≡ Ok h) known bytes e is_head) (at_known (λ bytes. SectionTakesMemory (sections_in (word_size h.wide) bytes)) known bytes e takes))
     content
 
--- ---- what it is for the cache
+-- ---- the analysis of an object
 
 library_takes : (abi : Abi) (type : ℕ) (d : Option Dynamic) → IsSome d → AnalysisTakesMemory (library_of abi type d)
 library_takes abi type None some = absurd (cc)

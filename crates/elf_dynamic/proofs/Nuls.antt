@@ -1,4 +1,4 @@
--- The bytes before the first NUL, piece by piece.
+-- The bytes before the first NUL, read in pieces.
 use Rattle.std.proofs.Common.{◌≡◌, position, is_some, Result, Ok, Err, IfOk, ◌⊎◌, inl, inr, ◌&&◌, length-take, length-drop, ℕ, ◌+◌, ◌-◌, ◌<◌, ◌≤◌, min, Bool, true, false, cond, not, nat_lt, ◌||◌, List, [], ◌∷◌, ◌++◌, length, take, drop, Option, Some, None, option_map, refl, ap, sym, ◌∙◌, arith, append_assoc}
 use Rattle.std.proofs.lemmas.Bool.{cases_lt}
 use Rattle.std.proofs.lemmas.Bool.Decides.{nat_tests}
@@ -85,7 +85,7 @@ goes_on known found piece new at count left all h none more read whole =
     let all_of_it : new ≡ found ++ piece = more ∙ ap (λ xs. found ++ xs) (while_none piece none) in
     ap (λ xs. option_map (λ r. xs ++ r) (before_nul rest)) all_of_it ∙ map_map found piece (before_nul rest) ∙ sym (ap (option_map (λ r. found ++ r)) behind) ∙ whole)
 
--- ---- whether there is a NUL, piece by piece
+-- ---- whether there is a NUL, read in pieces
 
 abbrev Has : ℕ → ℕ → (List ℕ → Bool) → List ℕ → Type 0
 Has at end all bytes = list_any is_nul (take (end - at) (drop at bytes)) ≡ all bytes
@@ -172,7 +172,7 @@ take_take_min n r xs = elim (cases_lt r n) as (λ _. take n (take r xs) ≡ take
   | inr more ↦ let same : n ≡ min n r = omega arith in take-take n r xs more ∙ ap (λ k. take k xs) same
 ]
 
--- the front of the bytes that a window holds
+-- the first bytes of what a window holds
 pub front_of : (known : Option (List ℕ)) (piece part : List ℕ) (at ready left : ℕ) → piece ≡ take left part → IfKnown known (λ bytes. part ≡ take ready (drop at bytes)) → IfKnown known (λ bytes. piece ≡ take (length piece) (drop at bytes))
 front_of known piece part at ready left e read =
     with {P = λ bytes. part ≡ take ready (drop at bytes)} {Q = λ bytes. piece ≡ take (length piece) (drop at bytes)} known read

@@ -1,4 +1,4 @@
--- The object and the analysis of a file, by its header and its dynamic section.
+-- The object and the analysis of a file, from its header and its dynamic section.
 use Rattle.std.proofs.Common.{◌≡◌, ℕ, Bool, true, false, cond, ◌==◌, List, [], ◌∷◌, ◌++◌, length, Option, Some, None, is_none, option_map, Result, Ok, Err, IfOk, refl, ap, sym, subst, ◌∙◌}
 use Rattle.std.specs.Option.{option_map_or}
 use Rattle.lib_types.specs.declared.abi.Abi.{Abi}
@@ -33,7 +33,7 @@ use Rattle.elf_dynamic.specs.Analysis.{sentences, as_library, analysis_by, analy
 use Rattle.elf_dynamic.specs.Sections.{sections_in}
 use Rattle.elf_dynamic.proofs.Sections.{no_section}
 
--- ---- lists of sentences
+-- ---- lists of rules
 
 abbrev first : Option Defect → Option Defect → Option Defect
 first (Some a) b = Some a
@@ -132,7 +132,7 @@ analysis_first bytes =
 abbrev not_of : Defect → Analysis
 not_of d = Not d
 
--- the library, by whether it is a program at fixed addresses
+-- the analysis, by whether the file is a program at fixed addresses
 abbrev library_case : Abi → ℕ → Bool → Option Dynamic → Analysis
 library_case a t two None = Not NoDynamic
 library_case a t two (Some d) = cond two (Not (NotShared t)) (Lib a d.soname)
@@ -204,7 +204,7 @@ analysis_bad bytes x h =
     ∙ not_by (dynamic_segment (w_of bytes) bytes) (first_defect (header_sentences bytes)) (first_defect (dynamic_sentences (w_of bytes) bytes)) (first_defect (executable bytes)) x bytes (no_section (w_of bytes) bytes)
     (sym (object_first bytes) ∙ object_fails bytes x h)
 
--- ---- in known content
+-- ---- if the content is known
 
 pub at_known : (P : List ℕ → Type 0) (known : Option (List ℕ)) (bytes : List ℕ) → known ≡ Some bytes → IfKnown known P → P bytes
 at_known P known bytes e h = subst (λ o. IfKnown o P) e h

@@ -1,4 +1,4 @@
--- What a section says, by the first sentence that holds.
+-- A section's texts, or its first defect.
 use Rattle.std.proofs.Common.{◌≡◌, ℕ, ◌+◌, ◌*◌, ◌≤◌, ◌<◌, length, subst, Bool, true, false, cond, not, ◌||◌, List, [], ◌∷◌, map, filter, find, Option, Some, None, is_none, is_some, ok_or, Result, Ok, Err, refl, ap, sym, ◌∙◌, arith}
 use Rattle.std.specs.List.{list_any}
 use Rattle.std.specs.Option.{option_map_or}
@@ -187,7 +187,7 @@ strings_there w bytes (Some a) (Some n) t es ea en e = by (table_at bytes (segme
     by None eo e = absurd (cc)
     by (Some u) eo e = (rw (ea, en) (eo ∙ cc), rw (ea, en) refl)
 
--- ---- the bytes that were taken
+-- ---- the bytes that were read
 
 pub known_taken : (known : Option (List ℕ)) (a b c n m w : ℕ) (s : Segment) (f : Bool) (first : Dynamic) (table : List ℕ → List ℕ) → first ≡ no_texts f → b ≤ raised a n →
     IfKnown known (λ bytes. c ≤ raised b (m + 65536 * counted (table bytes) first (dynamic_entries w bytes s))) → IfKnown known (λ bytes. c ≤ raised a (n + m + 65536 * counting_in w bytes s))
@@ -199,14 +199,14 @@ known_taken (Some bytes) a b c n m w s f first table new h k =
     raised-mono a c (n + (m + 65536 * counted (table bytes) first (dynamic_entries w bytes s))) (n + m + 65536 * length (counting_entries (dynamic_entries w bytes s))) (omega (arith, count))
     (raised-add a b c n (m + 65536 * counted (table bytes) first (dynamic_entries w bytes s)) h k)
 
--- the same of a store, with the table before the texts
+-- the same over stores, with the table before the texts
 pub texts_taken_by : {e : Ending} (s t u : StoreState) (n m w : ℕ) (d : Segment) (f : Bool) (first : Dynamic) (table : Place) → first ≡ no_texts f → OnlyReads e s t → TakesAtMost n s t →
     OfKnown t (λ bytes. TakesAtMost (m + 65536 * counted (bytes_of table bytes) first (dynamic_entries w bytes d)) t u) → OfKnown s (λ bytes. TakesAtMost (n + m + 65536 * counting_in w bytes d) s u)
 texts_taken_by s t u n m w d f first table new reads before_texts taken =
     known_taken (known_content s) s.taken t.taken u.taken n m w d f first (bytes_of table) new before_texts
     (before (λ bytes. TakesAtMost (m + 65536 * counted (bytes_of table bytes) first (dynamic_entries w bytes d)) t u) s t reads taken)
 
--- ---- the section in known content
+-- ---- the section, if the content is known
 
 module _ (keep : Keep) (known : Option (List ℕ)) (w : ℕ) (s : Segment) (v : Values) (is : IfKnown known (λ bytes. v ≡ values_of (dynamic_entries w bytes s))) where
   pub known_textless : v.texts ≡ 0 → IfKnown known (λ bytes. kept_of keep (section_in w bytes s) ≡ Ok (kept keep (no_texts (option_map_or has_nodeflib v.flags_1 false))))

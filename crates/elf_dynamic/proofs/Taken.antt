@@ -1,4 +1,4 @@
--- What reading an object does with a store, and how many bytes it takes.
+-- The effect of reading an object on a store, and the number of bytes that it reads.
 use Rattle.std.proofs.Common.{◌≡◌, ℕ, ◌+◌, ◌*◌, ◌≤◌, List, length, Option, Some, None, IfSome, IsSomeAnd, Ok, Err, refl, ap, sym, subst, ◌∙◌, arith}
 use Rattle.std.specs.Option.{option_map_or}
 use Rattle.lib_types.specs.Counts.{raised}
@@ -25,11 +25,11 @@ use Rattle.elf_dynamic.proofs.Objects.{at_known}
 abbrev w_of : List ℕ → ℕ
 w_of bytes = word_size (is_wide bytes)
 
--- at most so many bytes are taken of the file, if contents are known
+-- The call reads at most this number of bytes of the file, if contents are known.
 abbrev pub TakesKnown : Option Contents → List ℕ → ℕ → ℕ → Type 0
 TakesKnown held key a b = IfSome (most_known held key) (λ n. b ≤ raised a n)
 
--- ---- a file whose header is refused
+-- ---- a file whose header is rejected
 
 least_by : (o : Option Defect) (w : ℕ) (bytes : List ℕ) → 128 ≤ reading_after o w bytes
 least_by (Some d) w bytes = omega arith
@@ -76,7 +76,7 @@ accepted bytes h e =
     ∙ ap (λ n. 128 + 448 * n + section_reading (w_of bytes) bytes (readable_section (w_of bytes) bytes)) (sym given.phnum_is)
     ∙ ap (λ b. 128 + 448 * h.phnum + section_reading (word_size b) bytes (readable_section (word_size b) bytes)) (sym given.wide_is)
 
--- at most so many bytes are taken after the header
+-- an upper bound on the bytes that are read after the header
 abbrev TakesOf : Head → ℕ → ℕ → List ℕ → Type 0
 TakesOf h b c bytes = c ≤ raised b (448 * h.phnum + section_reading (word_size h.wide) bytes (readable_section (word_size h.wide) bytes))
 

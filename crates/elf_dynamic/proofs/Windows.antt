@@ -21,7 +21,7 @@ ready_on w at n h = by (nat_lt at w.at) refl h (nat_lt (at + n) w.at) refl
     by false ea h true eb = grind (arith, nat_tests)
     by false ea h false eb = grind (arith, nat_tests)
 
--- other reading leaves a window as it is
+-- reads elsewhere leave a window unchanged
 pub window_after : {e : Ending} (s t : StoreState) (h : Head) (w : Window) → OnlyReads e s t → IsWindowOf s h w → IsWindowOf t h w
 window_after s t h w r o = record {
   room = o.room;
@@ -30,7 +30,7 @@ window_after s t h w r o = record {
   bytes = after (λ bytes. take w.count w.bytes ≡ take w.count (drop w.at bytes)) s t r o.bytes;
 }
 
--- its bytes are those of the file
+-- the bytes of the window are the bytes of the file
 part_in : (w : Window) (gap : ℕ) (bytes : List ℕ) → take w.count w.bytes ≡ take w.count (drop w.at bytes) → take (w.count - gap) (drop gap w.bytes) ≡ take (w.count - gap) (drop (w.at + gap) bytes)
 part_in w gap bytes h = by (nat_lt w.count gap) refl
   where
@@ -52,7 +52,7 @@ pub part_known : (s : StoreState) (h : Head) (w : Window) (at : ℕ) → IsWindo
 part_known s h w at o =
     with {P = λ bytes. take w.count w.bytes ≡ take w.count (drop w.at bytes)} {Q = λ bytes. part w at ≡ take (ready w at) (drop at bytes)} (known_content s) o.bytes (λ bytes e. part_is w at bytes e)
 
--- what was taken of a window after reading, in the content before
+-- the bytes taken from a window after a read, in the content before the read
 pub next_part : {e : Ending} (s t : StoreState) (h : Head) (w : Window) (at : ℕ) (front : List ℕ) → OnlyReads e s t → IsWindowOf t h w → front ≡ part w at → IfKnown (known_content s) (λ bytes. front ≡ take (ready w at) (drop at bytes))
 next_part s t h w at front r o e =
     before (λ bytes. front ≡ take (ready w at) (drop at bytes)) s t r

@@ -1,5 +1,5 @@
--- What a file is for the cache: a library, or the first of its defects. The sentences are those of the object, with
--- NoDynamic behind those of the header, and last that a program at fixed addresses is no library.
+-- What a file is for the cache: a library, or its first defect. The rules are those of the object, with two more. NoDynamic comes
+-- after the rules of the header. The last rule rejects a program at fixed addresses.
 use Rattle.std.specs.Prelude.{◌≡◌, ℕ, if◌then◌else◌, ◌==◌, List, [], ◌∷◌, ◌++◌, Option, Some, None, is_none, IfSome, true}
 use Rattle.std.specs.Option.{option_map_or}
 use Rattle.lib_types.specs.declared.abi.Abi.{Abi}
@@ -25,7 +25,7 @@ sentences_of w bytes =
 abbrev pub sentences : List ℕ → List Sentence
 sentences bytes = sentences_of (word_size (is_wide bytes)) bytes
 
--- the first defect whose sentence holds
+-- the defect of the first rule that applies
 abbrev pub defect : List ℕ → Option Defect
 defect bytes = first_defect (sentences bytes)
 
@@ -40,17 +40,17 @@ analysis_by None bytes = as_library (word_size (is_wide bytes)) bytes
 unfoldable pub analysis : List ℕ → Analysis
 analysis bytes = analysis_by (defect bytes) bytes
 
--- what an object is for the cache
+-- the analysis of an object
 abbrev pub library_of : Abi → ℕ → Option Dynamic → Analysis
 library_of abi type None = Not NoDynamic
 library_of abi type (Some d) = if type == 2 then Not (NotShared type) else Lib abi d.soname
 
--- a soname that is returned is a name
+-- a returned soname is a name
 abbrev pub HasName : Analysis → Type 0
 HasName (Lib abi soname) = IfSome soname (λ name. is_name name ≡ true)
 HasName (Not d) = Unit {0}
 
--- the number of a defect that is returned is in its range
+-- the number in a returned defect is in its range
 abbrev pub IsDefectInRange : Analysis → Type 0
 IsDefectInRange (Lib abi soname) = Unit {0}
 IsDefectInRange (Not d) = IsInRange d

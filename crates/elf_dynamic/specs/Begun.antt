@@ -1,4 +1,4 @@
--- The keys of files that are begun one after another: a call ends at the first that isn't held.
+-- The keys of files that are opened in order. A call ends at the first key that isn't held.
 use Rattle.std.specs.Prelude.{◌≡◌, ℕ, Bool, true, List, [], ◌∷◌, if◌then◌else◌, Option, Some, None, is_none, IsSomeAnd, sum_by, option_map}
 use Rattle.std.specs.List.{filter_map, list_any}
 use Rattle.image_tree.specs.declared.node.Node.{Node}
@@ -15,7 +15,7 @@ key_in (Some node.Dir) = None
 key_in (Some (node.Link target)) = None
 key_in None = None
 
--- the keys of the files at these paths, in their order
+-- the keys of the files at these paths, in order
 abbrev pub file_keys : Nodes → List (List ℕ) → List (List ℕ)
 file_keys t paths = filter_map (λ path. key_in (node_at t path)) paths
 
@@ -26,17 +26,17 @@ is_lacking held key = is_none (held key)
 abbrev pub lacks_one : Contents → List (List ℕ) → Bool
 lacks_one held keys = list_any (is_lacking held) keys
 
--- these keys up to and with the first that isn't held
+-- these keys up to and including the first that isn't held
 abbrev pub until_lacking : Contents → List (List ℕ) → List (List ℕ)
 until_lacking held [] = []
 until_lacking held (key ∷ keys) = key ∷ (if is_lacking held key then [] else until_lacking held keys)
 
--- the same as far as it is known what is held
+-- the same, if it may be unknown which keys are held
 abbrev pub until_known : Option Contents → List (List ℕ) → List (List ℕ)
 until_known None keys = keys
 until_known (Some held) keys = until_lacking held keys
 
--- the most bytes that are taken of the contents of these keys
+-- the maximum number of bytes read from the contents of these keys
 abbrev pub most_of : Contents → List (List ℕ) → ℕ
 most_of held keys = sum_by (most_under held) keys
 
@@ -47,7 +47,7 @@ most_known_of held keys = option_map (λ held. most_of held keys) held
 abbrev pub LacksOne : Option Contents → List (List ℕ) → Type 0
 LacksOne known keys = IsSomeAnd known (λ held. lacks_one held keys ≡ true)
 
--- In a store that holds this, the keys are begun in their order, up to and with the first that isn't held.
+-- The call opens the files of these keys in order, up to and including the first key that the store doesn't hold.
 abbrev pub ReadsBy : Option Contents → List (List ℕ) → Ending → StoreState → StoreState → Type 0
 ReadsBy known keys ending old new =
     ReadsFiles (LacksOne known keys) (Some (until_known known keys)) (most_known_of known (until_known known keys)) ending old new

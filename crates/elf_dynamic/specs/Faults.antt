@@ -1,4 +1,4 @@
--- Facts of what `object` returns.
+-- Facts about the result of `object`.
 use Rattle.std.specs.Prelude.{◌≡◌, true, Result, Ok, Err, IfSome}
 use Rattle.lib_types.specs.Name.{is_name}
 use Rattle.lib_types.specs.declared.analysis.Defect.{Defect}
@@ -14,14 +14,14 @@ use Rattle.elf_dynamic.specs.declared.fault.AnalyseFault.TheVariants as reading_
 use Rattle.elf_dynamic.specs.declared.fault.ObjectFault.{ObjectFault}
 use Rattle.elf_dynamic.specs.declared.fault.ObjectFault.TheVariants.{Bad, StoreFault, NoMemory}
 
--- a fact of the defect that is returned
+-- a fact about the returned defect
 abbrev pub IfBad : {X : Type 0} → Result X ObjectFault → (Defect → Type 0) → Type 0
 IfBad (Ok x) P = Unit {0}
 IfBad (Err (Bad d)) P = P d
 IfBad (Err StoreFault) P = Unit {0}
 IfBad (Err NoMemory) P = Unit {0}
 
--- ---- how a call ends: a file with a defect was read
+-- ---- How a call ends. If the file has a defect, the reads still succeeded.
 
 abbrev pub object_ending : {X : Type 0} → Result X ObjectFault → Ending
 object_ending (Ok x) = Complete
@@ -36,7 +36,7 @@ analyse_ending (Err reading_faults.NoMemory) = GaveUp
 
 -- ---- names
 
--- a soname is a name
+-- the soname is a name
 abbrev pub HasSoname : Dynamic → Type 0
 HasSoname d = IfSome d.soname (λ name. is_name name ≡ true)
 
@@ -45,17 +45,17 @@ HasName o = IfSome o.dynamic HasSoname
 
 -- ---- faults
 
--- the fault of the header as one of the object
+-- the fault of reading the header, as a fault of the object
 abbrev pub of_head : HeadFault → ObjectFault
 of_head (head_faults.Bad d) = Bad d
 of_head head_faults.StoreFault = StoreFault
 
--- the fault of a reading as one of the object
+-- the fault of reading the file, as a fault of the object
 abbrev pub of_reading : AnalyseFault → ObjectFault
 of_reading reading_faults.StoreFault = StoreFault
 of_reading reading_faults.NoMemory = NoMemory
 
--- the defect is BadString, of a tag whose entries have texts
+-- the defect is BadString, with a tag whose entries have texts
 abbrev pub IsBadString : Defect → Type 0
 IsBadString (BadString tag) = IsTextTag tag
 IsBadString d = ⊥

@@ -1,5 +1,5 @@
--- What is left of a section if not all of its texts are kept. A text that isn't kept is empty: that it is there still
--- counts for the entries behind it. The clauses of private functions cite these definitions.
+-- The part of a section that is kept, if not all texts are kept. A text that isn't kept becomes an empty text: later entries must
+-- still see that there is one. Contracts of private functions use these definitions.
 use Rattle.std.specs.Prelude.{◌≡◌, ℕ, Bool, true, false, ◌==◌, List, [], Option, option_map, IfSome, Result, Ok, Err}
 use Rattle.lib_types.specs.declared.analysis.Defect.{Defect}
 use Rattle.tree_face.specs.Store.{StoreState}
@@ -23,12 +23,12 @@ abbrev pub kept : Keep → Dynamic → Dynamic
 kept All d = d
 kept Soname d = record d { needed = []; rpath = option_map (kept_text false) d.rpath; runpath = option_map (kept_text false) d.runpath }
 
--- the same of a section or its defect
+-- the same for a section or its defect
 abbrev pub kept_of : Keep → Result Dynamic Defect → Result Dynamic Defect
 kept_of keep (Ok d) = Ok (kept keep d)
 kept_of keep (Err x) = Err x
 
--- the same of a file, which may have no section
+-- the same for a file, which may have no section
 abbrev pub kept_in_file : Keep → Result (Option Dynamic) Defect → Result (Option Dynamic) Defect
 kept_in_file keep (Ok d) = Ok (option_map (kept keep) d)
 kept_in_file keep (Err x) = Err x
@@ -40,12 +40,12 @@ abbrev pub kept_object_of : Keep → Result Object Defect → Result Object Defe
 kept_object_of keep (Ok o) = Ok (kept_object keep o)
 kept_object_of keep (Err x) = Err x
 
--- this is what is left of the section, and its soname is a name over every store
+-- This is the kept part of the section. Its soname is a name even if contents aren't known.
 pub record IsKeptSection (keep : Keep) (s : StoreState) (section : List ℕ → Result Dynamic Defect) (d : Dynamic) : Type 0 where
   pub kept : OfKnown s (λ bytes. kept_of keep (section bytes) ≡ Ok (kept keep d))
   pub name : HasSoname d
 
--- the same of a file, which may have no section
+-- the same for a file, which may have no section
 pub record IsKeptInFile (keep : Keep) (s : StoreState) (section : List ℕ → Result (Option Dynamic) Defect) (d : Option Dynamic) : Type 0 where
   pub kept : OfKnown s (λ bytes. kept_in_file keep (section bytes) ≡ Ok (option_map (kept keep) d))
   pub name : IfSome d HasSoname

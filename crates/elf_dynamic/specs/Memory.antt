@@ -1,4 +1,4 @@
--- What a call may not have found when it is out of memory. Only texts take memory: what comes before them is found without it.
+-- What the content may have, if a call runs out of memory. Only texts take memory, so what comes before them is found without it.
 use Rattle.std.specs.Prelude.{◌≡◌, ℕ, List, Option, IsSome, Result, Err, MatchResult, IfErr, IsErrOf}
 use Rattle.tree_face.specs.Store.{StoreState}
 use Rattle.elf_headers.specs.Range.{IsInRange}
@@ -13,14 +13,14 @@ use Rattle.lib_types.specs.declared.analysis.Defect.TheVariants.{BadString, BadS
 use Rattle.elf_dynamic.specs.declared.kinds.Dynamic.{Dynamic}
 use Rattle.elf_dynamic.specs.declared.kinds.Object.{Object}
 
--- a defect of a text, or that a program at fixed addresses is no library, which is tested last
+-- a defect that is tested after the texts: of a text, or that the file is a program at fixed addresses
 abbrev pub IsBehindTexts : Defect → Type 0
 IsBehindTexts (BadString tag) = Unit {0}
 IsBehindTexts BadSoname = Unit {0}
 IsBehindTexts (NotShared type) = type ≡ 2
 IsBehindTexts d = ⊥
 
--- memory may be taken before this is found: a section, an object with one, a library, or such a defect
+-- Memory may be allocated before this is found: a section, an object with one, a library, or such a defect.
 abbrev pub SectionTakesMemory : Result (Option Dynamic) Defect → Type 0
 SectionTakesMemory r = MatchResult r IsSome IsBehindTexts
 
@@ -31,7 +31,8 @@ abbrev pub AnalysisTakesMemory : Analysis → Type 0
 AnalysisTakesMemory (Lib abi soname) = Unit {0}
 AnalysisTakesMemory (Not d) = IsBehindTexts d
 
--- a call that reads a section fails by the defect of the content, which is in its range; out of memory hides only what is behind texts
+-- A call that reads a section fails with the defect of the content, which is in its range.
+-- Out of memory can hide only what is tested after the texts.
 pub record IsFaultOf {X : Type 0} (s : StoreState) (section : List ℕ → Result Dynamic Defect) (result : Result X ObjectFault) : Type 0 where
   pub bad : IfBad result (λ d. OfKnown s (λ bytes. section bytes ≡ Err d))
   pub range : IfBad result IsInRange

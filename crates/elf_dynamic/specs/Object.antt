@@ -1,4 +1,4 @@
--- What a file says of itself to the loader, or the first of its defects (gABI; what glibc's ldconfig and loader accept).
+-- What a file says to the loader, or its first defect (gABI; what glibc's ldconfig and loader accept).
 use Rattle.std.specs.Prelude.{ℕ, Bool, true, false, ◌==◌, ◌&&◌, ◌||◌, not, bit_and, List, [], ◌∷◌, ◌++◌, map, filter, find, Option, Some, None, is_some, is_none, option_map, option_and_then, Result, Ok, Err}
 use Rattle.std.specs.List.{list_any}
 use Rattle.std.specs.Option.{option_map_or}
@@ -14,11 +14,11 @@ use Rattle.elf_dynamic.specs.Section.{dynamic_segment, is_outside, dynamic_entri
 
 -- ---- the parts of the section
 
--- the entries of the file, none if no segment has them
+-- the entries of the file, or none if there is no PT_DYNAMIC
 unfoldable pub entries : ℕ → List ℕ → List DynamicEntry
 entries w bytes = option_map_or (dynamic_entries w bytes) (dynamic_segment w bytes) []
 
--- the string table of the file, if it is in a segment's file part
+-- the string table of the file, if it is in the file part of a segment
 unfoldable pub table : ℕ → List ℕ → Option (List ℕ)
 table w bytes = string_table bytes (segments w bytes) (entries w bytes)
 
@@ -28,7 +28,7 @@ lacks_table es = list_any has_text es && (is_none (value_of strtab es) || is_non
 abbrev pub has_table_outside : Option (List ℕ) → List DynamicEntry → Bool
 has_table_outside t es = list_any has_text es && is_none t
 
--- the first entry that counts and has no text in the table
+-- the first entry that counts but has no text in the table
 abbrev pub bad_entry : Option (List ℕ) → List DynamicEntry → Option DynamicEntry
 bad_entry None es = None
 bad_entry (Some t) es = find (λ e. not (has_text_at t e.value)) (counting_entries es)
@@ -41,7 +41,7 @@ text_in t at = None
 abbrev pub text_of : ℕ → Option (List ℕ) → List DynamicEntry → Option (List ℕ)
 text_of tag t es = text_in t (value_of tag es)
 
--- an empty DT_SONAME counts as none
+-- an empty DT_SONAME counts as no soname
 abbrev pub unless_empty : List ℕ → Option (List ℕ)
 unless_empty [] = None
 unless_empty (b ∷ rest) = Some (b ∷ rest)
@@ -49,7 +49,7 @@ unless_empty (b ∷ rest) = Some (b ∷ rest)
 abbrev pub soname_of : Option (List ℕ) → List DynamicEntry → Option (List ℕ)
 soname_of t es = option_and_then unless_empty (text_of soname t es)
 
--- the texts of the DT_NEEDED
+-- the texts of the DT_NEEDED entries
 abbrev pub needed_of : Option (List ℕ) → List DynamicEntry → List (List ℕ)
 needed_of None es = []
 needed_of (Some t) es = map (λ e. text_at t e.value) (filter (has_tag needed) es)
@@ -61,7 +61,7 @@ has_nodeflib flags = not (bit_and flags 0x800 == 0)
 abbrev pub nodeflib_of : List DynamicEntry → Bool
 nodeflib_of es = option_map_or has_nodeflib (value_of flags_1 es) false
 
--- what a section with these entries and this string table says
+-- the texts and flags of a section with these entries and this string table
 abbrev pub dynamic_of : Option (List ℕ) → List DynamicEntry → Dynamic
 dynamic_of t es = record {
   soname = soname_of t es;
@@ -71,7 +71,7 @@ dynamic_of t es = record {
   nodeflib = nodeflib_of es;
 }
 
--- ---- the defects, in the order in which they are tried, after those of the header
+-- ---- the defects, in the order of the tests, after those of the header
 
 abbrev pub section_sentences : Option (List ℕ) → List DynamicEntry → List Sentence
 section_sentences t es =

@@ -1,5 +1,5 @@
--- The dynamic section of a file, in both classes (gABI, "Dynamic Section"; numbers are ELFDATA2LSB).
--- `w` is the size of an address: 4 bytes in class 1, 8 bytes in class 2. No number has a bound.
+-- The dynamic section of a file, in both classes (gABI, "Dynamic Section"). Numbers are little-endian (ELFDATA2LSB).
+-- `w` is the size of an address: 4 bytes in class 1, 8 bytes in class 2. Numbers have no bound here.
 use Rattle.std.specs.Prelude.{ℕ, ◌+◌, ◌-◌, ◌*◌, ◌/◌, Bool, if◌then◌else◌, ◌==◌, ◌&&◌, ◌||◌, not, nat_le, nat_lt, min, List, [], ◌∷◌, map, length, take, drop, find, take_while, Option, Some, None, option_map, option_and_then}
 use Rattle.std.specs.List.{list_any, range_with_len}
 use Rattle.lib_types.specs.Bytes.{field}
@@ -34,21 +34,21 @@ has_address address s = nat_le s.vaddr address && nat_lt address (s.vaddr + s.fi
 abbrev pub bytes_of : Place → List ℕ → List ℕ
 bytes_of p bytes = take p.size (drop p.at bytes)
 
--- the same of a place that may not be there
+-- the same for an optional place
 abbrev pub bytes_if : Option Place → List ℕ → Option (List ℕ)
 bytes_if p bytes = option_map (λ p. bytes_of p bytes) p
 
--- the first `size` bytes of a place, if it has as many
+-- the first `size` bytes of a place, if it has that many
 abbrev pub front_of : ℕ → Place → Option Place
 front_of size p = if nat_le size p.size then Some (record p { size = size }) else None
 
--- the place of an address that the segment has, in a file of this length: it ends with the segment's file part, or with the file
+-- The place of an address in this segment, in a file of this length. It ends with the segment's file part or with the file.
 abbrev pub place_in : ℕ → ℕ → Segment → Option Place
 place_in length address s =
     let at = s.offset + (address - s.vaddr) in
     if nat_le at length then Some (record { at = at; size = min (s.vaddr + s.filesz - address) (length - at) }) else None
 
--- the place of an address: in the first PT_LOAD that has it
+-- the place of an address: in the first PT_LOAD that has the address
 abbrev pub place_of : List ℕ → List Segment → ℕ → Option Place
 place_of bytes segments address =
     option_and_then (place_in (length bytes) address) (find (λ s. is_load s && has_address address s) segments)
@@ -58,11 +58,11 @@ place_of bytes segments address =
 abbrev pub entry_at : ℕ → List ℕ → ℕ → DynamicEntry
 entry_at w bytes at = record { tag = field bytes at w; value = field bytes (at + w) w }
 
--- the whole entries of the segment
+-- the complete entries of the segment
 abbrev pub whole_entries : ℕ → List ℕ → Segment → List DynamicEntry
 whole_entries w bytes s = map (λ index. entry_at w bytes (s.offset + index * (2 * w))) (range_with_len 0 (s.filesz / (2 * w)))
 
--- those before the first DT_NULL, or all of them
+-- the entries before the first DT_NULL, or all of them
 unfoldable pub dynamic_entries : ℕ → List ℕ → Segment → List DynamicEntry
 dynamic_entries w bytes s = take_while (λ e. not (e.tag == 0)) (whole_entries w bytes s)
 
@@ -98,7 +98,7 @@ value_of tag entries = option_map (λ e. e.value) (find (has_tag tag) entries)
 abbrev pub has_text : DynamicEntry → Bool
 has_text e = has_tag needed e || has_tag soname e || has_tag rpath e || has_tag runpath e
 
--- of these every DT_NEEDED counts, and of each other tag the first
+-- Of these entries, each DT_NEEDED counts. Of each other tag only the first entry counts.
 abbrev pub counts_after : List DynamicEntry → DynamicEntry → Bool
 counts_after earlier e = has_text e && (has_tag needed e || not (list_any (has_tag e.tag) earlier))
 
@@ -112,7 +112,7 @@ counting_entries entries = counting_after [] entries
 
 -- ---- the string table: DT_STRTAB is an address, DT_STRSZ the number of bytes
 
--- the `size` bytes at an address, if the place of the address has as many
+-- the `size` bytes at an address, if the place of the address has that many
 abbrev pub table_at : List ℕ → List Segment → ℕ → ℕ → Option (List ℕ)
 table_at bytes segments address size = bytes_if (option_and_then (front_of size) (place_of bytes segments address)) bytes
 
@@ -123,7 +123,7 @@ string_table bytes segments entries =
 abbrev pub is_nul : ℕ → Bool
 is_nul b = b == 0
 
--- the bytes of the table from this offset on, of which at most this many are looked at
+-- the bytes of the table from this offset on, up to TEXT_LIMIT
 unfoldable pub near : List ℕ → ℕ → List ℕ
 near table at = take TEXT_LIMIT (drop at table)
 

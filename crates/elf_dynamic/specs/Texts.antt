@@ -1,5 +1,4 @@
--- The texts that are gathered from the string table one entry after another. The clauses of
--- private functions cite these definitions.
+-- The texts that are gathered from the string table, one entry at a time. Contracts of private functions use these definitions.
 use Rattle.std.specs.Prelude.{ℕ, ◌+◌, Bool, if◌then◌else◌, ◌==◌, ◌||◌, ◌&&◌, not, List, [], ◌∷◌, ◌++◌, take_while, Option, Some, None, is_none, Result, Ok, Err}
 use Rattle.std.specs.List.{list_any}
 use Rattle.lib_types.specs.declared.analysis.Defect.{Defect}
@@ -15,7 +14,7 @@ before_nul bytes = if list_any is_nul bytes then Some (take_while (λ b. not (is
 abbrev pub text_found : List ℕ → ℕ → Option (List ℕ)
 text_found t at = if has_text_at t at then Some (text_at t at) else None
 
--- an entry with this tag counts after these
+-- whether an entry with this tag counts after the texts so far
 abbrev pub counts : Dynamic → ℕ → Bool
 counts d tag = (tag == 1) || ((tag == 14) && is_none d.soname) || ((tag == 15) && is_none d.rpath) || ((tag == 29) && is_none d.runpath)
 
@@ -29,7 +28,7 @@ with_text tag text d =
 abbrev pub no_texts : Bool → Dynamic
 no_texts nodeflib = record { soname = None; needed = []; rpath = None; runpath = None; nodeflib = nodeflib }
 
--- with the text of one entry more, if it counts
+-- the texts after one more entry, if it counts
 abbrev pub add_one : List ℕ → Dynamic → DynamicEntry → Result Dynamic Defect
 add_one t d e =
     if counts d e.tag
@@ -43,7 +42,7 @@ gathered t d (e ∷ rest) =
     then (if has_text_at t e.value then gathered t (with_text e.tag (text_at t e.value) d) rest else Err (BadString e.tag))
     else gathered t d rest
 
--- how many of the entries count
+-- the number of entries that count
 abbrev pub counted : List ℕ → Dynamic → List DynamicEntry → ℕ
 counted t d [] = 0
 counted t d (e ∷ rest) =

@@ -1,4 +1,4 @@
--- The segments that are looked for. The clauses of private functions cite these definitions.
+-- The segments that are looked for. Contracts of private functions use these definitions.
 use Rattle.std.specs.Prelude.{Bool, ◌&&◌}
 use Rattle.elf_headers.specs.declared.kinds.Segment.{Segment}
 use Rattle.elf_dynamic.specs.declared.segments.Wanted.{Wanted}

@@ -1,4 +1,4 @@
-//! The entries of a dynamic section, one after another.
+//! The entries of a dynamic section, in order.
 ghost use Rattle.std.specs.Prelude.{◌≡◌, ◌⊎◌, ◌≤◌, ◌<◌, ◌+◌, ◌-◌, ◌*◌, ◌∷◌, [], true, false, min, length, IfOk, OnOk, IfSome, MatchOption, ◌^◌};
 ghost use Rattle.elf_headers.specs.Layout.{word_size};
 ghost use Rattle.elf_headers.specs.Reading.{OfKnown, TakesAtMost, reading_ending};
@@ -15,14 +15,14 @@ use elf_headers::kinds::Segment;
 use lib_types::Failed;
 use tree_face::Store;
 
-/// A reader of the entries of a section, through the file's window.
+/// A reader of the entries of a section. It reads through the file's window.
 #[derive(Clone, Copy)]
 pub struct Entries {
     wide: bool,
-    // Where the section ends, and how many bytes before that the next entry begins.
+    // Where the section ends, and the number of bytes from the next entry to this end.
     end: u64,
     left: u64,
-    // How many of these bytes the window is known to hold.
+    // How many of these bytes are known to be in the window.
     held: u64,
 }
 
@@ -44,7 +44,7 @@ fn entry_of_class<const W: usize>(bytes: &[u8]) -> DynamicEntry
     }
 }
 
-// The entry that these bytes begin with.
+// The entry at the start of these bytes.
 fn entry(wide: bool, bytes: &[u8]) -> DynamicEntry
     requires { 2 * word_size wide ≤ length bytes.now }
     ensures { result ≡ entry_at (word_size wide) bytes.now 0 }
@@ -70,7 +70,7 @@ impl Entries {
         }
     }
 
-    // Where the next entry begins.
+    // The offset of the next entry.
     fn at(&self) -> u64
         requires { self.now.left ≤ self.now.end }
         ensures { result ≡ self.now.end - self.now.left }
@@ -78,7 +78,7 @@ impl Entries {
         self.end - self.left
     }
 
-    // Has the next entry in the window, and returns whether there is one.
+    // Makes sure that the window holds the next entry. Returns whether there is one.
     fn hold<S: Store>(&mut self, file: &mut ElfFile<'_, S>) -> Result<bool, Failed>
         requires cursor { IsCursorOf (S.state file.old.store.now) file.old.cursor }
         requires reader { IsReaderOf file.old.cursor self.old }
@@ -107,7 +107,7 @@ impl Entries {
         Ok(true)
     }
 
-    /// The next entry, or None at the end or at a DT_NULL.
+    /// The next entry. None at the end of the section or at a DT_NULL.
     pub fn next<S: Store>(
         &mut self,
         file: &mut ElfFile<'_, S>,

@@ -1,11 +1,11 @@
-//! Why a file has no object.
+//! Why a file can't be read as an object.
 ghost use Rattle.std.specs.Prelude.{◌≡◌};
 
 use elf_headers::HeadFault;
 use lib_types::{Defect, Failed, NoMemory};
 use std::alloc::AllocError;
 
-/// Why `object` returns none.
+/// Why `object` returns no object.
 #[derive(Clone, Copy, Debug, PartialEq, Eq)]
 pub enum ObjectFault {
     /// The first defect of the file.
@@ -15,7 +15,7 @@ pub enum ObjectFault {
     NoMemory,
 }
 
-/// Why `analyse` returns nothing.
+/// Why `analyse` returns no analysis.
 #[derive(Clone, Copy, Debug, PartialEq, Eq)]
 pub enum AnalyseFault {
     /// The store failed, or doesn't hold the key.

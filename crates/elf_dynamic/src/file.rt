@@ -1,4 +1,4 @@
-//! A cursor over the ELF file that a store has begun.
+//! A cursor over the ELF file that is open in a store.
 ghost use Rattle.std.specs.Prelude.{◌≡◌, ◌≤◌, ◌+◌};
 ghost use Rattle.elf_headers.specs.Reading.{IsHeadOf};
 ghost use Rattle.elf_dynamic.specs.Cursor.{IsCursorOf, no_strings};
@@ -8,19 +8,19 @@ use crate::window::Window;
 use elf_headers::kinds::Head;
 use tree_face::Store;
 
-/// What is known of the begun file.
+/// What is known about the open file.
 #[derive(Drop)]
 pub struct Cursor {
     pub(crate) head: Head,
-    // The program headers, later the texts of the string table.
+    // Bytes around the program headers, later around the texts of the string table.
     pub(crate) headers: Window,
-    // The entries of the dynamic section.
+    // Bytes around the entries of the dynamic section.
     pub(crate) section: Window,
-    // The string table. It has no bytes until it is known.
+    // The string table. It is empty until it is known.
     pub(crate) strings: Place,
 }
 
-/// The ELF file that a store has begun. It is read through windows, so that nearby bytes aren't read again.
+/// The ELF file that is open in a store. It is read through windows, so that nearby bytes aren't read again.
 #[derive(Drop)]
 pub struct ElfFile<'s, S: Store> {
     pub(crate) store: &'s mut S,
@@ -28,7 +28,7 @@ pub struct ElfFile<'s, S: Store> {
 }
 
 impl<'s, S: Store> ElfFile<'s, S> {
-    /// The begun file, with the header that `elf_headers::head` has read of it.
+    /// The open file, with the header that `elf_headers::head` has read from it.
     pub fn new(store: &'s mut S, head: Head) -> ElfFile<'s, S>
         requires head { IsHeadOf (S.state store.old) head }
         ensures same_store { result.store.ghost_name ≡ store.entry.ghost_name }
@@ -48,14 +48,14 @@ impl<'s, S: Store> ElfFile<'s, S> {
         }
     }
 
-    /// What the file's header says.
+    /// The file's header.
     pub fn head(&self) -> &Head
         ensures { result.now ≡ self.now.cursor.head }
     {
         &self.cursor.head
     }
 
-    /// Takes this place as the string table.
+    /// Sets the string table.
     pub fn set_strings(&mut self, strings: Place)
         requires within { strings.at + strings.size ≤ self.old.cursor.head.length }
         ensures same_store { self.new.store ≡ self.old.store }

@@ -1,4 +1,4 @@
-//! The texts that the entries name.
+//! The texts of the entries.
 ghost use Rattle.std.specs.Prelude.{◌≡◌, ◌-◌, ◌==◌, false, ◌∷◌, [], ℕ, List, Ok, Err, OnOk, if◌then◌else◌};
 ghost use Rattle.elf_headers.specs.Reading.{OfKnown, TakesAtMost};
 ghost use Rattle.elf_dynamic.specs.Cursor.{IsCursorOf, ReadsOn, width, strings_of};
@@ -51,7 +51,7 @@ pub fn no_texts(alloc: Global, nodeflib: bool) -> Dynamic
     }
 }
 
-// Whether the text of one entry more counts.
+// Whether the text of another entry counts.
 fn counts(found: &Dynamic, tag: u64) -> bool
     ensures { result ≡ counts found.now tag }
 {
@@ -61,7 +61,7 @@ fn counts(found: &Dynamic, tag: u64) -> bool
         || tag == tag!(RUNPATH) && found.runpath.is_none()
 }
 
-// Puts the text of an entry that counts in its place.
+// Stores the text of an entry that counts.
 fn put(found: &mut Dynamic, tag: u64, text: Text) -> Result<(), NoMemory>
     ensures { OnOk result (found.new ≡ with_text tag text found.old) }
 {
@@ -77,7 +77,8 @@ fn put(found: &mut Dynamic, tag: u64, text: Text) -> Result<(), NoMemory>
     Ok(())
 }
 
-// Notes the text of an entry that counts, if it isn't kept: that there is one, as an empty text. A DT_NEEDED needs no note.
+// Stores an empty text for an entry that counts but isn't kept, so that later entries of its tag don't count. DT_NEEDED doesn't need
+// this.
 fn note(alloc: Global, found: &mut Dynamic, tag: u64)
     ensures { (text : List ℕ) → (tag == 14) ≡ false → kept Keep.Soname found.new ≡ kept Keep.Soname (with_text tag text found.old) }
 {
@@ -92,7 +93,7 @@ fn note(alloc: Global, found: &mut Dynamic, tag: u64)
     }
 }
 
-// Adds the text of one entry more.
+// Adds the text of another entry.
 fn add<S: Store>(
     file: &mut ElfFile<'_, S>,
     alloc: Global,
@@ -127,7 +128,7 @@ fn add<S: Store>(
     Ok(())
 }
 
-// How many entries with a text are left after one entry more.
+// The number of entries with a text that are left after this entry.
 fn left_after(left: u64, entry: DynamicEntry) -> u64
     ensures { result ≡ left - texts_in (entry ∷ []) }
 {
@@ -138,8 +139,8 @@ fn left_after(left: u64, entry: DynamicEntry) -> u64
     }
 }
 
-/// Adds the texts that the entries of a segment name, up to the first entry that counts and has none. Entries after the last
-/// of those that have texts, which mostly are the first of a section, aren't read.
+/// Adds the texts of a segment's entries, up to the first entry that counts but has no text. Stops after the last entry with a text.
+/// In most sections these entries come first, so the rest isn't read.
 pub fn gather<S: Store>(
     file: &mut ElfFile<'_, S>,
     alloc: Global,

@@ -1,4 +1,4 @@
-//! What the dynamic section says.
+//! The contents of the dynamic section.
 ghost use Rattle.std.specs.Prelude.{◌≡◌};
 ghost use Rattle.elf_dynamic.specs.Section.{front_of};
 
@@ -13,17 +13,17 @@ pub struct DynamicEntry {
     pub value: u64,
 }
 
-/// A part of a file.
+/// A byte range of a file.
 #[derive(Clone, Copy, Debug, PartialEq, Eq)]
 pub struct Place {
-    /// Where it begins in the file.
+    /// Its offset in the file.
     pub at: u64,
-    /// How many bytes it has.
+    /// Its size in bytes.
     pub size: u64,
 }
 
 impl Place {
-    /// The first `size` bytes of the place, if it has as many.
+    /// The first `size` bytes of the place, if it has that many.
     pub fn front(self, size: u64) -> Option<Place>
         ensures { result ≡ front_of size self }
     {
@@ -34,12 +34,12 @@ impl Place {
     }
 }
 
-/// What a dynamic section says of the libraries that the loader looks for.
+/// The fields of a dynamic section that say which libraries the loader looks for, and where.
 #[derive(Drop)]
 pub struct Dynamic {
-    /// `DT_SONAME`, if it isn't empty: a name.
+    /// `DT_SONAME`, if it isn't empty. It is a name.
     pub soname: Option<Text>,
-    /// The texts of `DT_NEEDED` in their order.
+    /// The texts of the `DT_NEEDED` entries, in order.
     pub needed: Texts,
     /// `DT_RPATH`.
     pub rpath: Option<Text>,
@@ -49,12 +49,12 @@ pub struct Dynamic {
     pub nodeflib: bool,
 }
 
-/// What a file says of itself to the loader.
+/// What a file says to the loader.
 #[derive(Drop)]
 pub struct Object {
-    /// By `e_machine` and the class.
+    /// From `e_machine` and the class.
     pub abi: Abi,
-    /// `e_type`: 2 of a program at fixed addresses, 3 of a shared object.
+    /// `e_type`: 2 for a program at fixed addresses, 3 for a shared object.
     pub etype: u16,
     /// None if the file has no dynamic section.
     pub dynamic: Option<Dynamic>,

@@ -1,4 +1,4 @@
-//! What ELF files say of themselves in their dynamic sections, read from a store in windows.
+//! Reads the dynamic sections of ELF files from a store, in windows.
 #![tactic(auto)]
 
 mod entries;

@@ -12,8 +12,8 @@ use lib_types::Failed;
 use tree_face::Store;
 
 impl<'s, S: Store> ElfFile<'s, S> {
-    /// The number of `size` bytes at an offset of a place. It is read through the window of the entries: numbers in
-    /// ascending order take each byte at most twice.
+    /// The number of `size` bytes at an offset of a place. It is read through the window of the entries. If numbers are read in ascending
+    /// order, each byte is read at most twice.
     pub fn number_at(&mut self, place: Place, offset: u64, size: usize) -> Result<u64, Failed>
         requires cursor { IsCursorOf (S.state self.old.store.now) self.old.cursor }
         requires number { IsNumberIn self.old.cursor.head place offset size }

@@ -1,4 +1,4 @@
-//! Files in a store.
+//! Reads the files of a store.
 ghost use Rattle.std.specs.Prelude.{◌≡◌, ◌+◌, ◌*◌, Ok, Err, IfOk, IsErrOf};
 ghost use Rattle.elf_headers.specs.Layout.{word_size};
 ghost use Rattle.elf_headers.specs.Range.{IsInRange};
@@ -23,7 +23,7 @@ use tree_face::Store;
 
 const ET_EXEC: u16 = 2;
 
-// Reads what the dynamic section of the begun file says, if it has one, with the texts that are kept.
+// Reads the dynamic section of the open file, if it has one. `keep` says which texts are kept.
 fn read_begun<S: Store>(
     store: &mut S,
     head: Head,
@@ -44,7 +44,7 @@ fn read_begun<S: Store>(
     read_dynamic(&mut file, alloc, keep)
 }
 
-// Begins a key and reads what the file says of itself, with the texts that are kept.
+// Opens the file of a key and reads its object. `keep` says which texts are kept.
 fn read<S: Store>(
     alloc: Global,
     keep: Keep,
@@ -73,7 +73,7 @@ fn read<S: Store>(
     }
 }
 
-/// Begins a key and reads what the file says of itself, in windows of at most 1024 bytes.
+/// Opens the file of a key and reads its object, in windows of at most 1024 bytes.
 pub fn object<S: Store>(alloc: Global, store: &mut S, key: &[u8]) -> Result<Object, ObjectFault>
     ensures object { IfOk result (λ o. OfContent (S.state store.old).held key.now (λ bytes. objects.object bytes ≡ Ok o)) }
     ensures defect { IfBad result (λ d. OfContent (S.state store.old).held key.now (λ bytes. objects.object bytes ≡ Err d)) }
@@ -85,7 +85,7 @@ pub fn object<S: Store>(alloc: Global, store: &mut S, key: &[u8]) -> Result<Obje
     read(alloc, Keep::All, store, key)
 }
 
-// What an object is for the cache.
+// The analysis of an object.
 fn analysis_of(object: Object) -> Analysis
     ensures same { result ≡ analyses.library_of object.abi object.etype object.dynamic }
     ensures name { HasName object → analyses.HasName result }
@@ -107,7 +107,7 @@ fn analysis_of(object: Object) -> Analysis
     Analysis::Lib { abi, soname }
 }
 
-/// Begins a key and reads what the file is for the cache.
+/// Opens the file of a key and reads its analysis: what the file is for the cache.
 pub fn analyse<S: Store>(alloc: Global, store: &mut S, key: &[u8]) -> Result<Analysis, AnalyseFault>
     ensures analysis { IfOk result (λ a. OfContent (S.state store.old).held key.now (λ bytes. analyses.analysis bytes ≡ a)) }
     ensures name { IfOk result analyses.HasName }

@@ -38,7 +38,7 @@ fn has_nodeflib(flags: Option<u64>) -> bool
     }
 }
 
-// Names the library by its DT_SONAME, if this isn't empty and is a name.
+// Sets the soname from the DT_SONAME. An empty DT_SONAME counts as none. Fails if it isn't a name.
 fn name(found: &mut Dynamic) -> Result<(), Defect>
     ensures named { OnOk result (found.new ≡ record found.old { soname = name_of found.old.soname }) }
     ensures good { OnOk result (has_good_name found.old.soname ≡ true) }
@@ -59,7 +59,7 @@ fn name(found: &mut Dynamic) -> Result<(), Defect>
     Ok(())
 }
 
-// The string table with the address and the size that the entries give.
+// Finds the string table at the address and with the size from the entries.
 fn find_strings<S: Store>(
     file: &mut ElfFile<'_, S>,
     strtab: Option<u64>,
@@ -86,7 +86,7 @@ fn find_strings<S: Store>(
     }
 }
 
-// Adds what a section says whose entries have texts.
+// Reads the texts of a section whose entries have some.
 fn read_texts<S: Store>(
     file: &mut ElfFile<'_, S>,
     alloc: Global,
@@ -121,7 +121,7 @@ fn read_texts<S: Store>(
     }
 }
 
-// What the section in a segment says.
+// Reads the section in a segment.
 fn read_section<S: Store>(
     file: &mut ElfFile<'_, S>,
     alloc: Global,
@@ -156,7 +156,7 @@ fn is_outside(head: &Head, s: Segment) -> bool
     s.offset > head.length || s.filesz > head.length - s.offset
 }
 
-/// What the dynamic section of a file says, if it has one.
+/// Reads the dynamic section of a file, if it has one.
 pub fn read_dynamic<S: Store>(
     file: &mut ElfFile<'_, S>,
     alloc: Global,

@@ -21,7 +21,7 @@ const PT_DYNAMIC: u32 = 2;
 pub enum Wanted {
     /// PT_DYNAMIC.
     DynamicSection,
-    /// A PT_LOAD with this address in its file part.
+    /// A PT_LOAD that has this address in its file part.
     LoadAt(u64),
 }
 
@@ -43,7 +43,7 @@ fn header_length(wide: bool) -> u64
     if wide { 56 } else { 32 }
 }
 
-// The segment of the program header that these bytes begin with.
+// The segment of the program header at the start of these bytes.
 fn segment_of(wide: bool, bytes: &[u8]) -> Segment
     requires { program_header_length (word_size wide) ≤ length bytes.now }
     ensures { result ≡ segment_at (word_size wide) bytes.now 0 }
@@ -55,7 +55,7 @@ fn segment_of(wide: bool, bytes: &[u8]) -> Segment
     }
 }
 
-// Where the program header with this index begins.
+// The offset of the program header with this index.
 fn header_at(head: &Head, index: u16) -> u64
     requires small { head.now.length < 2 ^ 64 }
     requires headers { (head.now.phnum ≡ 0) ⊎ (header_at head.now head.now.phnum ≤ head.now.length) }

@@ -1,4 +1,4 @@
-//! Addresses of the file: where the PT_LOAD segments have them.
+//! Finds addresses in the file, by the PT_LOAD segments.
 ghost use Rattle.std.specs.Prelude.{◌≡◌, ◌≤◌, ◌<◌, ◌+◌, ◌*◌, IfOk, IfSome};
 ghost use Rattle.elf_headers.specs.Layout.{segments};
 ghost use Rattle.elf_headers.specs.Reading.{OfKnown, TakesAtMost, reading_ending};
@@ -12,7 +12,7 @@ use elf_headers::kinds::Segment;
 use lib_types::Failed;
 use tree_face::Store;
 
-// The place of an address in a segment of a file of this length.
+// The place of an address in a segment, for a file of this length.
 fn place_in(length: u64, address: u64, load: Segment) -> Option<Place>
     requires begins { load.vaddr ≤ address }
     requires ends { address < load.vaddr + load.filesz }
@@ -29,7 +29,7 @@ fn place_in(length: u64, address: u64, load: Segment) -> Option<Place>
 }
 
 impl<'s, S: Store> ElfFile<'s, S> {
-    /// The place of an address in the first PT_LOAD that has it. It ends with the segment's file part, or with the file.
+    /// The place of an address in the first PT_LOAD that has the address. It ends with the segment's file part, or with the file.
     pub fn place_of(&mut self, address: u64) -> Result<Option<Place>, Failed>
         requires cursor { IsCursorOf (S.state self.old.store.now) self.old.cursor }
         ensures same_store { self.new.store.ghost_name ≡ self.old.store.ghost_name }
@@ -45,7 +45,7 @@ impl<'s, S: Store> ElfFile<'s, S> {
         }
     }
 
-    /// The place of `size` bytes at an address.
+    /// The place of the `size` bytes at an address.
     pub fn table_at(&mut self, address: u64, size: u64) -> Result<Option<Place>, Failed>
         requires cursor { IsCursorOf (S.state self.old.store.now) self.old.cursor }
         ensures same_store { self.new.store.ghost_name ≡ self.old.store.ghost_name }

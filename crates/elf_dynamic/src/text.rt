@@ -14,10 +14,10 @@ use lib_types::{Failed, Text, find_byte};
 use std::alloc::{AllocError, Global};
 use tree_face::Store;
 
-/// The most bytes of a text that are looked at, its NUL among them.
+/// The maximum number of bytes that are read for a text, including its NUL.
 pub const TEXT_LIMIT: u64 = 1 << 16;
 
-// Adds the bytes before the first NUL, and returns whether there is one.
+// Appends the bytes before the first NUL. Returns whether there is a NUL.
 fn add_text(found: &mut Vec<u8>, piece: &[u8]) -> Result<bool, AllocError>
     ensures ended { IfOk result (λ ended. ended ≡ list_any is_nul piece.now) }
     ensures found { IfOk result (λ _. found.new.items ≡ found.old.items ++ take_while (λ b. not (is_nul b)) piece.now) }
@@ -34,7 +34,7 @@ fn add_text(found: &mut Vec<u8>, piece: &[u8]) -> Result<bool, AllocError>
     }
 }
 
-// So many of these bytes, or all if there are fewer.
+// The first `most` bytes, or all bytes if there are fewer.
 fn front(bytes: &[u8], most: u64) -> &[u8]
     ensures { result.now ≡ take most bytes.now }
 {
@@ -45,7 +45,7 @@ fn front(bytes: &[u8], most: u64) -> &[u8]
     }
 }
 
-// How many bytes are looked at for the text at an offset of the table.
+// The maximum number of bytes to read for the text at an offset of the table.
 fn most_at(table: Place, offset: u64) -> u64
     requires { offset < table.size }
     ensures { result ≡ min (table.size - offset) TEXT_LIMIT }
@@ -54,7 +54,7 @@ fn most_at(table: Place, offset: u64) -> u64
 }
 
 impl<'s, S: Store> ElfFile<'s, S> {
-    // The bytes before the first NUL in a place, if there is one.
+    // The bytes before the first NUL in a place. None if there is no NUL.
     fn read_text(&mut self, alloc: Global, place: Place) -> Result<Option<Text>, AnalyseFault>
         requires cursor { IsCursorOf (S.state self.old.store.now) self.old.cursor }
         requires within { IsInFile self.old.cursor.head place }
@@ -83,7 +83,7 @@ impl<'s, S: Store> ElfFile<'s, S> {
         Ok(None)
     }
 
-    // Whether there is a NUL in a place.
+    // Whether a place has a NUL.
     fn has_nul(&mut self, place: Place) -> Result<bool, Failed>
         requires cursor { IsCursorOf (S.state self.old.store.now) self.old.cursor }
         requires within { IsInFile self.old.cursor.head place }
@@ -107,7 +107,7 @@ impl<'s, S: Store> ElfFile<'s, S> {
         Ok(false)
     }
 
-    /// The text at an offset of the string table, if a NUL ends it.
+    /// The text at an offset of the string table. None if no NUL ends it.
     pub fn text_at(&mut self, alloc: Global, offset: u64) -> Result<Option<Text>, AnalyseFault>
         requires cursor { IsCursorOf (S.state self.old.store.now) self.old.cursor }
         ensures same_store { self.new.store.ghost_name ≡ self.old.store.ghost_name }

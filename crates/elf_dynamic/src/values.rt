@@ -1,4 +1,4 @@
-//! What the entries say beside their texts.
+//! The values of the entries that have no texts.
 ghost use Rattle.std.specs.Prelude.{◌≡◌, ◌≤◌, ◌*◌, ◌+◌, ◌<◌, ◌^◌, ◌∷◌, [], ◌==◌, ◌||◌, None, Some, IfOk};
 ghost use Rattle.elf_headers.specs.Reading.{OfKnown, TakesAtMost, reading_ending};
 ghost use Rattle.elf_dynamic.specs.Cursor.{IsCursorOf, ReadsOn, width};
@@ -14,7 +14,7 @@ use elf_headers::kinds::Segment;
 use lib_types::Failed;
 use tree_face::Store;
 
-/// Of each of these tags the value of its first entry, and how many entries have a text.
+/// The value of the first entry with each of these tags, and the number of entries with a text.
 #[derive(Clone, Copy)]
 pub struct Values {
     pub texts: u64,
@@ -23,7 +23,7 @@ pub struct Values {
     pub flags_1: Option<u64>,
 }
 
-// The value of the first entry with a tag, with one entry more of it.
+// The value of the first entry with a tag, after another entry with this tag.
 fn first(before: Option<u64>, value: u64) -> Option<u64>
     ensures { result ≡ first_of before (Some value) }
 {
@@ -49,7 +49,7 @@ impl Values {
         }
     }
 
-    // With what one entry more says. Most entries say nothing here.
+    // The values after one more entry. Most entries change nothing.
     fn with(self, entry: DynamicEntry) -> Values
         requires { self.texts + 1 < 2 ^ 64 }
         ensures { result ≡ joined self (entry ∷ []) }
@@ -68,7 +68,7 @@ impl Values {
     }
 }
 
-/// What the entries of a segment say beside their texts.
+/// Reads the values of the entries of a segment that have no texts.
 pub fn read_values<S: Store>(file: &mut ElfFile<'_, S>, dynamic: Segment) -> Result<Values, Failed>
     requires cursor { IsCursorOf (S.state file.old.store.now) file.old.cursor }
     requires within { dynamic.offset + dynamic.filesz ≤ file.old.cursor.head.length }

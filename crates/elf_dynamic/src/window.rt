@@ -1,4 +1,4 @@
-//! Windows of a file: bytes that were read and are kept, so that what lies near them isn't read again.
+//! Windows of a file: bytes that were read and are kept, so that nearby bytes aren't read again.
 ghost use Rattle.std.specs.Prelude.{◌≡◌, ◌≤◌, ◌<◌, ◌+◌, ◌-◌, min, length, take, drop, OnOk};
 ghost use Rattle.elf_headers.specs.Reading.{OfKnown, TakesAtMost, reading_ending, OnlyReads, IsHeadOf};
 ghost use Rattle.elf_dynamic.specs.Windows.{ready, part, unread, IsWindowOf, IsAsked, ReadsThrough, HoldsFrom};
@@ -8,14 +8,14 @@ use elf_headers::kinds::Head;
 use lib_types::Failed;
 use tree_face::Store;
 
-/// The most bytes of a window. The headers, the section and the string table of a library mostly fit in one each; a larger
-/// one would cost each library the bytes that it clears.
+/// The maximum size of a window. In most libraries the headers, the section and the string table each fit in one window.
+/// A larger window would cost time for each library, because its bytes are cleared.
 pub(crate) const WINDOW: usize = 1024;
 
 /// A window of the file.
 #[derive(Drop)]
 pub struct Window {
-    // Where it begins in the file, and how many bytes of the file it holds.
+    // The offset of the window in the file, and the number of bytes of the file that it holds.
     at: u64,
     count: usize,
     bytes: [u8; WINDOW],
@@ -48,7 +48,7 @@ impl Window {
         }
     }
 
-    /// How many bytes it holds from an offset on.
+    /// The number of bytes that the window holds from an offset on.
     #[tactic(auto, unfolding(crate::specs::Windows::ready))]
     pub fn ready(&self, at: u64) -> u64
         ensures { result ≡ ready self.now at }
@@ -59,7 +59,7 @@ impl Window {
         (self.count as u64).saturating_sub(at - self.at)
     }
 
-    /// The bytes that it holds from an offset on.
+    /// The bytes that the window holds from an offset on.
     #[tactic(auto, unfolding(crate::specs::Windows::ready))]
     pub fn from(&self, at: u64) -> &[u8]
         requires room { length self.now.bytes ≡ WINDOW }
@@ -71,7 +71,7 @@ impl Window {
         &self.bytes[(at - self.at) as usize..self.count]
     }
 
-    // Reads the next bytes from an offset on, and none after the end of a part of the file.
+    // Reads the next bytes from an offset on, but none past the end of a part of the file.
     #[tactic(auto, unfolding(crate::specs::Windows::ready))]
     fn fill<S: Store>(
         &mut self,
@@ -88,7 +88,7 @@ impl Window {
         ensures ready { OnOk result (ready self.new at ≡ min WINDOW (end - at)) }
     {
         let count = (end - at).min(WINDOW as u64) as usize;
-        // After a failure nothing is known of the bytes.
+        // After a failure the bytes are unknown.
         self.count = 0;
         read_piece(store, head, at, &mut self.bytes[..count])?;
         self.at = at;
@@ -96,7 +96,8 @@ impl Window {
         Ok(())
     }
 
-    /// Has at least so many bytes from an offset on, and reads none after the end of a part of the file.
+    /// Makes sure that the window holds at least this number of bytes from an offset on. Reads no bytes past the end of a part of the
+    /// file.
     pub fn hold<S: Store>(
         &mut self,
         store: &mut S,

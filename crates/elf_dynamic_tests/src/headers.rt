@@ -1,4 +1,4 @@
-// The program headers of made libraries.
+// The program headers of synthetic libraries.
 use super::rows::libz;
 use elf_headers::kinds::Segment;
 use elf_headers::{head, segment};
@@ -7,7 +7,7 @@ use std::alloc::Global;
 use std::test::Fail;
 use tree_face::SureStore;
 
-// PT_LOAD and PT_DYNAMIC as the maker lays them out: the kind, the offset, the address, and the bytes in the file.
+// PT_LOAD and PT_DYNAMIC in the maker's layout: the kind, the offset, the address, and the length in the file.
 const ROWS: &[(Abi, [u64; 4], [u64; 4])] = &[
     (Abi::X86_64, [1, 0, 0x1000, 251], [2, 176, 0x10b0, 64]),
     (Abi::I386, [1, 0, 0x1000, 159], [2, 116, 0x1074, 32]),

@@ -1,4 +1,4 @@
-// Whole objects, of files that are made, and of made files with some bytes changed.
+// Whole objects, of synthetic files and of synthetic files with some bytes changed.
 use super::rows::{Change, analysis, changed, gives, is_nameless};
 use elf_dynamic::kinds::{Dynamic, Object};
 use elf_dynamic::object;
@@ -35,7 +35,7 @@ fn are_texts(found: &Texts, want: &[&str]) -> bool {
     left.is_empty()
 }
 
-// Each part of a section: two DT_NEEDED, DT_SONAME, DT_RPATH, an empty DT_RUNPATH, and DF_1_NODEFLIB.
+// Each part of a dynamic section: two DT_NEEDED, DT_SONAME, DT_RPATH, an empty DT_RUNPATH, and DF_1_NODEFLIB.
 fn parts(alloc: Global) -> Result<Dynamic, NoMemory> {
     Ok(Dynamic {
         soname: Some(Text::copy_of(alloc, b"libx.so.2")?),
@@ -46,13 +46,13 @@ fn parts(alloc: Global) -> Result<Dynamic, NoMemory> {
     })
 }
 
-// The file of a shared object that needs these.
+// The file of a shared object with these DT_NEEDED.
 fn needing_file(alloc: Global, abi: Abi, all: &[&str]) -> Result<Vec<u8>, SampleFault> {
     let spec = needing(abi, texts(alloc, all)?);
     file_of(alloc, &spec)
 }
 
-// Whether each part is read of a file of this ABI.
+// Whether each part is read from a file of this ABI.
 fn has_parts(found: &Option<Object>, abi: Abi) -> bool {
     let Some(object) = found else {
         return false;
@@ -88,7 +88,7 @@ fn each_part_of_an_object_is_read(rt: HostRuntime) -> Result<(), Fail> {
     Ok(())
 }
 
-// Whether this is the soname of what was read.
+// Whether the object that was read has this soname.
 fn has_soname(found: &Option<Object>, want: Option<&str>) -> bool {
     match found {
         Some(
@@ -101,7 +101,7 @@ fn has_soname(found: &Option<Object>, want: Option<&str>) -> bool {
     }
 }
 
-// What is read of a shared object that needs these, with these bytes changed.
+// The object that is read from a file with these DT_NEEDED after some bytes were changed.
 fn read_changed(
     alloc: Global,
     abi: Abi,
@@ -112,7 +112,7 @@ fn read_changed(
     read(alloc, changed(alloc, &bytes, changes)?)
 }
 
-// An ABI of each class, and there the first bytes of the tags of the first three entries as those of DT_SONAME.
+// An ABI of each class, with the first bytes of the tags of the first three entries changed to those of DT_SONAME.
 const SONAMES: &[(Abi, &[Change])] = &[
     (Abi::X86_64, &[(176, &[14]), (192, &[14]), (208, &[14])]),
     (Abi::I386, &[(116, &[14]), (124, &[14]), (132, &[14])]),
@@ -128,7 +128,7 @@ fn of_two_sonames_the_first_counts(rt: HostRuntime) -> Result<(), Fail> {
     Ok(())
 }
 
-// The same with the first entry alone.
+// The same with only the first entry changed.
 const FIRST: &[(Abi, &[Change])] = &[(Abi::X86_64, &[(176, &[14])]), (Abi::I386, &[(116, &[14])])];
 
 #[test]
@@ -141,7 +141,7 @@ fn an_empty_soname_is_none(rt: HostRuntime) -> Result<(), Fail> {
     Ok(())
 }
 
-// A shared object with this DT_RPATH alone.
+// A shared object that has only this DT_RPATH.
 fn with_rpath(alloc: Global, text: &[u8]) -> Result<Spec, NoMemory> {
     Ok(Spec {
         abi: Abi::X86_64,
@@ -156,7 +156,7 @@ fn with_rpath(alloc: Global, text: &[u8]) -> Result<Spec, NoMemory> {
     })
 }
 
-// Whether this is the DT_RPATH of what was read.
+// Whether the object that was read has this DT_RPATH.
 fn has_rpath(found: &Option<Object>, want: &[u8]) -> bool {
     match found {
         Some(
@@ -174,7 +174,7 @@ fn has_rpath(found: &Option<Object>, want: &[u8]) -> bool {
     }
 }
 
-// Whether a DT_RPATH of so many bytes is read.
+// Whether a DT_RPATH of this length is read.
 fn is_read(alloc: Global, length: usize) -> Result<bool, Fail> {
     let text = vec![in alloc; b'a'; length]?;
     let spec = with_rpath(alloc, &text)?;
@@ -199,7 +199,7 @@ fn long_text(alloc: Global) -> Result<Vec<u8>, Fail> {
     Ok(file_of(alloc, &needing(Abi::X86_64, needed))?)
 }
 
-// Five entries, so the strings begin at 256: a NUL, 65535 bytes and their NUL, which is changed, then another text.
+// With five entries, the strings begin at 256: a NUL, 65535 bytes and their NUL, which is changed, then another text.
 #[test]
 fn a_text_has_its_nul_among_65536_bytes(rt: HostRuntime) -> Result<(), Fail> {
     let alloc = rt.alloc();

@@ -1,4 +1,4 @@
-// What the two libraries are with some of their bytes changed.
+// The ELF information of two libraries after some of their bytes were changed.
 use elf_dynamic::analyse;
 use elf_samples::{SampleFault, library_file};
 use lib_types::{Abi, Analysis, Defect, Text};
@@ -9,7 +9,7 @@ use tree_face::SureStore;
 
 pub type Change = (usize, &'static [u8]);
 
-// The changes in the file of class 2, in that of class 1, and what both are then.
+// The changes in the ELF64 file, those in the ELF32 file, and the defect of both then.
 type Row = (&'static [Change], &'static [Change], Option<Defect>);
 
 const IDENTIFICATION: &[Row] = &[
@@ -256,7 +256,7 @@ const SIZES: &[Row] = &[
     ),
 ];
 
-// A shared object whose DT_SONAME is `libz.so.1`: 251 bytes in class 2, 159 in class 1.
+// A shared object whose DT_SONAME is `libz.so.1`: 251 bytes as ELF64, 159 as ELF32.
 pub fn libz(alloc: Global, abi: Abi) -> Result<Vec<u8>, SampleFault> {
     library_file(alloc, abi, b"libz.so.1")
 }
@@ -274,7 +274,7 @@ pub fn changed(alloc: Global, base: &[u8], changes: &[Change]) -> Result<Vec<u8>
     Ok(bytes)
 }
 
-// What a store with these bytes under a key gives.
+// The analysis of a file with these bytes, through a store.
 pub fn analysis(alloc: Global, bytes: Vec<u8>) -> Result<Option<Analysis>, Fail> {
     let mut held = Vec::new(alloc);
     held.push((Text::copy_of(alloc, b"key")?, Text::from_vec(bytes)))?;
@@ -282,7 +282,7 @@ pub fn analysis(alloc: Global, bytes: Vec<u8>) -> Result<Option<Analysis>, Fail>
     Ok(analyse(alloc, &mut store, b"key").ok())
 }
 
-// Whether it is a library of this ABI and `libz.so.1`, or has this defect.
+// Whether it is the library `libz.so.1` of this ABI, or has this defect.
 pub fn is(analysis: &Option<Analysis>, abi: Abi, want: Option<Defect>) -> bool {
     match (analysis, want) {
         (
@@ -310,12 +310,12 @@ pub fn is_nameless(analysis: &Option<Analysis>) -> bool {
     )
 }
 
-/// Whether a file of these bytes is a library of this ABI and `libz.so.1`, or has this defect.
+/// Whether a file of these bytes is the library `libz.so.1` of this ABI, or has this defect.
 pub fn gives(alloc: Global, bytes: Vec<u8>, abi: Abi, want: Option<Defect>) -> Result<bool, Fail> {
     Ok(is(&analysis(alloc, bytes)?, abi, want))
 }
 
-// Whether a library with these changes is what is wanted.
+// Whether a library with these changes has the expected ABI or defect.
 fn is_changed(
     alloc: Global,
     abi: Abi,

@@ -1,4 +1,4 @@
-// Files that are cut, and files that are long.
+// Truncated files and long files.
 use super::rows::{Change, analysis, changed, gives, is, is_nameless, libz};
 use crate::Sparse;
 use elf_dynamic::analyse;
@@ -24,7 +24,7 @@ fn short(length: usize) -> Defect {
     }
 }
 
-// A library that is cut to less than its header, and to its header alone.
+// A library truncated to less than its header, and to its header alone.
 fn check_cuts(rt: &impl Abort, alloc: Global, abi: Abi, header: usize) -> Result<(), Fail> {
     let base = libz(alloc, abi)?;
     for length in 0..header {
@@ -45,14 +45,14 @@ fn short_files_say_their_length(rt: HostRuntime) -> Result<(), Fail> {
     check_cuts(&rt, rt.alloc(), Abi::I386, 52)
 }
 
-// A change, the length to which the changed file is cut, and the defect.
+// A change, the length to which the changed file is truncated, and the defect.
 const SHORT: &[(Change, usize, Defect)] = &[
     ((4, &[3]), 15, Defect::TooShort { length: 15 }),
     ((5, &[2]), 20, Defect::BadData { value: 2 }),
     ((18, &[0]), 63, Defect::TooShort { length: 63 }),
 ];
 
-// The front of the library for x86-64 with a change.
+// The first bytes of the x86-64 library after a change.
 fn front(alloc: Global, change: Change, length: usize) -> Result<Vec<u8>, Fail> {
     let wide = libz(alloc, Abi::X86_64)?;
     cut(alloc, &changed(alloc, &wide, &[change])?, length)
@@ -68,7 +68,7 @@ fn the_first_defect_of_a_short_file_counts(rt: HostRuntime) -> Result<(), Fail> 
     Ok(())
 }
 
-// The ABI of a library, the least byte of the machine that is put into it, and its ABI then or its defect.
+// The ABI of a library, the least byte of the machine that replaces its own, and the resulting ABI or defect.
 const MACHINES: &[(Abi, &[u8], Abi, Option<Defect>)] = &[
     (Abi::X86_64, &[183], Abi::Aarch64, None),
     (Abi::I386, &[62], Abi::X32, None),
@@ -100,7 +100,7 @@ fn machine_and_class_give_the_abi(rt: HostRuntime) -> Result<(), Fail> {
     Ok(())
 }
 
-// What the library with zeros behind it is, how many bytes are read of it, and in how many readings.
+// The analysis of a library followed by zeros, the number of bytes that are read, and the number of readings.
 fn sparse(alloc: Global) -> Result<(Option<Analysis>, u64, u64), Fail> {
     let mut store = Sparse::new(libz(alloc, Abi::X86_64)?);
     let found = analyse(alloc, &mut store, b"libz.so.1").ok();
@@ -118,7 +118,7 @@ fn a_file_of_2_to_the_40_bytes_is_read_in_windows(rt: HostRuntime) -> Result<(),
     Ok(())
 }
 
-// A file of class 2 with so many program headers, of which the last is that of the dynamic section.
+// An ELF64 file with this number of program headers. The last one is that of the dynamic section.
 fn many_headers(alloc: Global, count: u16) -> Result<Vec<u8>, Fail> {
     let mut bytes = cut(alloc, &libz(alloc, Abi::X86_64)?, 64)?;
     for _ in 1..count {
@@ -148,7 +148,7 @@ fn parts(bytes: &[u8]) -> (&[u8], &[u8]) {
     bytes.split_at_checked(176).unwrap_or((bytes, &[]))
 }
 
-// A file of class 2 whose dynamic section has 2^20 entries, the DT_SONAME and the string table's last.
+// An ELF64 file whose dynamic section has 2^20 entries. Those of DT_SONAME and of the string table are the last ones.
 fn many_entries(alloc: Global) -> Result<Vec<u8>, Fail> {
     let entries: u64 = 1 << 20;
     let base = libz(alloc, Abi::X86_64)?;

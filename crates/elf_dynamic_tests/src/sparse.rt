@@ -1,4 +1,4 @@
-//! A store of one very long file, of which only the front isn't zero.
+//! A store of one very long file, which is zero except for its first bytes.
 use lib_types::Failed;
 use tree_face::Store;
 
@@ -26,12 +26,12 @@ impl Sparse {
         }
     }
 
-    /// How many bytes were read.
+    /// The number of bytes that were read.
     pub fn taken(&self) -> u64 {
         self.taken
     }
 
-    /// How many times it was read from.
+    /// The number of readings.
     pub fn readings(&self) -> u64 {
         self.readings
     }

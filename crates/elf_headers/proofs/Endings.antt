@@ -1,4 +1,4 @@
--- What calls that read one file do with a store.
+-- The effect on a store of calls that read one file.
 use Rattle.std.proofs.Common.{◌≡◌, ℕ, ◌≤◌, List, [], ◌∷◌, Option, Some, None, IfSome, inl, refl, sym, subst, ◌∙◌, append-nil, arith}
 use Rattle.lib_types.specs.Counts.{raised}
 use Rattle.tree_face.specs.Follows.{IsFollowedBy}
@@ -45,7 +45,7 @@ begun_keys key Complete a b whole = whole
 begun_keys key DeviceFailed a b whole = part_whole (key ∷ []) a b whole
 begun_keys key GaveUp a b whole = part_whole (key ∷ []) a b whole
 
--- a file that is begun, and then only read from
+-- A call opens a file, and later calls only read from it.
 pub begun_and_read : {key : List ℕ} {n : ℕ} {most : Option ℕ} {e : Ending} (s t u : StoreState) → ReadsFile key (Some n) Complete s t → OnlyReads e t u → IfSome most (λ n. u.taken ≤ raised s.taken n) → ReadsFile key most e s u
 begun_and_read {key = key} {e = e} s t u first reads taken = record {
   held = reads.held ∙ first.held;

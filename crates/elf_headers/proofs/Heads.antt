@@ -1,4 +1,4 @@
--- What the header of a file is, by the first sentence that holds.
+-- The header of a file, by the first rule that applies.
 use Rattle.std.proofs.Common.{◌≡◌, ℕ, ◌+◌, ◌*◌, ◌⊎◌, ◌≤◌, take, lit<, lit≤, get_or-take, Bool, true, false, cond, not, ◌&&◌, ◌||◌, ◌==◌, nat_lt, List, Option, Some, None, is_none, Result, Ok, Err, [], ◌∷◌, refl, ap, sym, ◌∙◌, arith}
 use Rattle.std.proofs.lemmas.Bool.Decides.{nat_tests}
 use Rattle.std.specs.List.{list_any}
@@ -29,7 +29,7 @@ pub bad_data : (size : ℕ) (bytes : List ℕ) → has_magic bytes ≡ true → 
 unfolding head_of
 bad_data size bytes magic long kind h = rw (magic, long, kind, h) refl
 
--- the sentences behind those of the identification
+-- the rules after those on the identification
 abbrev behind : ℕ → ℕ → List ℕ → Result Head Defect
 behind w size bytes =
     cond (nat_lt size (header_length w)) (Err (TooShort size))
@@ -109,7 +109,7 @@ gives {size = size} {bytes = bytes} {h = h} e =
       no_defect = none;
     }
 
--- ---- only the first 64 bytes count
+-- ---- the header depends only on the first 64 bytes
 
 first_four : (xs : List ℕ) → has_magic (take 64 xs) ≡ has_magic xs
 first_four [] = refl
@@ -145,7 +145,7 @@ front size xs =
     )
     refl
 
--- ---- an accepted header has its program headers in the file
+-- ---- the program headers of an accepted header are inside the file
 
 none_holds : (rows : List Sentence) → first_defect rows ≡ None → list_any (λ s. s.0) rows ≡ false
 none_holds [] h = refl
@@ -168,7 +168,7 @@ inside size bytes h e =
     let within = inside_by (phnum w bytes) (program_header_length w) (phoff w bytes) size (phnum w bytes == 65535) (phentsize w bytes == program_header_length w) fine in
     rw (g.size_is, g.wide_is, g.phoff_is, g.phnum_is) within
 
--- ---- a header that isn't accepted
+-- ---- a rejected header
 
 fifth_of : (a b c d e f g h : Bool) → (a || (b || (c || (d || (e || (f || (g || (h || false)))))))) ≡ false → f ≡ false
 fifth_of a b c d e f g h all = grind arith

@@ -1,4 +1,4 @@
--- What a window that was read from a store holds.
+-- The content of a window after a read from a store.
 use Rattle.std.proofs.Common.{◌≡◌, cond, ◌⊎◌, inl, inr, ℕ, suc, ◌*◌, Bool, true, false, lit≤, option_and_then, ◌+◌, ◌-◌, ◌<◌, ◌≤◌, min, List, ◌++◌, length, take, drop, Option, Some, None, Result, Ok, IfSome, IsSomeAnd, refl, subst, ap, sym, ◌∙◌, arith, length-drop, length-take}
 use Rattle.std.proofs.Math.Nat.{mul-le-mul_right}
 use Rattle.std.proofs.lemmas.List.{take-append-le, take_all, take_min}
@@ -12,7 +12,7 @@ use Rattle.elf_headers.specs.Header.{head, head_of}
 use Rattle.elf_headers.specs.Reading.{known_content, OfContent, IsHeadOf}
 use Rattle.elf_headers.proofs.Heads.{front, gives}
 
--- the front of a buffer after a read is the front of what was there
+-- After a read, the front of the buffer is the front of the bytes at the offset.
 pub window : (m n at : ℕ) (xs before buf : List ℕ) → buf ≡ take n (drop at xs) ++ drop n before → n ≡ min m (length xs - at) → take n buf ≡ take m (drop at xs)
 window m n at xs before buf e count =
     let rest = drop at xs in
@@ -23,13 +23,13 @@ window m n at xs before buf e count =
     let least : take n rest ≡ take m rest = ap (λ k. take k rest) (count ∙ ap (λ k. min m k) (sym size)) ∙ take_min m rest in
     ap (take n) e ∙ take-append-le n (take n rest) (drop n before) (omega arith) ∙ whole ∙ least
 
--- a buffer that was filled
+-- a read that fills the buffer
 pub filled : (m n at size : ℕ) (xs before buf : List ℕ) → length xs ≡ size → at + m ≤ size → length buf ≡ m → n ≡ min m (size - at) → buf ≡ take n (drop at xs) ++ drop n before → buf ≡ take m (drop at xs)
 filled m n at size xs before buf known within full count e =
     let all : take n buf ≡ buf = take_all n buf (omega arith) in
     sym all ∙ window m n at xs before buf e (omega arith)
 
--- ---- the front of the file that was begun
+-- ---- the front of the open file
 
 pub record IsFront (size count : ℕ) (buf : List ℕ) (s : StoreState) (bytes : List ℕ) : Type 0 where
   pub size_is : length bytes ≡ size
@@ -72,13 +72,13 @@ weaken {P = P} {Q = Q} (Some held) key f h = by (held key) h
     by None h = h
     by (Some bytes) h = f bytes h
 
--- ---- what holds of known content
+-- ---- if the content is known
 
 pub weaken_known : {P Q : List ℕ → Type 0} (known : Option (List ℕ)) → ((bytes : List ℕ) → known ≡ Some bytes → P bytes → Q bytes) → IfKnown known P → IfKnown known Q
 weaken_known None f h = tt
 weaken_known (Some bytes) f h = f bytes refl h
 
--- the header that was read is that of the content
+-- the header that was read is the header of the content
 pub head_of_content : {s0 s1 s2 : StoreState} {key before buf : List ℕ} {size count : ℕ} (r : Result Head Defect) → Begins s0 s1 key (Ok size) → Reads s1 s2 0 before buf (Ok count) → length before ≡ 64 →
     head_of size (take count buf) ≡ r → OfContent s0.held key (λ bytes. head bytes ≡ r)
 head_of_content {s0 = s0} {s2 = s2} {key = key} {buf = buf} {size = size} {count = count} r b w l e =
@@ -93,13 +93,13 @@ known_by s key r size count buf (Some held) e h f = by (held key) f
     by None f = absurd f
     by (Some bytes) f = subst (λ o. IfKnown o (λ bytes. head bytes ≡ r)) (sym f.content_is) (sym f.head_is ∙ h)
 
--- the same of the content that the store reads from
+-- the same for the content of the open file
 pub head_of_known : {s0 s1 s2 : StoreState} {key before buf : List ℕ} {size count : ℕ} (r : Result Head Defect) → Begins s0 s1 key (Ok size) → Reads s1 s2 0 before buf (Ok count) → length before ≡ 64 →
     head_of size (take count buf) ≡ r → IfKnown (known_content s2) (λ bytes. head bytes ≡ r)
 head_of_known {s0 = s0} {s2 = s2} {key = key} {buf = buf} {size = size} {count = count} r b w l e =
     known_by s2 key r size count buf s0.held (w.held ∙ b.held) e (front_of b w l)
 
--- the key has the content that the store reads from
+-- the open file has the content of this key
 pub content_known : {s0 s1 s2 : StoreState} {key before buf : List ℕ} {size count : ℕ} → Begins s0 s1 key (Ok size) → Reads s1 s2 0 before buf (Ok count) → length before ≡ 64 →
     OfContent s0.held key (λ bytes. known_content s2 ≡ Some bytes)
 content_known {s0 = s0} {s2 = s2} {key = key} {buf = buf} {size = size} {count = count} b w l =
@@ -133,7 +133,7 @@ fits : (b : Bool) → Fits (word_size b)
 fits true = (lit≤ tt, lit≤ tt, lit≤ tt, lit≤ tt)
 fits false = (lit≤ tt, lit≤ tt, lit≤ tt, lit≤ tt)
 
--- of the bytes that begin at it
+-- from the bytes that start at the program header
 segment_window : (w n at : ℕ) (bytes : List ℕ) → Fits w → program_header_length w ≤ n → segment_at w (take n (drop at bytes)) 0 ≡ segment_at w bytes at
 segment_window w n at bytes within enough =
     let kind = field_window n at 0 at 4 bytes (omega (arith, within.3)) (omega arith) in
@@ -156,7 +156,7 @@ within_by : (at phoff index each n size : ℕ) → at ≡ phoff + index * each �
 within_by at phoff index each n size e h (inl none) = absurd (omega arith)
 within_by at phoff index each n size e h (inr all) = let more : suc index * each ≤ n * each = mul-le-mul_right each h in omega arith
 
--- what a window says of the program header that was read
+-- the segment in a window is the segment of the program header that was read
 pub segment_read : (w : ℕ) (h : Head) (s0 s1 : StoreState) (at index n : ℕ) (before buf bytes : List ℕ) → word_size h.wide ≡ w → Reads s0 s1 at before buf (Ok n) → IsHeadOf s0 h → index < h.phnum →
     at ≡ h.phoff + index * program_header_length w → length before ≡ program_header_length w → length buf ≡ length before → known_content s0 ≡ Some bytes → head bytes ≡ Ok h → segment_at w buf 0 ≡ segment w bytes index
 segment_read w h s0 s1 at index n before buf bytes width r is_head in_range place full kept content e =

@@ -1,4 +1,4 @@
--- What a file's header says, or the first of its defects (gABI, "ELF Header"; what glibc's ldconfig and loader accept).
+-- What a file's header says, or its first defect (gABI, "ELF Header"; what glibc's ldconfig and loader accept).
 use Rattle.std.specs.Prelude.{ℕ, ◌+◌, ◌*◌, Bool, ◌==◌, ◌&&◌, ◌||◌, not, nat_lt, nat_eq, List, [], ◌∷◌, length, find, Option, Some, None, is_none, option_map, Result, Ok, Err}
 use Rattle.std.specs.List.{starts_with}
 use Rattle.std.specs.Option.{option_map_or}
@@ -9,7 +9,7 @@ use Rattle.lib_types.specs.declared.analysis.Defect.TheVariants.{NotElf, TooShor
 use Rattle.elf_headers.specs.declared.kinds.Head.{Head}
 use Rattle.elf_headers.specs.Layout.{class, encoding, is_wide, word_size, header_length, etype, machine, eflags, phoff, phentsize, phnum, program_header_length}
 
--- ---- sentences in their order: the first that holds gives the defect
+-- ---- rules in order: the first one that applies gives the defect
 
 abbrev pub Sentence : Type 0
 Sentence = Bool × Defect
@@ -44,7 +44,7 @@ abi bytes = abi_in (word_size (is_wide bytes)) bytes
 abbrev pub is_loadable : List ℕ → Bool
 is_loadable bytes = (etype bytes == 2) || (etype bytes == 3)
 
--- PN_XNUM, or headers of another length or past the end of the file
+-- The count is PN_XNUM, or the headers have another length or end past the end of the file.
 abbrev pub has_bad_headers : ℕ → ℕ → List ℕ → Bool
 has_bad_headers w size bytes =
     (phnum w bytes == 65535)
@@ -64,7 +64,7 @@ header_sentences_of w size bytes =
     ∷ (has_bad_headers w size bytes, BadPhdrs)
     ∷ []
 
--- what the header says if it has no defect
+-- the header's fields, if it has no defect
 abbrev pub head_with : ℕ → ℕ → List ℕ → Abi → Head
 head_with w size bytes abi = record {
   abi = abi;
@@ -79,7 +79,7 @@ abbrev pub as_head : ℕ → ℕ → List ℕ → Result Head Defect
 as_head w size bytes =
     option_map_or (λ abi. Ok (head_with w size bytes abi)) (abi_in w bytes) (Err (BadMachine (machine bytes)))
 
--- the header of a file of this size, of which only the first 64 bytes count
+-- The header of a file of this size. It depends only on the first 64 bytes.
 unfoldable pub head_of : ℕ → List ℕ → Result Head Defect
 head_of size bytes =
     let w = word_size (is_wide bytes) in

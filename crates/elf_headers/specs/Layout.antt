@@ -1,5 +1,5 @@
--- Where the fields of the ELF header and of the program headers are, in both classes
--- (gABI, "ELF Header" and "Program Header"; numbers are ELFDATA2LSB).
+-- The offsets of the fields of the ELF header and of the program headers, in both classes (gABI, "ELF Header" and "Program Header").
+-- Numbers are little-endian (ELFDATA2LSB).
 -- `w` is the size of an address: 4 bytes in class 1, 8 bytes in class 2.
 use Rattle.std.specs.Prelude.{ℕ, ◌+◌, ◌*◌, Bool, if◌then◌else◌, ◌==◌, List, map, slice_index}
 use Rattle.std.specs.List.{range_with_len}
@@ -8,7 +8,7 @@ use Rattle.elf_headers.specs.declared.kinds.Segment.{Segment}
 
 -- ---- the file header
 
--- EI_CLASS and EI_DATA of the identification
+-- EI_CLASS and EI_DATA
 abbrev pub class : List ℕ → ℕ
 class bytes = slice_index bytes 4
 
@@ -22,7 +22,7 @@ is_wide bytes = class bytes == 2
 abbrev pub word_size : Bool → ℕ
 word_size wide = if wide then 8 else 4
 
--- what differs between the classes
+-- the first value in class 1, the second in class 2
 abbrev pub at_class : ℕ → ℕ → ℕ → ℕ
 at_class w narrow wide = if w == 8 then wide else narrow
 

@@ -1,7 +1,7 @@
--- The numbers that a defect can have, whatever a store gives.
+-- The range of the numbers in a defect, whatever content the store returns.
 use Rattle.std.specs.Prelude.{◌≡◌, ◌≢◌, ◌<◌, ◌⊎◌, ◌^◌, ℕ}
 use Rattle.lib_types.specs.declared.analysis.Defect.{Defect}
-use Rattle.lib_types.specs.declared.analysis.Defect.TheVariants.{NotElf, TooShort, BadClass, BadData, BadMachine, NotShared, BadPhdrs, NoDynamic, DynOutside, NoStrtab, OutsideLoad, BadString, BadSoname}
+use Rattle.lib_types.specs.declared.analysis.Defect.TheVariants.{NotElf, TooShort, BadClass, BadData, BadMachine, NotShared, BadPhdrs, NoDynamic, DynOutside, NoStrtab, OutsideLoad, BadString, BadSoname, Unsearchable}
 
 -- DT_NEEDED, DT_SONAME, DT_RPATH and DT_RUNPATH
 abbrev pub IsTextTag : ℕ → Type 0
@@ -21,3 +21,5 @@ IsInRange NoStrtab = Unit {0}
 IsInRange OutsideLoad = Unit {0}
 IsInRange (BadString tag) = IsTextTag tag
 IsInRange BadSoname = Unit {0}
+-- it is about a name, and not about content
+IsInRange Unsearchable = ⊥

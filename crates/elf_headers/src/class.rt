@@ -1,4 +1,4 @@
-//! The fields of both classes, by one body over the size of an address.
+//! The fields of both classes, in one implementation over the size of an address.
 ghost use Rattle.std.specs.Prelude.{◌≡◌, ◌≤◌, ◌<◌, ◌+◌, ◌⊎◌, ◌==◌, ◌||◌, min, length, Ok, IsTrue, IfErr};
 ghost use Rattle.lib_types.specs.Bytes.{field};
 ghost use Rattle.elf_headers.specs.Layout.{at_class, class, encoding, is_wide, word_size, segment_at, program_header_length};
@@ -16,10 +16,10 @@ const ET_DYN: u16 = 3;
 
 const PN_XNUM: u16 = 65535;
 
-/// A class of ELF files, `W` being the size of its addresses: 4 bytes in class 1, 8 bytes in class 2.
+/// An ELF class. `W` is the size of its addresses: 4 bytes in class 1, 8 bytes in class 2.
 pub struct Class<const W: usize>;
 
-// The fields of the file header: the offset in class 1, the offset in class 2, and the size.
+// The fields of the file header: the offset in class 1, the offset in class 2, and the size. If the offsets are equal, there is one.
 macro_rules! header {
     (e_type, $bytes:expr) => {
         field!(16, half, $bytes)
@@ -41,7 +41,7 @@ macro_rules! header {
     };
 }
 
-// The same of a program header.
+// The same for the fields of a program header.
 macro_rules! program_header {
     (p_type, $bytes:expr) => {
         field!(0, long, $bytes)
@@ -67,7 +67,7 @@ macro_rules! field {
 }
 
 impl<const W: usize> Class<W> {
-    /// The number at an offset that has the size of an address.
+    /// The number at an offset. It is as long as an address.
     #[tactic(auto, using(lib_types::proofs::Fields::field_drop))]
     pub fn word(bytes: &[u8], at: usize) -> u64
         requires class { (W ≡ 4) ⊎ (W ≡ 8) }
@@ -77,7 +77,7 @@ impl<const W: usize> Class<W> {
         LittleEndian::read_uint(&bytes[at..], W)
     }
 
-    // The number of 4 bytes at an offset.
+    // The 4-byte number at an offset.
     fn long(bytes: &[u8], at: usize) -> u32
         requires { at + 4 ≤ length bytes.now }
         ensures { result ≡ field bytes.now at 4 }
@@ -85,7 +85,7 @@ impl<const W: usize> Class<W> {
         LittleEndian::read_u32(&bytes[at..])
     }
 
-    // The number of 2 bytes at an offset.
+    // The 2-byte number at an offset.
     fn half(bytes: &[u8], at: usize) -> u16
         requires { at + 2 ≤ length bytes.now }
         ensures { result ≡ field bytes.now at 2 }
@@ -93,21 +93,21 @@ impl<const W: usize> Class<W> {
         LittleEndian::read_u16(&bytes[at..])
     }
 
-    // What this class has of two numbers.
+    // The first number in class 1, the second in class 2.
     fn either(narrow: usize, wide: usize) -> usize
         ensures { result ≡ at_class W narrow wide }
     {
         if W == 8 { wide } else { narrow }
     }
 
-    /// The length of a program header.
+    /// The length of a program header in bytes.
     pub fn program_header_length() -> usize
         ensures { result ≡ program_header_length W }
     {
         Class::<W>::either(32, 56)
     }
 
-    /// The segment of the program header that these bytes begin with.
+    /// The segment of the program header at the start of these bytes.
     pub fn segment(bytes: &[u8]) -> Segment
         requires class { (W ≡ 4) ⊎ (W ≡ 8) }
         requires within { program_header_length W ≤ length bytes.now }
@@ -187,7 +187,7 @@ fn is_class(class: u8) -> bool
     matches!(class, 1 | 2)
 }
 
-/// The header of a file of this size that begins with these bytes.
+/// The header of a file of this size that starts with these bytes.
 #[tactic(auto, using(crate::proofs::Heads::not_elf, crate::proofs::Heads::short, crate::proofs::Heads::bad_class, crate::proofs::Heads::bad_data))]
 pub fn head_of(front: &[u8], size: u64) -> Result<Head, Defect>
     requires { length front.now ≡ min 64 size }

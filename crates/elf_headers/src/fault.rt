@@ -1,12 +1,12 @@
-//! Why a file has no header.
+//! Why a header can't be read.
 use lib_types::{Defect, Failed};
 
-/// Why `head` returns none.
+/// Why `head` returns no header.
 #[derive(Clone, Copy, Debug, PartialEq, Eq)]
 pub enum HeadFault {
     /// The first defect of the header.
     Bad(Defect),
-    /// The store failed, or doesn't hold the key.
+    /// The store failed, or it doesn't hold the key.
     StoreFault,
 }
 

@@ -1,14 +1,14 @@
-//! What the headers say.
+//! The contents of the headers.
 use lib_types::Abi;
 
-/// What a file's header says.
+/// The contents of a file's header.
 #[derive(Clone, Copy, Debug, PartialEq, Eq)]
 pub struct Head {
-    /// By `e_machine` and the class.
+    /// From `e_machine` and the class.
     pub abi: Abi,
-    /// `e_type`: 2 of a program at fixed addresses, 3 of a shared object.
+    /// `e_type`: 2 for a program at fixed addresses, 3 for a shared object.
     pub etype: u16,
-    /// Whether the file is of class 2, whose addresses have 8 bytes and not 4.
+    /// Whether the file is of class 2. Then addresses have 8 bytes, otherwise 4.
     pub wide: bool,
     /// The offset of the program headers.
     pub phoff: u64,
@@ -18,15 +18,15 @@ pub struct Head {
     pub length: u64,
 }
 
-/// What a program header says of its segment.
+/// The contents of a program header.
 #[derive(Clone, Copy, Debug, PartialEq, Eq)]
 pub struct Segment {
-    /// `p_type`: 1 of a segment that is loaded, 2 of the dynamic section.
+    /// `p_type`: 1 for a segment that is loaded, 2 for the dynamic section.
     pub kind: u32,
-    /// Where it begins in the file.
+    /// Its offset in the file.
     pub offset: u64,
-    /// Where it begins in memory.
+    /// Its address in memory.
     pub vaddr: u64,
-    /// How many bytes of it are in the file.
+    /// Its size in the file in bytes.
     pub filesz: u64,
 }

@@ -1,4 +1,4 @@
-//! The headers of a file in a store.
+//! Reads the headers of a file in a store.
 ghost use Rattle.std.specs.Prelude.{◌≡◌, ◌⊎◌, ◌<◌, [], Some, Ok, Err, IfOk};
 ghost use Rattle.tree_face.specs.Store.{Lacks};
 ghost use Rattle.tree_face.specs.StoreUse.{ReadsFiles};
@@ -15,7 +15,7 @@ use crate::kinds::{Head, Segment};
 use lib_types::Failed;
 use tree_face::Store;
 
-/// Begins a key and reads the file's header: at most 64 bytes.
+/// Opens the file of a key and reads its header: at most 64 bytes.
 pub fn head<S: Store>(store: &mut S, key: &[u8]) -> Result<Head, HeadFault>
     ensures head { IfOk result (λ h. OfContent (S.state store.old).held key.now (λ bytes. spec.head bytes ≡ Ok h)) }
     ensures begun_head { IfOk result (IsHeadOf (S.state store.new)) }

@@ -1,4 +1,4 @@
--- How many bytes the parts of a file have.
+-- The sizes of the parts of a file.
 use Rattle.std.proofs.Common.{◌≡◌, ◌≤◌, ◌*◌, inl, inr, ℕ, suc, ◌+◌, Bool, true, false, ◌==◌, nat_le, List, [], ◌∷◌, ◌++◌, All, length, refl, ap, sym, ◌∙◌, arith, append_assoc, length-append}
 use Rattle.std.proofs.lemmas.Bool.Decides.{nat_tests}
 use Rattle.std.proofs.lemmas.List.Sums.{AllPass-from_list_all}
@@ -104,7 +104,7 @@ is_short {l = l} {spec = spec} h =
     let small : size l.w spec.dynamic ≤ FILE_MAX = omega (arith, h.strings_is, h.strings_size_is, h.small) in
     rw (made_length spec, sym h.of_abi) small
 
--- ---- the fields that are written
+-- ---- the written fields
 
 all_small : (fields : List Field) → list_all (λ f. nat_le f.0 8) fields ≡ true → All (λ f. f.0 ≤ 8) fields
 all_small fields h k d l = let fits = AllPass-from_list_all (λ (f : Field). nat_le f.0 8) fields h k d l in grind (arith, nat_tests)
@@ -116,7 +116,7 @@ pub small_header : (w a b c e x y z : ℕ) → IsWidth w → All (λ (f : Field)
 small_header w a b c e x y z (inl four) = all_small (header_of w a b c e x y z) (rw four refl)
 small_header w a b c e x y z (inr eight) = all_small (header_of w a b c e x y z) (rw eight refl)
 
--- ---- all parts behind what was written
+-- ---- all parts, after what was already written
 
 six : (out a b c d e f : List ℕ) → out ++ a ++ b ++ c ++ d ++ e ++ f ≡ out ++ (a ++ b ++ c ++ d ++ e ++ f)
 six out a b c d e f = simp append_assoc refl

@@ -1,4 +1,4 @@
--- What the entries of a made section say: their texts are read back from the string table.
+-- The entries of a generated section: reading their texts back from the string table gives the same texts.
 use Rattle.std.proofs.Common.{◌≡◌, ◌<◌, ◌^◌, ℕ, zero, suc, ◌+◌, Bool, true, false, cond, not, ◌||◌, ◌==◌, nat_lt, List, [], ◌∷◌, ◌++◌, length, map, filter, find, take, drop, Option, Some, None, option_map, refl, ap, sym, ◌∙◌, arith, append_assoc, length-append}
 use Rattle.std.proofs.Math.Seq.{drop-append_seam}
 use Rattle.std.proofs.lemmas.Bool.Decides.{nat_tests}
@@ -6,6 +6,7 @@ use Rattle.std.specs.List.{list_any, take_while}
 use Rattle.elf_dynamic.specs.declared.kinds.DynamicEntry.{DynamicEntry}
 use Rattle.elf_dynamic.specs.Section.{needed, has_tag, has_text, value_of, counts_after, counting_after, is_nul, near, has_text_at, text_at}
 use Rattle.elf_dynamic.specs.Object.{text_in, text_of, needed_of}
+use Rattle.elf_dynamic.specs.declared.text.TheConstants.{TEXT_LIMIT}
 use Rattle.elf_dynamic.proofs.Live.{while_true}
 use Rattle.elf_maker.specs.Texts.{Tagged, ended, ended_texts, text_entries}
 use Rattle.elf_maker.proofs.Makeable.{HasText}
@@ -30,7 +31,7 @@ up_to_nul (b ∷ text) rest (suc n) none h =
       | false ↦ λ e k. while_true live b (take n (text ++ 0 ∷ rest)) (ap not e) ∙ ap (λ xs. b ∷ xs) (up_to_nul text rest n k (omega arith))
     ] refl none
 
--- the texts of a list stand in the table, each at its offset
+-- Reading the string table at the offset of each text gives this text.
 abbrev pub Reads : List ℕ → ℕ → List Tagged → Type 0
 Reads table at [] = Unit {0}
 Reads table at (t ∷ texts) = (has_text_at table at ≡ true) × (text_at table at ≡ t.1) × Reads table (at + length (ended t)) texts
@@ -42,12 +43,12 @@ AreTexts (t ∷ texts) = HasText t.1 × AreTexts texts
 one_on : (t : Tagged) (texts : List Tagged) (front : List ℕ) → front ++ ended_texts (t ∷ texts) ≡ front ++ (t.1 ++ 0 ∷ ended_texts texts)
 one_on t texts front = simp append_assoc refl
 
-near_there : (t : Tagged) (texts : List Tagged) (front table : List ℕ) (at : ℕ) → table ≡ front ++ ended_texts (t ∷ texts) → at ≡ length front → near table at ≡ take 65536 (t.1 ++ 0 ∷ ended_texts texts)
+near_there : (t : Tagged) (texts : List Tagged) (front table : List ℕ) (at : ℕ) → table ≡ front ++ ended_texts (t ∷ texts) → at ≡ length front → near table at ≡ take TEXT_LIMIT (t.1 ++ 0 ∷ ended_texts texts)
 unfolding near
 near_there t texts front table at is here =
     let rest = t.1 ++ 0 ∷ ended_texts texts in
     let behind : drop at table ≡ rest = ap (λ k. drop k table) here ∙ ap (drop (length front)) (is ∙ one_on t texts front) ∙ drop-append_seam front rest in
-    ap (take 65536) behind
+    ap (take TEXT_LIMIT) behind
 
 within : (t : Tagged) (texts : List Tagged) (front table : List ℕ) (at : ℕ) → table ≡ front ++ ended_texts (t ∷ texts) → at ≡ length front → nat_lt at (length table) ≡ true
 within t texts front table at is here =
@@ -63,14 +64,14 @@ reads (t ∷ texts) front table at are is here =
     let rest = ended_texts texts in
     let nearby = near_there t texts front table at is here in
     let inside = within t texts front table at is here in
-    let nul : list_any is_nul (near table at) ≡ true = ap (list_any is_nul) nearby ∙ nul_there t.1 rest 65536 (let s = are.0.short in omega arith) in
-    let text : text_at table at ≡ t.1 = ap (take_while live) nearby ∙ up_to_nul t.1 rest 65536 are.0.no_nul (let s = are.0.short in omega arith) in
+    let nul : list_any is_nul (near table at) ≡ true = ap (list_any is_nul) nearby ∙ nul_there t.1 rest TEXT_LIMIT (let s = are.0.short in omega arith) in
+    let text : text_at table at ≡ t.1 = ap (take_while live) nearby ∙ up_to_nul t.1 rest TEXT_LIMIT are.0.no_nul (let s = are.0.short in omega arith) in
     let next = front ++ ended t in
     let is_next : table ≡ next ++ rest = is ∙ sym (append_assoc front (ended t) rest) in
     let here_next : at + length (ended t) ≡ length next = omega (arith, here, length-append front (ended t)) in
     (rw (inside, nul) refl, text, reads texts next table (at + length (ended t)) are.1 is_next here_next)
 
--- ---- the entries of the texts, before others
+-- ---- the entries of the texts, followed by other entries
 
 abbrev pub is_label : ℕ → Bool
 is_label tag = (tag == 1) || (tag == 14) || (tag == 15) || (tag == 29)
@@ -88,7 +89,7 @@ not_null a h = grind (arith, nat_tests)
 label_small : (a : ℕ) → is_label a ≡ true → a < 2 ^ 32
 label_small a h = grind (arith, nat_tests)
 
--- other values are those of the others
+-- the value of a tag without a text is its value in the other entries
 pub value_behind : (tag at : ℕ) (texts : List Tagged) (others : List DynamicEntry) → is_label tag ≡ false → AreLabelled texts → value_of tag (text_entries at texts ++ others) ≡ value_of tag others
 value_behind tag at [] others h are = refl
 value_behind tag at (t ∷ texts) others h are =
@@ -127,7 +128,7 @@ none_count earlier (e ∷ others) h =
       | false ↦ λ is k. rw is (none_count (e ∷ earlier) others k)
     ] refl h
 
--- no entry is without its text
+-- each entry that counts has its text in the table
 pub none_bad : (at : ℕ) (texts : List Tagged) (table : List ℕ) (earlier others : List DynamicEntry) → list_any has_text others ≡ false → Reads table at texts →
     find (λ e. not (has_text_at table e.value)) (counting_after earlier (text_entries at texts ++ others)) ≡ None
 none_bad at [] table earlier others none r = rw (none_count earlier others none) refl

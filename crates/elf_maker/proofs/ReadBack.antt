@@ -1,4 +1,4 @@
--- A made file is read as what it was made of.
+-- Reading a generated file back gives the spec that it was generated from.
 use Rattle.std.proofs.Common.{◌≡◌, ◌≤◌, ◌<◌, ◌*◌, ◌-◌, ◌/◌, ◌^◌, inl, inr, ℕ, ◌+◌, true, false, not, ◌&&◌, ◌||◌, ◌==◌, nat_le, nat_lt, min, List, [], ◌∷◌, ◌++◌, length, map, find, take, drop, Some, None, is_some, is_none, Ok, refl, ap, sym, ◌∙◌, arith, append_assoc, length-append}
 use Rattle.std.proofs.Math.Nat.{mul-div_cancel}
 use Rattle.std.proofs.Math.Seq.{drop-append_seam}
@@ -182,7 +182,7 @@ table_there bytes front table other address is long here =
     let bytes_there : take (length table) (drop (length front) bytes) ≡ table = ap (λ xs. take (length table) (drop (length front) xs)) is ∙ ap (take (length table)) (drop-append_seam front table) ∙ take_all (length table) table (omega arith) in
     rw (has, at, in_file, rest, whole, bytes_there) refl
 
--- ---- no sentence holds
+-- ---- none of the rules for defects applies
 
 abbrev NoneHold : List Sentence → Type 0
 NoneHold [] = Unit {0}
@@ -259,7 +259,7 @@ object_is w address bytes spec s g =
     let there : as_object bytes ≡ Ok (object_of spec) = rw (g.abi_is, g.etype_is, g.width_is, said) refl in
     ap (λ o. unless_defect o (as_object bytes)) none ∙ there
 
--- ---- a made file
+-- ---- a generated file
 
 not_less : (a n : ℕ) → a ≤ n → nat_lt n a ≡ false
 not_less a n h = grind (arith, nat_tests)

@@ -1,4 +1,4 @@
--- The numbers that are read from a made file: those that were written.
+-- Reading the numbers of a generated file back gives the numbers that were written.
 use Rattle.std.proofs.Common.{◌≡◌, ◌<◌, ◌*◌, ◌^◌, inl, inr, ℕ, zero, suc, ◌+◌, List, [], ◌∷◌, ◌++◌, length, map, drop, Some, refl, ap, sym, ◌∙◌, arith, append_assoc, length-append}
 use Rattle.std.proofs.Math.Seq.{drop-append_seam}
 use Rattle.std.specs.List.{range_with_len, slice_get}
@@ -26,13 +26,13 @@ pub below : (w x : ℕ) → IsWidth w → x < 2 ^ 32 → x < 256 ^ w
 below w x (inl four) h = rw four (omega arith)
 below w x (inr eight) h = rw eight (omega arith)
 
--- ---- a number in a list of them
+-- ---- a number in a list of numbers
 
 one_on : (f : Field) (fields : List Field) (front rest : List ℕ) → front ++ (bytes_of (f ∷ fields) ++ rest) ≡ front ++ (little_bytes f.0 f.1 ++ (bytes_of fields ++ rest))
 unfolding bytes_of
 one_on f fields front rest = ap (λ r. front ++ r) (append_assoc (little_bytes f.0 f.1) (bytes_of fields) rest)
 
--- the size of the first so many fields
+-- the total size of the first i fields
 unfoldable pub offset_of : ℕ → List Field → ℕ
 offset_of i [] = 0
 offset_of zero (f ∷ fields) = 0
@@ -55,7 +55,7 @@ nth_field (f ∷ fields) (suc i) n x at front rest is small here =
 
 -- ---- a program header
 
--- where its fields are
+-- the offsets of its fields
 places : (w : ℕ) → IsWidth w → (at_class w 4 8 ≡ 4 + (at_class w 0 4 + 0)) × (at_class w 8 16 ≡ 4 + (at_class w 0 4 + (w + 0))) × (at_class w 16 32 ≡ 4 + (at_class w 0 4 + (w + (w + (w + 0)))))
 places w (inl four) = rw four (refl, refl, refl)
 places w (inr eight) = rw eight (refl, refl, refl)
@@ -75,7 +75,7 @@ header_there w kind offset size align at front rest width hk ho hs here =
 
 -- ---- the dynamic entries
 
--- the numbers of entries have 32 bits
+-- the numbers in the entries are below 2^32
 abbrev pub AreSmall : List DynamicEntry → Type 0
 AreSmall [] = Unit {0}
 AreSmall (e ∷ es) = (e.tag < 2 ^ 32) × (e.value < 2 ^ 32) × AreSmall es

@@ -1,4 +1,4 @@
--- What a made dynamic section says: the section of which it was made.
+-- Reading a generated dynamic section back gives the section that it was generated from.
 use Rattle.std.proofs.Common.{◌≡◌, ◌<◌, ◌^◌, ℕ, Bool, true, false, not, ◌&&◌, ◌==◌, List, [], ◌∷◌, ◌++◌, length, filter, Option, Some, None, option_and_then, refl, ap, sym, ◌∙◌, arith, append_assoc}
 use Rattle.std.specs.List.{list_any, list_all, take_while}
 use Rattle.std.specs.Option.{option_map_or}
@@ -18,7 +18,7 @@ use Rattle.elf_maker.proofs.Steps.{strings_size}
 
 -- ---- the texts
 
--- those of the other tags
+-- the texts of the tags other than DT_NEEDED
 abbrev others_of : Option (List ℕ) → Option (List ℕ) → Option (List ℕ) → List Tagged
 others_of s r u = tagged_if soname s ++ tagged_if rpath r ++ tagged_if runpath u
 
@@ -57,7 +57,7 @@ finds_all (text ∷ n) s r u =
 finds : (d : Dynamic) → Finds (tagged d) d.soname d.rpath d.runpath d.needed
 finds d = rw (tagged_is d) (finds_all d.needed d.soname d.rpath d.runpath)
 
--- ---- they have no NUL
+-- ---- the texts have no NUL
 
 texts_append : (xs ys : List Tagged) → AreTexts xs → AreTexts ys → AreTexts (xs ++ ys)
 texts_append [] ys hx hy = hy
@@ -90,7 +90,7 @@ table_reads : (spec : Spec) → is_spec spec ≡ true → Reads (strings spec.dy
 unfolding strings
 table_reads spec h = reads (tagged spec.dynamic) (0 ∷ []) (strings spec.dynamic) 1 (are_texts spec h) refl refl
 
--- ---- the entries behind those of the texts
+-- ---- the entries after those of the texts
 
 abbrev last_of : ℕ → ℕ → Bool → List DynamicEntry → List DynamicEntry
 last_of address size nodeflib more = flag_entries nodeflib ++ record { tag = 5; value = address } ∷ record { tag = 10; value = size } ∷ more
@@ -131,7 +131,7 @@ unfolding entries null
 all_is address d =
     append_assoc (text_entries 1 (tagged d)) (flag_entries d.nodeflib) (record { tag = 5; value = address } ∷ record { tag = 10; value = length (strings d) } ∷ record { tag = 0; value = 0 } ∷ [])
 
--- those before the DT_NULL
+-- the entries before the DT_NULL
 abbrev pub live_of : ℕ → Dynamic → List DynamicEntry
 live_of address d = text_entries 1 (tagged d) ++ last_of address (length (strings d)) d.nodeflib []
 

@@ -1,5 +1,5 @@
 -- The parts of a string table and of the dynamic entries.
-use Rattle.std.proofs.Common.{◌≡◌, ◌≤◌, ◌<◌, ◌*◌, ◌^◌, inl, inr, ℕ, suc, ◌+◌, Bool, true, false, List, [], ◌∷◌, ◌++◌, length, drop-cons, drop, get_or, Option, Some, None, is_some, refl, ap, sym, ◌∙◌, arith, append_assoc, length-append}
+use Rattle.std.proofs.Common.{◌≡◌, ◌≤◌, ◌<◌, ◌*◌, inl, inr, ℕ, suc, ◌+◌, Bool, true, false, List, [], ◌∷◌, ◌++◌, length, drop-cons, drop, get_or, Option, Some, None, is_some, refl, ap, sym, ◌∙◌, arith, append_assoc, length-append}
 use Rattle.std.proofs.lemmas.List.{append-nil, at_drop_all}
 use Rattle.std.proofs.lemmas.Grind.{flat_map-append}
 use Rattle.std.specs.List.{flat_map}
@@ -7,6 +7,7 @@ use Rattle.byteorder.specs.Endian.{little_bytes}
 use Rattle.elf_dynamic.specs.declared.kinds.DynamicEntry.{DynamicEntry}
 use Rattle.elf_dynamic.specs.declared.kinds.Dynamic.{Dynamic}
 use Rattle.elf_dynamic.specs.Section.{soname, rpath, runpath}
+use Rattle.elf_maker.specs.declared.layout.TheConstants.{FILE_MAX}
 use Rattle.elf_maker.specs.Fields.{Field, bytes_of}
 use Rattle.elf_maker.specs.Texts.{Tagged, tagged_if, tagged, ended, ended_texts, strings, text_entries}
 use Rattle.elf_maker.specs.Made.{entry_fields, flag_entries, entries}
@@ -14,7 +15,7 @@ use Rattle.elf_maker.specs.Parts.{IsWidth, needed_texts, entries_bytes}
 
 -- ---- the string table
 
--- a tag makes no difference to the table
+-- the string table doesn't depend on the tag
 untagged : (a b : ℕ) (o : Option (List ℕ)) → ended_texts (tagged_if a o) ≡ ended_texts (tagged_if b o)
 untagged a b None = refl
 untagged a b (Some text) = refl
@@ -65,7 +66,7 @@ pub strings_size : (d : Dynamic) → length (strings d) ≡ 1 + length (ended_te
 unfolding strings
 strings_size d = omega arith
 
--- ---- how many entries
+-- ---- the number of entries
 
 abbrev pub count_if : Bool → ℕ
 count_if true = 1
@@ -96,7 +97,7 @@ needed_within (text ∷ texts) = let ih = needed_within texts in simp length-app
 pub few_texts : (d : Dynamic) → length d.needed < length (strings d)
 few_texts d = let within = needed_within d.needed in omega (arith, strings_length d)
 
-pub product : (n w : ℕ) → IsWidth w → n ≤ 2 ^ 26 → n * (2 * w) ≤ 2 ^ 30
+pub product : (n w : ℕ) → IsWidth w → n ≤ 4 * FILE_MAX → n * (2 * w) ≤ 64 * FILE_MAX
 product n w (inl four) h = rw four (omega arith)
 product n w (inr eight) h = rw eight (omega arith)
 
@@ -155,7 +156,7 @@ tagged_sizes d =
     ap length (four_parts (needed_texts d.needed) (tagged_if soname d.soname) (tagged_if rpath d.rpath) (tagged_if runpath d.runpath))
     ∙ length_four (ended_texts (needed_texts d.needed)) (ended_texts (tagged_if soname d.soname)) (ended_texts (tagged_if rpath d.rpath)) (ended_texts (tagged_if runpath d.runpath))
 
--- the entries of four lists of texts, one behind the other
+-- the entries of four lists of texts, one list after another
 four_entries : (w at : ℕ) (a b c d : List Tagged) →
     entries_bytes w (text_entries at (a ++ b ++ c ++ d))
     ≡ entries_bytes w (text_entries at a)

@@ -1,9 +1,9 @@
--- Numbers one after another, least byte first (gABI, ELFDATA2LSB).
+-- Little-endian numbers, one after another (gABI, ELFDATA2LSB).
 use Rattle.std.specs.Prelude.{ℕ, List}
 use Rattle.std.specs.List.{flat_map}
 use Rattle.byteorder.specs.Endian.{little_bytes}
 
--- how many bytes a number has, and the number
+-- the size of a number in bytes, and the number
 abbrev pub Field : Type 0
 Field = ℕ × ℕ
 

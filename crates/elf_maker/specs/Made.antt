@@ -1,5 +1,5 @@
--- The ELF file that is made of a dynamic section (gABI, "ELF Header", "Program Header" and "Dynamic Section"): file header,
--- PT_LOAD of the whole file, PT_DYNAMIC, dynamic entries and string table, without gaps.
+-- The ELF file for a dynamic section (gABI, "ELF Header", "Program Header" and "Dynamic Section"): file header, PT_LOAD of the whole
+-- file, PT_DYNAMIC, dynamic entries and string table, without gaps.
 -- `w` is the size of an address: 4 bytes in class 1, 8 bytes in class 2.
 use Rattle.std.specs.Prelude.{ℕ, ◌+◌, ◌*◌, Bool, true, false, ◌==◌, ◌&&◌, ◌||◌, List, [], ◌∷◌, ◌++◌, length, Some}
 use Rattle.std.specs.List.{flat_map, list_all}
@@ -29,7 +29,7 @@ is_spec spec =
     && option_map_or is_text spec.dynamic.rpath true
     && option_map_or is_text spec.dynamic.runpath true
 
--- where the first byte of the file is in memory
+-- the address of the first byte of the file in memory
 abbrev pub base : ℕ
 base = 0x1000
 
@@ -40,7 +40,7 @@ abbrev pub flag_entries : Bool → List DynamicEntry
 flag_entries true = record { tag = flags_1; value = 0x800 } ∷ []
 flag_entries false = []
 
--- the entries if the string table is at this address; the last is DT_NULL
+-- the entries, if the string table is at this address; the last entry is DT_NULL
 unfoldable pub entries : ℕ → Dynamic → List DynamicEntry
 entries address d =
     text_entries 1 (tagged d)
@@ -56,7 +56,7 @@ entry_count d = length (tagged d) + length (flag_entries d.nodeflib) + 3
 abbrev pub entry_fields : ℕ → DynamicEntry → List Field
 entry_fields w e = (w, e.tag) ∷ (w, e.value) ∷ []
 
--- ---- where the parts are in the file
+-- ---- the offsets of the parts in the file
 
 abbrev pub section_at : ℕ → ℕ
 section_at w = header_length w + 2 * program_header_length w
@@ -76,7 +76,7 @@ size w d = strings_at w d + length (strings d)
 abbrev pub identification : ℕ → List ℕ
 identification class = magic ++ class ∷ 1 ∷ 1 ∷ 0 ∷ 0 ∷ 0 ∷ 0 ∷ 0 ∷ 0 ∷ 0 ∷ 0 ∷ 0 ∷ []
 
--- the rest of the file header, from e_type on; there are no sections and no entry point
+-- The fields of the file header from e_type on. The section fields and the entry point are 0.
 abbrev pub header_fields : ℕ → ℕ → Abi → List Field
 header_fields w etype abi =
     (2, etype)
@@ -101,7 +101,7 @@ header_fields w etype abi =
     ∷ (2, 0)
     ∷ []
 
--- a program header of so many bytes at an offset, which are read only (PF_R)
+-- a program header of a read-only segment (PF_R) with this offset and size
 abbrev pub program_header_fields : ℕ → ℕ → ℕ → ℕ → ℕ → List Field
 program_header_fields w type offset size align =
     (4, type)
@@ -140,7 +140,7 @@ made_of w spec =
 unfoldable pub made : Spec → List ℕ
 made spec = made_of (width spec) spec
 
--- ---- what the file says of itself
+-- ---- the file
 
 abbrev pub object_of : Spec → Object
 object_of spec = record { abi = spec.abi; etype = spec.etype; dynamic = Some spec.dynamic }

@@ -1,4 +1,4 @@
--- Parts of a made file. The clauses of private functions cite these definitions.
+-- Parts of a generated file. Contracts of private functions use these definitions.
 use Rattle.std.specs.Prelude.{◌≡◌, ◌≤◌, ◌<◌, ◌⊎◌, ℕ, ◌+◌, List, length, map, All, Option, IfSome}
 use Rattle.std.specs.List.{flat_map}
 use Rattle.std.specs.Option.{MatchOption}
@@ -19,7 +19,7 @@ IsWidth w = (w ≡ 4) ⊎ (w ≡ 8)
 abbrev pub IsShort : List ℕ → Type 0
 IsShort text = length text < TEXT_LIMIT
 
--- each text is shorter than what is searched for its NUL
+-- each text is shorter than the range that is searched for its NUL
 pub record AreShort (d : Dynamic) : Type 0 where
   pub needed : All IsShort d.needed
   pub soname : IfSome d.soname IsShort
@@ -32,11 +32,11 @@ needed_texts texts = map (λ text. (needed, text)) texts
 unfoldable pub entries_bytes : ℕ → List DynamicEntry → List ℕ
 entries_bytes w es = bytes_of (flat_map (entry_fields w) es)
 
--- the number of these bytes; none if a file can't have so many
+-- the number of these bytes, or None if it is more than a file may have
 abbrev pub IsSizeIfFit : Option ℕ → List ℕ → Type 0
 IsSizeIfFit result bytes = MatchOption result (FILE_MAX < length bytes) (λ n. n ≡ length bytes)
 
--- where the parts are, in a file that isn't too long
+-- the offsets and sizes of the parts, in a file that isn't too long
 pub record IsLayoutOf (l : Layout) (spec : Spec) : Type 0 where
   pub word : IsWidth l.w
   pub of_abi : l.w ≡ width spec

@@ -1,4 +1,4 @@
-//! What can be made.
+//! Checks whether a file can be generated from a spec.
 ghost use Rattle.std.specs.Prelude.{◌≡◌, true};
 ghost use Rattle.std.specs.List.{list_all};
 ghost use Rattle.std.specs.Option.{option_map_or};
@@ -10,7 +10,7 @@ use crate::kinds::Spec;
 use elf_dynamic::TEXT_LIMIT;
 use lib_types::{Text, is_name};
 
-// The most bytes of a text, one less than those that are searched for its NUL.
+// The maximum length of a text in bytes. Its NUL must be within the first `TEXT_LIMIT` bytes.
 const TEXT_MAX: usize = TEXT_LIMIT as usize - 1;
 
 fn is_text(text: &[u8]) -> bool
@@ -43,7 +43,8 @@ fn is_optional_name(name: &Option<Text>) -> bool
     }
 }
 
-/// Whether `make` takes it: `etype` is 2 or 3, no text has a NUL or 65,536 bytes or more, and a soname is a name.
+/// Whether `make` accepts the spec: `etype` is 2 or 3, each text has no NUL and less than `TEXT_LIMIT` bytes, and a soname is
+/// a name.
 #[tactic(auto, unfolding(crate::specs::Made::is_spec))]
 pub fn is_spec(spec: &Spec) -> bool
     ensures { result ≡ is_spec spec.now }

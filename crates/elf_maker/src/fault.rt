@@ -1,4 +1,4 @@
-//! Why no file is made.
+//! Why a file can't be generated.
 ghost use Rattle.std.specs.Prelude.{◌≡◌};
 
 use lib_types::NoMemory;
@@ -7,7 +7,7 @@ use std::alloc::AllocError;
 /// Why `make` returns no file.
 #[derive(Clone, Copy, Debug, PartialEq, Eq)]
 pub enum MakeFault {
-    /// The file would have more bytes than `FILE_MAX`.
+    /// The file would be longer than `FILE_MAX` bytes.
     TooLong,
     NoMemory,
 }

@@ -1,11 +1,11 @@
-//! Numbers one after another, least byte first.
+//! Little-endian numbers, one after another.
 ghost use Rattle.std.specs.Prelude.{◌≡◌, ◌≤◌, ◌++◌, All, OnOk};
 ghost use Rattle.byteorder.specs.Endian.{little_bytes};
 ghost use Rattle.elf_maker.specs.Fields.{bytes_of};
 
 use lib_types::NoMemory;
 
-// How many bytes a number has, and the number.
+// The size of a number in bytes, and the number.
 pub(crate) type Field = (usize, u64);
 
 #[tactic(auto, using(crate::proofs::Numbers::take_bytes))]

@@ -1,4 +1,4 @@
-//! A whole file.
+//! Generates a whole file.
 ghost use Rattle.std.specs.Prelude.{◌≡◌, ◌≤◌, ◌+◌, ◌<◌, ◌++◌, ◌↔◌, true, length, Ok, IfOk, OnOk, IsErrOf};
 ghost use Rattle.lib_types.specs.Abi.{class_of};
 ghost use Rattle.elf_dynamic.specs.Object.{object};
@@ -37,7 +37,7 @@ fn put_identification(out: &mut Vec<u8>, class: u8) -> Result<(), NoMemory>
     Ok(())
 }
 
-// The file header behind the identification.
+// Writes the file header after the identification.
 fn put_header(out: &mut Vec<u8>, w: usize, etype: u16, abi: Abi) -> Result<(), NoMemory>
     requires { IsWidth w }
     ensures { OnOk result (out.new.items ≡ out.old.items ++ bytes_of (header_fields w etype abi)) }
@@ -86,7 +86,7 @@ fn put_program_header(
         out,
         &[
             (4, kind),
-            // p_flags stands here in class 2, and before p_align in class 1.
+            // p_flags is here in class 2, and before p_align in class 1.
             (at_class(w, 0, 4), READABLE),
             (w, offset),
             // p_vaddr and p_paddr
@@ -101,7 +101,7 @@ fn put_program_header(
     )
 }
 
-// All parts in their order.
+// Writes all parts in order.
 #[tactic(auto, using(crate::proofs::Lengths::file_is))]
 fn put_file(out: &mut Vec<u8>, layout: &Layout, spec: &Spec) -> Result<(), NoMemory>
     requires { IsLayoutOf layout.now spec.now }

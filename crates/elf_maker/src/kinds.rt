@@ -1,14 +1,14 @@
-//! What a file is made of.
+//! What a file is generated from.
 use elf_dynamic::kinds::Dynamic;
 use lib_types::Abi;
 
-/// What a made file says of itself.
+/// The contents of a generated file.
 #[derive(Drop)]
 pub struct Spec {
-    /// Gives the class and `e_machine`.
+    /// The ABI, which gives the class and `e_machine`.
     pub abi: Abi,
-    /// `e_type`: 2 of a program at fixed addresses, 3 of a shared object.
+    /// `e_type`: 2 for a program at fixed addresses, 3 for a shared object.
     pub etype: u16,
-    /// What its dynamic section says.
+    /// The contents of its dynamic section.
     pub dynamic: Dynamic,
 }

@@ -1,5 +1,5 @@
-//! How long the parts of a file are, and where they are.
-ghost use Rattle.std.specs.Prelude.{◌≡◌, ◌≤◌, ◌<◌, ◌+◌, ◌^◌, ◌==◌, All, length, map, IfSome};
+//! The offsets and sizes of the parts of a file.
+ghost use Rattle.std.specs.Prelude.{◌≡◌, ◌≤◌, ◌<◌, ◌+◌, ◌*◌, ◌==◌, All, length, map, IfSome};
 ghost use Rattle.std.specs.Option.{MatchOption};
 ghost use Rattle.lib_types.specs.Abi.{class_of};
 ghost use Rattle.elf_headers.specs.Layout.{at_class, word_size};
@@ -13,18 +13,18 @@ use crate::kinds::Spec;
 use elf_dynamic::kinds::Dynamic;
 use lib_types::{Abi, Text};
 
-/// The most bytes of a made file.
+/// The maximum size of a generated file in bytes.
 pub const FILE_MAX: u64 = 1 << 24;
 
-// Where the parts of a file are.
+// The offsets and sizes of the parts of a file.
 #[derive(Clone, Copy)]
 pub(crate) struct Layout {
     // The size of an address.
     pub w: usize,
-    // The offset of the dynamic entries, and how many bytes they have.
+    // The offset of the dynamic entries, and their size in bytes.
     pub section: u64,
     pub section_size: u64,
-    // The offset of the string table, and how many bytes it has.
+    // The offset of the string table, and its size in bytes.
     pub strings: u64,
     pub strings_size: u64,
 }
@@ -37,7 +37,7 @@ fn width_of(abi: Abi) -> usize
     if abi.row().class == 2 { 8 } else { 4 }
 }
 
-// The address of a byte in memory, by its offset.
+// The address in memory of the byte at this offset.
 pub(crate) fn address_of(offset: u64) -> u64
     requires { offset ≤ FILE_MAX }
     ensures { result ≡ offset + base }
@@ -45,14 +45,14 @@ pub(crate) fn address_of(offset: u64) -> u64
     offset + 0x1000
 }
 
-// What the class with addresses of this size has of two numbers.
+// The first number in class 1, the second in class 2.
 pub(crate) fn at_class(w: usize, narrow: usize, wide: usize) -> usize
     ensures { result ≡ at_class w narrow wide }
 {
     if w == 8 { wide } else { narrow }
 }
 
-// The number of bytes of needed texts with their NULs; none if a file can't have so many.
+// The size in bytes of the DT_NEEDED texts with their NULs. None if it is more than a file may have.
 fn size_of_needed(texts: &[Text]) -> Option<u64>
     requires { All IsShort texts.now }
     ensures size { IsSizeIfFit result (ended_texts (needed_texts texts.now)) }
@@ -68,7 +68,7 @@ fn size_of_needed(texts: &[Text]) -> Option<u64>
     Some(size)
 }
 
-// The same of a text that there may be.
+// The same for an optional text.
 fn size_of_optional(text: &Option<Text>) -> u64
     requires { IfSome text.now IsShort }
     ensures size { result ≡ length (ended_texts (tagged_if 0 text.now)) }
@@ -80,12 +80,12 @@ fn size_of_optional(text: &Option<Text>) -> u64
     }
 }
 
-// The number of bytes of the string table; none if a file can't have so many.
+// The size in bytes of the string table. None if it is more than a file may have.
 #[tactic(auto, using(crate::proofs::Steps::strings_length, crate::proofs::Steps::few_texts))]
 fn size_of_strings(dynamic: &Dynamic) -> Option<u64>
     requires { AreShort dynamic.now }
     ensures size { IsSizeIfFit result (strings dynamic.now) }
-    ensures small { IfSome result (λ n. n ≤ 2 ^ 25) }
+    ensures small { IfSome result (λ n. n ≤ 2 * FILE_MAX) }
     ensures few { IfSome result (λ n. length dynamic.now.needed < n) }
 {
     let needed = size_of_needed(dynamic.needed.as_slice())?;
@@ -95,12 +95,12 @@ fn size_of_strings(dynamic: &Dynamic) -> Option<u64>
     Some(1 + needed + others)
 }
 
-// The number of dynamic entries, with the DT_NULL.
+// The number of dynamic entries, including the DT_NULL.
 #[tactic(auto, using(crate::proofs::Steps::tagged_length))]
 fn entry_count(dynamic: &Dynamic) -> u64
-    requires { length dynamic.now.needed ≤ 2 ^ 25 }
+    requires { length dynamic.now.needed ≤ 2 * FILE_MAX }
     ensures count { result ≡ entry_count dynamic.now }
-    ensures few { result ≤ 2 ^ 26 }
+    ensures few { result ≤ 4 * FILE_MAX }
 {
     let texts = u64::from(dynamic.soname.is_some())
         + u64::from(dynamic.rpath.is_some())
@@ -108,7 +108,7 @@ fn entry_count(dynamic: &Dynamic) -> u64
     dynamic.needed.len() as u64 + texts + u64::from(dynamic.nodeflib) + 3
 }
 
-// Where the parts are; none if the file would be too long.
+// The offsets and sizes of the parts. None if the file would be too long.
 #[tactic(auto, using(crate::proofs::Steps::product))]
 pub(crate) fn layout_of(spec: &Spec) -> Option<Layout>
     requires { AreShort spec.now.dynamic }

@@ -1,4 +1,4 @@
-//! Makes ELF files that have a dynamic section and nothing else: libraries and programs for tests and samples.
+//! Generates ELF files that have only a dynamic section: libraries and programs for tests and samples.
 #![tactic(auto)]
 
 mod conditions;

@@ -1,4 +1,4 @@
-//! The dynamic entries.
+//! Writes the dynamic entries.
 ghost use Rattle.std.specs.Prelude.{◌≡◌, ◌≤◌, ◌+◌, ◌++◌, ◌∷◌, [], length, OnOk, IfOk};
 ghost use Rattle.elf_maker.specs.declared.layout.TheConstants.{FILE_MAX};
 ghost use Rattle.elf_maker.specs.Texts.{ended_texts, tagged, tagged_if, strings, text_entries};
@@ -37,7 +37,8 @@ fn put_entry(out: &mut Vec<u8>, w: usize, entry: DynamicEntry) -> Result<(), NoM
     put_fields(out, &[(w, entry.tag), (w, entry.value)])
 }
 
-// The entries of needed texts, of which the first is at this offset of the string table; returns the offset behind them.
+// Writes the entries of the DT_NEEDED texts. The first text is at offset `at` of the string table. Returns the offset after the last
+// text.
 fn put_needed(out: &mut Vec<u8>, w: usize, at: u64, texts: &[Text]) -> Result<u64, NoMemory>
     requires width { IsWidth w }
     requires short { at + length (ended_texts (needed_texts texts.now)) ≤ FILE_MAX }
@@ -59,7 +60,7 @@ fn put_needed(out: &mut Vec<u8>, w: usize, at: u64, texts: &[Text]) -> Result<u6
     Ok(next)
 }
 
-// The same of a text that there may be.
+// The same for an optional text.
 #[tactic(auto, unfolding(crate::specs::Parts::entries_bytes, crate::specs::Fields::bytes_of))]
 fn put_optional(
     out: &mut Vec<u8>,
@@ -80,7 +81,7 @@ fn put_optional(
     Ok(at + text.as_bytes().len() as u64 + 1)
 }
 
-// The entries of all texts.
+// Writes the entries of all texts.
 #[tactic(auto, using(crate::proofs::Steps::tagged_sizes, crate::proofs::Steps::texts_are))]
 fn put_texts(out: &mut Vec<u8>, w: usize, dynamic: &Dynamic) -> Result<(), NoMemory>
     requires width { IsWidth w }
@@ -112,7 +113,7 @@ fn put_flags(out: &mut Vec<u8>, w: usize, nodeflib: bool) -> Result<(), NoMemory
     Ok(())
 }
 
-// All entries, if the string table is at this address and has so many bytes.
+// Writes all entries, for a string table at this address with this size in bytes.
 #[tactic(auto, using(crate::proofs::Steps::strings_size, crate::proofs::Steps::section_is))]
 pub(crate) fn put_section(
     out: &mut Vec<u8>,

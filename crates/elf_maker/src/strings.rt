@@ -1,4 +1,4 @@
-//! The string table.
+//! Writes the string table.
 ghost use Rattle.std.specs.Prelude.{◌≡◌, ◌++◌, ◌∷◌, [], OnOk};
 ghost use Rattle.elf_maker.specs.Texts.{ended_texts, strings, tagged_if};
 ghost use Rattle.elf_maker.specs.Parts.{needed_texts};
@@ -6,7 +6,7 @@ ghost use Rattle.elf_maker.specs.Parts.{needed_texts};
 use elf_dynamic::kinds::Dynamic;
 use lib_types::{NoMemory, Text};
 
-// A text and its NUL.
+// Writes a text and its NUL.
 fn put_text(out: &mut Vec<u8>, text: &[u8]) -> Result<(), NoMemory>
     ensures { OnOk result (out.new.items ≡ out.old.items ++ (text.now ++ 0 ∷ [])) }
 {
@@ -33,7 +33,7 @@ fn put_optional(out: &mut Vec<u8>, text: &Option<Text>) -> Result<(), NoMemory>
     Ok(())
 }
 
-// The empty text, then all others.
+// Writes the empty text, then all others.
 #[tactic(auto, using(crate::proofs::Steps::strings_are))]
 pub(crate) fn put_strings(out: &mut Vec<u8>, dynamic: &Dynamic) -> Result<(), NoMemory>
     ensures { OnOk result (out.new.items ≡ out.old.items ++ strings dynamic.now) }

@@ -1,4 +1,4 @@
-// Made files, byte by byte and field by field. Expected bytes and numbers are written down from the gABI.
+// Synthetic files, byte by byte and field by field. Expected bytes and numbers are from the gABI.
 use elf_samples::{I386_LIBZ, LIBZ, file_of, full, library};
 use lib_types::Abi;
 use std::alloc::Global;
@@ -7,7 +7,7 @@ use std::test::Fail;
 // The strings of a full section.
 const FULL_STRINGS: &[u8] = b"\0libc.so.6\0libm.so.6\0libfull.so.2\0/r\0/run\0";
 
-// The number of so many bytes at an offset, least byte first.
+// The little-endian number of `size` bytes at an offset.
 fn number(bytes: &[u8], at: usize, size: usize) -> Option<u64> {
     let mut value = 0;
     for &byte in bytes.get(at..)?.get(..size)?.iter().rev() {
@@ -35,7 +35,7 @@ fn a_library_for_i386_has_these_bytes(rt: HostRuntime) -> Result<(), Fail> {
     Ok(())
 }
 
-// Whether numbers of this size stand one after another at an offset.
+// Whether these numbers of `size` bytes each follow one another at an offset.
 fn has_numbers(bytes: &[u8], at: usize, size: usize, want: &[u64]) -> bool {
     let mut next = at;
     for &value in want {
@@ -50,7 +50,7 @@ fn has_numbers(bytes: &[u8], at: usize, size: usize, want: &[u64]) -> bool {
     true
 }
 
-// Numbers of one size, each behind the one before, and where they begin.
+// The offset of the first number, the size of each, and the numbers, which follow one another.
 type Fields<'a> = (usize, usize, &'a [u64]);
 
 fn has_fields(bytes: &[u8], fields: &[Fields<'_>]) -> bool {
@@ -62,12 +62,12 @@ fn has_fields(bytes: &[u8], fields: &[Fields<'_>]) -> bool {
     true
 }
 
-// A file with each part of a section.
+// A file whose dynamic section has every part.
 fn full_file(alloc: Global, abi: Abi, etype: u16) -> Result<Vec<u8>, Fail> {
     Ok(file_of(alloc, &full(alloc, abi, etype)?)?)
 }
 
-// An ABI, a type, and the fields that they decide.
+// An ABI, a type, and the fields that depend on them.
 const ABIS: &[(Abi, u16, &[Fields<'_>])] = &[
     (
         Abi::I386,

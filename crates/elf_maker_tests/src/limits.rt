@@ -13,7 +13,7 @@ fn text_of(alloc: Global, size: usize) -> Result<Text, NoMemory> {
     Ok(Text::from_vec(bytes))
 }
 
-// So many texts of 65535 bytes, and one more of this size.
+// `count` texts of 65535 bytes, and one more of this size.
 fn long_texts(alloc: Global, count: usize, size: usize) -> Result<Texts, NoMemory> {
     let mut texts = Texts::new(alloc);
     for _ in 0..count {
@@ -23,7 +23,7 @@ fn long_texts(alloc: Global, count: usize, size: usize) -> Result<Texts, NoMemor
     Ok(texts)
 }
 
-// The length of a file that needs so many texts of 65535 bytes and one more of this size, or none if it is too long.
+// The length of a file with `count` DT_NEEDED of 65535 bytes and one of this size. It is None if the file is too long.
 fn length(alloc: Global, abi: Abi, count: usize, size: usize) -> Result<Option<usize>, Fail> {
     let spec = needing(abi, long_texts(alloc, count, size)?);
     match file_of(alloc, &spec) {
@@ -59,7 +59,7 @@ fn needed_texts_of_2_24_bytes_are_too_many(rt: HostRuntime) -> Result<(), Fail> 
     Ok(())
 }
 
-// Whether a library of this soname is no specification, and has no file.
+// Whether a library with this soname is not a specification, and has no file.
 fn is_no_name(alloc: Global, soname: &str) -> Result<bool, Fail> {
     let spec = library(alloc, Abi::X86_64, soname.as_bytes())?;
     Ok(!is_spec(&spec) && matches!(file_of(alloc, &spec), Err(SampleFault::NoSpec)))
@@ -72,7 +72,7 @@ fn is_type(alloc: Global, etype: u16) -> Result<bool, Fail> {
     Ok(is_spec(&spec))
 }
 
-// Whether an object that needs a text of so many bytes is a specification.
+// Whether an object with a DT_NEEDED of this length is a specification.
 fn is_length(alloc: Global, size: usize) -> Result<bool, Fail> {
     Ok(is_spec(&needing(Abi::X86_64, long_texts(alloc, 0, size)?)))
 }

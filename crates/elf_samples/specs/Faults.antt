@@ -1,4 +1,4 @@
--- Why no file is made.
+-- Why a sample can't be generated.
 use Rattle.elf_maker.specs.declared.fault.MakeFault.{MakeFault}
 use Rattle.elf_maker.specs.declared.fault.MakeFault.TheVariants as make_faults
 use Rattle.elf_samples.specs.declared.fault.SampleFault.{SampleFault}

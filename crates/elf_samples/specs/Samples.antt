@@ -1,9 +1,9 @@
--- The libraries that tests speak of.
+-- The libraries that are used in tests.
 use Rattle.std.specs.Prelude.{ℕ, false, List, [], Some, None}
 use Rattle.lib_types.specs.declared.abi.Abi.{Abi}
 use Rattle.elf_maker.specs.declared.kinds.Spec.{Spec}
 
--- a shared object with a soname alone
+-- a shared object that has only a soname
 abbrev pub library : Abi → List ℕ → Spec
 library abi soname = record {
   abi = abi;

@@ -1,6 +1,6 @@
-//! Two libraries, byte by byte as the gABI lays them out.
+//! Two libraries, written out byte by byte in the layout of the gABI.
 
-/// A shared object of x86-64 whose DT_SONAME is `libz.so.1`, part by part as the gABI has them.
+/// A shared object for x86-64 whose DT_SONAME is `libz.so.1`, part by part in the order of the file.
 pub const LIBZ: [u8; 251] = [
     // identification: 0x7f `ELF`, ELFCLASS64, ELFDATA2LSB, EV_CURRENT
     0x7f, 0x45, 0x4c, 0x46, 2, 1, 1, 0, 0, 0, 0, 0, 0, 0, 0, 0,
@@ -24,7 +24,7 @@ pub const LIBZ: [u8; 251] = [
     0, b'l', b'i', b'b', b'z', b'.', b's', b'o', b'.', b'1', 0,
 ];
 
-/// The same of i386: a shared object of class 1.
+/// The same for i386: a shared object of class 1.
 pub const I386_LIBZ: [u8; 159] = [
     // identification: 0x7f `ELF`, ELFCLASS32, ELFDATA2LSB, EV_CURRENT
     0x7f, 0x45, 0x4c, 0x46, 1, 1, 1, 0, 0, 0, 0, 0, 0, 0, 0, 0,

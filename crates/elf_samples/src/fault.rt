@@ -1,15 +1,15 @@
-//! Why there is no sample.
+//! Why a sample can't be generated.
 ghost use Rattle.std.specs.Prelude.{◌≡◌};
 
 use elf_maker::MakeFault;
 use lib_types::NoMemory;
 
-/// Why no file is made.
+/// Why `file_of` and `library_file` return no file.
 #[derive(Clone, Copy, Debug, PartialEq, Eq)]
 pub enum SampleFault {
-    /// No file says this of itself.
+    /// `elf_maker::is_spec` rejects the spec.
     NoSpec,
-    /// The file would have more bytes than `elf_maker::FILE_MAX`.
+    /// The file would be longer than `elf_maker::FILE_MAX` bytes.
     TooLong,
     NoMemory,
 }

@@ -1,4 +1,4 @@
-//! What files are made of, and the files.
+//! Specs of ELF files, and the files that are generated from them.
 ghost use Rattle.std.specs.Prelude.{◌≡◌, ◌↔◌, ◌<◌, false, length, IfOk, IsErrOf};
 ghost use Rattle.elf_maker.specs.declared.layout.TheConstants.{FILE_MAX};
 ghost use Rattle.elf_maker.specs.Made.{is_spec, made};
@@ -10,7 +10,7 @@ use elf_maker::{Spec, is_spec, make};
 use lib_types::{Abi, NoMemory, Text, Texts};
 use std::alloc::Global;
 
-/// The texts of a list.
+/// A list of these texts.
 pub fn texts(alloc: Global, all: &[&str]) -> Result<Texts, NoMemory> {
     let mut list = Texts::new(alloc);
     for text in all {
@@ -19,7 +19,7 @@ pub fn texts(alloc: Global, all: &[&str]) -> Result<Texts, NoMemory> {
     Ok(list)
 }
 
-/// A shared object with this soname alone.
+/// A shared object that has only this soname.
 pub fn library(alloc: Global, abi: Abi, soname: &[u8]) -> Result<Spec, NoMemory>
     ensures { IfOk result (λ spec. spec ≡ library abi soname.now) }
 {
@@ -36,7 +36,7 @@ pub fn library(alloc: Global, abi: Abi, soname: &[u8]) -> Result<Spec, NoMemory>
     })
 }
 
-/// A file with each part of a dynamic section.
+/// A file with all parts of a dynamic section.
 pub fn full(alloc: Global, abi: Abi, etype: u16) -> Result<Spec, NoMemory>
     ensures abi { IfOk result (λ spec. spec.abi ≡ abi) }
     ensures etype { IfOk result (λ spec. spec.etype ≡ etype) }
@@ -54,7 +54,7 @@ pub fn full(alloc: Global, abi: Abi, etype: u16) -> Result<Spec, NoMemory>
     })
 }
 
-/// A shared object that needs these.
+/// A shared object that needs these libraries.
 pub fn needing(abi: Abi, needed: Texts) -> Spec
     ensures abi { result.abi ≡ abi }
     ensures needed { result.dynamic.needed ≡ needed }
@@ -72,7 +72,7 @@ pub fn needing(abi: Abi, needed: Texts) -> Spec
     }
 }
 
-/// The file that is made of this.
+/// The file that is generated from this spec.
 pub fn file_of(alloc: Global, spec: &Spec) -> Result<Vec<u8>, SampleFault>
     ensures bytes { IfOk result (λ bytes. bytes.items ≡ made spec.now) }
     ensures no_spec { IsErrOf result SampleFault.NoSpec ↔ (is_spec spec.now ≡ false) }
@@ -84,7 +84,7 @@ pub fn file_of(alloc: Global, spec: &Spec) -> Result<Vec<u8>, SampleFault>
     Ok(make(alloc, spec)?)
 }
 
-/// The file of a shared object with this soname alone.
+/// The file of a shared object that has only this soname.
 pub fn library_file(alloc: Global, abi: Abi, soname: &[u8]) -> Result<Vec<u8>, SampleFault>
     ensures bytes { IfOk result (λ bytes. bytes.items ≡ made (library abi soname.now)) }
     ensures no_spec { IsErrOf result SampleFault.NoSpec → is_spec (library abi soname.now) ≡ false }

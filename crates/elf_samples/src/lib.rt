@@ -1,4 +1,4 @@
-//! ELF files for tests, and what they are made of. Two of them stand here byte by byte; tests of the maker compare them.
+//! ELF files for tests, and their specs. Two files are written out byte by byte, so that tests can compare them with the generated files.
 #![tactic(auto)]
 
 mod bytes;

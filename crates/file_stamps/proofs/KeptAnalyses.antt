@@ -1,4 +1,4 @@
--- What is read keeps the analyses that are there, is right, and leaves no file unread.
+-- Reading files keeps the existing analyses, adds right ones, and leaves no file unread.
 use Rattle.std.proofs.Common.{◌≡◌, ◌||◌, ℕ, true, false, cond, List, [], ◌∷◌, refl, ap, sym, subst, ◌∙◌, Option, Some, None}
 use Rattle.std.proofs.lemmas.Slice.Eq.{bytes_eq-Decides}
 use Rattle.std.proofs.lemmas.Cmp.{tied_itself}
@@ -20,7 +20,7 @@ use Rattle.elf_dynamic.specs.Begun.{key_in}
 use Rattle.file_stamps.specs.Reading.{is_in}
 use Rattle.file_stamps.specs.Stamped.{id_at, id_in}
 
--- ---- one analysis more
+-- ---- one more analysis
 
 pub analysis_put : (rows : Rows) (path : List ℕ) (analysis : Analysis) → analysis_at (with_analysis rows path analysis) path ≡ Some analysis
 analysis_put [] path analysis = rw ((bytes_eq-Decides path path).1 refl) refl
@@ -37,7 +37,7 @@ analysis_other (e ∷ rows) path q analysis other = by_test (bytes_eq path e.0)
     rw (h, differs) refl)
     (λ h. rw h (ap (λ o. cond (bytes_eq q e.0) (Some e.1) o) (analysis_other rows path q analysis other)))
 
--- a file that had no analysis gets one
+-- adding a row for a path without analysis keeps the analyses
 pub kept_with : (rows : Rows) (path : List ℕ) (analysis : Analysis) → analysis_at rows path ≡ None → KeepsAnalyses (analysis_at rows) (analysis_at (with_analysis rows path analysis))
 kept_with rows path analysis none q there = by_test (bytes_eq q path)
     (λ h.
@@ -49,7 +49,7 @@ module _ (t : Nodes) where
   abbrev key_by : Nodes → List ℕ → Option Analysis → Option (List ℕ)
   key_by t path analysis = cond (is_none analysis) (key_in (node_at t path)) None
 
-  -- its key shows that it had no analysis, and is that of its node
+  -- the file's unread key is its node's key, so it had no analysis
   pub had_none : (what : Analyses) (path key : List ℕ) → unread_key t what path ≡ Some key → what path ≡ None
   had_none what path key e = elim (what path) as (λ o. key_by t path o ≡ Some key → o ≡ None)
       [ None ↦ λ h. refl | Some a ↦ λ h. absurd (cc) ] e
@@ -58,7 +58,7 @@ module _ (t : Nodes) where
   key_there what path key e = elim (what path) as (λ o. key_by t path o ≡ Some key → key_in (node_at t path) ≡ Some key)
       [ None ↦ λ h. h | Some a ↦ λ h. absurd (cc) ] e
 
-  -- a file of the tree
+  -- a file of the tree without analysis has its own key as unread key
   pub file_unread : (what : Analyses) (file : FoundFile) → IsFileOf t file → what file.path ≡ None → unread_key t what file.path ≡ Some file.key
   file_unread what file is none = ap (key_by t file.path) none ∙ ap key_in is
 
@@ -68,7 +68,7 @@ module _ (t : Nodes) where
   pub read_then : (rows : Rows) (path : List ℕ) (analysis : Analysis) → unread_key t (analysis_at (with_analysis rows path analysis)) path ≡ None
   read_then rows path analysis = ap (key_by t path) (analysis_put rows path analysis)
 
-  -- what was read stays read
+  -- a file that was read stays read
   pub still_read : (what new : Analyses) (q : List ℕ) → KeepsAnalyses what new → unread_key t what q ≡ None → unread_key t new q ≡ None
   still_read what new q keeps e = by_test (is_some (what q))
       (λ h. ap (key_by t q) (keeps q h) ∙ e)
@@ -79,7 +79,7 @@ module _ (t : Nodes) where
 
 -- ---- the files after the first
 
--- texts that differ, in the other order
+-- inequality of texts is symmetric
 pub turned : (a b : List ℕ) → bytes_eq a b ≡ false → bytes_eq b a ≡ false
 turned a b h = by_test (bytes_eq b a)
     (λ e. let z : true ≡ false = sym ((bytes_eq-Decides a b).1 (sym ((bytes_eq-Decides b a).0 e))) ∙ h in absurd (cc))
@@ -88,7 +88,7 @@ turned a b h = by_test (bytes_eq b a)
 abbrev AreOthers : List ℕ → Analyses → Analyses → Type 0
 AreOthers path what new = (other : List ℕ) → bytes_eq other path ≡ false → new other ≡ what other
 
--- they don't depend on it
+-- the other files' unread paths don't depend on this file's analysis
 pub unread_others : (what new : Analyses) (path : List ℕ) (paths : List (List ℕ)) → AreOthers path what new → is_in paths path ≡ false → unread new paths ≡ unread what paths
 unread_others what new path [] same out = refl
 unread_others what new path (q ∷ paths) same out = by_test (bytes_eq path q)
@@ -97,7 +97,7 @@ unread_others what new path (q ∷ paths) same out = by_test (bytes_eq path q)
     let rest = unread_others what new path paths same (sym (ap (λ b. b || is_in paths path) h) ∙ out) in
     rw (same q (turned path q h)) (ap (λ l. cond (is_none (what q)) (q ∷ l) l) rest))
 
--- none of the texts after one is the same
+-- in a strictly sorted list the first path doesn't occur again
 pub not_behind : (path : List ℕ) (paths : List (List ℕ)) → IsStrictlySortedBy (slice_cmp nat_cmp) (path ∷ paths) → is_in paths path ≡ false
 unfolding IsStrictlySortedBy
 not_behind path paths sorted = later paths sorted.0

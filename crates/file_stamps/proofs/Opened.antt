@@ -30,11 +30,11 @@ use Rattle.file_stamps.specs.Said.{said_by, said_in, stamps_before, stamps_said}
 use Rattle.file_stamps.specs.Stamped.{StampTheSame, id_at, of_stamp, stamp_at, stamp_by, stamp_for, stamps_at, with_stamps}
 use Rattle.file_stamps.specs.declared.files.Files.{Files}
 
--- the stamps are there as well if others come after both
+-- appending the same stamps to both lists keeps them alike
 pub more_alike : (xs ys more : List Stamp) → StampTheSame xs ys → StampTheSame (xs ++ more) (ys ++ more)
 more_alike xs ys more alike id = stamp_of_both xs more id ∙ ap (λ o. first_of o (stamp_of more id)) (alike id) ∙ sym (stamp_of_both ys more id)
 
--- so is the stamp of a file's identity
+-- alike lists have the same stamp for a file's identity
 pub for_alike : (t : Nodes) (xs ys : List Stamp) (path : List ℕ) → StampTheSame xs ys → stamp_for xs t path ≡ stamp_for ys t path
 for_alike t xs ys path alike = by (id_at t path)
   where
@@ -55,13 +55,13 @@ module _ (held : Contents) (t : Nodes) where
   stamps_both : (xs ys : List (List ℕ)) → stamps_at held t (xs ++ ys) ≡ stamps_at held t xs ++ stamps_at held t ys
   stamps_both xs ys = filter_map-append (stamp_at held t) xs ys
 
-  -- ---- what is made of files, file by file
+  -- ---- a result for each file, computed file by file
 
   module _ (X : Type 0) (f : List Stamp → List ℕ → Option X) where
     abbrev turns : List Stamp → List (List ℕ) → List X
     turns stamps paths = by_turn held t f stamps paths
 
-    -- only the stamps of the identities count
+    -- a result depends only on the stamps of each identity
     turns_alike : ((xs ys : List Stamp) (path : List ℕ) → StampTheSame xs ys → f xs path ≡ f ys path) → (xs ys : List Stamp) (paths : List (List ℕ)) → StampTheSame xs ys → turns xs paths ≡ turns ys paths
     turns_alike respects xs ys [] alike = refl
     turns_alike respects xs ys (path ∷ paths) alike =
@@ -104,7 +104,7 @@ module _ (held : Contents) (t : Nodes) where
       by true = refl
       by false = refl
 
-  -- ---- what files are said to be, file by file
+  -- ---- the analyses from stamps or contents, file by file
 
   keeps_said : (what new : Analyses) → KeepsAnalyses what new → (stamps : List Stamp) (paths : List (List ℕ)) → AreSaid held t stamps paths what → AreSaid held t stamps paths new
   keeps_said what new keeps stamps [] said = tt
@@ -123,7 +123,7 @@ module _ (held : Contents) (t : Nodes) where
   said_append what stamps (x ∷ xs) ys (is, rest) next =
       (is, said_append what (stamps ++ stamps_at held t (x ∷ [])) xs ys rest (subst (λ (l : List Stamp). AreSaid held t l ys what) (sym (stamps_behind stamps x xs)) next))
 
-  -- one reading after another
+  -- two consecutive readings compose
   pub opened_then : (loaded : List Stamp) (xs ys ks ls : List (List ℕ)) (a b c : Files) → KeepsAnalyses (analysis_at b.table) (analysis_at c.table)
       → HasOpened held t loaded xs ks a b → HasOpened held t loaded ys ls b c → HasOpened held t loaded (xs ++ ys) (ks ++ ls) a c
   opened_then loaded xs ys ks ls a b c keeps first next =
@@ -147,7 +147,7 @@ module _ (held : Contents) (t : Nodes) where
             (are_said_alike (analysis_at c.table) (loaded ++ b.stamps) behind ys first.stamped next.said);
       }
 
-  -- ---- the stamps ahead of a file
+  -- ---- the stamps of the files before a given file
 
   take_more : (n : ℕ) (y : List ℕ) (ys : List (List ℕ)) → take (1 + n) (y ∷ ys) ≡ y ∷ take n ys
   take_more n y ys = let e : 1 + n ≡ suc n = omega arith in ap (λ k. take k (y ∷ ys)) e
@@ -158,7 +158,7 @@ module _ (held : Contents) (t : Nodes) where
   first_later : (x y : List ℕ) (ys : List (List ℕ)) → bytes_eq x y ≡ false → before_first (bytes_eq x) (y ∷ ys) ≡ y ∷ before_first (bytes_eq x) ys
   first_later x y ys e = ap (λ b. take (cond (not b) (1 + position_or_len (bytes_eq x) ys) 0) (y ∷ ys)) e ∙ take_more (position_or_len (bytes_eq x) ys) y ys
 
-  -- a path among the first of two lists, or not
+  -- the first occurrence of a path in two joined lists
   pub before_front : (x : List ℕ) (xs ys : List (List ℕ)) → is_in xs x ≡ true → before_first (bytes_eq x) (xs ++ ys) ≡ before_first (bytes_eq x) xs
   before_front x [] ys there = absurd (cc)
   before_front x (y ∷ xs) ys there = by_test (bytes_eq x y)
@@ -186,7 +186,7 @@ module _ (held : Contents) (t : Nodes) where
       (λ e. let z : true ≡ false = sym there ∙ ap (λ p. is_in xs p) ((bytes_eq-Decides q x).0 e) ∙ out in absurd (cc))
       (λ e. e)
 
-  -- files of which some were read, and of which the others come in their order
+  -- some of the files were read, and the others follow in order
   module _ (stamps : List Stamp) (all : List (List ℕ)) where
     record AreLeft (ahead rest : List (List ℕ)) : Type 0 where
       whole : all ≡ ahead ++ rest

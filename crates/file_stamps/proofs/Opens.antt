@@ -1,4 +1,4 @@
--- How many files are opened, if files of equal identity have equal content.
+-- The number of files that are opened, assuming that equal identities imply equal contents.
 use Rattle.std.proofs.Common.{◌≡◌, ◌+◌, ◌++◌, ◌||◌, ℕ, Bool, true, false, cond, not, List, [], ◌∷◌, filter, length, refl, ap, sym, ◌∙◌, arith, Option, Some, None}
 use Rattle.std.proofs.lemmas.List.{append-nil}
 use Rattle.std.specs.List.{cons_option}
@@ -60,7 +60,7 @@ one None e = absurd (cc)
 one (Some x) e = refl
 
 module _ (held : Contents) (t : Nodes) (same : AreSame held t t) (stamps : List Stamp) where
-  -- a file with the identity of a library is one
+  -- a file with the same identity as a library is a library
   alike : (p q : List ℕ) (s : Stamp) → stamp_at held t p ≡ Some s → id_at t q ≡ Some s.id → is_some (stamp_at held t q) ≡ true
   alike p q s is at =
       let id : id_at t p ≡ Some s.id = stamp_id (id_at t p) (what_is held t p) s is in
@@ -69,7 +69,7 @@ module _ (held : Contents) (t : Nodes) (same : AreSame held t t) (stamps : List 
       ∙ ap (λ o. is_some (stamp_by (Some s.id) (option_map analysis o))) content
       ∙ library_too (id_at t p) s.id (what_is held t p) s is
 
-  -- all stamps at the turn of a file, and the stamps that were made
+  -- `all` are the stamps when the file's turn comes, `made` those that were made before
   record Made (all made : List Stamp) : Type 0 where
     stamped : (id : Id) → is_stamped all id ≡ (is_stamped stamps id || is_stamped made id)
     libraries : (id : Id) → is_stamped made id ≡ true → (q : List ℕ) → id_at t q ≡ Some id → is_some (stamp_at held t q) ≡ true
@@ -85,7 +85,7 @@ module _ (held : Contents) (t : Nodes) (same : AreSame held t t) (stamps : List 
     abbrev next : List Stamp
     next = all ++ stamps_at held t (p ∷ [])
 
-    -- the identity of a file with a stamp stays so
+    -- a file without a stamp of its own adds no stamp
     none_more : stamp_at held t p ≡ None → Made next made
     none_more e = record {
       stamped = λ id. ap (λ o. is_stamped (all ++ cons_option o []) id) e ∙ ap (λ l. is_stamped l id) (append-nil all) ∙ m.stamped id;
@@ -121,13 +121,13 @@ module _ (held : Contents) (t : Nodes) (same : AreSame held t t) (stamps : List 
     keyed : (b : Bool) → is_none (stamp_for all t p) ≡ b → length (opened_by held t all (p ∷ paths)) ≡ length (opened_by held t next paths) + number_of (cond b (key_in (node_at t p)) None)
     keyed b e = ap (λ b. length (cons_option (cond b (key_in (node_at t p)) None) (opened_by held t next paths))) e ∙ length_cons (cond b (key_in (node_at t p)) None) (opened_by held t next paths)
 
-    -- it has a stamp that was there before
+    -- a stamp of its identity was there at the start
     stamped_before : is_none (stamp_for stamps t p) ≡ false → is_none (stamp_for all t p) ≡ false → IsCounted made → Counts
     stamped_before u z counted =
         let key : length (opened_by held t all (p ∷ paths)) ≡ length (opened_by held t next paths) + 0 = keyed false z in
         omega (arith, key, files_stamped u, stamps_stamped u, counted)
 
-    -- it is opened and makes no stamp
+    -- the file is opened and makes no stamp
     opened_one : is_none (stamp_for stamps t p) ≡ true → is_none (stamp_for all t p) ≡ true → stamp_at held t p ≡ None → IsCounted made → Counts
     opened_one u z e counted =
         let key : length (opened_by held t all (p ∷ paths)) ≡ length (opened_by held t next paths) + number_of (key_in (node_at t p)) = keyed true z in
@@ -136,7 +136,7 @@ module _ (held : Contents) (t : Nodes) (same : AreSame held t t) (stamps : List 
         let none : stamp_count ≡ length (with_stamps made (stamps_at held t rest)) = stamps_with None u e in
         omega (arith, key, files, none, counted)
 
-    -- it is a library; a stamp was made of its identity, or is made of it
+    -- the file is a library; its identity has a stamp, or gets one now
     library : (s : Stamp) (z : Bool) (n : ℕ) → is_none (stamp_for stamps t p) ≡ true → is_none (stamp_for all t p) ≡ z → stamp_at held t p ≡ Some s
         → number_of (cond z (key_in (node_at t p)) None) ≡ n → length (put made s) ≡ length made + n → IsCounted (put made s) → Counts
     library s z n u e is keys more counted =
@@ -145,7 +145,7 @@ module _ (held : Contents) (t : Nodes) (same : AreSame held t t) (stamps : List 
         let one_more : stamp_count ≡ length (with_stamps (put made s) (stamps_at held t rest)) = stamps_with (Some s) u is in
         omega (arith, key, files, one_more, more, counted)
 
-    -- ---- what was made then
+    -- ---- the stamps after the file's turn
 
     moved : (s : Stamp) (a b c : Bool) → ((a || b) || is_some (cond c (Some s) None)) ≡ (a || (c || b))
     moved s true b c = refl
@@ -198,7 +198,7 @@ module _ (held : Contents) (t : Nodes) (same : AreSame held t t) (stamps : List 
           let no_stamp : stamp_at held t p ≡ None = ap (λ i. stamp_by i (what_is held t p)) e in
           opened_one (ap (λ i. is_none (option_and_then (stamp_of stamps) i)) e) (ap (λ i. is_none (option_and_then (stamp_of all) i)) e) no_stamp (counted made (none_more no_stamp))
 
-      -- no stamp of its identity was there before
+      -- its identity had no stamp at the start
       new_identity : (i : Id) → id_at t p ≡ Some i → is_stamped stamps i ≡ false → (o : Option Stamp) → stamp_at held t p ≡ o → Counts
       new_identity i at new None is = by_test (is_stamped made i)
           (λ there. let z : true ≡ false = sym (m.libraries i there p at) ∙ ap is_some is in absurd (cc))

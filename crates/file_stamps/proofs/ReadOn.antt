@@ -1,4 +1,4 @@
--- The reading of files goes on with the next one.
+-- The step from one read file to the next.
 use Rattle.std.proofs.Common.{◌≡◌, ◌≤◌, ◌+◌, ◌++◌, ◌||◌, ℕ, Bool, true, false, cond, List, [], ◌∷◌, length, refl, ap, sym, subst, ◌∙◌, arith, append_assoc, Option, Some, None}
 use Rattle.std.proofs.lemmas.List.{append-nil, length-append}
 use Rattle.std.proofs.lemmas.List.Elements.{filter-append, filter_map-append}
@@ -39,7 +39,7 @@ use Rattle.file_stamps.specs.declared.files.Files.{Files}
 keeps_on : (table now new : List ℕ → Option _) → KeepsAnalyses table now → KeepsAnalyses now new → KeepsAnalyses table new
 keeps_on table now new first second q there = second q (ap is_some (first q there) ∙ there) ∙ first q there
 
--- ---- the largest number of files
+-- ---- the largest number of opened files
 
 until_short : (held : Contents) (ks : List (List ℕ)) → length (until_lacking held ks) ≤ length ks
 until_short held [] = omega arith
@@ -54,7 +54,7 @@ most_begun None ks n e old new reads less = raised-mono _ _ _ _ less reads.begun
 most_begun (Some held) ks n e old new reads less = let short = until_short held ks in raised-mono _ _ _ _ (omega (arith, short, less)) reads.begun
 
 module _ (t : Nodes) (loaded : List Stamp) (known : Option Contents) (all : List (List ℕ)) where
-  -- of one file
+  -- at most one key for one file
   few_one : (stamps : List Stamp) (what : Analyses) (path : List ℕ) → length (keys_opened t stamps what path) ≤ length (file_keys t (unread what (path ∷ [])))
   few_one stamps what path = by (is_none (what path)) (is_none (stamp_for stamps t path)) (key_in (node_at t path)) refl
     where
@@ -115,7 +115,7 @@ module _ (t : Nodes) (loaded : List Stamp) (known : Option Contents) (all : List
       sorted = sorted_tail _ path rest so_far.sorted;
     }
 
-    -- ---- the reading ends with this file
+    -- ---- the reading fails at this file
 
     abbrev those_left : List (List ℕ)
     those_left = unread (analysis_at now.table) rest
@@ -198,7 +198,7 @@ module _ (t : Nodes) (loaded : List Stamp) (known : Option Contents) (all : List
     pub all_most : after.begun ≤ raised before.begun (length (file_keys t todo))
     all_most = most_begun known so_far.keys _ Complete before after so_far.reads few_all
 
-    -- what follows if contents are known
+    -- the facts that hold if contents are known
     with_known : (P : Contents → Type 0) → ((held : Contents) → HasOpened held t loaded so_far.ahead so_far.keys old new → lacks_one held so_far.keys ≡ false → P held) → IfKnown known P
     with_known P f = by known so_far.opened so_far.none_lacks
       where
@@ -234,7 +234,7 @@ module _ (t : Nodes) (loaded : List Stamp) (known : Option Contents) (all : List
         by None opened reads = reads_fewer ⊥ ⊥ (Some so_far.keys) None Complete before after (λ l. l) reads
         by (Some held) opened reads = subst (λ keys. ReadsBy (Some held) keys Complete before after) (keys_all held opened) reads
 
-  -- no file is read yet
+  -- before the first file
   pub none_read : (old : Files) (s : StoreState) → IsStrictlySortedBy (slice_cmp nat_cmp) all → HasRead t loaded known all all old old s s
   none_read old s sorted = record {
     ahead = [];

@@ -1,4 +1,4 @@
--- The reading of one file that has no analysis yet.
+-- Reading one file that has no analysis yet.
 use Rattle.std.proofs.Common.{◌≡◌, ◌+◌, ◌++◌, ◌||◌, ℕ, false, cond, List, [], ◌∷◌, length, refl, ap, sym, subst, ◌∙◌, arith, Option, Some, None}
 use Rattle.std.proofs.lemmas.List.{append-nil, map-append}
 use Rattle.std.specs.List.{cons_option}
@@ -53,7 +53,7 @@ module _ (t : Nodes) (loaded : List Stamp) (path key : List ℕ) (old : Files) (
         ap (λ o. option_map analysis (option_and_then held o)) there
         ∙ elim (held key) as (λ o. IsSomeAnd o (λ bytes. analysis bytes ≡ a) → option_map analysis o ≡ Some a) [ None ↦ λ h. absurd h | Some bytes ↦ λ h. ap Some h ] c
 
-    -- it is said to be what was found
+    -- the analysis that was found is that of the stamp, or else that of the content
     found_said : (o : Option Stamp) → IsFoundBy (Some held) key o a before after → option_or (option_map of_stamp o) (what_is held t path) ≡ Some a
     found_said None found = content found.0
     found_said (Some s) found = ap Some (sym found.0)
@@ -62,14 +62,14 @@ module _ (t : Nodes) (loaded : List Stamp) (path key : List ℕ) (old : Files) (
     held_keys None found = elim (held key) as (λ o. IsSomeAnd o (λ bytes. analysis bytes ≡ a) → (is_none o || false) ≡ false) [ None ↦ λ h. absurd h | Some bytes ↦ λ h. refl ] found.0
     held_keys (Some s) found = refl
 
-    -- ---- which identities have stamps then
+    -- ---- the identities that have stamps afterwards
 
     stamp_of_id : (i : Id) (what : Option Analysis) → IfSome (stamp_by (Some i) what) (λ s. s.id ≡ i)
     stamp_of_id i None = tt
     stamp_of_id i (Some (Lib abi soname)) = refl
     stamp_of_id i (Some (Not defect)) = tt
 
-    -- a stamp of an identity without one is that of the content
+    -- if the identity has no stamp, the new stamp is made from the content
     new_stamp : (i : Id) → stamp_of here i ≡ None → what_is held t path ≡ Some a
         → StampTheSame (loaded ++ with_stamps old.stamps (cons_option (stamp_by (Some i) (Some a)) [])) (here ++ cons_option (stamp_by (Some i) (what_is held t path)) [])
     new_stamp i none is id =
@@ -78,7 +78,7 @@ module _ (t : Nodes) (loaded : List Stamp) (path key : List ℕ) (old : Files) (
         [ None ↦ λ h. tt | Some s ↦ λ h. ap (stamp_of here) h ∙ none ] (stamp_of_id i (Some a))) id
         ∙ ap (λ what. stamp_of (here ++ cons_option (stamp_by (Some i) what) []) id) (sym is)
 
-    -- and one of an identity with a stamp is that stamp
+    -- if the identity has a stamp, the new stamp is equal to it
     same_stamp : (i : Id) (s : Stamp) → stamp_of here i ≡ Some s → a ≡ of_stamp s
         → StampTheSame (loaded ++ with_stamps old.stamps (cons_option (stamp_by (Some i) (Some a)) [])) (here ++ cons_option (stamp_by (Some i) (what_is held t path)) [])
     same_stamp i s there is id =

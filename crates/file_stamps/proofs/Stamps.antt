@@ -1,4 +1,4 @@
--- Stamps that are loaded, made before, and made of a file.
+-- Stamps that were loaded, stamps that were made before, and the stamp of a file.
 use Rattle.std.proofs.Common.{◌≡◌, ◌++◌, ◌||◌, Bool, true, false, cond, List, [], ◌∷◌, Option, Some, None, refl, ap, sym, subst, ◌∙◌}
 use Rattle.std.proofs.lemmas.List.{append-nil}
 use Rattle.std.specs.List.{cons_option}
@@ -14,7 +14,7 @@ use Rattle.lib_types.specs.declared.analysis.Analysis.TheVariants.{Lib, Not}
 use Rattle.file_stamps.specs.Reading.{is_stamped}
 use Rattle.file_stamps.specs.Stamped.{StampTheSame, of_stamp, stamp_by, with_stamps}
 
--- ---- what is found
+-- ---- lookup of a stamp
 
 pub found_first : (xs ys : List Stamp) (id : Id) (s : Stamp) → Some s ≡ stamp_of xs id → Some s ≡ stamp_of (xs ++ ys) id
 found_first xs ys id s e = sym (stamp_of_both xs ys id ∙ ap (λ o. first_of o (stamp_of ys id)) (sym e))
@@ -31,7 +31,7 @@ abbrev given : Stamp → Option Stamp → Stamp
 given s None = s
 given s (Some x) = x
 
--- a file with a stamp has its identity, and is what it says
+-- the stamp of a file has the file's identity and its analysis
 pub stamp_by_id : (id : Option Id) (what : Analysis) (s : Stamp) → stamp_by id (Some what) ≡ Some s → id ≡ Some s.id
 stamp_by_id None what s e = absurd (cc)
 stamp_by_id (Some id) (Lib abi soname) s e = ap (λ o. option_map (λ (x : Stamp). x.id) o) e
@@ -42,7 +42,7 @@ stamp_by_says None what s e = absurd (cc)
 stamp_by_says (Some id) (Lib abi soname) s e = ap (λ o. of_stamp (given s o)) e
 stamp_by_says (Some id) (Not defect) s e = absurd (cc)
 
--- ---- which identities have stamps
+-- ---- the identities that have stamps
 
 pub stamped_both : (xs ys : List Stamp) (id : Id) → is_stamped (xs ++ ys) id ≡ (is_stamped xs id || is_stamped ys id)
 stamped_both xs ys id = some_of_both xs ys id
@@ -54,7 +54,7 @@ stamped_put xs s id = ap is_some (stamp_of_put xs s id) ∙ by (is_same id s.id)
     by true o = refl
     by false o = refl
 
--- a stamp that is found has the identity
+-- the lookup of an identity finds a stamp with this identity
 pub found_id : (xs : List Stamp) (id : Id) (s : Stamp) → stamp_of xs id ≡ Some s → id ≡ s.id
 found_id [] id s e = absurd (cc)
 found_id (x ∷ xs) id s e = by_test (is_same id x.id)
@@ -63,7 +63,7 @@ found_id (x ∷ xs) id s e = by_test (is_same id x.id)
     same_is id x.id here ∙ ap (λ o. (given s o).id) first)
     (λ other. found_id xs id s (sym (ap (λ b. cond b (Some x) (stamp_of xs id)) other) ∙ e))
 
--- a stamp of a new identity is put among those that were made: that is as if it came after all
+-- inserting a stamp of a new identity into the made stamps has the same lookups as appending it to all stamps
 pub stamped_more : (loaded made : List Stamp) (o : Option Stamp) → IfSome o (λ s. stamp_of (loaded ++ made) s.id ≡ None)
     → StampTheSame (loaded ++ with_stamps made (cons_option o [])) ((loaded ++ made) ++ cons_option o [])
 stamped_more loaded made None new id = ap (λ l. stamp_of l id) (sym (append-nil (loaded ++ made)))
@@ -81,7 +81,7 @@ stamped_more loaded made (Some s) new id =
     by None (Some u) true none = let z : Some u ≡ None = none refl in absurd (cc)
     by None (Some u) false none = refl
 
--- the stamp of an identity that has this one is put among those that were made
+-- inserting an equal stamp of an identity that has one changes no lookup
 pub stamped_again : (loaded made : List Stamp) (s : Stamp) → stamp_of (loaded ++ made) s.id ≡ Some s → StampTheSame (loaded ++ put made s) (loaded ++ made)
 stamped_again loaded made s there id =
     stamp_of_both loaded (put made s) id
@@ -94,7 +94,7 @@ stamped_again loaded made s there id =
     by None b true is = sym (is refl)
     by None b false is = refl
 
--- a stamp of that identity that comes after all doesn't count
+-- a stamp of an identity that has one changes no lookup if it is appended
 pub stamped_late : (stamps : List Stamp) (i : Id) (o : Option Stamp) → is_stamped stamps i ≡ true → IfSome o (λ s. s.id ≡ i) → StampTheSame (stamps ++ cons_option o []) stamps
 stamped_late stamps i None there of_it id = ap (λ l. stamp_of l id) (append-nil stamps)
 stamped_late stamps i (Some s) there of_it id =
@@ -105,6 +105,6 @@ stamped_late stamps i (Some s) there of_it id =
     by None true is = let z : false ≡ true = is refl in absurd (cc)
     by None false is = refl
 
--- a stamp of an identity that has one
+-- the same identities have stamps after appending such a stamp
 pub stamped_twice : (stamps : List Stamp) (i : Id) (o : Option Stamp) (id : Id) → is_stamped stamps i ≡ true → IfSome o (λ s. s.id ≡ i) → is_stamped (stamps ++ cons_option o []) id ≡ is_stamped stamps id
 stamped_twice stamps i o id there of_it = ap is_some (stamped_late stamps i o there of_it id)

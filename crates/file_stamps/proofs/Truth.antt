@@ -1,4 +1,4 @@
--- Stamps that are made of files are true of each tree with the same contents, and true stamps hide no file that isn't held.
+-- Stamps made from files are true for each tree with the same contents. True stamps hide no file that can't be read.
 use Rattle.std.proofs.Common.{◌≡◌, ◌||◌, ◌++◌, ℕ, Bool, true, false, cond, List, [], ◌∷◌, Option, Some, None, refl, ap, sym, subst, ◌∙◌}
 use Rattle.std.specs.List.{before_first, cons_option}
 use Rattle.std.specs.Option.{is_none, is_some, option_and_then, option_map, option_or}
@@ -22,10 +22,10 @@ use Rattle.file_stamps.specs.Reading.{opened_by}
 use Rattle.file_stamps.specs.Said.{said_by, said_in, stamps_before}
 use Rattle.file_stamps.specs.Stamped.{AreSame, AreTrue, content_of, id_at, of_stamp, stamp_at, stamp_by, stamp_for, stamps_at, stamps_of, with_stamps}
 
--- ---- stamps that tell the truth, by identities
+-- ---- true stamps, stated for each identity
 
 module _ (held : Contents) (u : Nodes) where
-  -- each file of this identity is what the stamp says, if there is one
+  -- if there is a stamp, each file of this identity is what the stamp says
   abbrev Tells : Id → Option Stamp → Type 0
   Tells id o = IfSome o (λ s. (path : List ℕ) → id_at u path ≡ Some id → what_is held u path ≡ Some (of_stamp s))
 
@@ -67,7 +67,7 @@ module _ (held : Contents) (u : Nodes) where
       by true same = subst (λ (i : Id). Tells i (Some s)) (sym (same refl)) one
       by false same = tell id
 
-  -- ---- the stamps of files of a tree with the same contents
+  -- ---- stamps of files, in a tree with the same contents
 
   module _ (t : Nodes) (same : AreSame held t u) where
     one_tells : (path : List ℕ) (s : Stamp) → stamp_at held t path ≡ Some s → Tells s.id (Some s)
@@ -102,19 +102,19 @@ module _ (held : Contents) (u : Nodes) where
         by None is rest = rest made tell
         by (Some s) is rest = rest (put made s) (put_tells made s tell (one_tells path s is))
 
-    -- true stamps, and those that are made of these files
+    -- true stamps followed by the stamps of these files are true
     pub true_behind : (stamps : List Stamp) (paths : List (List ℕ)) → AreTrue held u stamps → AreTrue held u (stamps ++ stamps_at held t paths)
     true_behind stamps paths are =
         are_true (stamps ++ stamps_at held t paths) (both_tell stamps (stamps_at held t paths) (tell_true stamps are) (stamps_tell paths))
 
-    -- those that are made of these files
+    -- the stamps of these files are true
     pub true_made : (paths : List (List ℕ)) → AreTrue held u (stamps_of held t paths)
     true_made paths = are_true (stamps_of held t paths) (with_tell [] paths (λ id. tt))
 
--- ---- what is said is what is
+-- ---- the analysis from stamps is that of the content
 
 module _ (held : Contents) (t : Nodes) where
-  -- by true stamps
+  -- for true stamps
   said_true : (stamps : List Stamp) → AreTrue held t stamps → (path : List ℕ) → said_by held t stamps path ≡ what_is held t path
   said_true stamps are path = by (stamp_for stamps t path) (are path)
     where
@@ -122,12 +122,12 @@ module _ (held : Contents) (t : Nodes) where
       by None says = refl
       by (Some s) says = sym says
 
-  -- by the stamps that are loaded, if they are true, and those of the libraries read before, if files of equal identity have equal content
+  -- for true loaded stamps and the stamps of the libraries read before, assuming that equal identities imply equal contents
   pub said_right : AreSame held t t → (loaded : List Stamp) → AreTrue held t loaded → (paths : List (List ℕ)) (path : List ℕ) → said_in held t loaded paths path ≡ what_is held t path
   said_right same loaded are paths path =
       said_true (stamps_before held t loaded paths path) (true_behind held t t same loaded (before_first (bytes_eq path) paths) are) path
 
--- ---- files that aren't held
+-- ---- files whose content isn't held
 
 module _ (held : Contents) where
   abbrev lacks : Option (List ℕ) → Bool
@@ -139,7 +139,7 @@ module _ (held : Contents) where
   lacks_more (Some key) keys = refl
 
   module _ (t : Nodes) where
-    -- a file with a true stamp is held
+    -- the content of a file with a true stamp is held
     none_hidden : (o : Option Stamp) (key : Option (List ℕ)) → IfSome o (λ s. option_map analysis (option_and_then held key) ≡ Some (of_stamp s))
         → lacks (cond (is_none o) key None) ≡ lacks key
     none_hidden None key says = refl
@@ -155,7 +155,7 @@ module _ (held : Contents) where
         ∙ ap (λ b. lacks (key_in (node_at t path)) || b) (lack_the_same same next paths (true_behind held t t same stamps (path ∷ []) are))
         ∙ sym (lacks_more (key_in (node_at t path)) (file_keys t paths))
 
-    -- If stamps are true, all files are held exactly if all that are opened are.
+    -- With true stamps, all files' contents are held exactly if the contents of all opened files are.
     pub opened_lack_the_same : AreSame held t t → (stamps : List Stamp) (paths : List (List ℕ)) → AreTrue held t stamps → AreSorted paths
         → lacks_one held (opened_keys held t stamps paths) ≡ lacks_one held (file_keys t paths)
     opened_lack_the_same same stamps paths are sorted = ap (lacks_one held) (opened_are held t stamps paths sorted) ∙ lack_the_same same stamps paths are
@@ -171,6 +171,6 @@ module _ (held : Contents) (t u : Nodes) (ids : (path : List ℕ) → id_at u pa
   pub same_in : AreSame held t t → AreSame held u u
   same_in same p q there at = contents q ∙ same p q (ap is_some (sym (ids p)) ∙ there) (sym (ids q) ∙ at ∙ ids p) ∙ sym (contents p)
 
-  -- the same between both
+  -- equal identities imply equal contents between both trees
   pub same_over : AreSame held t t → AreSame held t u
   same_over same p q there at = contents q ∙ same p q there (sym (ids q) ∙ at)

@@ -1,4 +1,4 @@
--- Files that have an analysis may be left out of those that are read.
+-- Files that have an analysis may be left out when files are read.
 use Rattle.std.proofs.Common.{◌≡◌, ◌++◌, ◌&&◌, ◌||◌, ℕ, Bool, true, false, List, [], ◌∷◌, refl, ap, sym, ◌∙◌}
 use Rattle.std.proofs.lemmas.List.Folds.{list_any-append}
 use Rattle.std.specs.List.{list_any}
@@ -22,7 +22,7 @@ all_read t what new paths kept read path there = by_test (is_none (what path))
     (λ e. read path (kept_in (λ path. is_none (what path)) path paths ∙ ap (λ b. b && list_any (bytes_eq path) paths) e ∙ there))
     (λ e. still_read t what new path kept (rw e refl))
 
--- what is among those that are left is among all
+-- each path that is left is among all paths
 among_all : (what : Analyses) (paths : List (List ℕ)) (path : List ℕ) → list_any (bytes_eq path) (unread what paths) ≡ true → list_any (bytes_eq path) paths ≡ true
 among_all what paths path there = second (is_none (what path)) (list_any (bytes_eq path) paths) (sym (kept_in (λ path. is_none (what path)) path paths) ∙ there)
   where
@@ -30,7 +30,7 @@ among_all what paths path there = second (is_none (what path)) (list_any (bytes_
     second true b e = e
     second false b e = absurd (cc)
 
--- the paths in a table then are those that were in it, and of these no others
+-- the paths of the new table are among the old table's paths and the given paths
 pub among_both : (what : Analyses) (paths old new : List (List ℕ)) → new ≡ old ++ unread what paths → (path : List ℕ) → list_any (bytes_eq path) new ≡ true
     → (list_any (bytes_eq path) old || list_any (bytes_eq path) paths) ≡ true
 among_both what paths old new rows path there =

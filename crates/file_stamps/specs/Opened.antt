@@ -1,4 +1,4 @@
--- Which files are opened: those of which no stamp says what they are.
+-- The files that are opened: their identity has no stamp.
 use Rattle.std.specs.Prelude.{◌≡◌, ℕ, ◌+◌, true, List, length, filter, if◌then◌else◌, Option, None, IsSomeAnd, option_map}
 use Rattle.std.specs.List.{filter_map}
 use Rattle.std.specs.Option.{is_none}
@@ -10,15 +10,15 @@ use Rattle.tree_face.specs.StoreUse.{Ending, ReadsFiles}
 use Rattle.file_stamps.specs.Said.{stamps_before}
 use Rattle.file_stamps.specs.Stamped.{stamp_at, stamp_for, stamps_of}
 
--- the key of the file at a path, if it has no identity, or one without a stamp
+-- the key of the file at a path, if the file has no identity or its identity has no stamp
 abbrev pub unstamped_key : List Stamp → Nodes → List ℕ → Option (List ℕ)
 unstamped_key stamps t path = if is_none (stamp_for stamps t path) then key_in (node_at t path) else None
 
--- The keys that are opened of the files at these paths: a file is opened at its turn, if no stamp of its identity is there.
+-- The keys of the opened files among these paths, in order. When a file's turn comes, it is opened if its identity has no stamp.
 abbrev pub opened_keys : Contents → Nodes → List Stamp → List (List ℕ) → List (List ℕ)
 opened_keys held t stamps paths = filter_map (λ path. unstamped_key (stamps_before held t stamps paths path) t path) paths
 
--- Such keys, which depend on what is held, are begun in their order, up to and with the first that isn't held, as far as that is known.
+-- These keys depend on the held contents. They are opened in order, up to the first whose content isn't held, if contents are known.
 abbrev pub ReadsOpenedBy : Option Contents → (Contents → List (List ℕ)) → Ending → StoreState → StoreState → Type 0
 ReadsOpenedBy known keys ending old new =
     ReadsFiles (IsSomeAnd known (λ held. lacks_one held (keys held) ≡ true)) (option_map (λ held. until_lacking held (keys held)) known)
@@ -27,13 +27,13 @@ ReadsOpenedBy known keys ending old new =
 abbrev pub ReadsOpened : (Contents → List (List ℕ)) → Ending → StoreState → StoreState → Type 0
 ReadsOpened keys ending old new = ReadsOpenedBy old.held keys ending old new
 
--- ---- the number of these files, if files of equal identity have equal content
+-- ---- the number of opened files, assuming that equal identities imply equal contents
 
--- the paths of the files that have no identity, or one without a stamp
+-- the paths of the files that have no identity or whose identity has no stamp
 abbrev pub unstamped : List Stamp → Nodes → List (List ℕ) → List (List ℕ)
 unstamped stamps t paths = filter (λ path. is_none (stamp_for stamps t path)) paths
 
--- each of these files that is not a library or has no identity, and of the libraries one for each identity
+-- counts each of these files that isn't a library or has no identity, and one library for each identity
 abbrev pub opens : Contents → Nodes → List Stamp → List (List ℕ) → ℕ
 opens held t stamps paths =
     length (file_keys t (filter (λ path. is_none (stamp_at held t path)) (unstamped stamps t paths)))

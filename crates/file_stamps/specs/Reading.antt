@@ -1,4 +1,4 @@
--- What private functions say of the reading of files, one by one.
+-- What private functions do when files are read, file by file.
 use Rattle.std.specs.Prelude.{◌≡◌, ◌≤◌, ◌+◌, ◌∷◌, ◌++◌, ℕ, Bool, true, false, List, [], length, Option, Some, None, is_none, is_some, if◌then◌else◌, ⊤}
 use Rattle.std.specs.Cmp.Lexicographic.{slice_cmp}
 use Rattle.std.specs.List.{cons_option, list_any}
@@ -30,22 +30,22 @@ is_in paths path = list_any (bytes_eq path) paths
 
 -- ---- one file
 
--- what a file with this key is, by a stamp or else by its content, and the count of opened files
+-- the analysis of a file from its stamp or else from its content, and the number of opened files
 abbrev pub IsFoundBy : Option Contents → List ℕ → Option Stamp → Analysis → ℕ → ℕ → Type 0
 IsFoundBy known key (Some stamp) what before after = (what ≡ of_stamp stamp) × (after ≡ before)
 IsFoundBy known key None what before after = OfContent known key (λ bytes. analysis bytes ≡ what) × (after ≡ before + 1)
 
--- the key is opened, unless there is a stamp
+-- the file is opened unless a stamp is there
 abbrev pub key_opened : Option Stamp → List ℕ → List (List ℕ)
 key_opened stamp key = if is_none stamp then key ∷ [] else []
 
--- the key that is opened for the file at a path, if it has no analysis
+-- the key that is opened for the file at a path, if the file has no analysis
 abbrev pub keys_opened : Nodes → List Stamp → Analyses → List ℕ → List (List ℕ)
 keys_opened t stamps what path = cons_option (if is_none (what path) then unstamped_key stamps t path else None) []
 
 -- ---- several files
 
--- What is made of files with different paths, file by file: each comes with the stamps that are there at its turn.
+-- A result for each file with different paths, computed from the stamps that exist when the file's turn comes.
 abbrev pub by_turn : {X : Type 0} → Contents → Nodes → (List Stamp → List ℕ → Option X) → List Stamp → List (List ℕ) → List X
 by_turn held t f stamps [] = []
 by_turn held t f stamps (path ∷ paths) = cons_option (f stamps path) (by_turn held t f (stamps ++ stamps_at held t (path ∷ [])) paths)
@@ -58,7 +58,7 @@ opened_by held t stamps paths = by_turn held t (λ (there : List Stamp) path. un
 abbrev pub made_by : Contents → Nodes → List Stamp → List (List ℕ) → List Stamp
 made_by held t stamps paths = by_turn held t (λ (there : List Stamp) path. stamp_by (id_at t path) (said_by held t there path)) stamps paths
 
--- each has the analysis that it is said to have
+-- each file has the analysis from its stamp or its content
 abbrev pub AreSaid : Contents → Nodes → List Stamp → List (List ℕ) → Analyses → Type 0
 AreSaid held t stamps [] what = ⊤
 AreSaid held t stamps (path ∷ paths) what =
@@ -67,14 +67,14 @@ AreSaid held t stamps (path ∷ paths) what =
 abbrev pub is_stamped : List Stamp → Id → Bool
 is_stamped stamps id = is_some (stamp_of stamps id)
 
--- what is left when files without analyses were read
+-- the state after files without analyses were read
 pub record HasOpened (held : Contents) (t : Nodes) (loaded : List Stamp) (paths keys : List (List ℕ)) (old new : Files) : Type 0 where
   pub keys_are : keys ≡ opened_by held t (loaded ++ old.stamps) paths
   pub stamped : StampTheSame (loaded ++ new.stamps) ((loaded ++ old.stamps) ++ stamps_at held t paths)
   pub stamps : new.stamps ≡ with_stamps old.stamps (made_by held t (loaded ++ old.stamps) paths)
   pub said : AreSaid held t (loaded ++ old.stamps) paths (analysis_at new.table)
 
--- what is left when a file was read
+-- the state after one file was read
 pub record ReadsOne (t : Nodes) (loaded : List Stamp) (path : List ℕ) (known : Option Contents) (old new : Files) : Type 0 where
   pub opened : IfKnown known (λ held. HasOpened held t loaded (unread (analysis_at old.table) (path ∷ [])) (keys_opened t (loaded ++ old.stamps) (analysis_at old.table) path) old new)
   pub kept : KeepsAnalyses (analysis_at old.table) (analysis_at new.table)
@@ -84,9 +84,9 @@ pub record ReadsOne (t : Nodes) (loaded : List Stamp) (path : List ℕ) (known :
   pub begun : new.begun ≡ old.begun + length (keys_opened t (loaded ++ old.stamps) (analysis_at old.table) path)
   pub none_lacks : IfKnown known (λ held. lacks_one held (keys_opened t (loaded ++ old.stamps) (analysis_at old.table) path) ≡ false)
 
--- what is left when the files at some paths were read, except the rest of these
+-- the state after the files in front of `rest` were read
 pub record HasRead (t : Nodes) (loaded : List Stamp) (known : Option Contents) (all rest : List (List ℕ)) (old new : Files) (before after : StoreState) : Type 0 where
-  -- those so far that had no analysis, and the keys that were opened
+  -- the files so far that had no analysis, and the keys that were opened
   pub ahead : List (List ℕ)
   pub keys : List (List ℕ)
   pub whole : unread (analysis_at old.table) all ≡ ahead ++ unread (analysis_at new.table) rest

@@ -1,4 +1,4 @@
--- The stamps of the libraries of an image, by the identities of their files (ldconfig(8): the auxiliary cache).
+-- The stamps of an image's libraries. A stamp is a cached record for a file identity: ABI and soname (ldconfig(8): the auxiliary cache).
 use Rattle.std.specs.Prelude.{◌≡◌, ℕ, true, List, [], fold, Option, Some, None, is_some, IfSome}
 use Rattle.std.specs.List.{filter_map}
 use Rattle.std.specs.Option.{option_and_then}
@@ -17,7 +17,7 @@ use Rattle.file_stamps.specs.Files.{what_is}
 
 -- ---- contents and identities
 
--- the content of the file at a path, if a file is there and its content is held
+-- the content of the file at a path, if there is a file and its content is held
 abbrev pub content_of : Contents → Nodes → List ℕ → Option (List ℕ)
 content_of held t path = option_and_then held (key_in (node_at t path))
 
@@ -33,7 +33,7 @@ id_at t path = id_in (node_at t path)
 
 -- ---- the stamps of files
 
--- the stamp of a library with this identity; a defect has none
+-- the stamp of a library with this identity; a file with a defect has none
 abbrev pub stamp_with : Id → Analysis → Option Stamp
 stamp_with id (Lib abi soname) = Some (record { id = id; abi = abi; soname = soname })
 stamp_with id (Not defect) = None
@@ -47,21 +47,21 @@ stamp_by None analysis = None
 abbrev pub stamp_at : Contents → Nodes → List ℕ → Option Stamp
 stamp_at held t path = stamp_by (id_at t path) (what_is held t path)
 
--- those of the files at these paths, in the order of the paths
+-- the stamps of the files at these paths, in order
 abbrev pub stamps_at : Contents → Nodes → List (List ℕ) → List Stamp
 stamps_at held t paths = filter_map (stamp_at held t) paths
 
--- the stamps with others put among them, by their identities
+-- the stamps with others inserted, sorted by identity
 abbrev pub with_stamps : List Stamp → List Stamp → List Stamp
 with_stamps stamps others = fold put stamps others
 
--- the stamps of the files at these paths, by their identities
+-- the stamps of the files at these paths, sorted by identity
 abbrev pub stamps_of : Contents → Nodes → List (List ℕ) → List Stamp
 stamps_of held t paths = with_stamps [] (stamps_at held t paths)
 
--- ---- what stamps say of files
+-- ---- the use of stamps for files
 
--- what a stamp says that a file is
+-- the analysis that a stamp records
 abbrev pub of_stamp : Stamp → Analysis
 of_stamp stamp = Lib stamp.abi stamp.soname
 
@@ -69,18 +69,18 @@ of_stamp stamp = Lib stamp.abi stamp.soname
 abbrev pub stamp_for : List Stamp → Nodes → List ℕ → Option Stamp
 stamp_for stamps t path = option_and_then (stamp_of stamps) (id_at t path)
 
--- Stamps are true of a tree: each file whose identity has a stamp is what the stamp says.
+-- Stamps are true for a tree: if the identity of a file has a stamp, the file is what the stamp says.
 abbrev pub AreTrue : Contents → Nodes → List Stamp → Type 0
 AreTrue held t stamps = (path : List ℕ) → IfSome (stamp_for stamps t path) (λ stamp. what_is held t path ≡ Some (of_stamp stamp))
 
--- each identity has the same stamp among both, or none
+-- both lists have the same stamp for each identity, or none
 abbrev pub StampTheSame : List Stamp → List Stamp → Type 0
 StampTheSame stamps others = (id : Id) → stamp_of stamps id ≡ stamp_of others id
 
--- Trees are the same: two files of equal identity are both held, with equal content, or both not held.
+-- Equal identities imply equal contents: two files of equal identity, one in each tree, have equal contents, or neither content is held.
 abbrev pub AreSame : Contents → Nodes → Nodes → Type 0
 AreSame held t u = (p q : List ℕ) → is_some (id_at t p) ≡ true → id_at u q ≡ id_at t p → content_of held u q ≡ content_of held t p
 
--- a fact, if contents are known, the stamps are true, and files of equal identity have equal content
+-- a fact that holds if contents are known, the stamps are true, and equal identities imply equal contents
 abbrev pub IfHonest : Option Contents → Nodes → List Stamp → (Contents → Type 0) → Type 0
 IfHonest known t stamps P = IfKnown known (λ held. AreTrue held t stamps → AreSame held t t → P held)

@@ -1,4 +1,4 @@
-//! The files that are read.
+//! Files that are read.
 ghost use Rattle.std.specs.Prelude.{◌≡◌, ◌≤◌, ◌+◌, ◌++◌, [], Some, false, length, IfOk, IsTrue, OnOk};
 ghost use Rattle.std.specs.Cmp.Lexicographic.{slice_cmp};
 ghost use Rattle.std.specs.List.{cons_option};
@@ -29,19 +29,19 @@ use library_files::FoundFile;
 use std::alloc::Global;
 use tree_face::{Id, Store, Tree};
 
-/// The files that were read, or known by stamps.
+/// The files that were read or whose analysis came from a stamp.
 #[derive(Drop)]
 pub struct Files {
-    /// What each is, by its path without links.
+    /// The analysis of each file, by its path without links.
     pub table: Table,
-    /// The stamps of those that have identities and are libraries.
+    /// The stamps of the files that have an identity and are libraries.
     pub stamps: GatheredStamps,
-    /// How many were begun.
+    /// The number of files that were opened.
     pub begun: usize,
 }
 
 impl Files {
-    /// No files, with room for `room` of them if there is memory for it.
+    /// No files, with space for `room` files if memory allows.
     pub fn new(alloc: Global, room: usize) -> Files
         ensures table { result.table ≡ [] }
         ensures stamps { result.stamps ≡ [] }
@@ -57,7 +57,7 @@ impl Files {
     }
 }
 
-// What a file is, by the stamp of its identity. If there is none, the file is opened.
+// The analysis of a file from the stamp of its identity. If there is no such stamp, the file is opened.
 fn analysis_of<S: Store>(
     alloc: Global,
     store: &mut S,
@@ -86,7 +86,7 @@ fn analysis_of<S: Store>(
     Ok(analysis)
 }
 
-// Adds what a file is, and its stamp.
+// Adds a file's analysis and its stamp.
 fn add(
     alloc: Global,
     files: &mut Files,
@@ -104,7 +104,7 @@ fn add(
     Ok(())
 }
 
-// Reads a file that has no analysis yet and of which no stamp says what it is. The tree is there for the contract alone.
+// Reads a file, unless it has an analysis or a stamp gives its analysis. Only the contract uses the tree.
 fn read_file<S: Store>(
     alloc: Global,
     _tree: &Tree,
@@ -129,10 +129,9 @@ fn read_file<S: Store>(
     }
 }
 
-/// Reads these files of the tree in the order of their paths, each that has no analysis yet. A file is opened only if it has no identity, or if
-/// there is no stamp of its identity: none that is loaded, and none of a library that was read before. The paths ascend by their bytes, each
-/// once. The table has them in this order, after those that it had. The files have all that is needed of the tree: it is there for the contract
-/// alone.
+/// Reads those of these files that have no analysis yet, in path order. A file is opened if it has no identity. It is also opened if its
+/// identity has no stamp: no loaded one, and none from a library that was read before. The paths must be strictly ascending by bytes.
+/// The new rows follow the old rows of the table, in this order. Only the contract uses the tree; the code needs only the found files.
 pub fn read_files<S: Store>(
     alloc: Global,
     tree: &Tree,

@@ -1,4 +1,4 @@
-//! What the files of an image are, each read once, or known by a stamp.
+//! The analyses of an image's files. Each file is read once, or its analysis comes from a stamp.
 #![tactic(auto)]
 
 mod files;

@@ -1,4 +1,4 @@
-//! What stamps say of files.
+//! Analyses from stamps.
 ghost use Rattle.std.specs.Prelude.{◌≡◌, ◌++◌, [], IfOk, IfSome, IsTrue, OnOk, Some};
 ghost use Rattle.std.specs.List.{cons_option};
 ghost use Rattle.std.specs.Option.{option_and_then, option_copied, option_map};
@@ -11,7 +11,7 @@ use lib_types::{Analysis, NoMemory, Text};
 use std::alloc::Global;
 use tree_face::Id;
 
-// The stamp with this identity: one that is loaded comes before one that was made.
+// The stamp with this identity. A loaded stamp has priority over one that was made.
 #[tactic(auto, using(crate::proofs::Stamps::found_first, crate::proofs::Stamps::found_second, crate::proofs::Stamps::name_found))]
 fn find<'a>(loaded: &'a Stamps, made: &'a GatheredStamps, id: Id) -> Option<&'a Stamp>
     requires { HaveNames loaded.now }
@@ -24,7 +24,7 @@ fn find<'a>(loaded: &'a Stamps, made: &'a GatheredStamps, id: Id) -> Option<&'a 
     }
 }
 
-// What a stamp says that a file is.
+// The analysis that a stamp records.
 fn analysis_of(alloc: Global, stamp: &Stamp) -> Result<Analysis, NoMemory>
     ensures { IfOk result (λ analysis. analysis ≡ of_stamp stamp.now) }
 {
@@ -34,7 +34,7 @@ fn analysis_of(alloc: Global, stamp: &Stamp) -> Result<Analysis, NoMemory>
     })
 }
 
-/// What the stamp of a file's identity says, if the file has an identity and that a stamp.
+/// The analysis from the stamp of a file's identity, if the file has an identity and the identity has a stamp.
 pub(crate) fn said(
     alloc: Global,
     loaded: &Stamps,
@@ -54,7 +54,7 @@ pub(crate) fn said(
     }
 }
 
-// The stamp of a file with this identity, if it is a library.
+// The stamp of a file with this identity, if the file is a library.
 fn stamp_with(alloc: Global, id: Id, analysis: &Analysis) -> Result<Option<Stamp>, NoMemory>
     requires { IsTrue (has_name analysis.now) }
     ensures stamp { IfOk result (λ stamp. stamp ≡ stamp_with id analysis.now) }
@@ -70,7 +70,7 @@ fn stamp_with(alloc: Global, id: Id, analysis: &Analysis) -> Result<Option<Stamp
     }
 }
 
-/// Puts the stamp of a file among those that were made, if it has an identity and is a library.
+/// Adds the stamp of a file to those that were made, if the file has an identity and is a library.
 pub(crate) fn keep(
     alloc: Global,
     made: &mut GatheredStamps,

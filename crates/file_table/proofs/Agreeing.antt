@@ -1,4 +1,4 @@
--- Paths of which two tell the same.
+-- Paths that have the same ELF information in two tables.
 use Rattle.std.proofs.Common.{ℕ, List, ◌++◌, ◌∙◌}
 use Rattle.std.proofs.lemmas.Bool.{or_left, or_right}
 use Rattle.std.proofs.lemmas.List.Folds.{list_any-append}

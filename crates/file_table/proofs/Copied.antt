@@ -1,4 +1,4 @@
--- A copy of what a table says of some paths.
+-- A copy of the rows of some paths.
 use Rattle.std.proofs.Common.{◌≡◌, ◌<◌, ◌+◌, ◌||◌, ℕ, zero, suc, Bool, true, false, cond, List, [], ◌∷◌, ◌++◌, drop, get_or, length, take, refl, ap, sym, ◌∙◌, Option, Some, None, Ordering, arith, subst}
 use Rattle.std.proofs.lemmas.Cmp.{nat_list_cmp_total, tied_itself}
 use Rattle.std.proofs.lemmas.List.{append-nil, map-append, take_more}
@@ -22,12 +22,12 @@ use Rattle.file_table.specs.Table.{Rows, analysis_at, with_analysis}
 abbrev cmp : List ℕ → List ℕ → Ordering
 cmp = slice_cmp nat_cmp
 
--- what is copied says the same of these paths, and nothing of others
+-- the copy has the same ELF information for these paths, and none for other paths
 pub record IsCopied (what : Analyses) (done : List (List ℕ)) (copy : Rows) : Type 0 where
   pub keys : keys_of copy ≡ analysed what done
   pub same : (q : List ℕ) → analysis_at copy q ≡ cond (is_in done q) (what q) None
 
--- ---- a path behind the others
+-- ---- a path after the others
 
 without : (P : List ℕ → Type 0) (xs : List (List ℕ)) (k : List ℕ) (ys : List (List ℕ)) → AllByRecursion P (xs ++ k ∷ ys) → P k
 without P [] k ys a = a.0
@@ -43,7 +43,7 @@ not_before (x ∷ xs) k ys s = by_test (bytes_eq k x)
     let z : Equal ≡ Less = sym (tied_itself nat_list_cmp_total x) ∙ subst (λ (y : List ℕ). cmp x y ≡ Less) same less in absurd (cc))
     (λ e. ap (λ b. b || is_in xs k) e ∙ not_before xs k ys s.1)
 
--- ---- a path without an analysis gets one
+-- ---- a path without ELF information gets a row
 
 pub put_last : (rows : Rows) (path : List ℕ) (analysis : Analysis) → analysis_at rows path ≡ None → with_analysis rows path analysis ≡ rows ++ (path, analysis) ∷ []
 put_last [] path analysis none = refl
@@ -55,7 +55,7 @@ at_last : (rows : Rows) (path q : List ℕ) (analysis : Analysis) → analysis_a
 at_last [] path q analysis = refl
 at_last (e ∷ rows) path q analysis = by_test (bytes_eq q e.0) (λ h. rw h refl) (λ h. rw h (at_last rows path q analysis))
 
--- ---- one path more
+-- ---- one more path
 
 module _ (what : Analyses) (done : List (List ℕ)) (path : List ℕ) (rest : List (List ℕ)) (sorted : IsStrictlySortedBy (slice_cmp nat_cmp) (done ++ path ∷ rest)) (copy : Rows) (is : IsCopied what done copy) where
   here : is_in done path ≡ false
@@ -99,7 +99,7 @@ module _ (what : Analyses) (done : List (List ℕ)) (path : List ℕ) (rest : Li
           (λ h. rw (f, h) (sym (ap what ((bytes_eq-Decides q path).0 h) ∙ e)))
           (λ h. rw (f, h) refl)
 
--- ---- one path after another
+-- ---- the paths in order
 
 divided : (paths : List (List ℕ)) (i : ℕ) (d : List ℕ) → i < length paths → paths ≡ take i paths ++ get_or paths i d ∷ drop (suc i) paths
 divided [] i d h = absurd (omega arith)

@@ -1,4 +1,4 @@
--- The sonames in a table are names.
+-- The sonames in a table are valid names.
 use Rattle.std.proofs.Common.{◌≡◌, ℕ, true, cond, List, [], ◌∷◌, refl, ap, sym, subst, ◌∙◌, Some}
 use Rattle.std.proofs.lemmas.Bool.{and_from, and_parts}
 use Rattle.std.specs.Map.{lookup}

@@ -8,7 +8,7 @@ use Rattle.std.specs.Str.{bytes_eq}
 use Rattle.lib_types.specs.declared.analysis.Analysis.{Analysis}
 use Rattle.file_table.specs.Table.{Rows, analysis_at}
 
--- a row of a path has its analysis
+-- a row with this path has the ELF information of the path
 pub row_found : (rows : Rows) (row : ℕ) (path key : List ℕ) (analysis : Analysis) → IsDistinct bytes_eq (keys_of rows) → slice_get rows row ≡ Some (key, analysis) → pointwise nat_eq key path ≡ true
     → analysis_at rows path ≡ Some analysis
 row_found rows row path key analysis distinct there same =

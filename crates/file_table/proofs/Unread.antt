@@ -1,4 +1,4 @@
--- Paths whose files have no analysis.
+-- Paths whose files have no ELF information.
 use Rattle.std.proofs.Common.{◌≡◌, ℕ, List, [], ◌∷◌, refl, ap}
 use Rattle.std.proofs.lemmas.List.Kept.{IsStrictlySortedBy-filter}
 use Rattle.std.specs.Cmp.Lexicographic.{slice_cmp}
@@ -8,7 +8,7 @@ use Rattle.std.specs.Ordering.{nat_cmp}
 use Rattle.file_table.specs.Analyses.{Analyses, unread}
 use Rattle.file_table.specs.Table.{analysis_at}
 
--- of an empty table none has an analysis
+-- if the table is empty, no path has ELF information
 pub none_read : (paths : List (List ℕ)) → unread (analysis_at []) paths ≡ paths
 none_read [] = refl
 none_read (path ∷ paths) = ap (λ rest. path ∷ rest) (none_read paths)

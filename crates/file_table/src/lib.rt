@@ -1,4 +1,4 @@
-//! What the files of a tree are, by their paths: the table of their analyses.
+//! The table of the ELF information of a tree's files, by their paths.
 #![tactic(auto)]
 
 mod table;

@@ -1,4 +1,4 @@
-//! The analyses of files by their paths.
+//! The ELF information of files, by their paths.
 ghost use Rattle.std.specs.Prelude.{◌≡◌, [], Some, IfOk, IfSome, IsTrue, OnOk, OnErr};
 ghost use Rattle.std.specs.Option.{option_copied, option_map};
 ghost use Rattle.std.specs.Cmp.Lexicographic.{slice_cmp};
@@ -30,7 +30,7 @@ fn copy_of(alloc: Global, analysis: &Analysis) -> Result<Analysis, NoMemory>
     }
 }
 
-// The analysis in a row, if the row is that of the path.
+// The ELF information in a row, if the row has this path.
 #[tactic(auto, using(crate::proofs::Rows::row_found))]
 fn analysis_in<'a>(
     analyses: &'a IndexMap<Text, Analysis>,
@@ -50,7 +50,7 @@ fn analysis_in<'a>(
     }
 }
 
-// The row of a path among these two, and the analysis there.
+// Looks for a path in the row `near` and in the next row. Returns the row and its ELF information.
 fn find_near<'a>(
     analyses: &'a IndexMap<Text, Analysis>,
     near: usize,
@@ -66,7 +66,8 @@ fn find_near<'a>(
     None
 }
 
-// The row of a path and the analysis there, looked for first near a row: paths are looked up nearly in the order of the rows.
+// The row of a path and its ELF information. Looks near the row `near` first, since most paths are looked up in the order
+// of the rows.
 fn find<'a>(
     analyses: &'a IndexMap<Text, Analysis>,
     near: usize,
@@ -81,12 +82,12 @@ fn find<'a>(
     Some((row, analysis))
 }
 
-/// A map from paths without links to the analyses of the files there, in which each soname is a name. Contracts see it as the
-/// list of both, each path once.
+/// A map from resolved paths to the ELF information of their files. Each soname in it is a valid name. Contracts see the map
+/// as a list of pairs, with each path once.
 #[derive(Drop)]
 pub struct Table {
     analyses: IndexMap<Text, Analysis>,
-    // the row that was found last, near which the next one is looked for first
+    // the row that was found last; the next search looks near it first
     near: Cell<usize>,
 }
 
@@ -102,7 +103,7 @@ impl Model for Table {
 }
 
 impl Table {
-    /// No analyses. It keeps the allocator and takes no memory.
+    /// An empty table. Keeps the allocator and allocates no memory.
     pub fn new(alloc: Global) -> Table
         ensures { result ≡ [] }
     {
@@ -112,14 +113,14 @@ impl Table {
         }
     }
 
-    /// Takes room for so many more at once, if there is memory for it; else each takes its own as it is put.
+    /// Reserves room for `count` more rows. If there is not enough memory, does nothing; rows then allocate as they are inserted.
     pub fn make_room(&mut self, count: usize)
         ensures { self.new ≡ self.old }
     {
         let _ = self.analyses.reserve(count);
     }
 
-    /// Puts the analysis of a path, instead of the one that is there.
+    /// Sets the ELF information of a path, replacing the old one.
     pub fn insert(&mut self, path: Text, analysis: Analysis) -> Result<(), NoMemory>
         requires { IsTrue (has_name analysis) }
         ensures done { OnOk result (self.new ≡ with_analysis self.old path analysis) }
@@ -129,7 +130,7 @@ impl Table {
         Ok(())
     }
 
-    /// The analysis of a path, if there is one. It takes the time of one path, however many there are.
+    /// The ELF information of a path, if there is any. The time doesn't depend on the number of rows.
     pub fn get(&self, path: &[u8]) -> Option<&Analysis>
         ensures { option_copied result ≡ analysis_at self.now path.now }
     {
@@ -138,7 +139,7 @@ impl Table {
         Some(analysis)
     }
 
-    /// The paths and the analyses, in the order in which the paths were put.
+    /// The paths and their ELF information, in the order in which the paths were inserted.
     pub fn iter(&self) -> Iter<'_, Text, Analysis>
         ensures rows { result ≡ self.now }
         ensures distinct { IsDistinct bytes_eq (keys_of self.now) }
@@ -146,7 +147,7 @@ impl Table {
         self.analyses.iter()
     }
 
-    /// A copy of what it says of these paths, in their order.
+    /// A copy of the rows of these paths, in the order of the paths.
     #[tactic(auto, using(crate::proofs::Copied::none_copied))]
     pub fn copy_of(&self, alloc: Global, paths: &[Text]) -> Result<Table, NoMemory>
         requires { IsStrictlySortedBy (slice_cmp nat_cmp) paths.now }
@@ -163,7 +164,7 @@ impl Table {
         Ok(copy)
     }
 
-    /// Lets contracts know what each table meets. It does nothing.
+    /// Makes the invariant of a table available to contracts. Does nothing at run time.
     #[tactic(auto, using(crate::proofs::Named::names_of_rows))]
     pub fn know(&self)
         ensures { HaveNames (analysis_at self.now) }

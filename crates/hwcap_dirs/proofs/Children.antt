@@ -1,4 +1,4 @@
--- The names below a directory are names.
+-- The children of a directory have valid names.
 use Rattle.std.proofs.Common.{◌≡◌, ◌<◌, ℕ, true, List, [], ◌∷◌, ◌++◌, append_assoc, length, drop, refl, ap, sym, subst, ◌∙◌, Some, None}
 use Rattle.std.proofs.lemmas.Bool.{and_from, and_parts}
 use Rattle.std.proofs.lemmas.List.Folds.{list_all-append}
@@ -17,7 +17,7 @@ use Rattle.image_tree.specs.Tree.{Nodes, children_of, is_entry, kind_at, names_b
 use Rattle.image_tree.specs.declared.tree.Kind.{Kind}
 use Rattle.image_tree.specs.declared.tree.Kind.TheVariants.{Absent, Dir, File, Link}
 
--- ---- the name with which a path goes on
+-- ---- the next name of a path
 
 first_name : (bytes : List ℕ) → are_names bytes ≡ true → is_name (before_first is_slash bytes) ≡ true
 first_name bytes all = elim (position is_slash bytes) as (λ o. position is_slash bytes ≡ o → is_name (before_first is_slash bytes) ≡ true) [

@@ -1,4 +1,4 @@
--- Directories that were met, and those that are left.
+-- The directories that were already added, and the remaining ones.
 use Rattle.std.proofs.Common.{◌≡◌, ℕ, Bool, true, false, cond, not, ◌&&◌, ◌||◌, List, [], ◌∷◌, ◌++◌, append_assoc, refl, ap, sym, ◌∙◌, Some}
 use Rattle.std.proofs.lemmas.List.{append-nil}
 use Rattle.std.proofs.lemmas.List.Folds.{list_any-append}
@@ -49,7 +49,7 @@ module _ (t : Nodes) where
   pub old_here : (met : List (List ℕ)) (places : List Place) (led : Led) → was_met met led ≡ true → places ≡ places ++ new_places t met led
   old_here met places led e = rw e (sym (append-nil places))
 
-  -- a directory more: it was met, or its places come first
+  -- one more directory: either it was already added, or its search directories come first
   more : (met : List (List ℕ)) (led : Led) (leds : List Led) (b : Bool) → was_met met led ≡ b →
       cond b [] (places_of t led) ++ places_left t (cond b met (met ++ led.1 ∷ [])) leds ≡ places_left t met (led ∷ leds)
   more met led leds true e =

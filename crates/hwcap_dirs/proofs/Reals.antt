@@ -1,4 +1,4 @@
--- The places are directories of the tree.
+-- The search directories are directories of the tree.
 use Rattle.std.proofs.Common.{◌≡◌, ℕ, Bool, true, false, cond, List, [], ◌∷◌, ◌++◌, refl, ap, sym, subst, ◌∙◌, Option, Some, None, Result, Ok, Err}
 use Rattle.std.proofs.lemmas.Bool.{and_from, and_parts}
 use Rattle.std.proofs.lemmas.List.Folds.{list_all-append}
@@ -17,7 +17,7 @@ use Rattle.hwcap_dirs.specs.declared.kinds.Scope.{Scope}
 -- ---- tests of all items
 
 module _ {X Y : Type 0} (p : Y → Bool) (q : X → Bool) (f : X → Option Y) where
-  -- what items that pass give passes
+  -- if all items pass `q`, their results pass `p`
   pub all_given : ((x : X) (y : Y) → q x ≡ true → f x ≡ Some y → p y ≡ true) → (xs : List X) → list_all q xs ≡ true → list_all p (filter_map f xs) ≡ true
   all_given h [] all = refl
   all_given h (x ∷ xs) all = elim (f x) as (λ o. f x ≡ o → list_all p (cons_option o (filter_map f xs)) ≡ true) [
@@ -62,7 +62,7 @@ module _ (t : Nodes) where
   firsts_lead (led ∷ leds) all =
       and_from _ _ (and_parts _ _ all).0 (all_left leads_to_dir (leads_elsewhere led) (firsts leds) (firsts_lead leds (and_parts _ _ all).1))
 
-  -- ---- the places
+  -- ---- the search directories
 
   abbrev at_dir : Place → Bool
   at_dir place = is_dir (kind_at t place.real)

@@ -1,4 +1,4 @@
--- The places are spelled in few bytes without NUL.
+-- The paths of the search directories are short and have no NUL.
 use Rattle.std.proofs.Common.{◌≡◌, ◌≤◌, ◌+◌, ℕ, Bool, true, cond, ◌&&◌, nat_le, List, [], ◌∷◌, ◌++◌, length, length-append, refl, ap, sym, subst, ◌∙◌, Option, Some, None, Result, Ok, Err, arith}
 use Rattle.std.proofs.lemmas.Bool.{and_from, and_parts}
 use Rattle.std.proofs.lemmas.Bool.Decides.{nat_tests}
@@ -23,7 +23,7 @@ use Rattle.hwcap_dirs.proofs.Reals.{all_given, all_left}
 use Rattle.hwcap_dirs.specs.Places.{Led, are_spelled, builtin_dirs, dir_at, dir_by, firsts, hwcap_place, hwcaps, is_hidden, is_spelled, kept, leads_elsewhere, led_at, place_of_name, places, places_below, places_of}
 use Rattle.hwcap_dirs.specs.declared.kinds.Place.{Place}
 use Rattle.hwcap_dirs.specs.declared.kinds.Scope.{Scope}
-use Rattle.hwcap_dirs.specs.declared.kinds.Scope.TheVariants.{Image, Root}
+use Rattle.hwcap_dirs.specs.declared.kinds.Scope.TheVariants.{Image, Only, Root}
 use Rattle.hwcap_dirs.specs.declared.kinds.TheConstants.{SPELLED_MAX}
 
 -- ---- sizes
@@ -57,8 +57,9 @@ each_short (text ∷ texts) all =
 builtin_short : (scope : Scope) → list_all is_short (builtin_dirs scope) ≡ true
 builtin_short Image = refl
 builtin_short (Root conf) = refl
+builtin_short (Only dirs) = refl
 
--- ---- texts that lead to directories
+-- ---- paths that resolve to directories
 
 module _ (t : Nodes) where
   dir_clean : (text dir : List ℕ) (walk : Result (List ℕ) WalkFault) → resolution t text Plain ≡ walk → dir_by t walk ≡ Some dir → has_no_nul text ≡ true
@@ -78,7 +79,7 @@ module _ (t : Nodes) where
   firsts_well [] all = refl
   firsts_well (led ∷ leds) all = and_from _ _ (and_parts _ _ all).0 (all_left is_led (leads_elsewhere led) (firsts leds) (firsts_well leds (and_parts _ _ all).1))
 
-  -- ---- the places
+  -- ---- the search directories
 
   below_short : (text name : List ℕ) → is_short text ≡ true → is_name name ≡ true → nat_le (length (join (join text hwcaps) name)) SPELLED_MAX ≡ true
   below_short text name h n =

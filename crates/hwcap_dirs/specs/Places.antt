@@ -1,4 +1,4 @@
--- The directories in which libraries are looked for, in their order (ldconfig(8), ld.so(8): glibc-hwcaps subdirectories).
+-- The search directories for libraries, in order (ldconfig(8), ld.so(8): glibc-hwcaps subdirectories).
 use Rattle.std.specs.Prelude.{ℕ, Bool, true, false, List, [], ◌∷◌, ◌++◌, ◌&&◌, nat_eq, nat_le, length, not, if◌then◌else◌, filter, flat_map, codes, Option, Some, None, option_map, is_none, Result, Ok, Err}
 use Rattle.std.specs.List.{filter_map, list_all, starts_with}
 use Rattle.std.specs.Str.{bytes_eq}
@@ -15,10 +15,10 @@ use Rattle.image_tree.specs.declared.tree.Kind.{Kind}
 use Rattle.image_tree.specs.declared.tree.Kind.TheVariants as kinds
 use Rattle.hwcap_dirs.specs.declared.kinds.Place.{Place}
 use Rattle.hwcap_dirs.specs.declared.kinds.Scope.{Scope}
-use Rattle.hwcap_dirs.specs.declared.kinds.Scope.TheVariants.{Image, Root}
+use Rattle.hwcap_dirs.specs.declared.kinds.Scope.TheVariants.{Image, Only, Root}
 use Rattle.hwcap_dirs.specs.declared.kinds.TheConstants.{SPELLED_MAX}
 
--- ---- where a text leads
+-- ---- the directory that a path resolves to
 
 abbrev pub is_dir : Kind → Bool
 is_dir kinds.Dir = true
@@ -30,13 +30,13 @@ abbrev pub dir_by : Nodes → Result (List ℕ) WalkFault → Option (List ℕ)
 dir_by t (Ok place) = if is_dir (kind_at t place) then Some place else None
 dir_by t (Err fault) = None
 
--- the directory to which a text leads, if it leads to one
+-- the directory that a path resolves to, if it resolves to a directory
 abbrev pub dir_at : Nodes → List ℕ → Option (List ℕ)
 dir_at t text = dir_by t (resolution t text Plain)
 
 -- ---- the directories
 
--- those that the loader searches by itself (ld.so(8))
+-- the directories that the loader searches by default (ld.so(8))
 abbrev pub system_dirs : List (List ℕ)
 system_dirs = codes "/lib" ∷ codes "/usr/lib" ∷ codes "/lib64" ∷ codes "/usr/lib64" ∷ []
 
@@ -50,12 +50,13 @@ debian_dirs = flat_map debian_dirs_of abis
 abbrev pub all_builtin_dirs : List (List ℕ)
 all_builtin_dirs = system_dirs ++ debian_dirs
 
--- those that are looked through after the conf file's
+-- the directories that are searched after those of the conf file
 abbrev pub builtin_dirs : Scope → List (List ℕ)
 builtin_dirs Image = system_dirs
 builtin_dirs (Root conf) = all_builtin_dirs
+builtin_dirs (Only dirs) = []
 
--- a text and the directory to which it leads
+-- a path as written, and the directory that it resolves to
 abbrev pub Led : Type 0
 Led = List ℕ × List ℕ
 
@@ -65,7 +66,7 @@ led_at t text = option_map (λ dir. (text, dir)) (dir_at t text)
 abbrev pub leads_elsewhere : Led → Led → Bool
 leads_elsewhere a b = not (bytes_eq b.1 a.1)
 
--- of those that lead to one directory the first
+-- if several paths resolve to the same directory, only the first is kept
 abbrev pub firsts : List Led → List Led
 firsts [] = []
 firsts (led ∷ rest) = led ∷ filter (leads_elsewhere led) (firsts rest)
@@ -85,7 +86,7 @@ abbrev pub hwcap_place : List ℕ → List ℕ → Option (List ℕ) → Option 
 hwcap_place text name (Some dir) = Some (record { spelled = text; real = dir; cap = Some name })
 hwcap_place text name None = None
 
--- the place of a name in a folder, if that is a directory
+-- the search directory of a name in a `glibc-hwcaps` directory, if the name is that of a directory
 abbrev pub place_of_name : Nodes → List ℕ → List ℕ → Option Place
 place_of_name t folder name = if is_hidden name then None else hwcap_place (join folder name) name (dir_at t (join folder name))
 
@@ -96,32 +97,32 @@ places_below t folder None = []
 abbrev pub hwcap_places : Nodes → List ℕ → List Place
 hwcap_places t folder = places_below t folder (dir_at t folder)
 
--- ---- the places
+-- ---- the search directories
 
--- a directory, and then its subdirectories in the order of their names' bytes
+-- a directory, followed by its `glibc-hwcaps` subdirectories, sorted by the bytes of their names
 abbrev pub places_of : Nodes → Led → List Place
 places_of t led = record { spelled = led.0; real = led.1; cap = None } ∷ hwcap_places t (join led.0 hwcaps)
 
--- The places for the conf file's directories; a place's number is its index.
+-- All search directories, given the conf file's directories. A search directory's number is its index.
 unfoldable pub places : Scope → Nodes → List (List ℕ) → List Place
 places scope t conf = flat_map (places_of t) (kept scope t conf)
 
--- each place is a directory of the tree
+-- each search directory is a directory of the tree
 abbrev pub are_dirs : Nodes → List Place → Bool
 are_dirs t places = list_all (λ place. is_dir (kind_at t place.real)) places
 
--- a hwcaps name is a name
+-- the hwcaps name, if there is one, is a valid name
 abbrev pub is_cap : Option (List ℕ) → Bool
 is_cap None = true
 is_cap (Some name) = is_name name
 
--- the place's text is short and has no NUL
+-- the search directory's path is short and has no NUL, and its hwcaps name is valid
 abbrev pub is_spelled : Place → Bool
 is_spelled place = nat_le (length place.spelled) SPELLED_MAX && has_no_nul place.spelled && is_cap place.cap
 
 abbrev pub are_spelled : List Place → Bool
 are_spelled places = list_all is_spelled places
 
--- The conf file's directories that lead to no directory.
+-- The conf file's directories that don't resolve to a directory.
 unfoldable pub absent : Nodes → List (List ℕ) → List (List ℕ)
 absent t conf = filter (λ text. is_none (dir_at t text)) conf

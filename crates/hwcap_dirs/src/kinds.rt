@@ -1,34 +1,37 @@
-//! The places in which libraries are looked for.
+//! The search directories for libraries.
 use lib_types::{NAME_MAX, Seq, Text, Texts};
 use tree_face::PATH_MAX;
 
-/// The most bytes of a place as it is spelled: a directory of the conf file, `/glibc-hwcaps/` and a name.
+/// The greatest length of a search directory's path in bytes: a directory of the conf file, `/glibc-hwcaps/` and a name.
 pub const SPELLED_MAX: usize = PATH_MAX + 14 + NAME_MAX;
 
-/// Which directories are looked through: those of a conf file, and then others.
+/// Which directories are searched: those of a conf file, followed by built-in directories.
 #[derive(Drop)]
 pub enum Scope {
-    /// Those of `/etc/ld.so.conf`, and those that the loader searches by itself.
+    /// The directories of `/etc/ld.so.conf`, then those that the loader searches by default.
     Image,
-    /// Those of this conf file, or else of `/etc/ld.so.conf`, those that the loader searches by itself, and Debian's of each ABI.
+    /// The directories of this conf file (`/etc/ld.so.conf` if None), then those that the loader searches by default, then
+    /// Debian's directories for each ABI.
     Root { conf: Option<Text> },
+    /// Those of the command line alone.
+    Only { dirs: Texts },
 }
 
-/// One place. Its number is its index in the list.
+/// One search directory. Its number is its index in the list.
 #[derive(Drop)]
 pub struct Place {
-    /// The path as the conf file, or this product, spells it.
+    /// The path as written in the conf file or as built in.
     pub spelled: Text,
-    /// The path to which that leads, without links.
+    /// The resolved path, without symlinks.
     pub real: Text,
     /// The name of the `glibc-hwcaps` subdirectory, if it is one.
     pub cap: Option<Text>,
 }
 
-/// A list of places.
+/// A list of search directories.
 pub type Places = Seq<Place>;
 
-/// The places, and the directories of the conf file that lead to no directory.
+/// The search directories, and the directories of the conf file that don't resolve to a directory.
 #[derive(Drop)]
 pub struct Dirs {
     pub places: Places,

@@ -1,4 +1,4 @@
-//! The directories in which libraries are looked for, in their order, with their subdirectories for processors.
+//! The search directories for libraries, in order, with their `glibc-hwcaps` subdirectories.
 #![tactic(auto)]
 
 mod kinds;

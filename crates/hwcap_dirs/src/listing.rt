@@ -1,4 +1,4 @@
-//! The order of the directories.
+//! The order of the search directories.
 ghost use Rattle.std.specs.Prelude.{◌≡◌, ◌≤◌, ◌∷◌, ◌++◌, ℕ, All, List, IfOk, IsTrue, OnOk, length};
 ghost use Rattle.std.specs.Option.{is_some};
 ghost use Rattle.std.specs.Str.{bytes_eq};
@@ -15,7 +15,7 @@ use std::alloc::Global;
 use string_pool::TextSet;
 use tree_face::{Kind, Tree};
 
-// The places so far, and the directories that were met.
+// The search directories so far, and the resolved paths of the directories that were already added.
 #[derive(Drop)]
 struct Gathering {
     met: TextSet,
@@ -31,7 +31,7 @@ fn is_dir(kind: Kind) -> bool
     }
 }
 
-// The directory to which a text leads, if it leads to one.
+// The directory that a path resolves to, if it resolves to a directory.
 fn dir_at(alloc: Global, tree: &Tree, text: &[u8]) -> Result<Option<Text>, NoMemory>
     ensures { IfOk result (λ dir. dir ≡ dir_at tree.now text.now) }
 {
@@ -54,7 +54,7 @@ fn is_hidden(name: &[u8]) -> bool
     name.starts_with(b".")
 }
 
-// The place of a name in a folder of subdirectories, if it is one.
+// The search directory of a name in a `glibc-hwcaps` directory, if the name is that of a directory.
 fn place_of_name(
     alloc: Global,
     tree: &Tree,
@@ -74,7 +74,7 @@ fn place_of_name(
     Ok(Some(Place { spelled, real, cap }))
 }
 
-// Adds the places in a folder of subdirectories.
+// Adds the search directories in a `glibc-hwcaps` directory.
 fn add_below(alloc: Global, tree: &Tree, places: &mut Places, folder: &[u8]) -> Result<(), NoMemory>
     ensures { OnOk result (places.new ≡ places.old ++ hwcap_places tree.now folder.now) }
 {
@@ -89,7 +89,7 @@ fn add_below(alloc: Global, tree: &Tree, places: &mut Places, folder: &[u8]) -> 
     Ok(())
 }
 
-// Adds the places of a directory, given where its text leads.
+// Adds the search directories of a directory, given its path as written and its resolved path.
 fn add_places(
     alloc: Global,
     tree: &Tree,
@@ -111,7 +111,7 @@ fn add_places(
 }
 
 impl Gathering {
-    // Adds a directory with its subdirectories, unless it was met.
+    // Adds a directory with its subdirectories, unless it was already added.
     #[tactic(auto, using(crate::proofs::Firsts::new_here, crate::proofs::Firsts::old_here))]
     fn add_dir(
         &mut self,
@@ -131,7 +131,7 @@ impl Gathering {
         Ok(())
     }
 
-    // Adds the directory to which a text leads, and returns whether it leads to one.
+    // Adds the directory that a path resolves to. Returns whether the path resolves to a directory.
     fn add(&mut self, alloc: Global, tree: &Tree, text: &[u8]) -> Result<bool, NoMemory>
         ensures leads { IfOk result (λ leads. leads ≡ is_some (dir_at tree.now text.now)) }
         ensures rest { IfOk result (λ _. (texts : List (List ℕ)) →
@@ -157,7 +157,7 @@ impl Gathering {
     }
 }
 
-/// The places for the directories of the conf file, and then for those that the scope adds.
+/// The search directories for the directories of the conf file, followed by those that the scope adds.
 #[tactic(auto, unfolding(crate::specs::Places::places, crate::specs::Places::absent))]
 pub fn order(alloc: Global, scope: &Scope, tree: &Tree, conf: &Texts) -> Result<Dirs, NoMemory>
     ensures places { IfOk result (λ dirs. dirs.places ≡ places scope.now tree.now conf.now) }

@@ -1,41 +1,46 @@
 //! The directories that are searched after those of the conf file.
-ghost use Rattle.std.specs.Prelude.{◌≡◌, ◌≤◌, ◌∷◌, [], drop, MatchOption};
+ghost use Rattle.std.specs.Prelude.{◌≡◌, ◌∷◌, [], drop, MatchOption};
 ghost use Rattle.hwcap_dirs.specs.Places.{all_builtin_dirs, builtin_dirs, system_dirs};
 
 use crate::kinds::Scope;
 
-/// The number of directories that the loader searches by itself.
+/// The number of directories that the loader searches by default.
 pub const SYSTEM_DIRS: usize = 4;
 
-/// The next of the directories that the loader searches by itself, after the first `done`, and the number of those up to it.
+/// Of the directories that the loader searches by default, the one after the first `done`, and how many there are up to it.
 pub fn next_system_dir(done: usize) -> Option<(&'static [u8], usize)>
     ensures { MatchOption result (drop done system_dirs ≡ []) (λ r. drop done system_dirs ≡ r.0.now ∷ drop r.1 system_dirs) }
-{
-    next_builtin_dir(&Scope::Image, done)
-}
-
-/// The next of the directories that are searched after those of the conf file, after the first `done`, and the number of those up to it.
-pub fn next_builtin_dir(scope: &Scope, done: usize) -> Option<(&'static [u8], usize)>
-    ensures { MatchOption result (drop done (builtin_dirs scope.now) ≡ []) (λ r. drop done (builtin_dirs scope.now) ≡ r.0.now ∷ drop r.1 (builtin_dirs scope.now)) }
 {
     match done {
         0 => Some((b"/lib", 1)),
         1 => Some((b"/usr/lib", 2)),
         2 => Some((b"/lib64", 3)),
         3 => Some((b"/usr/lib64", SYSTEM_DIRS)),
-        _ => match scope {
-            Scope::Image => None,
-            Scope::Root { .. } => next_debian_dir(done),
-        },
+        _ => None,
     }
 }
 
-// The same for Debian's directories, which come after those of the loader.
-fn next_debian_dir(done: usize) -> Option<(&'static [u8], usize)>
-    requires { SYSTEM_DIRS ≤ done }
+/// Of the directories that are searched after those of the conf file, the one after the first `done`, and how many there are
+/// up to it.
+pub fn next_builtin_dir(scope: &Scope, done: usize) -> Option<(&'static [u8], usize)>
+    ensures { MatchOption result (drop done (builtin_dirs scope.now) ≡ []) (λ r. drop done (builtin_dirs scope.now) ≡ r.0.now ∷ drop r.1 (builtin_dirs scope.now)) }
+{
+    match scope {
+        Scope::Image => next_system_dir(done),
+        Scope::Root { .. } => next_dir_of_root(done),
+        Scope::Only { .. } => None,
+    }
+}
+
+// The same for the directory of an image: the loader's directories, followed by Debian's.
+fn next_dir_of_root(done: usize) -> Option<(&'static [u8], usize)>
     ensures { MatchOption result (drop done all_builtin_dirs ≡ []) (λ r. drop done all_builtin_dirs ≡ r.0.now ∷ drop r.1 all_builtin_dirs) }
 {
     match done {
+        0 => Some((b"/lib", 1)),
+        1 => Some((b"/usr/lib", 2)),
+        2 => Some((b"/lib64", 3)),
+        3 => Some((b"/usr/lib64", 4)),
         4 => Some((b"/lib/i386-linux-gnu", 5)),
         5 => Some((b"/usr/lib/i386-linux-gnu", 6)),
         6 => Some((b"/lib/x86_64-linux-gnu", 7)),

@@ -5,8 +5,9 @@ use lib_types::NoMemory;
 use std::alloc::Global;
 use table_rows::{Row, Said, Trial, Words, has_line, lines_in, list, text};
 
-/// A row has a manifest, perhaps that the tree is a system's root, the directories of the conf file, the search directories, each with its written path, its real path and the name
-/// of the subdirectory if it is one, and the directories that aren't in the tree.
+/// A row has a manifest, the directories of the conf file, and the mark of a tree that is a system's root, if it is one. It has the search
+/// directories, each with its written path, its real path and the name of the subdirectory if it is one. It has the directories that are
+/// missing in the tree.
 pub(crate) struct Order;
 
 fn places_in(alloc: Global, places: &Places) -> Result<Vec<u8>, NoMemory> {

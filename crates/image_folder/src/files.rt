@@ -1,4 +1,4 @@
-//! Files that are opened where they were looked at.
+//! Files that are opened after they were looked at.
 use device_rules::{Identity, Stamp, identity_of, is_cut, stamp_of};
 use std::fs::{self, FileType, OpenFile};
 use std::io::{self, Error, ErrorKind, Read};
@@ -10,7 +10,7 @@ pub fn read_whole<F: Read>(file: &mut F, buf: &mut [u8]) -> io::Result<()> {
     file.read_exact(buf).map_err(shorter)
 }
 
-/// The error of reading a file, which names it if the file became shorter while it was read.
+/// The error of a reading. It says so if the file became shorter while it was read.
 pub fn shorter(error: Error) -> Error {
     if is_cut(error.kind()) {
         Error::new(error.kind(), "the file ends before its length")
@@ -19,7 +19,7 @@ pub fn shorter(error: Error) -> Error {
     }
 }
 
-// A file is looked at and opened so often, should another one be put in its place in between each time.
+// The most attempts to look at a file and open it, if another file replaces it in between each time.
 const MOST_LOOKS: usize = 8;
 
 /// Opens the regular file of a path.
@@ -32,7 +32,7 @@ pub fn open_file<R: Runtime>(rt: &R, path: &str) -> io::Result<(R::File, Stamp)>
     Err(changed())
 }
 
-// Opens what was found to be a regular file. It gives none if another regular file was put in its place in between.
+// Opens what was found to be a regular file. The result is None if another regular file replaced it in between.
 fn look_and_open<R: Runtime>(rt: &R, path: &str) -> io::Result<Option<(R::File, Stamp)>> {
     let found = look_for_file(rt, path)?;
     let file = fs::open(rt, path)?;
@@ -46,7 +46,7 @@ fn look_and_open<R: Runtime>(rt: &R, path: &str) -> io::Result<Option<(R::File, 
     }
 }
 
-// Which regular file stands at a path.
+// The identity of the regular file at a path.
 fn look_for_file<R: Runtime>(rt: &R, path: &str) -> io::Result<Identity> {
     let found = fs::symlink_metadata(rt, path)?;
     let kind = found.file_type();
@@ -57,12 +57,12 @@ fn look_for_file<R: Runtime>(rt: &R, path: &str) -> io::Result<Identity> {
     }
 }
 
-/// The error of a file that is another one by now.
+/// The error of a file that was replaced meanwhile.
 pub fn changed() -> Error {
     Error::new(ErrorKind::ResourceBusy, "changed meanwhile")
 }
 
-// What was found in place of a regular file.
+// The kind of file that was found instead of a regular file.
 fn no_file(kind: FileType) -> &'static str {
     if kind.is_symlink() {
         "a symbolic link in place of a regular file"

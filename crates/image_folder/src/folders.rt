@@ -1,4 +1,4 @@
-//! Folders that are opened where they were looked at, and made where there are none.
+//! Directories that are opened after they were looked at, and created where they are missing.
 use crate::files::changed;
 use crate::held_file::HeldFile;
 use device_rules::{identity_of, is_forbidden, is_missing, is_there};
@@ -9,18 +9,18 @@ use std::os::fd::AsRawFd;
 use std::os::unix::fs::{DirBuilderExt, MetadataExt, PermissionsExt};
 use std::rt::Runtime;
 
-/// Folders that are made for a slot have this mode, whatever mode new folders have otherwise.
+/// The mode of directories that are created for a slot, whatever the umask is.
 const FOLDER_MODE: u32 = 0o755;
 
-/// What is done with a folder on the way that isn't there.
+/// What to do if a directory of the path is missing.
 #[derive(Clone, Copy, PartialEq, Eq)]
 pub enum Missing {
     IsFault,
     IsMade,
 }
 
-/// Opens the folder of a path, if it may be read, and says whether the system shows what is open by its number. A link at the path is
-/// followed.
+/// Opens the directory of a path, if it may be read, and says whether the system shows open files in /proc/self/fd. A symbolic link at the
+/// path is followed.
 pub fn open_first<R: Runtime>(rt: &R, path: &str) -> io::Result<(Option<R::File>, bool)>
 where
     R::File: HeldFile,
@@ -34,7 +34,7 @@ where
     Ok((open, by_number))
 }
 
-/// Opens the folder of a path, if it may be read, and perhaps makes it.
+/// Opens the directory of a path, if it may be read, and creates it if it is missing and `missing` says so.
 pub fn open_or_make<R: Runtime>(
     rt: &R,
     path: &str,
@@ -51,7 +51,7 @@ pub fn open_or_make<R: Runtime>(
     Ok(open)
 }
 
-// What stands at the path, and whether that is a folder that was made now.
+// The file at the path, and whether it is a directory that was created now.
 fn find_folder<R: Runtime>(rt: &R, path: &str, missing: Missing) -> io::Result<(Metadata, bool)> {
     match fs::symlink_metadata(rt, path) {
         Ok(found) => Ok((found, false)),
@@ -63,7 +63,7 @@ fn find_folder<R: Runtime>(rt: &R, path: &str, missing: Missing) -> io::Result<(
     }
 }
 
-// Whether the folder at the path is one that a run has made and was stopped before others could enter it: nothing is in it.
+// Whether the directory at the path is empty and closed to others: then a run created it and was stopped before it set the mode.
 fn was_left<R: Runtime>(rt: &R, path: &str, found: &Metadata) -> bool {
     is_closed(found.mode()) && is_empty(rt, path)
 }
@@ -75,7 +75,7 @@ fn is_empty<R: Runtime>(rt: &R, path: &str) -> bool {
     }
 }
 
-// Opens the folder of a path, if it may be read.
+// Opens the directory of a path, if it may be read.
 fn open_folder<R: Runtime>(rt: &R, path: &str, found: &Metadata) -> io::Result<Option<R::File>> {
     match open_inside(rt, path) {
         Ok(file) => Ok(Some(require_same(file, found)?)),
@@ -84,13 +84,13 @@ fn open_folder<R: Runtime>(rt: &R, path: &str, found: &Metadata) -> io::Result<O
     }
 }
 
-// The dot keeps the system from opening a pipe that stands there by now.
+// With the dot, opening fails at once if a pipe is now at the path.
 fn open_inside<R: Runtime>(rt: &R, path: &str) -> io::Result<R::File> {
     let path = format!(in rt.alloc(); "{path}/.")?;
     fs::open(rt, path.as_str())
 }
 
-// What was opened has to be what was looked at before: else a link or another file was put there meanwhile.
+// The opened file must be the one that was looked at. Otherwise a link or another file replaced it meanwhile.
 fn require_same<F: OpenFile + Drop>(file: F, found: &Metadata) -> io::Result<F> {
     let opened = identity_of(&file.metadata()?);
     if identity_of(found) == opened {
@@ -100,7 +100,7 @@ fn require_same<F: OpenFile + Drop>(file: F, found: &Metadata) -> io::Result<F> 
     }
 }
 
-/// What the system calls what is in an open folder.
+/// The path of an open directory for system calls.
 pub fn path_of<R: Runtime>(rt: &R, file: &R::File) -> Result<String<R::A>, AllocError>
 where
     R::File: HeldFile,
@@ -109,7 +109,7 @@ where
     format!(in rt.alloc(); "/proc/self/fd/{number}/")
 }
 
-// Whether this folder, which is open, is shown by its number. A system without /proc shows none.
+// Whether /proc/self/fd has this open directory. A system without /proc has none.
 fn is_shown<R: Runtime>(rt: &R, file: &R::File, found: &Metadata) -> io::Result<bool>
 where
     R::File: HeldFile,
@@ -122,7 +122,7 @@ where
     }
 }
 
-// Makes a folder, and says whether it did: another run may have made it at the same time.
+// Creates a directory, and says whether it did: another run may have created it at the same time.
 fn make_folder<R: Runtime>(rt: &R, path: &str) -> io::Result<bool> {
     let mut builder = DirBuilder::new();
     builder.mode(FOLDER_MODE);
@@ -133,7 +133,7 @@ fn make_folder<R: Runtime>(rt: &R, path: &str) -> io::Result<bool> {
     }
 }
 
-// The mode of new folders may leave less of it.
+// Sets the full mode, because the umask may have removed some of it.
 fn set_mode<F: OpenFile>(file: &F, found: &Metadata) -> io::Result<()> {
     if found.mode() & 0o777 == FOLDER_MODE {
         return Ok(());
@@ -141,7 +141,7 @@ fn set_mode<F: OpenFile>(file: &F, found: &Metadata) -> io::Result<()> {
     file.set_permissions(Permissions::from_mode(FOLDER_MODE))
 }
 
-// Whether a folder of this mode is closed to others.
+// Whether this mode closes a directory to others.
 fn is_closed(mode: u32) -> bool {
     mode & 0o055 != 0o055
 }
@@ -154,7 +154,7 @@ fn require_folder(kind: FileType) -> io::Result<()> {
     }
 }
 
-// What was found in place of a directory.
+// The kind of file that was found instead of a directory.
 fn no_folder(kind: FileType) -> &'static str {
     if kind.is_symlink() {
         "a symbolic link in place of a directory"

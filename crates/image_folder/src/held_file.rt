@@ -6,7 +6,7 @@ use std::io;
 use std::os::fd::{AsFd, AsRawFd};
 use std::os::unix::fs::{FileExt, fchown};
 
-/// Who has the lock on a file. The system gives it up when the file is closed, also as a program ends or is stopped.
+/// Who has the lock on a file. The system releases it when the file is closed, and when the program ends or is killed.
 #[derive(Clone, Copy, Debug, PartialEq, Eq)]
 pub enum Lock {
     /// This handle has it.
@@ -18,14 +18,14 @@ pub enum Lock {
 }
 
 impl Lock {
-    /// Whether a new file is its maker's: no other program has taken it for one that was left.
+    /// Whether a new file still belongs to its maker: no other program has taken it for a leftover.
     pub fn is_kept(self) -> bool
         ensures { IsTrue result ↔ self ≢ Lock.Other }
     {
         self != Lock::Other
     }
 
-    /// Whether the file was left by a program that is gone: no other one has the lock, for certain.
+    /// Whether the file is a leftover of a program that ended: certainly no other program has the lock.
     pub fn is_left(self) -> bool
         ensures { IsTrue result ↔ self ≡ Lock.Own }
     {
@@ -33,7 +33,7 @@ impl Lock {
     }
 }
 
-/// An open file with a number, by which what is below an open folder can be reached, and with a lock and an owner.
+/// An open file with a descriptor, through which the content of an open directory can be reached, and with a lock and an owner.
 pub trait HeldFile: FileExt + AsRawFd {
     /// Takes the lock on the file if nobody has it.
     fn take_lock(&self) -> Lock;

@@ -1,4 +1,4 @@
-//! The files of an image that is unpacked in a folder.
+//! The files of an image that is unpacked in a directory.
 use crate::files::open_file;
 use crate::folders::{Missing, open_first, open_or_make, path_of};
 use crate::held_file::HeldFile;
@@ -10,50 +10,62 @@ use std::fs::{self, Metadata, OpenFile};
 use std::io::{self, Error, ErrorKind};
 use std::rt::Runtime;
 
-/// So many folders of one path are open at once. Of a deeper path those at its end are.
+/// The most directories of one path that are open at once.
 const MOST_OPEN: usize = 64;
 
-/// A folder whose files are reached without following a symbolic link in it.
+/// A directory whose files are reached without following a symbolic link in it.
 ///
-/// Each folder on the way to a file is opened, and what is in it is reached by the open folder: one that is exchanged for
-/// another, or for a link, while it is open doesn't matter.
+/// Each directory on the way to a file is opened, and its content is reached through the open directory. So it doesn't matter if another
+/// directory or a link takes its place while it is open.
 #[derive(Drop)]
 pub struct ImageFolder<R: Runtime> {
     pub rt: R,
-    // The image's folder.
+    // The image's directory.
     root: String<R::A>,
-    // Whether the system shows what is open, below /proc/self/fd.
+    // Whether the files are named by their path on this machine, which begins with that of the image's directory.
+    names_root: bool,
+    // Whether the system shows open files below /proc/self/fd.
     by_number: bool,
-    // The folders from the root to the one of the last file.
+    // The open directories, from the root to that of the last file.
     levels: Vec<Level<R>, R::A>,
-    // The path that the last call was about, for the system. It is empty if that was about the folder `said` itself.
+    // The path of the last call, as passed to the system. It is empty if the call was about the directory `said` itself.
     path: String<R::A>,
-    // At which offset of the path its last name begins.
+    // The offset of the last name in `path`.
     name_at: usize,
-    // Which of the levels the last call was about.
+    // The index of the level that the last call was about.
     said: usize,
 }
 
-/// A folder on the way to a file.
+/// A directory on the way to a file.
 #[derive(Drop)]
 struct Level<R: Runtime> {
-    // Its name below the root, which is empty for the root.
+    // Its path below the root, which is empty for the root.
     name: String<R::A>,
-    // What stands before the name of a file in it, for the system.
+    // The prefix of the paths of its files, as passed to the system.
     prefix: String<R::A>,
-    // A folder may be one that can be entered and not read: then it isn't open.
+    // None if the directory can be entered but not read.
     open: Option<R::File>,
 }
 
 impl<R: Runtime> ImageFolder<R> {
-    /// The image in the folder `root`.
+    /// The image in the directory `root`. Its files are named by their path below `root`.
     pub fn new(rt: R, root: &str) -> Result<ImageFolder<R>, NoMemory> {
+        ImageFolder::at(rt, root, false)
+    }
+
+    /// The directory `dir` of this machine. Its files are named by their path on this machine, which begins with `dir` as it is given.
+    pub fn of_machine(rt: R, dir: &str) -> Result<ImageFolder<R>, NoMemory> {
+        ImageFolder::at(rt, dir, true)
+    }
+
+    fn at(rt: R, root: &str, names_root: bool) -> Result<ImageFolder<R>, NoMemory> {
         let root = String::from_str(rt.alloc(), root)?;
         let levels = Vec::new(rt.alloc());
         let path = String::new(rt.alloc());
         Ok(ImageFolder {
             rt,
             root,
+            names_root,
             by_number: false,
             levels,
             path,
@@ -62,8 +74,23 @@ impl<R: Runtime> ImageFolder<R> {
         })
     }
 
-    /// What the last call was about, as it is named below the image.
+    /// The name of the file of the last call: its path below the image's directory, or on this machine. The directory itself is `.`, or
+    /// its path on this machine.
     pub fn name(&self) -> Result<String<R::A>, AllocError> {
+        let below = self.name_below()?;
+        if !self.names_root {
+            return Ok(below);
+        }
+        let (root, below) = (self.root.as_str(), below.as_str());
+        if below == "." {
+            return String::from_str(self.rt.alloc(), root);
+        }
+        let root = root.trim_end_matches('/');
+        format!(in self.rt.alloc(); "{root}/{below}")
+    }
+
+    // The path below the image's directory of the file of the last call.
+    fn name_below(&self) -> Result<String<R::A>, AllocError> {
         let folder = match self.levels.get(self.said) {
             Some(level) => level.name.as_str(),
             None => "",
@@ -82,7 +109,7 @@ impl<R: Runtime> ImageFolder<R> {
         self.path.as_str().get(self.name_at..).unwrap_or("")
     }
 
-    /// From here on faults are about the file of this name in the folder that was entered.
+    /// From here on, faults are about the file of this name in the directory that was entered.
     pub fn go_to(&mut self, name: &str) -> Result<(), AllocError> {
         self.said = self.levels.len().saturating_sub(1);
         let prefix = prefix_in(&self.levels);
@@ -90,26 +117,26 @@ impl<R: Runtime> ImageFolder<R> {
         put_joined(&mut self.path, prefix, name)
     }
 
-    // From here on faults are about the image's own folder.
+    // From here on, faults are about the image's own directory.
     fn go_to_root(&mut self) -> Result<(), AllocError> {
         self.said = 0;
         self.name_at = 0;
         put_joined(&mut self.path, "", self.root.as_str())
     }
 
-    /// The path that the last call was about, for the system.
+    /// The path of the last call, as passed to the system.
     pub fn path(&self) -> &str {
         self.path.as_str()
     }
 
-    /// A path of another name in the folder that was entered, for the system.
+    /// The path of another name in the directory that was entered, as passed to the system.
     pub fn path_beside(&self, name: &str) -> Result<String<R::A>, AllocError> {
         let prefix = prefix_in(&self.levels);
         format!(in self.rt.alloc(); "{prefix}{name}")
     }
 }
 
-// What stands before the name of a file in the last of these folders, for the system.
+// The prefix of the paths of the files in the last of these directories, as passed to the system.
 fn prefix_in<R: Runtime>(levels: &[Level<R>]) -> &str {
     match levels.last() {
         Some(level) => level.prefix.as_str(),
@@ -117,7 +144,7 @@ fn prefix_in<R: Runtime>(levels: &[Level<R>]) -> &str {
     }
 }
 
-// The name of the last of these folders below the root.
+// The path below the root of the last of these directories.
 fn name_in<R: Runtime>(levels: &[Level<R>]) -> &str {
     match levels.last() {
         Some(level) => level.name.as_str(),
@@ -136,7 +163,7 @@ fn put_joined<A: Allocator>(
 }
 
 impl<R: Runtime + Streams> ImageFolder<R> {
-    /// Writes the line that the last call failed on the error output, with what was done and the path that it failed at.
+    /// Writes the line that the last call failed on the error output, with the call and the path where it failed.
     pub fn write_error_line(&self, call: &str, error: Error) {
         match self.name() {
             Ok(name) => write_error_line(&self.rt, name.as_str(), call, error),
@@ -149,8 +176,8 @@ impl<R: Runtime> ImageFolder<R>
 where
     R::File: HeldFile,
 {
-    /// Opens a regular file, and says what it is. A symbolic link on the way, or anything else than a regular file at the end,
-    /// is an error before it is opened: a link may lead out of the image, and opening a pipe would wait.
+    /// Opens a regular file, and returns its stamp. A symbolic link on the way, or anything but a regular file at the end, is an error
+    /// before it is opened: a link may lead out of the image, and opening a pipe would wait.
     pub fn open(&mut self, path: &str) -> io::Result<(R::File, Stamp)> {
         let (folder, name) = divided(path);
         self.enter(folder, Missing::IsFault)?;
@@ -161,13 +188,13 @@ where
         open_file(&self.rt, self.path.as_str())
     }
 
-    /// What stands under a name in the folder that was entered, if anything does.
+    /// The file of this name in the directory that was entered, if there is one.
     pub fn look(&mut self, name: &str) -> io::Result<Option<Metadata>> {
         self.go_to(name)?;
         look_at(&self.rt, self.path.as_str())
     }
 
-    /// Goes to a folder, part by part from the one that is open already and on the way to it.
+    /// Goes to a directory, component by component, from the deepest directory on the way to it that is already open.
     pub fn enter(&mut self, folder: &str, missing: Missing) -> io::Result<()> {
         if self.is_in(folder) {
             return Ok(());
@@ -181,7 +208,7 @@ where
         }
     }
 
-    // Goes on from the folder that was entered.
+    // Goes on from the directory that was entered.
     fn go_on(&mut self, rest: &str, missing: Missing) -> io::Result<()> {
         for part in rest.split('/') {
             if leads_on(part.as_bytes()) {
@@ -191,12 +218,12 @@ where
         Ok(())
     }
 
-    // Whether this folder was entered last.
+    // Whether this directory was entered last.
     fn is_in(&self, folder: &str) -> bool {
         !self.levels.is_empty() && name_in(&self.levels) == folder
     }
 
-    // The image's own folder. A link to it is followed: it isn't in the image.
+    // Opens the image's own directory. If its path is a symbolic link, the link is followed, because it isn't in the image.
     fn open_root(&mut self) -> io::Result<()> {
         if !self.levels.is_empty() {
             return Ok(());
@@ -207,7 +234,7 @@ where
         self.push("", open)
     }
 
-    // One part further, which has to be a folder.
+    // Goes one component further, which must be a directory.
     fn step(&mut self, part: &str, missing: Missing) -> io::Result<()> {
         self.go_to(part)?;
         if leads_up(part.as_bytes()) {
@@ -217,7 +244,7 @@ where
         self.push(part, open)
     }
 
-    // Puts the folder at the path behind those that are open.
+    // Adds the directory at the path to those that are open. If there are too many, it replaces the last one.
     fn push(&mut self, part: &str, open: Option<R::File>) -> io::Result<()> {
         let level = self.level(part, open)?;
         if self.levels.len() >= MOST_OPEN {
@@ -227,14 +254,14 @@ where
         Ok(())
     }
 
-    // The folder at the path, which is open or can't be.
+    // The directory at the path. `open` is None if it can't be opened.
     fn level(&self, part: &str, open: Option<R::File>) -> Result<Level<R>, AllocError> {
         let prefix = self.prefix_of(&open)?;
         let name = self.name_of(part)?;
         Ok(Level { name, prefix, open })
     }
 
-    // The name below the root of what has this name in the folder that was entered.
+    // The path below the root of this name in the directory that was entered.
     fn name_of(&self, part: &str) -> Result<String<R::A>, AllocError> {
         let above = name_in(&self.levels);
         if above.is_empty() {
@@ -243,7 +270,7 @@ where
         format!(in self.rt.alloc(); "{above}/{part}")
     }
 
-    // What stands before the names in the folder at the path, which is open or can't be, for the system.
+    // The prefix of the paths of the files in the directory at the path, as passed to the system. `open` is None if it can't be opened.
     fn prefix_of(&self, open: &Option<R::File>) -> Result<String<R::A>, AllocError> {
         match open {
             Some(file) if self.by_number => path_of(&self.rt, file),
@@ -254,7 +281,7 @@ where
         }
     }
 
-    /// Flushes the folder that was entered, and those on the way to it, to stable storage.
+    /// Flushes the directory that was entered, and those on the way to it, to stable storage.
     pub fn sync_folders(&mut self) -> io::Result<()> {
         self.path.clear();
         self.name_at = 0;
@@ -262,7 +289,7 @@ where
     }
 }
 
-// How many of these folders, each in the one before it, are on the way to this one.
+// The number of these directories, each below the one before it, that are ancestors of this directory or the directory itself.
 fn on_the_way<R: Runtime>(levels: &[Level<R>], folder: &str) -> usize {
     let mut count = 0usize;
     for level in levels.iter() {
@@ -282,7 +309,7 @@ fn look_at<R: Runtime>(rt: &R, path: &str) -> io::Result<Option<Metadata>> {
     }
 }
 
-// Flushes these folders one after the other, and says at which it is.
+// Flushes these directories one after the other, and sets `at` to the index of the current one.
 fn sync_all_of<R: Runtime>(rt: &R, levels: &[Level<R>], at: &mut usize) -> io::Result<()> {
     for i in 0..levels.len() {
         *at = i;
@@ -291,7 +318,7 @@ fn sync_all_of<R: Runtime>(rt: &R, levels: &[Level<R>], at: &mut usize) -> io::R
     Ok(())
 }
 
-// A folder that isn't open can't be opened now either: the error says why.
+// If a directory isn't open, it can't be opened now either. The error says why.
 fn sync_folder<R: Runtime>(rt: &R, level: &Level<R>) -> io::Result<()> {
     match &level.open {
         Some(file) => file.sync_all(),

@@ -1,4 +1,4 @@
-//! A folder whose files are reached without following a symbolic link in it.
+//! A directory whose files are reached without following a symbolic link in it.
 #![tactic(auto)]
 
 mod files;

@@ -5,7 +5,7 @@ use std::alloc::Global;
 use table_rows::{Row, Words, divide, has_line, number, text, text_below};
 
 /// The words of the auxiliary cache: `aux` with its bytes as text, or `records` with the numbers of its records, eight for each, and its
-/// strings as text; `changed` and `cut` below `records`.
+/// strings as text. `changed` and `cut` follow below `records`.
 pub const AUX: Words = &[b"aux", b"records", b"changed", b"cut"];
 
 const MAGIC: &[u8] = b"glibc-ld.so.auxcache-1.0";
@@ -15,7 +15,7 @@ fn push_four(file: &mut Vec<u8>, number: u64) -> Result<(), NoMemory> {
     Ok(())
 }
 
-// Adds a number of a record. Of its eight numbers the first four have eight bytes each, and the others four.
+// Adds a number of a record. A record has eight numbers: the first four have eight bytes each, and the others four.
 fn push_number(records: &mut Vec<u8>, index: usize, number: u64) -> Result<(), NoMemory> {
     if index % 8 < 4 {
         records.extend_from_slice(&number.to_le_bytes())?;
@@ -39,7 +39,7 @@ fn records_of(alloc: Global, numbers: &[u8]) -> Result<Vec<u8>, NoMemory> {
     Ok(records)
 }
 
-// The file with these records and strings.
+// The auxiliary cache file with these records and strings.
 fn file_of(alloc: Global, numbers: &[u8], strings: &[u8]) -> Result<Vec<u8>, NoMemory> {
     let records = records_of(alloc, numbers)?;
     let mut file = Vec::from_slice(alloc, MAGIC)?;
@@ -50,7 +50,7 @@ fn file_of(alloc: Global, numbers: &[u8], strings: &[u8]) -> Result<Vec<u8>, NoM
     Ok(file)
 }
 
-/// The auxiliary cache with the records of the first line with this word, as its lines change it.
+/// The auxiliary cache with the records of the first line with this word, changed as its lines say.
 pub fn records_in(alloc: Global, row: Row<'_>, word: &[u8]) -> Result<Option<Vec<u8>>, NoMemory> {
     for (index, line) in row.iter().enumerate() {
         let (first, numbers) = divide(b' ', line);

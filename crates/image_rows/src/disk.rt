@@ -9,7 +9,7 @@ use tree_face::{MemDisk, Slot};
 /// The words of the cache: `cache` with its bytes as text, or `entry` and `series` with its entries.
 pub const CACHE: Words = &[b"cache", b"entry", b"series"];
 
-/// The word of a disk's call that fails: its number, counted from 0.
+/// The word for a disk call that fails: its number, counted from 0.
 pub const DISK_FAILS: Words = &[b"disk-fails"];
 
 /// The cache of a row, if it has one.
@@ -20,7 +20,7 @@ pub fn cache_in(alloc: Global, row: Row<'_>) -> Result<Option<Vec<u8>>, NoMemory
     optional_text(alloc, row, b"cache")
 }
 
-/// A disk with the manifest and both caches of a row, as far as it has them.
+/// A disk with the row's manifest and both caches, if it has them.
 pub fn disk_of(alloc: Global, row: Row<'_>) -> Result<MemDisk, NoMemory> {
     let fail = calls(alloc, row, b"disk-fails")?;
     Ok(MemDisk::new(

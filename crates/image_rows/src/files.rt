@@ -28,7 +28,7 @@ pub const FILES: Words = &[
     b"cut",
 ];
 
-/// The word of a store's call that fails: its number, counted from 0.
+/// The word for a store call that fails: its number, counted from 0.
 pub const STORE_FAILS: Words = &[b"store-fails"];
 
 /// Keys with their contents.
@@ -78,7 +78,7 @@ fn spec_of(alloc: Global, kind: Kind, soname: &[u8], lines: Row<'_>) -> Result<S
     })
 }
 
-// The offset in a file of class 2 at which the second program header, that of the dynamic section, has its type.
+// The offset of the second program header's type in an ELF64 file. That program header is PT_DYNAMIC.
 const DYNAMIC_TYPE: usize = 64 + 56;
 
 fn without_dynamic(bytes: &mut Vec<u8>) {
@@ -109,7 +109,7 @@ fn push(held: &mut Pairs, key: Text, content: Text) -> Result<(), NoMemory> {
     Ok(())
 }
 
-// Puts the file of this line, if it has one. The lines are those after it.
+// Puts the file of this line, if it has one. `lines` are the lines after it.
 fn put(alloc: Global, held: &mut Pairs, line: &[u8], lines: Row<'_>) -> Result<(), SampleFault> {
     let (word, rest) = divide(b' ', line);
     let Some(kind) = kind_of(word) else {
@@ -138,7 +138,7 @@ pub fn store_of(alloc: Global, row: Row<'_>) -> Result<MemStore, SampleFault> {
     Ok(MemStore::new(alloc, held_of(alloc, row)?, fail))
 }
 
-/// Says that a file can't be made, if the trial of a row fails by that.
+/// If a row's trial failed because a file can't be generated, says so.
 pub fn is_made(tried: Result<bool, SampleFault>, said: &mut Said) -> Result<bool, NoMemory> {
     match tried {
         Ok(is_right) => Ok(is_right),

@@ -1,6 +1,6 @@
-//! What the rows of tests say of an image: the manifest, the files of the store, the cache and the auxiliary cache, and what its loader is
-//! given. A test program lists the words of the functions that it calls (`MANIFEST` of `tree_of`, `FILES` of `held_of`, ..), and has words
-//! of its own only for what it asks and what it expects.
+//! The words for an image in the rows of tests: the manifest, the files of the store, the cache and the auxiliary cache, and the loader's
+//! environment. A test program lists the words of the functions that it calls (`MANIFEST` of `tree_of`, `FILES` of `held_of`, ..). It
+//! defines words of its own only for its inputs and its expected results.
 #![tactic(auto)]
 
 mod auxes;

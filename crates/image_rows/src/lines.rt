@@ -13,7 +13,7 @@ const HEADS: Words = &[
     b"new-records",
 ];
 
-/// The lines of a file, which are those before the next one.
+/// The lines of a file: those before the next file.
 pub(crate) fn own_lines<'a>(lines: Row<'a>) -> Row<'a> {
     lines_before(HEADS, lines)
 }
@@ -31,8 +31,8 @@ fn put_bytes(bytes: &mut Vec<u8>, changes: &[u8]) {
     }
 }
 
-/// Changes a file as its lines say: `changed AT BYTE ..` has offsets, each with the byte that is there instead, and `cut SIZE` the number
-/// of bytes that remain.
+/// Changes a file as its lines say. `changed AT BYTE ..` has offsets, each with the new byte. `cut SIZE` has the number of bytes that
+/// remain.
 pub(crate) fn change(bytes: &mut Vec<u8>, lines: Row<'_>) {
     put_bytes(bytes, value(lines, b"changed").unwrap_or(b""));
     if let Some(size) = value(lines, b"cut") {

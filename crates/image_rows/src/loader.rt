@@ -1,10 +1,10 @@
-//! What the loader of a row is given.
+//! The loader's environment in a row.
 use lib_types::{Abi, NoMemory, Text};
 use rpath_search::{Env, SystemDirs};
 use std::alloc::Global;
 use table_rows::{Row, Words, has_line, list, value};
 
-/// The words of what the loader is given: `env-abi` with its ABI (x86-64 without the line), `caps` with hwcaps names between colons,
+/// The words of the loader's environment: `env-abi` with its ABI (x86-64 without the line), `caps` with hwcaps names between colons,
 /// `library-path`, `platform`, `secure` for secure execution, and `root` if Debian's directories are searched too.
 pub const LOADER: Words = &[
     b"env-abi",
@@ -15,7 +15,7 @@ pub const LOADER: Words = &[
     b"root",
 ];
 
-// Which directories are searched by default.
+// The directories that are searched by default.
 fn system_of(row: Row<'_>) -> SystemDirs {
     if has_line(row, b"root") {
         SystemDirs::Debian
@@ -24,7 +24,7 @@ fn system_of(row: Row<'_>) -> SystemDirs {
     }
 }
 
-/// What the loader of a row is given.
+/// The loader's environment in a row.
 pub fn env_of(alloc: Global, row: Row<'_>) -> Result<Env, NoMemory> {
     let word = value(row, b"env-abi").unwrap_or(b"x86-64");
     Ok(Env {

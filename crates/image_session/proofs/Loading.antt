@@ -1,4 +1,4 @@
--- A loading as a whole, by the readings and what is made of them.
+-- The loading of an image as a whole, from the slots that are read and the result built from them.
 use Rattle.std.proofs.Common.{◌≡◌, Bool, true, false, Option, Some, None, Result, Ok, Err, ap, sym, subst}
 use Rattle.std.proofs.lemmas.Bool.{false≢true}
 use Rattle.tree_face.specs.Disk.{Content, DiskContent, DiskState}
@@ -32,7 +32,7 @@ is_loaded contents None aux loaded m a reads is = absurd (false≢true (ap has_t
 is_loaded None (Some text) aux loaded m a reads is = record { text = text; aux = aux; in_slots = tt; reads = reads; is = is }
 is_loaded (Some c) (Some text) aux loaded m a reads is = record { text = text; aux = aux; in_slots = (m, a); reads = reads; is = is }
 
--- what was read of the slot says what the slot says
+-- if the contents are known, the text that was read is the slot's content
 known : (contents : Option DiskContent) (text : Content) (result : Result Loaded LoadFault) → IfKnown contents (λ c. stored.Manifest c.now.manifest ≡ stored.Manifest text)
     → IsLoad (manifest_of text) result → IfKnown contents (λ c. IsLoad (manifest_of c.now.manifest) result)
 known None text result there is = tt
@@ -42,13 +42,13 @@ in_slot : (contents : Option DiskContent) (text : Content) → IfKnown contents 
 in_slot None text there = tt
 in_slot (Some c) text there = ap text_of there
 
--- a slot isn't read
+-- a slot can't be read
 pub unloaded : (source : TreeSource) (fault : SlotFault) (a b : DiskState) → ReadsBoth source (Err fault) a b → LoadsFrom source (Err (of_slot fault)) a b
 unloaded sources.Manifest (slot_faults.DiskFailed slot) a b reads = record { answers = anyway a.contents; loaded = tt; fails = reads.fails; reads = reads.reads }
 unloaded sources.Manifest slot_faults.NoMemory a b reads = record { answers = anyway a.contents; loaded = tt; fails = tt; reads = reads.reads }
 
 module _ (a b : DiskState) (aux : Content) where
-  -- of what was read
+  -- the texts were read
   loads : (text : Content) (result : Result Loaded LoadFault) → ReadsBoth sources.Manifest (Ok (record { stored = stored.Manifest text; aux = aux })) a b
       → IsImageOf (manifest_of text) aux result → Loads result a b
   loads text (Ok loaded) reads of = record {

@@ -34,7 +34,7 @@ module _ (xs ys : List Slot) where
   slots_on DeviceFailed a b c = follow_part xs ys a b c
   slots_on GaveUp a b c = follow_part xs ys a b c
 
-  -- a call that reads all of its slots, and then another one
+  -- a call that reads all its slots, followed by another call
   pub reads_next : (e : Ending) (a b c : DiskState) → ReadsOnly xs Complete a b → ReadsOnly ys e b c → ReadsOnly (xs ++ ys) e a c
   reads_next e a b c first next = record {
     keeps = keeps_on a b c first.keeps next.keeps;
@@ -58,7 +58,7 @@ reads_none a = record {
     unchanged None = tt
     unchanged (Some slots) = sym (append-nil slots)
 
--- a call that ends before all of its slots are read, among further slots
+-- a call that ends before all its slots are read, as part of a longer list of slots
 module _ (xs ys : List Slot) (a b : DiskState) where
   pub reads_part : (e : Ending) → IsPartial e → ReadsOnly xs e a b → ReadsOnly (xs ++ ys) e a b
   reads_part Complete partial reads = absurd partial
@@ -79,15 +79,15 @@ module _ (xs ys : List Slot) (a b : DiskState) where
 
 -- ---- the slot at which a call fails
 
--- the only one
+-- the only slot
 pub fails_alone : (slot : Slot) (a b : DiskState) → ReadsOnly (slot ∷ []) DeviceFailed a b → FailsAt (slot ∷ []) a b slot
 fails_alone slot a b reads = record { before = []; behind = []; is_next = refl; between = a; read = reads_none a; fails = reads }
 
--- the one behind all that were read
+-- the slot after those that were read
 pub fails_next : (xs : List Slot) (slot : Slot) (a b c : DiskState) → ReadsOnly xs Complete a b → ReadsOnly (slot ∷ []) DeviceFailed b c → FailsAt (xs ++ slot ∷ []) a c slot
 fails_next xs slot a b c first next = record { before = xs; behind = []; is_next = refl; between = b; read = first; fails = next }
 
--- one of the first
+-- a slot of the first part of the list
 pub fails_before : (xs ys : List Slot) (slot : Slot) (a b : DiskState) → FailsAt xs a b slot → FailsAt (xs ++ ys) a b slot
 fails_before xs ys slot a b first = record {
   before = first.before;
@@ -98,7 +98,7 @@ fails_before xs ys slot a b first = record {
   fails = first.fails;
 }
 
--- all slots were read before the call gives up
+-- all slots were read before the call ran out of memory
 pub gave_up : (xs : List Slot) (a b : DiskState) → ReadsOnly xs Complete a b → ReadsOnly xs GaveUp a b
 gave_up xs a b reads = record {
   keeps = reads.keeps;

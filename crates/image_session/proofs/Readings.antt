@@ -1,4 +1,4 @@
--- A source that is read, and a slot after it; the slot at which that fails.
+-- Reading a source and then a slot, and the slot at which the reading fails.
 use Rattle.std.proofs.Common.{◌≡◌, ◌∷◌, ◌++◌, List, [], Option, Some, None, Ok, Err, subst, sym}
 use Rattle.tree_face.specs.declared.disk.Slot.{Slot}
 use Rattle.tree_face.specs.declared.disk.Slot.TheVariants as slots
@@ -23,7 +23,7 @@ pub anyway : (known : Option DiskContent) → IfKnown known (λ content. Unit {0
 anyway None = tt
 anyway (Some content) = tt
 
--- the slot of a manifest
+-- the manifest's slot
 pub stored_fails : (source : TreeSource) (fault : SlotFault) (a b : DiskState) → ReadsContent slots.Manifest (Err fault) a b → ReadsStored source (Err fault) a b
 stored_fails sources.Manifest (slot_faults.DiskFailed slot) a b reads = record {
   content = tt;
@@ -32,12 +32,12 @@ stored_fails sources.Manifest (slot_faults.DiskFailed slot) a b reads = record {
 }
 stored_fails sources.Manifest slot_faults.NoMemory a b reads = record { content = tt; fails = tt; reads = reads.reads }
 
--- a slot behind those that were read
+-- a slot after those that were read
 slot_fails : (xs : List Slot) (slot failed : Slot) (a b c : DiskState) → ReadsOnly xs Complete a b → failed ≡ slot → ReadsOnly (slot ∷ []) DeviceFailed b c → FailsAt (xs ++ slot ∷ []) a c failed
 slot_fails xs slot failed a b c first is next = subst (λ (s : Slot). FailsAt (xs ++ slot ∷ []) a c s) (sym is) (fails_next xs slot a b c first next)
 
 module _ (source : TreeSource) where
-  -- ---- the source, and then the Aux slot
+  -- ---- the source, then the Aux slot
 
   pub both_first : (fault : SlotFault) (a b : DiskState) → ReadsStored source (Err fault) a b → ReadsBoth source (Err fault) a b
   both_first (slot_faults.DiskFailed slot) a b reads = record {
@@ -59,7 +59,7 @@ module _ (source : TreeSource) where
   both_second stored slot_faults.NoMemory a b c first next =
       record { stored = tt; aux = tt; fails = tt; reads = reads_next (slots_of source) (slots.Aux ∷ []) GaveUp a b c first.reads next.reads }
 
-  -- ---- the tree, and then the Cache slot
+  -- ---- the tree, then the Cache slot
 
   pub image_first : (fault : LoadFault) (a b : DiskState) → ReadsTree source (Err fault) a b → ReadsImage source (Err fault) a b
   image_first (faults.DiskFailed slot) a b reads = record {

@@ -1,15 +1,15 @@
--- What the Manifest slot says.
+-- The content of the Manifest slot (the manifest file).
 use Rattle.std.specs.Prelude.{ℕ, List, Option, Some, None, Result, Ok, Err}
 use Rattle.image_tree.specs.Tree.{Nodes}
 use Rattle.mtree_manifest.specs.Manifest.{outcome}
 use Rattle.mtree_manifest.specs.declared.fault.ManifestFault.{ManifestFault}
 
 pub data Manifest : Type 0 where
-  -- the slot holds nothing
+  -- the slot is empty
   Empty : Manifest
-  -- it holds a text without a tree, whose first fault this is
+  -- the text isn't the manifest of a tree, and this is its first error
   Faulty : ManifestFault → Manifest
-  -- it holds the text of a tree
+  -- the text is the manifest of this tree
   HasTree : Nodes → Manifest
 
 abbrev pub manifest_by : Result Nodes ManifestFault → Manifest

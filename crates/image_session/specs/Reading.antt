@@ -1,4 +1,4 @@
--- The readings of what is stored of an image, and the tree of what its source holds. Each command reads slots so.
+-- Reading the slots of an image, and the tree from its source. All commands read slots in this way.
 use Rattle.std.specs.Prelude.{◌≡◌, ◌∷◌, ◌++◌, List, [], Result, Ok, Err, IfOk, ⊤}
 use Rattle.std.specs.Result.{result_map_both}
 use Rattle.tree_face.specs.declared.disk.Slot.{Slot}
@@ -33,7 +33,7 @@ slot_ending (Ok content) = Complete
 slot_ending (Err (slot_faults.DiskFailed slot)) = DeviceFailed
 slot_ending (Err slot_faults.NoMemory) = GaveUp
 
--- a fact of the slot that couldn't be read
+-- a fact about the slot that couldn't be read
 abbrev pub IfSlotFailed : {A : Type 0} → Result A SlotFault → (Slot → Type 0) → Type 0
 IfSlotFailed (Err (slot_faults.DiskFailed slot)) P = P slot
 IfSlotFailed _ P = ⊤
@@ -42,7 +42,7 @@ abbrev pub IfDiskFailed : {A : Type 0} → Result A LoadFault → (Slot → Type
 IfDiskFailed (Err (faults.DiskFailed slot)) P = P slot
 IfDiskFailed _ P = ⊤
 
--- Of these slots, which are read one after another, those before this one were read, and the reading of this one failed.
+-- The slots are read in order. The slots before this one were read, and reading this one failed.
 pub record FailsAt (order : List Slot) (old new : DiskState) (slot : Slot) : Type 0 where
   pub before : List Slot
   pub behind : List Slot
@@ -53,7 +53,7 @@ pub record FailsAt (order : List Slot) (old new : DiskState) (slot : Slot) : Typ
 
 -- ---- a slot
 
--- The slot is read once, and nothing else is. It has this content, if contents are known.
+-- Only this slot is read, once. If contents are known, the result is the slot's content.
 pub record ReadsContent (slot : Slot) (result : Result Content SlotFault) (old new : DiskState) : Type 0 where
   pub content : IfOk result (λ content. IfKnown old.contents (λ known. slot_of known.now slot ≡ content))
   pub fails : IfSlotFailed result (λ failed. failed ≡ slot)
@@ -61,15 +61,15 @@ pub record ReadsContent (slot : Slot) (result : Result Content SlotFault) (old n
 
 -- ---- the tree
 
--- what a source is of: the slots that are read for it, in their order
+-- the slots that are read for a source, in order
 abbrev pub slots_of : TreeSource → List Slot
 slots_of sources.Manifest = slots.Manifest ∷ []
 
--- what a source holds
+-- the stored content of a source
 abbrev pub held_by : TreeSource → DiskContent → Stored
 held_by sources.Manifest content = stored.Manifest content.now.manifest
 
--- what that says of a tree
+-- the manifest in the stored content
 abbrev pub says : Stored → Manifest
 says (stored.Manifest text) = manifest_of text
 
@@ -86,7 +86,7 @@ pub record ReadsStored (source : TreeSource) (result : Result Stored SlotFault) 
   pub fails : IfSlotFailed result (FailsAt (slots_of source) old new)
   pub reads : ReadsOnly (slots_of source) (slot_ending result) old new
 
--- the slots of the source are read, and are looked at then
+-- all slots of the source are read before any is parsed
 pub record ReadsTree (source : TreeSource) (result : Result Nodes LoadFault) (old new : DiskState) : Type 0 where
   pub tree : IfKnown old.contents (λ content. IsTreeOf (says (held_by source content)) result)
   pub fails : IfDiskFailed result (FailsAt (slots_of source) old new)
@@ -97,7 +97,7 @@ pub record ReadsTree (source : TreeSource) (result : Result Nodes LoadFault) (ol
 abbrev pub tree_in : Result ReadImage LoadFault → Result Nodes LoadFault
 tree_in result = result_map_both (λ image. image.tree) (λ fault. fault) result
 
--- The Cache slot isn't read without a tree.
+-- If there is no tree, the Cache slot isn't read.
 abbrev pub slots_read : {A : Type 0} → TreeSource → Result A LoadFault → List Slot
 slots_read source (Err faults.NoManifest) = slots_of source
 slots_read source (Err (faults.BadManifest fault)) = slots_of source

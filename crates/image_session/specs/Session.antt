@@ -1,4 +1,4 @@
--- An image that is loaded.
+-- A loaded image.
 use Rattle.std.specs.Prelude.{◌≡◌, ◌∷◌, ◌++◌, ℕ, Bool, false, List, [], Option, Some, Result, IfOk}
 use Rattle.std.specs.Result.{result_map_both}
 use Rattle.tree_face.specs.declared.disk.Slot.TheVariants as slots
@@ -16,17 +16,17 @@ use Rattle.image_session.specs.declared.reading.TreeSource.{TreeSource}
 use Rattle.image_session.specs.declared.reading.TreeSource.TheVariants as sources
 use Rattle.image_session.specs.declared.session.Readings.{Readings}
 
--- what is kept of an image between its loading and its updates
+-- the part of an image that is kept between loading and updates
 pub record Loaded : Type 0 where
   pub tree : Nodes
-  -- what the auxiliary cache says of files, by their identities
+  -- the stamps of the auxiliary cache, by file identity
   pub stamps : List Stamp
   -- whether the tree was edited since it was loaded or updated
   pub edited : Bool
-  -- the first place at which the auxiliary cache was damaged when it was loaded, until an update says so
+  -- the offset at which the auxiliary cache was corrupt when it was loaded, until an update reports it
   pub damaged : Option ℕ
 
--- the image of this tree as it is loaded with this Aux slot: nothing is edited
+-- the image of this tree after loading with this Aux slot, before any edit
 abbrev pub image_with : Nodes → Content → Loaded
 image_with tree aux = record {
   tree = tree;
@@ -35,7 +35,7 @@ image_with tree aux = record {
   damaged = damage_of_slot aux;
 }
 
--- it is the image of a manifest's text and an Aux slot, which are those of the disk if these are known
+-- the image comes from a manifest's text and an Aux slot; if the disk's contents are known, they are the disk's
 pub record IsLoaded (contents : Option DiskContent) (loaded : Loaded) : Type 0 where
   pub text : List ℕ
   pub aux : Content
@@ -43,34 +43,34 @@ pub record IsLoaded (contents : Option DiskContent) (loaded : Loaded) : Type 0 w
   pub reads : manifest_of (Some text) ≡ HasTree loaded.tree
   pub is : loaded ≡ image_with loaded.tree aux
 
--- ---- a loading
+-- ---- loading
 
--- the tree of what is loaded, or why there is none
+-- the tree of the loaded image, or why there is none
 abbrev pub IsLoad : Manifest → Result Loaded LoadFault → Type 0
 IsLoad manifest result = IsTreeOf manifest (result_map_both (λ loaded. loaded.tree) (λ fault. fault) result)
 
--- An image is loaded from the Manifest slot and the Aux slot, each of which is read once, in this order, and nothing else is. What the
--- Manifest slot holds is looked at only after both readings.
+-- The Manifest slot and then the Aux slot are read, each once. No other slot is read. The manifest is parsed only after both slots
+-- are read.
 pub record Loads (result : Result Loaded LoadFault) (old new : DiskState) : Type 0 where
   pub answers : IfKnown old.contents (λ content. IsLoad (manifest_of content.now.manifest) result)
   pub loaded : IfOk result (IsLoaded old.contents)
   pub fails : IfDiskFailed result (FailsAt (slots.Manifest ∷ slots.Aux ∷ []) old new)
   pub reads : ReadsOnly (slots.Manifest ∷ slots.Aux ∷ []) (load_ending result) old new
 
--- a loading of an image whose tree comes from this source
+-- loads an image whose tree comes from this source
 abbrev pub LoadsFrom : TreeSource → Result Loaded LoadFault → DiskState → DiskState → Type 0
 LoadsFrom sources.Manifest = Loads
 
--- ---- what private functions say
+-- ---- what private functions do
 
--- the source is read, and then the Aux slot
+-- the source is read, then the Aux slot
 pub record ReadsBoth (source : TreeSource) (result : Result Readings SlotFault) (old new : DiskState) : Type 0 where
   pub stored : IfOk result (λ readings. IfKnown old.contents (λ known. held_by source known ≡ readings.stored))
   pub aux : IfOk result (λ readings. IfKnown old.contents (λ known. known.now.aux ≡ readings.aux))
   pub fails : IfSlotFailed result (FailsAt (slots_of source ++ slots.Aux ∷ []) old new)
   pub reads : ReadsOnly (slots_of source ++ slots.Aux ∷ []) (slot_ending result) old new
 
--- the image of what was read, or why there is none
+-- the image from the texts that were read, or why there is none
 pub record IsImageOf (manifest : Manifest) (aux : Content) (result : Result Loaded LoadFault) : Type 0 where
   pub tree : IsLoad manifest result
   pub image : IfOk result (λ loaded. loaded ≡ image_with loaded.tree aux)

@@ -1,4 +1,4 @@
-//! Edits of an image that is loaded.
+//! Edits of a loaded image.
 ghost use Rattle.std.specs.Prelude.{◌≡◌, ◌⊎◌, Ok, Err, IfErr, IsTrue, OnErr, OnOk};
 ghost use Rattle.image_tree.specs.Node.{is_node};
 ghost use Rattle.image_tree.specs.Paths.{is_path};
@@ -12,7 +12,7 @@ use std::alloc::Global;
 use tree_face::Node;
 
 impl Session {
-    /// Puts the node at the path, instead of the one that is there.
+    /// Puts the node at the path, and replaces the node there, if there is one.
     pub fn put(&mut self, path: &[u8], node: Node) -> Result<(), EditFault>
         requires path { IsTrue (is_path path.now) }
         requires node { IsTrue (is_node node) }
@@ -25,7 +25,7 @@ impl Session {
         Ok(())
     }
 
-    /// Removes the node at the path. What lies below stays.
+    /// Removes the node at the path. Nodes below it stay.
     #[tactic(auto, using(crate::proofs::Removing::kept_tree))]
     pub fn remove(&mut self, path: &[u8]) -> Result<(), EditFault>
         ensures done { OnOk result (drop_result self.old path.now ≡ Ok self.new) }
@@ -39,7 +39,7 @@ impl Session {
         Ok(())
     }
 
-    /// Makes the edit that a line asks for, which has no line feed. A line that asks for nothing or for an update is no edit.
+    /// Makes the edit that a line requests. The line has no line feed. Ignored lines and updates are rejected.
     pub fn edit(&mut self, alloc: Global, line: &[u8]) -> Result<(), EditFault>
         ensures done { OnOk result (edit_result self.old line.now ≡ Ok self.new) }
         ensures refused { OnErr result (self.new ≡ self.old) }

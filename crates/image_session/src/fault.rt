@@ -22,10 +22,10 @@ pub enum LoadFault {
     /// A slot can't be read.
     #[error("a slot of the disk can't be read")]
     DiskFailed { slot: Slot },
-    /// The Manifest slot holds nothing.
+    /// The Manifest slot is empty.
     #[error("there is no manifest")]
     NoManifest,
-    /// The manifest has no tree. This fault is never NoMemory.
+    /// The manifest can't be parsed into a tree. The inner error is never NoMemory.
     #[error("the manifest has no tree")]
     BadManifest(ManifestFault),
     #[error("out of memory")]
@@ -35,16 +35,16 @@ pub enum LoadFault {
 /// Why an image isn't edited.
 #[derive(Clone, Copy, Debug, PartialEq, Eq, Error)]
 pub enum EditFault {
-    /// The line is no edit.
+    /// The line doesn't request an edit.
     #[error("the line is no edit")]
     Bad(LineKind),
-    /// A file or a link would have something below it.
+    /// A file or a symlink would have something below it.
     #[error("a file or a link would have something below it")]
     Clash,
-    /// There is no node to be removed.
+    /// The path has no node to remove.
     #[error("there is no node at the path")]
     NotThere,
-    /// The tree has as many nodes as a tree may have.
+    /// The tree has the maximum number of nodes.
     #[error("the tree has no room for a node more")]
     Full,
     #[error("out of memory")]

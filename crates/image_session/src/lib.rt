@@ -1,4 +1,4 @@
-//! An image that is loaded, and edited.
+//! An image that is loaded and edited.
 #![tactic(auto)]
 
 mod edit;

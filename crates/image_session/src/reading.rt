@@ -1,4 +1,4 @@
-//! The reading of what is stored of an image: slots, and the tree by its source.
+//! Reading the slots of an image, and the tree from its source.
 ghost use Rattle.image_session.specs.Reading.{IfDiskFailed, IsTreeOf, ReadsContent, ReadsImage, ReadsStored, ReadsTree, says};
 
 use crate::fault::{LoadFault, SlotFault};
@@ -9,26 +9,26 @@ use tree_face::{Disk, DiskRead, Slot, Tree};
 /// Where the tree of an image comes from.
 #[derive(Clone, Copy, Debug, PartialEq, Eq)]
 pub enum TreeSource {
-    /// The manifest in its slot.
+    /// The manifest in the Manifest slot.
     Manifest,
 }
 
-/// What a source holds, as it is stored.
+/// The stored content of a source.
 #[derive(Drop)]
 pub(crate) enum Stored {
-    /// What the Manifest slot holds.
+    /// The content of the Manifest slot.
     Manifest(Option<Text>),
 }
 
-/// What a command reads of an image that it only asks.
+/// An image for a command that only queries it.
 #[derive(Drop)]
 pub struct ReadImage {
     pub tree: Tree,
-    /// What the Cache slot holds.
+    /// The content of the Cache slot.
     pub cache: Option<Text>,
 }
 
-/// Reads a slot. Each command reads slots by this function.
+/// Reads a slot. All commands read slots by this function.
 pub fn read_slot<D: Disk>(
     alloc: Global,
     disk: &mut D,
@@ -44,7 +44,7 @@ pub fn read_slot<D: Disk>(
     }
 }
 
-/// Reads what a source holds, which isn't looked at yet.
+/// Reads the content of a source without parsing it.
 pub(crate) fn read_stored<D: Disk>(
     alloc: Global,
     disk: &mut D,
@@ -57,7 +57,7 @@ pub(crate) fn read_stored<D: Disk>(
     }
 }
 
-/// The tree of what a source holds.
+/// Parses the tree in the content of a source.
 pub(crate) fn tree_of(alloc: Global, stored: Stored) -> Result<Tree, LoadFault>
     ensures tree { IsTreeOf (says stored) result }
     ensures no_disk { IfDiskFailed result (λ slot. ⊥) }
@@ -80,7 +80,7 @@ pub fn read_tree<D: Disk>(
     tree_of(alloc, stored)
 }
 
-/// Reads the tree of an image, and then its cache. Without a tree the cache isn't read.
+/// Reads the tree of an image and then its cache. If there is no tree, the cache isn't read.
 pub fn read_image<D: Disk>(
     alloc: Global,
     disk: &mut D,

@@ -1,4 +1,4 @@
-//! An image that is loaded.
+//! A loaded image.
 ghost use Rattle.std.specs.Prelude.{◌≡◌, IfErr, IfOk};
 ghost use Rattle.aux_cache.specs.Stamps.{HaveNames};
 ghost use Rattle.image_session.specs.Aux.{damage_of_slot, stamps_of_slot};
@@ -13,15 +13,15 @@ use std::alloc::Global;
 use std::marker::Model;
 use tree_face::{Disk, Slot, Tree};
 
-/// An image that is loaded. Each soname of its stamps is a name.
+/// A loaded image. The soname in each stamp is a valid name.
 #[derive(Drop)]
 pub struct Session {
     pub tree: Tree,
-    /// What the auxiliary cache says of files, by their identities.
+    /// The stamps of the auxiliary cache, by file identity.
     pub stamps: Stamps,
     /// Whether the tree was edited since it was loaded or updated.
     pub edited: bool,
-    /// The first place at which the auxiliary cache was damaged when it was loaded, until an update says so.
+    /// The offset at which the auxiliary cache was corrupt when it was loaded, until an update reports it.
     pub damaged: Option<u64>,
 }
 
@@ -36,14 +36,14 @@ impl Model for Session {
     ghost invariant = { λ session. HaveNames session.stamps };
 }
 
-// What was read of which an image is loaded.
+// The contents that were read for an image.
 #[derive(Drop)]
 pub(crate) struct Readings {
     pub stored: Stored,
     pub aux: Option<Text>,
 }
 
-// What the Aux slot says of files.
+// The stamps of the Aux slot, and whether it is corrupt.
 #[derive(Drop)]
 struct AuxStamps {
     stamps: Stamps,
@@ -88,7 +88,7 @@ fn stamps_of(alloc: Global, aux: Option<Text>) -> Result<AuxStamps, LoadFault>
     }
 }
 
-// The image of what was read.
+// Builds the image from the contents that were read.
 fn image_of(alloc: Global, readings: Readings) -> Result<Session, LoadFault>
     ensures { IsImageOf (says readings.stored) readings.aux result }
 {
@@ -103,7 +103,7 @@ fn image_of(alloc: Global, readings: Readings) -> Result<Session, LoadFault>
 }
 
 impl Session {
-    /// Loads the image of a disk. A damaged auxiliary cache is no fault: it gives no stamps.
+    /// Loads the image of a disk. A corrupt auxiliary cache isn't an error; the image then has no stamps.
     pub fn load<D: Disk>(alloc: Global, disk: &mut D) -> Result<Session, LoadFault>
         ensures loads { Loads result (D.state disk.old) (D.state disk.new) }
     {

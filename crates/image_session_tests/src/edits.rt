@@ -6,7 +6,7 @@ use lib_types::NoMemory;
 use std::alloc::Global;
 use table_rows::{Row, Said, Trial, Words, divide, text};
 
-/// A row has the texts of an image, the lines that edit it one after another, the result of each, and the image after them.
+/// A row has the texts of an image, the lines that edit it in order, the result of each line, and the image after all of them.
 pub(crate) struct Edits;
 
 // Adds the result of an edit as a line.
@@ -26,7 +26,7 @@ fn put_result(
     Ok(())
 }
 
-// Edits the image by each of the lines, and gives the results.
+// Edits the image by each of the lines, and returns the results.
 fn edit_all(alloc: Global, image: &mut Session, lines: &[u8]) -> Result<Vec<u8>, NoMemory> {
     let mut results = Vec::new(alloc);
     let mut rest = lines;
@@ -48,7 +48,7 @@ impl Trial for Edits {
         WORDS
     }
 
-    // A body that always returns NoMemory meets the contract; the rows refuse it.
+    // A body that always returns NoMemory meets the contract, but not the rows.
     fn is_right(alloc: Global, row: Row<'_>, said: &mut Said) -> Result<bool, NoMemory> {
         let mut disk = disk_of(alloc, row)?;
         let Ok(mut image) = Session::load(alloc, &mut disk) else {

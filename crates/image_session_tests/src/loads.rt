@@ -1,4 +1,4 @@
-//! Rows of loadings.
+//! Rows of images that are loaded.
 use crate::shown::shown;
 use image_rows::{AUX, CACHE, DISK_FAILS, MANIFEST, disk_of, slots_in};
 use image_session::{LoadFault, Session};
@@ -6,8 +6,8 @@ use lib_types::NoMemory;
 use std::alloc::Global;
 use table_rows::{Row, Said, Trial, Words, has_line};
 
-/// A row has the files of a disk, as far as there are such, and the image that is loaded, or the fault. It has the files that are read
-/// unless a reading fails, whose file may be among them or not.
+/// A row has the files of a disk, if there are any, and the image that is loaded, or the fault. It has the files that are read, unless a
+/// reading fails. The file of a failed reading may be among them or not.
 pub(crate) struct Loads;
 
 // The image, or the fault and a line feed.
@@ -29,7 +29,7 @@ impl Trial for Loads {
         WORDS
     }
 
-    // A body that always returns NoMemory meets the contract; the rows refuse it.
+    // A body that always returns NoMemory meets the contract, but not the rows.
     fn is_right(alloc: Global, row: Row<'_>, said: &mut Said) -> Result<bool, NoMemory> {
         let mut disk = disk_of(alloc, row)?;
         let image = outcome(alloc, Session::load(alloc, &mut disk))?;

@@ -20,7 +20,7 @@ fn put_stamp(alloc: Global, text: &mut Vec<u8>, stamp: &Stamp) -> Result<(), NoM
     Ok(())
 }
 
-// Adds the line of the auxiliary cache's damage, if there is one.
+// Adds the line with the offset at which the auxiliary cache is malformed, if it is.
 fn put_damage(alloc: Global, text: &mut Vec<u8>, damaged: Option<u64>) -> Result<(), NoMemory> {
     if let Some(at) = damaged {
         let shown = format!(in alloc; "damaged {at}\n")?;
@@ -29,7 +29,7 @@ fn put_damage(alloc: Global, text: &mut Vec<u8>, damaged: Option<u64>) -> Result
     Ok(())
 }
 
-/// The mark, the damage, the stamps, and the tree as a manifest.
+/// The mark of edits, the line of a malformed auxiliary cache, the stamps, and the tree as a manifest.
 pub(crate) fn shown(alloc: Global, image: &Session) -> Result<Vec<u8>, NoMemory> {
     let mut text = Vec::new(alloc);
     if image.edited {

@@ -1,4 +1,4 @@
--- What lies above a path, and when a node clashes.
+-- The entries above a path, and when a node clashes.
 use Rattle.std.proofs.Common.{◌≡◌, ℕ, ◌+◌, ◌<◌, Bool, true, false, ◌&&◌, ◌||◌, not, List, [], ◌∷◌, ◌++◌, length, get_or, Option, Some, None, refl, sym, ap, subst, ◌∙◌, ⊎_elim, arith}
 use Rattle.std.proofs.lemmas.Bool.{and_parts, and_from, or_parts, cases_lt}
 use Rattle.std.proofs.lemmas.List.Folds.{list_any_none, list_any_at}
@@ -25,7 +25,7 @@ pub path_of_entry : (t : Nodes) (k : ℕ) (d : List ℕ × Node) → list_all is
 path_of_entry t k d all h = (and_parts _ _ (AllPass-from_list_all is_entry t all k d h)).0
 
 module _ (test : List ℕ × Node → Bool) (t : Nodes) (q : List ℕ) (node : Node) (at : node_at t q ≡ Some node) where
-  -- what holds of each entry holds of a node that is found
+  -- if each entry passes the test, the found one does
   pub found_passes : list_all test t ≡ true → test (q, node) ≡ true
   found_passes all =
       let p = place_from_lookup (is_at (path_cmp q)) t node at in
@@ -35,7 +35,7 @@ module _ (test : List ℕ × Node → Bool) (t : Nodes) (q : List ℕ) (node : N
       let there : test d ≡ true = subst (λ (z : List ℕ × Node). test z ≡ true) g (AllPass-from_list_all test t all p.0 d (slice_get_within t p.0 _ p.2)) in
       subst (λ (z : List ℕ). test (z, node) ≡ true) (sym same) there
 
-  -- what holds of a node that is found holds of some entry
+  -- if the found entry passes the test, some entry does
   pub found_any : test (q, node) ≡ true → list_any test t ≡ true
   found_any h =
       let p = place_from_lookup (is_at (path_cmp q)) t node at in
@@ -45,7 +45,7 @@ module _ (test : List ℕ × Node → Bool) (t : Nodes) (q : List ℕ) (node : N
       let there : test d ≡ true = subst (λ (z : List ℕ). test (z, node) ≡ true) same h in
       list_any_at test t p.0 d (slice_get_within t p.0 _ p.2) (subst (λ (z : List ℕ × Node). test z ≡ true) (sym g) there)
 
--- a node that is found is at a path, and is valid
+-- a node that is found is valid, and so is its path
 pub found_entry : (t : Nodes) (q : List ℕ) (node : Node) → list_all is_entry t ≡ true → node_at t q ≡ Some node → is_entry (q, node) ≡ true
 found_entry t q node all at = found_passes is_entry t q node at all
 
@@ -80,7 +80,7 @@ module _ (t : Nodes) (tree : IsTree t) where
   none_above_found path k d index = subst (λ q. has_file_above t q ≡ false) (exact (get_or t k d).0 path (index.same d)) (none_above_entry k d index.within)
 
   module _ (path : List ℕ) where
-    -- what lies above the path comes before it
+    -- an entry above the path comes before it
     above_is_less : (k : ℕ) (d : List ℕ × Node) → k < length t → is_file_above path (get_or t k d) ≡ true → path_cmp (get_or t k d).0 path ≡ Less
     above_is_less k d h above =
         let q = (get_or t k d).0 in
@@ -93,7 +93,7 @@ module _ (t : Nodes) (tree : IsTree t) where
         (λ above. let z : Less ≡ Greater = sym (above_is_less k d h above) ∙ gap.after k d (omega arith) h in absurd (cc))
         (λ e. e))
 
-    -- an entry above the path is the one directly before it, since nothing lies between them but what lies below that entry
+    -- an entry above the path is the one directly before it, since only entries below that entry can come in between
     above_is_before : (index i k : ℕ) (d : List ℕ × Node) → index ≡ i + 1 → IsGapFor t path index → k < length t → is_file_above path (get_or t k d) ≡ true → k ≡ i
     above_is_before index i k d next gap h above =
         let q = (get_or t k d).0 in

@@ -1,4 +1,4 @@
--- What comes behind a child's path and before an entry of the child is an entry of the child.
+-- Each entry after a child's path and before another entry of the child is an entry of the child too.
 use Rattle.std.proofs.Common.{◌≡◌, true, nat_eq, ◌&&◌, Bool, Option, List, ℕ, zero, suc, [], ◌∷◌, ◌++◌, ◌⊎◌, inl, inr, ⊎_elim, length, drop, refl, sym, ap, subst, ◌∙◌}
 use Rattle.std.proofs.lemmas.Bool.{and_parts, and_from, eqb-true}
 use Rattle.std.proofs.lemmas.Bool.Decides.{Decides-eqb}
@@ -18,7 +18,7 @@ use Rattle.image_tree.specs.Runs.{IsPathOfChild, children_behind, is_name_end, i
 use Rattle.image_tree.specs.Tree.{Nodes, IsPathSorted}
 use Rattle.image_tree.specs.declared.node.Node.{Node}
 
--- the path is the child's, or lies below it
+-- the path is the child's path, or lies below it
 abbrev IsWithin : List ℕ → List ℕ → Type 0
 IsWithin child path = (path ≡ child) ⊎ ((s : List ℕ) × (path ≡ child ++ 47 ∷ s))
 
@@ -71,7 +71,7 @@ module _ (folder name child : List ℕ) (whole : IsPathOfChild folder name child
       at_last P [] t e a = a.0
       at_last P (x ∷ front) t e a = at_last P front t e a.1
 
-  -- an entry of the child that comes later leaves as much
+  -- skipping to a later entry of the child leaves the same children
   pub run_skipped : (node : Option Node) (t last : Nodes) (e : List ℕ × Node) → AreSortedBehind child t → EndsWith t e last → is_of_child e.0 ≡ true
       → dedup_from is_same_child (name, node) (children_behind folder last) ≡ dedup_from is_same_child (name, node) (children_behind folder t)
   run_skipped there t last e sorted ends h =
@@ -80,7 +80,7 @@ module _ (folder name child : List ℕ) (whole : IsPathOfChild folder name child
       ∙ sym (front_skipped there ends.front ends.more e (subst (AreSortedBehind child) all sorted) h)
       ∙ sym (ap (λ l. dedup_from is_same_child (name, there) (children_behind folder l)) all)
 
--- ---- entries behind a path
+-- ---- entries after a path
 
 behind_back : (path : List ℕ) (front t : Nodes) → AreSortedBehind path (front ++ t) → AreSortedBehind path t
 unfolding IsStrictlySortedBy
@@ -105,7 +105,7 @@ behind_below : (child s : List ℕ) (e : List ℕ × Node) (t : Nodes) → e.0 �
 unfolding IsStrictlySortedBy
 behind_below child s e t below sorted = (all_behind child e.0 (keys_of t) (subst (λ z. path_cmp child z ≡ Less) (sym below) (comes_before child s)) sorted.0, sorted.1)
 
--- what follows an entry of the child is behind the child
+-- the entries after an entry of the child come after the child's path
 pub behind_child : (folder name child : List ℕ) (e : List ℕ × Node) (t : Nodes) → IsPathOfChild folder name child → starts_with nat_eq e.0 folder ≡ true → name ≡ name_behind (length folder) e.0
     → IsPathSorted (e ∷ t) → AreSortedBehind child t
 behind_child folder name child e t whole starts same sorted =

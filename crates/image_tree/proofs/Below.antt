@@ -1,4 +1,4 @@
--- What lies below a path comes directly behind it.
+-- The entries below a path come directly after it.
 use Rattle.std.proofs.Common.{◌≡◌, ℕ, ◌+◌, ◌<◌, ◌≤◌, true, false, cond, nat_eq, List, [], ◌∷◌, ◌++◌, length, get_or, drop, refl, sym, ap, subst, ◌∙◌, ⊎_elim, arith, append_assoc, Ordering}
 use Rattle.std.proofs.lemmas.Bool.{cases_lt, eqb-true}
 use Rattle.std.proofs.lemmas.Bool.Decides.{Decides-eqb, nat_tests}
@@ -17,7 +17,7 @@ use Rattle.image_tree.specs.declared.node.Node.{Node}
 use Rattle.image_tree.specs.Index.{IsIndexOf, IsGapFor, IsBehind}
 use Rattle.image_tree.specs.Tree.{Nodes, IsPathSorted, has_below}
 
--- the rank of bytes that are equal, and the bytes of equal ranks
+-- equal numbers compare as Equal, and bytes with equal ranks are equal
 pub nat_cmp_itself : (n : ℕ) → nat_cmp n n ≡ Equal
 nat_cmp_itself n = sym (nat_cmp_is n n Equal refl)
 
@@ -27,7 +27,7 @@ nat_cmp_equal m n h = grind (arith, nat_tests)
 pub rank_equal : (x y : ℕ) → path_rank x ≡ path_rank y → x ≡ y
 rank_equal x y h = grind (arith, nat_tests)
 
--- a path comes before what lies below it
+-- a path comes before the paths below it
 pub comes_before : (p s : List ℕ) → path_cmp p (p ++ 47 ∷ s) ≡ Less
 comes_before [] s = refl
 comes_before (x ∷ p) s = rw (nat_cmp_itself (path_rank x)) (comes_before p s)
@@ -38,7 +38,7 @@ cmp_step x y p q r h = ap (λ o. ordering_then o (path_cmp p q)) h
 pub after_slash : (y : ℕ) → nat_eq y 47 ≡ false → nat_cmp (path_rank y) (path_rank 47) ≡ Greater
 after_slash y h = grind (arith, nat_tests)
 
--- what comes between a path and a path below it lies below it too
+-- a path between p and a path below p lies below p too
 pub between : (p q s : List ℕ) → path_cmp p q ≡ Less → path_cmp q (p ++ 47 ∷ s) ≡ Less → (t : List ℕ) × (q ≡ p ++ 47 ∷ t)
 between [] [] s h k = absurd (cc)
 between [] (y ∷ q) s h k = by_test (nat_eq y 47) (λ e. (q, ap (λ z. z ∷ q) (eqb-true y 47 e)))
@@ -54,7 +54,7 @@ between (x ∷ p) (y ∷ q) s h k = by_ordering (nat_cmp (path_rank x) (path_ran
     (r.0, g))
     (λ a. let z : Less ≡ Greater = sym h ∙ cmp_step x y p q Greater a in absurd (cc))
 
--- the root is no path
+-- the root isn't the path of a node
 pub not_root : (p : List ℕ) → is_path p ≡ true → bytes_eq p root ≡ false
 not_root p h = by_test (bytes_eq p root)
     (λ e. let f : is_path p ≡ false = ap is_path ((bytes_eq-Decides p root).0 e) in absurd (cc))
@@ -63,7 +63,7 @@ not_root p h = by_test (bytes_eq p root)
 folder_is : (p : List ℕ) → is_path p ≡ true → folder p ≡ p ++ root
 folder_is p h = ap (λ b. cond b [] p ++ root) (not_root p h)
 
--- q lies below p exactly if it is p with a slash and more behind it
+-- if q lies below p, q is p followed by a slash and more
 pub below_is : (p q : List ℕ) → is_path p ≡ true → is_below p q ≡ true → (s : List ℕ) × (q ≡ p ++ 47 ∷ s)
 below_is p q h b =
     let f = (starts_is Decides-eqb q (p ++ root) (is_below p q) (ap (λ f. starts_with nat_eq q f) (folder_is p h))).0 b in
@@ -83,7 +83,7 @@ module _ (t : Nodes) (path : List ℕ) (at : ℕ) (proper : is_path path ≡ tru
       let n = behind.before k d (omega arith) h in absurd (cc))
       (λ e. e)
 
-  -- what stands between the path and a place below it lies below it too
+  -- an entry between the path and an entry below it lies below it too
   pub below_as_later : IsPathSorted t → (i j : ℕ) (d : List ℕ × Node) → at ≤ i → i < j → j < length t → is_below path (get_or t j d).0 ≡ true → is_below path (get_or t i d).0 ≡ true
   below_as_later sorted i j d h k l e =
       let s = below_is path (get_or t j d).0 proper e in
@@ -109,7 +109,7 @@ module _ (t : Nodes) (path : List ℕ) (at : ℕ) (proper : is_path path ≡ tru
   pub some_below_next : (d : List ℕ × Node) → at < length t → is_below path (get_or t at d).0 ≡ true → has_below t path ≡ true
   some_below_next d l e = list_any_at (λ (e : List ℕ × Node). is_below path e.0) t at d l e
 
--- behind the path's own entry
+-- the entries after the path's own entry are the ones after the path
 pub behind_index : (t : Nodes) (path : List ℕ) (at : ℕ) → IsPathSorted t → IsIndexOf t path at → IsBehind t path (at + 1)
 behind_index t path at s p = record {
   within = omega (arith, p.within);
@@ -125,7 +125,7 @@ behind_index t path at s p = record {
 pub behind_gap : (t : Nodes) (path : List ℕ) (at : ℕ) → IsGapFor t path at → IsBehind t path at
 behind_gap t path at p = record { within = p.within; before = λ k d low high. ap is_gt (p.before k d low high); after = p.after }
 
--- paths that compare as equal are equal
+-- paths that compare as Equal are equal
 pub exact : (p q : List ℕ) → path_cmp p q ≡ Equal → p ≡ q
 exact [] [] h = refl
 exact [] (y ∷ q) h = absurd (cc)

@@ -1,4 +1,4 @@
--- Bytes that a path begins with.
+-- The bytes at the front of a path.
 use Rattle.std.proofs.Common.{◌≡◌, ℕ, zero, suc, ◌<◌, ◌≤◌, true, false, nat_eq, List, [], ◌∷◌, ◌++◌, append_assoc, get_or, length, drop, refl, ap, sym, ◌∙◌, arith}
 use Rattle.std.proofs.lemmas.Bool.Decides.{Decides-eqb}
 use Rattle.std.proofs.lemmas.List.{length-append}
@@ -7,13 +7,13 @@ use Rattle.std.specs.List.{starts_with}
 use Rattle.lib_types.proofs.SortedPairs.{by_test}
 use Rattle.image_tree.specs.Paths.{root}
 
--- a path doesn't begin with more bytes than it has
+-- a path doesn't begin with a text that is longer than the path
 pub too_short : (path front : List ℕ) → length path < length front → false ≡ starts_with nat_eq path front
 too_short path front less = by_test (starts_with nat_eq path front)
     (λ e. let whole = (starts_is Decides-eqb path front (starts_with nat_eq path front) refl).0 e in absurd (omega (arith, ap length whole ∙ length-append front _)))
     sym
 
--- ---- with a slash behind them
+-- ---- with a slash after the front
 
 begins : (front q : List ℕ) → starts_with nat_eq q front ≡ true → q ≡ front ++ drop (length front) q
 begins front q e = (starts_is Decides-eqb q front (starts_with nat_eq q front) refl).0 e
@@ -21,7 +21,7 @@ begins front q e = (starts_is Decides-eqb q front (starts_with nat_eq q front) r
 begins_by : (front q rest : List ℕ) → q ≡ front ++ rest → starts_with nat_eq q front ≡ true
 begins_by front q rest e = (starts_is Decides-eqb q front (starts_with nat_eq q front) refl).1 rest e
 
--- what begins with them and a slash
+-- a path that begins with the front and a slash
 behind_front : (front q : List ℕ) → starts_with nat_eq q (front ++ root) ≡ true → (rest : List ℕ) × (q ≡ front ++ 47 ∷ rest)
 behind_front front q e = (drop (length (front ++ root)) q, begins (front ++ root) q e ∙ append_assoc front root _)
 

@@ -1,4 +1,4 @@
--- What an index in a tree's list says.
+-- The lookup and the change of an entry, given its index in a tree's list.
 use Rattle.std.proofs.Common.{◌≡◌, ℕ, ◌+◌, List, length, get_or, set, Some, None, sym, subst, ⊎_elim, arith}
 use Rattle.std.specs.List.{insert, remove}
 use Rattle.std.specs.declared.cmp.Ordering.TheVariants.{Less}

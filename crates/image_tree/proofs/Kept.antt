@@ -1,4 +1,4 @@
--- What stays true of a tree.
+-- `put` and `remove` keep a tree valid.
 use Rattle.std.proofs.Common.{◌≡◌, ℕ, ◌<◌, ◌≤◌, ◌^◌, Bool, true, false, cond, List, [], ◌∷◌, length, Result, Ok, Err, arith}
 use Rattle.std.proofs.lemmas.Bool.{and_from}
 use Rattle.std.proofs.lemmas.List.{length-set}
@@ -34,7 +34,7 @@ module _ (t : Nodes) (path : List ℕ) (node : Node) (free : clashes t path node
   pub inserted_tree : (at : ℕ) → IsTree t → IsGapFor t path at → is_path path ≡ true → is_node node ≡ true → length t < 2 ^ 20 → IsTree (tree.put t path node)
   inserted_tree at h p q n few = put_tree h q n (rw (← inserted t path at node p) (let k = length-insert t at (path, node) p.within in omega arith))
 
--- with a node at the place that was found for its path
+-- putting a node at the place that a search found for its path keeps the tree valid
 pub tree_put : (runs : List Nodes) (path : List ℕ) (node : Node) → clashes (joined runs) path node ≡ false → (found : Result Place Place) → MatchResult found (IsPlaceOf runs path) (IsGapAt runs path)
     → IfErr found (λ _. length (joined runs) < 2 ^ 20) → IsTree (joined runs) → is_path path ≡ true → is_node node ≡ true → IsTree (tree.put (joined runs) path node)
 tree_put runs path node free (Ok place) p room h q n = replaced_tree (joined runs) path node free (index_of runs place) h p.index q n

@@ -1,4 +1,4 @@
--- What is at a path, by the place that was found for it.
+-- The kind of a path, from the place that a search found for it.
 use Rattle.std.proofs.Common.{◌≡◌, ◌<◌, ℕ, true, false, not, ◌&&◌, ◌==◌, List, [], ◌∷◌, length, get_or, None, refl, sym, ap, ◌∙◌, arith}
 use Rattle.std.proofs.lemmas.Bool.{and_from, and_parts}
 use Rattle.std.proofs.lemmas.Bool.Decides.{nat_tests}

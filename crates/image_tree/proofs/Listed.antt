@@ -26,7 +26,7 @@ use Rattle.image_tree.specs.declared.node.Node.{Node}
 use Rattle.image_tree.specs.declared.tree.Kind.{Kind}
 use Rattle.image_tree.specs.declared.tree.Kind.TheVariants.{Absent, Dir, File, Link}
 
--- ---- the first of each group of neighbours
+-- ---- the first item of each group of adjacent items with one name
 
 module _ {X N V : Type 0} (same : N → N → Bool) (exact : (m n : N) → same m n ≡ true → m ≡ n) (name : X → N) (value : X → V) (there : N → V) where
   abbrev pub same_name : N × V → N × V → Bool
@@ -38,7 +38,7 @@ module _ {X N V : Type 0} (same : N → N → Bool) (exact : (m n : N) → same 
   abbrev pub with_value : N → N × V
   with_value n = (n, there n)
 
-  -- if each item that differs by name from the one before it has its name's value
+  -- if each item whose name differs from the previous one has the value of its name
   grouped : (x : X) (xs : List X)
       → ((k : ℕ) (d : X) → k < length xs → same (name (get_or xs k d)) (name (get_or (x ∷ xs) k d)) ≡ false → value (get_or xs k d) ≡ there (name (get_or xs k d)))
       → dedup_from same_name (with_value (name x)) (map named xs) ≡ map with_value (dedup_from same (name x) (map name xs))
@@ -68,12 +68,12 @@ module _ {X N V : Type 0} (same : N → N → Bool) (exact : (m n : N) → same 
       ∙ grouped x xs (λ k d l differs.
       h (suc k) d (omega arith) (λ j e. let before : k ≡ j = omega arith in subst (λ n. same (name (get_or xs k d)) (name (get_or (x ∷ xs) n d)) ≡ false) before differs))
 
--- ---- the first name of what is behind a folder
+-- ---- the first name of the bytes after a directory prefix
 
 abbrev GoesOn : List ℕ → Type 0
 GoesOn r = (s : List ℕ) × (r ≡ first_name r ++ 47 ∷ s)
 
--- it is the whole, or a slash follows
+-- the first name is all of the bytes, or a slash follows it
 name_parts : (r : List ℕ) → (first_name r ≡ r) ⊎ GoesOn r
 name_parts [] = inl refl
 name_parts (x ∷ r) = by_test (nat_eq x 47)
@@ -146,7 +146,7 @@ module _ (p : List ℕ) where
         (λ more. (more.0, longer_path more.0 more.1))
         (name_parts rest)
 
-    -- the name of the child's path and of each below it is the child's
+    -- the child's path, and each path below it, has the name of the child
     name_of_child : name_of (child_of q) ≡ name_of q
     name_of_child = ap first_name (drop_front (folder p) (first_name rest)) ∙ name_alone rest
 
@@ -160,7 +160,7 @@ module _ (p : List ℕ) where
         let more = deeper_path ends in
         flipped path_total (child_of q) q Less (subst (λ z. path_cmp (child_of q) z ≡ Less) (sym more.1) (comes_before (child_of q) more.0))
 
-    -- a path of another child that comes before comes before the child too
+    -- an earlier path of another child also comes before the child's own path
     before_child : (a : List ℕ) → ends_by start q ≡ false → path_cmp a q ≡ Less → bytes_eq (name_of q) (name_of a) ≡ false → path_cmp a (child_of q) ≡ Less
     before_child a ends less other =
         let not_same : name_of a ≡ name_of q → path_cmp a (child_of q) ≡ Less = λ e.
@@ -209,7 +209,7 @@ module _ (t : Nodes) (p : List ℕ) (sorted : IsPathSorted t) where
   abbrev first_at : ℕ → List ℕ × Node → Type 0
   first_at k d = (j : ℕ) → k ≡ j + 1 → bytes_eq (name_of p (get_or entries k d).0) (name_of p (get_or entries j d).0) ≡ false
 
-  -- the first entry of a child has the child's own path, or there is no entry of that path
+  -- if the first entry of a child isn't at the child's own path, no entry has that path
   gap_of_child : (k : ℕ) (d : List ℕ × Node) → k < length entries → first_at k d → ends_by (start p) (get_or entries k d).0 ≡ false → IsGapFor entries (child_of p (get_or entries k d).0) k
   gap_of_child k d l first ends =
       let q = (get_or entries k d).0 in

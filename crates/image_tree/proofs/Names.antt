@@ -17,7 +17,7 @@ use Rattle.image_tree.specs.Index.{IsBehind}
 use Rattle.image_tree.specs.Tree.{Nodes, IsPathSorted, is_entry}
 use Rattle.image_tree.specs.declared.node.Node.{Node}
 
--- ---- the part of a list that passes
+-- ---- the items of a list that pass a test
 
 module _ {X : Type 0} (p : X → Bool) where
   pub filter_none_before : (xs : List X) (i : ℕ) → i ≤ length xs → AllWithin (λ x. p x ≡ false) xs 0 i → filter p (drop i xs) ≡ filter p xs
@@ -33,7 +33,7 @@ module _ {X : Type 0} (p : X → Bool) where
       ap (λ b. cond b (x ∷ filter p xs) (filter p xs)) (none 0 x (omega arith) (omega arith))
       ∙ filter_none xs (λ k d low high. none (suc k) d (omega arith) (omega arith))
 
-  -- if those that pass come first, they are what a walk takes that ends at the first that doesn't
+  -- if the items that pass come first, `take_while` takes the same items as `filter`
   pub taken_first : (xs : List X) → IsPartitionedBy p xs → take_while p xs ≡ filter p xs
   taken_first [] parts = refl
   taken_first (x ∷ xs) parts = by_test (p x)
@@ -48,7 +48,7 @@ module _ {X : Type 0} (p : X → Bool) where
       take_while-cons p x xs ∙ ap (λ b. cond b (x ∷ take_while p xs) []) e ∙ sym none
       ∙ sym (ap (λ b. cond b (x ∷ filter p xs) (filter p xs)) e))
 
--- ---- what lies below a path
+-- ---- the entries below a path
 
 module _ (t : Nodes) (path : List ℕ) (at : ℕ) (proper : is_path path ≡ true) (behind : IsBehind t path at) where
   pub below_first : IsPathSorted t → IsPartitionedBy (λ e. is_below path e.0) (drop at t)
@@ -78,14 +78,14 @@ child_first folder e t starts =
     let test = λ (x : List ℕ × Node). starts_with nat_eq x.0 folder in
     ap (map (child_at (length folder))) (take_while-cons test e t ∙ ap (λ b. cond b (e ∷ take_while test t) []) starts)
 
--- the children that begin with this one, given what is left behind its entries
+-- a child is the first of the children, followed by the children of the entries after it
 pub child_taken : (folder : List ℕ) (e : List ℕ × Node) (t rest : Nodes) (child : List ℕ × Option Node) → starts_with nat_eq e.0 folder ≡ true → child ≡ child_at (length folder) e
     → dedup_from is_same_child child (children_behind folder t) ≡ child ∷ dedup is_same_child (children_behind folder rest)
     → dedup is_same_child (children_behind folder (e ∷ t)) ≡ child ∷ dedup is_same_child (children_behind folder rest)
 child_taken folder e t rest child starts same skipped =
     ap (dedup is_same_child) (child_first folder e t starts) ∙ ap (λ c. dedup_from is_same_child c (children_behind folder t)) (sym same) ∙ skipped
 
--- an entry of the same child adds none
+-- another entry of the same child adds no child
 pub child_skipped : (folder name : List ℕ) (node : Option Node) (e : List ℕ × Node) (t : Nodes) → (starts_with nat_eq e.0 folder && bytes_eq (name_behind (length folder) e.0) name) ≡ true
     → dedup_from is_same_child (name, node) (children_behind folder (e ∷ t)) ≡ dedup_from is_same_child (name, node) (children_behind folder t)
 child_skipped folder name node e t same =
@@ -120,7 +120,7 @@ and_true : (b : Bool) → (b && true) ≡ b
 and_true true = refl
 and_true false = refl
 
--- bytes whose first name is this one begin with it, and the name ends behind it
+-- the first name of the bytes is this name exactly if the bytes begin with it and it ends there
 first_name : (name bytes : List ℕ) → list_all (λ b. not (is_slash b)) name ≡ true
     → (is_name_end (drop (length name) bytes) && starts_with nat_eq bytes name) ≡ bytes_eq (before_first is_slash bytes) name
 first_name [] [] alone = refl
@@ -161,7 +161,7 @@ begins_alike (x ∷ folder) name (b ∷ path) alone =
     ap (λ c. end && (c && starts_with nat_eq path (folder ++ name))) e ∙ and_false end
     ∙ sym (ap (λ c. (c && starts_with nat_eq path folder) && bytes_eq (name_behind (length folder) path) name) e))
 
--- the entries of a child are those that begin with its path, behind which a name ends
+-- an entry belongs to a child exactly if its path begins with the child's path and a name ends there
 pub same_child : (folder name child path : List ℕ) → IsPathOfChild folder name child
     → (is_name_end (drop (length child) path) && starts_with nat_eq path child) ≡ (starts_with nat_eq path folder && bytes_eq (name_behind (length folder) path) name)
 same_child folder name child path h =
@@ -201,7 +201,7 @@ child_path folder name path starts same =
     front [] r n = let none : 0 + n ≡ n = omega arith in ap (λ k. take k r) none
     front (x ∷ f) r n = let more : length (x ∷ f) + n ≡ suc (length f + n) = omega arith in ap (λ k. take k (x ∷ (f ++ r))) more ∙ ap (λ l. x ∷ l) (front f r n)
 
--- ---- the folder of a path
+-- ---- the directory prefix of a path
 
 pub folder_taken : (f q r : List ℕ) → q ≡ f ++ r → take (length f) q ≡ f
 folder_taken f q r e = ap (take (length f)) e ∙ front f r

@@ -1,4 +1,4 @@
--- Paths in one text: a text more, a path more, and rows by their parts and nodes.
+-- Paths in one text: appending to the text, adding a path, and rows described by their parts and nodes.
 use Rattle.std.proofs.Common.{◌≡◌, ◌≤◌, ◌<◌, ◌+◌, ◌-◌, ℕ, zero, suc, List, [], ◌∷◌, ◌++◌, length, map, drop, take, get_or, set, refl, ap, sym, subst, ◌∙◌, arith}
 use Rattle.lib_types.proofs.Offsets.{part_kept, part_within, pushed as part_pushed, pushed_within as part_pushed_within, rows_kept, rows_within}
 use Rattle.std.proofs.lemmas.List.{length-map}
@@ -11,7 +11,7 @@ use Rattle.image_tree.specs.declared.node.Node.{Node}
 use Rattle.lib_types.specs.declared.part.Part.{Part}
 use Rattle.image_tree.specs.declared.tree.row.Row.{Row}
 
--- ---- parts that are within
+-- ---- parts within a text
 
 pub row_within : (count : ℕ) (rows : List Row) (i : ℕ) (d : Row) → AreWithin count (parts_in_rows rows) → i < length rows → IsWithin count (get_or rows i d).part
 row_within count [] i d h l = absurd (omega arith)
@@ -42,7 +42,7 @@ within_inserted count rows zero row l h is = (is, h)
 within_inserted count [] (suc i) row l h is = absurd (omega arith)
 within_inserted count (r ∷ rows) (suc i) row l h is = (h.0, within_inserted count rows i row (omega arith) h.1 is)
 
--- ---- rows with one written
+-- ---- rows after one was overwritten
 
 pub set_alike : {Y : Type 0} (f : Row → Y) (rows : List Row) (i : ℕ) (row old : Row) → old ≡ get_or rows i old → f row ≡ f old → map f (set rows i row) ≡ map f rows
 set_alike f [] i row old e same = refl
@@ -78,7 +78,7 @@ pub paths_are : (text : List ℕ) (rows : List Row) → keys_of (entries_in text
 paths_are text [] = refl
 paths_are text (row ∷ rows) = ap (λ ps. part_of text row.part ∷ ps) (paths_are text rows)
 
--- rows whose parts were overwritten by those of these paths
+-- rows whose parts were overwritten have these paths and the old nodes
 pub settled : (text : List ℕ) (rows old : List Row) (parts : List Part) (paths : List (List ℕ)) → map (part_of text) parts ≡ paths → parts_in_rows rows ≡ parts → nodes_of rows ≡ nodes_of old
     → entries_in text rows ≡ zip paths (nodes_of old)
 settled text rows old parts paths same e nodes =
@@ -108,7 +108,7 @@ entries_dropped text rows zero = refl
 entries_dropped text [] (suc i) = refl
 entries_dropped text (row ∷ rows) (suc i) = entries_dropped text rows i
 
--- rows with another node in one
+-- rows with the node of one row replaced
 pub entries_with_node : (text : List ℕ) (old new : List Row) (i : ℕ) (node : Node) (d : List ℕ × Node) → i < length old → parts_in_rows new ≡ parts_in_rows old → nodes_of new ≡ set (nodes_of old) i node
     → entries_in text new ≡ set (entries_in text old) i ((get_or (entries_in text old) i d).0, node)
 entries_with_node text old new i node d l parts nodes =
@@ -119,7 +119,7 @@ entries_with_node text old new i node d l parts nodes =
     zip_set (row ∷ rows) zero l = ap (λ es. (part_of text row.part, node) ∷ es) (sym (entries_are text rows))
     zip_set (row ∷ rows) (suc i) l = ap (λ es. entry_in text row ∷ es) (zip_set rows i (omega arith))
 
--- ---- a path more
+-- ---- one more path
 
 module _ (text new : List ℕ) (longer : IsLonger text new) where
   module _ (parts : List Part) (within : AreWithin (length text) parts) where

@@ -56,6 +56,6 @@ pub byte_decides : (a b : List ℕ) (n : ℕ) → n < length a → n < length b 
     → nat_cmp (path_rank (get_or a n 0)) (path_rank (get_or b n 0)) ≡ path_cmp a b
 byte_decides = ranks.byte_decides path_rank ranks_apart
 
--- if one path is the front of the other, the lengths decide
+-- if one path is a prefix of the other, the lengths decide
 pub lengths_decide : (a b : List ℕ) (n : ℕ) → n ≤ length a → n ≤ length b → take n a ≡ take n b → (n < length a → n < length b → ⊥) → nat_cmp (length a) (length b) ≡ path_cmp a b
 lengths_decide = ranks.lengths_decide path_rank ranks_apart

@@ -1,4 +1,4 @@
--- What stands before a slash of a path is a path.
+-- The part of a path before one of its slashes is a path.
 use Rattle.std.proofs.Common.{◌≡◌, ◌+◌, ◌<◌, ℕ, true, false, cond, nat_le, List, [], ◌∷◌, ◌++◌, append_assoc, length, length-append, drop, refl, ap, sym, ◌∙◌, arith}
 use Rattle.std.proofs.lemmas.Bool.{and_from, and_parts}
 use Rattle.std.proofs.lemmas.Bool.Decides.{nat_tests}
@@ -16,7 +16,7 @@ onto_front : (x : ℕ) (a b : List (List ℕ)) → 0 < length a → onto_first x
 onto_front x [] b h = absurd (omega arith)
 onto_front x (part ∷ a) b h = refl
 
--- the parts of two texts that a slash joins
+-- the parts of two texts joined by a slash are the parts of both
 pub parts_joined : (xs ys : List ℕ) → slice_split is_slash (xs ++ slash ∷ ys) ≡ slice_split is_slash xs ++ slice_split is_slash ys
 parts_joined [] ys = slice_split-cons_yes is_slash slash ys refl
 parts_joined (x ∷ xs) ys = by_test (is_slash x)

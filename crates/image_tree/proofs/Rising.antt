@@ -1,4 +1,4 @@
--- The names below a directory rise with the tree's list.
+-- The names below a directory are sorted as the tree's list is.
 use Rattle.std.proofs.Common.{◌≡◌, ℕ, suc, ◌+◌, ◌<◌, Bool, true, false, cond, ◌==◌, not, nat_eq, List, [], ◌∷◌, ◌++◌, length, get_or, take, drop, refl, sym, ap, subst, ◌∙◌, arith}
 use Rattle.std.proofs.lemmas.Bool.Decides.{Decides-eqb, nat_tests}
 use Rattle.std.proofs.lemmas.Bool.{eqb-true}
@@ -114,7 +114,7 @@ dir_alone Absent names s = tt
 dir_alone File names s = tt
 dir_alone Link names s = tt
 
--- the children rise by their bytes, so each comes once
+-- the children are strictly sorted by their bytes, so each occurs once
 pub children_sorted : (t : Nodes) (p : List ℕ) → IsPathSorted t → IsStrictlySortedBy (slice_cmp nat_cmp) (children_of t p)
 children_sorted t p sorted =
     dir_alone (kind_at t p) (dedup bytes_eq (names_below t p))

@@ -109,7 +109,7 @@ after Less h = absurd (cc)
 after Equal h = absurd (cc)
 after Greater h = refl
 
--- an entry of a run that begins by the path's place
+-- a run begins by a path if its first entry isn't after the path
 begins_is : (path : List ℕ) (r : Nodes) (d : List ℕ × Node) → 0 < length r → begins_by path r ≡ not (is_gt (path_cmp (get_or r 0 d).0 path))
 begins_is path [] d h = absurd (omega arith)
 begins_is path (e ∷ r) d h = refl
@@ -143,7 +143,7 @@ module _ (runs : List Nodes) (path : List ℕ) (all : are_runs runs ≡ true) (s
       (λ ge. let e : j ≡ i = omega arith in subst (λ (n : ℕ). begins_by path (get_or runs n d) ≡ true) e begins)
       (cases_lt i j)
 
--- a gap by the entries beside it
+-- if the entry before the index is below the path and the one at the index is above it, the index is the gap of the path
 pub gap_between : (t : Nodes) (path : List ℕ) (at : ℕ) → IsPathSorted t → at ≤ length t
     → ((i : ℕ) (d : List ℕ × Node) → at ≡ i + 1 → path_cmp (get_or t i d).0 path ≡ Less)
     → ((d : List ℕ × Node) → at < length t → path_cmp (get_or t at d).0 path ≡ Greater) → IsGapFor t path at
@@ -195,7 +195,7 @@ module _ (runs : List Nodes) (place : Place) where
     }
 
     module _ (all : are_runs runs ≡ true) (sorted : IsPathSorted (joined runs)) where
-      -- the entry behind the end of a run is the first of the next
+      -- the first entry of the next run comes after the path
       next_greater : (j : ℕ) (d : List ℕ × Node) → j < length runs → begins_by path (get_or runs j []) ≡ false → path_cmp (get_or (joined runs) (start_of runs j + 0) d).0 path ≡ Greater
       next_greater j d h none =
           let b = run_bounds_at runs j all h in
@@ -311,7 +311,7 @@ module _ (runs : List Nodes) (i k : ℕ) (h : i < length runs) where
       subst (λ n. joined (insert (set runs i (take k r)) n (drop k r)) ≡ joined runs) f
       (divided_around runs i (take k r) (drop k r) h ∙ ap (λ z. joined (take i runs) ++ (z ++ joined (drop (suc i) runs))) (take-append-drop k r) ∙ sym (around runs i h))
 
--- a run without entries adds nothing
+-- removing an empty run doesn't change the joined list
 pub joined_without : (runs : List Nodes) (i : ℕ) → i < length runs → length (get_or runs i []) ≡ 0 → joined (remove runs i) ≡ joined runs
 joined_without [] i h e = absurd (omega arith)
 joined_without ([] ∷ rs) zero h e = refl
@@ -333,13 +333,13 @@ module _ {X : Type 0} (p : X → Bool) where
   all_inserted (y ∷ ys) zero x all h = and_from _ _ h all
   all_inserted (y ∷ ys) (suc i) x all h = and_from _ _ (and_parts _ _ all).0 (all_inserted ys i x (and_parts _ _ all).1 h)
 
-  -- without one that doesn't pass, or that is replaced by one
+  -- if all items pass, they still do after one is removed
   pub all_set_removed : (xs : List X) (i : ℕ) (x : X) → list_all p xs ≡ true → i < length xs → list_all p (remove (set xs i x) i) ≡ true
   all_set_removed [] i x all h = absurd (omega arith)
   all_set_removed (y ∷ ys) zero x all h = (and_parts _ _ all).1
   all_set_removed (y ∷ ys) (suc i) x all h = and_from _ _ (and_parts _ _ all).0 (all_set_removed ys i x (and_parts _ _ all).1 (omega arith))
 
--- the runs after an entry was removed from one of them
+-- removing a run that has become empty doesn't change the joined list
 pub joined_tidied : (runs : List Nodes) (i : ℕ) → i < length runs → joined (if run_length runs i == 0 then remove runs i else runs) ≡ joined runs
 joined_tidied runs i h = by_test (run_length runs i == 0)
     (λ e.
@@ -422,7 +422,7 @@ module _ (runs : List Nodes) (i j : ℕ) (next : j ≡ i + 1) (h : i < length ru
       let f = ap length front_is ∙ front_length in
       let t = start_front in omega arith
 
--- what is left from a place on
+-- the rest of one run and the later runs are the joined list from that place on
 pub joined_from : (runs : List Nodes) (i j k : ℕ) → j ≡ i + 1 → i < length runs → k ≤ length (get_or runs i []) → drop k (get_or runs i []) ++ joined (drop j runs) ≡ drop (start_of runs i + k) (joined runs)
 joined_from runs i j k e h l =
     let f : suc i ≡ j = omega arith in

@@ -1,4 +1,4 @@
--- Entries behind others, or behind a path.
+-- Entries that come after a path, and the last entries of a list.
 use Rattle.std.specs.Prelude.{◌≡◌, ℕ, List, ◌∷◌, ◌++◌}
 use Rattle.std.specs.List.Sorted.{IsStrictlySortedBy}
 use Rattle.std.specs.Map.{keys_of}
@@ -6,11 +6,11 @@ use Rattle.image_tree.specs.Paths.{path_cmp}
 use Rattle.image_tree.specs.Tree.{Nodes}
 use Rattle.image_tree.specs.declared.node.Node.{Node}
 
--- the entries are sorted, and all behind the path
+-- the entries are sorted, and all come after the path
 abbrev pub AreSortedBehind : List ℕ → Nodes → Type 0
 AreSortedBehind path t = IsStrictlySortedBy path_cmp (path ∷ keys_of t)
 
--- the last of the entries are these, which begin with this one
+-- `last` is the end of the list, and its first entry is e
 pub record EndsWith (t : Nodes) (e : List ℕ × Node) (last : Nodes) : Type 0 where
   pub front : Nodes
   pub more : Nodes

@@ -1,4 +1,4 @@
--- The index of a path in a tree's list, or of its gap there.
+-- The index of a path in a tree's list, or the index at which it would be inserted.
 use Rattle.std.specs.Prelude.{◌≡◌, ℕ, ◌<◌, ◌≤◌, Bool, false, List, ◌&&◌, not, length}
 use Rattle.std.specs.List.{list_any, AllWithin, HoldsAt}
 use Rattle.std.specs.Ordering.{is_gt}
@@ -13,13 +13,13 @@ pub record IsIndexOf (t : Nodes) (path : List ℕ) (index : ℕ) : Type 0 where
   pub within : index < length t
   pub same : HoldsAt (λ e. path_cmp e.0 path ≡ Equal) t index
 
--- no entry has the path, which would be inserted at this index
+-- no entry has the path, and it would be inserted at this index
 pub record IsGapFor (t : Nodes) (path : List ℕ) (index : ℕ) : Type 0 where
   pub within : index ≤ length t
   pub before : AllWithin (λ e. path_cmp e.0 path ≡ Less) t 0 index
   pub after : AllWithin (λ e. path_cmp e.0 path ≡ Greater) t index (length t)
 
--- the entries from this index on are those behind the path
+-- the entries from this index on are the ones after the path
 pub record IsBehind (t : Nodes) (path : List ℕ) (index : ℕ) : Type 0 where
   pub within : index ≤ length t
   pub before : AllWithin (λ e. is_gt (path_cmp e.0 path) ≡ false) t 0 index

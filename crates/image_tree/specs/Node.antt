@@ -1,4 +1,4 @@
--- What may be at a path of a tree.
+-- The valid nodes of a tree.
 use Rattle.std.specs.Prelude.{ℕ, Bool, true, false, List, nat_le, ◌==◌, ◌&&◌, not, length}
 use Rattle.std.specs.List.{list_all}
 use Rattle.std.specs.Str.{is_utf8}
@@ -9,11 +9,11 @@ use Rattle.image_tree.specs.declared.node.Node.TheVariants.{Dir, File, Link}
 abbrev pub has_no_nul : List ℕ → Bool
 has_no_nul = list_all (λ b. not (b == 0))
 
--- the text of a link (symlink(7)): 1 to 4095 bytes without NUL
+-- the target of a symbolic link (symlink(7)): 1 to 4095 bytes without NUL
 abbrev pub is_target : List ℕ → Bool
 is_target target = nat_le 1 (length target) && nat_le (length target) TEXT_MAX && has_no_nul target
 
--- what a store holds a file's content under: 1 to 4095 bytes of UTF-8 without NUL
+-- the key under which a store keeps a file's content: 1 to 4095 bytes of UTF-8 without NUL
 abbrev pub is_key : List ℕ → Bool
 is_key key = is_target key && is_utf8 key
 

@@ -1,4 +1,4 @@
--- Paths whose bytes are parts of one text.
+-- Paths that are stored as parts of one text.
 use Rattle.std.specs.Prelude.{ℕ, List, map}
 use Rattle.std.specs.List.{AllByRecursion}
 use Rattle.lib_types.specs.Part.{part_of, IsWithin}

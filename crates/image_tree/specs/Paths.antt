@@ -8,25 +8,25 @@ use Rattle.std.specs.Str.{bytes_eq}
 use Rattle.lib_types.specs.Name.{slash, is_name}
 use Rattle.image_tree.specs.declared.path.TheConstants.{PATH_MAX}
 
--- the root, which is no path of a node
+-- the root, which is not the path of any node
 abbrev pub root : List ℕ
 root = codes "/"
 
 abbrev pub is_slash : ℕ → Bool
 is_slash b = b == slash
 
--- the components of a path text between its slashes, of which empty ones and `.` lead nowhere
+-- a component between two slashes is kept unless it is empty or `.`
 abbrev pub is_kept : List ℕ → Bool
 is_kept component = not (length component == 0) && not (bytes_eq component (codes "."))
 
 abbrev pub components : List ℕ → List (List ℕ)
 components text = filter is_kept (slice_split is_slash text)
 
--- names with a slash between each two
+-- names, separated by slashes
 abbrev pub are_names : List ℕ → Bool
 are_names bytes = list_all is_name (slice_split is_slash bytes)
 
--- a slash and then names with a slash between each two, at most 4095 bytes in all
+-- a slash, followed by names that are separated by slashes; at most 4095 bytes in total
 abbrev pub is_path : List ℕ → Bool
 is_path path = nat_le (length path) PATH_MAX && starts_with nat_eq path root && are_names (drop 1 path)
 
@@ -34,11 +34,11 @@ is_path path = nat_le (length path) PATH_MAX && starts_with nat_eq path root && 
 abbrev pub path_rank : ℕ → ℕ
 path_rank b = if b == slash then 0 else b + 1
 
--- the order of paths: by their bytes, of which the slash is the least
+-- the order of paths: by their bytes, where the slash is below every other byte
 abbrev pub path_cmp : List ℕ → List ℕ → Ordering
 path_cmp p q = slice_cmp nat_cmp (map path_rank p) (map path_rank q)
 
--- a path without its last slash, which only the root has
+-- a path without its trailing slash; only the root has one
 abbrev pub stem : List ℕ → List ℕ
 stem path = if bytes_eq path root then [] else path
 
@@ -54,7 +54,7 @@ join place name = folder place ++ name
 abbrev pub is_below : List ℕ → List ℕ → Bool
 is_below p q = starts_with nat_eq q (folder p)
 
--- the text begins a path before a slash of it, and isn't empty
+-- the text isn't empty, and the path is the text followed by a slash and more
 abbrev pub is_above : List ℕ → List ℕ → Bool
 is_above text path = not (length text == 0) && is_below text path
 

@@ -1,4 +1,4 @@
--- A tree's list in sorted runs of bounded length.
+-- A tree's list, stored as sorted runs of bounded length.
 use Rattle.std.specs.Prelude.{◌≡◌, ℕ, ◌+◌, ◌-◌, ◌<◌, ◌≤◌, ◌==◌, Bool, true, List, [], ◌∷◌, ◌++◌, ◌&&◌, not, nat_le, nat_eq, if◌then◌else◌, map, length, take, drop, slice_index_or, slice_set, Option, Some, None}
 use Rattle.std.specs.List.{dedup, flat_map, filter, insert, list_all, HoldsAt, take_while, starts_with}
 use Rattle.std.specs.Ordering.{is_gt}
@@ -11,11 +11,11 @@ use Rattle.image_tree.specs.declared.tree.Kind.TheVariants.{Dir}
 use Rattle.image_tree.specs.declared.tree.run.TheConstants.{RUN_MAX}
 use Rattle.image_tree.specs.declared.tree.runs.Place.{Place}
 
--- the runs, one behind the other
+-- the entries of all runs as one list
 abbrev pub joined : List Nodes → Nodes
 joined runs = flat_map (λ run. run) runs
 
--- a run has at least one entry, and at most RUN_MAX
+-- a run has 1 to RUN_MAX entries
 abbrev pub is_run : Nodes → Bool
 is_run run = nat_le 1 (length run) && nat_le (length run) RUN_MAX
 
@@ -26,15 +26,15 @@ are_runs runs = list_all is_run runs
 abbrev pub start_of : List Nodes → ℕ → ℕ
 start_of runs run = length (joined (take run runs))
 
--- the index of a place in the joined list
+-- the index in the joined list of the entry at a place
 abbrev pub index_of : List Nodes → Place → ℕ
 index_of runs place = start_of runs place.run + place.at
 
--- the number of entries of a run, none behind the last
+-- the number of entries of a run, or 0 after the last run
 abbrev pub run_length : List Nodes → ℕ → ℕ
 run_length runs run = length (slice_index_or runs run [])
 
--- an entry stands at the place
+-- there is an entry at the place
 pub record IsEntryPlace (runs : List Nodes) (place : Place) : Type 0 where
   pub run : place.run < length runs
   pub at : place.at < run_length runs place.run
@@ -55,7 +55,7 @@ pub record IsPlaceOf (runs : List Nodes) (path : List ℕ) (place : Place) : Typ
   pub entry : IsEntryPlace runs place
   pub index : IsIndexOf (joined runs) path (index_of runs place)
 
--- no entry has the path, which would be inserted at the place
+-- no entry has the path, and it would be inserted at the place
 pub record IsGapAt (runs : List Nodes) (path : List ℕ) (place : Place) : Type 0 where
   pub here : IsPlace runs place
   pub gap : IsGapFor (joined runs) path (index_of runs place)
@@ -71,25 +71,25 @@ pub record IsEntryBefore (t : Nodes) (index : ℕ) (e : List ℕ × Node) : Type
   pub next : index ≡ i + 1
   pub entry : IsEntryAt t i e
 
--- the list with another node in the entry at this index
+-- the new list is the old one with the node of the entry at this index replaced
 abbrev pub IsWithNode : Nodes → ℕ → Node → Nodes → Type 0
 IsWithNode old index node new = (d : List ℕ × Node) → new ≡ slice_set old index ((slice_index_or old index d).0, node)
 
--- the runs with another node in the entry at this index of a run
+-- the new runs are the old ones with the node of one entry of one run replaced
 abbrev pub IsRunWithNode : List Nodes → ℕ → ℕ → Node → List Nodes → Type 0
 IsRunWithNode old run at node new =
     (d : List ℕ × Node) → new ≡ slice_set old run (slice_set (slice_index_or old run []) at ((slice_index_or (slice_index_or old run []) at d).0, node))
 
--- the runs with this one divided at an index
+-- the runs, with one run divided in two at an index
 abbrev pub divided : List Nodes → ℕ → ℕ → List Nodes
 divided runs run at = insert (slice_set runs run (take at (slice_index_or runs run []))) (run + 1) (drop at (slice_index_or runs run []))
 
--- the run begins at the path or before it
+-- the first entry of the run is at the path or before it
 abbrev pub begins_by : List ℕ → Nodes → Bool
 begins_by path [] = true
 begins_by path (e ∷ run) = not (is_gt (path_cmp e.0 path))
 
--- what the runs of a tree are
+-- valid runs of a tree
 pub record AreRuns (runs : List Nodes) : Type 0 where
   pub tree : IsTree (joined runs)
   pub bounded : are_runs runs ≡ true
@@ -98,16 +98,16 @@ pub record AreRuns (runs : List Nodes) : Type 0 where
 abbrev pub ends_by : ℕ → List ℕ → Bool
 ends_by n path = length (name_behind n path) == length path - n
 
--- the name with which an entry's path goes on behind a folder of n bytes, and the node if the path ends there
+-- the name that follows a directory prefix of n bytes in the entry's path, and the node if the path ends after that name
 abbrev pub child_at : ℕ → List ℕ × Node → List ℕ × Option Node
 child_at n e = (name_behind n e.0, if ends_by n e.0 then Some e.1 else None)
 
--- a name of a path ends before these bytes: there are none, or the first is a slash
+-- a name ends before these bytes: the list is empty, or its first byte is a slash
 abbrev pub is_name_end : List ℕ → Bool
 is_name_end [] = true
 is_name_end (b ∷ rest) = is_slash b
 
--- the path is that of a name in a folder
+-- the path is `folder` followed by one name
 pub record IsPathOfChild (folder name path : List ℕ) : Type 0 where
   pub whole : path ≡ folder ++ name
   pub alone : list_all (λ b. not (is_slash b)) name ≡ true
@@ -115,19 +115,19 @@ pub record IsPathOfChild (folder name path : List ℕ) : Type 0 where
 abbrev pub is_same_child : List ℕ × Option Node → List ℕ × Option Node → Bool
 is_same_child c d = bytes_eq c.0 d.0
 
--- the entries up to the first path that isn't the folder's
+-- the first entries, as long as their paths begin with `folder`
 abbrev pub in_folder : List ℕ → Nodes → Nodes
 in_folder folder t = take_while (λ e. starts_with nat_eq e.0 folder) t
 
--- The children of these entries. The path of a child comes before those below it, so the first entry of each name has the child's node.
+-- The child of each entry. A child's own path comes before the paths below it, so the first entry of each name has the child's node.
 abbrev pub children_behind : List ℕ → Nodes → List (List ℕ × Option Node)
 children_behind folder t = map (child_at (length folder)) (in_folder folder t)
 
--- each of them once
+-- the same list, with each child once
 abbrev pub children_in : List ℕ → Nodes → List (List ℕ × Option Node)
 children_in folder t = dedup is_same_child (children_behind folder t)
 
--- the path is a directory, and the first of these entries are what lies below it
+-- the path is a directory, and the entries begin with all entries below it
 pub record AreFromDir (t : Nodes) (path : List ℕ) (entries : Nodes) : Type 0 where
   pub dir : kind_at t path ≡ Dir
   pub below : in_folder (folder path) entries ≡ filter (λ e. is_below path e.0) t

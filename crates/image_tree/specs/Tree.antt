@@ -14,7 +14,7 @@ use Rattle.image_tree.specs.declared.node.Node.TheVariants as node
 use Rattle.image_tree.specs.declared.tree.Kind.{Kind}
 use Rattle.image_tree.specs.declared.tree.Kind.TheVariants as kind
 
--- the nodes with their paths
+-- the paths and nodes of a tree
 abbrev pub Nodes : Type 0
 Nodes = List (List ℕ × Node)
 
@@ -22,11 +22,11 @@ Nodes = List (List ℕ × Node)
 abbrev pub IsPathSorted : Nodes → Type 0
 IsPathSorted t = IsStrictlySortedBy path_cmp (keys_of t)
 
--- with the node at the path, instead of the one that was there
+-- the tree with the node at the path, in place of a previous one
 abbrev pub put : Nodes → List ℕ → Node → Nodes
 put t path node = insert_entry path_cmp t path node
 
--- without the node at the path
+-- the tree without the node at the path
 abbrev pub remove : Nodes → List ℕ → Nodes
 remove t path = remove_entry (is_at (path_cmp path)) t
 
@@ -37,7 +37,7 @@ node_at t path = lookup (is_at (path_cmp path)) t
 abbrev pub has_below : Nodes → List ℕ → Bool
 has_below t path = list_any (λ e. is_below path e.0) t
 
--- the entry is a file or link above the path, or would lie below a file or link there
+-- the entry is a file or link above the path, or the node is a file or link and the entry lies below it
 abbrev pub clash_with : List ℕ → Node → List ℕ × Node → Bool
 clash_with path node e = (is_below e.0 path && not (is_dir e.1)) || (not (is_dir node) && is_below path e.0)
 
@@ -45,11 +45,11 @@ clash_with path node e = (is_below e.0 path && not (is_dir e.1)) || (not (is_dir
 abbrev pub clashes : Nodes → List ℕ → Node → Bool
 clashes t path node = list_any (clash_with path node) t
 
--- the path is new, and the tree has all the nodes that a tree may have
+-- the path is new, and the tree has NODES_MAX nodes
 abbrev pub has_no_room : Nodes → List ℕ → Bool
 has_no_room t path = not (is_some (node_at t path)) && (length t == NODES_MAX)
 
--- nothing clashes, and there is no room
+-- the node doesn't clash, but the tree is full
 abbrev pub IsFullFor : Nodes → List ℕ → Node → Type 0
 IsFullFor t path node = (clashes t path node ≡ false) × IsTrue (has_no_room t path)
 
@@ -76,11 +76,11 @@ of_dir kind.Absent names = []
 of_dir kind.File names = []
 of_dir kind.Link names = []
 
--- the names with which the paths below a directory go on
+-- the name that follows the directory in each path below it
 abbrev pub names_below : Nodes → List ℕ → List (List ℕ)
 names_below t path = map (λ e. name_behind (length (folder path)) e.0) (filter (λ e. is_below path e.0) t)
 
--- The names directly below a directory, each once: the paths that go on with one name are neighbours.
+-- The names directly below a directory, each once. The paths with the same name are adjacent.
 abbrev pub children_of : Nodes → List ℕ → List (List ℕ)
 children_of t path = of_dir (kind_at t path) (dedup bytes_eq (names_below t path))
 
@@ -91,7 +91,7 @@ listing_of t path = map (λ name. (name, node_at t (join path name))) (children_
 abbrev pub is_entry : List ℕ × Node → Bool
 is_entry e = is_path e.0 && is_node e.1
 
--- what each tree is: sorted valid nodes, at most 2^20, and no file or link with something below it
+-- a valid tree: sorted valid nodes, at most 2^20, and nothing lies below a file or link
 pub record IsTree (t : Nodes) : Type 0 where
   pub sorted : IsPathSorted t
   pub entries : list_all is_entry t ≡ true

@@ -1,10 +1,10 @@
-//! What is at a path of a tree.
+//! The nodes of a tree.
 ghost use Rattle.std.specs.Prelude.{◌≡◌};
 ghost use Rattle.image_tree.specs.Node.{is_node, is_dir, is_key, is_target, has_no_nul};
 
 use lib_types::{Text, is_utf8};
 
-/// The identity of a file's content: the ctime in nanoseconds since the epoch, the size in bytes.
+/// The identity of a file: device, inode, ctime and size. The ctime is in nanoseconds since the epoch, the size in bytes.
 #[derive(Clone, Copy, Debug, PartialEq, Eq)]
 pub struct Id {
     pub dev: u64,
@@ -17,13 +17,13 @@ pub struct Id {
 #[derive(Drop)]
 pub enum Node {
     Dir,
-    /// A file, whose content a store holds under this key.
+    /// A regular file. A store has its content under this key.
     File { key: Text, id: Option<Id> },
-    /// A symbolic link with this text.
+    /// A symbolic link with this target.
     Link { target: Text },
 }
 
-/// The most bytes of a content key or a link's target.
+/// The maximum length of a content key or a link target in bytes.
 pub const TEXT_MAX: usize = 4095;
 
 /// Whether the node's key or target, if it has one, is valid.

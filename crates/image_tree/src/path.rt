@@ -7,7 +7,7 @@ ghost use Rattle.std.specs.Ordering.{nat_cmp};
 use lib_types::{are_same, before_byte, equal_len, is_name};
 use std::cmp::Ordering;
 
-/// The most bytes of a path.
+/// The maximum length of a path in bytes.
 pub const PATH_MAX: usize = 4095;
 
 /// Whether the bytes are a path below the root.
@@ -17,21 +17,21 @@ pub fn is_path(path: &[u8]) -> bool
     path.len() <= PATH_MAX && path.starts_with(b"/") && are_names(&path[1..])
 }
 
-// Whether the bytes are names with a slash between each two.
+// Whether the bytes are names, separated by slashes.
 fn are_names(bytes: &[u8]) -> bool
     ensures { result ≡ are_names bytes.now }
 {
     bytes.split(|&b| b == b'/').all(|name| is_name(name))
 }
 
-/// Whether a component of a path text leads anywhere, as an empty one and `.` don't.
+/// Whether a component of a path is kept. An empty component and `.` are dropped.
 pub fn is_kept(component: &[u8]) -> bool
     ensures { result ≡ is_kept component.now }
 {
     !component.is_empty() && component != b".".as_slice()
 }
 
-// The order of two different bytes: the slash is the least.
+// The order of two different bytes. The slash is below every other byte.
 #[tactic(auto, using(crate::proofs::Order::slash_below, crate::proofs::Order::slash_above, crate::proofs::Order::others_alike))]
 fn compare_ranks(a: u8, b: u8) -> Ordering
     requires { a ≢ b }
@@ -46,7 +46,7 @@ fn compare_ranks(a: u8, b: u8) -> Ordering
     a.cmp(&b)
 }
 
-/// The order of the tree.
+/// The order of the paths in a tree.
 #[tactic(auto, using(crate::proofs::Order::byte_decides, crate::proofs::Order::lengths_decide))]
 pub(crate) fn compare(a: &[u8], b: &[u8]) -> Ordering
     ensures { result ≡ path_cmp a.now b.now }
@@ -58,7 +58,7 @@ pub(crate) fn compare(a: &[u8], b: &[u8]) -> Ordering
     a.len().cmp(&b.len())
 }
 
-// The path without its last slash, which only the root has.
+// The path without its trailing slash. Only the root has one.
 fn stem(path: &[u8]) -> &[u8]
     ensures { result.now ≡ stem path.now }
 {
@@ -76,7 +76,7 @@ pub(crate) fn begins_with(path: &[u8], front: &[u8]) -> bool
     are_same(front, &path[..front.len()])
 }
 
-/// Whether the other path lies below this one, which one byte shows of most that don't.
+/// Whether the other path lies below this one. One byte rules out most paths that don't.
 #[tactic(auto, using(crate::proofs::Fronts::below_laws))]
 pub fn is_below(path: &[u8], other: &[u8]) -> bool
     ensures { result ≡ is_below path.now other.now }
@@ -88,14 +88,14 @@ pub fn is_below(path: &[u8], other: &[u8]) -> bool
     begins_with(other, front)
 }
 
-/// Whether the text is above the path: each path begins with a slash, and none lies below the empty text.
+/// Whether the path lies below the text. No path lies below the empty text, although each begins with a slash.
 pub(crate) fn is_above(text: &[u8], path: &[u8]) -> bool
     ensures { result ≡ is_above text.now path.now }
 {
     !text.is_empty() && is_below(text, path)
 }
 
-/// The offset, in each path below this one, of the name directly below.
+/// The offset of the child's name in each path below this one.
 fn folder_len(path: &[u8]) -> usize
     requires { length path.now < 2 ^ 32 }
     ensures { result ≡ length (folder path.now) }
@@ -103,7 +103,7 @@ fn folder_len(path: &[u8]) -> usize
     stem(path).len() + 1
 }
 
-/// The prefix of a path below this one that ends directly before the name of the child.
+/// The prefix of a path below this one, up to the name of the child.
 pub(crate) fn folder_in<'a>(path: &[u8], other: &'a [u8]) -> &'a [u8]
     requires short { length path.now < 2 ^ 32 }
     requires below { IsTrue (is_below path.now other.now) }

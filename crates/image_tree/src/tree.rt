@@ -21,11 +21,11 @@ use rest::Rest;
 use run::Run;
 use runs::Place;
 
-/// The most nodes of a tree: as many files as large images have, with room for more. It bounds what a manifest can make
-/// an update take.
+/// The maximum number of nodes of a tree. Large images have fewer files. The limit bounds the time and memory that a manifest can make an
+/// update take.
 pub const NODES_MAX: usize = 1 << 20;
 
-/// What is at a path, for those who don't need the node.
+/// The kind of a path, for callers that don't need the node.
 #[derive(Clone, Copy, Debug, PartialEq, Eq)]
 pub enum Kind {
     Absent,
@@ -34,12 +34,12 @@ pub enum Kind {
     Link,
 }
 
-/// Why a node was not put.
+/// Why `put` failed.
 #[derive(Clone, Copy, Debug, PartialEq, Eq)]
 pub enum TreeFault {
     /// A file or a link would have something below it.
     Clash,
-    /// The tree has as many nodes as a tree may have.
+    /// The tree already has `NODES_MAX` nodes.
     Full,
     NoMemory,
 }
@@ -54,9 +54,9 @@ impl From<NoMemory> for TreeFault {
     }
 }
 
-/// The nodes of an image by their paths. Contracts see a tree as the list of both in the order of the paths.
+/// The nodes of an image by their paths. In contracts a tree is the list of paths and nodes, in the order of the paths.
 ///
-/// The root is a directory without a node, and so is each path without a node that has something below it.
+/// The root is a directory without a node. Each path that has no node but has something below it is such a directory too.
 #[derive(Drop)]
 pub struct Tree {
     alloc: Global,
@@ -64,7 +64,7 @@ pub struct Tree {
     runs: Vec<Run>,
     // the number of nodes
     count: usize,
-    // where the last node was found or put, from which the next one is looked for first
+    // the place of the last node that was found or put; the next search starts there
     near: Cell<Place>,
 }
 
@@ -88,7 +88,7 @@ impl Tree {
     ghost use Rattle.image_tree.specs.Node.{is_node};
     ghost use Rattle.image_tree.specs.Paths.{is_path};
 
-    /// A tree without nodes. It keeps the allocator and takes no memory.
+    /// A tree without nodes. It keeps the allocator and allocates nothing.
     pub fn new(alloc: Global) -> Tree
         ensures { result ≡ [] }
     {
@@ -107,7 +107,7 @@ impl Tree {
         self.count
     }
 
-    /// The node of the path, found by a search among the sorted paths.
+    /// The node of the path, found by a binary search.
     pub fn node(&self, path: &[u8]) -> Option<&Node>
         ensures node { option_copied result ≡ node_at self.now path.now }
         ensures at_paths { IsSome (node_at self.now path.now) → IsTrue (is_path path.now) }
@@ -118,7 +118,7 @@ impl Tree {
         Some(entries::node(&self.runs, place, path))
     }
 
-    /// The node of the path, or else what is there without one, by the same search.
+    /// The node of the path, or the kind of the path if it has no node. One search finds both.
     pub fn node_or_kind(&self, path: &[u8]) -> Result<&Node, Kind>
         ensures node { IfOk result (λ node. node_at self.now path.now ≡ Some node.now) }
         ensures at_paths { IsOk result → IsTrue (is_path path.now) }
@@ -133,16 +133,16 @@ impl Tree {
         }
     }
 
-    /// What is at the path. The root is a directory; a text that is neither the root nor a path is absent.
+    /// The kind of the path. The root is a directory. A text that isn't a path and isn't the root is absent.
     pub fn kind(&self, path: &[u8]) -> Kind
         ensures { result ≡ kind_at self.now path.now }
     {
         entries::kind(&self.runs, path)
     }
 
-    /// Puts the node at the path, instead of the one that is there.
+    /// Puts the node at the path. It replaces a node that is there.
     ///
-    /// A path that comes after all others takes neither a search nor a move of the others.
+    /// If the path comes after all others, this needs no search and moves no entry.
     pub fn put(&mut self, path: &[u8], node: Node) -> Result<(), TreeFault>
         requires path { IsTrue (is_path path.now) }
         requires node { IsTrue (is_node node) }
@@ -157,7 +157,7 @@ impl Tree {
         Ok(())
     }
 
-    /// Removes the node at the path and returns whether there was one. What lies below stays.
+    /// Removes the node at the path, and returns whether there was one. Nodes below the path stay.
     pub fn remove(&mut self, path: &[u8]) -> bool
         ensures list { self.new ≡ remove self.old path.now }
         ensures found { result ≡ is_some (node_at self.old path.now) }
@@ -169,8 +169,8 @@ impl Tree {
         found
     }
 
-    /// What stands directly below a directory, by the bytes of the names: each name with its node, if it has one. A directory
-    /// has none if it is only a part of longer paths.
+    /// The names directly below a directory, in the order of their bytes, each with its node. A directory that exists only as part of
+    /// longer paths has no node.
     pub fn listing(&self, path: &[u8]) -> Listing<'_>
         ensures list { result ≡ listing_of self.now path.now }
         ensures sorted { IsStrictlySortedBy (slice_cmp nat_cmp) (map (λ c. c.0) result) }
@@ -201,7 +201,7 @@ impl Tree {
         }
     }
 
-    /// Lets contracts know what each tree meets. It goes over nothing.
+    /// Gives contracts the invariant of a tree. It visits no node.
     pub fn know(&self)
         ensures { IsTree self.now }
     {
@@ -209,7 +209,7 @@ impl Tree {
     }
 }
 
-/// The nodes of a tree that are still to come.
+/// An iterator over the nodes of a tree.
 #[derive(Drop)]
 pub struct Nodes<'a> {
     rest: Rest<'a>,

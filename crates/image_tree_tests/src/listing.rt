@@ -1,4 +1,4 @@
-// What stands directly below a directory, with its nodes.
+// The names directly below a directory, with their nodes.
 use super::tree::{Placed, is_kind, shown, tree_of};
 use image_tree::{Kind, Tree};
 use std::alloc::Global;

@@ -34,7 +34,7 @@ fn put(
     Ok(tree.put(path.as_bytes(), node))
 }
 
-// Whether it clashes with what stands in the tree.
+// Whether the node clashes with a node of the tree.
 fn clashes(
     rt: &impl Abort,
     alloc: Global,
@@ -53,7 +53,7 @@ pub(super) fn tree_of(rt: &impl Abort, alloc: Global, nodes: &[Placed<'_>]) -> R
     Ok(tree)
 }
 
-/// The key of a file, the target of a link, or what else it is.
+/// The key of a file, the target of a link, or a word for any other kind.
 pub(super) fn shown(node: Option<&Node>) -> &[u8] {
     match node {
         None => b"none",
@@ -72,7 +72,7 @@ pub(super) fn is_kind(tree: &Tree, path: &str, kind: Kind) -> bool {
     tree.kind(path.as_bytes()) == kind
 }
 
-// Whether these are the paths of the nodes, each with a bar behind it.
+// Whether these are the paths of the nodes, each followed by a bar.
 fn are_paths(alloc: Global, tree: &Tree, want: &str) -> Result<bool, Fail> {
     let mut text = Vec::new(alloc);
     for (path, _) in tree.nodes() {
@@ -82,7 +82,7 @@ fn are_paths(alloc: Global, tree: &Tree, want: &str) -> Result<bool, Fail> {
     Ok(text.as_slice() == want.as_bytes())
 }
 
-// Whether these are the names directly below the path, each with a bar behind it.
+// Whether these are the names directly below the path, each followed by a bar.
 fn are_children(alloc: Global, tree: &Tree, path: &str, want: &str) -> Result<bool, Fail> {
     let mut text = Vec::new(alloc);
     for name in tree.children(path.as_bytes()) {
@@ -144,7 +144,7 @@ fn children_come_once_in_the_order_of_their_bytes(rt: HostRuntime) -> Result<(),
     Ok(())
 }
 
-// What stands in a tree of `/a` and `/a/x` once `/a` is removed.
+// The nodes of a tree of `/a` and `/a/x` after `/a` is removed.
 const LEFT: &[(&str, Kind)] = &[
     ("/a", Kind::Dir),
     ("/a/x", Kind::Dir),

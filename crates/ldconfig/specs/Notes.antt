@@ -1,7 +1,7 @@
--- What is said of an update that was done.
+-- What is said about a finished update.
 use Rattle.std.specs.Prelude.{◌≡◌, ◌<◌, ℕ, Option, Some}
 
--- the caches say how many libraries they have, and the new one has fewer
+-- both caches have an entry count, and the new one is lower
 pub record IsFewer (before now : Option ℕ) (old new : ℕ) : Type 0 where
   pub had : before ≡ Some old
   pub has : now ≡ Some new

@@ -3,7 +3,7 @@ use Rattle.std.specs.Prelude.{ℕ}
 use Rattle.ldconfig.specs.declared.StartFault.{StartFault}
 use Rattle.ldconfig.specs.declared.StartFault.TheVariants.{NoMemory, Other}
 
--- that of a command that is out of memory, or one that no command ends with
+-- the exit status for out of memory, or one that no command ends with
 abbrev pub code_of : StartFault → ℕ
 code_of NoMemory = 14
 code_of Other = 20

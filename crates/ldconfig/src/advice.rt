@@ -1,4 +1,4 @@
-//! What a person can do after a command that ended so. The devices have said themselves what failed in them.
+//! Advice for a person after a command has ended. The devices have already said what failed in them.
 ghost use Rattle.std.specs.Prelude.{◌≡◌, ◌↔◌, ◌||◌, ℕ, None, Some, IsTrue, IsSome};
 ghost use Rattle.ldconfig.specs.Notes.{IsFewer};
 
@@ -7,27 +7,28 @@ use command_words::Verb;
 use mtree_manifest::LineKind;
 use std::str::from_utf8;
 
-/// The version and the kit.
+/// The version of the program, and of the kit that built it.
 pub const VERSION: &str =
     "ldconfig for images, release version 1 (made with the Rattle kit, logic dac8208d650f15bf)\n";
 
 const ROOT_USAGE: &str = "\
 usage: ldconfig -r ROOT [-N] [-X] [-f CONF] [-C CACHE] [-v] [--aux-cache FILE] [-i] [--check]: makes the links of the libraries in the directory ROOT, and then ROOT/etc/ld.so.cache; -N builds no cache, -X makes no links; CONF and CACHE are paths in ROOT in place of etc/ld.so.conf and etc/ld.so.cache; -v lists the directories and libraries; FILE, of this machine, keeps what the libraries are for the next run, and -i does not read it; --check writes nothing, lists what would change, and ends with status 1 if anything would
+usage: ldconfig -n [-r ROOT] [-X] [-v] [--aux-cache FILE] [-i] [--check] DIR..: makes the links of the libraries in each directory DIR, and no cache; with -r, DIR is a path in ROOT
 usage: ldconfig -p -r ROOT [-C CACHE]: prints ROOT/etc/ld.so.cache, or CACHE, a path in ROOT
 usage: ldconfig -p -C CACHE: prints the file CACHE
 usage: ldconfig --help, or -?: prints this text; ldconfig COMMAND --help prints the line of a command; ldconfig --version, or -V: prints the first line of it
 ";
 
 const UPDATE_USAGE: &str = "\
-usage: ldconfig update [--tag N]: plans the links of the libraries in image.mtree, in the folder of an image, and makes etc/ld.so.cache; the same without arguments
+usage: ldconfig update [--tag N]: plans the links of the libraries in image.mtree, in the directory of an image, and makes etc/ld.so.cache; the same without arguments
 ";
 
 const BATCH_USAGE: &str = "\
-usage: ldconfig batch [--tag N]: takes a script from the input: lines put LINE, with a line of a manifest, and drop PATH edit image.mtree, and each line update does what ldconfig update does; edits behind the last one aren't written
+usage: ldconfig batch [--tag N]: takes a script from the input: lines put LINE, with a line of a manifest, and drop PATH edit image.mtree, and each line update does what ldconfig update does; edits after the last update are not written
 ";
 
 const SAMPLE_USAGE: &str = "\
-usage: ldconfig sample N: updates images of N made libraries, 1 to 20000, in memory, and prints what was done; no file is read or written
+usage: ldconfig sample N: updates images of N synthetic libraries, 1 to 20000, in memory, and prints what was done; no file is read or written
 ";
 
 const PRINT_USAGE: &str = "\
@@ -43,7 +44,7 @@ usage: ldconfig resolve PATH [--caps LIST] [--library-path LIST] [--platform TEX
 ";
 
 const USAGE_END: &str =
-    "Those without -r and -C run in the folder of an image. What they write and every exit status: README.md and docs/FORMATS.md\n";
+    "Those without -r, -n and -C run in the directory of an image. What they write and every exit status: README.md and docs/FORMATS.md\n";
 
 /// The usage text: the version, a line for each command, and where they run.
 pub const USAGE: [&str; 9] = [
@@ -71,7 +72,7 @@ pub fn usage_of(verb: Verb) -> &'static str {
 }
 
 const NO_MANIFEST: &str =
-    "ldconfig: image.mtree: No such file or directory\nldconfig: scripts/manifest makes one: scripts/manifest FOLDER >manifest && mv manifest FOLDER/image.mtree\n";
+    "ldconfig: image.mtree: No such file or directory\nldconfig: image-manifest (tools/manifest) makes one: image-manifest FOLDER >manifest && mv manifest FOLDER/image.mtree\n";
 
 pub const OUT_OF_MEMORY: &str = "ldconfig: out of memory\n";
 
@@ -85,9 +86,9 @@ const NO_PROGRAM: &str =
     "ldconfig: the path leads to no file of image.mtree, links in the image followed\n";
 
 pub const BAD_PROGRAM: &str =
-    "ldconfig: the line on the output says why the file is no program or library, docs/FORMATS.md explains it\n";
+    "ldconfig: the line on the output says why the file is not a program or library, docs/FORMATS.md explains it\n";
 
-/// The lines, each with its line feed, that are the same whenever a command ends so.
+/// The advice for a status, whose lines each end with a line feed.
 pub fn advice(status: Status) -> Option<&'static str>
     ensures { status ≡ Status.Done → result ≡ None }
 {
@@ -108,17 +109,17 @@ pub fn written_before(manifest: bool, cache: bool) -> Option<&'static str>
 {
     match (manifest, cache) {
         (true, true) => Some(
-            "ldconfig: image.mtree and etc/ld.so.cache were written; the planned links stand in image.mtree, as lines with type=link\n",
+            "ldconfig: image.mtree and etc/ld.so.cache were written; the planned links are in image.mtree, as lines with type=link\n",
         ),
         (true, false) => Some(
-            "ldconfig: image.mtree was written; the planned links stand in it, as lines with type=link\n",
+            "ldconfig: image.mtree was written; the planned links are in it, as lines with type=link\n",
         ),
         (false, true) => Some("ldconfig: etc/ld.so.cache was written; no link was planned\n"),
         (false, false) => None,
     }
 }
 
-/// The numbers of a cache that has fewer libraries than the one before it: before, now.
+/// The entry counts of the old and the new cache, if the new one is lower.
 pub fn fewer(before: Option<u32>, now: Option<u32>) -> Option<(u32, u32)>
     ensures { (old new : ℕ) → (result ≡ Some (old, new)) ↔ IsFewer before now old new }
 {
@@ -128,7 +129,7 @@ pub fn fewer(before: Option<u32>, now: Option<u32>) -> Option<(u32, u32)>
     }
 }
 
-/// Why a line of a manifest is refused, in words.
+/// Why a line of a manifest is malformed, in words.
 pub fn cause_of(kind: LineKind, line: &[u8]) -> &'static str {
     match kind {
         LineKind::BadEscape => "a backslash begins no escape",
@@ -159,5 +160,5 @@ fn cause_of_form(line: &[u8]) -> &'static str {
     "a path or a keyword has no form that it may have"
 }
 
-/// So many first bytes of a line are shown.
+/// The most bytes of a line that are shown.
 pub const SHOWN: usize = 60;

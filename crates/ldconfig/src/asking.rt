@@ -1,4 +1,4 @@
-//! The commands that ask a directory: `print`, `lookup` and `resolve` with `-r ROOT`. They write nothing.
+//! The commands that only read a directory: `print`, `lookup` and `resolve` with `-r ROOT`.
 use crate::StartFault;
 use crate::advice::BAD_PROGRAM;
 use crate::print::{note_asked, print_in_root};
@@ -43,7 +43,7 @@ fn look_up<R: Runtime + AllocGlobal + Streams>(
 where
     R::File: HeldFile,
 {
-    let mut disk = FolderDisk::new(rt.clone()?, root, id, SlotPaths::usual())?;
+    let mut disk = FolderDisk::new(rt.clone()?, root, id, SlotPaths::usual(), None)?;
     let mut output = StdoutSink::new(rt.clone()?);
     let status = run_lookup(rt.alloc(), asked, &mut disk, &mut output);
     let _ = note_asked(rt, Some(root), disk.cache_file(), status);
@@ -61,7 +61,7 @@ where
 {
     let mut folder = RootFolder::new(rt.clone()?, root, id)?;
     let mut store = FolderStore::new(rt.clone()?, root)?;
-    let mut disk = FolderDisk::new(rt.clone()?, root, id, SlotPaths::usual())?;
+    let mut disk = FolderDisk::new(rt.clone()?, root, id, SlotPaths::usual(), None)?;
     let mut output = StdoutSink::new(rt.clone()?);
     let status = resolve_root(
         rt.alloc(),

@@ -1,16 +1,16 @@
-//! The auxiliary cache of `--aux-cache FILE`, a file of this machine.
+//! The auxiliary cache of `--aux-cache FILE`, a path on this machine.
 use crate::StartFault;
 use crate::paths::{directory_of, real_path};
-use device_rules::{RunId, divided};
+use device_rules::{Identity, RunId, divided};
 use image_folder::{HeldFile, open_file, read_whole};
 use root_update::AuxUse;
 use slot_files::SlotFiles;
 use standard_streams::{Streams, printable, write_text};
-use std::alloc::AllocError;
+use std::alloc::{AllocError, Global};
 use std::io;
 use std::rt::Runtime;
 
-/// The files of an image that the auxiliary cache must not be.
+/// The files of an image that the auxiliary cache must not replace.
 #[derive(Clone, Copy)]
 pub struct Kept<'r, 'c, 'f> {
     pub root: &'r str,
@@ -20,7 +20,7 @@ pub struct Kept<'r, 'c, 'f> {
     pub conf: &'f str,
 }
 
-/// The auxiliary cache of a run, if it has one: its path as it is given, and the file.
+/// The auxiliary cache of a run, if it has one: its path as given, and the file.
 #[derive(Drop)]
 pub struct Aux<'x> {
     pub path: Option<&'x str>,
@@ -28,8 +28,9 @@ pub struct Aux<'x> {
 }
 
 impl<'x> Aux<'x> {
-    /// The auxiliary cache at this path, if one is given. It is refused if the path has no name of a file or no directory that is
-    /// there, if it leads to a file of the image that must stay, or if what is there is no auxiliary cache: that would be lost.
+    /// The auxiliary cache at this path, if one is given. The result is None if the path doesn't end with a file name, or if its directory
+    /// is missing. It is also None if it is the image's cache or conf file, or another file that is not an auxiliary cache, because
+    /// replacing these would lose them. An update finds whether it is another file of the image, such as an included conf file.
     pub fn find<R: Runtime + AllocGlobal>(
         rt: &R,
         path: Option<&'x str>,
@@ -50,7 +51,27 @@ impl<'x> Aux<'x> {
         }
     }
 
-    /// What an update does with it, which isn't read if `is_ignored`.
+    /// The identity of its file, if that exists.
+    pub fn identity(&self) -> Option<Identity> {
+        match &self.file {
+            Some(file) => file.identity,
+            None => None,
+        }
+    }
+
+    /// Its slot.
+    pub fn slot<R: Runtime + AllocGlobal>(
+        &self,
+        rt: &R,
+        id: RunId,
+    ) -> Result<Option<SlotFiles<R>>, StartFault> {
+        match &self.file {
+            Some(file) => Ok(Some(file.slot(rt, id)?)),
+            None => Ok(None),
+        }
+    }
+
+    /// What an update does with it. It isn't read if `is_ignored`.
     pub fn usage(&self, is_ignored: bool) -> AuxUse {
         match (&self.file, is_ignored) {
             (None, _) => AuxUse::Unused,
@@ -60,15 +81,16 @@ impl<'x> Aux<'x> {
     }
 }
 
-/// A file of this machine, links followed.
+/// A file of this machine, with symbolic links resolved.
 #[derive(Drop)]
 pub struct AuxFile {
     directory: String,
     name: String,
+    identity: Option<Identity>,
 }
 
 impl AuxFile {
-    // The file of this path, unless it is refused.
+    // The file of this path, unless it can't be an auxiliary cache.
     fn find<R: Runtime + AllocGlobal>(
         rt: &R,
         file: &str,
@@ -83,16 +105,34 @@ impl AuxFile {
         let real = real.as_str();
         let (directory, name) = divided(real);
         let is_name = !name.is_empty() && name != "." && name != "..";
-        if !is_name || is_kept(rt, real, kept)? || !is_replaceable(rt, real) {
+        if !is_name || is_kept(rt, real, kept)? {
             return Ok(None);
         }
-        let directory = String::from_str(rt.alloc(), directory_of(real, directory))?;
-        let name = String::from_str(rt.alloc(), name)?;
-        Ok(Some(AuxFile { directory, name }))
+        match file_at(rt, real) {
+            Existing::Other => Ok(None),
+            Existing::Replaceable(identity) => {
+                let directory = directory_of(real, directory);
+                Ok(Some(AuxFile::at(rt.alloc(), directory, name, identity)?))
+            }
+        }
     }
 
-    /// Its slot.
-    pub fn slot<R: Runtime + AllocGlobal>(
+    fn at(
+        alloc: Global,
+        directory: &str,
+        name: &str,
+        identity: Option<Identity>,
+    ) -> Result<AuxFile, AllocError> {
+        let directory = String::from_str(alloc, directory)?;
+        let name = String::from_str(alloc, name)?;
+        Ok(AuxFile {
+            directory,
+            name,
+            identity,
+        })
+    }
+
+    fn slot<R: Runtime + AllocGlobal>(
         &self,
         rt: &R,
         id: RunId,
@@ -102,7 +142,7 @@ impl AuxFile {
     }
 }
 
-// Whether the path is that of a file that must stay.
+// Whether the path is the image's cache or conf file.
 fn is_kept<R: Runtime>(rt: &R, real: &str, kept: Kept<'_, '_, '_>) -> Result<bool, AllocError> {
     Ok(is_in(rt, real, kept.root, kept.cache)? || is_in(rt, real, kept.root, kept.conf)?)
 }
@@ -115,22 +155,35 @@ fn is_in<R: Runtime>(rt: &R, real: &str, root: &str, file: &str) -> Result<bool,
     }
 }
 
-// With these bytes an auxiliary cache begins, as glibc's does.
+// The first bytes of an auxiliary cache, as in glibc's format.
 const BEGINNING: &[u8] = b"glibc-ld.so.auxcache-1.0";
 
 const BEGINNING_SIZE: usize = 24;
 
-// Whether nothing is lost if the file at the path is replaced: it is an auxiliary cache, is empty, or isn't read at all, of which the update says
-// why.
-fn is_replaceable<R: Runtime>(rt: &R, path: &str) -> bool
+// What is at the path of an auxiliary cache.
+enum Existing {
+    // Nothing is lost if it is replaced: it is an auxiliary cache, or empty, or can't be read. If it can't be read, there is no identity, and
+    // the update says why.
+    Replaceable(Option<Identity>),
+    // A file of another use.
+    Other,
+}
+
+fn file_at<R: Runtime>(rt: &R, path: &str) -> Existing
 where
     R::File: HeldFile,
 {
     let Ok((mut file, stamp)) = open_file(rt, path) else {
-        return true;
+        return Existing::Replaceable(None);
     };
     let mut head = [0u8; BEGINNING_SIZE];
-    stamp.size == 0 || (read_whole(&mut file, &mut head).is_ok() && head.as_slice() == BEGINNING)
+    if stamp.size == 0
+        || (read_whole(&mut file, &mut head).is_ok() && head.as_slice() == BEGINNING)
+    {
+        Existing::Replaceable(Some(stamp.identity()))
+    } else {
+        Existing::Other
+    }
 }
 
 /// Says that a file can't be the auxiliary cache.

@@ -1,14 +1,16 @@
-//! `ldconfig` for images: keeps the loader's cache of a folder that has a manifest.
+//! `ldconfig` for images: keeps the loader's cache of a directory that has a manifest.
 #![tactic(auto)]
 
 mod advice;
 mod asking;
 mod aux;
+mod job;
 mod notes;
 mod paths;
 mod print;
 mod root;
 mod root_notes;
+mod update;
 
 ghost use Rattle.std.specs.Prelude.{◌≡◌};
 ghost use Rattle.ldconfig.specs.Start.{code_of};
@@ -39,12 +41,12 @@ use tree_real::{FolderDisk, FolderStore, StdinSource, StdoutSink};
 #[derive(Clone, Copy, Debug, PartialEq, Eq)]
 enum StartFault {
     NoMemory,
-    /// The arguments or a random number aren't there: an argument isn't text, for example.
+    /// The arguments or a random number can't be read: an argument isn't UTF-8 text, for example.
     Other,
 }
 
 impl StartFault {
-    // The exit status: that of a command that is out of memory, or one that no command ends with.
+    // The exit status for out of memory, or one that no command ends with.
     fn code(self) -> u8
         ensures { result ≡ code_of self }
     {
@@ -95,7 +97,7 @@ impl From<io::Error> for StartFault {
     }
 }
 
-// Why no command was run. What it is about is written on the error output; `main` writes that memory is out.
+// Why no command was run. The error and its subject are written on the error output. `main` reports out of memory.
 fn fault_of<R: Runtime + Streams>(rt: &R, name: &str, error: io::Error) -> StartFault {
     let fault = StartFault::from(error);
     if fault == StartFault::Other {
@@ -104,7 +106,7 @@ fn fault_of<R: Runtime + Streams>(rt: &R, name: &str, error: io::Error) -> Start
     fault
 }
 
-// The arguments behind the program's name.
+// The arguments after the program's name.
 fn words<R: Runtime + AllocGlobal>(rt: &R) -> io::Result<Vec<String>> {
     let mut args = match env::args(rt) {
         Ok(args) => args,
@@ -117,7 +119,7 @@ fn words<R: Runtime + AllocGlobal>(rt: &R) -> io::Result<Vec<String>> {
     Ok(args.collect(rt.alloc())?)
 }
 
-// What makes this run's temporary files its own.
+// The numbers that make this run's temporary files unique to it.
 fn run_id<R: Runtime + RandomSource>(rt: &R, process: u32) -> io::Result<RunId> {
     let mut bytes = [0u8; 8];
     rt.fill_bytes(&mut bytes)?;
@@ -127,7 +129,7 @@ fn run_id<R: Runtime + RandomSource>(rt: &R, process: u32) -> io::Result<RunId> 
     })
 }
 
-// Says on the error output what a person wants to know about the end of a command.
+// Explains the end of a command on the error output.
 fn explain<R: Runtime + AllocGlobal + Streams>(
     rt: &R,
     status: Status,
@@ -190,7 +192,7 @@ where
     }
 }
 
-// Runs the command of these arguments, which are not options, and returns its exit status.
+// Runs the command of these arguments, of which the first is not an option, and returns its exit status.
 fn run_arguments<R: Runtime + AllocGlobal + Streams>(
     rt: &R,
     id: RunId,
@@ -207,7 +209,7 @@ where
     }
 }
 
-// The directory that the command asks, if the arguments name one.
+// The directory that the command reads, if the arguments name one.
 fn root_of<R: Runtime + AllocGlobal>(
     rt: &R,
     arguments: &Arguments<'_>,
@@ -218,7 +220,7 @@ fn root_of<R: Runtime + AllocGlobal>(
     }
 }
 
-// Runs a command in the working directory, which is that of an image, and returns its exit status.
+// Runs a command on the image in the working directory, and returns its exit status.
 fn run_here<R: Runtime + AllocGlobal + Streams>(
     rt: &R,
     id: RunId,
@@ -228,7 +230,7 @@ where
     R::File: HeldFile,
 {
     let mut store = FolderStore::new(rt.clone()?, ".")?;
-    let mut disk = FolderDisk::new(rt.clone()?, ".", id, SlotPaths::usual())?;
+    let mut disk = FolderDisk::new(rt.clone()?, ".", id, SlotPaths::usual(), None)?;
     let mut input = StdinSource::new(rt.clone()?);
     let mut output = StdoutSink::new(rt.clone()?);
     let devices = Devices {
@@ -238,7 +240,7 @@ where
         sink: &mut output,
     };
     let status = run_on(rt.alloc(), arguments, devices);
-    // A line that can't be written changes nothing.
+    // If a line can't be written, nothing changes.
     let _ = explain(rt, status, &store, &mut disk);
     Ok(status.code())
 }

@@ -1,4 +1,4 @@
-//! Lines on the error output about an update that was done, and about what was too large.
+//! Lines on the error output about a finished update, and about inputs that are too large.
 use crate::advice::{SHOWN, cause_of, fewer};
 use cache_layout::ENTRIES_MAX;
 use command_runs::Status;
@@ -14,7 +14,7 @@ use std::rt::Runtime;
 use tree_face::NODES_MAX;
 use tree_real::{FolderDisk, FolderStore, Machines};
 
-/// Says what is remarkable about an update that was done. A cache is written only by an update.
+/// Warns about a finished update. Only an update writes a cache.
 pub fn note_update<R: Runtime + Streams>(
     rt: &R,
     store: &FolderStore<R>,
@@ -36,7 +36,7 @@ pub fn note_update<R: Runtime + Streams>(
     note_machines(rt, store.machines())
 }
 
-/// Says that a cache has fewer libraries than the one before it.
+/// Says that a cache has fewer entries than the one before it.
 pub fn note_fewer<R: Runtime + Streams>(rt: &R, cache: &str, written: Written) -> io::Result<()> {
     let Some((old, new)) = fewer(written.entries_before, written.entries) else {
         return Ok(());
@@ -64,7 +64,7 @@ fn system_dirs<R: Runtime>(rt: &R) -> Result<String<R::A>, AllocError> {
     Ok(text)
 }
 
-// A manifest without a line has at most this many bytes.
+// A manifest without a line has at most this number of bytes.
 const HEAD_LENGTH: u64 = 7;
 
 fn why_none(length: Option<u64>, begun: u64) -> &'static str {
@@ -77,7 +77,7 @@ fn why_none(length: Option<u64>, begun: u64) -> &'static str {
     }
 }
 
-/// Says for which machines there are libraries and no cache.
+/// Says for which machines there are libraries but no cache is built.
 pub fn note_machines<R: Runtime + Streams>(rt: &R, machines: &Machines<R>) -> io::Result<()> {
     let Some(first) = &machines.first else {
         return Ok(());

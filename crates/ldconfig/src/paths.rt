@@ -3,8 +3,8 @@ use device_rules::divided;
 use std::alloc::AllocError;
 use std::rt::Runtime;
 
-/// The path without links. If there is no such file, that is its directory without links, and its name. There is none if there is no such
-/// directory.
+/// The path with symbolic links resolved. If the file doesn't exist, this is its resolved directory and its name. The result is None if
+/// that directory doesn't exist.
 pub fn real_path<R: Runtime>(rt: &R, path: &str) -> Result<Option<String<R::A>>, AllocError> {
     match rt.canonicalize(rt.alloc(), path) {
         Ok(real) => Ok(Some(real.into_string())),
@@ -24,7 +24,7 @@ fn real_beside<R: Runtime>(rt: &R, path: &str) -> Result<Option<String<R::A>>, A
     }
 }
 
-/// The directory of a path, which `divided` gives without a slash at its end.
+/// The directory of a path. `directory` is what `divided` returns: it is empty if the path has no slash, or only a leading one.
 pub fn directory_of<'a>(path: &str, directory: &'a str) -> &'a str {
     if !directory.is_empty() {
         directory

@@ -1,4 +1,4 @@
-//! What only prints: the usage text, the version, and a cache.
+//! Commands that only print: the usage text, the version, and a cache.
 use crate::StartFault;
 use crate::advice::{OUT_OF_MEMORY, USAGE};
 use crate::paths::{directory_of, real_path};
@@ -18,7 +18,7 @@ pub fn word_of(bytes: &[u8]) -> &str {
     from_utf8(bytes).unwrap_or(".")
 }
 
-/// Writes a text on the output, and returns the exit status.
+/// Writes a text to the output, and returns the exit status.
 pub fn print_text<R: Runtime + Streams>(rt: &R, text: &str) -> Result<u8, StartFault> {
     let mut output = StdoutSink::new(rt.clone()?);
     if put_all(&mut output, text.as_bytes()).is_err() {
@@ -27,7 +27,7 @@ pub fn print_text<R: Runtime + Streams>(rt: &R, text: &str) -> Result<u8, StartF
     Ok(Status::Done.code())
 }
 
-/// Writes the usage text on the output, and returns the exit status.
+/// Writes the usage text to the output, and returns the exit status.
 pub fn print_usage<R: Runtime + Streams>(rt: &R) -> Result<u8, StartFault> {
     let mut output = StdoutSink::new(rt.clone()?);
     for part in USAGE {
@@ -38,7 +38,7 @@ pub fn print_usage<R: Runtime + Streams>(rt: &R) -> Result<u8, StartFault> {
     Ok(Status::Done.code())
 }
 
-/// The name of the cache on the first line, if no other one is given.
+/// The name of the cache on the first line, if no other name is given.
 const USUAL_NAME: &str = "/etc/ld.so.cache";
 
 /// Prints the cache of the directory `root`, or the one at the path `cache` in it, and returns the exit status.
@@ -55,13 +55,13 @@ where
     let Some(paths) = paths_of(rt, cache)? else {
         return no_cache_path(rt, name);
     };
-    let mut disk = FolderDisk::new(rt.clone()?, root, id, paths)?;
+    let mut disk = FolderDisk::new(rt.clone()?, root, id, paths, None)?;
     let status = print_on(rt, &mut disk, name)?;
     let _ = note_asked(rt, Some(root), disk.cache_file(), status);
     Ok(status.code())
 }
 
-/// Prints the cache at this path of the machine, links followed, and returns the exit status.
+/// Prints the cache at this path of the machine, with symbolic links followed, and returns the exit status.
 pub fn print_file<R: Runtime + AllocGlobal + Streams>(
     rt: &R,
     id: RunId,
@@ -79,7 +79,7 @@ where
         return no_cache_path(rt, path);
     };
     let root = directory_of(real.as_str(), directory);
-    let mut disk = FolderDisk::new(rt.clone()?, root, id, paths)?;
+    let mut disk = FolderDisk::new(rt.clone()?, root, id, paths, None)?;
     let status = print_on(rt, &mut disk, path)?;
     let _ = note_asked(rt, None, path, status);
     Ok(status.code())
@@ -97,7 +97,7 @@ where
     Ok(run_print_named(rt.alloc(), name.as_bytes(), disk, &mut output))
 }
 
-/// Where the files of an image are whose cache has this path, if one is given. There are no such files if the path is none of a file.
+/// The paths of an image's files. The cache has this path if one is given. The result is None if the path can't name a file.
 pub fn paths_of<R: Runtime + AllocGlobal>(
     rt: &R,
     cache: Option<&str>,
@@ -108,7 +108,7 @@ pub fn paths_of<R: Runtime + AllocGlobal>(
     }
 }
 
-/// Says that a path is none of a cache file, and returns the exit status.
+/// Says that a path can't name a cache file, and returns the exit status.
 pub fn no_cache_path<R: Runtime + Streams>(rt: &R, path: &str) -> Result<u8, StartFault> {
     let _ = note_cache_path(rt, path);
     Ok(Status::Usage.code())
@@ -122,7 +122,7 @@ fn note_cache_path<R: Runtime + Streams>(rt: &R, path: &str) -> io::Result<()> {
     write_text(rt, line.as_str())
 }
 
-/// Says why a command that only asks has no answer from the cache at this path, which is one in the directory `root` if that is given.
+/// Says why a command that only asks has no answer from the cache at this path. If `root` is given, the path is in that directory.
 pub fn note_asked<R: Runtime + Streams>(
     rt: &R,
     root: Option<&str>,

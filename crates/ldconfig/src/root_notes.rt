@@ -1,7 +1,9 @@
-//! Lines on the error output about a directory that was updated, or that was not.
+//! Lines on the error output about an update of a directory.
+use crate::job::Job;
 use crate::notes::{note_fewer, note_machines};
 use cache_layout::ENTRIES_MAX;
 use command_runs::Status;
+use image_folder::HeldFile;
 use ldconfig_core::Report;
 use root_words::RootWordsFault;
 use standard_streams::{Streams, printable, write_text};
@@ -11,7 +13,7 @@ use std::str::from_utf8;
 use tree_face::NODES_MAX;
 use tree_real::{FolderDisk, FolderStore};
 
-/// Says what is remarkable about the cache that was written, and about libraries for which there is none.
+/// Warns about the cache that was written, and about libraries for machines that no cache is built for.
 pub fn note_root<R: Runtime + Streams>(
     rt: &R,
     store: &FolderStore<R>,
@@ -29,18 +31,22 @@ pub fn note_root<R: Runtime + Streams>(
     note_machines(rt, store.machines())
 }
 
-/// Says which problems a report has, and if `verbose` which directories aren't there. A line on the auxiliary cache names this file.
+/// Reports the problems of a report and, with `-v`, the missing directories and the linker scripts. Lines on the auxiliary cache name its
+/// file as it is given.
 pub fn note_report<R: Runtime + Streams>(
     rt: &R,
+    job: &Job<'_, '_>,
     report: &Report,
-    verbose: bool,
-    aux: Option<&str>,
-) -> io::Result<()> {
+    store: &mut FolderStore<R>,
+) -> io::Result<()>
+where
+    R::File: HeldFile,
+{
     for line in from_utf8(report.text.as_bytes()).unwrap_or("").lines() {
         if let Some(damage) = line.strip_prefix("aux: ") {
-            note_damage(rt, aux.unwrap_or(""), damage)?;
-        } else if verbose || !is_absent(line) {
-            note_line(rt, line)?;
+            note_damage(rt, job.aux.path.unwrap_or(""), damage)?;
+        } else if is_shown(job, line) && (job.verbose || !is_script(store, line)) {
+            note_line(rt, job.target.front(), line)?;
         }
     }
     Ok(())
@@ -54,12 +60,37 @@ fn note_damage<R: Runtime + Streams>(rt: &R, file: &str, damage: &str) -> io::Re
     write_text(rt, line.as_str())
 }
 
-// A directory of the conf file that isn't there is nothing remarkable.
+// Whether a line is shown. If a directory of the conf file is missing, that isn't a problem. In a directory of this machine, a link that
+// leads to no file of its tree may lead to another file of this machine.
+fn is_shown(job: &Job<'_, '_>, line: &str) -> bool {
+    if line.starts_with("dangling: ") {
+        !job.target.is_of_machine
+    } else {
+        job.verbose || !is_absent(line)
+    }
+}
+
 fn is_absent(line: &str) -> bool {
     line.starts_with("conf: ") && line.ends_with(": Absent")
 }
 
-// What a line of the report says that a person should know: the beginning that it has, and what is said after its path.
+// Whether a line is about a linker script, which has a library's name and is no ELF file.
+fn is_script<R: Runtime>(store: &mut FolderStore<R>, line: &str) -> bool
+where
+    R::File: HeldFile,
+{
+    match no_elf_file(line) {
+        Some(path) => store.is_linker_script(path),
+        None => false,
+    }
+}
+
+// The file that a line is about, below the root, if it is no ELF file.
+fn no_elf_file(line: &str) -> Option<&str> {
+    line.strip_prefix("skip: /")?.strip_suffix(": NotElf")
+}
+
+// The lines of a report that are problems: how each begins, and the text that is written after its path.
 const PROBLEMS: [(&str, &str); 4] = [
     ("conf: ", ""),
     ("skip: ", ""),
@@ -70,22 +101,36 @@ const PROBLEMS: [(&str, &str); 4] = [
     ("dangling: ", ": the link leads to no file"),
 ];
 
-fn note_line<R: Runtime + Streams>(rt: &R, line: &str) -> io::Result<()> {
+const UNSEARCHABLE: &str =
+    ": the loader can't search for a name with a byte above 127 or a number of more than 9 digits";
+
+// What is written after the text of a line, given what is written after lines of its kind.
+fn reason_of<'a>(line: &str, reason: &'a str) -> &'a str {
+    if line.starts_with("skip: ") && line.ends_with(": Unsearchable") {
+        UNSEARCHABLE
+    } else {
+        reason
+    }
+}
+
+// Writes a line on a problem. Its path begins with `front`.
+fn note_line<R: Runtime + Streams>(rt: &R, front: &str, line: &str) -> io::Result<()> {
     for (beginning, reason) in PROBLEMS {
         if let Some(rest) = line.strip_prefix(beginning) {
-            return note_problem(rt, rest, reason);
+            let text = format!(in rt.alloc(); "{front}{rest}")?;
+            return note_problem(rt, text.as_str(), reason_of(line, reason));
         }
     }
     Ok(())
 }
 
-fn note_problem<R: Runtime + Streams>(rt: &R, rest: &str, reason: &str) -> io::Result<()> {
-    let shown = printable(rt, rest)?;
+fn note_problem<R: Runtime + Streams>(rt: &R, text: &str, reason: &str) -> io::Result<()> {
+    let shown = printable(rt, text)?;
     let line = format!(in rt.alloc(); "ldconfig: {shown}{reason}\n")?;
     write_text(rt, line.as_str())
 }
 
-/// Says by how much a directory is too large. The devices have said themselves what failed in them.
+/// Says by how much a directory is too large. The devices have already said what failed in them.
 pub fn note_fault<R: Runtime + Streams>(rt: &R, root: &str, status: Status) -> io::Result<()> {
     let alloc = rt.alloc();
     let (most_entries, most_nodes) = (ENTRIES_MAX, NODES_MAX);
@@ -118,10 +163,4 @@ pub fn note_rejection<R: Runtime + Streams>(rt: &R, fault: &RootWordsFault) -> i
         }
         RootWordsFault::NoMemory => Ok(()),
     }
-}
-
-/// Says that an option is one of ldconfig(8) that isn't there yet.
-pub fn note_unsupported<R: Runtime + Streams>(rt: &R, option: &str) -> io::Result<()> {
-    let line = format!(in rt.alloc(); "ldconfig: {option} is not supported yet\n")?;
-    write_text(rt, line.as_str())
 }

@@ -1,4 +1,4 @@
--- What is run is the command of the arguments.
+-- The command that the arguments name is the one that runs.
 use Rattle.std.proofs.Common.{◌≡◌, Option, Some, None, subst, sym}
 use Rattle.commands.specs.declared.kinds.Command.{Command}
 use Rattle.command_runs.specs.Commands.{RunsCommand}

@@ -1,4 +1,4 @@
--- What holds of updates, whichever command is run.
+-- Facts about updates that hold for every command.
 use Rattle.hwcap_dirs.specs.declared.kinds.Scope.TheVariants.{Image}
 use Rattle.ldconfig_core.proofs.OneText.{one_update, one_written, some_texts}
 use Rattle.library_search.proofs.Honest.{said_law, stamps_true}

@@ -1,4 +1,4 @@
--- What a run does, by its arguments.
+-- What a run does, from its arguments.
 use Rattle.std.specs.Prelude.{◌≡◌, ◌↔◌, ◌≢◌, ◌⊎◌, ℕ, List, map, Option, Some, None, String, Vec}
 use Rattle.std.specs.declared.alloc.Global.{Global}
 use Rattle.std.specs.String.{string_bytes}
@@ -14,17 +14,17 @@ use Rattle.tree_face.specs.Store.{StoreState}
 use Rattle.tree_face.specs.Stream.{SinkState, SourceState}
 use Rattle.ldconfig_cli.specs.Usage.{UsageRun}
 
--- this command is run, or the arguments are refused
+-- this command is run, or the arguments are rejected
 abbrev pub RunsAny : Option Command → Status → DeviceStates → DeviceStates → Type 0
 RunsAny (Some command) status old new = RunsCommand command status old new
 RunsAny None status old new = UsageRun old new status
 
--- the command that the arguments are, if they are one
+-- the run of the command that the arguments name, if they name one
 pub record RunsArguments (command : Option Command) (status : Status) (old new : DeviceStates) : Type 0 where
   pub usage : (status ≡ Usage) ↔ (command ≡ None)
   pub runs : RunsAny command status old new
 
--- memory has run out while the arguments behind the first were read, and nothing was done
+-- memory ran out while the arguments after the first were read, and nothing was done
 pub record GivesUp (words : List (List ℕ)) (status : Status) (old new : DeviceStates) : Type 0 where
   pub named : verb_in words ≢ None
   pub status_is : status ≡ NoMemory
@@ -33,7 +33,7 @@ pub record GivesUp (words : List (List ℕ)) (status : Status) (old new : Device
 abbrev pub texts_of : Vec (String Global) Global → List (List ℕ)
 texts_of arguments = map string_bytes arguments.items
 
--- the command of these arguments, unless memory runs out before, from the states of four devices to the others
+-- the command of these arguments takes the devices from the first states to the second ones, unless memory runs out before
 abbrev pub Runs : {S D I O : Type 0} → (S → StoreState) → (D → DiskState) → (I → SourceState) → (O → SinkState) → Vec (String Global) Global → Status
     → S × (D × (I × O)) → S × (D × (I × O)) → Type 0
 Runs store disk input output arguments status old new =

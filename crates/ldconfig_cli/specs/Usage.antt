@@ -1,4 +1,4 @@
--- Arguments that are those of no command.
+-- Arguments that are not a command.
 use Rattle.std.specs.Prelude.{◌≡◌}
 use Rattle.commands.specs.Devices.{DeviceStates}
 use Rattle.command_status.specs.Status.{EndsWith}

@@ -1,4 +1,4 @@
-//! The arguments, with the command that they are.
+//! The arguments, with the command that they name.
 ghost use Rattle.std.specs.Prelude.{◌≡◌, ◌≢◌, IfOk, None, OnErr, option_copied, option_map};
 ghost use Rattle.command_words.specs.Language.{verb_in};
 ghost use Rattle.command_words.specs.Words.{command_in, root_in};
@@ -10,8 +10,7 @@ use lib_types::NoMemory;
 use std::alloc::Global;
 use std::marker::Model;
 
-/// Arguments, the program's name not among them, with the command that they are, if they are those of one. Contracts see the texts of the
-/// arguments.
+/// Arguments without the program's name, and the command that they name, if they name one. Contracts see the texts of the arguments.
 #[derive(Drop)]
 pub struct Arguments<'a> {
     words: &'a Vec<String>,
@@ -31,7 +30,7 @@ impl<'a> Model for Arguments<'a> {
 }
 
 impl<'a> Arguments<'a> {
-    /// Reads the arguments, which `clap` does. Without arguments the command is `update`.
+    /// Reads the arguments with `clap`. Without arguments the command is `update`.
     pub fn read(alloc: Global, words: &'a Vec<String>) -> Result<Arguments<'a>, NoMemory>
         ensures texts { IfOk result (λ arguments. arguments ≡ texts_of words.now) }
         ensures named { OnErr result (verb_in (texts_of words.now) ≢ None) }
@@ -46,7 +45,7 @@ impl<'a> Arguments<'a> {
         }
     }
 
-    /// The command, if the arguments are those of one.
+    /// The command, if the arguments name one.
     pub fn command(&self) -> Option<&Command>
         ensures { option_copied result ≡ command_in self.now }
     {
@@ -56,7 +55,7 @@ impl<'a> Arguments<'a> {
         }
     }
 
-    /// The directory that the command asks, if the arguments name one.
+    /// The directory that the command reads, if the arguments name one.
     pub fn root(&self) -> Option<&[u8]>
         ensures { option_map (λ root. root.now) result ≡ root_in self.now }
     {
@@ -66,7 +65,7 @@ impl<'a> Arguments<'a> {
         }
     }
 
-    /// The same, without the arguments.
+    /// The command by value, without the arguments.
     pub fn into_command(self) -> Option<Command>
         ensures { result ≡ command_in self.entry }
     {

@@ -11,7 +11,7 @@ use commands::{Command, Devices};
 use std::alloc::Global;
 use tree_face::{Disk, Sink, Source, Store};
 
-// Runs a command, or refuses arguments that are those of none.
+// Runs a command, or rejects arguments that are not a command.
 fn run_or_refuse<S: Store, D: Disk, I: Source, O: Sink>(
     alloc: Global,
     command: Option<Command>,
@@ -39,9 +39,9 @@ fn run_or_refuse<S: Store, D: Disk, I: Source, O: Sink>(
     }
 }
 
-/// Runs the command of arguments that were read, on devices that were made for it.
+/// Runs the command of arguments that were already read, on devices that were made for it.
 ///
-/// Arguments that are those of no command are refused: the fault line of Usage is written, and nothing is read.
+/// Arguments that are not a command are rejected: only the fault line of `Usage` is written, and nothing is read.
 pub fn run_on<S: Store, D: Disk, I: Source, O: Sink>(
     alloc: Global,
     arguments: Arguments<'_>,
@@ -60,9 +60,9 @@ pub fn run_on<S: Store, D: Disk, I: Source, O: Sink>(
     run_or_refuse(alloc, arguments.into_command(), store, disk, source, sink)
 }
 
-/// Runs the command of these arguments, the program's name not among them.
+/// Runs the command of these arguments, which don't include the program's name.
 ///
-/// Without arguments it is `update`. Arguments that are those of no command are refused: the fault line of Usage is written, and nothing
+/// Without arguments it is `update`. Arguments that are not a command are rejected: only the fault line of `Usage` is written, and nothing
 /// is read.
 pub fn run<S: Store, D: Disk, I: Source, O: Sink>(
     alloc: Global,

@@ -1,4 +1,4 @@
-//! Tests of the commands `print` and `lookup` over devices in memory: each kind of cache file, and devices that fail.
+//! Tests of the commands `print` and `lookup` over devices in memory: each kind of cache file, and failing devices.
 #![tactic(auto)]
 
 #[cfg(test)]

@@ -1,4 +1,4 @@
-//! What `lookup` writes and returns.
+//! The output and the status of `lookup`.
 use crate::run::{assert_faults, assert_run, disk_with};
 use cache_reader::CacheDefect;
 use command_runs::Status;
@@ -62,7 +62,7 @@ fn files_without_a_cache_are_refused(rt: HostRuntime) -> Result<(), Fail> {
     assert_run(&rt, alloc, cut, LIBZ, status, line)
 }
 
-// The path is written by two calls.
+// The path is written in two calls.
 #[test]
 fn devices_that_fail(rt: HostRuntime) -> Result<(), Fail> {
     let alloc = rt.alloc();

@@ -1,4 +1,4 @@
-//! What `print` writes and returns.
+//! The output and the status of `print`.
 use crate::run::{assert_faults, assert_run, disk_with};
 use cache_reader::CacheDefect;
 use command_runs::Status;

@@ -6,7 +6,7 @@ use std::alloc::Global;
 use std::process::Abort;
 use std::test::Fail;
 
-/// A disk with this cache alone. No device fails.
+/// A disk with only this cache. No device fails.
 pub(crate) fn disk_with(cache: Option<&[u8]>) -> Setting<'_> {
     Setting {
         manifest: None,
@@ -15,7 +15,7 @@ pub(crate) fn disk_with(cache: Option<&[u8]>) -> Setting<'_> {
     }
 }
 
-/// Runs the command, and compares the status and what it writes. It may open no file and write to none.
+/// Runs the command, and compares the status and the output. The command may not open a file in the store or write to the disk.
 pub(crate) fn assert_run(
     rt: &impl Abort,
     alloc: Global,
@@ -33,7 +33,7 @@ pub(crate) fn assert_run(
     Ok(())
 }
 
-/// Runs the command on a disk that fails at its first call, and with a sink that does.
+/// Runs the command on a disk whose first call fails, and with a sink whose first call fails.
 pub(crate) fn assert_faults(
     rt: &impl Abort,
     alloc: Global,

@@ -1,4 +1,4 @@
-//! Runs of the program's arguments over devices in memory, for the tests of the command line, and the devices of a row of tests.
+//! Runs of the program's arguments over devices in memory for the tests of the command line, and the devices of a test row.
 #![tactic(auto)]
 
 mod rows;

@@ -8,8 +8,8 @@ use std::alloc::Global;
 use table_rows::{Row, Said, optional_text, text};
 use tree_face::{MemSink, MemSource};
 
-/// Devices with the files of a row's store, its manifest, its auxiliary cache, and its script as the input, as far as there are such. The
-/// setting has the cache, and which calls fail.
+/// Devices with the files of a row's store, its manifest, its auxiliary cache, and its script as the input, if it has these. The setting
+/// has the cache, and the calls that fail.
 pub fn devices_of(
     alloc: Global,
     row: Row<'_>,
@@ -28,14 +28,15 @@ pub fn devices_of(
     Ok(devices)
 }
 
-/// The exit status of a command, and what it writes.
+/// The exit status of a command, and its output.
 #[derive(Clone, Copy)]
 pub struct Ending<'a> {
     pub status: u64,
     pub output: &'a [u8],
 }
 
-/// Runs a command with the arguments of a line, which are between blanks, and a new sink. Whether it ends so; says what differs.
+/// Runs a command with the arguments of a line, separated by blanks, and a new sink. Returns whether it has this end, and says what
+/// differs.
 pub fn ends_so(
     alloc: Global,
     command: &str,

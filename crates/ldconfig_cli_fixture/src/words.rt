@@ -1,4 +1,4 @@
-//! A run of arguments that are written down.
+//! A run of given arguments.
 use command_runs::Status;
 use command_runs_fixture::Devices;
 use ldconfig_cli::run;
@@ -7,7 +7,7 @@ use std::alloc::Global;
 use std::str::from_utf8;
 use table_rows::divide;
 
-// Arguments.
+// The arguments as strings.
 fn strings(alloc: Global, texts: &[&str]) -> Result<Vec<String>, NoMemory> {
     let mut found = Vec::new(alloc);
     for text in texts {
@@ -29,7 +29,7 @@ pub fn run_words(alloc: Global, texts: &[&str], devices: &mut Devices) -> Result
     ))
 }
 
-// A command and its arguments, which are between blanks.
+// A command and its arguments, separated by blanks.
 fn words_in<'a>(alloc: Global, command: &'a str, line: &'a [u8]) -> Result<Vec<&'a str>, NoMemory> {
     let mut words = Vec::new(alloc);
     words.push(command)?;
@@ -44,7 +44,7 @@ fn words_in<'a>(alloc: Global, command: &'a str, line: &'a [u8]) -> Result<Vec<&
     Ok(words)
 }
 
-/// Runs a command with the arguments of a line, which are between blanks.
+/// Runs a command with the arguments of a line, separated by blanks.
 pub fn run_line(
     alloc: Global,
     command: &str,

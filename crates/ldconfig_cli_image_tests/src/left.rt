@@ -1,4 +1,4 @@
-//! What a command leaves on the disk of a row.
+//! The files that a command leaves on the disk of a row.
 use crate::lookups::are_answered;
 use command_runs_fixture::{Devices, NO_STAMPS, OLD, has, replacing_calls};
 use image_rows::{aux_of, records_in};
@@ -8,7 +8,7 @@ use std::alloc::Global;
 use table_rows::{Row, Said, count, has_line, text};
 use tree_face::{Disk, Slot};
 
-/// The content of a file, nothing if it can't be read.
+/// The content of a file. It is empty if the file can't be read.
 pub(crate) fn content(alloc: Global, devices: &mut Devices, slot: Slot) -> Vec<u8> {
     match devices.disk.read(alloc, slot) {
         Ok(Some(found)) => found,
@@ -16,7 +16,7 @@ pub(crate) fn content(alloc: Global, devices: &mut Devices, slot: Slot) -> Vec<u
     }
 }
 
-/// Whether these files were replaced, one after another, and nothing else was written.
+/// Whether these files were replaced in this order, and nothing else was written.
 pub(crate) fn has_replaced(
     alloc: Global,
     devices: &Devices,
@@ -31,7 +31,7 @@ pub(crate) fn has_replaced(
     Ok(is_so)
 }
 
-/// Whether the manifest is the one that the row leaves: the new one, or the old one.
+/// Whether the manifest is the expected one: the row's new one, or else the old one.
 pub(crate) fn has_manifest(
     alloc: Global,
     row: Row<'_>,
@@ -46,7 +46,7 @@ pub(crate) fn has_manifest(
     }
 }
 
-/// Whether the auxiliary cache has the new records of the row, which are none without the line.
+/// Whether the auxiliary cache has the new records of the row. Without the line it must have none.
 pub(crate) fn has_records(
     alloc: Global,
     row: Row<'_>,
@@ -75,7 +75,7 @@ pub(crate) fn are_untouched(
     )
 }
 
-// Whether the cache has the length and the bytes of the row, if it has these.
+// Whether the cache has the length and the bytes of the row, if the row has these.
 fn has_bytes(alloc: Global, row: Row<'_>, cache: &[u8], said: &mut Said) -> Result<bool, NoMemory> {
     let size = count(row, b"size");
     Ok(
@@ -98,7 +98,7 @@ fn is_printed(
     ends_so(alloc, "print", b"", want, devices, said)
 }
 
-/// Whether both caches are those of an update: the records, the bytes, the cache as it is printed, and what look-ups answer.
+/// Whether both caches are those of an update: the records, the bytes, the printed cache, and the results of look-ups.
 pub(crate) fn are_updated(
     alloc: Global,
     row: Row<'_>,

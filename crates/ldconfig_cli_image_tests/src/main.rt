@@ -1,6 +1,6 @@
-//! Tests of the commands `update` and `batch` over images: with links, conf files, subdirectories for processors, malformed libraries, and
-//! what is refused: what they write, the manifest and the records that they leave, the cache, the cache as it is printed, and that a second
-//! update plans nothing more. Each table is a file of data/.
+//! Tests of the commands `update` and `batch` over images with links, conf files, subdirectories for processors, malformed libraries, and
+//! rejected inputs. They compare the output, the manifest, the records, the cache and its printed text, and check that a second update
+//! plans nothing more. Each table is a file of data/.
 #![tactic(auto)]
 
 mod left;

@@ -9,11 +9,11 @@ use std::alloc::Global;
 use table_rows::{Row, Said, Trial, Words, count, has_line, text, value};
 use tree_face::Slot;
 
-/// A row has a manifest, the store's files and an auxiliary cache, as far as there are such, and the script if `batch` is run instead of
-/// `update`. It has the exit status if that isn't 0 (`refused`, or `status` of a script), what is written, how many files are opened, and for
-/// a script which files are replaced, in their order, by their first letters. If some are, it has the new manifest if one is written, the new
-/// records if there are some, what is printed of the new cache, what look-ups in it answer, and its length or its bytes if they are compared.
-/// After an update without an error a second one follows, which writes `again`, or the same without the line.
+/// A row has a manifest, the store's files and an auxiliary cache, if there are any, and the script if `batch` is run instead of `update`.
+/// It has the exit status if that isn't 0 (`refused`, or `status` of a script), the output, and the number of opened files. For a script
+/// it has the replaced files in order, by their first letters. If files are replaced, it has the new manifest and the new records if there
+/// are any, the printed text of the new cache, the results of look-ups in it, and its length or its bytes if they are compared. After an
+/// update without an error follows a second update, which writes `again`, or the same if the row has no such line.
 pub(crate) struct Image;
 
 const WORDS: &[Words] = &[
@@ -56,7 +56,7 @@ fn push_slots(slots: &mut Vec<Slot>, letters: &[u8]) -> Result<(), NoMemory> {
     Ok(())
 }
 
-// The letters of the replaced files. An update that is refused replaces none, and another one the manifest if there is a new one.
+// The letters of the replaced files. A rejected update replaces none. Any other update replaces the manifest only if there is a new one.
 fn replaced<'a>(row: Row<'a>) -> &'a [u8] {
     if has_line(row, b"script") {
         value(row, b"replaced").unwrap_or(b"")
@@ -69,7 +69,7 @@ fn replaced<'a>(row: Row<'a>) -> &'a [u8] {
     }
 }
 
-// The word of the exit status.
+// The word for the exit status.
 fn status_word(row: Row<'_>) -> &'static [u8] {
     if has_line(row, b"script") {
         b"status"
@@ -78,7 +78,7 @@ fn status_word(row: Row<'_>) -> &'static [u8] {
     }
 }
 
-// Whether the command of the row ends as the row says, and has replaced these files.
+// Whether the command of the row ends as the row says, and has replaced the row's files.
 fn is_first(
     alloc: Global,
     row: Row<'_>,
@@ -109,7 +109,7 @@ fn is_first(
     )
 }
 
-// The word of what a second update writes.
+// The word for the output of a second update.
 fn second_output(row: Row<'_>) -> &'static [u8] {
     if has_line(row, b"again") {
         b"again"
@@ -141,7 +141,7 @@ fn is_second(
     )
 }
 
-// Runs the command of the row, looks at all that it leaves, and updates the image again.
+// Runs the command of the row, compares everything that it leaves, and updates the image again.
 fn is_as_written(
     alloc: Global,
     row: Row<'_>,
@@ -174,7 +174,7 @@ impl Trial for Image {
         WORDS
     }
 
-    // A `run` that always returns NoMemory meets its contract; the rows refuse it.
+    // A `run` that always returns NoMemory meets its contract, but not the rows.
     fn is_right(alloc: Global, row: Row<'_>, said: &mut Said) -> Result<bool, NoMemory> {
         let tried = try_row(alloc, row, said);
         is_made(tried, said)

@@ -1,5 +1,5 @@
-//! Tests of the command `resolve`: its status, what it writes, which files it opens and which it reads of the disk, and that each of its
-//! devices may fail at each call. Each table is a file of data/.
+//! Tests of the command `resolve`: its status, its output, the files that it opens, and the files that it reads from the disk. In some
+//! rows each call of each device fails in turn. Each table is a file of data/.
 #![tactic(auto)]
 
 mod setting;

@@ -7,7 +7,7 @@ use std::alloc::Global;
 use table_rows::{Row, has_line};
 use tree_face::{Disk, Slot};
 
-/// A device that fails at one of its calls.
+/// A device in which one call fails.
 #[derive(Clone, Copy, PartialEq, Eq)]
 pub(crate) enum Device {
     Store,
@@ -23,7 +23,7 @@ pub(crate) fn disk_with(cache: Option<&[u8]>) -> Setting<'_> {
     }
 }
 
-/// The same with a device that fails at this call.
+/// The same, with a device in which this call fails.
 pub(crate) fn failing(cache: Option<&[u8]>, device: Device, call: u64) -> Setting<'_> {
     let sure = disk_with(cache);
     match device {

@@ -9,9 +9,9 @@ use std::alloc::Global;
 use table_rows::{Row, Said, Trial, Words, count, has_line, lines_in, text, value};
 use tree_face::Slot;
 
-/// A row has a manifest, if there is one, the store's files, the cache (with `updated` the one that an update makes), the arguments of
-/// `resolve`, its exit status, what it writes, the keys of the files that it opens and the files of the disk that it reads. With `in-turn`
-/// each call of each device fails in turn.
+/// A row has a manifest, if there is one, the store's files, the cache (with `updated` the one that an update makes), and the arguments of
+/// `resolve`. It has the exit status, the output, the keys of the files that are opened, and the files that are read from the disk. With
+/// `in-turn` each call of each device fails in turn.
 pub(crate) struct Listed;
 
 // Whether nothing was written to the disk.
@@ -57,7 +57,7 @@ fn is_as_written(
     )
 }
 
-// The status of a command whose device has failed, and what it writes.
+// The status and the output of a command whose device has failed.
 fn fault_of(device: Device) -> (u64, &'static [u8]) {
     match device {
         Device::Store => (10, b"fault: StoreFault\n"),
@@ -66,12 +66,12 @@ fn fault_of(device: Device) -> (u64, &'static [u8]) {
     }
 }
 
-// How a run in which a call fails has ended.
+// The end of a run in which a call fails.
 #[derive(Clone, Copy, PartialEq, Eq)]
 enum End {
     /// With the fault of the device.
     Failed,
-    /// As the row says: it makes fewer calls.
+    /// As the row says, because the run makes fewer calls.
     AsWritten,
     Otherwise,
 }
@@ -99,7 +99,7 @@ fn end_of(
 // More calls than any run of a row makes.
 const CALLS: u64 = 200;
 
-// Whether a run ends with the device's fault, whichever of its calls fails.
+// Whether a run ends with the device's fault, for each call of the device that fails.
 fn fails_in_turn(
     alloc: Global,
     row: Row<'_>,
@@ -152,7 +152,7 @@ impl Trial for Listed {
         WORDS
     }
 
-    // A `run` that always returns NoMemory meets its contract; the rows refuse it.
+    // A `run` that always returns NoMemory meets its contract, but not the rows.
     fn is_right(alloc: Global, row: Row<'_>, said: &mut Said) -> Result<bool, NoMemory> {
         let tried = try_row(alloc, row, said);
         is_made(tried, said)

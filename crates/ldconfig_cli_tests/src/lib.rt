@@ -1,5 +1,5 @@
-//! Tests of the command `update` that are no rows: devices that never fail, arguments that are no command's, and the exit statuses.
-//! Images and what is refused of them are rows of `ldconfig_cli_image_tests`.
+//! Tests of the command `update` that are not rows of a table: devices that never fail, arguments that are not a command, and the exit
+//! statuses. Images and their errors are rows of `ldconfig_cli_image_tests`.
 #![tactic(auto)]
 
 #[cfg(test)]

@@ -1,4 +1,4 @@
-//! Arguments that are no command's, and the exit statuses.
+//! Arguments that are not a command, and the exit statuses.
 use command_runs_fixture::{
     Devices, LIBZ_MANIFEST, OLD, Setting, has, image, libz_held, make_devices,
 };
@@ -34,13 +34,13 @@ fn failing_devices(alloc: Global) -> Result<Devices, Fail> {
     Ok(make_devices(alloc, setting, libz_held(alloc)?)?)
 }
 
-// Whether the reading of the Cache slot fails, and once more gives its old content.
+// Whether reading the cache file fails once, and then gives its old content.
 fn fails_once(alloc: Global, devices: &mut Devices) -> bool {
     devices.disk.read(alloc, Slot::Cache).is_err()
         && has(alloc, &mut devices.disk, Slot::Cache, Some(OLD))
 }
 
-// The first call of each device shows by its failing.
+// The first call of each device still fails, so none was made before.
 fn assert_untouched(rt: &impl Abort, alloc: Global, words: &[&str]) -> Result<(), Fail> {
     let mut devices = failing_devices(alloc)?;
     let status = run_words(alloc, words, &mut devices)?;

@@ -1,5 +1,5 @@
--- A look-up in a written cache finds what the search of the directories finds: it finds the first of the entries, which lead where the
--- search leads.
+-- A lookup in a written cache finds the same path as the search of the directories: the first matching cache entry has the path that the
+-- search finds.
 use Rattle.std.proofs.Common.{◌≡◌, ◌<◌, ◌≤◌, ◌+◌, ◌==◌, ℕ, zero, suc, pos, if◌then◌else◌, nat_eq, Bool, true, false, cond, ◌&&◌, nat_lt, List, [], ◌∷◌, length, get_or, map, refl, ap, sym, subst, ◌∙◌, Option, Some, None, arith}
 use Rattle.std.proofs.lemmas.Bool.Decides.{nat_tests}
 use Rattle.std.proofs.lemmas.List.{get_or-map, length-map}
@@ -32,12 +32,13 @@ use Rattle.lib_types.specs.declared.entry.Entry.{Entry}
 use Rattle.name_order.specs.Order.{token_order}
 use Rattle.tree_face.specs.Store.{Contents}
 use Rattle.image_tree.specs.Tree.{Nodes}
+use Rattle.library_search.specs.Judged.{judged}
 use Rattle.library_search.specs.Ldconfig.{entries_in, places_in, planned_in, said_files, walk_in}
 use Rattle.ldconfig_core.specs.Lookup.{FindsAsSearched}
 
--- ---- the index of an item, and the item
+-- ---- an item and its index
 
--- what is found, by its index
+-- a lookup by index gives the same path
 by_index : (L : List CachedEntry) (p : CachedEntry → Bool) → option_and_then (path_at L) (position p L) ≡ option_map (λ (e : CachedEntry). e.path) (find p L)
 by_index L p = by_test (nat_lt (position_or_len p L) (length L))
     (λ e. rw e (ap (option_map (λ (e : CachedEntry). e.path)) (sym (find_at p L))))
@@ -46,7 +47,7 @@ by_index L p = by_test (nat_lt (position_or_len p L) (length L))
     past : (m n : ℕ) → nat_lt m n ≡ false → n ≤ m
     past m n e = grind (arith, nat_tests)
 
--- an index of an item has one
+-- each index of an item has a path
 there : (L : List CachedEntry) (i : ℕ) → i < length L → path_at L i ≡ None → ⊥
 there [] i h e = omega arith
 there (x ∷ L) zero h e = absurd (cc)
@@ -79,9 +80,9 @@ module _ (L : List CachedEntry) (candidate : CachedEntry → Bool) where
           let parts = cond_some (nat_lt (position_or_len p L) (length L)) (position_or_len p L) i e in
           subst (λ n. n < length L) parts.1 (below (position_or_len p L) (length L) parts.0)
 
--- ---- entries as they are read
+-- ---- entries after reading the cache back
 
--- bit 62 says whether an entry has a hwcaps name
+-- bit 62 is set exactly if an entry has a hwcaps name
 each_named : (bytes : List ℕ) → All (λ (e : CachedEntry). is_named e.hwcap ≡ is_some e.cap) (read bytes)
 unfolding entry_at
 each_named bytes = All-map (λ (e : CachedEntry). is_named e.hwcap ≡ is_some e.cap) (entry_at bytes) (indexes bytes) (λ k d within. by (hwcap bytes (get_or (indexes bytes) k d)))
@@ -104,7 +105,7 @@ module _ (names : List (List ℕ)) where
       (all_marked entries (All-tail P (as_read names e) (map (as_read names) entries) all))
 
   module _ (name : List ℕ) (abi : Abi) where
-    -- a candidate for a use is an entry of the name, the ABI and the hwcaps name of that use
+    -- a candidate for a use is an entry with the name, the ABI and the hwcaps name of that use
     same_test : (e : Entry) (cap : Option (List ℕ)) (used : Bool) → used ≡ is_same_cap e.cap cap → (is_candidate name abi (as_read names e) && used) ≡ is_entry_of name abi cap e
     same_test e cap used same =
         ap (λ u. is_candidate name abi (as_read names e) && u) same
@@ -155,7 +156,7 @@ module _ (names : List (List ℕ)) where
       unfolding chosen
       scanned caps = first_path read_entries (is_candidate name abi) (uses caps) ∙ same_paths caps
 
-  -- ---- their order
+  -- ---- the order of the entries
 
   not_above : (r s t : Ordering) → is_lt (ordering_then (ordering_then r s) t) ≡ false → is_lt r ≡ false
   not_above Less s t h = absurd (cc)
@@ -173,7 +174,7 @@ module _ (names : List (List ℕ)) where
       ap (λ (a : CachedEntry). is_lt (token_order (get_or (map (as_read names) all) k d).name a.name)) next
       ∙ ap (λ (a : CachedEntry). is_lt (token_order a.name (get_or all (k + 1) e).soname)) here ∙ order
 
--- a cache that is read as sorted entries has its names in the loader's order
+-- a cache that is read back as sorted entries has its names in the loader's order
 pub names_descend : (entries : List Entry) (cache : List ℕ) → IsSorted entry_order entries → read cache ≡ map (as_read (hwcaps_names entries)) entries → AreDescending (read cache)
 names_descend entries cache sorted back = subst (λ (es : List CachedEntry). AreDescending es) (sym back) (descending (hwcaps_names entries) entries sorted)
 
@@ -187,11 +188,11 @@ module _ (scope : Scope) (held : Contents) (t : Nodes) (loaded : List Stamp) whe
       let names : List (List ℕ) = hwcaps_names entries in
       let marked = all_marked names entries (subst (λ (es : List CachedEntry). All (λ (e : CachedEntry). is_named e.hwcap ≡ is_some e.cap) es) back (each_named cache)) in
       ap (λ (es : List CachedEntry). scan es name abi caps) back ∙ scanned names name abi entries marked caps
-      ∙ sym (walk_by name abi caps (said_files scope held t loaded) (planned_in scope held t loaded) (places_in scope held t) entries are)
+      ∙ sym (walk_by name abi caps (judged scope (said_files scope held t loaded)) (planned_in scope held t loaded) (places_in scope held t) entries are)
 
-  -- in an image of the same entries the search finds the same
+  -- the search finds the same in an image with the same entries
   pub searched_too : (u : Nodes) (others : List Stamp) (cache : List ℕ) → entries_in scope held u others ≡ entries_in scope held t loaded → FindsAsSearched scope held t loaded cache → FindsAsSearched scope held u others cache
   unfolding entries_in walk_in
   searched_too u others cache same finds name abi caps =
       finds name abi caps
-      ∙ sym (walk_same name abi caps (said_files scope held t loaded) (said_files scope held u others) (planned_in scope held t loaded) (planned_in scope held u others) (places_in scope held t) (places_in scope held u) same)
+      ∙ sym (walk_same name abi caps (judged scope (said_files scope held t loaded)) (judged scope (said_files scope held u others)) (planned_in scope held t loaded) (planned_in scope held u others) (places_in scope held t) (places_in scope held u) same)

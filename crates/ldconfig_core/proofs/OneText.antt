@@ -1,4 +1,4 @@
--- The texts of an update are determined by the image and the contents, and there are some.
+-- The image and the contents determine the texts of an update, and there are such texts.
 use Rattle.std.proofs.Common.{◌≡◌, ℕ, Bool, nat_lt, List, [], ◌∷◌, length, Option, refl, sym, ap, subst, ◌∙◌}
 use Rattle.hwcap_dirs.specs.declared.kinds.Scope.{Scope}
 use Rattle.aux_cache.specs.AuxText.{aux_text}
@@ -22,6 +22,7 @@ use Rattle.update_report.specs.Report.{report_text}
 use Rattle.library_search.proofs.Honest.{said_law}
 use Rattle.library_search.specs.Begun.{behind_keys, wanted_keys}
 use Rattle.library_search.specs.Laws.{IsSaidRight}
+use Rattle.library_search.specs.Judged.{judged}
 use Rattle.library_search.specs.Ldconfig.{conf_of, entries_in, links_in, places_in, planned_in, said_files, stamps_in}
 use Rattle.ldconfig_core.specs.Outcome.{Lacking, Outcome, Refusal, TooLarge, TooMany, first_refusal, is_too_long, manifest_with, new_manifest, size_of, update_outcome}
 use Rattle.image_session.specs.Session.{Loaded}
@@ -31,7 +32,7 @@ use Rattle.ldconfig_core.specs.Texts.{AreAlike, AreTextsOf, UpdateTexts, said_wi
 module _ (scope : Scope) (held : Contents) (s : Loaded) where
   pub one_entries : (a b : List Entry) → AreEntriesOf (entries_in scope held s.tree s.stamps) a → AreEntriesOf (entries_in scope held s.tree s.stamps) b → a ≡ b
   unfolding entries_in
-  one_entries a b are is = one_list (said_files scope held s.tree s.stamps) (planned_in scope held s.tree s.stamps) (places_in scope held s.tree) a b are is
+  one_entries a b are is = one_list (judged scope (said_files scope held s.tree s.stamps)) (planned_in scope held s.tree s.stamps) (places_in scope held s.tree) a b are is
 
   pub one_update : (texts others : UpdateTexts) → AreTextsOf scope held s texts → AreTextsOf scope held s others → texts ≡ others
   one_update texts others are is =
@@ -52,12 +53,12 @@ module _ (scope : Scope) (held : Contents) (s : Loaded) where
     record { entries = entries; are = are; manifest_is = refl; cache_is = refl; aux_is = refl; report_is = refl },
   )
 
-  -- every image has texts
+  -- there are texts for each image
   pub some_texts : (texts : UpdateTexts) × AreTextsOf scope held s texts
   some_texts = let list = one_list_is (entries_in scope held s.tree s.stamps) in texts_by list.0 list.1
 
--- Images of one tree, both edited or both not, have the same outcome and write the same, whatever true stamps they have, if files of equal identity have equal
--- content.
+-- Images of one tree, both edited or both unedited, have the same outcome and the same texts for all true stamps. This assumes that equal
+-- identities imply equal contents.
 module _ (scope : Scope) (held : Contents) (s new : Loaded) (tree : new.tree ≡ s.tree) (edited : new.edited ≡ s.edited) (same : AreSame held s.tree s.tree)
     (are : AreTrue held s.tree s.stamps) (too : AreTrue held new.tree new.stamps) where
   abbrev there : List Stamp
@@ -131,7 +132,7 @@ module _ (scope : Scope) (held : Contents) (s new : Loaded) (tree : new.tree ≡
       rows : Bool → List Planned → Bool → Nodes → List Entry → List Refusal
       rows wanted plan behind planned entries = rows_with s.tree wanted plan behind planned (new_manifest scope held s) entries
 
--- a further update has texts: no manifest, and the same caches
+-- another update has texts: no manifest, and the same caches
 pub again : (scope : Scope) (held : Contents) (s new : Loaded) (texts : UpdateTexts) → AreSettled scope held s new → AreTextsOf scope held s texts
     → (others : UpdateTexts) × (AreTextsOf scope held new others × AreCachesAgain texts others)
 again scope held s new texts settled are =

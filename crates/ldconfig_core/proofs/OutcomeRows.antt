@@ -1,4 +1,4 @@
--- The outcome of an update, by its conditions.
+-- The outcome of an update, condition by condition.
 use Rattle.std.proofs.Common.{◌≡◌, ◌||◌, ◌&&◌, ℕ, Bool, true, false, not, cond, nat_lt, length, refl}
 use Rattle.hwcap_dirs.specs.declared.kinds.Scope.{Scope}
 use Rattle.cache_layout.specs.declared.limits.TheConstants.{ENTRIES_MAX}
@@ -15,7 +15,7 @@ both_false : (a b : Bool) → (a || b) ≡ false → (a ≡ false) × (b ≡ fal
 both_false true b h = absurd (cc)
 both_false false b h = (refl, h)
 
--- a file that has to be begun isn't held
+-- the content of a file that must be opened isn't held
 pub lacking : (scope : Scope) (held : Contents) (s : Loaded) → lacks_file scope held s.tree s.stamps ≡ true → update_outcome scope held s ≡ Lacking
 unfolding update_outcome lacks_file
 lacking scope held s lacks =
@@ -28,7 +28,7 @@ lacking scope held s lacks =
     by false false false false nodes rest h = absurd (cc)
     by false false true c nodes rest h = absurd (cc)
 
--- ---- files with library names that are opened are held
+-- ---- the contents of the opened files with library names are held
 
 module _ (scope : Scope) (held : Contents) (s : Loaded) (none : lacks_wanted scope held s.tree s.stamps ≡ false) where
   conf_held : conf_lacks (conf_of scope) held s.tree ≡ false

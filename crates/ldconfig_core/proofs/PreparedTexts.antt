@@ -1,4 +1,4 @@
--- What an update is about to write is what the image's update writes.
+-- The prepared texts are those of the image's update.
 use Rattle.std.proofs.Common.{◌≡◌, ◌⊎◌, inl, inr, ◌≤◌, ◌<◌, ◌+◌, ℕ, true, false, nat_lt, List, length, Option, Some, None, Err, refl, ap, sym, subst, ◌∙◌, arith}
 use Rattle.std.proofs.lemmas.List.Sorted.{length_permutation}
 use Rattle.hwcap_dirs.specs.declared.kinds.Scope.{Scope}
@@ -28,6 +28,7 @@ use Rattle.library_search.specs.declared.fault.FindFault.TheVariants as finding
 use Rattle.library_search.specs.declared.finding.Found.{Found}
 use Rattle.ldconfig_core.specs.declared.preparing.Prepared.{Prepared}
 use Rattle.ldconfig_core.specs.Faults.{is_of_making, of_finding}
+use Rattle.library_search.specs.Judged.{judged}
 use Rattle.library_search.specs.Ldconfig.{conf_in, conf_of, entries_in, links_in, places_in, planned_in, said_wanted, stamps_in}
 use Rattle.image_session.specs.Aux.{stamps_of_slot}
 use Rattle.image_session.specs.Session.{Loaded}
@@ -45,7 +46,7 @@ use Rattle.ldconfig_core.specs.Texts.{AreTexts, AreTextsOf, said_with}
 use Rattle.ldconfig_core.specs.Update.{AreUpdateTexts, IfHonestIn, IfHonestly, IsAnswer, IsUpdated, update_ending}
 use Rattle.tree_face.proofs.Known.{known_then}
 
--- the count of faults rose, or a file isn't held
+-- the number of failed calls rose, or a content isn't held
 cause_of : {risen : Type 0} {a b : Type 0} → (a → b) → risen ⊎ a → risen ⊎ b
 cause_of f (inl risen) = inl risen
 cause_of f (inr lacks) = inr (f lacks)
@@ -81,7 +82,7 @@ module _ (scope : Scope) (s : Loaded) (found : Found) (tree : Nodes) (alike : Is
           let size : length (entries_of found tree) ≡ length (entries_in scope held s.tree s.stamps) = ap length is.entries_are in
           rows.writes scope held s is.none_lacks is.few is.none_behind short_new (within ENTRIES_MAX (length (entries_in scope held s.tree s.stamps)) (omega (arith, few, size)))
 
-    -- what is said is what the image's report says
+    -- the findings in the report are those of the image
     said_is : (entries : List Entry) → said_of s.damaged found entries ≡ said_with scope held s entries
     unfolding conf_in
     said_is entries = ap (λ skips. record {
@@ -98,8 +99,8 @@ module _ (scope : Scope) (s : Loaded) (found : Found) (tree : Nodes) (alike : Is
       opened = found.search.files.begun;
     }) is.skips_are ∙ rw (is.conf.reports, is.places, is.absent_is, is.plan, is.blocked_is, is.mixed_is, is.dangling_is, is.opened) refl
 
-    -- the image is settled
-    settled_is : IsTree tree → IsSettled (said_wanted scope held s.tree s.stamps) s.tree (places_in scope held s.tree) tree → IfHonestIn held s (AreSettled scope held s (planned_image scope held s))
+    -- the image is settled: another update of it plans no link
+    settled_is : IsTree tree → IsSettled (judged scope (said_wanted scope held s.tree s.stamps)) s.tree (places_in scope held s.tree) tree → IfHonestIn held s (AreSettled scope held s (planned_image scope held s))
     settled_is is_tree still are same =
         subst (λ (n : Nodes). AreSettled scope held s (stored_image n (stamps_in scope held s.tree s.stamps))) is.tree_is (are_settled scope held s tree alike is.tree_is still is_tree are same)
 
@@ -136,11 +137,11 @@ module _ (scope : Scope) (s : Loaded) (found : Found) (tree : Nodes) (alike : Is
 
   module _ (known : Option Contents) (is : IfKnown known (λ held. IsFound scope held s.tree s.stamps found tree)) where
     -- the image with the planned links is settled
-    pub settled_by : IsTree tree → IfKnown known (λ held. IsSettled (said_wanted scope held s.tree s.stamps) s.tree (places_in scope held s.tree) tree)
+    pub settled_by : IsTree tree → IfKnown known (λ held. IsSettled (judged scope (said_wanted scope held s.tree s.stamps)) s.tree (places_in scope held s.tree) tree)
         → IfHonestly known s (λ held. AreSettled scope held s (planned_image scope held s))
     settled_by is_tree still = by known is still
       where
-        by : (k : Option Contents) → IfKnown k (λ held. IsFound scope held s.tree s.stamps found tree) → IfKnown k (λ held. IsSettled (said_wanted scope held s.tree s.stamps) s.tree (places_in scope held s.tree) tree)
+        by : (k : Option Contents) → IfKnown k (λ held. IsFound scope held s.tree s.stamps found tree) → IfKnown k (λ held. IsSettled (judged scope (said_wanted scope held s.tree s.stamps)) s.tree (places_in scope held s.tree) tree)
             → IfHonestly k s (λ held. AreSettled scope held s (planned_image scope held s))
         by None is still = tt
         by (Some held) is still = settled_is held is is_tree still
@@ -192,7 +193,7 @@ module _ (scope : Scope) (s : Loaded) (found : Found) (tree : Nodes) (alike : Is
     pub plan_is : (prepared : Prepared) → IsMadeOf scope s.edited s.damaged found tree prepared → If (λ held. prepared.plan ≡ links_in scope held s.tree s.stamps)
     plan_is prepared made = follows (λ held. prepared.plan ≡ links_in scope held s.tree s.stamps) (λ held is. made.plan ∙ is.plan)
 
-    -- where it was looked for
+    -- the search directories and the libraries found there
     pub looked_is : (prepared : Prepared) → IsMadeOf scope s.edited s.damaged found tree prepared
         → found.links.bests ≡ bests_of (analysis_at found.search.files.table) tree found.search.dirs.places → If (λ held. HasLooked scope held s prepared.looked)
     looked_is prepared made bests = follows (λ held. HasLooked scope held s prepared.looked)
@@ -201,7 +202,7 @@ module _ (scope : Scope) (s : Loaded) (found : Found) (tree : Nodes) (alike : Is
     pub writes_is : (prepared : Prepared) → IsMadeOf scope s.edited s.damaged found tree prepared → If (λ held. update_outcome scope held s ≡ Writes)
     writes_is prepared made = follows (λ held. update_outcome scope held s ≡ Writes) (λ held is. writes held is made.short made.few)
 
-    -- ---- what isn't made
+    -- ---- failed preparations
 
     pub making_answers : (A : Type 0) (a b : StoreState) (fault : UpdateFault) → is_of_making fault ≡ true
         → ((nodes bytes : ℕ) → fault ≡ faults.TooLarge nodes bytes → IsTooLarge scope s.edited tree found.links.plan nodes bytes)
@@ -219,13 +220,13 @@ module _ (scope : Scope) (s : Loaded) (found : Found) (tree : Nodes) (alike : Is
         by held is faults.StoreFault of large many = absurd (cc)
         by held is (faults.DiskFault fault) of large many = absurd (cc)
 
--- ---- what is read
+-- ---- the files that are read
 
 module _ (scope : Scope) (A : Type 0) (s : Loaded) (a b : StoreState) where
   abbrev Finds : Ending → Type 0
   Finds e = ReadsFinding scope s.tree s.stamps e a b
 
-  -- a call that read all may give up
+  -- a call that read all files may still run out of memory
   given_up : Finds Complete → Finds GaveUp
   given_up reads = record {
     keys = known_then a.held

@@ -11,7 +11,7 @@ use Rattle.file_stamps.specs.Files.{what_is}
 use Rattle.elf_dynamic.specs.Begun.{file_keys, key_in, lacks_one}
 use Rattle.hwcap_dirs.specs.Places.{places}
 use Rattle.hwcap_dirs.specs.declared.kinds.Scope.{Scope}
-use Rattle.hwcap_dirs.specs.declared.kinds.Scope.TheVariants.{Image, Root}
+use Rattle.hwcap_dirs.specs.declared.kinds.Scope.TheVariants.{Image, Only, Root}
 use Rattle.ldso_conf.specs.Reading.{conf_lacks, is_missing, reading, reading_of}
 use Rattle.lib_types.specs.declared.entry.Entry.{Entry}
 use Rattle.file_table.specs.Analyses.{Analyses}
@@ -34,6 +34,7 @@ use Rattle.library_search.proofs.Honest.{behind_lack, said_is, stamps_true, want
 use Rattle.ldconfig_core.proofs.OneText.{one_entries}
 use Rattle.library_search.proofs.Limits.{within}
 use Rattle.library_search.specs.Begun.{behind_keys, has_too_many_nodes, wanted_keys}
+use Rattle.library_search.specs.Judged.{judged}
 use Rattle.library_search.specs.Ldconfig.{behind_in, conf_in, conf_of, entries_in, library_paths, links_in, places_in, planned_in, reached_in, said_files, said_wanted, stamps_in, wanted_in}
 use Rattle.ldconfig_core.specs.Outcome.{Lacking, TooLarge, TooMany, Writes, first_refusal, is_too_long, manifest_with, new_manifest, size_of, update_outcome}
 use Rattle.image_session.specs.Session.{Loaded}
@@ -41,7 +42,7 @@ use Rattle.ldconfig_core.specs.Settled.{AreCachesAgain, AreSettled}
 use Rattle.ldconfig_core.specs.Stages.{stored_image}
 use Rattle.ldconfig_core.specs.Texts.{AreTextsOf, UpdateTexts}
 
--- if an update writes, none of the reasons not to holds
+-- if an update writes, no condition of a refusal holds
 none_holds : (conf wanted nodes files text entries : Bool) (m n size count : ℕ)
     → first_refusal ((conf, Lacking) ∷ (wanted, Lacking) ∷ (nodes, TooLarge m 0) ∷ (files, Lacking) ∷ (text, TooLarge n size) ∷ (entries, TooMany count) ∷ []) ≡ Writes
     → (conf ≡ false) × ((wanted ≡ false) × ((files ≡ false) × (entries ≡ false)))
@@ -53,7 +54,7 @@ none_holds false false false false true entries m n size count h = absurd (cc)
 none_holds false false false false false true m n size count h = absurd (cc)
 none_holds false false false false false false m n size count h = (refl, (refl, (refl, refl)))
 
--- an image's update that writes no manifest has planned no links, and the image wasn't edited
+-- if an update of an image writes no manifest, it has planned no link, and the image wasn't edited
 pub unwritten : (held : Contents) (s : Loaded) → new_manifest Image held s ≡ None → planned_in Image held s.tree s.stamps ≡ s.tree
 unfolding new_manifest planned_in
 unwritten held s h = by s.edited (links_in Image held s.tree s.stamps) refl h
@@ -64,17 +65,18 @@ unwritten held s h = by s.edited (links_in Image held s.tree s.stamps) refl h
     by false [] e h = ap (with_links s.tree) e
     by false (planned ∷ plan) e h = absurd (cc)
 
--- no manifest is written for an unedited tree that has its links
+-- for an unedited tree without planned links no manifest is written
 none_with : (scope : Scope) (t : Nodes) → manifest_with scope false t [] ≡ None
 none_with Image t = refl
 none_with (Root conf) t = refl
+none_with (Only dirs) t = refl
 
 module _ (scope : Scope) (held : Contents) (s : Loaded) (new : Nodes) (alike : IsSearchedAlike s.tree new) (put : new ≡ planned_in scope held s.tree s.stamps)
-    (still : IsSettled (said_wanted scope held s.tree s.stamps) s.tree (places_in scope held s.tree) new) (tree : IsTree new) where
+    (still : IsSettled (judged scope (said_wanted scope held s.tree s.stamps)) s.tree (places_in scope held s.tree) new) (tree : IsTree new) where
   abbrev t : Nodes
   t = s.tree
 
-  -- the stamps before, and those of the update
+  -- the stamps before the update and those of the update
   abbrev loaded : List Stamp
   loaded = s.stamps
 
@@ -111,7 +113,7 @@ module _ (scope : Scope) (held : Contents) (s : Loaded) (new : Nodes) (alike : I
   abbrev image : Loaded
   image = stored_image new made
 
-  -- ---- under the assumption on identities
+  -- ---- assuming that equal identities imply equal contents
 
   module _ (are : AreTrue held t loaded) (same : AreSame held t t) where
     same_there : AreSame held new new
@@ -134,7 +136,9 @@ module _ (scope : Scope) (held : Contents) (s : Loaded) (new : Nodes) (alike : I
 
     no_links : links_in scope held new made ≡ []
     unfolding links_in
-    no_links = ap (λ (w : Analyses). links w new (places_in scope held new)) wanted_said ∙ ap (links (said_wanted scope held t loaded) new) same_places ∙ still.none
+    no_links =
+        ap (λ (w : Analyses). links (judged scope w) new (places_in scope held new)) wanted_said
+        ∙ ap (links (judged scope (said_wanted scope held t loaded)) new) same_places ∙ still.none
 
     stays : planned_in scope held new made ≡ new
     unfolding planned_in
@@ -150,9 +154,9 @@ module _ (scope : Scope) (held : Contents) (s : Loaded) (new : Nodes) (alike : I
     same_entries : entries_in scope held new made ≡ entries_in scope held t loaded
     unfolding entries_in
     same_entries =
-        ap (λ (w : Analyses). found w (planned_in scope held new made) (places_in scope held new)) all_said
-        ∙ ap (λ n. found (said_files scope held t loaded) n (places_in scope held new)) same_tree
-        ∙ ap (found (said_files scope held t loaded) (planned_in scope held t loaded)) same_places
+        ap (λ (w : Analyses). found (judged scope w) (planned_in scope held new made) (places_in scope held new)) all_said
+        ∙ ap (λ n. found (judged scope (said_files scope held t loaded)) n (places_in scope held new)) same_tree
+        ∙ ap (found (judged scope (said_files scope held t loaded)) (planned_in scope held t loaded)) same_places
 
     same_behind : behind_in scope held new made ≡ behind_in scope held t loaded
     same_behind =
@@ -169,7 +173,7 @@ module _ (scope : Scope) (held : Contents) (s : Loaded) (new : Nodes) (alike : I
         ∙ ap (λ paths. with_stamps [] (stamps_said t (said_files scope held t loaded) (paths ++ behind_in scope held new made))) same_wanted
         ∙ ap (λ paths. with_stamps [] (stamps_said t (said_files scope held t loaded) (wanted_in scope held t ++ paths))) same_behind
 
-    -- a file isn't held in the one update exactly if one isn't in the other
+    -- one update misses a content exactly if the other does
     wanted_again : lacks_one held (wanted_keys scope held new made) ≡ lacks_one held (wanted_keys scope held t loaded)
     wanted_again =
         wanted_lack scope held new same_there made made_true
@@ -214,6 +218,7 @@ module _ (scope : Scope) (held : Contents) (s : Loaded) (new : Nodes) (alike : I
     put_before : (scope : Scope) → new ≡ planned_in scope held s.tree s.stamps → scope ≡ Image → new_manifest scope held s ≡ None → new ≡ s.tree
     put_before Image put e h = put ∙ unwritten held s h
     put_before (Root conf) put e h = absurd (cc)
+    put_before (Only dirs) put e h = absurd (cc)
 
     pub are_settled : AreSettled scope held s (stored_image new (stamps_in scope held s.tree s.stamps))
     are_settled = record {

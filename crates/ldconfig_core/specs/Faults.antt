@@ -1,4 +1,4 @@
--- Why an image isn't updated, by the faults of its parts.
+-- Why an image isn't updated, converted from the errors of its parts.
 use Rattle.std.specs.Prelude.{Bool, true, false}
 use Rattle.library_search.specs.declared.fault.FindFault.{FindFault}
 use Rattle.library_search.specs.declared.fault.FindFault.TheVariants as finding
@@ -7,7 +7,7 @@ use Rattle.cache_entries.specs.declared.fault.EntryFault.TheVariants as entering
 use Rattle.ldconfig_core.specs.declared.fault.UpdateFault.{UpdateFault}
 use Rattle.ldconfig_core.specs.declared.fault.UpdateFault.TheVariants as updating
 
--- the fault of looking through the image
+-- the error of searching the image
 abbrev pub of_finding : FindFault → UpdateFault
 of_finding finding.StoreFault = updating.StoreFault
 of_finding (finding.TooLarge nodes) = updating.TooLarge nodes 0
@@ -18,7 +18,7 @@ abbrev pub of_entries : EntryFault → UpdateFault
 of_entries (entering.TooMany count) = updating.TooMany count
 of_entries entering.NoMemory = updating.NoMemory
 
--- a fault that comes before the first writing call
+-- an error before the first writing call
 abbrev pub is_of_preparing : UpdateFault → Bool
 is_of_preparing (updating.DiskFault fault) = false
 is_of_preparing _ = true
@@ -29,7 +29,7 @@ is_size_fault (updating.TooLarge nodes bytes) = true
 is_size_fault updating.NoMemory = true
 is_size_fault _ = false
 
--- too long a manifest, too many entries, or out of memory
+-- a too long manifest, too many entries, or out of memory
 abbrev pub is_of_making : UpdateFault → Bool
 is_of_making (updating.TooLarge nodes bytes) = true
 is_of_making (updating.TooMany count) = true

@@ -1,7 +1,7 @@
 -- The outcome of an update of a loaded image, for given contents.
 use Rattle.std.specs.Prelude.{ℕ, Bool, true, false, List, [], ◌∷◌, nat_lt, if◌then◌else◌, length, Option, Some, None}
 use Rattle.hwcap_dirs.specs.declared.kinds.Scope.{Scope}
-use Rattle.hwcap_dirs.specs.declared.kinds.Scope.TheVariants.{Image, Root}
+use Rattle.hwcap_dirs.specs.declared.kinds.Scope.TheVariants.{Image, Only, Root}
 use Rattle.cache_layout.specs.declared.limits.TheConstants.{ENTRIES_MAX}
 use Rattle.elf_dynamic.specs.Begun.{lacks_one}
 use Rattle.ldso_conf.specs.Reading.{conf_lacks}
@@ -16,18 +16,19 @@ use Rattle.library_search.specs.Begun.{behind_keys, has_too_many_nodes, wanted_k
 use Rattle.library_search.specs.Ldconfig.{conf_of, entries_in, links_in, planned_in}
 
 pub data Outcome : Type 0 where
-  -- the content of a conf file, or of a library file that is opened, isn't held
+  -- the content of a conf file or of a library file that must be opened isn't held
   Lacking : Outcome
-  -- the tree with the planned links has more nodes than a tree may have, or its manifest more bytes than a manifest may have
+  -- the tree with the planned links has too many nodes, or its manifest has too many bytes
   TooLarge : ℕ → ℕ → Outcome
-  -- there are more entries than a cache may have
+  -- there are too many cache entries
   TooMany : ℕ → Outcome
-  -- the caches are written, and before them an image's manifest if it was edited or links are planned
+  -- the caches are written, and before them the image's manifest if the image was edited or links are planned
   Writes : Outcome
 
--- The manifest that is written for the tree with these links, if it was edited or there are any. A directory has none.
+-- The manifest that is written for the tree with these links, if the tree was edited or there are links. In a directory there is none.
 abbrev pub manifest_with : Scope → Bool → Nodes → List Planned → Option (List ℕ)
 manifest_with (Root conf) edited t plan = None
+manifest_with (Only dirs) edited t plan = None
 manifest_with Image true t plan = Some (canon t)
 manifest_with Image false t [] = None
 manifest_with Image false t (planned ∷ plan) = Some (canon t)
@@ -43,7 +44,7 @@ abbrev pub size_of : Option (List ℕ) → ℕ
 size_of None = 0
 size_of (Some text) = length text
 
--- why no cache is written, if the condition holds
+-- a condition, and the outcome if the condition holds; then no cache is written
 abbrev pub Refusal : Type 0
 Refusal = Bool × Outcome
 
@@ -57,7 +58,7 @@ refusals scope held s =
     ∷ (nat_lt ENTRIES_MAX (length (entries_in scope held s.tree s.stamps)), TooMany (length (entries_in scope held s.tree s.stamps)))
     ∷ []
 
--- the first whose condition holds
+-- the outcome of the first condition that holds
 abbrev pub first_refusal : List Refusal → Outcome
 first_refusal [] = Writes
 first_refusal (refusal ∷ rest) = if refusal.0 then refusal.1 else first_refusal rest

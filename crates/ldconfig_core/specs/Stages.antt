@@ -1,4 +1,4 @@
--- What private functions say of what is made of what was found.
+-- What private functions build from the results of the search.
 use Rattle.std.specs.Prelude.{◌≡◌, ◌≤◌, ◌<◌, ℕ, Bool, true, false, List, length, map, Option, Some, None, IfSome}
 use Rattle.std.specs.List.{filter_map}
 use Rattle.std.specs.Map.{keys_of}
@@ -28,17 +28,17 @@ use Rattle.aux_cache.specs.declared.stamps.Stamp.{Stamp}
 use Rattle.image_session.specs.Manifest.{HasTree, manifest_of}
 use Rattle.ldconfig_core.specs.Texts.{UpdateTexts, manifest_bytes}
 
--- an image of this tree and these stamps, of which all is stored
+-- an image with this tree and these stamps, all of it stored
 abbrev pub stored_image : Nodes → List Stamp → Loaded
 stored_image tree stamps = record { tree = tree; stamps = stamps; edited = false; damaged = None }
 
--- ---- what is made of what is found
+-- ---- built from the results of the search
 
--- the entries of what is found, in no order
+-- the cache entries, in no order
 abbrev pub entries_of : Found → Nodes → List Entry
 entries_of found tree = entries.found (analysis_at found.search.files.table) tree found.search.dirs.places
 
--- what the report says of it
+-- the findings in the report
 abbrev pub said_of : Option ℕ → Found → List Entry → Said
 said_of damaged found entries = record {
   damaged = damaged;
@@ -54,25 +54,25 @@ said_of damaged found entries = record {
   opened = found.search.files.begun;
 }
 
--- where it was looked for
+-- the search directories and the libraries found there
 abbrev pub looked_of : Found → Looked
 looked_of found = record { conf = found.search.conf; dirs = found.search.dirs; bests = found.links.bests }
 
--- a manifest, if one is written, reads as the tree
+-- a written manifest reads as the tree
 abbrev pub IfTree : Option (List ℕ) → Nodes → Type 0
 IfTree manifest tree = IfSome manifest (λ text. manifest_of (Some text) ≡ HasTree tree)
 
--- the manifest is too long, and these are the sizes of the image
+-- the manifest is too long; these are the numbers of nodes and bytes
 abbrev pub IsTooLarge : Scope → Bool → Nodes → List Planned → ℕ → ℕ → Type 0
 IsTooLarge scope edited tree plan nodes bytes =
     (nodes ≡ length tree) × ((bytes ≡ size_of (manifest_with scope edited tree plan)) × (is_too_long (manifest_with scope edited tree plan) ≡ true))
 
--- the manifest isn't too long, but this is the number of entries, which is too large
+-- the manifest isn't too long, but there are too many entries, namely this number
 abbrev pub HasTooMany : Scope → Bool → Found → Nodes → ℕ → Type 0
 HasTooMany scope edited found tree count =
     (is_too_long (manifest_with scope edited tree found.links.plan) ≡ false) × ((count ≡ length (entries_of found tree)) × (ENTRIES_MAX < count))
 
--- the texts and the numbers of what is found
+-- the texts and numbers built from the results of the search
 pub record IsMadeOf (scope : Scope) (edited : Bool) (damaged : Option ℕ) (found : Found) (tree : Nodes) (prepared : Prepared) : Type 0 where
   pub entries : List Entry
   pub are : AreEntriesOf (entries_of found tree) entries

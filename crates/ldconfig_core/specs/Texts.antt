@@ -1,4 +1,4 @@
--- The texts that an update makes.
+-- The texts that an update builds.
 use Rattle.std.specs.Prelude.{◌≡◌, ℕ, List, [], ◌∷◌, ◌++◌, map, Option, Some, None, option_map, Vec}
 use Rattle.std.specs.declared.alloc.Global.{Global}
 use Rattle.std.specs.List.{filter_map}
@@ -20,6 +20,7 @@ use Rattle.update_report.specs.Report.{Said, report_text}
 use Rattle.update_report.specs.Skips.{skip_at}
 use Rattle.library_search.specs.Begun.{opened_in}
 use Rattle.library_search.specs.Ldconfig.{conf_in, entries_in, library_files, links_in, places_in, planned_in, said_files, said_wanted, stamps_in}
+use Rattle.library_search.specs.Judged.{judged}
 use Rattle.ldconfig_core.specs.Outcome.{new_manifest}
 use Rattle.image_session.specs.Aux.{stamps_of_slot}
 use Rattle.image_session.specs.Session.{Loaded}
@@ -27,7 +28,7 @@ use Rattle.aux_cache.specs.AuxFile.{damage}
 use Rattle.aux_cache.specs.AuxText.{aux_text}
 use Rattle.aux_cache.specs.declared.stamps.Stamp.{Stamp}
 
--- what the report says, with the entries in their order
+-- the findings in the report, with the entries in order
 abbrev pub said_with : Scope → Contents → Loaded → List Entry → Said
 said_with scope held s entries = record {
   damaged = s.damaged;
@@ -35,15 +36,15 @@ said_with scope held s entries = record {
   places = places_in scope held s.tree;
   absent = absent s.tree (conf_in scope held s.tree).dirs;
   plan = links_in scope held s.tree s.stamps;
-  blocked = blocked (said_wanted scope held s.tree s.stamps) s.tree (places_in scope held s.tree);
-  mixed = mixed (said_wanted scope held s.tree s.stamps) s.tree (places_in scope held s.tree);
-  skips = filter_map (skip_at (said_files scope held s.tree s.stamps)) (library_files scope held s.tree s.stamps);
+  blocked = blocked (judged scope (said_wanted scope held s.tree s.stamps)) s.tree (places_in scope held s.tree);
+  mixed = mixed (judged scope (said_wanted scope held s.tree s.stamps)) s.tree (places_in scope held s.tree);
+  skips = filter_map (skip_at (judged scope (said_files scope held s.tree s.stamps))) (library_files scope held s.tree s.stamps);
   dangling = dangling (planned_in scope held s.tree s.stamps) (places_in scope held s.tree);
   entries = entries;
   opened = opened_in scope held s.tree s.stamps;
 }
 
--- the manifest, if it is written, the cache, the auxiliary cache, and the report of an update
+-- the texts of an update: the manifest if it is written, the cache, the auxiliary cache and the report
 pub record UpdateTexts : Type 0 where
   pub manifest : Option (List ℕ)
   pub cache : List ℕ
@@ -59,14 +60,14 @@ pub record AreTextsOf (scope : Scope) (held : Contents) (s : Loaded) (texts : Up
   pub aux_is : texts.aux ≡ aux_text (stamps_in scope held s.tree s.stamps)
   pub report_is : texts.report ≡ report_text (said_with scope held s entries)
 
--- the same is written: manifest, cache and auxiliary cache
+-- the same manifest, cache and auxiliary cache
 pub record AreAlike (texts others : UpdateTexts) : Type 0 where
   pub manifest : others.manifest ≡ texts.manifest
   pub cache : others.cache ≡ texts.cache
   pub aux : others.aux ≡ texts.aux
 
--- Whatever is known of contents, the cache is one of some entries, which a reader accepts and reads as these, in the loader's order of names,
--- the auxiliary cache one of some stamps, as which it is read, and the report one of some findings.
+-- This holds even if contents are unknown. A reader accepts the cache and reads it back as some entries in the loader's order of names.
+-- The auxiliary cache is read back as some stamps, and the report lists some findings.
 pub record AreTexts (texts : UpdateTexts) : Type 0 where
   pub said : Said
   pub report_is : texts.report ≡ report_text said
@@ -79,13 +80,13 @@ pub record AreTexts (texts : UpdateTexts) : Type 0 where
   pub undamaged : damage texts.aux ≡ None
   pub aux_read : stamps_of_slot (Some texts.aux) ≡ stamps
 
--- ---- what is written
+-- ---- the writes
 
 abbrev pub of_manifest : Option (List ℕ) → List Write
 of_manifest None = []
 of_manifest (Some text) = (Manifest, text) ∷ []
 
--- the manifest, if it is written, then the cache, and then the auxiliary cache
+-- the manifest if it is written, then the cache, then the auxiliary cache
 abbrev pub writes_of : UpdateTexts → List Write
 writes_of texts = of_manifest texts.manifest ++ (Cache, texts.cache) ∷ (Aux, texts.aux) ∷ []
 

@@ -1,4 +1,4 @@
--- One update of a loaded image: what it returns, and what it leaves on the store and on the disk.
+-- One update of a loaded image: its result, and its effect on the store and the disk.
 use Rattle.std.specs.Prelude.{◌≡◌, ◌⊎◌, ◌≤◌, ◌+◌, length, Option, Some, Result, Ok, Err, IfOk, ⊤}
 use Rattle.hwcap_dirs.specs.declared.kinds.Scope.{Scope}
 use Rattle.atomic_replace.specs.declared.fault.DiskFault.{DiskFault}
@@ -27,7 +27,7 @@ use Rattle.ldconfig_core.specs.Texts.{AreTexts, AreTextsOf, UpdateTexts, update_
 
 -- ---- the results, one row for each
 
--- the result is that of the outcome, or the store has failed, or memory is out
+-- the result is that of the outcome, or the store failed, or memory ran out
 abbrev pub IsAnswer : {A : Type 0} → Outcome → Result A UpdateFault → StoreState → StoreState → Type 0
 IsAnswer outcome (Ok updated) old new = outcome ≡ Writes
 IsAnswer outcome (Err faults.StoreFault) old new = HasRisen old.faults new.faults ⊎ (outcome ≡ Lacking)
@@ -47,13 +47,13 @@ update_ending (Err faults.NoMemory) = GaveUp
 
 -- ---- the store
 
--- the keys of the update are begun
+-- the update opens exactly these files
 abbrev pub ReadsUpdate : Scope → Loaded → Ending → StoreState → StoreState → Type 0
 ReadsUpdate scope s ending old new = ReadsFinding scope s.tree s.stamps ending old new
 
 -- ---- the disk
 
--- a fact of an image whose stamps are true and whose files of equal identity have equal content, if contents are known
+-- a fact about an image, assuming that contents are known, its stamps are true, and equal identities imply equal contents
 abbrev pub IfHonestly : Option Contents → Loaded → (Contents → Type 0) → Type 0
 IfHonestly known s P = IfHonest known s.tree s.stamps P
 
@@ -63,28 +63,28 @@ pub record AreUpdateTexts (scope : Scope) (s : Loaded) (known : Option Contents)
   pub are_of : IfKnown known (λ held. AreTextsOf scope held s texts)
   pub aux_read : IfKnown known (λ held. stamps_of_slot (Some texts.aux) ≡ stamps_in scope held s.tree s.stamps)
   pub finds : IfKnown known (λ held. FindsAsSearched scope held s.tree s.stamps texts.cache)
-  -- the keys that were begun: those of the conf files, and one for each library file that was opened
+  -- the number of opened files: the conf files, and the library files that were opened
   pub counted : IfKnown known (λ held. length (update_keys scope held s.tree s.stamps) ≡ length (conf_keys (conf_of scope) held s.tree) + opened_in scope held s.tree s.stamps)
-  -- If stamps are true and files of equal identity have equal content, each file is what it is said to be, so that an update without stamps gives the
-  -- same, and the image is settled.
+  -- Assuming that stamps are true and equal identities imply equal contents, all analyses are right. An update without stamps then gives
+  -- the same, and the image is settled.
   pub right : IfHonestly known s (λ held. IsSaidRight scope held s.tree s.stamps)
   pub settles : IfHonestly known s (λ held. AreSettled scope held s (planned_image scope held s))
   pub reads : IfKnown known (λ held. IfReads texts.manifest (planned_image scope held s))
 
--- the texts of the update are written, and this is its report
+-- the update's texts are written, and this is its report
 pub record LeavesTexts (scope : Scope) (tag : Tag) (s : Loaded) (known : Option Contents) (report : Report) (old new : DiskState) : Type 0 where
   pub texts : UpdateTexts
   pub are : AreUpdateTexts scope s known texts
   pub report_is : report.text ≡ texts.report
   pub written : WritesAll tag (writes_of texts) old new
 
--- a writing call of these texts failed
+-- a call that writes these texts failed
 pub record MayLeaveTexts (scope : Scope) (tag : Tag) (s : Loaded) (known : Option Contents) (fault : DiskFault) (old new : DiskState) : Type 0 where
   pub texts : UpdateTexts
   pub are : AreUpdateTexts scope s known texts
   pub written : WritesPart tag (writes_of texts) fault old new
 
--- Nothing is written unless all texts were made.
+-- Writing begins only after all texts were built.
 abbrev pub DiskAfter : Scope → Tag → Loaded → Option Contents → Result (Loaded × Report) UpdateFault → DiskState → DiskState → Type 0
 DiskAfter scope tag s known (Ok updated) old new = LeavesTexts scope tag s known updated.1 old new
 DiskAfter scope tag s known (Err (faults.DiskFault fault)) old new = MayLeaveTexts scope tag s known fault old new
@@ -95,17 +95,17 @@ DiskAfter scope tag s known (Err faults.NoMemory) old new = new ≡ old
 
 -- ---- the updated image
 
--- the numbers of the report are those of the update
+-- the numbers in the report are those of the update
 pub record IsReportFor (scope : Scope) (held : Contents) (s : Loaded) (report : Report) : Type 0 where
   pub libs : report.libs ≡ length (entries_in scope held s.tree s.stamps)
   pub links : report.links ≡ length (links_in scope held s.tree s.stamps)
   pub opened : report.opened ≡ opened_in scope held s.tree s.stamps
 
--- a fact of an image whose stamps are true and whose files of equal identity have equal content
+-- a fact about an image, assuming that its stamps are true and equal identities imply equal contents
 abbrev pub IfHonestIn : Contents → Loaded → Type 0 → Type 0
 IfHonestIn held s P = AreTrue held s.tree s.stamps → AreSame held s.tree s.tree → P
 
--- It is the image with the planned links and its stamps, as which a manifest that is written reads.
+-- The updated image is the one with the planned links and its stamps. A written manifest reads as its tree.
 pub record IsUpdated (scope : Scope) (held : Contents) (s : Loaded) (updated : Loaded × Report) : Type 0 where
   pub planned : updated.0 ≡ planned_image scope held s
   pub reads : IfReads (new_manifest scope held s) updated.0

@@ -16,11 +16,11 @@ pub enum UpdateFault {
     /// A conf file or a library file can't be read.
     #[error("the content of a file can't be read")]
     StoreFault,
-    /// The tree with the planned links has more nodes than a tree may have, or its manifest more bytes than a manifest may have.
-    /// The bytes are 0 where the nodes are too many.
+    /// The tree with the planned links has too many nodes, or its manifest has too many bytes. If there are too many nodes, `bytes`
+    /// is 0.
     #[error("the image is too large with its planned links")]
     TooLarge { nodes: u64, bytes: u64 },
-    /// More entries than a cache may have.
+    /// The cache would have too many entries.
     #[error("the cache has too many entries")]
     TooMany { count: u64 },
     /// A writing call failed.

@@ -17,7 +17,7 @@ use image_session::Session;
 use std::alloc::Global;
 use tree_face::{Disk, Slot, Store, Tag, Tree};
 
-// Replaces the manifest, if there is a new one, then the cache, and then the auxiliary cache.
+// Replaces the manifest if there is a new one, then the cache, then the auxiliary cache.
 fn write_texts<D: Disk>(disk: &mut D, tag: Tag, prepared: &Prepared) -> Result<(), DiskFault>
     ensures done { OnOk result (WritesAll tag (writes_of (texts_of prepared.now)) (D.state disk.old) (D.state disk.new)) }
     ensures failed { IfErr result (λ fault. WritesPart tag (writes_of (texts_of prepared.now)) fault (D.state disk.old) (D.state disk.new)) }
@@ -44,7 +44,7 @@ fn write_texts<D: Disk>(disk: &mut D, tag: Tag, prepared: &Prepared) -> Result<(
     }
 }
 
-// The image of this tree and these stamps, of which all is stored.
+// The image with this tree and these stamps, all of it stored.
 fn updated(tree: Tree, stamps: Stamps) -> Session
     requires names { HaveNames stamps }
     ensures { result ≡ stored_image tree stamps }
@@ -57,10 +57,10 @@ fn updated(tree: Tree, stamps: Stamps) -> Session
     }
 }
 
-/// Updates an image: plans the links of its libraries, and writes the manifest if the image was edited or links are planned, the cache of
-/// the libraries' entries, and the auxiliary cache of their stamps. It opens only those library files of which no stamp says what they are.
-/// All memory is taken before the first writing call. An update of the session that is returned, which has the planned links and the
-/// stamps, would find the same, plan no link and write the same caches.
+/// Updates an image: plans the links of its libraries and writes up to three files. These are the manifest (if the image was edited or
+/// links are planned), the cache with the libraries' entries, and the auxiliary cache with their stamps. It opens a library file only if
+/// the file's identity has no stamp. All memory is allocated before the first writing call. The returned session has the planned links and
+/// the new stamps; another update of it finds the same, plans no link and writes the same caches.
 pub fn update<S: Store, D: Disk>(
     alloc: Global,
     session: Session,

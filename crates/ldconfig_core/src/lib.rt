@@ -1,4 +1,4 @@
-//! The update of a loaded image: the links of its libraries, the cache of their entries, the auxiliary cache, and the report.
+//! The update of a loaded image: the links of its libraries, the cache, the auxiliary cache, and the report.
 #![tactic(auto)]
 
 mod fault;

@@ -1,4 +1,4 @@
-//! What an update is about to write.
+//! The preparation of an update's texts.
 ghost use Rattle.std.specs.Prelude.{◌≡◌, ℕ, false, true, length, IfErr, IfOk, IsErrOf, IsTrue, None, Some};
 ghost use Rattle.aux_cache.specs.AuxFile.{damage};
 ghost use Rattle.aux_cache.specs.AuxText.{aux_text};
@@ -36,31 +36,31 @@ use std::alloc::Global;
 use tree_face::{Store, Tree};
 use update_report::{Findings, report, skips_in};
 
-/// Where libraries were looked for, and which were found there.
+/// The search directories, and the libraries found there.
 #[derive(Drop)]
 pub struct Looked {
     pub conf: Conf,
     pub dirs: Dirs,
-    /// The best library of each soname of each place.
+    /// The best library of each soname in each search directory.
     pub bests: PlaceBests,
 }
 
-/// What an update is about to write, and its report.
+/// The texts that an update will write, and its report.
 #[derive(Drop)]
 pub struct Prepared {
-    /// The links that are planned.
+    /// The planned links.
     pub plan: Plan,
     /// The new manifest, if the image has one and was edited or links are planned.
     pub manifest: Option<Vec<u8>>,
     pub cache: Vec<u8>,
     pub aux: Vec<u8>,
-    /// Those of which the auxiliary cache is the text.
+    /// The stamps in the text of the auxiliary cache.
     pub stamps: Stamps,
     pub report: Report,
     pub looked: Looked,
 }
 
-// The manifest of an image's tree with these links, if it was edited or there are any.
+// The manifest of an image's tree with these links, if the tree was edited or there are links.
 fn image_manifest(
     alloc: Global,
     tree: &Tree,
@@ -86,7 +86,7 @@ fn image_manifest(
     Ok(Some(text))
 }
 
-// The manifest that is written for the tree with these links, if one is.
+// The manifest that is written for the tree with these links, if there is one.
 fn new_manifest(
     alloc: Global,
     scope: &Scope,
@@ -102,11 +102,11 @@ fn new_manifest(
 {
     match scope {
         Scope::Image => image_manifest(alloc, tree, edited, plan),
-        Scope::Root { .. } => Ok(None),
+        Scope::Root { .. } | Scope::Only { .. } => Ok(None),
     }
 }
 
-// The report of what was found.
+// The report of the search's results.
 fn report_of(
     alloc: Global,
     damaged: Option<u64>,
@@ -152,7 +152,7 @@ fn count(items: usize) -> Result<u32, NoMemory>
     }
 }
 
-// What is needed of what was found once there are entries.
+// The results of the search that are still needed after the entries are built.
 #[derive(Drop)]
 struct Kept {
     plan: Plan,
@@ -182,7 +182,7 @@ fn kept_of(alloc: Global, found: Found) -> Result<Kept, NoMemory>
     })
 }
 
-// The auxiliary cache of these stamps. A tree has fewer files than an auxiliary cache may have stamps.
+// The auxiliary cache with these stamps. A tree has fewer files than the maximum number of stamps.
 fn aux_of(alloc: Global, stamps: &Stamps) -> Result<Vec<u8>, NoMemory>
     requires names { HaveNames stamps.now }
     ensures text { IfOk result (λ aux. aux.items ≡ aux_text stamps.now) }
@@ -195,7 +195,7 @@ fn aux_of(alloc: Global, stamps: &Stamps) -> Result<Vec<u8>, NoMemory>
     aux_cache::write(alloc, stamps)
 }
 
-// Makes what is written of what was found in the tree with its planned links.
+// Builds the texts from the results of the search in the tree with its planned links.
 fn make(
     alloc: Global,
     scope: &Scope,
@@ -237,7 +237,7 @@ fn make(
     })
 }
 
-/// Makes what an update writes, and puts the planned links into the tree. In a directory without a manifest the links themselves are to be made.
+/// Builds the texts of an update, and puts the planned links into the tree. If there is no manifest, the caller must create the links.
 pub fn prepare<S: Store>(
     alloc: Global,
     scope: &Scope,
@@ -257,7 +257,7 @@ pub fn prepare<S: Store>(
     ensures reads { ReadsUpdate scope.now image.old (update_ending result) (S.state store.old) (S.state store.new) }
 {
     let found = find(alloc, scope, &mut image.tree, store, &image.stamps)?;
-    // Those that were loaded have served, and what is made needs the memory.
+    // The loaded stamps are no longer needed. Free them before building the output.
     image.stamps = Stamps::new(alloc);
     let prepared = make(
         alloc,

@@ -1,15 +1,15 @@
 //! The report of an update.
 use lib_types::Text;
 
-/// What an update says of an image.
+/// The report of an update, and its numbers.
 #[derive(Drop)]
 pub struct Report {
-    /// A line for each finding, and one of numbers.
+    /// A line for each finding, and a last line with numbers.
     pub text: Text,
-    /// How many entries the cache has.
+    /// The number of entries in the cache.
     pub libs: u32,
-    /// How many links were planned.
+    /// The number of planned links.
     pub links: u32,
-    /// How many library files were begun.
+    /// The number of library files that were opened.
     pub opened: u64,
 }

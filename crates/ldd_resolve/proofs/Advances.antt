@@ -1,4 +1,4 @@
--- How far a listing has come, request by request.
+-- Progress of a listing, request by request.
 use Rattle.std.proofs.Common.{◌≡◌, ◌+◌, ℕ, false, List, [], ◌++◌, append_assoc, Option, Some, None, refl, sym, ap, subst, ◌∙◌}
 use Rattle.std.proofs.lemmas.List.{append-nil}
 use Rattle.elf_dynamic.proofs.BegunKeys.{keys_then, none_lacks}
@@ -17,7 +17,7 @@ use Rattle.ldd_resolve.specs.Searching.{BeginsHeld}
 pub unread_held : (held : Contents) (s : StoreState) → BeginsHeld held [] Complete s s
 unread_held held s = record { reads = reads_none _ _ s; none_lacks = refl }
 
--- ---- one call after another
+-- ---- consecutive calls
 
 held_on : (e : Ending) (held : Contents) (ks more : List (List ℕ)) → lacks_one held ks ≡ false → AreHeld held more e → AreHeld held (ks ++ more) e
 held_on Complete held ks more first next = none_lacks held ks more first next
@@ -48,7 +48,7 @@ module _ (inputs : Contents → Inputs) (r : Record) (e : Ending) (P Q : Record 
       record { reads = reads_then e a b c ⊥ ⊥ ⊥ None None None None (λ l. l) first.reads next.reads; some = next.some; holds = next.holds }
   advances_then (Some held) first f = held_then (inputs held) r e P Q a b c first f
 
--- the fact holds in other words
+-- a fact can be replaced by one that follows from it
 module _ (inputs : Contents → Inputs) (r : Record) (e : Ending) (P Q : Record → Type 0) (a b : StoreState) (f : (r2 : Record) → P r2 → Q r2) where
   pub advances_as : (known : Option Contents) → Advances known inputs r e P a b → Advances known inputs r e Q a b
   advances_as None so_far = record { reads = so_far.reads; some = so_far.some; holds = f so_far.some so_far.holds }

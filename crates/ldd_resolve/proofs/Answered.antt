@@ -1,4 +1,4 @@
--- What stands for the record stands for the next one, when a request is answered.
+-- If the state matches the record, it still matches after a request is answered.
 use Rattle.std.proofs.Common.{◌≡◌, ◌<◌, ◌≤◌, ◌||◌, ◌&&◌, ℕ, suc, Bool, true, false, cond, List, [], ◌∷◌, ◌++◌, append_assoc, length, map, drop, get_or, set, Option, Some, None, refl, sym, ap, subst, ◌∙◌, arith}
 use Rattle.std.proofs.lemmas.List.{append-nil, drop-append-le, drop-map, length-map, map-append}
 use Rattle.std.proofs.lemmas.List.Elements.{filter_map-append}
@@ -22,7 +22,7 @@ use Rattle.ldd_resolve.specs.Resolving.{member_of, members_of}
 use Rattle.ldd_resolve.proofs.Standing.{among_at, and_false, and_true, called_there, drop_next, drop_one, linked_on, named_at, or_false, same_by, same_chain, same_needed, same_path, same_real, same_requests}
 
 module _ (env : Env) (r r2 : Record) (s new : Loading) (n : ℕ) (q : Request) (rest : List Request) (stands : Stands env r s n (q ∷ rest)) (next : r2.answered ≡ suc r.answered) where
-  -- a name that isn't found
+  -- the name isn't found
   pub missing_stands : r2.objects ≡ r.objects → r2.items ≡ with_missing q.name r.items → new.loaders ≡ s.loaders → new.places ≡ s.places → new.names ≡ s.names →
       new.members.items ≡ s.members.items → new.pending.items ≡ s.pending.items → ((x : List ℕ) → is_among new.missing x ≡ (is_among s.missing x || bytes_eq x q.name)) →
       new.items ≡ cond (is_among s.missing q.name) s.items (s.items ++ item q.name None ∷ []) → Stands env r2 new n rest
@@ -55,7 +55,7 @@ module _ (env : Env) (r r2 : Record) (s new : Loading) (n : ℕ) (q : Request) (
           ∙ list_any-append (is_missing x) r.items (item q.name None ∷ [])
           ∙ ap (λ b. list_any (is_missing x) r.items || b) (or_false (bytes_eq x q.name && true) ∙ and_true (bytes_eq x q.name)))
 
-  -- a file that is loaded already
+  -- the file is already loaded
   pub loaded_stands : (number : ℕ) → IsFoundIn r q number r2 → IsDistinct bytes_eq s.places.loaded → is_among s.names q.name ≡ false → AddsName s new q.name number → Stands env r2 new n rest
   loaded_stands number found distinct unknown adds =
       let real = get_or (places_of r.objects) number [] in
@@ -80,7 +80,7 @@ module _ (env : Env) (r r2 : Record) (s new : Loading) (n : ℕ) (q : Request) (
             (drop_one r.answered (requests r.objects) q (rest ++ requests (drop n r.objects)) stands.left);
       }
 
-  -- a new library
+  -- a new library is found
   module _ (f : Found) (k : ℕ) where
     abbrev path : List ℕ
     path = f.path

@@ -22,7 +22,7 @@ use Rattle.ldd_resolve.proofs.Standing.{drop_one}
 abbrev pub failing : SearchFault → Ending
 failing fault = search_ending {A = Unit {0}} (Err fault)
 
--- a call that fails says nothing of the last record
+-- after a failed call nothing is known of the last record
 pub fails_as : (known : Option Contents) (inputs : Contents → Inputs) (r : Record) (X : Record → Type 0) (a b : StoreState) (fault : SearchFault) →
     Advances known inputs r (failing fault) (λ r2. IfComplete (failing fault) (X r2)) a b → Advances known inputs r (failing fault) (λ r2. Unit {0}) a b
 fails_as known inputs r X a b StoreFault advances = advances
@@ -32,12 +32,12 @@ fails_as known inputs r X a b NoMemory advances = advances
 
 module _ (known : Option Contents) (g : Given) (n : ℕ) (chain : List Owner) where
   module _ (names left_names : List (List ℕ)) (s s1 : Loading) (a b c : StoreState) (first : Answers known g n chain names left_names Complete s s1 a b) where
-    -- one more is answered
+    -- the next request is answered
     pub request_then : (rest : List (List ℕ)) (s2 : Loading) → Answers known g n chain left_names rest Complete s1 s2 b c → Answers known g n chain names rest Complete s s2 a c
     request_then rest s2 next r here =
         advances_then (inputs_by g) r Complete (λ r2. IsAt g.env.now r2 s1 n chain left_names) (λ r2. IsAt g.env.now r2 s2 n chain rest) a b c known (first r here) next
 
-    -- the next one fails
+    -- the next request fails
     pub request_fails : (rest : List (List ℕ)) (s2 s3 : Loading) (fault : SearchFault) → Answers known g n chain left_names rest (failing fault) s1 s2 b c →
         Answers known g n chain names [] (failing fault) s s3 a c
     request_fails rest s2 s3 StoreFault next r here =
@@ -54,7 +54,7 @@ from_drop (suc n) [] x more d e = absurd (cc)
 from_drop (suc n) (y ∷ xs) x more d e = from_drop n xs x more d e
 
 module _ (env : Env) (r : Record) (s s2 : Loading) (n : ℕ) (needed : List (List ℕ)) where
-  -- its needed names are taken from the queue
+  -- the object's needed names are taken from the queue
   pub object_taken : Stands env r s n [] → s.pending.items ≡ needed ∷ s2.pending.items → s2.loaders ≡ s.loaders → s2.places ≡ s.places → s2.names ≡ s.names → s2.missing ≡ s.missing → s2.items ≡ s.items → s2.members ≡ s.members →
       IsAt env r s2 n (behind (map (λ o. o.chain) r.objects) (Some n)) needed
   object_taken stands queue links places names missing items members = by (drop n r.objects) refl
@@ -87,7 +87,7 @@ module _ (env : Env) (r : Record) (s s2 : Loading) (n : ℕ) (needed : List (Lis
             chain_is = refl;
           }
 
--- nothing is left in the queue
+-- the queue is empty
 pub all_listed : (env : Env) (r : Record) (s : Loading) (n : ℕ) → Stands env r s n [] → s.pending.items ≡ [] → IsListed r s.members.items s.items
 all_listed env r s n stands none = record {
   all = stands.left ∙ by (drop n r.objects) (sym stands.pending ∙ none);
@@ -113,14 +113,14 @@ module _ (known : Option Contents) (g : Given) (n : ℕ) (s s1 s2 : Loading) (a 
   abbrev chain_in : Record → List Owner
   chain_in r = behind (map (λ o. o.chain) r.objects) (Some n)
 
-  -- its requests are answered
+  -- the object's requests are answered
   pub object_then : (next : ℕ) (s3 : Loading) → next ≡ suc n → ((chain : List Owner) → Answers known g n chain needed [] Complete s2 s3 b c) → AnswersObjects known g 0 next Complete s s3 a c
   object_then next s3 is f r stands = subst (λ m. Advances known (inputs_by g) r Complete (λ r2. Stands g.env.now r2 s3 m []) a c) (sym is)
       (advances_then (inputs_by g) r Complete (λ r2. Stands g.env.now r2 s1 n []) (λ r2. Stands g.env.now r2 s3 (suc n) []) a b c known (so_far r stands)
       (λ r2 here. advances_as (inputs_by g) r2 Complete (λ r3. IsAt g.env.now r3 s3 n (chain_in r2) []) (λ r3. Stands g.env.now r3 s3 (suc n) []) b c (λ r3 there. there.stands) known
       (f (chain_in r2) r2 (taken r2 here))))
 
-  -- one of them fails
+  -- one of the object's requests fails
   pub object_fails : (s3 s4 : Loading) (fault : SearchFault) → ((chain : List Owner) → Answers known g n chain needed [] (failing fault) s2 s3 b c) → AnswersAll known g (failing fault) s s4 a c
   object_fails s3 s4 StoreFault f r stands =
       advances_then (inputs_by g) r DeviceFailed (λ r2. Stands g.env.now r2 s1 n []) (λ r2. Unit {0}) a b c known (so_far r stands) (λ r2 here. f (chain_in r2) r2 (taken r2 here))
@@ -134,7 +134,7 @@ all_answered known g n s s1 s2 a b so_far none members items r stands =
     advances_as (inputs_by g) r Complete (λ r2. Stands g.env.now r2 s1 n []) (λ r2. IsListed r2 s2.members.items s2.items) a b
     (λ r2 here. rw (members, items) (all_listed g.env.now r2 s1 n here none)) known (so_far r stands)
 
--- no request is answered yet
+-- before the first request of the object
 pub nothing_answered : (known : Option Contents) (g : Given) (n : ℕ) (chain : List Owner) (names rest : List (List ℕ)) (s : Loading) (a : StoreState) → names ≡ rest →
     Answers known g n chain names rest Complete s s a a
 nothing_answered known g n chain names rest s a same r here =

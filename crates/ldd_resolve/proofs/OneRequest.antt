@@ -35,7 +35,7 @@ use Rattle.ldd_resolve.proofs.Standing.{reach_there, same_count}
 use Rattle.rpath_search.proofs.Libraries.{is_one}
 use Rattle.ldd_resolve.proofs.Records.{record_known, record_searched}
 
--- a search adds keys, and answers no request
+-- the result of a search doesn't change the keys
 found_keys : (w : Inputs) (r : Record) (q : Request) (found : Option (List ℕ × List ℕ)) → (with_found w r q found).keys ≡ r.keys
 found_keys w r q None = refl
 found_keys w r q (Some f) = by_test (is_among (places_of r.objects) f.1) (λ h. rw h refl) (λ h. rw h refl)
@@ -54,7 +54,7 @@ module _ (w : Inputs) (r : Record) (q : Request) (all : List (List ℕ)) where
   search_count : (with_search w r q all).answered ≡ r.answered
   search_count = found_count w with_keys q (found_by w all)
 
--- what is found is sound
+-- the answer of a search is a library and a node of the tree
 pub sound_answer : (known : Option Contents) (g : Given) (places all : List (List ℕ)) (found : Option Answer) → FindsBy known g places all found → IsNew known g.tree.now g.env.now.abi places found →
     IsSoundAnswer known g.tree.now g.env.now.abi found
 sound_answer known g places all None finds there = tt
@@ -70,20 +70,20 @@ sound_answer known g places all (Some (answer.New f)) finds there = (there.node,
     by None found = tt
     by (Some held) found = by_path held (first_good held g.tree.now g.env.now.abi all) found
 
--- the paths of a name that an object with this chain needs
+-- the search paths of a name that an object with this chain needs
 paths_same : (env : Env) (name : List ℕ) (chain : List Owner) (cached : Option (List ℕ)) (reach : Reach) → reach_in env chain ≡ Some reach →
     all_paths name env reach cached ≡ paths name chain env cached
 unfolding paths
 paths_same env name [] cached reach same = absurd (cc)
 paths_same env name (o ∷ more) cached reach same = let is : reach_of env o more ≡ reach = cc in ap (λ r. all_paths name env r cached) (sym is)
 
--- the count of requests is no part of an answer
+-- an answer doesn't depend on the number of answered requests
 counted_outcome : (r r2 : Record) (n : ℕ) (q : Request) (found : Option Answer) → HasOutcome (record r { answered = n }) q found r2 → HasOutcome r q found r2
 counted_outcome r r2 n q None out = out
 counted_outcome r r2 n q (Some (answer.Loaded i)) out = record { within = out.within; objects = out.objects; items = out.items }
 counted_outcome r r2 n q (Some (answer.New f)) out = out
 
--- some record has this answer of a request
+-- there is a record for this answer to a request
 some_outcome : (r : Record) (q : Request) (known : Option Contents) (t : Nodes) (abi : Abi) (found : Option Answer) → IsNew known t abi (places_of r.objects) found →
     (r2 : Record) × (HasOutcome r q found r2 × (r2.answered ≡ suc r.answered))
 some_outcome r q known t abi None there = (record r { answered = suc r.answered; items = with_missing q.name r.items }, ((refl, refl), refl))
@@ -105,7 +105,7 @@ module _ (g : Given) (r : Record) (s : Loading) (number : ℕ) (chain : List Own
   abbrev counted : Record
   counted = record r { answered = r.answered + 1 }
 
-  -- what is left begins with this request
+  -- the remaining requests begin with this one
   next : (more : List Request) × (left r ≡ q ∷ more)
   next = (requests_by chain rest ++ requests (drop (suc number) r.objects), here.stands.left)
 
@@ -114,7 +114,7 @@ module _ (g : Given) (r : Record) (s : Loading) (number : ℕ) (chain : List Own
   same_paths within = paths_same g.env.now name chain (cached_in (option_copied g.cache) g.env.now name) (reach_at s.loaders number)
       (ap (reach_in g.env.now) (sym here.chain_is) ∙ reach_there g.env.now s.loaders r.objects number here.stands.linked within)
 
-  -- an object has the name
+  -- an object has this name
   known_at : IsAt g.env.now counted s number chain rest
   known_at = record { stands = known_stands g.env.now r counted s (suc number) q (requests_by chain rest) here.stands refl; chain_is = here.chain_is }
 
@@ -132,7 +132,7 @@ module _ (g : Given) (r : Record) (s : Loading) (number : ℕ) (chain : List Own
         holds = subst (λ x. IsAt g.env.now x s number chain rest) (sym one) known_at;
       }
 
-  -- ---- no object has it
+  -- ---- no object has this name
 
   searched_is : (held : Contents) (all : List (List ℕ)) → all ≡ paths_by g name chain → is_among s.names name ≡ false → record_after (inputs_by g held) r 1 ≡ with_search (inputs_by g held) counted q all
   searched_is held all is new =
@@ -157,7 +157,7 @@ module _ (g : Given) (r : Record) (s : Loading) (number : ℕ) (chain : List Own
           holds = subst P (sym one) holds;
         }
 
-    -- the search begins keys, whatever comes of it
+    -- the search opens files, whatever its result is
     pub begun_name : (known : Option Contents) (e : Ending) → Begun known e → Advances known (inputs_by g) r e (λ _. Unit {0}) a b
     begun_name None e begins = record { reads = begins; some = r; holds = tt }
     begun_name (Some held) e begins = held_begun held e (λ _. Unit {0}) begins tt

@@ -1,4 +1,4 @@
--- What a search gives is the next record's.
+-- The answer of a search determines the next record.
 use Rattle.std.proofs.Common.{◌≡◌, ◌+◌, ◌<◌, ℕ, suc, List, [], ◌∷◌, ◌++◌, length, map, drop, get_or, Option, Some, None, refl, arith}
 use Rattle.path_walk.specs.Files.{file_at}
 use Rattle.rpath_search.specs.Search.{first_good}
@@ -14,7 +14,7 @@ use Rattle.ldd_resolve.specs.Loading.{HasOutcome, Stands}
 use Rattle.rpath_search.specs.Searching.{Finds, IsNew}
 
 module _ (w : Inputs) (r : Record) (q : Request) (all : List (List ℕ)) where
-  -- what is found by the first good path, with the file to which it leads
+  -- the first good path and the file to which it leads
   found_at : (path real : List ℕ) → first_good w.held w.nodes w.env.abi all ≡ Some path → file_at w.nodes path ≡ Some real → found_by w all ≡ Some (path, real)
   found_at path real first leads = rw (first, leads) refl
 
@@ -38,7 +38,7 @@ module _ (w : Inputs) (r : Record) (q : Request) (all : List (List ℕ)) where
       let leads : file_at w.nodes path ≡ Some f.real = rw finds.here at new.found.leads in
       (rw (found_at path f.real same leads, new.unloaded, finds.object, finds.here) refl, rw (found_at path f.real same leads, new.unloaded, finds.here) refl)
 
--- an object that is there keeps its chain
+-- an existing object keeps its chain
 pub chain_kept : (r r2 : Record) (q : Request) (a : Option Answer) (n : ℕ) → n < length r.objects → HasOutcome r q a r2 →
     behind (map (λ o. o.chain) r2.objects) (Some n) ≡ behind (map (λ o. o.chain) r.objects) (Some n)
 chain_kept r r2 q None n within outcome = rw outcome.0 refl
@@ -51,7 +51,7 @@ chain_kept r r2 q (Some (answer.New f)) n within outcome =
     let here : n < length (map (λ (o : Loaded). o.chain) r.objects) = omega (arith, within, len) in
     rw (outcome.0, map-append (λ (o : Loaded). o.chain) r.objects (o ∷ [])) (get_or_append_left (map (λ (o : Loaded). o.chain) r.objects) (o.chain ∷ []) [] n here)
 
--- a request of a name by which an object is known changes nothing but its count
+-- a request for the name of an existing object only changes the number of answered requests
 pub known_stands : (env : Env) (r r2 : Record) (s : Loading) (n : ℕ) (q : Request) (rest : List Request) → Stands env r s n (q ∷ rest) → r2 ≡ record r { answered = r.answered + 1 } → Stands env r2 s n rest
 known_stands env r r2 s n q rest stands same =
     let next : r.answered + 1 ≡ suc r.answered = omega arith in

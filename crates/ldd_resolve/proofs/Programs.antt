@@ -1,4 +1,4 @@
--- The listing of a program, once its file is read.
+-- The listing of a program after its file is read.
 use Rattle.std.proofs.Common.{◌≡◌, ℕ, Bool, true, false, List, [], ◌∷◌, ◌++◌, Option, Some, None, is_some, Result, Ok, Err, refl, sym, ap, subst, ◌∙◌}
 use Rattle.std.specs.Str.{bytes_eq}
 use Rattle.lib_types.proofs.SortedPairs.{by_test}
@@ -55,7 +55,7 @@ key_there t real file = by_test (bytes_eq real root)
     (λ path. key_of_kind (node_at t real) (has_below t real) (sym (ap is_file (at_path t real below path)) ∙ file))
     (λ no_path. absurd (let none : is_file (kind_at t real) ≡ false = ap is_file (at_none t real below no_path) in cc)))
 
--- a file has a key
+-- each file has a key
 pub file_has_key : (t : Nodes) (path real : List ℕ) → file_at t path ≡ Some real → is_some (key_in (node_at t real)) ≡ true
 file_has_key t path real leads = by (resolution t path Full) leads
   where
@@ -68,9 +68,9 @@ file_has_key t path real leads = by (resolution t path Full) leads
         key_there t real (subst (λ p. is_file (kind_at t p) ≡ true) same file))
         (λ other. absurd (let none : file_by t (Ok place) ≡ None = rw other refl in cc))
 
--- ---- the keys that are begun
+-- ---- the keys that are opened
 
--- keys that are all held are all begun
+-- if the contents of all keys are held, all keys are opened
 all_begun : (held : Contents) (keys : List (List ℕ)) → lacks_one held keys ≡ false → until_lacking held keys ≡ keys
 all_begun held [] none = refl
 all_begun held (k ∷ keys) none =
@@ -91,7 +91,7 @@ if_partial DeviceFailed P partial = tt
 if_partial GaveUp P partial = tt
 
 module _ (t : Nodes) (cache : Option (List CachedEntry)) (word : List ℕ) (env : Env) where
-  -- no file is there
+  -- the path leads to no file
   pub nothing_read : (known : Option Contents) (s : StoreState) → program_at t word ≡ None → ReadsListing known t cache word env Complete s s
   nothing_read None s none = unread s
   nothing_read (Some held) s none = subst (λ (p : Option (List ℕ)). BeginsFor t cache word env held p Complete s s) (sym none) (reads_none _ _ s)
@@ -128,7 +128,7 @@ module _ (t : Nodes) (cache : Option (List CachedEntry)) (word : List ℕ) (env 
         by (Some (Ok o)) = none_yet o
         by (Some (Err d)) = reads
 
-  -- before it is read
+  -- before the program's file is read
   pub none_begun : (known : Option Contents) (s : StoreState) → ReadsListing known t cache word env GaveUp s s
   none_begun None s = reads_all None None s s ⊥ (unread s)
   none_begun (Some held) s = by (program_at t word) refl
@@ -183,12 +183,12 @@ module _ (t : Nodes) (cache : Option (List CachedEntry)) (word : List ℕ) (env 
           holds = subst (IsScopeOf scope) (sym same) (record { members = so_far.holds.members; listing = so_far.holds.listed });
         }
 
-    -- in the same order of the paths, whether or not contents are known
+    -- the members are in the order of the listing's paths, whether or not contents are known
     pub are_loaded : (scope : Scope) (b c : StoreState) (known : Option Contents) → Advances known inputs first Complete (λ r. IsListed r scope.members scope.listing) b c → AreLoaded scope
     are_loaded scope b c None so_far = so_far.holds.loaded
     are_loaded scope b c (Some held) so_far = so_far.holds.loaded
 
-    -- each key that is begun is held
+    -- the content of each opened file is held
     pub none_lacking : (P : Record → Type 0) (a b c : StoreState) (known : Option Contents) → IfKnown known (λ held. lacks_one held (file_keys t (p.real ∷ [])) ≡ false) →
         ReadsBy known (file_keys t (p.real ∷ [])) Complete a b → Advances known inputs first Complete P b c → IfKnown known (λ held. BeginsNoneLacking held a c)
     none_lacking P a b c None none reads so_far = tt
@@ -197,13 +197,13 @@ module _ (t : Nodes) (cache : Option (List CachedEntry)) (word : List ℕ) (env 
         all_held held all a c (none_lacks held (key p.real leads) so_far.keys none so_far.begins.none_lacks)
         (keys_then (Some held) (key p.real leads) so_far.keys Complete a b c none reads so_far.begins.reads)
 
--- ---- the refusals
+-- ---- the errors
 
 pub not_keyless : (t : Nodes) (path real : List ℕ) → file_at t path ≡ Some real → key_in (node_at t real) ≡ None → ⊥
 not_keyless t path real leads none =
     absurd (let there : false ≡ true = subst (λ k. is_some k ≡ true) none (file_has_key t path real leads) in cc)
 
--- a file is there
+-- the path leads to a file
 pub some_file : {A : Type 0} (t : Nodes) (word real : List ℕ) (result : Result A ResolveFault) → program_at t word ≡ Some real → (result ≡ Err NoProgram → ⊥) →
     IsNoProgram (program_at t word) result
 some_file t word real result leads other = record {
@@ -230,7 +230,7 @@ module _ (t : Nodes) (word real : List ℕ) (leads : program_at t word ≡ Some 
   refusal_reads cache env known StoreFault a b other says reads = program_fails t cache word env real leads known DeviceFailed a b tt reads
   refusal_reads cache env known NoMemory a b other says reads = program_fails t cache word env real leads known GaveUp a b tt reads
 
--- the listing isn't finished
+-- the listing fails
 module _ (t : Nodes) (cache : Option (List CachedEntry)) (word : List ℕ) (env : Env) (p : Found) (spelled : p.path ≡ from_root word) (leads : program_at t word ≡ Some p.real) where
   pub list_fails : (fault : SearchFault) (known : Option Contents) (a b c : StoreState) → IfKnown known (λ held. object_at held t p.real ≡ Some (Ok p.object)) →
       IfKnown known (λ held. lacks_one held (file_keys t (p.real ∷ [])) ≡ false) → ReadsBy known (file_keys t (p.real ∷ [])) Complete a b →

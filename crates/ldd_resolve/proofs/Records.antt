@@ -15,15 +15,15 @@ module _ (w : Inputs) (r : Record) where
     unfolding record_after
     record_one = ap (with_next w r) next
 
-    -- of a name by which an object is known
+    -- a request for the name of an existing object
     pub record_known : list_any (is_called q.name) r.objects ≡ true → record_after w r 1 ≡ record r { answered = r.answered + 1 }
     record_known known = record_one ∙ rw known refl
 
-    -- of a name that is searched
+    -- a request for a name that is searched
     pub record_searched : list_any (is_called q.name) r.objects ≡ false → record_after w r 1 ≡ with_search w (record r { answered = r.answered + 1 }) q (paths_of w q)
     record_searched unknown = record_one ∙ rw unknown refl
 
-  -- requests after requests
+  -- a number of requests and then further ones
   pub record_more : (n m : ℕ) → record_after w (record_after w r n) m ≡ record_after w r (m + n)
   unfolding record_after
   record_more n zero = let e : n ≡ 0 + n = omega arith in ap (record_after w r) e

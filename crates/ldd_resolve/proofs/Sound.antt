@@ -1,4 +1,4 @@
--- Each file is loaded once, and is one of the tree.
+-- Each file is loaded once and is a node of the tree.
 use Rattle.std.proofs.Common.{◌≡◌, ◌≤◌, ◌<◌, ◌+◌, ◌||◌, ℕ, suc, true, false, not, List, [], ◌∷◌, ◌++◌, length, Option, Some, None, IfSome, refl, sym, ap, subst, ◌∙◌, arith}
 use Rattle.std.proofs.lemmas.Cmp.{nat_list_eq_equiv, tied_itself}
 use Rattle.std.proofs.lemmas.List.{length-append}
@@ -27,9 +27,9 @@ use Rattle.ldd_resolve.specs.Loading.{Grows, IsSound}
 use Rattle.ldd_resolve.specs.Requests.{IsEven}
 use Rattle.ldd_resolve.proofs.Standing.{among_one}
 
--- ---- how many there are
+-- ---- the number of loaded files
 
--- the node of a path is found by the path's bytes too
+-- looking up a path's node is a lookup by the path's bytes
 same_lookup : (t : Nodes) (q : List ℕ) → node_at t q ≡ lookup (bytes_eq q) t
 same_lookup [] q = refl
 same_lookup (e ∷ t) q = by_test (is_at (path_cmp q) e.0)
@@ -50,26 +50,26 @@ node_found : (o : Option Node) → is_some o ≡ true → IsSome o
 node_found None none = absurd (cc)
 node_found (Some n) there = refl
 
--- the loaded files are at most as many as the nodes
+-- there are at most as many loaded files as nodes
 pub files_few : (known : Option Contents) (t : Nodes) (abi : Abi) (s : Loading) → IsSound known t abi s → length s.places.loaded ≤ length t
 files_few known t abi s sound =
     length-le_from_keys nat_list_eq_equiv s.places.loaded t sound.distinct
     (λ q there. node_found (lookup (bytes_eq q) t) (ap is_some (sym (same_lookup t q)) ∙ sound.nodes q there))
 
--- ---- one more
+-- ---- one more file
 
 module _ (t : Nodes) (abi : Abi) (s : Loading) (real : List ℕ) (new : is_among s.places.loaded real ≡ false) where
   abbrev more : LoadedFiles
   more = record s.places { loaded = s.places.loaded ++ real ∷ [] }
 
-  -- the program is loaded, so it is another file
+  -- the program is already loaded, so the new file is a different one
   other_file : (outsider : Option (List ℕ)) → IfSome outsider (λ o. is_among s.places.loaded o ≡ true) → is_outsider outsider real ≡ false
   other_file None there = refl
   other_file (Some o) there = by_test (bytes_eq real o)
       (λ same. absurd (let loaded : is_among s.places.loaded real ≡ true = subst (λ y. is_among s.places.loaded y ≡ true) (sym ((bytes_eq-Decides real o).0 same)) there in cc))
       (λ other. other)
 
-  -- a fact of each loaded file and of the new one
+  -- a fact that holds for each loaded file and for the new one
   each_of : (P : List ℕ → Type 0) → ((x : List ℕ) → is_among s.places.loaded x ≡ true → P x) → P real → (x : List ℕ) → is_among more.loaded x ≡ true → P x
   each_of P old here x there = by_test (is_among s.places.loaded x)
       (λ before. old x before)

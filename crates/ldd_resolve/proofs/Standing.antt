@@ -1,4 +1,4 @@
--- What stands for the record stands for the next one, when a request is answered.
+-- If the state matches the record, it still matches after a request is answered.
 use Rattle.std.proofs.Common.{◌≡◌, ◌+◌, ◌<◌, ◌||◌, ◌&&◌, ℕ, zero, suc, Bool, true, false, cond, List, [], ◌∷◌, ◌++◌, length, map, drop, get_or, set, Option, Some, Result, Ok, Err, OnOk, refl, sym, ap, subst, ◌∙◌, arith}
 use Rattle.std.proofs.lemmas.List.{length-map, map-append}
 use Rattle.std.proofs.lemmas.List.Folds.{list_any-append}
@@ -55,7 +55,7 @@ among_append xs ys x = list_any-append (bytes_eq x) xs ys
 pub among_one : (xs : List (List ℕ)) (name x : List ℕ) → is_among (xs ++ name ∷ []) x ≡ (is_among xs x || bytes_eq x name)
 among_one xs name x = among_append xs (name ∷ []) x ∙ ap (λ b. is_among xs x || b) (or_false (bytes_eq x name))
 
--- a text that is there isn't put in again
+-- a text that is already in the list isn't inserted again
 pub among_inserted : (xs : List (List ℕ)) (name x : List ℕ) →
     is_among (cond (is_among xs name) xs (xs ++ name ∷ [])) x ≡ (is_among xs x || bytes_eq x name)
 among_inserted xs name x = by_test (is_among xs name)
@@ -68,7 +68,7 @@ pub on_ok : {A B P Q : Type 0} (r : Result A B) → (P → Q) → OnOk r P → O
 on_ok (Ok a) f p = f p
 on_ok (Err e) f p = tt
 
--- ---- where the requests of objects are searched
+-- ---- the search directories of the objects
 
 module _ (env : Env) where
   abbrev reaches : List Loaded → List (Option Reach)
@@ -80,7 +80,7 @@ module _ (env : Env) where
   pub same_count : (rs : List Reach) (os : List Loaded) → somes rs ≡ reaches os → length rs ≡ length os
   same_count rs os linked = sym (length-map rs (λ (r : Reach). Some r)) ∙ ap length linked ∙ length-map os (λ (o : Loaded). reach_in env o.chain)
 
-  -- those of the object with a number
+  -- the search directories of the object with a number
   pub reach_there : (rs : List Reach) (os : List Loaded) (n : ℕ) → somes rs ≡ reaches os → n < length rs →
       reach_in env (get_or (map (λ (o : Loaded). o.chain) os) n []) ≡ Some (reach_at rs n)
   reach_there [] os n linked within = absurd (omega (arith, within))
@@ -88,12 +88,12 @@ module _ (env : Env) where
   reach_there (r ∷ rs) (o ∷ os) zero linked within = let first : Some r ≡ reach_in env o.chain = cc in sym first
   reach_there (r ∷ rs) (o ∷ os) (suc n) linked within = let others : somes rs ≡ reaches os = cc in reach_there rs os n others (omega (arith, within))
 
-  -- those of an object whose loader has this chain
+  -- the search directories of an object whose loader has this chain
   over : (owner : Owner) (chain : List Owner) (above : Reach) → reach_in env chain ≡ Some above → Some (reach_over env owner above) ≡ reach_in env (owner ∷ chain)
   over owner [] above same = absurd (cc)
   over owner (o ∷ more) above same = let is : reach_of env o more ≡ above = cc in ap (λ (r : Reach). Some (reach_over env owner r)) (sym is)
 
-  -- an object more
+  -- one more object
   pub linked_on : (rs : List Reach) (os : List Loaded) (o : Loaded) (owner : Owner) (k : ℕ) → somes rs ≡ reaches os → k < length rs →
       o.chain ≡ owner ∷ behind (map (λ (o : Loaded). o.chain) os) (Some k) → somes (rs ++ reach_over env owner (reach_at rs k) ∷ []) ≡ reaches (os ++ o ∷ [])
   linked_on rs os o owner k linked within chain =
@@ -161,7 +161,7 @@ module _ (real name : List ℕ) where
 
 -- ---- the object with a number
 
--- a text is among those that it is one of
+-- a text at an index of a list is among the list's texts
 pub among_at : (xs : List (List ℕ)) (i : ℕ) → i < length xs → is_among xs (get_or xs i []) ≡ true
 among_at [] i within = absurd (omega (arith, within))
 among_at (x ∷ xs) zero within = rw ((bytes_eq-Decides x x).1 refl) refl
@@ -178,12 +178,12 @@ apart x y other = by_test (bytes_eq y x)
     (λ h. h)
 
 module _ (name : List ℕ) where
-  -- the others keep their names
+  -- the other objects keep their names
   others_same : (real : List ℕ) (os : List Loaded) → AllByRecursion (λ y. bytes_eq real y ≡ false) (places_of os) → map (named real name) os ≡ os
   others_same real [] all = refl
   others_same real (o ∷ os) all = rw (all.0, others_same real os all.1) refl
 
-  -- the one with this number has the name too
+  -- the object with this number also gets the name
   pub named_at : (os : List Loaded) (i : ℕ) (d : Member) → IsDistinct bytes_eq (places_of os) → i < length os → list_any (is_called name) os ≡ false →
       set (map member_of os) i (with_last_name (get_or (map member_of os) i d) name) ≡ map member_of (map (named (get_or (places_of os) i []) name) os)
   unfolding IsDistinct

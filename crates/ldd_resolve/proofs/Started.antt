@@ -1,4 +1,4 @@
--- The state with the program alone.
+-- The state with only the program.
 use Rattle.std.proofs.Common.{◌≡◌, ◌||◌, ℕ, Bool, true, false, cond, not, length, List, [], ◌∷◌, Option, Some, None, IfSome, Ok, is_some, refl, sym, ap, subst, ◌∙◌, arith}
 use Rattle.std.proofs.lemmas.Map.Keys.{IsDistinct-from_apart}
 use Rattle.std.proofs.lemmas.Slice.Eq.{bytes_eq-Decides}
@@ -36,7 +36,7 @@ module _ (p : Found) (s : Loading) (alone : s.places.loaded ≡ p.real ∷ []) (
       by None e = absurd (cc)
       by (Some bytes) e = let same : object bytes ≡ Ok p.object = cc in ap (is_library_of p.object.abi) (analysis_ok bytes p.object same)
 
-  -- a program that is no library is the outsider
+  -- a program that isn't a library is the outsider
   outside : (b : Bool) → not (is_outsider (cond b None (Some p.real)) p.real) ≡ b
   outside true = refl
   outside false = ap not itself

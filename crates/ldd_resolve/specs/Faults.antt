@@ -1,4 +1,4 @@
--- Why there is no listing.
+-- Why a listing fails.
 use Rattle.elf_dynamic.specs.declared.fault.ObjectFault.{ObjectFault}
 use Rattle.elf_dynamic.specs.declared.fault.ObjectFault.TheVariants as object
 use Rattle.rpath_search.specs.declared.fault.SearchFault.{SearchFault}
@@ -6,12 +6,12 @@ use Rattle.rpath_search.specs.declared.fault.SearchFault.TheVariants as search
 use Rattle.ldd_resolve.specs.declared.kinds.ResolveFault.{ResolveFault}
 use Rattle.ldd_resolve.specs.declared.kinds.ResolveFault.TheVariants.{BadProgram, StoreFault, NoMemory}
 
--- the fault of a search as one of the listing
+-- the error of a search as an error of the listing
 abbrev pub of_search : SearchFault → ResolveFault
 of_search search.StoreFault = StoreFault
 of_search search.NoMemory = NoMemory
 
--- why the program's file has no object
+-- why the program's file can't be used
 abbrev pub of_object : ObjectFault → ResolveFault
 of_object (object.Bad d) = BadProgram d
 of_object object.StoreFault = StoreFault

@@ -1,10 +1,10 @@
--- The chains of objects, and where the requests of an object with a chain are searched.
+-- The chains of objects, and the search directories of an object with a chain.
 use Rattle.std.specs.Prelude.{ℕ, List, [], ◌∷◌, slice_index_or, Option, Some, None}
 use Rattle.rpath_search.specs.Places.{Reach, reach_of}
 use Rattle.rpath_search.specs.declared.kinds.Env.{Env}
 use Rattle.rpath_search.specs.declared.kinds.Owner.{Owner}
 
--- the chain of the object with this number; none behind the program
+-- the chain of the object with this number; empty above the program
 abbrev pub behind : List (List Owner) → Option ℕ → List Owner
 behind chains None = []
 behind chains (Some n) = slice_index_or chains n []

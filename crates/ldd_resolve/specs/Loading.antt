@@ -1,4 +1,4 @@
--- How the code keeps a listing: sets of names and places, and a queue of the objects whose requests aren't answered.
+-- How the code stores a listing: sets of names and files, and a queue of the objects whose requests aren't answered.
 use Rattle.std.specs.Prelude.{◌≡◌, ◌+◌, ◌<◌, ℕ, suc, ◌||◌, ◌++◌, true, List, [], ◌∷◌, if◌then◌else◌, drop, length, map, slice_index_or, slice_set, Option, Some, None, IfSome, is_some}
 use Rattle.std.specs.List.{IsDistinct, filter_map, list_any}
 use Rattle.std.specs.Str.{bytes_eq}
@@ -21,10 +21,10 @@ use Rattle.ldd_resolve.specs.Resolving.{members_of}
 use Rattle.ldd_resolve.specs.declared.kinds.Member.{Member}
 use Rattle.ldd_resolve.specs.Searching.{BeginsHeld}
 
--- ---- the state of the code and the record
+-- ---- the state of the code matches the record
 
--- The state stands for this record, when the needed names of so many objects were taken from the queue, and these requests of them are
--- left.
+-- The state matches this record. The needed names of the first `taken` objects were taken from the queue, and of their requests `rest`
+-- remains.
 pub record Stands (env : Env) (r : Record) (s : Loading) (taken : ℕ) (rest : List Request) : Type 0 where
   pub linked : map (λ reach. Some reach) s.loaders ≡ map (λ o. reach_in env o.chain) r.objects
   pub places : s.places.loaded ≡ places_of r.objects
@@ -36,7 +36,7 @@ pub record Stands (env : Env) (r : Record) (s : Loading) (taken : ℕ) (rest : L
   pub pending : s.pending.items ≡ map (λ o. o.needed) (drop taken r.objects)
   pub left : left r ≡ rest ++ requests (drop taken r.objects)
 
--- each file is loaded once and is one of the tree, and each but the program is a library
+-- each file is loaded once and is a node of the tree, and each file except the program is a library
 pub record IsSound (known : Option Contents) (t : Nodes) (abi : Abi) (s : Loading) : Type 0 where
   pub libraries : IfKnown known (λ held. AreKnown held t abi s.places)
   pub outsider : IfSome s.places.outsider (λ real. is_among s.places.loaded real ≡ true)
@@ -44,13 +44,13 @@ pub record IsSound (known : Option Contents) (t : Nodes) (abi : Abi) (s : Loadin
   pub nodes : (real : List ℕ) → is_among s.places.loaded real ≡ true → is_some (node_at t real) ≡ true
   pub members : length s.members.items ≡ length s.places.loaded
 
--- what is taken into the state is a library and a node of the tree
+-- an answer that is added to the state is a library and a node of the tree
 abbrev pub IsSoundAnswer : Option Contents → Nodes → Abi → Option Answer → Type 0
 IsSoundAnswer known t abi None = Unit {0}
 IsSoundAnswer known t abi (Some (answer.Loaded i)) = Unit {0}
 IsSoundAnswer known t abi (Some (answer.New f)) = (is_some (node_at t f.real) ≡ true) × IfKnown known (λ held. is_library_at held t abi f.real ≡ true)
 
--- objects are added, each of which stands in the queue
+-- objects are added, and each of them is put into the queue
 pub record Grows (old new : Loading) : Type 0 where
   pub more : ℕ
   pub loaders : length new.loaders ≡ length old.loaders + more
@@ -59,7 +59,7 @@ pub record Grows (old new : Loading) : Type 0 where
 
 -- ---- one request
 
--- a member is added, with the names that it needs
+-- a member is added, and its needed names are put into the queue
 pub record AddsMember (old new : Loading) (m : Member) (needed : List (List ℕ)) : Type 0 where
   pub places : new.places ≡ record old.places { loaded = old.places.loaded ++ m.real ∷ [] }
   pub names : (x : List ℕ) → is_among new.names x ≡ (is_among old.names x || is_among m.names x)
@@ -69,7 +69,7 @@ pub record AddsMember (old new : Loading) (m : Member) (needed : List (List ℕ)
   pub items : new.items ≡ old.items
   pub loaders : new.loaders ≡ old.loaders
 
--- a library that was found for the object with this number is added, as an item of this name
+-- a library that was found for the object with this number is added, with an item of this name
 pub record AddsFound (env : Env) (old new : Loading) (name : List ℕ) (f : Found) (loader : ℕ) : Type 0 where
   pub loaders : new.loaders ≡ old.loaders ++ reach_over env (owner_of f.path f.object.dynamic) (reach_at old.loaders loader) ∷ []
   pub places : new.places ≡ record old.places { loaded = old.places.loaded ++ f.real ∷ [] }
@@ -79,15 +79,15 @@ pub record AddsFound (env : Env) (old new : Loading) (name : List ℕ) (f : Foun
   pub missing : new.missing ≡ old.missing
   pub listed : new.items ≡ old.items ++ item name (Some f.path) ∷ []
 
--- a name more, behind the others
+-- adds a name at the end
 abbrev pub with_last_name : Member → List ℕ → Member
 with_last_name m name = record m { names = m.names ++ name ∷ [] }
 
--- the member with this index has one name more
+-- the member with this index gets one more name
 abbrev pub IsNamedAt : List Member → List Member → ℕ → List ℕ → Type 0
 IsNamedAt before after i name = (d : Member) → after ≡ slice_set before i (with_last_name (slice_index_or before i d) name)
 
--- the object with this number is known by one name more
+-- the object with this number gets one more name
 pub record AddsName (old new : Loading) (name : List ℕ) (number : ℕ) : Type 0 where
   pub names : (x : List ℕ) → is_among new.names x ≡ (is_among old.names x || bytes_eq x name)
   pub members : IsNamedAt old.members.items new.members.items number name
@@ -97,7 +97,7 @@ pub record AddsName (old new : Loading) (name : List ℕ) (number : ℕ) : Type 
   pub items : new.items ≡ old.items
   pub pending : new.pending.items ≡ old.pending.items
 
--- a name that isn't found is added
+-- a name that wasn't found is added
 pub record AddsMissing (old new : Loading) (name : List ℕ) : Type 0 where
   pub missing : (x : List ℕ) → is_among new.missing x ≡ (is_among old.missing x || bytes_eq x name)
   pub items : new.items ≡ (if is_among old.missing name then old.items else old.items ++ item name None ∷ [])
@@ -107,13 +107,13 @@ pub record AddsMissing (old new : Loading) (name : List ℕ) : Type 0 where
   pub members : new.members.items ≡ old.members.items
   pub pending : new.pending.items ≡ old.pending.items
 
--- the record when the object with this number is the answer of a request
+-- the record after a request whose answer is the object with this number
 pub record IsFoundIn (r : Record) (q : Request) (number : ℕ) (r2 : Record) : Type 0 where
   pub within : number < length (places_of r.objects)
   pub objects : r2.objects ≡ map (named (slice_index_or (places_of r.objects) number []) q.name) r.objects
   pub items : r2.items ≡ r.items
 
--- the record when a request has this answer
+-- the record after a request with this answer
 
 abbrev pub HasOutcome : Record → Request → Option Answer → Record → Type 0
 HasOutcome r q None r2 = (r2.objects ≡ r.objects) × (r2.items ≡ with_missing q.name r.items)
@@ -122,16 +122,16 @@ HasOutcome r q (Some (answer.New f)) r2 =
     (r2.objects ≡ r.objects ++ loaded f.path f.real f.object.dynamic (Some q.name) q.chain ∷ [])
     × (r2.items ≡ r.items ++ item q.name (Some f.path) ∷ [])
 
--- The state that stands for a record goes on to stand for the next one, which has this answer of a request more, by the object with this
--- number for this name.
+-- If the old state matches a record, the new state matches the next record. That one has this answer to one more request, which the
+-- object with this number makes for this name.
 abbrev pub TakesAnswer : Env → Loading → Loading → List ℕ → Option Answer → ℕ → Type 0
 TakesAnswer env old new name answer loader =
     (r r2 : Record) (q : Request) (rest : List Request) → Stands env r old (suc loader) (q ∷ rest) → HasOutcome r q answer r2
     → r2.answered ≡ suc r.answered → q.name ≡ name → q.chain ≡ behind (map (λ o. o.chain) r.objects) (Some loader) → Stands env r2 new (suc loader) rest
 
--- ---- how far a listing has come
+-- ---- progress of a listing
 
--- from this record, by so many requests, with these keys begun; the fact holds of the record then
+-- from this record this number of requests is answered and these keys are opened; then the fact holds for the record
 pub record GoesBy (w : Inputs) (start : Record) (ending : Ending) (P : Record → Type 0) (old new : StoreState) : Type 0 where
   pub requests : ℕ
   pub keys : List (List ℕ)
@@ -139,7 +139,7 @@ pub record GoesBy (w : Inputs) (start : Record) (ending : Ending) (P : Record �
   pub begins : BeginsHeld w.held keys ending old new
   pub holds : P (record_after w start requests)
 
--- the same as far as contents are known; else the fact holds of some record
+-- the same if contents are unknown: the fact holds for some record
 pub record Goes (start : Record) (ending : Ending) (P : Record → Type 0) (old new : StoreState) : Type 0 where
   pub reads : ReadsFiles ⊥ None None ending old new
   pub some : Record

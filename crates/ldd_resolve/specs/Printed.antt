@@ -3,7 +3,7 @@ use Rattle.std.specs.Prelude.{ℕ, List, [], ◌∷◌, ◌++◌, flat_map, code
 use Rattle.rpath_search.specs.Places.{has_slash}
 use Rattle.ldd_resolve.specs.declared.kinds.Item.{Item}
 
--- what stands behind a name: nothing for a name with a slash that is found, since it is a path itself
+-- the text after a name; if the name contains a slash and is found, it is itself the path and nothing follows
 abbrev pub ending : List ℕ → Option (List ℕ) → List ℕ
 ending name None = codes " => not found"
 ending name (Some path) = if has_slash name then [] else codes " => " ++ path
@@ -11,7 +11,7 @@ ending name (Some path) = if has_slash name then [] else codes " => " ++ path
 abbrev pub line : Item → List ℕ
 line i = codes "\t" ++ i.name ++ ending i.name i.path ++ codes "\n"
 
--- a program that loads nothing is listed as one without a dynamic section
+-- a program that loads nothing is listed like one without a dynamic section
 unfoldable pub listing_text : List Item → List ℕ
 listing_text [] = codes "\tstatically linked\n"
 listing_text (i ∷ items) = flat_map line (i ∷ items)

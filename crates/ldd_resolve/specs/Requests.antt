@@ -29,7 +29,7 @@ use Rattle.ldd_resolve.specs.Resolving.{IfComplete, cached_in, inputs_of, member
 use Rattle.rpath_search.specs.Searching.{AreKnown, Finds}
 use Rattle.ldd_resolve.specs.Searching.{Begins}
 
--- ---- what the searches are given
+-- ---- the inputs of a search
 
 abbrev pub inputs_by : Given → Contents → Inputs
 inputs_by g held = inputs_of g.tree.now (option_copied g.cache) g.env.now held
@@ -37,15 +37,15 @@ inputs_by g held = inputs_of g.tree.now (option_copied g.cache) g.env.now held
 abbrev pub paths_by : Given → List ℕ → List Owner → List (List ℕ)
 paths_by g name chain = paths name chain g.env.now (cached_in (option_copied g.cache) g.env.now name)
 
--- the same for an object whose requests are searched there
+-- the search paths of a name, for an object with these search directories
 abbrev pub paths_at : Given → List ℕ → Reach → List (List ℕ)
 paths_at g name reach = all_paths name g.env.now reach (cached_in (option_copied g.cache) g.env.now name)
 
--- what is known of the loaded files
+-- the known facts about loaded files
 abbrev pub AreKnownBy : Option Contents → Given → LoadedFiles → Type 0
 AreKnownBy known g loaded = IfKnown known (λ held. AreKnown held g.tree.now g.env.now.abi loaded)
 
--- what is found at the first good one of these paths
+-- the answer for the first good path
 abbrev pub FindsBy : Option Contents → Given → List (List ℕ) → List (List ℕ) → Option Answer → Type 0
 FindsBy known g loaded all a =
     IfKnown known (λ held. Finds held g.tree.now g.env.now.abi loaded (first_good held g.tree.now g.env.now.abi all) a)
@@ -55,28 +55,28 @@ BeginsPaths known g loaded all ending old new = Begins known (λ held. keys_sear
 
 -- ---- the requests of one object
 
--- requests of these names by the object with this chain
+-- requests for these names by the object with this chain
 abbrev pub requests_by : List Owner → List (List ℕ) → List Request
 requests_by chain names = map (λ name. record { name = name; chain = chain }) names
 
--- the object with this number and chain is the one whose requests are answered; those of these names are left
+-- the requests of the object with this number and chain are being answered; these names remain
 pub record IsAt (env : Env) (r : Record) (s : Loading) (number : ℕ) (chain : List Owner) (names : List (List ℕ)) : Type 0 where
   pub stands : Stands env r s (suc number) (requests_by chain names)
   pub chain_is : behind (map (λ o. o.chain) r.objects) (Some number) ≡ chain
 
--- By a call the state comes to stand for a record in which the requests of fewer names are left.
+-- If `names` remain before the call, `rest` remains after it. The state matches the record before and after.
 abbrev pub Answers : Option Contents → Given → ℕ → List Owner → List (List ℕ) → List (List ℕ) → Ending → Loading → Loading → StoreState → StoreState → Type 0
 Answers known g number chain names rest ending s s2 old new =
     (r : Record) → IsAt g.env.now r s number chain names → Advances known (inputs_by g) r ending (λ r2. IfComplete ending (IsAt g.env.now r2 s2 number chain rest)) old new
 
 -- ---- the requests of all objects
 
--- By a call the state that stands for a record with the requests of these objects left comes to stand for another one.
+-- The call answers the requests of the objects before `next`. The state matches the record before and after.
 abbrev pub AnswersObjects : Option Contents → Given → ℕ → ℕ → Ending → Loading → Loading → StoreState → StoreState → Type 0
 AnswersObjects known g number next ending s s2 old new =
     (r : Record) → Stands g.env.now r s number [] → Advances known (inputs_by g) r ending (λ r2. IfComplete ending (Stands g.env.now r2 s2 next [])) old new
 
--- no request of the record is left, and these are its members and items
+-- no request remains in the record, and these are its members and items
 pub record IsListed (r : Record) (ms : List Member) (items : List Item) : Type 0 where
   pub all : left r ≡ []
   pub members : ms ≡ members_of r.objects
@@ -87,20 +87,20 @@ abbrev pub AnswersAll : Option Contents → Given → Ending → Loading → Loa
 AnswersAll known g ending s s2 old new =
     (r : Record) → Stands g.env.now r s 0 [] → Advances known (inputs_by g) r ending (λ r2. IfComplete ending (IsListed r2 s2.members.items s2.items)) old new
 
--- ---- how the state grows
+-- ---- growth of the state
 
--- the objects are as many as the files; those whose needed names were taken from the queue are so many
+-- there are as many objects as files, and `taken` of the objects were taken from the queue
 pub record IsEven (s : Loading) (taken : ℕ) : Type 0 where
   pub places : length s.loaders ≡ length s.places.loaded
   pub pending : taken + length s.pending.items ≡ length s.loaders
 
 -- ---- the program
 
--- the record of a program alone
+-- the record of only the program
 abbrev pub record_with : Found → List (List ℕ) → Record
 record_with p keys = record { objects = loaded p.path p.real p.object.dynamic None [] ∷ []; answered = 0; items = []; keys = keys }
 
--- the program's file, if that is no library
+-- the program's file, if it isn't a library
 abbrev pub outsider_of : Found → Option (List ℕ)
 outsider_of p = if is_library p.object.abi p.object then None else Some p.real
 
@@ -111,7 +111,7 @@ abbrev pub StartsSound : Found → Loading → Type 0
 StartsSound p s = (known : Option Contents) (t : Nodes) → is_some (node_at t p.real) ≡ true
     → IfKnown known (λ held. object_at held t p.real ≡ Some (Ok p.object)) → IsSound known t p.object.abi s
 
--- By a call the record of a program alone comes to one in which no request is left, whose members and items are returned.
+-- From the record of only the program, the call answers all requests and returns the members and items.
 abbrev pub Lists : Option Contents → Nodes → Option (List CachedEntry) → Env → Found → Result Scope SearchFault → StoreState → StoreState → Type 0
 Lists known t cache env p result old new = (keys : List (List ℕ))
     → Advances known (inputs_of t cache (env_for env p.object.abi)) (record_with p keys) (search_ending result) (λ r2. IfOk result (λ s. IsListed r2 s.members s.listing)) old new

@@ -1,4 +1,4 @@
--- What is listed of a program, and which keys are begun for it (ldd(1), ld.so(8)).
+-- The listing of a program, and the files that are opened for it (ldd(1), ld.so(8)).
 use Rattle.std.specs.Prelude.{◌≡◌, ◌⊎◌, ◌++◌, ℕ, false, List, [], ◌∷◌, drop, map, Option, Some, None, option_map, option_and_then, Result, Ok, Err}
 use Rattle.std.specs.List.{filter_map}
 use Rattle.lib_types.specs.declared.analysis.Defect.{Defect}
@@ -23,15 +23,15 @@ use Rattle.ldd_resolve.specs.Listing.{Inputs, Loaded, Record, left, loaded, reco
 
 -- ---- the program
 
--- the file of the program, whose path is below the root if it is relative
+-- the file of the program; a relative path is taken as one below the root
 abbrev pub program_at : Nodes → List ℕ → Option (List ℕ)
 program_at t word = file_at t (from_root word)
 
--- what the file at a place says of itself, or its first defect, if it is held
+-- the ELF information of the file at a path, or its first defect, if its content is held
 abbrev pub object_at : Contents → Nodes → List ℕ → Option (Result Object Defect)
 object_at held t real = option_map object (option_and_then held (key_in (node_at t real)))
 
--- the program's file is held, and this is its first defect
+-- the content of the program's file is held, and this is its first defect
 pub record IsBadProgram (held : Contents) (t : Nodes) (word : List ℕ) (d : Defect) : Type 0 where
   pub real : List ℕ
   pub file : program_at t word ≡ Some real
@@ -39,23 +39,23 @@ pub record IsBadProgram (held : Contents) (t : Nodes) (word : List ℕ) (d : Def
 
 -- ---- the listing
 
--- the path that the cache has for a name; none without a cache
+-- the path of a name in the cache; none without a cache
 abbrev pub cached_in : Option (List CachedEntry) → Env → List ℕ → Option (List ℕ)
 cached_in cache env name = option_and_then (λ entries. scan entries name env.abi env.caps) cache
 
 abbrev pub inputs_of : Nodes → Option (List CachedEntry) → Env → Contents → Inputs
 inputs_of t cache env held = record { held = held; nodes = t; cached = cached_in cache env; env = env }
 
--- the program alone, with its key begun
+-- only the program, with its file opened
 abbrev pub first_record : Nodes → List ℕ → List ℕ → Object → Record
 first_record t word real o =
     record { objects = loaded (from_root word) real o.dynamic None [] ∷ []; answered = 0; items = []; keys = file_keys t (real ∷ []) }
 
--- the record of a program, when so many requests were answered; the ABI is the program's
+-- the record of a program after n answered requests, with the program's ABI
 abbrev pub record_of : Nodes → Option (List CachedEntry) → List ℕ → Env → Contents → List ℕ → Object → ℕ → Record
 record_of t cache word env held real o n = record_after (inputs_of t cache (env_for env o.abi) held) (first_record t word real o) n
 
--- The program's file is held and has an object, and the fact holds of its record when no request is left.
+-- The content of the program's file is held and is a valid object. The fact holds for the record after all requests are answered.
 pub record EndsIn (t : Nodes) (cache : Option (List CachedEntry)) (word : List ℕ) (env : Env) (held : Contents) (P : Record → Type 0) : Type 0 where
   pub real : List ℕ
   pub file : program_at t word ≡ Some real
@@ -78,7 +78,7 @@ member_of o = record { path = o.path; real = o.real; names = o.names }
 abbrev pub members_of : List Loaded → List Member
 members_of objects = map member_of objects
 
--- what the program loads by this record, and what it doesn't find
+-- the members and the items of this record
 pub record IsScopeOf (scope : Scope) (r : Record) : Type 0 where
   pub members : scope.members ≡ members_of r.objects
   pub listing : scope.listing ≡ r.items
@@ -86,24 +86,24 @@ pub record IsScopeOf (scope : Scope) (r : Record) : Type 0 where
 abbrev pub IsScope : Nodes → Option (List CachedEntry) → List ℕ → Env → Contents → Scope → Type 0
 IsScope t cache word env held scope = EndsIn t cache word env held (IsScopeOf scope)
 
--- the members behind the program are those that the items with a path have loaded, in their order
+-- the members after the program are those that the items with a path have loaded, in order
 abbrev pub AreLoaded : Scope → Type 0
 AreLoaded scope = map (λ m. m.path) (drop 1 scope.members) ≡ filter_map (λ i. i.path) scope.listing
 
--- ---- the keys that are begun
+-- ---- the keys that are opened
 
 abbrev pub IfComplete : Ending → Type 0 → Type 0
 IfComplete Complete P = P
 IfComplete DeviceFailed P = Unit {0}
 IfComplete GaveUp P = Unit {0}
 
--- those of a record; a complete call has no request left
+-- the keys of a record; if the call completes, all requests are answered
 pub record BeginsRecord (at : ℕ → Record) (held : Contents) (ending : Ending) (old new : StoreState) : Type 0 where
   pub requests : ℕ
   pub reads : ReadsBy (Some held) (at requests).keys ending old new
   pub all : IfComplete ending (left (at requests) ≡ [])
 
--- none without a file; the program's alone, if that isn't held or has a defect
+-- no keys without a file; only the program's key if its content isn't held or has a defect
 abbrev pub BeginsBy : Option (Result Object Defect) → (Object → ℕ → Record) → List (List ℕ) → Contents → Ending → StoreState → StoreState → Type 0
 BeginsBy (Some (Ok o)) at key held ending old new = BeginsRecord (at o) held ending old new
 BeginsBy (Some (Err d)) at key held ending old new = ReadsBy (Some held) key ending old new
@@ -114,19 +114,19 @@ BeginsFor t cache word env held None ending old new = ReadsBy (Some held) [] end
 BeginsFor t cache word env held (Some real) ending old new =
     BeginsBy (object_at held t real) (record_of t cache word env held real) (file_keys t (real ∷ [])) held ending old new
 
--- The keys that are begun, in their order, and why the count of faults rises; which keys they are is known if contents are.
+-- The keys that are opened, in order, and why the number of failed calls rises. If contents are known, so are the keys.
 abbrev pub ReadsListing : Option Contents → Nodes → Option (List CachedEntry) → List ℕ → Env → Ending → StoreState → StoreState → Type 0
 ReadsListing None t cache word env ending old new = ReadsFiles ⊥ None None ending old new
 ReadsListing (Some held) t cache word env ending old new = BeginsFor t cache word env held (program_at t word) ending old new
 
--- each key that was begun in between is held
+-- the content of each key that was opened in between is held
 abbrev pub AreAllHeld : Contents → List (List ℕ) → List (List ℕ) → Type 0
 AreAllHeld held before after = (keys : List (List ℕ)) × ((after ≡ before ++ keys) × (lacks_one held keys ≡ false))
 
 abbrev pub BeginsNoneLacking : Contents → StoreState → StoreState → Type 0
 BeginsNoneLacking held old new = Relates (AreAllHeld held) old.keys new.keys
 
--- ---- how a call ends
+-- ---- the ending of a call
 
 abbrev pub resolve_ending : {A : Type 0} → Result A ResolveFault → Ending
 resolve_ending (Ok listing) = Complete
@@ -135,7 +135,7 @@ resolve_ending (Err (BadProgram d)) = Complete
 resolve_ending (Err StoreFault) = DeviceFailed
 resolve_ending (Err NoMemory) = GaveUp
 
--- a fact of the defect that is returned
+-- a fact about the defect that is returned
 abbrev pub IfBadProgram : {A : Type 0} → Result A ResolveFault → (Defect → Type 0) → Type 0
 IfBadProgram (Ok listing) P = Unit {0}
 IfBadProgram (Err NoProgram) P = Unit {0}
@@ -143,7 +143,7 @@ IfBadProgram (Err (BadProgram d)) P = P d
 IfBadProgram (Err StoreFault) P = Unit {0}
 IfBadProgram (Err NoMemory) P = Unit {0}
 
--- there is no file exactly if this is returned, unless memory is out
+-- this is returned exactly if the file is missing, except that memory may run out first
 pub record IsNoProgram {A : Type 0} (file : Option (List ℕ)) (result : Result A ResolveFault) : Type 0 where
   pub only : result ≡ Err NoProgram → file ≡ None
   pub always : file ≡ None → (result ≡ Err NoProgram) ⊎ (result ≡ Err NoMemory)

@@ -1,4 +1,4 @@
--- How the code searches a name.
+-- How the code searches for a name.
 use Rattle.std.specs.Prelude.{◌≡◌, ◌<◌, ℕ, false, List, length, Option, Some, None}
 use Rattle.tree_face.specs.Store.{Contents, StoreState}
 use Rattle.tree_face.specs.StoreUse.{Ending, ReadsFiles}
@@ -16,7 +16,7 @@ pub record BeginsHeld (held : Contents) (keys : List (List ℕ)) (ending : Endin
   pub reads : ReadsBy (Some held) keys ending old new
   pub none_lacks : AreHeld held keys ending
 
--- Which keys are begun is known if contents are.
+-- If contents are known, so are the opened keys.
 abbrev pub Begins : Option Contents → (Contents → List (List ℕ)) → Ending → StoreState → StoreState → Type 0
 Begins None keys ending old new = ReadsFiles ⊥ None None ending old new
 Begins (Some held) keys ending old new = BeginsHeld held (keys held) ending old new

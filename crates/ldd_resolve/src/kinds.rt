@@ -1,4 +1,4 @@
-//! What a listing is, and why there is none.
+//! Listings, and why they fail.
 ghost use Rattle.std.specs.Prelude.{◌≡◌};
 ghost use Rattle.ldd_resolve.specs.Faults.{of_object, of_search};
 ghost use Rattle.ldd_resolve.specs.declared.kinds.ResolveFault.TheVariants as faults;
@@ -11,43 +11,43 @@ use rpath_search::SearchFault;
 #[derive(Drop)]
 pub struct Item {
     pub name: Text,
-    /// None if it isn't found.
+    /// None if the library isn't found.
     pub path: Option<Text>,
 }
 
-/// The items of a listing in their order.
+/// The items of a listing, in order.
 pub type Listing = Seq<Item>;
 
-/// An object that is loaded: the program or a library.
+/// A loaded object: the program or a library.
 #[derive(Drop)]
 pub struct Member {
     /// The path by which it was found.
     pub path: Text,
-    /// The file to which that leads, without links.
+    /// The file to which the path leads, as a path without links.
     pub real: Text,
-    /// Its DT_SONAME, if it has one, then the names of the requests that it answered, each once.
+    /// Its DT_SONAME, if it has one, and then the names of the requests that it answered, each once.
     pub names: Texts,
 }
 
-/// Members in load order, the program first: the index of a member is its place.
+/// Members in load order, the program first.
 pub type Members = Seq<Member>;
 
-/// What a program loads.
+/// The objects that a program loads.
 #[derive(Drop)]
 pub struct Scope {
     pub members: Members,
-    /// The requests that have loaded a member, and those that were not found, in their order.
+    /// The requests that loaded a member and those that weren't found, in order.
     pub listing: Listing,
 }
 
 /// Why a program has no listing.
 #[derive(Clone, Copy, Debug, PartialEq, Eq)]
 pub enum ResolveFault {
-    /// Its path leads to no file.
+    /// The program's path leads to no file.
     NoProgram,
-    /// The first defect of its file.
+    /// The first defect of the program's file.
     BadProgram(Defect),
-    /// The store failed, or doesn't hold a file that has to be read.
+    /// The store failed, or it doesn't hold the content of a file that must be read.
     StoreFault,
     NoMemory,
 }

@@ -1,4 +1,4 @@
-//! The libraries that a program of an image loads, and from where, as ldd(1) lists them.
+//! The libraries that a program of an image loads, with their paths, as ldd(1) lists them.
 #![tactic(auto)]
 
 mod kinds;

@@ -1,4 +1,4 @@
-//! A listing that is made, request by request.
+//! The state of a listing while requests are answered.
 ghost use Rattle.std.specs.Prelude.{◌≡◌, ◌<◌, [], Option, false, length, option_to_list, IfOk, IfSome, OnOk};
 ghost use Rattle.std.specs.List.{IsDistinct};
 ghost use Rattle.std.specs.Option.{option_copied};
@@ -21,23 +21,23 @@ use std::alloc::Global;
 use std::collections::VecDeque;
 use string_pool::TextSet;
 
-/// What was loaded and listed so far.
+/// The objects that were loaded and the items that were listed so far.
 #[derive(Drop)]
 pub(crate) struct Loading {
     pub loaders: Loaders,
     pub places: LoadedFiles,
-    /// The names by which objects are known.
+    /// The names of the loaded objects.
     pub names: TextSet,
     /// The names that weren't found.
     pub missing: TextSet,
-    /// By their numbers.
+    /// In the order of the objects' numbers.
     pub members: Vec<Member>,
     pub items: Listing,
     /// The needed names of the objects whose requests aren't answered yet.
     pub pending: VecDeque<Texts>,
 }
 
-// The owner of an object that was found by this path, with its soname and what it needs.
+// The parts of an object found at this path: search information, soname and needed names.
 #[derive(Drop)]
 struct Parts {
     owner: Owner,
@@ -75,7 +75,7 @@ fn parts_of(alloc: Global, path: &[u8], dynamic: Option<Dynamic>) -> Result<Part
     }
 }
 
-// The program's file, if that is no library.
+// The program's file, if it isn't a library.
 fn outsider_of(alloc: Global, program: &Found) -> Result<Option<Text>, NoMemory>
     ensures { IfOk result (λ o. o ≡ outsider_of program.now) }
 {
@@ -86,7 +86,7 @@ fn outsider_of(alloc: Global, program: &Found) -> Result<Option<Text>, NoMemory>
 }
 
 impl Loading {
-    // No object so far, but for where the requests of the program are searched.
+    // No objects, but with the program's search directories.
     fn empty(alloc: Global, loaders: Loaders, outsider: Option<Text>) -> Loading
         ensures loaders { result.loaders ≡ loaders }
         ensures places { result.places.loaded ≡ [] }
@@ -111,7 +111,7 @@ impl Loading {
         }
     }
 
-    /// The program alone.
+    /// Only the program.
     pub(crate) fn new(alloc: Global, env: &Env, program: Found) -> Result<Loading, NoMemory>
         ensures stands { IfOk result (StandsFirst env.now program) }
         ensures sound { IfOk result (StartsSound program) }
@@ -131,7 +131,7 @@ impl Loading {
         Ok(loading)
     }
 
-    // Adds a member that needs these names.
+    // Adds a member and puts its needed names into the queue.
     fn add_member(&mut self, alloc: Global, member: Member, needed: Texts) -> Result<(), NoMemory>
         requires { is_among self.old.places.loaded member.real ≡ false }
         ensures { OnOk result (AddsMember self.old self.new member needed) }
@@ -144,7 +144,7 @@ impl Loading {
         Ok(())
     }
 
-    // Adds a library that was found for the object with this number, as an item of this name.
+    // Adds a library that was found for the object with this number, and an item of this name.
     fn add_found(
         &mut self,
         alloc: Global,
@@ -173,7 +173,7 @@ impl Loading {
         })
     }
 
-    // The object with this number is known by one name more.
+    // Adds one more name to the object with this number.
     fn add_name(&mut self, alloc: Global, name: Text, number: usize) -> Result<(), NoMemory>
         requires { number < length self.old.members.items }
         ensures { OnOk result (AddsName self.old self.new name number) }
@@ -182,7 +182,7 @@ impl Loading {
         add_name_at(&mut self.members, number, name)
     }
 
-    // Adds a name that isn't found, unless it is an item already.
+    // Adds a name that wasn't found, unless the listing has it already.
     fn add_missing(&mut self, alloc: Global, name: Text) -> Result<(), NoMemory>
         ensures { OnOk result (AddsMissing self.old self.new name) }
     {
@@ -193,7 +193,7 @@ impl Loading {
         self.items.push(Item { name, path: None })
     }
 
-    /// Takes what a search has given for a name that the object with this number needs.
+    /// Adds the result of a search for a name that the object with this number needs.
     pub(crate) fn take_answer(
         &mut self,
         alloc: Global,

@@ -16,7 +16,7 @@ fn has_name(names: &Texts, name: &[u8]) -> bool
     names.as_slice().iter().any(|text| name == text.as_bytes())
 }
 
-// Adds a name, if it isn't there yet.
+// Adds a name if it isn't in the list.
 fn add_name(alloc: Global, names: &mut Texts, name: &[u8]) -> Result<(), NoMemory>
     ensures { OnOk result (names.new ≡ with_name names.old name.now) }
 {
@@ -26,7 +26,7 @@ fn add_name(alloc: Global, names: &mut Texts, name: &[u8]) -> Result<(), NoMemor
     names.push(Text::copy_of(alloc, name)?)
 }
 
-/// The names of an object with this DT_SONAME, which was found for a request of this name.
+/// The names of an object with this DT_SONAME that was found for a request of this name.
 pub(crate) fn names_by(
     alloc: Global,
     soname: Option<Text>,
@@ -44,7 +44,7 @@ pub(crate) fn names_by(
     Ok(names)
 }
 
-/// Adds these names to those of all objects.
+/// Adds these names to the set of all objects' names.
 pub(crate) fn add_names(alloc: Global, all: &mut TextSet, names: &Texts) -> Result<(), NoMemory>
     ensures { OnOk result ((x : List ℕ) → is_among all.new x ≡ (is_among all.old x || is_among names.now x)) }
 {
@@ -54,7 +54,7 @@ pub(crate) fn add_names(alloc: Global, all: &mut TextSet, names: &Texts) -> Resu
     Ok(())
 }
 
-/// Adds a name to those of the member with this index.
+/// Adds a name to the member with this index.
 pub(crate) fn add_name_at(
     members: &mut Vec<Member>,
     index: usize,

@@ -6,7 +6,7 @@ use crate::kinds::{Item, Listing};
 use lib_types::{NoMemory, has_byte};
 use std::alloc::Global;
 
-// Adds what stands behind a name.
+// Adds the text after a name.
 fn add_ending(text: &mut Vec<u8>, name: &[u8], path: Option<&[u8]>) -> Result<(), NoMemory>
     ensures { OnOk result (text.new.items ≡ text.old.items ++ ending name.now (option_map (λ p. p.now) path.entry)) }
 {
@@ -42,7 +42,7 @@ fn lines_of(alloc: Global, listing: &Listing) -> Result<Vec<u8>, NoMemory>
     Ok(text)
 }
 
-/// The lines that ldd(1) prints for a listing, a line for each item.
+/// The lines that ldd(1) prints for a listing, one for each item.
 #[tactic(auto, using(crate::proofs::Texts::text_of_none, crate::proofs::Texts::text_of_some))]
 pub fn listing_text(alloc: Global, listing: &Listing) -> Result<Vec<u8>, NoMemory>
     ensures { IfOk result (λ text. text.items ≡ listing_text listing.now) }

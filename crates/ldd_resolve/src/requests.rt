@@ -16,7 +16,7 @@ use rpath_search::{Answer, Candidates, Env, SearchFault, search_paths};
 use std::alloc::Global;
 use tree_face::{Store, Tree};
 
-/// What a listing is given beside the store.
+/// The inputs of a listing apart from the store.
 #[derive(Drop)]
 pub(crate) struct Given<'s, 'a> {
     pub tree: &'s Tree,
@@ -25,7 +25,7 @@ pub(crate) struct Given<'s, 'a> {
     pub env: &'s Env,
 }
 
-// The path that the cache has for a name.
+// The path of a name in the cache.
 fn cached_path<'a>(cache: Option<&Sorted<'a>>, name: &[u8], env: &Env) -> Option<&'a [u8]>
     ensures { option_copied result ≡ cached_in (option_copied cache.entry) env.now name.now }
 {
@@ -35,7 +35,7 @@ fn cached_path<'a>(cache: Option<&Sorted<'a>>, name: &[u8], env: &Env) -> Option
     cache.path(index)
 }
 
-// What is found for a name that the object with this number needs.
+// Searches for a name that the object with this number needs.
 fn search_name<S: Store>(
     alloc: Global,
     given: &Given<'_, '_>,
@@ -63,7 +63,7 @@ fn search_name<S: Store>(
     )
 }
 
-// Answers a request by the object with this number.
+// Answers a request of the object with this number.
 fn answer_request<S: Store>(
     alloc: Global,
     given: &Given<'_, '_>,
@@ -88,7 +88,7 @@ fn answer_request<S: Store>(
     Ok(())
 }
 
-// Answers the requests by the object with this number, of these names.
+// Answers the requests of the object with this number for these names.
 fn answer_names<S: Store>(
     alloc: Global,
     given: &Given<'_, '_>,

@@ -21,7 +21,7 @@ use rpath_search::{Env, Found, SearchFault, from_root, key_at};
 use std::alloc::Global;
 use tree_face::{Store, Tree};
 
-// Reads the file of the program, at a path without links. No key is there only if no file is.
+// Reads the program's file, at a path without links. The key is missing only if the file is.
 fn read_program<S: Store>(
     alloc: Global,
     tree: &Tree,
@@ -41,7 +41,7 @@ fn read_program<S: Store>(
     Ok(object(alloc, store, key)?)
 }
 
-// What a program loads, which was read.
+// The objects that a program loads, after its file was read.
 fn load<S: Store>(
     alloc: Global,
     tree: &Tree,
@@ -70,11 +70,11 @@ fn load<S: Store>(
     }
 }
 
-/// What a program loads: its members with their paths and names, and the listing of the requests. The program's ABI counts in place of
-/// that of `env`; without a cache the search finds nothing there.
+/// The members that a program loads, with their paths and names, and the listing of the requests. The program's ABI replaces that of
+/// `env`. If there is no cache, the search skips it.
 ///
-/// A file that is loaded is not read again, and each is loaded once, so the call returns for every image. A name that isn't found is
-/// searched again for each later object that needs it, since that object's own directories may have it.
+/// A loaded file isn't read again, and each file is loaded once, so the call terminates for every image. A name that isn't found is
+/// searched again for each later object that needs it, because that object's own directories may have it.
 pub fn scope<S: Store>(
     alloc: Global,
     tree: &Tree,
@@ -103,7 +103,7 @@ pub fn scope<S: Store>(
     Ok(scope)
 }
 
-/// The libraries that a program loads, and from where: the listing of its scope.
+/// The libraries that a program loads, with their paths: the listing of its scope.
 pub fn resolve<S: Store>(
     alloc: Global,
     tree: &Tree,

@@ -1,4 +1,4 @@
-//! What is listed of a program.
+//! The listing of a program.
 use cache_lookup::{Sorted, sorted};
 use cache_reader::CacheView;
 use elf_samples::SampleFault;
@@ -11,7 +11,7 @@ use std::alloc::Global;
 use table_rows::{Row, Said, Trial, Words, lines_in, value};
 use tree_face::Tree;
 
-/// A row has an image, its cache and what its loader is given, the path of the program (`at`), the text of the listing or the fault, and
+/// A row has an image, its cache and the loader's environment, the path of the program (`at`), the text of the listing or the fault, and
 /// the keys of the files that are opened.
 pub(crate) struct Listings;
 

@@ -1,4 +1,4 @@
-//! Tests of what is listed of a program, and of the text of a listing. Each table is a file of data/.
+//! Tests of the listing of a program, and of its text. Each table is a file of data/.
 #![tactic(auto)]
 
 mod listings;

@@ -1,4 +1,4 @@
--- One file that is begun and read whole.
+-- One file that is opened and read whole.
 use Rattle.std.proofs.Common.{◌≡◌, ◌≤◌, ◌∙◌, ℕ, List, [], ◌∷◌, length, Option, Some, None, Ok, Err, inl, arith}
 use Rattle.std.proofs.lemmas.Bool.{le-leb}
 use Rattle.std.specs.Prelude.{IfSome, option_map}
@@ -14,7 +14,7 @@ use Rattle.ldso_conf.specs.Visits.{ReadsFile, size_read}
 use Rattle.ldso_conf.specs.declared.reading.TheConstants.{CONF_MAX}
 
 module _ (key : List ℕ) where
-  -- at most the bytes that are held are taken
+  -- at most as many bytes are read as the store has
   most_none : (known : Option Contents) (a b : ℕ) → b ≡ a → IfSome (option_map (λ held. size_read (held key)) known) (λ n. b ≤ raised a n)
   most_none None a b same = tt
   most_none (Some held) a b same = omega (arith, same)
@@ -91,7 +91,7 @@ module _ (key : List ℕ) where
         count : m ≤ length before
         count = let size = b.size in let c = rw size at r.count in omega (arith, c)
 
-  -- out of memory behind a file that was read
+  -- out of memory after a file was read
   pub gave_up : (known : Option Contents) (a b : StoreState) → ReadsFile key known Complete a b → ReadsFile key known GaveUp a b
   gave_up known a b r = record {
     held = r.held;

@@ -1,4 +1,4 @@
--- Items that are taken one after another, and up to the first file that isn't held.
+-- Items that are processed in order, up to the first file that is missing.
 use Rattle.std.proofs.Common.{◌≡◌, ◌+◌, ℕ, Bool, false, ◌||◌, cond, List, [], ◌∷◌, ◌++◌, length, refl, sym, ap, ◌∙◌, append_assoc, arith}
 use Rattle.std.proofs.lemmas.List.{length-append}
 use Rattle.std.proofs.lemmas.List.Concat.{flat_map-append}
@@ -24,9 +24,9 @@ taken_more r s u xs ys first next = record {
   reader = next.reader ∙ ap (λ p. with_items p ys) first.reader ∙ with_more r xs ys;
 }
 
--- ---- up to the first file that isn't held
+-- ---- up to the first file that is missing
 
--- what stands behind items, if those are all held
+-- the items that follow others; none if a file of those others is missing
 abbrev pub behind : Bool → List Item → List Item
 behind missing items = cond missing [] items
 
@@ -44,6 +44,6 @@ until_whole (x ∷ xs) held =
     (λ e. absurd (let bad = rw e at held in cc bad))
     (λ e. rw e (ap (λ l. x ∷ l) (until_whole xs (rw e at held))))
 
--- items that are all held, and then others
+-- items without a missing file, followed by others
 pub until_behind : (xs ys : List Item) → list_any is_missing xs ≡ false → until_missing (xs ++ ys) ≡ xs ++ until_missing ys
 until_behind xs ys held = until_parts xs ys ∙ rw (held, until_whole xs held) refl

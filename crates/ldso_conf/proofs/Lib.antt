@@ -1,3 +1,4 @@
+pub mod CommandLine
 mod Files
 mod Items
 mod Uses

@@ -1,4 +1,4 @@
--- The files of items that are taken one after another.
+-- The files of items that are processed in order.
 use Rattle.std.proofs.Common.{◌≡◌, ◌+◌, ◌∙◌, ℕ, true, false, cond, List, [], ◌∷◌, ◌++◌, length, nat_le, Option, Some, None, append_assoc, refl, sym, ap, subst, inl, inr, arith}
 use Rattle.std.proofs.lemmas.Bool.{or_left}
 use Rattle.std.proofs.Math.Nat.{add-zero}
@@ -50,16 +50,19 @@ reads_no_key l n s = record {
   cause = refl;
 }
 
-key_of_named : (dir : List ℕ) (origin : Origin) → key_begun (named dir origin) ≡ []
+pub key_of_named : (dir : List ℕ) (origin : Origin) → key_begun (named dir origin) ≡ []
 key_of_named dir origin = by_test {P = key_begun (named dir origin) ≡ []} (nat_le (length dir) PATH_MAX) (λ short. rw short refl) (λ long. rw long refl)
 
-held_named : (dir : List ℕ) (origin : Origin) → is_missing (named dir origin) ≡ false
+pub size_of_named : (dir : List ℕ) (origin : Origin) → bytes_taken (named dir origin) ≡ 0
+size_of_named dir origin = by_test {P = bytes_taken (named dir origin) ≡ 0} (nat_le (length dir) PATH_MAX) (λ short. rw short refl) (λ long. rw long refl)
+
+pub held_named : (dir : List ℕ) (origin : Origin) → is_missing (named dir origin) ≡ false
 held_named dir origin = by_test {P = is_missing (named dir origin) ≡ false} (nat_le (length dir) PATH_MAX) (λ short. rw short refl) (λ long. rw long refl)
 
 pub reads_nothing : (s : StoreState) → ReadsFiles ⊥ (Some []) (Some 0) Complete s s
 reads_nothing s = reads_no_key ⊥ 0 s
 
--- a call that reads all it is to read has no cause to say
+-- a call that reads everything needs no cause for stopping
 pub reads_all : (l1 l2 : Type 0) (keys : Option (List (List ℕ))) (most : Option ℕ) (a b : StoreState) → ReadsFiles l1 keys most Complete a b → ReadsFiles l2 keys most Complete a b
 reads_all l1 l2 keys most a b r = record {
   held = r.held;
@@ -72,7 +75,7 @@ reads_all l1 l2 keys most a b r = record {
   cause = r.cause;
 }
 
--- of files that aren't known
+-- the contents of the files aren't known
 pub reads_unknown : (l1 l2 : Type 0) (keys : Option (List (List ℕ))) (most : Option ℕ) (e : Ending) (a b c : StoreState) → (l1 → l2) → ReadsFiles ⊥ None None Complete a b →
     ReadsFiles l1 keys most e b c → ReadsFiles l2 None None e a c
 reads_unknown l1 l2 keys most e a b c f first next = record {
@@ -99,7 +102,7 @@ part_none : (keys : List (List ℕ)) (old : Option (List (List ℕ))) → Relate
 part_none keys None = tt
 part_none keys (Some old) = (0, sym (append-nil old))
 
--- a call that gives up before it begins a file
+-- a call that gives up before it opens a file
 pub reads_none : (l : Type 0) (keys : Option (List (List ℕ))) (most : Option ℕ) (s : StoreState) → ReadsFiles l keys most GaveUp s s
 reads_none l keys most s = record {
   held = refl;
@@ -115,7 +118,7 @@ reads_none l keys most s = record {
 -- ---- the items of a file
 
 module _ (start now : Progress) (a b c : StoreState) where
-  -- more items are taken
+  -- more items are processed
   done_more : (whole part rest : List Item) (next : Progress) → IsDone whole (part ++ rest) start now a b → HasTaken part now next →
       ReadsFiles ⊥ (Some (flat_map key_begun part)) (Some (sum_by bytes_taken part)) Complete b c → IsDone whole rest start next a c
   done_more whole part rest next d taken reads = record {
@@ -126,7 +129,7 @@ module _ (start now : Progress) (a b c : StoreState) where
         (reads_on (flat_map key_begun d.done) (flat_map key_begun part) ⊥ ⊥ ⊥ (sum_by bytes_taken d.done) (sum_by bytes_taken part) Complete a b c (λ l. l) d.reads reads);
   }
 
-  -- the next items can't all be taken
+  -- the next items can't all be processed
   done_stops : (whole part rest : List Item) (e : Ending) → IsDone whole (part ++ rest) start now a b → IsPartial e →
       ReadsFiles (lacks_in part) (Some (keys_in part)) (Some (bytes_in part)) e b c → ReadsFiles (lacks_in whole) (Some (keys_in whole)) (Some (bytes_in whole)) e a c
   done_stops whole part rest e d is_partial reads =
@@ -152,7 +155,7 @@ module _ (start now : Progress) (a b c : StoreState) where
       lacks : lacks_in part → lacking
       lacks l = rw (list_any-append is_missing d.done (until_missing part ++ left), d.taken.held, list_any-append is_missing (until_missing part) left) (or_left _ _ l)
 
--- all items are taken
+-- all items are processed
 done_all : (start now : Progress) (a b : StoreState) (whole : List Item) → IsDone whole [] start now a b →
     HasTaken whole start now × ReadsFiles (lacks_in whole) (Some (keys_in whole)) (Some (bytes_in whole)) Complete a b
 done_all start now a b whole d =
@@ -173,7 +176,7 @@ module _ (f : Found) (key : List ℕ) where
       by_test {P = key_begun (begun f key (Some content)) ≡ key ∷ []} (nat_le (length content) CONF_MAX) (λ small. rw small refl) (λ large. rw large refl)
 
   module _ (whole rest : List Item) (o : Option (List ℕ)) (l : Type 0) (a b : StoreState) (first : whole ≡ begun f key o ∷ rest) where
-    -- it isn't read
+    -- the file isn't read
     first_stops : (e : Ending) → (l → o ≡ None) → IsPartial e → ReadsFiles l (Some (key ∷ [])) (Some (size_read o)) e a b →
         ReadsFiles (lacks_in whole) (Some (keys_in whole)) (Some (bytes_in whole)) e a b
     first_stops e lacks is_partial reads =
@@ -185,7 +188,7 @@ module _ (f : Found) (key : List ℕ) where
           lacking : Type 0
           lacking = list_any is_missing (begun f key o ∷ left) ≡ true
 
-    -- it is read, and its steps are left
+    -- the file is read, and its steps are left
     first_done : (r new : Progress) → HasTaken (begun f key o ∷ []) r new → ReadsFiles l (Some (key ∷ [])) (Some (size_read o)) Complete a b → IsDone whole rest r new a b
     first_done r new taken reads = record {
       done = begun f key o ∷ [];
@@ -225,7 +228,7 @@ module _ (whole : Contents → List Item) where
   stops_here rest start now a b known d = items_stop (λ held. []) rest start now a b b known GaveUp d tt (reads_none _ _ _ b)
 
   module _ (file : Contents → List (List ℕ) → Found → List Item) (step : Step) (steps : List Step) (start now next : Progress) (a b c : StoreState) where
-    -- one step more is taken
+    -- one more step is processed
     pub step_done : (known : Option Contents) → IsDoneIn known whole (λ held. asked (file held) now.read (step ∷ steps)) start now a b →
         IfKnown known (λ held. HasTaken (asked_by (file held) now.read step) now next) → ReadsItems (λ held. asked_by (file held) now.read step) known Complete b c →
         IsDoneIn known whole (λ held. asked (file held) next.read steps) start next a c

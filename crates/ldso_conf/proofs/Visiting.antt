@@ -1,4 +1,4 @@
--- The visit of a file, by what keeps it from being begun, or by its steps.
+-- The visit of a file: either a reason not to open it is reported, or its steps are processed.
 use Rattle.std.proofs.Common.{◌≡◌, ◌<◌, ◌-◌, ◌∙◌, ℕ, zero, suc, Bool, true, false, cond, List, [], ◌∷◌, ◌++◌, length, Option, Some, None, Vec, Global, refl, sym, ap, arith, nat_le}
 use Rattle.std.proofs.Math.Nat.{add-zero}
 use Rattle.std.proofs.lemmas.List.{append-nil}
@@ -18,7 +18,7 @@ use Rattle.ldso_conf.specs.declared.kinds.Origin.{Origin}
 use Rattle.ldso_conf.specs.declared.reading.TheConstants.{CONF_MAX}
 use Rattle.ldso_conf.specs.declared.steps.Step.{Step}
 
--- ---- items that no file is begun for
+-- ---- items for which no file is opened
 
 pub take_report : (r new : Progress) (report : ConfReport) → new ≡ with_report r report → HasTaken (Reports report ∷ []) r new
 take_report r new report e = record { held = refl; reader = e ∙ sym same } where
@@ -37,7 +37,7 @@ dir_files r new dir origin e =
     (λ short. ap (λ (p : Progress). p.files) (rw short at e))
     (λ long. ap (λ (p : Progress). p.files) (rw long at e))
 
--- ---- a file that is not to be begun
+-- ---- a file that is not to be opened
 
 module _ (t : Nodes) (left : ℕ) (r : Progress) (f : Found) where
   alone : (report : ConfReport) (held : Contents) → included_by held left r.read f (key_in (node_at t f.1)) ≡ Reports report → included t held left r.read f ≡ Reports report ∷ []
@@ -58,7 +58,7 @@ module _ (t : Nodes) (left : ℕ) (r : Progress) (f : Found) where
   pub begins : (key : List ℕ) → key_in (node_at t f.1) ≡ Some key → was_read r.read f.1 ≡ false → 0 < left → IsToBeginAs t left r f r key
   begins key some unread deep = record { same = refl; deep = deep; there = some; unread = unread }
 
--- ---- a file that is begun
+-- ---- a file that is opened
 
 some_by : (b : Bool) (x y : List ℕ) → Some y ≡ cond b (Some x) None → (b ≡ true) × (y ≡ x)
 some_by true x y e = let same : y ≡ x = cc in (refl, same)
@@ -91,7 +91,7 @@ module _ (t : Nodes) (r : Progress) (f : Found) (key : List ℕ) where
   loads_large (Some held) new steps e k h = rw (e, k) (load_large held h)
 
 module _ (t : Nodes) (left : ℕ) (r : Progress) (f : Found) (new : Progress) (key : List ℕ) (b : IsToBeginAs t left r f new key) (held : Contents) where
-  -- what the file asks for
+  -- the items of the file
   pub by_file : included t held left r.read f ≡ with_steps (included t held (left - 1)) t r.read (begun f key (held key))
   by_file = at left b.deep where
     at : (n : ℕ) → 0 < n → included t held n r.read f ≡ with_steps (included t held (n - 1)) t r.read (begun f key (held key))
@@ -100,7 +100,7 @@ module _ (t : Nodes) (left : ℕ) (r : Progress) (f : Found) (new : Progress) (k
         let e : suc n - 1 ≡ n = omega arith in
         rw (b.there, b.unread) (ap (λ m. with_steps (included t held m) t r.read (begun f key (held key))) (sym e))
 
-  -- it was loaded, and its steps are left
+  -- the file was loaded, and its steps are left
   pub by_steps : (item : Item) (now : Progress) (steps : List Step) → item ≡ begun f key (held key) → HasLoaded t item new now steps →
       included t held left r.read f ≡ (item ∷ []) ++ asked (included t held (left - 1)) now.read steps
   by_steps item now steps e loaded =

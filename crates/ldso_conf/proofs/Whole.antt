@@ -1,4 +1,4 @@
--- The reading of the conf file, by where its path leads.
+-- The reading of the conf file, if its path resolves and if it doesn't.
 use Rattle.std.proofs.Common.{◌≡◌, ◌+◌, ◌∙◌, ℕ, true, List, [], length, Option, Some, None, refl, sym, ap, subst}
 use Rattle.std.proofs.Math.Nat.{zero-add}
 use Rattle.std.specs.List.{flat_map}
@@ -8,7 +8,7 @@ use Rattle.tree_face.specs.Store.{Contents, StoreState}
 use Rattle.tree_face.specs.StoreUse.{Ending, Complete, GaveUp, ReadsFiles}
 use Rattle.image_tree.specs.Tree.{Nodes}
 use Rattle.conf_patterns.specs.Patterns.{found_at, place_at}
-use Rattle.ldso_conf.specs.Reading.{Item, all_from, conf_bytes, conf_items, conf_keys, conf_lacks, dir_in, included, key_begun, origin_in, reading, report_in, IsConfOf, ReadsConf}
+use Rattle.ldso_conf.specs.Reading.{ConfFile, Item, all_from, conf_bytes, conf_items, conf_keys, conf_lacks, dir_in, included, key_begun, origin_in, reading, report_in, IsConfOf, ReadsConf}
 use Rattle.ldso_conf.specs.Visits.{Progress, HasTaken, IsConfFrom, ReadsItems, nothing_read}
 use Rattle.ldso_conf.specs.declared.kinds.Conf.{Conf}
 use Rattle.ldso_conf.specs.declared.reading.TheConstants.{DEPTH_MAX}
@@ -20,8 +20,8 @@ module _ (path : List ℕ) (t : Nodes) where
   abbrev all_items : Contents → List Item
   all_items held = all_from t held (found_at t path)
 
-  -- all that is taken is what the conf files say
-  as_conf : (held : Contents) (conf : Conf) (reader : Progress) → HasTaken (all_items held) nothing_read reader → IsConfFrom conf reader → IsConfOf path conf held t
+  -- if all items were processed, the result is that of the conf files
+  as_conf : (held : Contents) (conf : Conf) (reader : Progress) → HasTaken (all_items held) nothing_read reader → IsConfFrom conf reader → IsConfOf (ConfFile path) conf held t
   unfolding reading conf_items conf_keys conf_lacks
   as_conf held conf reader taken is =
       let whole = until_whole (all_items held) taken.held in
@@ -35,31 +35,31 @@ module _ (path : List ℕ) (t : Nodes) where
       }
 
   as_reads : (e : Ending) (old new : StoreState) (known : Option Contents) → ReadsItems all_items known e old new →
-      ReadsFiles (IsSomeAnd known (λ held. conf_lacks path held t ≡ true)) (option_map (λ held. conf_keys path held t) known) (option_map (λ held. conf_bytes path held t) known) e old new
+      ReadsFiles (IsSomeAnd known (λ held. conf_lacks (ConfFile path) held t ≡ true)) (option_map (λ held. conf_keys (ConfFile path) held t) known) (option_map (λ held. conf_bytes (ConfFile path) held t) known) e old new
   unfolding conf_items conf_keys conf_bytes conf_lacks
   as_reads e old new None reads = reads
   as_reads e old new (Some held) reads = reads
 
-  -- ---- there is no conf file
+  -- ---- the path of the conf file doesn't resolve
 
   no_items : place_at t path ≡ None → (held : Contents) → all_items held ≡ []
   no_items e held = rw e refl
 
   pub no_conf : (known : Option Contents) (conf : Conf) (reader : Progress) → place_at t path ≡ None → reader ≡ nothing_read → IsConfFrom conf reader →
-      IfKnown known (λ held. IsConfOf path conf held t)
+      IfKnown known (λ held. IsConfOf (ConfFile path) conf held t)
   no_conf None conf reader e start is = tt
   no_conf (Some held) conf reader e start is = as_conf held conf reader (rw (no_items e held) record { held = refl; reader = start }) is
 
-  pub no_reads : (s : StoreState) → place_at t path ≡ None → ReadsConf path t Complete s s
+  pub no_reads : (s : StoreState) → place_at t path ≡ None → ReadsConf (ConfFile path) t Complete s s
   no_reads s e = as_reads Complete s s s.held (at s.held) where
     at : (known : Option Contents) → ReadsItems all_items known Complete s s
     at None = unread s
     at (Some held) = rw (no_items e held) (reads_all ⊥ _ _ _ s s (reads_nothing s))
 
-  pub gave_up : (s : StoreState) → ReadsConf path t GaveUp s s
+  pub gave_up : (s : StoreState) → ReadsConf (ConfFile path) t GaveUp s s
   gave_up s = reads_none _ _ _ s
 
-  -- ---- there is one
+  -- ---- the path of the conf file resolves
 
   module _ (start : Progress) (spelled real : List ℕ) (place : place_at t path ≡ Some real) (none : start ≡ nothing_read) (same : spelled ≡ path) where
     abbrev visited : Contents → List Item
@@ -69,11 +69,11 @@ module _ (path : List ℕ) (t : Nodes) where
     from_start held = rw (none, same, place) refl
 
     pub a_conf : (known : Option Contents) (conf : Conf) (reader : Progress) → IfKnown known (λ held. HasTaken (visited held) start reader) → IsConfFrom conf reader →
-        IfKnown known (λ held. IsConfOf path conf held t)
+        IfKnown known (λ held. IsConfOf (ConfFile path) conf held t)
     a_conf None conf reader taken is = tt
     a_conf (Some held) conf reader taken is = as_conf held conf reader (subst (λ s. HasTaken (all_items held) s reader) none (subst (λ items. HasTaken items start reader) (from_start held) taken)) is
 
-    pub a_reads : (e : Ending) (old new : StoreState) → ReadsItems visited old.held e old new → ReadsConf path t e old new
+    pub a_reads : (e : Ending) (old new : StoreState) → ReadsItems visited old.held e old new → ReadsConf (ConfFile path) t e old new
     a_reads e old new reads = as_reads e old new old.held (at old.held reads) where
       at : (known : Option Contents) → ReadsItems visited known e old new → ReadsItems all_items known e old new
       at None reads = reads

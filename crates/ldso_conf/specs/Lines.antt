@@ -21,7 +21,7 @@ abbrev pub begins_in : List ℕ → List ℕ → Bool
 begins_in set [] = false
 begins_in set (b ∷ rest) = is_in set b
 
--- what stands behind a keyword, if a blank follows it
+-- the text after a keyword, if a blank follows the keyword
 abbrev pub if_blank_follows : List ℕ → Option (List ℕ)
 if_blank_follows rest = if begins_in blanks rest then Some rest else None
 
@@ -39,6 +39,6 @@ hwcap = codes "hwcap"
 abbrev pub equals : List ℕ
 equals = codes "="
 
--- what stands before the `=`, without the blanks before it
+-- the text before the `=`, without its trailing blanks
 abbrev pub before_equals : List ℕ → List ℕ
 before_equals text = without_end blanks (before_first (is_in equals) text)

@@ -1,6 +1,6 @@
--- The reading of a conf file such as /etc/ld.so.conf (ldconfig(8)). The files that include one another are a tree, and what their lines ask for is written in
--- preorder: behind an included file stands what its own lines ask for.
-use Rattle.std.specs.Prelude.{◌≡◌, ℕ, zero, suc, ◌+◌, Bool, true, false, List, [], ◌∷◌, ◌++◌, if◌then◌else◌, nat_le, flat_map, sum_by, length, codes, Option, Some, None, IsSomeAnd, option_map}
+-- The reading of a conf file such as /etc/ld.so.conf (ldconfig(8)). The conf files are a tree, since each may include others.
+-- The items are listed in preorder: after an included file come the items of its own lines.
+use Rattle.std.specs.Prelude.{◌≡◌, ℕ, zero, suc, ◌+◌, Bool, true, false, List, [], ◌∷◌, ◌++◌, if◌then◌else◌, nat_le, flat_map, map, sum_by, length, codes, Option, Some, None, IsSomeAnd, option_map}
 use Rattle.std.specs.List.{list_any}
 use Rattle.std.specs.Str.{bytes_eq}
 use Rattle.image_tree.specs.declared.node.Node.{Node}
@@ -20,13 +20,13 @@ use Rattle.ldso_conf.specs.declared.reading.TheConstants.{CONF_MAX, DEPTH_MAX}
 use Rattle.ldso_conf.specs.declared.steps.Step.{Step}
 use Rattle.ldso_conf.specs.declared.steps.Step.TheVariants as step
 
--- what a line asks for, or what becomes of a file that it includes
+-- one item of the result: a directory, a report, or an included file and what happens to it
 pub data Item : Type 0 where
-  -- a directory, and where it is named
+  -- a directory, and the file and line that name it
   Names : List ℕ → Origin → Item
   -- a directory or a file that can't be used
   Reports : ConfReport → Item
-  -- a file that is begun under its key: it is read, is too large, or isn't held
+  -- a file that is opened by its key: it is read, it is too large, or it is missing from the store
   Reads : Found → List ℕ → List ℕ → Item
   Passes : Found → List ℕ → Item
   Misses : Found → List ℕ → Item
@@ -57,7 +57,7 @@ report_in (Reads f key content) = []
 report_in (Passes f key) = reported f.0 TooLarge ∷ []
 report_in (Misses f key) = []
 
--- where a file leads that is read
+-- the resolved path of a file that is read
 abbrev pub place_in : Item → List (List ℕ)
 place_in (Names dir origin) = []
 place_in (Reports report) = []
@@ -65,7 +65,7 @@ place_in (Reads f key content) = f.1 ∷ []
 place_in (Passes f key) = []
 place_in (Misses f key) = []
 
--- the key of a file that is begun
+-- the key of a file that is opened
 abbrev pub key_begun : Item → List (List ℕ)
 key_begun (Names dir origin) = []
 key_begun (Reports report) = []
@@ -73,7 +73,7 @@ key_begun (Reads f key content) = key ∷ []
 key_begun (Passes f key) = key ∷ []
 key_begun (Misses f key) = key ∷ []
 
--- how many bytes are taken of it
+-- the number of bytes read from it
 abbrev pub bytes_taken : Item → ℕ
 bytes_taken (Names dir origin) = 0
 bytes_taken (Reports report) = 0
@@ -94,14 +94,21 @@ is_missing (Misses f key) = true
 abbrev pub named : List ℕ → Origin → Item
 named dir origin = if nat_le (length dir) PATH_MAX then Names dir origin else Reports (reported dir LongPath)
 
--- the key of the file to which a path leads; it leads to a directory if there is none
+-- where a directory of the command line is named (ldconfig(8): -n): in no file
+abbrev pub command_line : Origin
+command_line = record { file = codes "<cmdline>"; line = 0 }
+
+abbrev pub given : List ℕ → Item
+given dir = named dir command_line
+
+-- the key of the file that a path resolves to; None if the path resolves to a directory
 abbrev pub key_in : Option Node → Option (List ℕ)
 key_in (Some (node.File key id)) = Some key
 key_in (Some node.Dir) = None
 key_in (Some (node.Link target)) = None
 key_in None = None
 
--- a file that is begun, by what is held under its key
+-- a file that is opened, given the content that the store has for its key
 abbrev pub begun : Found → List ℕ → Option (List ℕ) → Item
 begun f key None = Misses f key
 begun f key (Some content) = if nat_le (length content) CONF_MAX then Reads f key content else Passes f key
@@ -109,12 +116,12 @@ begun f key (Some content) = if nat_le (length content) CONF_MAX then Reads f ke
 abbrev pub was_read : List (List ℕ) → List ℕ → Bool
 was_read before place = list_any (bytes_eq place) before
 
--- a file stands too deep if none more may stand in a line
+-- a file is too deep if no level of nesting is left for it
 abbrev pub unless_deep : ℕ → Found → Item → Item
 unless_deep zero f item = Reports (reported f.0 TooDeep)
 unless_deep (suc left) f item = item
 
--- an included file, given how many more may stand in a line, and where those lead that stand before it and are read
+-- an included file, given how many levels of nesting are left, and the resolved paths of the files that were read before it
 abbrev pub included_by : Contents → ℕ → List (List ℕ) → Found → Option (List ℕ) → Item
 included_by held left before f None = Reports (reported f.0 NotFile)
 included_by held left before f (Some key) =
@@ -133,13 +140,13 @@ steps_in t (Reads f key content) = steps_of t f.0 content
 steps_in t (Passes f key) = []
 steps_in t (Misses f key) = []
 
--- what one step asks for, if files ask for so much
+-- the items of one step; `file` gives the items of an included file
 abbrev pub asked_by : (List (List ℕ) → Found → List Item) → List (List ℕ) → Step → List Item
 asked_by file before (step.Directory dir origin) = named dir origin ∷ []
 asked_by file before (step.Report report) = Reports report ∷ []
 asked_by file before (step.Include f) = file before (f.spelled, f.real)
 
--- what steps ask for in turn: the files that one of them reads stand before the next one
+-- the items of the steps in order; the files that one step reads count as read before the next step
 abbrev pub asked : (List (List ℕ) → Found → List Item) → List (List ℕ) → List Step → List Item
 asked file before [] = []
 asked file before (step ∷ steps) = asked_by file before step ++ asked file (before ++ flat_map place_in (asked_by file before step)) steps
@@ -147,7 +154,7 @@ asked file before (step ∷ steps) = asked_by file before step ++ asked file (be
 abbrev pub with_steps : (List (List ℕ) → Found → List Item) → Nodes → List (List ℕ) → Item → List Item
 with_steps file t before item = item ∷ asked file (before ++ place_in item) (steps_in t item)
 
--- an included file, and behind it what its lines ask for
+-- an included file, followed by the items of its lines
 abbrev pub included : Nodes → Contents → ℕ → List (List ℕ) → Found → List Item
 included t held zero before f = included_at t held zero before f ∷ []
 included t held (suc left) before f = with_steps (included t held left) t before (included_at t held (suc left) before f)
@@ -156,23 +163,32 @@ included t held (suc left) before f = with_steps (included t held left) t before
 abbrev pub conf_path : List ℕ
 conf_path = codes "/etc/ld.so.conf"
 
--- the first conf file has the depth 0; there are no items if it isn't there
+-- the first conf file has depth 0; if it doesn't exist, the list of items is empty
 abbrev pub all_from : Nodes → Contents → Option Found → List Item
 all_from t held None = []
 all_from t held (Some f) = included t held (DEPTH_MAX + 1) [] f
 
--- up to and with the first file that isn't held
+-- the items up to and including the first file that is missing
 abbrev pub until_missing : List Item → List Item
 until_missing [] = []
 until_missing (item ∷ items) = item ∷ (if is_missing item then [] else until_missing items)
 
 -- ---- the reading
 
--- What the conf files ask for, in preorder, from the first one's path on. The reading stops at the first file that isn't held.
-unfoldable pub conf_items : List ℕ → Contents → Nodes → List Item
-conf_items path held t = until_missing (all_from t held (found_at t path))
+-- where the search directories are named
+pub data Source : Type 0 where
+  -- in the conf file at this path, and in the files that it includes
+  ConfFile : List ℕ → Source
+  -- on the command line
+  Given : List (List ℕ) → Source
 
--- what the conf files say
+-- The items of the conf files, in preorder, starting with the file at a path. The reading stops at the first file that is missing. If
+-- directories are given instead, each is one item, and no file is read.
+unfoldable pub conf_items : Source → Contents → Nodes → List Item
+conf_items (ConfFile path) held t = until_missing (all_from t held (found_at t path))
+conf_items (Given dirs) held t = map given dirs
+
+-- the result of reading the conf files
 pub record Reading : Type 0 where
   pub dirs : List (List ℕ)
   pub origins : List Origin
@@ -181,31 +197,31 @@ pub record Reading : Type 0 where
 abbrev pub reading_of : List Item → Reading
 reading_of items = record { dirs = flat_map dir_in items; origins = flat_map origin_in items; reports = flat_map report_in items }
 
-unfoldable pub reading : List ℕ → Nodes → Contents → Reading
-reading path t held = reading_of (conf_items path held t)
+unfoldable pub reading : Source → Nodes → Contents → Reading
+reading source t held = reading_of (conf_items source held t)
 
--- the keys of the conf files that have to be begun, in their order
-unfoldable pub conf_keys : List ℕ → Contents → Nodes → List (List ℕ)
-conf_keys path held t = flat_map key_begun (conf_items path held t)
+-- the keys of the conf files that have to be opened, in order
+unfoldable pub conf_keys : Source → Contents → Nodes → List (List ℕ)
+conf_keys source held t = flat_map key_begun (conf_items source held t)
 
--- the most bytes that are taken of them
-unfoldable pub conf_bytes : List ℕ → Contents → Nodes → ℕ
-conf_bytes path held t = sum_by bytes_taken (conf_items path held t)
+-- the largest number of bytes that may be read from them
+unfoldable pub conf_bytes : Source → Contents → Nodes → ℕ
+conf_bytes source held t = sum_by bytes_taken (conf_items source held t)
 
--- one of them isn't held
-unfoldable pub conf_lacks : List ℕ → Contents → Nodes → Bool
-conf_lacks path held t = list_any is_missing (conf_items path held t)
+-- one of them is missing from the store
+unfoldable pub conf_lacks : Source → Contents → Nodes → Bool
+conf_lacks source held t = list_any is_missing (conf_items source held t)
 
--- what is found is what the reading gives, with a file counted for each key, and all are held
-pub record IsConfOf (path : List ℕ) (conf : Conf) (held : Contents) (t : Nodes) : Type 0 where
-  pub dirs : conf.dirs ≡ (reading path t held).dirs
-  pub origins : conf.origins ≡ (reading path t held).origins
-  pub reports : conf.reports ≡ (reading path t held).reports
-  pub files : conf.files ≡ length (conf_keys path held t)
-  pub all_held : conf_lacks path held t ≡ false
+-- `conf` is the result of the reading, `files` counts the opened files, and none of them is missing
+pub record IsConfOf (source : Source) (conf : Conf) (held : Contents) (t : Nodes) : Type 0 where
+  pub dirs : conf.dirs ≡ (reading source t held).dirs
+  pub origins : conf.origins ≡ (reading source t held).origins
+  pub reports : conf.reports ≡ (reading source t held).reports
+  pub files : conf.files ≡ length (conf_keys source held t)
+  pub all_held : conf_lacks source held t ≡ false
 
--- the conf files are read from a store, as far as the ending says
-abbrev pub ReadsConf : List ℕ → Nodes → Ending → StoreState → StoreState → Type 0
-ReadsConf path t ending old new =
-    ReadsFiles (IsSomeAnd old.held (λ held. conf_lacks path held t ≡ true)) (option_map (λ held. conf_keys path held t) old.held)
-    (option_map (λ held. conf_bytes path held t) old.held) ending old new
+-- the conf files are read from a store, all of them or up to where the call stopped, as the ending says
+abbrev pub ReadsConf : Source → Nodes → Ending → StoreState → StoreState → Type 0
+ReadsConf source t ending old new =
+    ReadsFiles (IsSomeAnd old.held (λ held. conf_lacks source held t ≡ true)) (option_map (λ held. conf_keys source held t) old.held)
+    (option_map (λ held. conf_bytes source held t) old.held) ending old new

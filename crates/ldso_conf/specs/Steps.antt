@@ -18,7 +18,7 @@ reported place kind = Report (record { place = place; kind = kind })
 
 -- ---- a directory
 
--- the root is its slash
+-- a text that has only slashes is the root
 abbrev pub or_root : List ℕ → List ℕ
 or_root text = if length text == 0 then root else text
 
@@ -29,7 +29,7 @@ without_slashes text = or_root (without_end slashes text)
 abbrev pub origin_at : List ℕ → ℕ → Origin
 origin_at file line = record { file = file; line = line }
 
--- nothing, a relative text, or a directory
+-- no step for an empty text, a report for a relative path, or a directory
 abbrev pub named : Origin → List ℕ → List Step
 named origin text =
     if length text == 0 then [] else
@@ -47,7 +47,7 @@ included f = Include (record { spelled = f.0; real = f.1 })
 abbrev pub include_steps : Nodes → List ℕ → List ℕ → List Step
 include_steps t file patterns = flat_map (λ pattern. map included (results t file pattern)) (words_of patterns)
 
--- by the arguments of `include`, and those of `hwcap`
+-- the steps of a line, given the arguments of `include` and those of `hwcap`, if it has them
 abbrev pub steps_by : Nodes → Origin → List ℕ → Option (List ℕ) → Option (List ℕ) → List Step
 steps_by t origin text (Some patterns) words = include_steps t origin.file patterns
 steps_by t origin text None (Some words) = reported origin.file Hwcap ∷ []
@@ -56,7 +56,7 @@ steps_by t origin text None None = directory_steps origin text
 abbrev pub text_steps : Nodes → Origin → List ℕ → List Step
 text_steps t origin text = steps_by t origin text (arguments_of include text) (arguments_of hwcap text)
 
--- lines with their numbers, from this one on
+-- lines with their numbers, starting at `n`
 abbrev pub numbered : ℕ → List (List ℕ) → List (ℕ × List ℕ)
 numbered n [] = []
 numbered n (line ∷ lines) = (n, line) ∷ numbered (n + 1) lines

@@ -1,4 +1,4 @@
--- How the code visits a file: it begins the file, and then takes its steps.
+-- How the code visits a file: it opens the file, and then processes its steps.
 use Rattle.std.specs.Prelude.{◌≡◌, ◌<◌, ◌+◌, ℕ, true, false, List, [], ◌∷◌, ◌++◌, flat_map, sum_by, if◌then◌else◌, length, nat_le, Option, Some, None, IsSomeAnd, option_map, Vec}
 use Rattle.std.specs.List.{list_any}
 use Rattle.std.specs.declared.alloc.Global.{Global}
@@ -20,9 +20,9 @@ pub record Progress : Type 0 where
   pub dirs : List (List ℕ)
   pub origins : List Origin
   pub reports : List ConfReport
-  -- where the files lead that were read
+  -- the resolved paths of the files that were read
   pub read : List (List ℕ)
-  -- how many files were begun
+  -- how many files were opened
   pub files : ℕ
 
 abbrev pub nothing_read : Progress
@@ -57,13 +57,13 @@ pub record IsConfFrom (conf : Conf) (r : Progress) : Type 0 where
 
 -- ---- one file
 
--- what is held was read, unless it is too large
+-- the store has this content, and it was read unless it is too large
 pub record HasContent (held : Option (List ℕ)) (content : Option (Vec ℕ Global)) : Type 0 where
   pub bytes : List ℕ
   pub there : held ≡ Some bytes
   pub read : option_map (λ v. v.items) content ≡ (if nat_le (length bytes) CONF_MAX then Some bytes else None)
 
--- how many bytes are taken of what is held
+-- the number of bytes that are read of the content in the store
 abbrev pub size_read : Option (List ℕ) → ℕ
 size_read None = 0
 size_read (Some content) = if nat_le (length content) CONF_MAX then length content else 0
@@ -71,7 +71,7 @@ size_read (Some content) = if nat_le (length content) CONF_MAX then length conte
 abbrev pub ReadsFile : List ℕ → Option Contents → Ending → StoreState → StoreState → Type 0
 ReadsFile key known ending old new = ReadsFiles (Lacks known key) (Some (key ∷ [])) (option_map (λ held. size_read (held key)) known) ending old new
 
--- a file that is to be begun, or one that is reported
+-- a file that is to be opened, or a file that is reported instead
 pub record IsToBeginAs (t : Nodes) (left : ℕ) (r : Progress) (f : Found) (new : Progress) (key : List ℕ) : Type 0 where
   pub same : new ≡ r
   pub deep : 0 < left
@@ -87,7 +87,7 @@ abbrev pub IsToBegin : Nodes → ℕ → Progress → Found → Progress → Opt
 IsToBegin t left r f new None = HasEnded t left r f new
 IsToBegin t left r f new (Some key) = IsToBeginAs t left r f new key
 
--- a file was loaded: these steps are left of it
+-- a file was loaded, and these are its steps
 pub record HasLoaded (t : Nodes) (item : Item) (r new : Progress) (steps : List Step) : Type 0 where
   pub held : is_missing item ≡ false
   pub reader : new ≡ with_items r (item ∷ [])
@@ -95,7 +95,7 @@ pub record HasLoaded (t : Nodes) (item : Item) (r new : Progress) (steps : List 
 
 -- ---- the items of a visit
 
--- they were all taken
+-- all items were processed, and none of their files is missing
 pub record HasTaken (items : List Item) (r new : Progress) : Type 0 where
   pub held : list_any is_missing items ≡ false
   pub reader : new ≡ with_items r items
@@ -114,7 +114,7 @@ abbrev pub ReadsItems : (Contents → List Item) → Option Contents → Ending 
 ReadsItems items known ending old new =
     ReadsFiles (IsSomeAnd known (λ held. lacks_in (items held))) (option_map (λ held. keys_in (items held)) known) (option_map (λ held. bytes_in (items held)) known) ending old new
 
--- so many of the items were taken, and the rest is left
+-- some of the items were processed, and `rest` is left
 pub record IsDone (whole rest : List Item) (start now : Progress) (old new : StoreState) : Type 0 where
   pub done : List Item
   pub parts : whole ≡ done ++ rest

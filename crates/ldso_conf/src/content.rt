@@ -10,7 +10,7 @@ use crate::reading::CONF_MAX;
 use std::alloc::Global;
 use tree_face::Store;
 
-/// The content of a key, or None if it is too large.
+/// The content of the file with this key, or None if the file is too large.
 #[tactic(auto, using(crate::proofs::Files::not_begun, crate::proofs::Files::too_large, crate::proofs::Files::no_room, crate::proofs::Files::not_read, crate::proofs::Files::was_read))]
 pub(crate) fn content_of<S: Store>(
     alloc: Global,

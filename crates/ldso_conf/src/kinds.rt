@@ -1,4 +1,4 @@
-//! What the conf file gives.
+//! The result of reading the conf file.
 use lib_types::{Seq, Text, Texts};
 
 /// What can't be used of a conf file.
@@ -8,21 +8,21 @@ pub enum ConfKind {
     NotFile,
     /// A file was read before.
     Repeated,
-    /// A file is included by more files in a line than may be.
+    /// Included files are nested too deeply.
     TooDeep,
-    /// A file has more bytes than a conf file may have.
+    /// A file is larger than a conf file may be.
     TooLarge,
     /// A directory doesn't begin with a slash.
     Relative,
-    /// A directory's line goes on with `=`; what stands before it counts.
+    /// A directory's line has a `=`. The text before the `=` is used.
     Equals,
-    /// A line is one of `hwcap`, which is no longer used.
+    /// A line has the keyword `hwcap`, which is no longer used.
     Hwcap,
-    /// A directory has more bytes than a path may have.
+    /// A directory's path is too long.
     LongPath,
 }
 
-/// One thing that can't be used: the path of a file as it is spelled, or the text of a directory.
+/// One thing that can't be used: the path of a file as written, or the text of a directory.
 #[derive(Drop)]
 pub struct ConfReport {
     pub place: Text,
@@ -32,7 +32,8 @@ pub struct ConfReport {
 /// A list of reports.
 pub type ConfReports = Seq<ConfReport>;
 
-/// Where a directory is named: a conf file, by its path as it is spelled, and the number of a line of it, from 1.
+/// Where a directory is named: the path of the conf file as written, and the line number, starting at 1. A directory of the command line
+/// is named in the file `<cmdline>`, line 0.
 #[derive(Drop)]
 pub struct Origin {
     pub file: Text,
@@ -46,9 +47,9 @@ pub type Origins = Seq<Origin>;
 #[derive(Drop)]
 pub struct Conf {
     pub dirs: Texts,
-    /// Where each of them is named.
+    /// The file and line that name each directory.
     pub origins: Origins,
     pub reports: ConfReports,
-    /// How many conf files were begun, those that are too large too.
+    /// How many conf files were opened, including those that are too large.
     pub files: u32,
 }

@@ -3,6 +3,7 @@
 
 mod content;
 mod fault;
+mod given;
 mod kinds;
 mod lines;
 mod reader;
@@ -11,5 +12,6 @@ mod steps;
 
 pub use conf_patterns::glob_match;
 pub use fault::ConfFault;
+pub use given::given_dirs;
 pub use kinds::{Conf, ConfKind, ConfReport, ConfReports, Origin, Origins};
 pub use reading::{CONF_MAX, CONF_PATH, DEPTH_MAX, read_conf};

@@ -19,7 +19,7 @@ fn begins_in(set: &[u8], bytes: &[u8]) -> bool
     !bytes.is_empty() && is_in(set, bytes[0])
 }
 
-/// What stands behind a keyword, if a blank follows it.
+/// The text after a keyword, if a blank follows the keyword.
 pub(crate) fn arguments_of<'a>(keyword: &[u8], text: &'a [u8]) -> Option<&'a [u8]>
     ensures { option_copied result ≡ arguments_of keyword.now text.now }
 {
@@ -34,7 +34,7 @@ pub(crate) fn arguments_of<'a>(keyword: &[u8], text: &'a [u8]) -> Option<&'a [u8
     }
 }
 
-/// What stands before the `=`, without the blanks before it.
+/// The text before the `=`, without its trailing blanks.
 pub(crate) fn before_equals(text: &[u8]) -> &[u8]
     ensures { result.now ≡ before_equals text.now }
 {

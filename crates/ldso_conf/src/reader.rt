@@ -10,7 +10,7 @@ use std::marker::Model;
 use string_pool::TextSet;
 use tree_face::PATH_MAX;
 
-/// What has been read so far. Every directory has at most 4095 bytes, whatever a store holds.
+/// What has been read so far. Every directory has at most 4095 bytes, whatever the store contains.
 #[derive(Drop)]
 pub(crate) struct Reader {
     dirs: Texts,
@@ -53,7 +53,7 @@ impl Reader {
         self.reports.push(report)
     }
 
-    /// Reports this place.
+    /// Adds a report about this path.
     pub(crate) fn report(&mut self, place: Text, kind: ConfKind) -> Result<(), NoMemory>
         ensures { OnOk result (self.new ≡ with_report self.old (reported place kind)) }
     {
@@ -71,14 +71,14 @@ impl Reader {
         self.origins.push(origin)
     }
 
-    /// Whether the file at this place was read.
+    /// Whether the file at this resolved path was read.
     pub(crate) fn was_read(&self, place: &[u8]) -> bool
         ensures { result ≡ was_read self.now.read place.now }
     {
         self.read.contains(place)
     }
 
-    /// Counts a file that is begun.
+    /// Counts a file that is opened.
     pub(crate) fn count_file(&mut self) -> Result<(), NoMemory>
         ensures { OnOk result (self.new ≡ with_begun self.old) }
     {
@@ -89,7 +89,7 @@ impl Reader {
         Ok(())
     }
 
-    /// Adds the place of a file that is read.
+    /// Adds the resolved path of a file that is read.
     pub(crate) fn add_read(&mut self, place: Text) -> Result<(), NoMemory>
         requires { was_read self.old.read place ≡ false }
         ensures { OnOk result (self.new ≡ with_read self.old place) }
@@ -97,7 +97,7 @@ impl Reader {
         self.read.insert(place)
     }
 
-    /// What was found.
+    /// The result of the reading.
     pub(crate) fn into_conf(self) -> Conf
         ensures conf { IsConfFrom result self }
         ensures short { All (λ dir. length dir ≤ PATH_MAX) result.dirs }

@@ -5,7 +5,7 @@ ghost use Rattle.lib_types.specs.Counts.{raised};
 ghost use Rattle.tree_face.specs.Known.{IfKnown};
 ghost use Rattle.image_tree.specs.Tree.{node_at};
 ghost use Rattle.ldso_conf.specs.Endings.{ending_of};
-ghost use Rattle.ldso_conf.specs.Reading.{begun, included, key_in, reported, was_read, IsConfOf, ReadsConf};
+ghost use Rattle.ldso_conf.specs.Reading.{begun, included, key_in, reported, was_read, ConfFile as ConfFileAt, IsConfOf, ReadsConf};
 ghost use Rattle.ldso_conf.specs.Visits.{with_report, HasLoaded, HasTaken, IsToBegin, ReadsFile, ReadsItems};
 
 use crate::content::content_of;
@@ -18,16 +18,16 @@ use lib_types::{NoMemory, Text};
 use std::alloc::Global;
 use tree_face::{Node, PATH_MAX, Store, Tree};
 
-/// The most bytes of a conf file: far more than a real one has, and little enough to be read whole.
+/// The largest size of a conf file in bytes: far larger than real conf files, and small enough to read the file at once.
 pub const CONF_MAX: u64 = 1 << 20;
 
 /// The path of the conf file, unless another is given.
 pub const CONF_PATH: &[u8] = b"/etc/ld.so.conf";
 
-/// The greatest depth of an included file, the conf file itself having the depth 0.
+/// The greatest depth of an included file. The conf file itself has depth 0.
 pub const DEPTH_MAX: u8 = 16;
 
-// The key of the file at a place, if there is one.
+// The key of the file at a path, if there is one.
 fn key_at<'t>(tree: &'t Tree, place: &[u8]) -> Option<&'t [u8]>
     ensures { option_copied result ≡ key_in (node_at tree.now place.now) }
 {
@@ -37,14 +37,14 @@ fn key_at<'t>(tree: &'t Tree, place: &[u8]) -> Option<&'t [u8]>
     }
 }
 
-// Reports a place.
+// Adds a report about a path.
 fn report(alloc: Global, reader: &mut Reader, place: &Text, kind: ConfKind) -> Result<(), NoMemory>
     ensures { OnOk result (reader.new ≡ with_report reader.old (reported place.now kind)) }
 {
     reader.report(Text::copy_of(alloc, place.as_bytes())?, kind)
 }
 
-// The key of a file that is to be begun, or a report why it isn't.
+// The key of a file that is to be opened. If the file is not to be opened, reports why.
 #[tactic(auto, using(crate::proofs::Visiting::not_file, crate::proofs::Visiting::repeated, crate::proofs::Visiting::too_deep, crate::proofs::Visiting::begins))]
 fn key_to_begin<'t>(
     alloc: Global,
@@ -70,7 +70,7 @@ fn key_to_begin<'t>(
     Ok(Some(key))
 }
 
-// Begins a file and reads it, or reports that it is too large; returns the steps of its lines.
+// Opens a file and reads it, or reports that it is too large. Returns the steps of its lines.
 #[tactic(auto, using(crate::proofs::Files::gave_up))]
 fn load<S: Store>(
     alloc: Global,
@@ -96,7 +96,7 @@ fn load<S: Store>(
     Ok(steps_of(alloc, tree, file.spelled.as_bytes(), &content)?)
 }
 
-// Visits a file: reads it and takes the steps of its lines, with at most so many files in a line from here on.
+// Visits a file: reads it and processes the steps of its lines. Files may be nested at most `left` levels deep, counting this file.
 #[tactic(auto, using(crate::proofs::Uses::reads_none))]
 fn visit<S: Store>(
     alloc: Global,
@@ -126,9 +126,9 @@ fn visit<S: Store>(
     Ok(())
 }
 
-/// Reads the conf file at this path with all that it includes.
+/// Reads the conf file at this path and all files that it includes.
 ///
-/// Takes memory for the content of the files that are open, at most 17 of them, and for what their lines ask for.
+/// Uses memory for the steps of the files that are being visited, at most 17 of them, and for the result.
 #[tactic(auto, using(crate::proofs::Whole::no_conf, crate::proofs::Whole::no_reads, crate::proofs::Whole::gave_up))]
 pub fn read_conf<S: Store>(
     alloc: Global,
@@ -136,10 +136,10 @@ pub fn read_conf<S: Store>(
     tree: &Tree,
     store: &mut S,
 ) -> Result<Conf, ConfFault>
-    ensures conf { IfOk result (λ conf. IfKnown (S.state store.old).held (λ held. IsConfOf path.now conf held tree.now)) }
+    ensures conf { IfOk result (λ conf. IfKnown (S.state store.old).held (λ held. IsConfOf (ConfFileAt path.now) conf held tree.now)) }
     ensures short { IfOk result (λ conf. All (λ dir. length dir ≤ PATH_MAX) conf.dirs) }
     ensures begun { IfOk result (λ conf. (S.state store.new).begun ≡ raised (S.state store.old).begun conf.files) }
-    ensures reads { ReadsConf path.now tree.now (ending_of result) (S.state store.old) (S.state store.new) }
+    ensures reads { ReadsConf (ConfFileAt path.now) tree.now (ending_of result) (S.state store.old) (S.state store.new) }
 {
     let mut reader = Reader::new(alloc);
     let Some(real) = place_of(alloc, tree, path)? else {

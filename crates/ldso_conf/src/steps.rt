@@ -11,7 +11,7 @@ use path_walk::is_absolute;
 use std::alloc::Global;
 use tree_face::Tree;
 
-/// A conf file: its path as it is spelled, and the place to which that leads.
+/// A conf file: its path as written, and the path that it resolves to.
 #[derive(Drop)]
 pub(crate) struct ConfFile {
     pub(crate) spelled: Text,
@@ -46,14 +46,14 @@ fn without_slashes(text: &[u8]) -> &[u8]
     if kept.is_empty() { b"/" } else { kept }
 }
 
-fn origin_of(alloc: Global, file: &[u8], line: u32) -> Result<Origin, NoMemory>
+pub(crate) fn origin_of(alloc: Global, file: &[u8], line: u32) -> Result<Origin, NoMemory>
     ensures { IfOk result (λ origin. origin ≡ origin_at file.now line) }
 {
     let file = Text::copy_of(alloc, file)?;
     Ok(Origin { file, line })
 }
 
-// Adds a directory's text, or its report, or nothing if it is empty.
+// Adds the step for a directory, or a report if its path is relative. Adds nothing if the text is empty.
 fn add_named(
     alloc: Global,
     file: &[u8],

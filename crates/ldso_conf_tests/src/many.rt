@@ -1,11 +1,11 @@
-//! Large conf files and folders take time in proportion to their size.
+//! Large conf files and directories take time in proportion to their size.
 use ldso_conf::{CONF_PATH, Conf, read_conf};
 use lib_types::{NoMemory, Text};
 use mtree_manifest::read;
 use std::alloc::Global;
 use tree_face::{SureStore, Tree};
 
-// The conf file alone, and so many more in one folder, all of one content.
+// The conf file, and `files` more in one directory, all with the same content.
 fn manifest(alloc: Global, files: u32) -> Result<String, NoMemory> {
     let mut manifest = String::from_str(alloc, "./etc/ld.so.conf contents=conf\n")?;
     for n in 0..files {
@@ -15,7 +15,7 @@ fn manifest(alloc: Global, files: u32) -> Result<String, NoMemory> {
     Ok(manifest)
 }
 
-// So many lines, each with another directory.
+// `count` lines, each with a different directory.
 fn lines(alloc: Global, count: u32) -> Result<String, NoMemory> {
     let mut content = String::new(alloc);
     for n in 0..count {
@@ -25,7 +25,7 @@ fn lines(alloc: Global, count: u32) -> Result<String, NoMemory> {
     Ok(content)
 }
 
-// What is held: the content of the conf files in the folder comes first.
+// The files of the store: the content of the conf files in the directory comes first.
 fn store_of(alloc: Global, conf: &str) -> Result<SureStore, NoMemory> {
     let mut held = Vec::new(alloc);
     for (key, content) in [("one", "/opt/one\n"), ("conf", conf)] {
@@ -49,7 +49,7 @@ fn are_read(alloc: Global, tree: &Tree, conf: &str, files: u32, dirs: usize) -> 
     }
 }
 
-// Whether so many conf files are read, and have so many directories, if there are so many beside the first, of this content.
+// Whether `files` conf files and `dirs` directories are found, if the conf file has this content and the directory has `beside` files.
 fn is_so(alloc: Global, beside: u32, conf: &str, files: u32, dirs: usize) -> bool {
     let Ok(manifest) = manifest(alloc, beside) else {
         return false;
@@ -60,8 +60,8 @@ fn is_so(alloc: Global, beside: u32, conf: &str, files: u32, dirs: usize) -> boo
     }
 }
 
-/// Whether a conf file of nearly the largest size whose lines name different directories is read, and conf files in one folder, all
-/// with one content.
+/// Whether large inputs are read: a conf file of nearly the largest size whose lines name different directories, and many conf files in
+/// one directory, all with the same content.
 pub(crate) fn try_many(alloc: Global) -> bool {
     let Ok(lines) = lines(alloc, 40_000) else {
         return false;

@@ -1,4 +1,4 @@
-//! What is read of conf files.
+//! Reading conf files.
 use elf_samples::SampleFault;
 use image_rows::{FILES, MANIFEST, STORE_FAILS, is_made, store_of, tree_of};
 use ldso_conf::{CONF_PATH, Conf, ConfFault, ConfKind, ConfReports, read_conf};
@@ -7,8 +7,8 @@ use std::alloc::Global;
 use table_rows::{Row, Said, Trial, Words, count, has_line, lines_in, value};
 use tree_face::{MemStore, Tree};
 
-/// A row has a manifest and the store's files, the directories, the reports and the number of conf files that are read, or the fault, and
-/// the keys of the files that are opened, if they are compared.
+/// A row has a manifest and the store's files. It has the directories, the reports and the number of conf files that are read, or the
+/// fault. It may have the keys of the files that are opened, which are then compared.
 pub(crate) struct Readings;
 
 fn word_of(kind: ConfKind) -> &'static [u8] {
@@ -68,7 +68,7 @@ fn is_answer(
     }
 }
 
-// Whether the keys of the opened files are the row's, if it has some.
+// Whether the keys of the opened files are the row's, if it has any.
 fn are_opened(
     alloc: Global,
     row: Row<'_>,

@@ -5,7 +5,7 @@ use Rattle.lib_types.specs.Abi.{abi_of_elf, abi_of_flags, class_of, flags_of, ma
 use Rattle.lib_types.specs.declared.abi.Abi.{Abi}
 use Rattle.lib_types.specs.declared.abi.Abi.TheVariants.{I386, X86_64, X32, Aarch64}
 
--- its flags fit a field of a cache, and are not negative there
+-- the flags fit the four-byte field of a cache entry, and are not negative there
 pub flags_small : (a : Abi) → flags_of a < 2 ^ 32
 flags_small I386 = omega arith
 flags_small X86_64 = omega arith
@@ -24,7 +24,7 @@ flags_back X86_64 = refl
 flags_back X32 = refl
 flags_back Aarch64 = refl
 
--- an ELF file with its values has this ABI
+-- an ELF file with the values of a row has the ABI of the row
 pub machine_small : (a : Abi) → machine_of a < 256 ^ 2
 machine_small I386 = omega arith
 machine_small X86_64 = omega arith

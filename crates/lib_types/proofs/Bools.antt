@@ -10,6 +10,6 @@ pub and_false : (a : Bool) → (a && false) ≡ false
 and_false true = refl
 and_false false = refl
 
--- each of two pairs turned, and the pairs turned
+-- both operands of `||` swapped, and those of each `&&`
 pub turned : (a b c d : Bool) → ((a && b) || (c && d)) ≡ ((d && c) || (b && a))
 turned a b c d = or_comm (a && b) (c && d) ∙ ap (λ x. x || (a && b)) (and_comm c d) ∙ ap (λ x. (d && c) || x) (and_comm a b)

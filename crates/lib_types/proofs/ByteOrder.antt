@@ -1,4 +1,5 @@
--- The order of lists by the ranks of their bytes: the first bytes that differ decide, and behind equal ones the lengths.
+-- The order of lists by the ranks of their bytes. The first bytes that differ decide. If all bytes of the shorter list agree, the
+-- lengths decide.
 use Rattle.std.proofs.Common.{◌≡◌, ℕ, suc, zero, ◌<◌, ◌≤◌, List, [], ◌∷◌, length, take, get_or, map, map-id, arith, Ordering, refl, sym, ap, subst, ◌∙◌}
 use Rattle.std.proofs.lemmas.Cmp.{ranked}
 use Rattle.std.specs.declared.cmp.Ordering.TheVariants.{Less, Equal, Greater}
@@ -50,7 +51,7 @@ module _ (rank : ℕ → ℕ) (apart : (x y : ℕ) → nat_cmp (rank x) (rank y)
           subst (λ r. MatchOrdering (ordering_then r (ranked_cmp a b)) (length (x ∷ a) < length (y ∷ b)) (length (x ∷ a) ≡ length (y ∷ b)) (length (y ∷ b) < length (x ∷ a))) tied
           (longer_by_one _ _ _ (by_length a b n (omega arith) (omega arith) rest (λ p q. e (omega arith) (omega arith))))
 
--- ---- bytes by themselves
+-- ---- the rank of a byte is the byte itself
 
 own_rank : (x y : ℕ) → nat_cmp x y ≡ Equal → x ≡ y
 own_rank x y e = subst (λ r. MatchOrdering r (x < y) (x ≡ y) (y < x)) e (ranked x y _ refl)

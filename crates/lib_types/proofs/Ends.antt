@@ -1,4 +1,4 @@
--- Bytes at the front and at the end that pass a test, and what stands before the first one that does.
+-- The bytes that pass a test at the front and at the end of a list, and the bytes before the first one that passes.
 use Rattle.std.proofs.Common.{◌≡◌, ◌<◌, ◌≤◌, ◌+◌, ℕ, Bool, true, false, cond, ltb, List, ◌∷◌, length, take, drop, get_or, reverse, Some, None, refl, ap, sym, arith, add-one, drop-cons}
 use Rattle.std.proofs.lemmas.List.{take_more, take_all, drop_all, reverse-append}
 use Rattle.std.proofs.lemmas.Bool.{ltb-false}
@@ -30,7 +30,7 @@ module _ (p : ℕ → Bool) where
   pub front_ends : (xs : List ℕ) (n : ℕ) → length xs ≤ n → prefix_len p (drop n xs) ≡ 0
   front_ends xs n le = rw (drop_all n xs le) refl
 
-  -- one byte more at the end
+  -- the reversed front of a list, with one more byte
   last : (xs : List ℕ) (n m : ℕ) → n ≡ m + 1 → n ≤ length xs → reverse (take n xs) ≡ get_or xs m 0 ∷ reverse (take m xs)
   last xs n m e le = rw (e, take_more xs m 0 (omega arith), reverse-append) refl
 

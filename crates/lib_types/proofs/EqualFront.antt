@@ -8,7 +8,7 @@ use Rattle.lib_types.specs.Words.{AreZeroBytes}
 
 -- ---- zeros at the low end
 
--- a zero less is at the low end of the half
+-- half of an even number has one trailing zero less
 half : (k m n : ℕ) → suc m ≤ count_trailing_zeros k n → (l : ℕ) × (q : ℕ) × (n ≡ 2 * q) × (m ≤ count_trailing_zeros l q)
 unfolding count_trailing_zeros
 half zero m n h = absurd (omega arith)
@@ -66,7 +66,7 @@ byte_equal (x ∷ a) (y ∷ b) (suc i) h k e same =
     (λ j. first j ∷ byte_equal a b i (omega arith) (omega arith) e rest j)
 
 module _ (a b : List ℕ) (p : (k : ℕ) → slice_index a k < 256) (q : (k : ℕ) → slice_index b k < 256) where
-  -- as many bytes are equal as the difference has zero bytes
+  -- if the j lowest bytes of the difference are zero, the next j bytes of both lists are equal
   low_equal : (j n i d : ℕ) → j ≤ n → i + n ≤ length a → i + n ≤ length b → little_from i n a ≡ little_from i n b + d → AreZeroBytes j d
       → take i a ≡ take i b → take (i + j) a ≡ take (i + j) b
   low_equal zero n i d l h k e zeros same = let none : i ≡ i + zero = omega arith in subst (λ m. take m a ≡ take m b) none same
@@ -89,7 +89,7 @@ module _ (a b : List ℕ) (p : (k : ℕ) → slice_index a k < 256) (q : (k : �
   pub words_equal : (n i : ℕ) → i + n ≤ length a → i + n ≤ length b → little_from i n a ≡ little_from i n b → take i a ≡ take i b → take (i + n) a ≡ take (i + n) b
   words_equal n i h k e same = low_equal a b p q n n i 0 (omega arith) h k (omega (arith, e)) (all_zero n) same
 
-  -- words that differ have so many
+  -- if two words differ, the low zero bytes of their difference count the equal bytes
   pub words_differ : (n i j x y : ℕ) → j ≤ n → i + n ≤ length a → i + n ≤ length b → x ≡ little_from i n a → y ≡ little_from i n b → AreZeroBytes j (abs_diff x y)
       → take i a ≡ take i b → take (i + j) a ≡ take (i + j) b
   words_differ n i j x y l h k e f zeros same = ⊎_elim

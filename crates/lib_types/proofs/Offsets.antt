@@ -1,4 +1,4 @@
--- Parts of one text: a text more, and a row more.
+-- Parts of one text stay as they are if bytes are appended to the text, or a row to the list of rows.
 use Rattle.std.proofs.Common.{◌≡◌, ◌≤◌, ◌+◌, ◌-◌, ℕ, List, [], ◌∷◌, ◌++◌, length, map, drop, take, ap, refl, sym, ◌∙◌, arith}
 use Rattle.std.proofs.Math.Seq.{drop-append_seam, take-length}
 use Rattle.std.proofs.lemmas.List.{drop-append-le, length-append, length-drop, map-append, take-append-le}
@@ -37,7 +37,7 @@ module _ (old bytes : List ℕ) where
       let count : length old + length bytes - length old ≡ length bytes = omega arith in
       ap (λ n. take n (drop (length old) (old ++ bytes))) count ∙ ap (take (length bytes)) (drop-append_seam old bytes) ∙ take-length bytes
 
--- ---- a row more, of rows that stay as they are where the text gets longer
+-- ---- one more row, where the rows stay the same if the text grows
 
 module _ {R X : Type 0} (item_in : List ℕ → R → X) (IsIn : ℕ → R → Type 0)
     (stays_in : (count more : ℕ) (row : R) → count ≤ more → IsIn count row → IsIn more row)

@@ -1,4 +1,4 @@
--- Where parts of one size stand, and where a text before a NUL ends.
+-- The offset of each part in a concatenation of parts of equal length, and the end of a NUL-terminated text.
 use Rattle.std.proofs.Common.{◌≡◌, ℕ, zero, suc, ◌+◌, ◌*◌, ◌<◌, ◌==◌, ◌&&◌, Bool, true, false, not, cond, List, [], ◌∷◌, ◌++◌, length, flat_map, drop, take, get_or, refl, sym, ap, ◌∙◌, append_assoc, arith, true≢false, length-append}
 use Rattle.std.proofs.Math.Nat.{add_comm, mul-suc, mul-zero}
 use Rattle.std.proofs.Math.Seq.{drop-append-add}
@@ -28,7 +28,7 @@ module _ {X : Type 0} (f : X → List ℕ) (k : ℕ) (size : (x : X) → length 
 abbrev HasNoNul : List ℕ → Type 0
 HasNoNul t = list_all (λ b. not (b == 0)) t ≡ true
 
--- a text ends before its NUL
+-- the bytes before the first NUL of a NUL-terminated text are the text
 pub before_nul : (t rest : List ℕ) → HasNoNul t → before_first (is_byte 0) (t ++ 0 ∷ rest) ≡ t
 before_nul [] rest h = refl
 before_nul (x ∷ t) rest h = by (x == 0) h (before_nul t rest)

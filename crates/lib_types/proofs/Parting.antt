@@ -6,7 +6,7 @@ use Rattle.std.proofs.lemmas.List.{take_all, length-drop, length-take-le}
 use Rattle.std.proofs.lemmas.List.Splits.{slice_split_first, slice_split-cons_no}
 
 module _ (p : ℕ → Bool) where
-  -- the first byte doesn't pass, and none behind it
+  -- if no byte of b ∷ bytes passes, the first part is the whole list
   unpassed : (b : ℕ) (bytes : List ℕ) (t : Bool) → p b ≡ t → length (b ∷ bytes) ≤ cond (not t) (1 + position_or_len p bytes) 0 → (length bytes ≤ position_or_len p bytes → slice_split p bytes ≡ bytes ∷ []) → slice_split p (b ∷ bytes) ≡ (b ∷ bytes) ∷ []
   unpassed b bytes true e all rest = absurd (omega arith)
   unpassed b bytes false e all rest = slice_split-cons_no p b bytes e ∙ ap (onto_first b) (rest (omega arith))
@@ -34,7 +34,7 @@ module _ (p : ℕ → Bool) where
   pub cut_nowhere : (bytes : List ℕ) → position p bytes ≡ None → slice_split p bytes ≡ bytes ∷ []
   cut_nowhere bytes e = nowhere bytes (at_end bytes (ltb (position_or_len p bytes) (length bytes)) refl e)
 
--- what is after the byte at an index
+-- the bytes after index n, as a slice and as a drop
 pub rest_is : (bytes : List ℕ) (n : ℕ) → n < length bytes → take (length bytes - (n + 1)) (drop (n + 1) bytes) ≡ drop (length (take n bytes) + 1) bytes
 rest_is bytes n lt =
     let whole : take (length bytes - (n + 1)) (drop (n + 1) bytes) ≡ drop (n + 1) bytes = take_all _ _ (omega (arith, length-drop (n + 1) bytes)) in

@@ -6,7 +6,7 @@ use Rattle.std.specs.Cmp.Lexicographic.{pointwise}
 use Rattle.byteorder.specs.Endian.{little_from}
 use Rattle.lib_types.proofs.EqualFront.{words_equal}
 
--- what differs in anything is not the same
+-- lists that aren't equal fail the pointwise test
 others : (a b : List ℕ) → (a ≡ b → ⊥) → false ≡ pointwise nat_eq a b
 others a b other = by (pointwise nat_eq a b) refl
   where
@@ -17,7 +17,7 @@ others a b other = by (pointwise nat_eq a b) refl
 pub other_word : (a b : List ℕ) (at : ℕ) → (little_from at 8 a ≡ little_from at 8 b → ⊥) → false ≡ pointwise nat_eq a b
 other_word a b at other = others a b (λ e. other (ap (little_from at 8) e))
 
--- fewer are equal as well
+-- if the first i bytes are equal, so are the first j for j ≤ i
 fewer_equal : (a b : List ℕ) (i j : ℕ) → j ≤ i → take i a ≡ take i b → take j a ≡ take j b
 fewer_equal a b i zero h e = refl
 fewer_equal a b zero (suc j) h e = absurd (omega arith)
@@ -30,7 +30,7 @@ fewer_equal (x ∷ a) (y ∷ b) (suc i) (suc j) h e =
     let fewer = fewer_equal a b i j (omega arith) rest in
     (λ k. first k ∷ fewer k)
 
--- a word that begins within what is equal, or behind it
+-- If the first i bytes are equal and the words at `at` ≤ i are equal, the first at + 8 bytes are equal.
 pub word_equal : (a b : List ℕ) → ((k : ℕ) → slice_index a k < 256) → ((k : ℕ) → slice_index b k < 256) → (i at : ℕ) → at ≤ i → at + 8 ≤ length a → at + 8 ≤ length b
     → little_from at 8 a ≡ little_from at 8 b → take i a ≡ take i b → take (at + 8) a ≡ take (at + 8) b
 word_equal a b p q i at le h k e same = words_equal a b p q 8 at h k e (fewer_equal a b i at le same)

@@ -1,4 +1,4 @@
--- Lists of keys and values in the order of the keys: the index of a key, and what is there after a change.
+-- Lists of keys and values in the order of the keys: the index of a key, and the list after a change at that index.
 use Rattle.std.proofs.Common.{◌≡◌, ℕ, zero, suc, ◌<◌, ◌≤◌, Bool, true, false, cond, List, [], ◌∷◌, length, get_or, set, Some, None, refl, sym, ap, subst, ◌∙◌, ⊎_elim, arith, Ordering}
 use Rattle.std.proofs.lemmas.List.{get_or-map}
 use Rattle.std.proofs.lemmas.Map.Keys.{Less-from_sorted}
@@ -26,7 +26,7 @@ module _ {K : Type 0} {cmp : K → K → Ordering} (o : IsTotalOrder cmp) where
   pub flipped : (x y : K) (r : Ordering) → cmp x y ≡ r → cmp y x ≡ ordering_reverse r
   flipped x y r h = o.antisymm y x ∙ ap ordering_reverse h
 
-  -- a later key compares no lower
+  -- if x is below y, the comparison of x with k is at most that of y with k
   rises : (x y k : K) → cmp x y ≡ Less → ordering_index (cmp x k) ≤ ordering_index (cmp y k)
   rises x y k h = by_ordering (cmp x k)
       (λ a. rw a (omega arith))
@@ -50,7 +50,7 @@ module _ {K X : Type 0} {cmp : K → K → Ordering} (o : IsTotalOrder cmp) wher
       let P : ℕ → Type 0 = λ n. ordering_index (cmp (get_or es i d).0 k) ≤ ordering_index (cmp (get_or es n d).0 k) in
       ⊎_elim (λ lt. rises o _ _ k (below_later es i j d s lt l)) (λ ge. let e : i ≡ j = omega arith in subst P e (omega arith)) (cases_lt i j)
 
-  -- what is before the key's entry is below the key
+  -- the entries before the entry of a key are below the key
   pub before_index : (es : List (K × X)) (k : K) (i : ℕ) → IsStrictlySortedBy cmp (keys_of es) → i < length es → HoldsAt (λ e. cmp e.0 k ≡ Equal) es i → AllWithin (λ e. cmp e.0 k ≡ Less) es 0 i
   before_index es k i s h at j d low high =
       flipped o k _ Greater (sym (o.congr _ k _ (at d)) ∙ flipped o _ _ Less (below_later es j i d s high h))
@@ -92,7 +92,7 @@ module _ {K X : Type 0} {cmp : K → K → Ordering} (o : IsTotalOrder cmp) wher
         ap (λ l. e ∷ l) (removed_at_index es i (omega arith) at (λ j d p q. before (suc j) d (omega arith) (omega arith)))
         ∙ sym (ap (λ r. cond (is_eq r) es (e ∷ remove_entry (is_at (cmp k)) es)) (flipped o _ _ Less (before 0 e (omega arith) (omega arith))))
 
-    -- in a gap there is nothing to find or to remove
+    -- if the key falls between two entries, it isn't found and removing it changes nothing
     pub none_in_gap : (es : List (K × X)) (i : ℕ) → i ≤ length es → AllWithin (λ e. cmp e.0 k ≡ Less) es 0 i → AllWithin (λ e. cmp e.0 k ≡ Greater) es i (length es)
         → lookup (is_at (cmp k)) es ≡ None
     none_in_gap [] i h before after = refl

@@ -1,4 +1,4 @@
--- The test for UTF-8 and what it tests.
+-- The UTF-8 test is true exactly for UTF-8.
 use Rattle.std.proofs.Common.{◌≡◌, ℕ, List, Bool, true, false, refl}
 use Rattle.std.specs.Str.{IsUtf8, is_utf8}
 use Rattle.std.proofs.lemmas.Str.{IsUtf8-from_is_utf8, is_utf8-from_IsUtf8}

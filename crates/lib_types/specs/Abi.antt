@@ -1,5 +1,5 @@
--- The table of ABIs: e_machine, the class and e_flags of the gABI and its supplements; the flags and words of glibc's dl-cache.h and
--- print_entry; $LIB of ld.so(8); Debian's multiarch triplets.
+-- The table of ABIs. e_machine, the class and e_flags are from the gABI and its supplements; the cache flags and printed words are from
+-- glibc's dl-cache.h and print_entry; $LIB is from ld.so(8); the triplets are Debian's multiarch triplets.
 use Rattle.std.specs.Prelude.{◌≡◌, ℕ, List, [], ◌∷◌, ℤ, pos, ◌==◌, ◌&&◌, Option, find, codes, bit_and, Bool}
 use Rattle.std.specs.List.{list_any}
 use Rattle.std.specs.Ordering.{int_eq}
@@ -8,8 +8,9 @@ use Rattle.lib_types.specs.declared.abi.Abi.{Abi}
 use Rattle.lib_types.specs.declared.abi.Row.{Row}
 use Rattle.lib_types.specs.declared.abi.Abi.TheVariants.{I386, X86_64, X32, Aarch64}
 
--- the name in arguments; e_machine; the class, 1 for 32 bits and 2 for 64; the bits of e_flags that count, and what they are; the flags of
--- a cache entry; what follows `libc6` in a printed cache; what $LIB represents; the subdirectory of Debian's libraries
+-- word: the name in arguments. class: 1 for 32 bits, 2 for 64 bits. mask: the bits of e_flags that are tested. bits: the value they must
+-- have. flags: the flags of a cache entry. printed: the text after `libc6` in a printed cache. lib: the value of $LIB. triplet: Debian's
+-- subdirectory of the library directories.
 pub record AbiRow : Type 0 where
   pub word : List ℕ
   pub machine : ℕ
@@ -67,7 +68,7 @@ row_of Aarch64 = record {
   triplet = codes "aarch64-linux-gnu";
 }
 
--- the code's row has these values
+-- the row in the code equals the row of the specification
 pub record IsRow (r : Row) (row : AbiRow) : Type 0 where
   pub word : r.word.now ≡ row.word
   pub machine : r.machine ≡ row.machine

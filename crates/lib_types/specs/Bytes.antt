@@ -1,8 +1,8 @@
--- Bytes, and numbers in them, least byte first (gABI, ELFDATA2LSB).
+-- Bytes, and little-endian numbers in them (gABI, ELFDATA2LSB).
 use Rattle.std.specs.Prelude.{ℕ, Bool, List, ◌==◌, ◌||◌}
 use Rattle.byteorder.specs.Endian.{little_from}
 
--- the number of n bytes at an offset
+-- the n-byte little-endian number at an offset
 abbrev pub field : List ℕ → ℕ → ℕ → ℕ
 field bytes at n = little_from at n bytes
 

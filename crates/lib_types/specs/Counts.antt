@@ -1,7 +1,7 @@
 -- Saturating counters of 64 bits.
 use Rattle.std.specs.Prelude.{ℕ, ◌+◌, ◌-◌, ◌^◌, ◌≤◌, min, max}
 
--- a count after n more
+-- a saturating count, increased by n
 abbrev pub raised : ℕ → ℕ → ℕ
 raised count n = max count (min (count + n) (2 ^ 64 - 1))
 

@@ -1,8 +1,8 @@
--- The texts of defects: their names, with the numbers that they have.
+-- The text of each defect: its name, and its number if it has one.
 use Rattle.std.specs.Prelude.{ℕ, List, [], ◌++◌, codes, Option, Some, None}
 use Rattle.std.specs.Fmt.{decimal}
 use Rattle.lib_types.specs.declared.analysis.Defect.{Defect}
-use Rattle.lib_types.specs.declared.analysis.Defect.TheVariants.{NotElf, TooShort, BadClass, BadData, BadMachine, NotShared, BadPhdrs, NoDynamic, DynOutside, NoStrtab, OutsideLoad, BadString, BadSoname}
+use Rattle.lib_types.specs.declared.analysis.Defect.TheVariants.{NotElf, TooShort, BadClass, BadData, BadMachine, NotShared, BadPhdrs, NoDynamic, DynOutside, NoStrtab, OutsideLoad, BadString, BadSoname, Unsearchable}
 
 abbrev pub defect_name : Defect → List ℕ
 defect_name NotElf = codes "NotElf"
@@ -18,6 +18,7 @@ defect_name NoStrtab = codes "NoStrtab"
 defect_name OutsideLoad = codes "OutsideLoad"
 defect_name (BadString tag) = codes "BadString"
 defect_name BadSoname = codes "BadSoname"
+defect_name Unsearchable = codes "Unsearchable"
 
 abbrev pub defect_number : Defect → Option ℕ
 defect_number (TooShort length) = Some length
@@ -32,6 +33,6 @@ abbrev pub number_text : Option ℕ → List ℕ
 number_text None = []
 number_text (Some number) = codes " " ++ decimal number
 
--- its name, with a blank and the number if it has one
+-- the name, followed by a space and the number if there is one
 abbrev pub defect_text : Defect → List ℕ
 defect_text defect = defect_name defect ++ number_text (defect_number defect)

@@ -1,4 +1,4 @@
--- Names of files: one to 255 bytes of UTF-8 without `/` and NUL, and neither `.` nor `..` (path_resolution(7)).
+-- Names of files: 1 to 255 bytes of UTF-8 without `/` and NUL, except `.` and `..` (path_resolution(7)).
 use Rattle.std.specs.Prelude.{ℕ, Bool, List, nat_le, nat_lt, ◌==◌, ◌&&◌, ◌||◌, not, length, codes}
 use Rattle.std.specs.List.{list_all}
 use Rattle.std.specs.Str.{bytes_eq, is_utf8}
@@ -7,15 +7,15 @@ use Rattle.lib_types.specs.declared.name.TheConstants.{NAME_MAX}
 abbrev pub slash : ℕ
 slash = 47
 
--- the bytes have neither a slash nor a NUL
+-- no byte is a slash or a NUL
 abbrev pub have_no_slash : List ℕ → Bool
 have_no_slash = list_all (λ b. not (b == slash) && not (b == 0))
 
--- ASCII bytes of which neither is a slash or a NUL
+-- every byte is ASCII, and no byte is a slash or a NUL
 abbrev pub is_plain_ascii : List ℕ → Bool
 is_plain_ascii = list_all (λ b. not (b == slash) && not (b == 0) && nat_lt b 128)
 
--- the folder itself, or the one above it
+-- the directory itself (`.`) or its parent (`..`)
 abbrev pub are_dots : List ℕ → Bool
 are_dots name = bytes_eq name (codes ".") || bytes_eq name (codes "..")
 

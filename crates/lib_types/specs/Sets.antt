@@ -1,4 +1,4 @@
--- Sets of bytes, and bytes without those of a set at their ends.
+-- Sets of bytes, and lists of bytes stripped of the bytes of a set at the front or at the end.
 use Rattle.std.specs.Prelude.{ℕ, ◌-◌, Bool, List, [], ◌∷◌, ◌==◌, length, take, drop, codes}
 use Rattle.std.specs.List.{list_any, prefix_len, suffix_len}
 

@@ -11,12 +11,12 @@ separates Blank = is_either 32 9
 separates (Byte byte) = is_byte byte
 separates (In set) = is_in set.now
 
--- the parts of the bytes that are left, if some are
+-- the parts of the remaining bytes; the list is empty if nothing remains
 abbrev pub parts_of : (ℕ → Bool) → Option (List ℕ) → List (List ℕ)
 parts_of test None = []
 parts_of test (Some bytes) = slice_split test bytes
 
--- how much is left
+-- a measure of the rest: 0 if there is none
 abbrev pub size_of : Option (List ℕ) → ℕ
 size_of None = 0
 size_of (Some bytes) = 1 + length bytes

@@ -1,4 +1,4 @@
--- Where a text has its bytes, as private functions see it.
+-- The storage of a text and the bytes in it.
 use Rattle.std.specs.Prelude.{ℕ, List, ◌≤◌, take}
 use Rattle.std.specs.Bool.{⊤}
 use Rattle.lib_types.specs.declared.text.Storage.{Storage}
@@ -10,7 +10,7 @@ bytes_in (Here len bytes) = take len bytes
 bytes_in (Apart bytes) = bytes.items
 bytes_in (Shared bytes) = bytes.value.items
 
--- there is room for so many bytes
+-- the length is at most the room of the storage
 abbrev pub IsFilled : Storage → Type 0
 IsFilled (Here len bytes) = len ≤ SHORT_MAX
 IsFilled (Apart bytes) = ⊤

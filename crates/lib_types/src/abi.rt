@@ -1,8 +1,8 @@
-//! The ABIs, with the numbers and names of each.
+//! The supported ABIs, with the numbers and names of each.
 ghost use Rattle.std.specs.Prelude.{◌≡◌, pos};
 ghost use Rattle.lib_types.specs.Abi.{IsRow, row_of, flags_of, lib_of, abi_of_elf, abi_of_flags, abi_of_word, is_machine};
 
-/// A processor's binary interface.
+/// An application binary interface (ABI) of a processor.
 #[derive(Clone, Copy, Debug, PartialEq, Eq)]
 pub enum Abi {
     I386,
@@ -11,7 +11,7 @@ pub enum Abi {
     Aarch64,
 }
 
-/// The row of an ABI in the table of all.
+/// The row of an ABI in the table of ABIs.
 #[derive(Clone, Copy)]
 pub struct Row {
     /// Its name in the arguments of a command.
@@ -20,16 +20,16 @@ pub struct Row {
     pub machine: u16,
     /// The class of an ELF header: 1 for 32 bits, 2 for 64.
     pub class: u8,
-    /// The bits of `e_flags` that count, and what they have to be.
+    /// The bits of `e_flags` that are tested (`mask`), and the value that they must have (`bits`).
     pub mask: u32,
     pub bits: u32,
     /// The flags of a cache entry.
     pub flags: i32,
-    /// What follows `libc6` where a cache is printed.
+    /// The text after `libc6` when a cache is printed.
     pub printed: &'static [u8],
     /// What `$LIB` represents.
     pub lib: &'static [u8],
-    /// The subdirectory of Debian's directories that has its libraries.
+    /// Debian's subdirectory of the library directories for this ABI.
     pub triplet: &'static [u8],
 }
 
@@ -37,7 +37,7 @@ pub struct Row {
 pub const ABIS: [Abi; 4] = [Abi::I386, Abi::X86_64, Abi::X32, Abi::Aarch64];
 
 impl Abi {
-    /// The table.
+    /// The row of this ABI.
     pub fn row(self) -> Row
         ensures { IsRow result (row_of self) }
     {

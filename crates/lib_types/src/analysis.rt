@@ -1,10 +1,10 @@
-//! What a file is: a library, or the defect that keeps it from being one.
+//! The library's ELF information, or the defect because of which a file isn't a library.
 ghost use Rattle.std.specs.Prelude.{◌≡◌};
 ghost use Rattle.lib_types.specs.Defects.{defect_name, defect_number};
 
 use crate::{Abi, Text};
 
-/// Why a file is no library. The numbers are those that the file has in the field.
+/// Why a file isn't a library. A number is the value that the file has in that field.
 #[derive(Clone, Copy, Debug, PartialEq, Eq)]
 pub enum Defect {
     NotElf,
@@ -20,10 +20,12 @@ pub enum Defect {
     OutsideLoad,
     BadString { tag: u64 },
     BadSoname,
+    /// A library that the loader cannot search for: no file has this defect, only a name in a directory.
+    Unsearchable,
 }
 
 impl Defect {
-    /// Its name in reports and fault lines.
+    /// The name of the defect in reports and fault lines.
     pub fn name(self) -> &'static [u8]
         ensures { result.now ≡ defect_name self }
     {
@@ -41,10 +43,11 @@ impl Defect {
             Defect::OutsideLoad => b"OutsideLoad",
             Defect::BadString { .. } => b"BadString",
             Defect::BadSoname => b"BadSoname",
+            Defect::Unsearchable => b"Unsearchable",
         }
     }
 
-    /// The number that follows its name, if it has one.
+    /// The number after the name, if the defect has one.
     pub fn number(self) -> Option<u64>
         ensures { result ≡ defect_number self }
     {
@@ -60,10 +63,10 @@ impl Defect {
     }
 }
 
-/// What a file is for the cache.
+/// What the cache needs to know about a file.
 #[derive(Drop)]
 pub enum Analysis {
-    /// A library of this ABI, with its `DT_SONAME` if it has one that isn't empty.
+    /// A library of this ABI. `soname` is its `DT_SONAME`, or `None` if that is missing or empty.
     Lib { abi: Abi, soname: Option<Text> },
     Not(Defect),
 }

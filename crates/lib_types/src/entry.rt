@@ -5,10 +5,10 @@ use crate::{Abi, Seq, Text};
 #[derive(Drop)]
 pub struct Entry {
     pub soname: Text,
-    /// The subdirectory of `glibc-hwcaps` that the library is in, if it is in one.
+    /// The subdirectory of `glibc-hwcaps` that contains the library, if one does.
     pub cap: Option<Text>,
     pub path: Text,
-    /// The number of the directory among those that are searched, from 0.
+    /// The index of the directory in the list of search directories, from 0.
     pub place: u32,
     pub abi: Abi,
 }

@@ -1,7 +1,7 @@
-//! The two returns that come from outside of the product.
+//! The two errors whose cause is outside the program: a failed I/O call, and no memory.
 use std::alloc::{AllocError, AllocFailed};
 
-/// A call of a device failed. Each device counts its faults.
+/// A call of an I/O interface failed. Each I/O interface counts its failed calls.
 #[derive(Clone, Copy, Debug, PartialEq, Eq)]
 pub struct Failed;
 

@@ -1,11 +1,11 @@
-//! Where bytes stand in others.
+//! Searches for a byte in a slice.
 ghost use Rattle.std.specs.Prelude.{◌≡◌, ◌<◌, position, length, IfSome};
 ghost use Rattle.std.specs.List.{list_any};
 ghost use Rattle.lib_types.specs.Bytes.{is_byte, is_either};
 
 use memchr::{memchr, memchr2};
 
-/// The index of the first byte that is this one.
+/// The index of the first byte that equals `byte`.
 #[tactic(auto, using(crate::proofs::FirstByte::first_is))]
 pub fn find_byte(byte: u8, bytes: &[u8]) -> Option<usize>
     ensures index { result ≡ position (is_byte byte) bytes.now }
@@ -14,7 +14,7 @@ pub fn find_byte(byte: u8, bytes: &[u8]) -> Option<usize>
     memchr(byte, bytes)
 }
 
-/// The index of the first byte that is one of these two.
+/// The index of the first byte that equals `a` or `b`.
 #[tactic(auto, using(crate::proofs::FirstByte::first_is))]
 pub fn find_either(a: u8, b: u8, bytes: &[u8]) -> Option<usize>
     ensures index { result ≡ position (is_either a b) bytes.now }
@@ -23,7 +23,7 @@ pub fn find_either(a: u8, b: u8, bytes: &[u8]) -> Option<usize>
     memchr2(a, b, bytes)
 }
 
-/// Whether one of the bytes is this one.
+/// Whether one of the bytes equals `byte`.
 #[tactic(auto, using(crate::proofs::FirstByte::is_some_position))]
 pub fn has_byte(byte: u8, bytes: &[u8]) -> bool
     ensures { result ≡ list_any (is_byte byte) bytes.now }

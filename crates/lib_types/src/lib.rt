@@ -1,4 +1,4 @@
-//! The types that every crate of the product uses: texts and their parts, lists, ABIs, defects, analyses and entries.
+//! The types that every crate uses: texts and their parts, lists, ABIs, defects, ELF information and cache entries.
 #![tactic(auto)]
 
 mod abi;

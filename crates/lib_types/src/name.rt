@@ -3,10 +3,10 @@ ghost use Rattle.std.specs.Prelude.{◌≡◌};
 ghost use Rattle.std.specs.Str.{is_utf8};
 ghost use Rattle.lib_types.specs.Name.{are_dots, is_name, is_plain_ascii, have_no_slash};
 
-/// The most bytes of a name (NAME_MAX of limits.h).
+/// The maximum length of a name in bytes (NAME_MAX of limits.h).
 pub const NAME_MAX: usize = 255;
 
-/// Whether the bytes are the name of a file in a folder.
+/// Whether the bytes are a valid name of a file in a directory.
 #[tactic(auto, using(crate::proofs::Plain::plain_bytes))]
 pub fn is_name(bytes: &[u8]) -> bool
     ensures { result ≡ is_name bytes.now }
@@ -17,21 +17,21 @@ pub fn is_name(bytes: &[u8]) -> bool
     is_plain_ascii(bytes) || (have_no_slash(bytes) && is_utf8(bytes))
 }
 
-// Whether the bytes are `.` or `..`. Most names are longer, so that their length is enough.
+// Whether the bytes are `.` or `..`. Most names are longer than two bytes, so the test of the length decides.
 fn are_dots(bytes: &[u8]) -> bool
     ensures { result ≡ are_dots bytes.now }
 {
     bytes.len() <= 2 && (bytes == b".".as_slice() || bytes == b"..".as_slice())
 }
 
-// Whether the bytes are ASCII without a slash and a NUL. Most names are, and one pass shows it.
+// Whether the bytes are ASCII without a slash and a NUL. Most names are. For these, one pass is enough.
 fn is_plain_ascii(bytes: &[u8]) -> bool
     ensures { result ≡ is_plain_ascii bytes.now }
 {
     bytes.iter().all(|&b| b != b'/' && b != 0 && b < 128)
 }
 
-// Whether the bytes have neither a slash nor a NUL.
+// Whether no byte is a slash or a NUL.
 fn have_no_slash(bytes: &[u8]) -> bool
     ensures { result ≡ have_no_slash bytes.now }
 {

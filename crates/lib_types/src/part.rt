@@ -4,15 +4,15 @@ ghost use Rattle.lib_types.specs.Part.{part_of, IsLonger, IsWithin};
 
 use crate::NoMemory;
 
-/// Where some bytes are in a text: many names or paths that are kept in one text take no block of memory each. The offsets have four
-/// bytes, since there are as many parts as names in an image.
+/// A range of bytes in a text. Many names or paths share one text, so that each needs no allocation of its own. The offsets have four
+/// bytes to save memory, since an image has one part for each name.
 #[derive(Clone, Copy)]
 pub struct Part {
     pub from: u32,
     pub to: u32,
 }
 
-// An offset in four bytes. For a text of more bytes than these count there is no memory.
+// An offset in four bytes. If the text is too long for that, the result is `NoMemory`.
 fn offset(at: usize) -> Result<u32, NoMemory>
     ensures { IfOk result (λ offset. offset ≡ at) }
 {
@@ -20,7 +20,7 @@ fn offset(at: usize) -> Result<u32, NoMemory>
 }
 
 impl Part {
-    /// The bytes, which are in this text.
+    /// The bytes of this part in its text.
     pub fn bytes_in(self, text: &[u8]) -> &[u8]
         requires { IsWithin (length text.now) self }
         ensures { result.now ≡ part_of text.now self }
@@ -28,7 +28,7 @@ impl Part {
         &text[self.from as usize..self.to as usize]
     }
 
-    /// Adds bytes to a text, at its end, and gives where they are.
+    /// Appends bytes to a text, and returns the range that they have there.
     #[tactic(auto, using(crate::proofs::Offsets::added_is, crate::proofs::Offsets::added_within, crate::proofs::Offsets::not_longer))]
     pub fn add(text: &mut Vec<u8>, bytes: &[u8]) -> Result<Part, NoMemory>
         ensures longer { IsLonger text.old.items text.new.items }

@@ -9,7 +9,7 @@ use crate::find::{find_byte, find_either};
 use crate::trim::first_in;
 use std::marker::Model;
 
-/// What separates two parts.
+/// The byte that separates two parts.
 #[derive(Clone, Copy)]
 pub enum Separator<'a> {
     /// A space or a tab.
@@ -45,7 +45,7 @@ pub fn cut<'a>(separator: Separator<'_>, bytes: &'a [u8]) -> (&'a [u8], Option<&
     }
 }
 
-/// The bytes before the first that is this one, or all of them.
+/// The bytes before the first one that equals `byte`, or all bytes if none does.
 #[tactic(auto, using(crate::proofs::Ends::before_position, crate::proofs::Ends::before_none))]
 pub fn before_byte(byte: u8, bytes: &[u8]) -> &[u8]
     ensures { result.now ≡ before_first (is_byte byte) bytes.now }
@@ -56,7 +56,7 @@ pub fn before_byte(byte: u8, bytes: &[u8]) -> &[u8]
     }
 }
 
-/// The parts that are left, also empty ones. Contracts see their list.
+/// An iterator over the parts, including empty ones. In contracts it is the list of the remaining parts.
 #[derive(Drop)]
 pub struct Parts<'a> {
     separator: Separator<'a>,
@@ -82,7 +82,7 @@ impl<'a> Iterator for Parts<'a> {
 
     ghost remaining = { item_count (λ s. s) };
 
-    // Dividing lines into words is much of what reading a manifest takes, so this is a part of the loop that calls it.
+    // Splitting lines into words is much of the cost of reading a manifest. Therefore this is inlined into the caller's loop.
     #[inline(always)]
     fn next(&mut self) -> Option<&'a [u8]> {
         let rest = self.rest?;

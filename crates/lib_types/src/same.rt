@@ -1,4 +1,4 @@
-//! Whether bytes are the same, how many of the first are, and the order of bytes.
+//! Comparison of byte slices: equality, the length of the common prefix, and the order.
 ghost use Rattle.byteorder.specs.Endian.{little_from};
 ghost use Rattle.lib_types.specs.Words.{AreZeroBytes};
 ghost use Rattle.std.specs.Cmp.Lexicographic.{pointwise, slice_cmp};
@@ -17,8 +17,8 @@ fn word_at(bytes: &[u8], at: usize) -> u64
     LittleEndian::read_u64(&bytes[at..])
 }
 
-// Whether two texts of one length have the same bytes, compared eight at a time. The last eight overlap those before them, unless
-// the length is a multiple of eight.
+// Whether two texts of equal length have the same bytes, compared eight at a time. If the length isn't a multiple of eight, the last
+// eight bytes overlap the eight before them.
 #[tactic(auto, using(crate::proofs::SameBytes::word_equal, crate::proofs::SameBytes::other_word, crate::proofs::SameBytes::all_equal))]
 fn are_same_long(a: &[u8], b: &[u8]) -> bool
     requires one_length { length a.now ≡ length b.now }
@@ -37,7 +37,7 @@ fn are_same_long(a: &[u8], b: &[u8]) -> bool
     true
 }
 
-/// Whether both have the same bytes: paths and names that are compared have long parts in common.
+/// Whether both have the same bytes. It compares eight bytes at a time, since compared paths and names often have long common parts.
 pub fn are_same(a: &[u8], b: &[u8]) -> bool
     ensures { result ≡ pointwise nat_eq a.now b.now }
 {
@@ -51,7 +51,7 @@ pub fn are_same(a: &[u8], b: &[u8]) -> bool
     }
 }
 
-// How many of the lowest bytes of two words are equal, up to the first that differs.
+// The number of equal low bytes of two words, up to the first byte that differs.
 #[tactic(auto, using(crate::proofs::EqualFront::zero_bytes))]
 fn equal_bytes(x: u64, y: u64) -> usize
     ensures within { result ≤ 8 }
@@ -60,7 +60,7 @@ fn equal_bytes(x: u64, y: u64) -> usize
     x.abs_diff(y).trailing_zeros() as usize / 8
 }
 
-// An offset up to which both have the same bytes: the first of a byte that differs, if that is in a whole word of both.
+// An offset up to which both have the same bytes. If the first byte that differs is within a whole word of both, it is that byte's offset.
 #[tactic(auto, using(crate::proofs::EqualFront::words_equal, crate::proofs::EqualFront::words_differ))]
 fn equal_words(a: &[u8], b: &[u8]) -> usize
     ensures within { (result ≤ length a.now) × (result ≤ length b.now) }
@@ -82,7 +82,7 @@ fn equal_words(a: &[u8], b: &[u8]) -> usize
     i
 }
 
-/// How many equal bytes both begin with, compared eight at a time: paths and names that are put in order have long prefixes in common.
+/// The length of the common prefix. It compares eight bytes at a time, since sorted paths and names often have long common prefixes.
 #[tactic(auto, using(crate::proofs::EqualFront::byte_equal))]
 pub fn equal_len(a: &[u8], b: &[u8]) -> usize
     ensures within { (result ≤ length a.now) × (result ≤ length b.now) }
@@ -97,7 +97,7 @@ pub fn equal_len(a: &[u8], b: &[u8]) -> usize
     i
 }
 
-/// The order of two texts by their bytes, of which equal ones are compared eight at a time.
+/// The order of two texts by their bytes. It compares the common prefix eight bytes at a time.
 #[tactic(auto, using(crate::proofs::ByteOrder::byte_decides_order))]
 pub fn compare_bytes(a: &[u8], b: &[u8]) -> Ordering
     ensures { result ≡ slice_cmp nat_cmp a.now b.now }

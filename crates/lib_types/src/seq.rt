@@ -1,4 +1,4 @@
-//! Lists of items, one type for all of them.
+//! A list type for items of any type.
 ghost use Rattle.std.specs.Prelude.{◌≡◌, ◌==◌, ℕ, List, [], ◌∷◌, ◌++◌, length, slice_get, OnOk, OnErr};
 ghost use Rattle.std.specs.Option.{option_copied};
 
@@ -6,7 +6,7 @@ use crate::{NoMemory, Text};
 use std::alloc::Global;
 use std::marker::Model;
 
-/// A list that grows at its end, which contracts see as the list of its items.
+/// A list that grows at its end. In contracts it is the list of its items.
 #[derive(Drop)]
 pub struct Seq<T> {
     items: Vec<T>,
@@ -22,7 +22,7 @@ impl<T> Model for Seq<T> {
 }
 
 impl<T> Seq<T> {
-    /// An empty list, which keeps the allocator and takes no memory.
+    /// An empty list. It keeps the allocator and allocates nothing.
     pub fn new(alloc: Global) -> Seq<T>
         ensures { result ≡ [] }
     {
@@ -31,14 +31,14 @@ impl<T> Seq<T> {
         }
     }
 
-    /// The list of these items, without taking memory.
+    /// The list of these items. It allocates nothing.
     pub fn from_vec(items: Vec<T>) -> Seq<T>
         ensures { result ≡ items.items }
     {
         Seq { items }
     }
 
-    /// The items, without taking memory.
+    /// The items. It allocates nothing.
     pub fn into_vec(self) -> Vec<T>
         ensures { result.items ≡ self }
     {
@@ -59,7 +59,7 @@ impl<T> Seq<T> {
         self.items.len()
     }
 
-    /// Whether there is no item.
+    /// Whether the list is empty.
     pub fn is_empty(&self) -> bool
         ensures { result ≡ (length self.now == 0) }
     {

@@ -4,7 +4,7 @@ ghost use Rattle.lib_types.specs.Counts.{raised};
 
 use std::marker::Model;
 
-/// A number of steps, which no call lowers: a saturating counter of 64 bits.
+/// The number of steps so far: a saturating counter of 64 bits. No call lowers it.
 #[derive(Drop)]
 pub struct Steps {
     count: u64,
@@ -17,14 +17,14 @@ impl Model for Steps {
 }
 
 impl Steps {
-    /// No steps.
+    /// A counter at zero.
     pub fn new() -> Steps
         ensures { result ≡ 0 }
     {
         Steps { count: 0 }
     }
 
-    /// Counts one step more.
+    /// Adds one step.
     pub fn tick(&mut self)
         ensures { self.new ≡ raised self.old 1 }
     {

@@ -8,7 +8,7 @@ fn a_text_is_copied(rt: HostRuntime) -> Result<(), Fail> {
     Ok(())
 }
 
-// As many bytes as stand in the text, one more, and more than these.
+// Texts that are stored inline (up to 30 bytes), and longer ones.
 #[test]
 fn a_text_of_each_size_is_copied_and_shared(rt: HostRuntime) -> Result<(), Fail> {
     let alloc = rt.alloc();

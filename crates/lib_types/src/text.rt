@@ -1,4 +1,4 @@
-//! Bytes that are kept as one value: a name, a path, a key, a target.
+//! An owned byte string: a name, a path, a key or a link target.
 ghost use Rattle.std.proofs.Common.{ap, refl, sym};
 ghost use Rattle.std.specs.Cmp.{partial_equiv_from_equiv};
 ghost use Rattle.std.specs.Cmp.Lexicographic.{nat_list_eq_equiv, nat_list_cmp_total, same_text, texts_po, texts_ties, pointwise, slice_cmp};
@@ -14,27 +14,27 @@ use std::hash::{Hash, Hasher};
 use std::marker::Model;
 use std::rc::Rc;
 
-// The most bytes of a text that takes no block of memory: as many as leave a text at thirty-two bytes. Most sonames and names of files
-// have no more.
+// The maximum length of a text that is stored inline, without an allocation. With 30 bytes, a `Text` has 32 bytes. Most sonames and file
+// names are not longer.
 const SHORT_MAX: usize = 30;
 
-// Where the bytes are.
+// The storage of the bytes.
 #[derive(Drop)]
 enum Storage {
-    // Here, the first so many of these.
+    // Inline: the first `len` of these bytes.
     Here { len: u8, bytes: [u8; SHORT_MAX] },
-    // In a block of memory.
+    // In a heap block.
     Apart { bytes: Vec<u8> },
-    // In a block of memory that other texts have as well.
+    // In a heap block that is shared with other texts.
     Shared { bytes: Rc<Vec<u8>> },
 }
 
-/// A text of bytes, which contracts see as the list of these bytes. Texts are ordered by their bytes.
+/// A byte string. In contracts it is the list of its bytes. Texts are ordered by their bytes.
 pub struct Text {
     storage: Storage,
 }
 
-// Written out, so that a proof of what drops a text need not follow where the bytes are.
+// Written out instead of derived: a proof about code that drops a text then doesn't depend on the storage.
 impl Drop for Text {
     fn drop(self) {
         let Text { storage } = self;
@@ -53,7 +53,7 @@ impl Model for Text {
     ghost invariant = { λ t. IsFilled t.storage };
 }
 
-// So many bytes, of which there is room for more.
+// A text that is stored inline. `bytes` must have at most SHORT_MAX bytes.
 fn here(bytes: &[u8]) -> Text
     requires { length bytes.now ≤ SHORT_MAX }
     ensures { result ≡ bytes.now }
@@ -82,7 +82,7 @@ impl Text {
         })
     }
 
-    /// These bytes, without taking memory.
+    /// A text of these bytes. It allocates nothing.
     pub fn from_vec(bytes: Vec<u8>) -> Text
         ensures { result ≡ bytes.items }
     {
@@ -105,7 +105,7 @@ impl Text {
         }
     }
 
-    /// These bytes, in a block that copies of this have as well, unless they are so few that a copy takes none.
+    /// The same text, so that copies of it share its heap block. A text that is stored inline stays inline.
     pub fn into_shared(self, alloc: Global) -> Result<Text, NoMemory>
         ensures { IfOk result (λ text. text ≡ self) }
     {
@@ -119,7 +119,7 @@ impl Text {
         Ok(Text { storage })
     }
 
-    /// A copy. It takes no memory if the bytes are shared, or so few that they stand in no block.
+    /// A copy. It allocates nothing if the text is shared or stored inline.
     pub fn copy(&self, alloc: Global) -> Result<Text, NoMemory>
         ensures { IfOk result (λ text. text ≡ self.now) }
     {
@@ -181,7 +181,7 @@ impl Ord for Text {
     }
 }
 
-// A text is hashed as a whole; a slice would be hashed byte by byte.
+// A text is hashed with one write. A slice would be hashed byte by byte.
 impl Hash for Text {
     ghost hash_input = { λ s. s ∷ [] };
 

@@ -1,4 +1,4 @@
-//! Bytes by which a text is looked up.
+//! The borrowed key of a lookup by text.
 ghost use Rattle.std.proofs.Common.{ap, sym};
 ghost use Rattle.std.specs.Cmp.{on_equiv, on_per, partial_equiv_from_equiv};
 ghost use Rattle.std.specs.Cmp.Lexicographic.{nat_list_eq_equiv, pointwise, same_text};
@@ -9,7 +9,7 @@ use crate::same::are_same;
 use indexmap::Equivalent;
 use std::hash::{Hash, Hasher};
 
-/// Bytes by which a text is looked up in a hash map, without a copy of them.
+/// Borrowed bytes with which a text is looked up in a hash map, without copying them.
 #[derive(Clone, Copy)]
 pub struct TextRef<'a> {
     pub bytes: &'a [u8],
@@ -29,7 +29,7 @@ impl<'a> Eq for TextRef<'a> {
     ghost laws = { on_equiv (λ t. t.bytes.now) nat_list_eq_equiv };
 }
 
-// As the text of these bytes is hashed.
+// The hash must equal the hash of the `Text` with these bytes.
 impl<'a> Hash for TextRef<'a> {
     ghost hash_input = { λ t. t.bytes.now ∷ [] };
 

@@ -1,16 +1,16 @@
-//! Bytes of a set, and bytes without those of a set at their ends.
+//! Searches for bytes of a set, and slices without the bytes of a set at the front or at the end.
 ghost use Rattle.std.specs.Prelude.{◌≡◌, ◌<◌, ◌≤◌, ◌-◌, not, length, drop, position, IfSome};
 ghost use Rattle.std.specs.List.{before_first, before_last, list_any, prefix_len, suffix_len};
 ghost use Rattle.lib_types.specs.Sets.{is_in, without_end, without_front};
 
-/// Whether the byte is of the set.
+/// Whether the byte is in the set.
 pub fn is_in(set: &[u8], b: u8) -> bool
     ensures { result ≡ is_in set.now b }
 {
     set.iter().any(|&x| x == b)
 }
 
-/// Whether one of the bytes is of the set.
+/// Whether one of the bytes is in the set.
 pub fn has_one(set: &[u8], bytes: &[u8]) -> bool
     ensures { result ≡ list_any (is_in set.now) bytes.now }
 {
@@ -33,7 +33,7 @@ pub fn after(bytes: &[u8], n: usize) -> &[u8]
     &bytes[n..]
 }
 
-/// What stands before the first byte of the set, or all.
+/// The bytes before the first byte of the set, or all bytes if none is in the set.
 #[tactic(auto, using(crate::proofs::Ends::before_position, crate::proofs::Ends::before_none))]
 pub fn before_first<'a>(set: &[u8], bytes: &'a [u8]) -> &'a [u8]
     ensures { result.now ≡ before_first (is_in set.now) bytes.now }
@@ -44,7 +44,7 @@ pub fn before_first<'a>(set: &[u8], bytes: &'a [u8]) -> &'a [u8]
     }
 }
 
-// How many bytes at the front are of the set.
+// The number of bytes of the set at the front.
 #[tactic(auto, using(crate::proofs::Ends::front_more, crate::proofs::Ends::front_stops, crate::proofs::Ends::front_ends))]
 fn front_len(set: &[u8], bytes: &[u8]) -> usize
     ensures len { result ≡ prefix_len (is_in set.now) bytes.now }
@@ -57,7 +57,7 @@ fn front_len(set: &[u8], bytes: &[u8]) -> usize
     n
 }
 
-// How many bytes are left without those of the set at the end.
+// The length without the bytes of the set at the end.
 #[tactic(auto, using(crate::proofs::Ends::end_more, crate::proofs::Ends::end_stops, crate::proofs::Ends::whole_end))]
 fn end_len(set: &[u8], bytes: &[u8]) -> usize
     ensures len { result ≡ length bytes.now - suffix_len (is_in set.now) bytes.now }
@@ -70,7 +70,7 @@ fn end_len(set: &[u8], bytes: &[u8]) -> usize
     n
 }
 
-// How many bytes there are up to the last one of the set, and with it.
+// The length up to and including the last byte of the set.
 #[tactic(auto, using(crate::proofs::Ends::end_more, crate::proofs::Ends::end_stops, crate::proofs::Ends::whole_end))]
 fn last_len(set: &[u8], bytes: &[u8]) -> usize
     ensures len { result ≡ length bytes.now - suffix_len (λ b. not (is_in set.now b)) bytes.now }
@@ -97,7 +97,7 @@ pub fn without_end<'a>(set: &[u8], bytes: &'a [u8]) -> &'a [u8]
     &bytes[..end_len(set, bytes)]
 }
 
-/// What stands before the last byte of the set, or nothing.
+/// The bytes before the last byte of the set, or no bytes if none is in the set.
 pub fn before_last<'a>(set: &[u8], bytes: &'a [u8]) -> &'a [u8]
     ensures { result.now ≡ before_last (is_in set.now) bytes.now }
 {

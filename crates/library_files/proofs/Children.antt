@@ -1,4 +1,4 @@
--- The children of a directory by their nodes.
+-- The children of a directory, with their nodes.
 use Rattle.std.proofs.Common.{◌≡◌, ℕ, Bool, true, List, [], ◌∷◌, map, refl, ap, sym, ◌∙◌, Option, Some, None}
 use Rattle.std.proofs.lemmas.Bool.{and_parts}
 use Rattle.std.specs.List.{AllByRecursion, cons_option, dedup, filter_map, list_all}
@@ -16,9 +16,9 @@ use Rattle.image_tree.specs.declared.tree.Kind.{Kind}
 use Rattle.image_tree.specs.declared.tree.Kind.TheVariants as kinds
 use Rattle.library_files.specs.Children.{IsChild, is_file_node}
 
--- ---- the kind of a path by its node
+-- ---- the kind of a path, given its node
 
--- a test of kinds that no directory passes, nor what is absent, says of a path what it says of its node
+-- if directories and absent paths fail a test of kinds, the test of a path's kind gives the same as the test of its node
 module _ (f : Kind → Bool) (g : Option Node → Bool) (dir : f kinds.Dir ≡ g None) (absent : f kinds.Absent ≡ g None) (some : (n : Node) → f (kind_of n) ≡ g (Some n)) (t : Nodes) (tree : IsTree t) (q : List ℕ) where
   without : node_at t q ≡ None → (k : Kind) → kind_at t q ≡ k → f k ≡ g None
   without e kinds.Dir h = dir
@@ -35,7 +35,7 @@ file_node node.Dir = refl
 file_node (node.File key id) = refl
 file_node (node.Link target) = refl
 
--- a file is at a path whose node is one
+-- a path is a file if its node is a file
 pub file_there : (t : Nodes) → IsTree t → (path : List ℕ) → is_file (kind_at t path) ≡ is_file_node (node_at t path)
 file_there t tree path = by_node is_file is_file_node refl refl file_node t tree path (node_at t path) refl
 

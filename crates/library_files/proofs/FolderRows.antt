@@ -1,4 +1,4 @@
--- The folders that places are: one place more, and what is made of each.
+-- The directories that the search directories resolve to: adding a search directory, and the results for each directory.
 use Rattle.std.proofs.Common.{◌≡◌, ◌⊎◌, inl, inr, get_or, ◌<◌, ◌≤◌, ◌+◌, ◌||◌, ℕ, zero, suc, Bool, true, false, cond, not, nat_eq, List, [], ◌∷◌, ◌++◌, length, map, take, refl, ap, sym, ◌∙◌, Option, Some, None, MatchOption, arith}
 use Rattle.std.proofs.lemmas.Bool.{cases_lt, or_left, or_parts, or_right}
 use Rattle.std.proofs.lemmas.Bool.Decides.{nat_tests}
@@ -24,7 +24,7 @@ use Rattle.library_files.specs.Search.{files_at, files_in, followed, links_at}
 use Rattle.library_files.specs.declared.links.FolderLinks.{FolderLinks}
 use Rattle.string_pool.specs.Shared.{taken, AreRows, AreWithin, HaveSame}
 
--- ---- rows of more items
+-- ---- rows stay valid when items are added
 
 same_row : {X : Type 0} (xs more : List X) (row : ℕ) → row < length xs → slice_get (xs ++ more) row ≡ slice_get xs row
 same_row [] more row h = absurd (omega arith)
@@ -78,13 +78,13 @@ module _ (old : List (List ℕ)) (path : List ℕ) (row : ℕ) where
         (λ h. inr ((keys ∙ ap (λ b. cond b old (old ++ path ∷ [])) h), (at ∙ row_last (bytes_eq path) old h)));
   }
 
--- a row that a search gives has the text, and if it gives none the text isn't there
+-- if a search returns a row, the row has the text; if it returns None, the list doesn't have the text
 pub row_or_none : (texts : List (List ℕ)) (text : List ℕ) (o : Option ℕ) → o ≡ position (bytes_eq text) texts → is_some o ≡ list_any (bytes_eq text) texts
     → MatchOption o (list_any (bytes_eq text) texts ≡ false) (λ row. slice_get texts row ≡ Some text)
 row_or_none texts text None at there = sym there
 row_or_none texts text (Some row) at there = (row_found texts text row (sym at)).stored
 
--- ---- one path more
+-- ---- adding a path
 
 module _ (paths old new : List (List ℕ)) (rows : List ℕ) (path : List ℕ) (row : ℕ) where
   first_used : AreRows (length old) rows → (other : ℕ) → other < length old → list_any (nat_eq other) (rows ++ row ∷ []) ≡ true
@@ -129,7 +129,7 @@ module _ (paths old new : List (List ℕ)) (rows : List ℕ) (path : List ℕ) (
       before (inl e) within = ap (λ xs. taken xs rows) e
       before (inr e) within = ap (λ xs. taken xs rows) e.0 ∙ taken_same old (path ∷ []) rows within
 
--- ---- what is made of each folder
+-- ---- the results for each directory
 
 abbrev pub reals : List Place → List (List ℕ)
 reals places = map (λ place. place.real) places
@@ -144,15 +144,15 @@ module _ {Y : Type 0} (f : List ℕ → Y) where
   made_by_place [] = refl
   made_by_place (place ∷ places) = ap (λ ys. f place.real ∷ ys) (made_by_place places)
 
-  -- the same of each place is what is made of its folder
+  -- the result for each search directory is the result for its resolved directory
   pub made_shared : (places : List Place) (folders : List (List ℕ)) (rows : List ℕ) (items : List Y) → HaveRows (reals places) folders rows → items ≡ map f folders
       → taken items rows ≡ map (λ place. f place.real) places
   made_shared places folders rows items have e =
       ap (λ ys. taken ys rows) e ∙ taken_made f folders rows ∙ ap (map f) have.are ∙ made_by_place places
 
--- ---- the files of each
+-- ---- the files of each directory
 
--- whatever the order of the folders
+-- the order of the directories doesn't matter
 pub files_once : (t : Nodes) (places : List Place) (folders : List (List ℕ)) (rows : List ℕ) → HaveRows (reals places) folders rows
     → ascending (flat_map (files_at t) (ascending folders)) ≡ ascending (flat_map (files_in t) places)
 files_once t places folders rows have =
@@ -164,7 +164,7 @@ pub links_once : (t : Nodes) (places : List Place) (folders : List (List ℕ)) (
 unfolding followed
 links_once t places folders rows links have e = made_shared (links_at t) places folders rows links have e
 
--- ---- places that are gone over with what there is for each
+-- ---- loops over the search directories and the items for each
 
 nothing_left : {Y : Type 0} (f : Place → Y) (places : List Place) → map f places ≡ [] → places ≡ []
 nothing_left f [] e = refl
@@ -174,7 +174,7 @@ none_left : (places : List Place) → length places ≡ 0 → places ≡ []
 none_left [] e = refl
 none_left (place ∷ places) e = absurd (omega arith)
 
--- all of them end together
+-- all of the lists end together
 pub ended_together : {X Y Z W L M : Type 0} {P : X → Type 0} {Q : Z → Type 0} {R : W → Type 0} (f : Place → L) (g : Place → M) (places : List Place) (firsts : List L) (seconds : List M)
     → firsts ≡ map f places → seconds ≡ map g places
     → ((x : X) × (length places ≡ 0 × P x)) ⊎ (Y × (((x : Z) × (firsts ≡ [] × Q x)) ⊎ ((x : W) × (seconds ≡ [] × R x)))) → places ≡ []
@@ -184,6 +184,6 @@ ended_together f g places firsts seconds a b (inr e) = elim e.1 [
   | inr second ↦ nothing_left g places (sym b ∙ second.1.0)
 ]
 
--- what the places gave is the whole
+-- at the end, what was found is the whole result
 pub all_given : {Y : Type 0} (found whole : List Y) (f : List Place → List Y) (places : List Place) → f [] ≡ [] → places ≡ [] → found ++ f places ≡ whole → found ≡ whole
 all_given found whole f places nothing none e = sym (ap (λ (ps : List Place). found ++ f ps) none ∙ ap (λ ys. found ++ ys) nothing ∙ append-nil found) ∙ e

@@ -1,4 +1,4 @@
--- The links that lead to no file, by the folders of the places.
+-- Dangling links, grouped by the directories that the search directories resolve to.
 use Rattle.std.proofs.Common.{◌≡◌, ◌++◌, ◌||◌, not, ℕ, Bool, true, false, List, [], ◌∷◌, map, refl, ap, sym, ◌∙◌, Ordering}
 use Rattle.std.proofs.lemmas.Bool.{or_parts}
 use Rattle.std.proofs.lemmas.List.Concat.{flat_map_single}
@@ -45,7 +45,7 @@ module _ (t : Nodes) where
   abbrev folders_of : List FolderLinks → List (List ℕ)
   folders_of links = map (λ (folder : FolderLinks). folder.folder) links
 
-  -- whether the links of a folder that lead to no file are those of the tree
+  -- whether the dangling links of a directory are those of the tree
   abbrev is_right : FolderLinks → Bool
   is_right folder = pointwise bytes_eq (dangling_of folder) (dangling_in t folder.folder)
 
@@ -71,7 +71,7 @@ module _ (t : Nodes) where
   folders_are [] = refl
   folders_are (place ∷ places) = ap (λ folders. place.real ∷ folders) (folders_are places)
 
-  -- places that are one folder have one list of them
+  -- search directories that resolve to the same directory share one list of links
   all_gathered : (places : List Place) (each : List FolderLinks) → HaveSame each (map (folder_links t) places)
       → by_folder each ≡ listed (ascending (map (λ place. place.real) places))
   unfolding ascending

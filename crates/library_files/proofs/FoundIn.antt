@@ -1,4 +1,4 @@
--- The files of folders, and those behind links, as the tree has them.
+-- The files of directories and the files that links resolve to, with their keys and identities in the tree.
 use Rattle.std.proofs.Common.{◌≡◌, ℕ, Bool, true, false, cond, List, [], ◌∷◌, ◌++◌, map, refl, ap, sym, subst, ◌∙◌, Option, Some, None, Result, Ok, Err}
 use Rattle.std.proofs.ByRecursion.{All-append}
 use Rattle.std.proofs.lemmas.Bool.{and_from, and_parts, or_left, or_right}
@@ -33,7 +33,7 @@ use Rattle.library_files.proofs.Children as kinds
 
 -- ---- one path
 
--- a file at a path has it, and is the tree's
+-- the file that is found at a path has this path, and is a file of the tree
 with_node : (path : List ℕ) (n : Option Node) → paths_of (cons_option (file_with path n) []) ≡ cond (is_file_node n) (path ∷ []) []
 with_node path None = refl
 with_node path (Some node.Dir) = refl
@@ -50,7 +50,7 @@ paths_then : (o : Option FoundFile) (files : List FoundFile) → paths_of (cons_
 paths_then None files = refl
 paths_then (Some file) files = refl
 
--- ---- the files of folders
+-- ---- the files of directories
 
 module _ (t : Nodes) where
   abbrev pub found_in : List ℕ → List FoundFile
@@ -102,7 +102,7 @@ module _ (t : Nodes) where
       → AreFilesOf t sorted
   are_files folders files sorted are still = still t (subst (AreFilesOf t) (sym are) (folders_files folders))
 
-  -- ---- the files behind links
+  -- ---- the files that links resolve to
 
   abbrev pub is_there : List ℕ → Bool
   is_there path = is_file (kind_at t path)

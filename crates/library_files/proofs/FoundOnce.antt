@@ -56,7 +56,7 @@ paths_once files sorted once same ordered filtered =
     (λ z. ap (λ paths. list_any (bytes_eq z) paths) (paths_dedup sorted) ∙ dedup_in (bytes_eq z) (paths_of sorted)
     ∙ sym (list_any-IsPermutation (bytes_eq z) (paths_of files) (paths_of sorted) (IsPermutation-map path_of files sorted same)) ∙ sym (in_ascending (paths_of files) z)))
 
--- ---- what the tree says of them
+-- ---- their keys and identities
 
 pub still_files : (files sorted once : List FoundFile) → IsPermutation files sorted → IsFiltered (DiffersFromLast same_path) [] sorted once
     → (t : Nodes) → AreFilesOf t files → AreFilesOf t once

@@ -1,4 +1,4 @@
--- Names, targets and files' paths in one text: they stay as they are where the text gets longer, and a target may be the end of a path.
+-- Names, targets and files' paths in one text. They stay the same when the text gets longer. A target may be the end of a path.
 use Rattle.std.proofs.Common.{◌≡◌, ◌≤◌, ◌+◌, ◌-◌, ℕ, List, ◌++◌, true, append_assoc, drop, take, Option, Some, None, length, refl, ap, sym, ◌∙◌, nat_eq, arith}
 use Rattle.std.proofs.Math.Seq.{drop-append-add, drop-append_seam, take-append_seam}
 use Rattle.std.proofs.lemmas.List.{length-append, length-drop, length-take-le, take-append-drop}

@@ -1,4 +1,4 @@
--- The files behind links that have no analysis yet.
+-- The files that links resolve to and that have no ELF information yet.
 use Rattle.std.proofs.Common.{◌≡◌, ◌++◌, ℕ, List, [], ◌∷◌, if◌then◌else◌, refl, ap, sym, ◌∙◌, Option, Some, None}
 use Rattle.std.proofs.lemmas.List.Elements.{filter-append}
 use Rattle.std.specs.List.{cons_option, filter_map, flat_map}
@@ -38,7 +38,7 @@ module _ (what : Analyses) where
   unfolding reached
   all_unread t places links e = rw e (ap ascending (in_folders (followed t places)) ∙ ascending_left (λ path. is_none (what path)) (flat_map files_of (followed t places)))
 
-  -- those of each folder are enough
+  -- it is enough to go over each directory once
   pub unread_links : (t : Nodes) (places : List Place) (links each : List FolderLinks) → links ≡ followed t places → HaveSame each links
       → ascending (flat_map (unread_of what) each) ≡ unread what (reached t places)
   unread_links t places links each e same = ascending_alike (unread_of what) each links same ∙ all_unread t places links e

@@ -1,4 +1,4 @@
--- What is wanted are files, and their libraries stay while files elsewhere get an analysis.
+-- The wanted paths are files. Their libraries stay the same while other files get ELF information.
 use Rattle.std.proofs.Common.{◌≡◌, ℕ, true, cond, ◌&&◌, ◌||◌, List, [], ◌∷◌, flat_map, ap, sym, ◌∙◌, Some, None, subst}
 use Rattle.std.proofs.lemmas.Bool.{and_parts}
 use Rattle.std.proofs.lemmas.List.Folds.{list_any-append}
@@ -15,10 +15,10 @@ use Rattle.string_pool.proofs.InByteOrder.{in_ascending}
 use Rattle.string_pool.proofs.Members.{is_in, each_meets}
 use Rattle.library_files.specs.Search.{file_in, files_in, wanted}
 
--- ---- the files of places
+-- ---- the files of search directories
 
 module _ (t : Nodes) where
-  -- each is a file
+  -- each path is a file
   in_is_file : (folder name path : List ℕ) → any_item name ≡ true → file_in t folder name ≡ Some path → is_file (kind_at t path) ≡ true
   in_is_file folder name path any e = by_test (is_library_name name && is_file (kind_at t (join folder name)))
       (λ h.

@@ -1,4 +1,4 @@
--- A name in a directory by its node.
+-- A name in a directory, with its node.
 use Rattle.std.specs.Prelude.{◌≡◌, ℕ, Bool, true, false, List, if◌then◌else◌, Option, Some, None}
 use Rattle.lib_types.specs.Name.{is_name}
 use Rattle.name_order.specs.LibraryName.{is_library_name}
@@ -9,7 +9,7 @@ use Rattle.image_tree.specs.declared.node.Node.TheVariants as node
 use Rattle.image_tree.specs.declared.tree.Kind.TheVariants.{Dir}
 use Rattle.library_files.specs.FoundFile.{FoundFile}
 
--- the name stands in the directory with this node
+-- the directory has this name, with this node
 pub record IsChild (t : Nodes) (folder : List ℕ) (child : List ℕ × Option Node) : Type 0 where
   pub tree : IsTree t
   pub dir : kind_at t folder ≡ Dir
@@ -22,17 +22,17 @@ is_file_node (Some (node.Link target)) = false
 is_file_node (Some node.Dir) = false
 is_file_node None = false
 
--- the file at a path with this node, if it is one
+-- the file at a path with this node, if the node is a file
 abbrev pub file_with : List ℕ → Option Node → Option FoundFile
 file_with path (Some (node.File key id)) = Some (record { path = path; key = key; id = id })
 file_with path (Some (node.Link target)) = None
 file_with path (Some node.Dir) = None
 file_with path None = None
 
--- the file that a child is, if it has a library name
+-- the file of a child, if the child is a file with a library name
 abbrev pub found_of : List ℕ → List ℕ × Option Node → Option FoundFile
 found_of folder child = if is_library_name child.0 then file_with (join folder child.0) child.1 else None
 
--- the file at a path, if one is there
+-- the file at a path, if there is one
 abbrev pub file_there : Nodes → List ℕ → Option FoundFile
 file_there t path = file_with path (node_at t path)

@@ -1,4 +1,4 @@
--- Files of a tree, each with its key and its identity there.
+-- Files of a tree, each with its key and its identity in the tree.
 use Rattle.std.specs.Prelude.{◌≡◌, ℕ, List, map, Option, Some}
 use Rattle.std.specs.Cmp.{IsTotalOrder, on_total}
 use Rattle.std.specs.Cmp.Lexicographic.{nat_list_cmp_total, slice_cmp}

@@ -1,4 +1,4 @@
--- A link with a library name (ldconfig(8)), its target, and the path without links of the file to which it leads, if it leads to one.
+-- A link with a library name (ldconfig(8)), its target, and the resolved path of its file, if it resolves to a file.
 use Rattle.std.specs.Prelude.{ℕ, List, Option}
 
 pub record FollowedLink : Type 0 where

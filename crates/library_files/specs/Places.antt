@@ -1,4 +1,4 @@
--- The places in their order, and the links that are there.
+-- The search directories in order, and the links in them.
 use Rattle.std.specs.Prelude.{ℕ, ◌+◌, Bool, false, List, [], ◌∷◌, ◌++◌, Option, Some, None}
 use Rattle.std.specs.Option.{is_none}
 use Rattle.std.specs.Str.{bytes_eq}
@@ -7,12 +7,12 @@ use Rattle.image_tree.specs.Tree.{Nodes, node_at}
 use Rattle.image_tree.specs.declared.node.Node.{Node}
 use Rattle.image_tree.specs.declared.node.Node.TheVariants.{Dir, File, Link}
 
--- what each place has, with its number, in their order
+-- the items of each search directory, given its number, in the order of the search directories
 abbrev pub by_place : {A : Type 0} → (ℕ → Place → List A) → ℕ → List Place → List A
 by_place has number [] = []
 by_place has number (place ∷ places) = has number place ++ by_place has (number + 1) places
 
--- not a subdirectory for processors
+-- the search directory is not a `glibc-hwcaps` subdirectory
 abbrev pub has_no_cap : Place → Bool
 has_no_cap place = is_none place.cap
 
@@ -22,6 +22,6 @@ is_link_to text (Some Dir) = false
 is_link_to text (Some (File key id)) = false
 is_link_to text None = false
 
--- there is a link with this text at the path
+-- the path is a link with this target
 abbrev pub links_to : Nodes → List ℕ → List ℕ → Bool
 links_to t path text = is_link_to text (node_at t path)

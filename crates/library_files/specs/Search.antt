@@ -1,4 +1,4 @@
--- Which files of the searched places are looked at (ldconfig(8): files and links with library names).
+-- Which files of the search directories are examined (ldconfig(8): files and links with library names).
 use Rattle.std.specs.Prelude.{ℕ, List, ◌&&◌, if◌then◌else◌, flat_map, map, Option, Some, None}
 use Rattle.std.specs.List.{filter_map}
 use Rattle.std.specs.Option.{is_none}
@@ -13,7 +13,7 @@ use Rattle.string_pool.specs.Order.{ascending}
 use Rattle.library_files.specs.Link.{FollowedLink}
 use Rattle.library_files.specs.declared.links.FolderLinks.{FolderLinks}
 
--- the path of a name in a folder, if a file with a library name is there
+-- the path of a name in a directory, if the name is a library name and the path is a file
 abbrev pub file_in : Nodes → List ℕ → List ℕ → Option (List ℕ)
 file_in t folder name = if is_library_name name && is_file (kind_at t (join folder name)) then Some (join folder name) else None
 
@@ -25,13 +25,14 @@ files_at t folder = filter_map (file_in t folder) (children_of t folder)
 abbrev pub files_in : Nodes → Place → List (List ℕ)
 files_in t place = files_at t place.real
 
--- The files with library names in these places, by their paths.
+-- The files with library names in these search directories, sorted by their paths.
 unfoldable pub wanted : Nodes → List Place → List (List ℕ)
 wanted t places = ascending (flat_map (files_in t) places)
 
 -- ---- the links with library names
 
--- the link that a name in a folder is by its node, if it is a library name, and the file to which it leads, if it leads to one
+-- The link of a name and its node, if the node is a link and the name is a library name.
+-- `file` is None if the link doesn't resolve to a file.
 abbrev pub link_with : Nodes → List ℕ → List ℕ → Option Node → Option FollowedLink
 link_with t folder name (Some (node.Link target)) =
     if is_library_name name then Some (record { name = name; target = target; file = file_at t (join folder name) }) else None
@@ -48,14 +49,14 @@ followed_in t folder = filter_map (followed_by t folder) (children_of t folder)
 abbrev pub links_at : Nodes → List ℕ → FolderLinks
 links_at t folder = record { folder = folder; links = followed_in t folder }
 
--- those of each place
+-- the links with library names in a search directory
 abbrev pub folder_links : Nodes → Place → FolderLinks
 folder_links t place = links_at t place.real
 
 unfoldable pub followed : Nodes → List Place → List FolderLinks
 followed t places = map (folder_links t) places
 
--- ---- the files to which they lead
+-- ---- the files that the links resolve to
 
 abbrev pub files_of : FolderLinks → List (List ℕ)
 files_of folder = filter_map (λ link. link.file) folder.links
@@ -63,19 +64,20 @@ files_of folder = filter_map (λ link. link.file) folder.links
 abbrev pub files_behind : List FolderLinks → List (List ℕ)
 files_behind followed = ascending (flat_map files_of followed)
 
--- The files to which the links with library names in these places lead, by their paths.
+-- The files that the links with library names in these search directories resolve to, sorted by their paths.
 unfoldable pub reached : Nodes → List Place → List (List ℕ)
 reached t places = files_behind (followed t places)
 
--- ---- the links that lead nowhere
+-- ---- dangling links
 
--- the path of a link that leads to no file
+-- the path of a link that doesn't resolve to a file
 abbrev pub unless_file : List ℕ → FollowedLink → Option (List ℕ)
 unless_file folder link = if is_none link.file then Some (join folder link.name) else None
 
 abbrev pub dangling_in : Nodes → List ℕ → List (List ℕ)
 dangling_in t folder = filter_map (unless_file folder) (followed_in t folder)
 
--- The links with library names in these places that lead to no file, by the bytes of the place's path and then of the name.
+-- The links with library names in these search directories that don't resolve to a file. They are sorted by the bytes of the directory's
+-- resolved path, then by the bytes of the name.
 unfoldable pub dangling : Nodes → List Place → List (List ℕ)
 dangling t places = flat_map (dangling_in t) (ascending (map (λ place. place.real) places))

@@ -1,4 +1,4 @@
-//! Links with library names, and where they lead.
+//! Links with library names, and the files that they resolve to.
 ghost use Rattle.std.specs.Option.{option_copied};
 ghost use Rattle.std.specs.List.{slice_get};
 ghost use Rattle.std.specs.Prelude.{◌≡◌, ◌∷◌, ◌++◌, [], IfOk, OnOk, length};
@@ -9,7 +9,8 @@ use lib_types::{NoMemory, Part};
 use std::alloc::Global;
 use std::marker::Model;
 
-/// A link with a library name, its target, and the path without links of the file to which it leads; None if it leads to no file.
+/// A link with a library name, its target, and the resolved path of its file. `file` is None if the link doesn't resolve to
+/// a file.
 #[derive(Drop)]
 pub struct FollowedLink<'a> {
     pub name: &'a [u8],
@@ -26,7 +27,7 @@ impl<'a> Model for FollowedLink<'a> {
     ghost view = { λ l. record { name = l.name.now; target = l.target.now; file = option_copied l.file } };
 }
 
-// Where a link's name is in a text, its target, and the path of the file to which it leads.
+// The positions of a link's name, its target and its file's path in a text.
 #[derive(Clone, Copy)]
 struct LinkRow {
     name: Part,
@@ -34,8 +35,8 @@ struct LinkRow {
     file: Option<Part>,
 }
 
-/// The links with library names of a folder, by the bytes of their names. The names, the targets and the files' paths are kept in one text.
-/// Contracts see it as the list of the links.
+/// The links with library names in a directory, sorted by the bytes of their names. The names, the targets and the files'
+/// paths are stored in one text. Contracts see the list of the links.
 #[derive(Drop)]
 pub struct FollowedLinks {
     text: Vec<u8>,
@@ -70,7 +71,7 @@ fn link_in<'a>(text: &'a [u8], row: &LinkRow) -> FollowedLink<'a>
     }
 }
 
-// Where the target of a link to this file is in a text. Most targets are the end of the file's path, and aren't kept once more.
+// The position of a target in a text that has the file's path. Most targets are the end of the path, so they need no copy.
 fn add_target(text: &mut Vec<u8>, target: &[u8], file: Part) -> Result<Part, NoMemory>
     requires { IsWithin (length text.old.items) file }
     ensures longer { IsLonger text.old.items text.new.items }
@@ -86,7 +87,7 @@ fn add_target(text: &mut Vec<u8>, target: &[u8], file: Part) -> Result<Part, NoM
     Part::add(text, target)
 }
 
-// Adds the name of a link to a text, its target, and the path of the file to which it leads.
+// Adds a link's name, its target and its file's path to a text.
 fn add_parts(
     text: &mut Vec<u8>,
     name: &[u8],
@@ -116,7 +117,7 @@ fn add_parts(
 }
 
 impl FollowedLinks {
-    /// No links.
+    /// An empty list of links.
     pub(crate) fn new(alloc: Global) -> FollowedLinks
         ensures { result ≡ [] }
     {
@@ -126,14 +127,14 @@ impl FollowedLinks {
         }
     }
 
-    /// How many they are.
+    /// The number of links.
     pub fn len(&self) -> usize
         ensures { result ≡ length self.now }
     {
         self.rows.len()
     }
 
-    /// Adds a link with this name and this target, which leads to the file with this path, or to none. All are copied.
+    /// Adds a link with this name, this target and, if the link resolves to a file, the file's path. All are copied.
     pub(crate) fn push(
         &mut self,
         name: &[u8],
@@ -147,7 +148,7 @@ impl FollowedLinks {
         Ok(())
     }
 
-    /// Gives back the room for more links.
+    /// Frees the memory that is reserved for more links.
     pub(crate) fn shrink_to_fit(&mut self)
         ensures { self.new ≡ self.old }
     {
@@ -155,7 +156,7 @@ impl FollowedLinks {
         self.rows.shrink_to_fit();
     }
 
-    /// The links, borrowed.
+    /// An iterator over the links.
     pub fn iter(&self) -> FollowedIter<'_>
         ensures { result ≡ self.now }
     {
@@ -166,7 +167,7 @@ impl FollowedLinks {
     }
 }
 
-/// Links of a folder, one after another. Contracts see it as the list of those that are left.
+/// An iterator over the links of a directory. Contracts see the list of the remaining links.
 #[derive(Drop)]
 pub struct FollowedIter<'a> {
     text: &'a [u8],
@@ -186,7 +187,7 @@ impl<'a> Model for FollowedIter<'a> {
 }
 
 impl<'a> FollowedIter<'a> {
-    /// The first of those that are left, which stays.
+    /// The next link. It is not consumed.
     pub fn first(&self) -> Option<FollowedLink<'a>>
         ensures { result ≡ slice_get self.now 0 }
     {

@@ -1,4 +1,4 @@
-//! Files of a tree, with what the tree says of them.
+//! Files of a tree, with their keys and identities.
 ghost use Rattle.std.proofs.Common.{refl};
 ghost use Rattle.std.specs.Cmp.{eq_by_cmp_equiv, partial_equiv_from_equiv, partial_order_from_total};
 ghost use Rattle.std.specs.Option.{option_copied};
@@ -16,7 +16,7 @@ use std::cmp::Ordering;
 use std::marker::Model;
 use tree_face::{Id, Node, Tree};
 
-/// A file of a tree: its path without links, and its key and its identity there. Files are sorted by their paths.
+/// A file of a tree: its resolved path, its key and its identity. Files are sorted by their paths.
 #[derive(Drop)]
 pub struct FoundFile<'a> {
     pub path: Text,
@@ -71,7 +71,7 @@ impl<'a> Ord for FoundFile<'a> {
     }
 }
 
-/// The file at a path with this node, if it is one.
+/// The file at a path with this node, if the node is a file.
 pub(crate) fn file_with<'a>(path: Text, node: Option<&'a Node>) -> Option<FoundFile<'a>>
     ensures { result ≡ file_with path (option_copied node.entry) }
 {
@@ -103,7 +103,8 @@ pub(crate) fn files_there<'a>(
     Ok(files)
 }
 
-/// Files by the bytes of their paths, each once. Lists that are made folder by folder come in a few sorted runs, which cost little.
+/// The files sorted by the bytes of their paths, each once. A list that is built directory by directory has a few sorted runs,
+/// so sorting it is fast.
 #[tactic(auto, using(crate::proofs::FoundOnce::paths_once, crate::proofs::FoundOnce::still_files))]
 pub(crate) fn in_order<'a>(files: Vec<FoundFile<'a>>) -> Result<Vec<FoundFile<'a>>, NoMemory>
     ensures paths { IfOk result (λ sorted. paths_of sorted.items ≡ ascending (paths_of files.entry.items)) }

@@ -1,4 +1,4 @@
-//! The files and the links with library names in the searched places: which are looked at, and where the links lead.
+//! The files and links with library names in the search directories: which are examined, and what the links resolve to.
 #![tactic(auto)]
 
 mod followed;

@@ -1,4 +1,4 @@
-//! The links with library names in the searched places, each followed once.
+//! The links with library names in the search directories. Each link is resolved once.
 ghost use Rattle.std.specs.Option.{option_copied, option_map};
 ghost use Rattle.std.specs.Prelude.{◌≡◌, ◌∷◌, ◌++◌, [], IfOk, List, OnOk, flat_map, map};
 ghost use Rattle.hwcap_dirs.specs.declared.kinds.Place.{Place};
@@ -26,25 +26,25 @@ use std::collections::BTreeMap;
 use string_pool::{Shared, ascending};
 use tree_face::{Node, Tree};
 
-/// The links with library names in a folder, by the bytes of their names.
+/// The links with library names in a directory, sorted by the bytes of their names.
 #[derive(Drop)]
 pub struct FolderLinks {
-    /// The folder's path, without links.
+    /// The directory's resolved path.
     pub folder: Text,
     pub links: FollowedLinks,
 }
 
-/// The links with library names of each place, in the order of the places.
+/// The links with library names of each search directory, in the order of the search directories.
 pub type PlaceLinks = Shared<FolderLinks>;
 
-// A link's target, and the file to which it leads, or none.
+// A link's target, and the file that it resolves to, or None.
 #[derive(Drop)]
 struct Led<'a> {
     target: &'a [u8],
     file: Option<Text>,
 }
 
-// Where the link that a child with this node is leads, if it has a library name.
+// The target and file of a child, if the child is a link with a library name.
 fn led_by<'a>(
     alloc: Global,
     tree: &Tree,
@@ -65,7 +65,7 @@ fn led_by<'a>(
     }
 }
 
-// Adds a link with this name, which leads there.
+// Adds a link with this name, target and file.
 fn add_link(links: &mut FollowedLinks, name: &[u8], led: Led<'_>) -> Result<(), NoMemory>
     ensures { OnOk result (links.new ≡ links.old ++ link_by name.now led.entry ∷ []) }
 {
@@ -75,7 +75,7 @@ fn add_link(links: &mut FollowedLinks, name: &[u8], led: Led<'_>) -> Result<(), 
     }
 }
 
-// The links with library names in a folder.
+// The links with library names in a directory.
 #[tactic(auto, using(crate::proofs::Children::names_listed, crate::proofs::Children::all_children))]
 fn followed_in(alloc: Global, tree: &Tree, folder: &[u8]) -> Result<FollowedLinks, NoMemory>
     ensures { IfOk result (λ links. links ≡ followed_in tree.now folder.now) }
@@ -90,7 +90,7 @@ fn followed_in(alloc: Global, tree: &Tree, folder: &[u8]) -> Result<FollowedLink
     Ok(links)
 }
 
-// The links with library names in each of these folders.
+// The links with library names in each of these directories.
 fn followed_each(alloc: Global, tree: &Tree, folders: &[Text]) -> Result<Vec<FolderLinks>, NoMemory>
     ensures { IfOk result (λ links. links.items ≡ map (links_at tree.now) folders.now) }
 {
@@ -104,8 +104,8 @@ fn followed_each(alloc: Global, tree: &Tree, folders: &[Text]) -> Result<Vec<Fol
     Ok(followed)
 }
 
-/// The links with library names in the places, each with the file to which it leads. A folder that is many places is looked through
-/// once.
+/// The links with library names in the search directories, each with the file that it resolves to. If several search
+/// directories resolve to the same directory, it is listed once.
 #[tactic(auto, using(crate::proofs::FolderRows::links_once))]
 pub fn follow(alloc: Global, tree: &Tree, dirs: &Dirs) -> Result<PlaceLinks, NoMemory>
     ensures { IfOk result (λ links. links ≡ followed tree.now dirs.now.places) }
@@ -115,9 +115,9 @@ pub fn follow(alloc: Global, tree: &Tree, dirs: &Dirs) -> Result<PlaceLinks, NoM
     Ok(Shared::new(links, folders.rows))
 }
 
-// ---- where they lead
+// ---- the files that the links resolve to
 
-// The file to which a link leads, if it has no analysis.
+// The file that a link resolves to, if it has no ELF information.
 fn unread_file<'a>(table: &Table, link: &FollowedLink<'a>) -> Option<&'a [u8]>
     ensures { option_copied result ≡ unread_file (analysis_at table.now) link.now }
 {
@@ -128,7 +128,7 @@ fn unread_file<'a>(table: &Table, link: &FollowedLink<'a>) -> Option<&'a [u8]>
     Some(file)
 }
 
-// Adds those of the files to which these links lead that have no analysis.
+// Adds the files that these links resolve to and that have no ELF information.
 fn add_unread(
     alloc: Global,
     folder: &FolderLinks,
@@ -145,7 +145,7 @@ fn add_unread(
     Ok(())
 }
 
-// They of all folders, by their bytes, each once.
+// These files for all directories, sorted by their bytes, each once.
 fn unread_in(alloc: Global, folders: &[FolderLinks], table: &Table) -> Result<Texts, NoMemory>
     ensures { IfOk result (λ paths. paths ≡ ascending (flat_map (unread_of (analysis_at table.now)) folders.now)) }
 {
@@ -156,8 +156,8 @@ fn unread_in(alloc: Global, folders: &[FolderLinks], table: &Table) -> Result<Te
     ascending(paths)
 }
 
-/// Those of the files to which the links of the places lead that have no analysis: their paths without links, by their bytes, each
-/// once. Most links lead to files that were read before, so few paths are copied and sorted.
+/// The resolved paths of the files that the links resolve to and that have no ELF information. They are sorted by their
+/// bytes, each once. Most links resolve to files that were read before, so few paths are copied and sorted.
 fn unread_behind(alloc: Global, links: &PlaceLinks, table: &Table) -> Result<Texts, NoMemory>
     ensures { (t : Nodes) (places : List Place) → links.now ≡ followed t places → IfOk result (λ paths. paths ≡ unread (analysis_at table.now) (reached t places)) }
 {
@@ -165,7 +165,7 @@ fn unread_behind(alloc: Global, links: &PlaceLinks, table: &Table) -> Result<Tex
     Ok(paths)
 }
 
-/// The same, each with what the tree says of it.
+/// The same files, each with its key and identity.
 #[tactic(auto, using(crate::proofs::FoundIn::all_reached))]
 pub fn unread_files<'a>(
     alloc: Global,
@@ -184,7 +184,8 @@ pub fn unread_files<'a>(
     Ok(files)
 }
 
-/// The files to which links with library names in the places lead: their paths without links, by their bytes, each once.
+/// The resolved paths of the files that links with library names in the search directories resolve to, sorted by their
+/// bytes, each once.
 #[tactic(auto, using(file_table::proofs::Unread::none_read))]
 pub fn reached(alloc: Global, tree: &Tree, dirs: &Dirs) -> Result<Texts, NoMemory>
     ensures { IfOk result (λ paths. paths ≡ reached tree.now dirs.now.places) }
@@ -193,7 +194,7 @@ pub fn reached(alloc: Global, tree: &Tree, dirs: &Dirs) -> Result<Texts, NoMemor
     unread_behind(alloc, &links, &Table::new(alloc))
 }
 
-// The paths of the links of a folder that lead to no file.
+// The paths of the dangling links of a directory: links that don't resolve to a file.
 fn dangling_of(alloc: Global, folder: &FolderLinks) -> Result<Texts, NoMemory>
     ensures { IfOk result (λ paths. paths ≡ dangling_of folder.now) }
 {
@@ -206,7 +207,7 @@ fn dangling_of(alloc: Global, folder: &FolderLinks) -> Result<Texts, NoMemory>
     Ok(paths)
 }
 
-// They by their folders.
+// The dangling links of all directories, grouped by directory.
 fn by_folder(alloc: Global, folders: &[FolderLinks]) -> Result<BTreeMap<Text, Texts>, NoMemory>
     ensures { IfOk result (λ found. found.entries ≡ by_folder folders.now) }
 {
@@ -228,7 +229,7 @@ fn append(all: &mut Texts, texts: Texts) -> Result<(), NoMemory>
     Ok(())
 }
 
-// They of all folders, in the order of the folders' bytes.
+// The dangling links of all directories, in the order of the directories' bytes.
 fn dangling_in_order(alloc: Global, folders: &[FolderLinks]) -> Result<Texts, NoMemory>
     ensures { IfOk result (λ paths. paths ≡ dangling_in_order folders.now) }
 {
@@ -239,8 +240,8 @@ fn dangling_in_order(alloc: Global, folders: &[FolderLinks]) -> Result<Texts, No
     Ok(paths)
 }
 
-/// Those of the links with library names in the places that lead to no file: their paths without links, by the bytes of the place's
-/// path and then of the name, each once.
+/// The paths of those of these links that don't resolve to a file. Each path is the directory's resolved path and the link's
+/// name. The paths are sorted by the bytes of the directory's path, then of the name, each once.
 pub fn dangling_among(alloc: Global, links: &PlaceLinks) -> Result<Texts, NoMemory>
     ensures { (t : Nodes) (places : List Place) → links.now ≡ followed t places → IfOk result (λ paths. paths ≡ dangling t places) }
 {
@@ -248,7 +249,7 @@ pub fn dangling_among(alloc: Global, links: &PlaceLinks) -> Result<Texts, NoMemo
     Ok(paths)
 }
 
-/// The links with library names in the places that lead to no file, as of links that were followed.
+/// The links with library names in the search directories that don't resolve to a file. Resolves all links itself.
 pub fn dangling(alloc: Global, tree: &Tree, dirs: &Dirs) -> Result<Texts, NoMemory>
     ensures { IfOk result (λ paths. paths ≡ dangling tree.now dirs.now.places) }
 {

@@ -1,4 +1,4 @@
-//! The folders that places are. Many places may be one.
+//! The directories that the search directories resolve to. Several search directories may resolve to the same one.
 ghost use Rattle.std.specs.Prelude.{◌≡◌, IfOk, map};
 ghost use Rattle.library_files.specs.RealFolders.{AreFolders, IsRowOf};
 
@@ -7,16 +7,16 @@ use indexmap::IndexSet;
 use lib_types::{NoMemory, Seq, Text, TextRef, Texts};
 use std::alloc::Global;
 
-/// The folders that places are.
+/// The directories that the search directories resolve to.
 #[derive(Drop)]
 pub struct RealFolders {
-    /// Their paths without links, each once, in the order of their first places.
+    /// Their resolved paths, each once, in the order of their first search directories.
     pub paths: IndexSet<Text>,
-    /// The index of each place's folder among them.
+    /// For each search directory, the index of its path in `paths`.
     pub rows: Seq<usize>,
 }
 
-// The row of a path, which is put in if it isn't there.
+// The row of a path. Inserts the path if it isn't in the set.
 #[tactic(auto, using(crate::proofs::FolderRows::row_found, crate::proofs::FolderRows::row_put))]
 fn row_of(alloc: Global, met: &mut IndexSet<Text>, path: &[u8]) -> Result<usize, NoMemory>
     ensures { IfOk result (λ row. IsRowOf met.old.keys path.now row met.new.keys) }
@@ -39,7 +39,7 @@ pub(crate) fn texts_of(alloc: Global, met: IndexSet<Text>) -> Result<Texts, NoMe
     Ok(texts)
 }
 
-/// The folders that the places are, and which of them each place is.
+/// The directories that the search directories resolve to, and the index for each search directory.
 pub fn real_folders(alloc: Global, dirs: &Dirs) -> Result<RealFolders, NoMemory>
     ensures { IfOk result (AreFolders (map (λ place. place.real) dirs.now.places)) }
 {

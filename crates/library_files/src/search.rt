@@ -1,4 +1,4 @@
-//! The files of the searched places that are looked at.
+//! The files of the search directories that are examined.
 ghost use Rattle.std.specs.Option.{option_copied};
 ghost use Rattle.std.specs.List.{filter_map, flat_map};
 ghost use Rattle.std.specs.Prelude.{◌≡◌, ◌++◌, IfOk, OnOk};
@@ -17,7 +17,7 @@ use std::alloc::Global;
 use string_pool::ascending;
 use tree_face::{Node, Tree};
 
-// The file that a child with this node is, if it has a library name.
+// The file of a child with this node, if the child is a file with a library name.
 fn found_of<'a>(
     alloc: Global,
     folder: &[u8],
@@ -34,7 +34,7 @@ fn found_of<'a>(
     }
 }
 
-// Adds the files with library names in a folder.
+// Adds the files with library names in a directory.
 fn add_files<'a>(
     alloc: Global,
     tree: &'a Tree,
@@ -51,7 +51,7 @@ fn add_files<'a>(
     Ok(())
 }
 
-// The files with library names in these folders.
+// The files with library names in these directories.
 fn files_of<'a>(
     alloc: Global,
     tree: &'a Tree,
@@ -66,8 +66,8 @@ fn files_of<'a>(
     Ok(files)
 }
 
-/// The files with library names in the places, by the bytes of their paths, each once. The folders are gone through by their bytes as
-/// well, so that little is left to sort: a folder's files come by their names.
+/// The files with library names in the search directories, sorted by the bytes of their paths, each once. The directories are
+/// visited in the order of their bytes, and each one's files are listed by name, so little is left to sort.
 #[tactic(auto, using(crate::proofs::FoundIn::all_wanted))]
 pub fn wanted_files<'a>(
     alloc: Global,
@@ -85,7 +85,7 @@ pub fn wanted_files<'a>(
     Ok(sorted)
 }
 
-/// The paths of the files with library names in the places, by their bytes.
+/// The paths of the files with library names in the search directories, sorted by their bytes.
 pub fn wanted(alloc: Global, tree: &Tree, dirs: &Dirs) -> Result<Texts, NoMemory>
     ensures { IfOk result (λ paths. paths ≡ wanted tree.now dirs.now.places) }
 {

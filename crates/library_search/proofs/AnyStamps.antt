@@ -1,4 +1,4 @@
--- What is read whatever stamps say: only a file of the tree that isn't held ends the reading beside the device's faults.
+-- Reading files, without assumptions on stamps. It ends early only if the store fails or a file's content isn't held.
 use Rattle.std.proofs.Common.{◌≡◌, ◌||◌, ℕ, Bool, true, false, cond, List, [], ◌∷◌, Option, Some, None, refl, ap, sym, ◌∙◌}
 use Rattle.std.proofs.lemmas.Bool.{or_left, or_right}
 use Rattle.std.specs.List.{cons_option, filter_map, list_any}
@@ -79,7 +79,7 @@ wanted_some scope held t loaded lacks = by_test (conf_lacks (conf_of scope) held
 
 -- ---- the reading
 
--- the reading in a store that holds this
+-- the reading in a store with these contents
 abbrev pub AnyBy : Scope → Nodes → Option Contents → Ending → StoreState → StoreState → Type 0
 AnyBy scope t known e a b = ReadsFiles (IsSomeAnd known (λ held. lacks_some scope held t ≡ true)) None None e a b
 

@@ -1,4 +1,4 @@
--- The best libraries of the places are the same once links are put and more files are read.
+-- The best libraries stay the same after links are put and more files are read.
 use Rattle.std.proofs.Common.{◌≡◌, true, cond, List, [], ◌∷◌, map, refl, ap, sym, subst, ◌∙◌, Option, Some, None}
 use Rattle.std.specs.Option.{is_none, is_some}
 use Rattle.file_stamps.specs.Files.{AreRead}

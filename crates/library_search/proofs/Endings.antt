@@ -1,4 +1,4 @@
--- How the reading of files ends, by the faults of its parts.
+-- How the reading of files ends, derived from the errors of its parts.
 use Rattle.std.proofs.Common.{◌≡◌, ℕ, true, false, List, Option, Err, refl}
 use Rattle.aux_cache.specs.declared.stamps.Stamp.{Stamp}
 use Rattle.elf_dynamic.specs.declared.fault.AnalyseFault.{AnalyseFault}
@@ -51,7 +51,7 @@ module _ (scope : Scope) (t : Nodes) (loaded : List Stamp) (a b : StoreState) wh
   search_failed A B finding.NoMemory is reads = early GaveUp tt reads
   search_failed A B (finding.TooLarge nodes) is reads = absurd (cc)
 
-  -- no links are put
+  -- the links can't be put
   pub links_failed : (B : Type 0) (fault : ApplyFault) → ((nodes : ℕ) → fault ≡ applying.TooLarge nodes → IfKnown a.held (λ held. has_too_many_nodes scope held t loaded ≡ true))
       → SearchBy scope t loaded a.held Complete a b → ReadsFinding scope t loaded (find_ending {A = B} (Err (of_apply fault))) a b
   links_failed B (applying.TooLarge nodes) many reads = record { keys = update_small scope t loaded a.held a b (many nodes refl) reads; any = search_any scope t loaded Complete a.held a b reads }
@@ -60,14 +60,14 @@ module _ (scope : Scope) (t : Nodes) (loaded : List Stamp) (a b : StoreState) wh
   module _ (none : IfKnown a.held (λ held. lacks_wanted scope held t loaded ≡ false)) (few : IfKnown a.held (λ held. has_too_many_nodes scope held t loaded ≡ false))
       (new : Nodes) (alike : IsSearchedAlike t new) (stamps : List Stamp) (paths : List (List ℕ))
       (are : IfKnown a.held (λ held. opened_keys held new stamps paths ≡ behind_keys scope held t loaded)) (first : SearchBy scope t loaded a.held Complete a b) (c : StoreState) where
-    -- the files that links lead to are read
+    -- the link targets are read
     pub behind_read : (e : Ending) → ReadsOpenedBy a.held (λ held. opened_keys held new stamps paths) e b c → ReadsFinding scope t loaded e a c
     behind_read e next = record {
       keys = update_all scope t loaded e a.held (λ held. opened_keys held new stamps paths) a b c none few are first next;
       any = update_any scope t loaded e a.held new stamps paths a b c alike first next;
     }
 
-    -- they aren't
+    -- the reading of the link targets fails
     pub behind_failed : (A B : Type 0) (fault : FindFault) → is_store_fault fault ≡ true
         → ReadsOpenedBy a.held (λ held. opened_keys held new stamps paths) (find_ending {A = A} (Err fault)) b c → ReadsFinding scope t loaded (find_ending {A = B} (Err fault)) a c
     behind_failed A B finding.StoreFault is next = behind_read DeviceFailed next

@@ -1,4 +1,4 @@
--- What was read of the files of an image is what they are.
+-- The analyses that were read for an image's files are right.
 use Rattle.std.proofs.Common.{◌≡◌, ◌||◌, ◌++◌, ℕ, true, false, not, List, [], ◌∷◌, Option, Some, None, refl, ap, sym, ◌∙◌, filter}
 use Rattle.std.proofs.lemmas.Bool.{or_left, or_right}
 use Rattle.std.proofs.lemmas.List.Folds.{list_any-append}
@@ -32,7 +32,7 @@ use Rattle.update_report.proofs.Picked.{in_table, same_picked}
 use Rattle.update_report.proofs.SkipsOfFiles.{skips_agree}
 use Rattle.update_report.specs.Skips.{skip_at}
 
--- ---- the order of the paths that are read
+-- ---- the order in which the paths are read
 
 pub wanted_sorted : (t : Nodes) (places : List Place) → IsStrictlySortedBy (slice_cmp nat_cmp) (wanted t places)
 unfolding wanted
@@ -70,9 +70,9 @@ module _ (held : Contents) (t new : Nodes) (alike : IsSearchedAlike t new) where
   pub what_same : (path : List ℕ) → what_is held new path ≡ what_is held t path
   what_same path = ap (λ k. option_map analysis (option_and_then held k)) (key_same path)
 
--- ---- the files that links lead to
+-- ---- the targets of links
 
--- the rows are about the paths there
+-- a path with an analysis is the path of a row
 has_row : (rows : Rows) (path : List ℕ) → is_some (analysis_at rows path) ≡ true → is_in (keys_of rows) path ≡ true
 has_row [] path h = absurd (cc)
 has_row (e ∷ rows) path h = by_test (bytes_eq path e.0)
@@ -92,13 +92,13 @@ module _ (rows : Rows) (wanted_paths : List (List ℕ)) (all : HaveAnalyses (ana
       (λ f. let z : true ≡ false = sym (only path (has_row rows path f)) ∙ e in absurd (cc))
       (λ f. f ∙ sym e))
 
-  -- those that weren't read are the others
+  -- the unread paths are those that aren't wanted paths
   pub unread_are : (paths : List (List ℕ)) → unread (analysis_at rows) paths ≡ filter (λ path. not (is_in wanted_paths path)) paths
   unread_are paths =
       ap (λ keep. filter keep paths)
       (agree (λ path. is_none (analysis_at rows path)) (λ path. not (is_in wanted_paths path)) (λ path. none_not (analysis_at rows path) ∙ ap not (some_there path)))
 
--- ---- the files that are not libraries
+-- ---- the files that aren't libraries
 
 module _ (what : Analyses) (rows : Rows) (wanted_paths reached_paths : List (List ℕ)) where
   all_agree : AgreeOn wanted_paths what (analysis_at rows) → AgreeOn reached_paths what (analysis_at rows) → AgreeOn (ascending (wanted_paths ++ reached_paths)) what (analysis_at rows)

@@ -1,4 +1,4 @@
--- All that an update finds, part by part.
+-- The results of an update's search, part by part.
 use Rattle.std.proofs.Common.{◌≡◌, ◌≤◌, ◌<◌, ◌+◌, ◌||◌, ◌&&◌, ◌++◌, ℕ, Bool, true, false, not, refl, List, [], length, ap, sym, subst, ◌∙◌, filter, arith}
 use Rattle.std.proofs.lemmas.Bool.{or_left, or_right}
 use Rattle.std.proofs.lemmas.List.Elements.{filter_map-append}
@@ -37,6 +37,7 @@ use Rattle.file_stamps.specs.declared.files.Files.{Files}
 use Rattle.tree_face.specs.Store.{Contents}
 use Rattle.image_tree.specs.Tree.{Nodes}
 use Rattle.library_search.proofs.FilesAgree.{id_same, reached_sorted, skips_are, unread_are}
+use Rattle.library_search.proofs.Judged.{judged_same}
 use Rattle.library_search.proofs.KeysBegun.{keys_counted}
 use Rattle.library_search.proofs.Limits.{over, within}
 use Rattle.library_search.proofs.SaidBoth.{said_behind, said_front, stamps_agree}
@@ -46,6 +47,7 @@ use Rattle.library_search.specs.declared.finding.Found.{Found}
 use Rattle.library_search.specs.declared.following.Followed.{Followed}
 use Rattle.library_search.specs.declared.search.Search.{Search}
 use Rattle.library_search.specs.Ldconfig.{behind_in, best_libraries, conf_of, entries_in, links_in, planned_in, reached_in, said_files, said_wanted, stamps_in, wanted_in}
+use Rattle.library_search.specs.Judged.{judged}
 use Rattle.library_search.specs.Found.{HasTooManyNodes, IsFound, IsSearched}
 use Rattle.update_report.specs.Skips.{skip_at}
 
@@ -53,14 +55,15 @@ module _ (scope : Scope) (held : Contents) (t : Nodes) (loaded : List Stamp) (se
   abbrev table : Analyses
   table = analysis_at search.files.table
 
+  -- the analyses of the files with library names, as the links are planned for them
   abbrev said : Analyses
-  said = said_wanted scope held t loaded
+  said = judged scope (said_wanted scope held t loaded)
 
   wanted_are : wanted t search.dirs.places ≡ wanted_in scope held t
   unfolding wanted_in
   wanted_are = ap (wanted t) s.places
 
-  pub agree_wanted : AgreeOn (wanted t search.dirs.places) (said_wanted scope held t loaded) (analysis_at search.files.table)
+  pub agree_wanted : AgreeOn (wanted t search.dirs.places) (judged scope (said_wanted scope held t loaded)) (analysis_at search.files.table)
   agree_wanted = subst (λ (paths : List (List ℕ)). AgreeOn paths said table) (sym wanted_are) s.said
 
   pub links_are : links (analysis_at search.files.table) t search.dirs.places ≡ links_in scope held t loaded
@@ -93,7 +96,7 @@ module _ (scope : Scope) (held : Contents) (t : Nodes) (loaded : List Stamp) (se
     abbrev there : List Stamp
     there = stamps_there loaded search.files
 
-    -- the files that links lead to and that weren't read
+    -- the link targets that weren't read
     abbrev behind : List (List ℕ)
     behind = unread_paths search.files (reached new search.dirs.places)
 
@@ -109,7 +112,7 @@ module _ (scope : Scope) (held : Contents) (t : Nodes) (loaded : List Stamp) (se
         ∙ ap (λ paths. filter (λ path. not (is_in (wanted t search.dirs.places) path)) paths) reached_are
         ∙ ap (λ paths. filter (λ path. not (is_in paths path)) (reached_in scope held t loaded)) wanted_are
 
-    -- the stamps there are those of the same identities
+    -- the existing stamps have the same identities
     opened_are : opened_keys held new there behind ≡ opened_keys held new (stamps_wanted scope held t loaded) behind
     opened_are = keys_alike held new there (stamps_wanted scope held t loaded) behind behind_sorted s.stamped
 
@@ -130,18 +133,19 @@ module _ (scope : Scope) (held : Contents) (t : Nodes) (loaded : List Stamp) (se
     opened_is : (after : ℕ) → after ≡ search.files.begun + length (opened_keys held new there behind) → after ≡ opened_in scope held t loaded
     opened_is after next = let keys = ap length behind_are in omega (arith, s.begun, next, keys)
 
-    -- ---- what files are said to be
+    -- ---- the analyses of files
 
     said_first : AgreeOn (wanted_in scope held t) (said_files scope held t loaded) (said_wanted scope held t loaded)
     unfolding said_files said_wanted
     said_first path among = sym (said_front held t loaded (wanted_in scope held t) (behind_in scope held t loaded) path among)
 
-    -- the first files
-    one_agrees : (after : Analyses) → KeepsAnalyses table after → AgreeOn (wanted t search.dirs.places) (said_files scope held t loaded) after
+    -- the files that are read first
+    one_agrees : (after : Analyses) → KeepsAnalyses table after → AgreeOn (wanted t search.dirs.places) (judged scope (said_files scope held t loaded)) after
     one_agrees after keeps path among =
-        keeps path (all path among) ∙ agree_wanted path among ∙ said_first path (subst (λ (paths : List (List ℕ)). is_in paths path ≡ true) wanted_are among)
+        keeps path (all path among) ∙ agree_wanted path among
+        ∙ judged_same scope (said_files scope held t loaded) (said_wanted scope held t loaded) path (said_first path (subst (λ (paths : List (List ℕ)). is_in paths path ≡ true) wanted_are among))
 
-    -- those that links lead to
+    -- the link targets
     said_next : AgreeOn behind (said_files scope held t loaded) (said_in held new there behind)
     unfolding said_files stamps_wanted
     said_next path among =
@@ -160,8 +164,8 @@ module _ (scope : Scope) (held : Contents) (t : Nodes) (loaded : List Stamp) (se
 
     module _ (after : Analyses) (keeps : KeepsAnalyses (analysis_at search.files.table) after)
         (more : AgreeOn (unread_paths search.files (reached new search.dirs.places))
-        (said_in held new (stamps_there loaded search.files) (unread_paths search.files (reached new search.dirs.places))) after) where
-      other_agrees : AgreeOn (reached new search.dirs.places) (said_files scope held t loaded) after
+        (judged scope (said_in held new (stamps_there loaded search.files) (unread_paths search.files (reached new search.dirs.places)))) after) where
+      other_agrees : AgreeOn (reached new search.dirs.places) (judged scope (said_files scope held t loaded)) after
       other_agrees path among = by_test (is_in (wanted t search.dirs.places) path)
           (λ e. one_agrees after keeps path e)
           (λ e.
@@ -169,7 +173,7 @@ module _ (scope : Scope) (held : Contents) (t : Nodes) (loaded : List Stamp) (se
           ap (λ paths. is_in paths path) others_are
           ∙ kept_in (λ path. not (is_in (wanted t search.dirs.places) path)) path (reached new search.dirs.places)
           ∙ ap (λ b. not b && is_in (reached new search.dirs.places) path) e ∙ among in
-          more path left ∙ said_next path left)
+          more path left ∙ judged_same scope (said_files scope held t loaded) (said_in held new there behind) path (said_next path left))
 
     stamps_are : (stamps : List Stamp) → stamps ≡ with_stamps search.files.stamps (stamps_said new (said_in held new there behind) behind) → stamps ≡ stamps_in scope held t loaded
     unfolding stamps_in
@@ -177,7 +181,7 @@ module _ (scope : Scope) (held : Contents) (t : Nodes) (loaded : List Stamp) (se
         let first = stamps_said t (said_files scope held t loaded) (wanted_in scope held t) in
         e
         ∙ ap (λ l. with_stamps l (stamps_said new (said_in held new there behind) behind))
-        (s.stamps ∙ ap (λ l. with_stamps [] l) (stamps_agree t t (λ path. refl) (said_files scope held t loaded) said (wanted_in scope held t) said_first))
+        (s.stamps ∙ ap (λ l. with_stamps [] l) (stamps_agree t t (λ path. refl) (said_files scope held t loaded) (said_wanted scope held t loaded) (wanted_in scope held t) said_first))
         ∙ ap (λ l. with_stamps (with_stamps [] first) l)
         (stamps_agree t new (id_same held t new alike) (said_files scope held t loaded) (said_in held new there behind) behind said_next
         ∙ ap (stamps_said t (said_files scope held t loaded)) paths_are)
@@ -192,7 +196,7 @@ module _ (scope : Scope) (held : Contents) (t : Nodes) (loaded : List Stamp) (se
           → made.blocked ≡ blocked (analysis_at search.files.table) t search.dirs.places → made.mixed ≡ mixed (analysis_at search.files.table) t search.dirs.places
           → followed.dangling ≡ dangling new search.dirs.places
           → AgreeOn (unread_paths search.files (reached new search.dirs.places))
-          (said_in held new (stamps_there loaded search.files) (unread_paths search.files (reached new search.dirs.places))) (analysis_at files.table)
+          (judged scope (said_in held new (stamps_there loaded search.files) (unread_paths search.files (reached new search.dirs.places)))) (analysis_at files.table)
           → KeepsAnalyses (analysis_at search.files.table) (analysis_at files.table)
           → ((path : List ℕ) → is_in (keys_of files.table) path ≡ true → (is_in (keys_of search.files.table) path || is_in (reached new search.dirs.places) path) ≡ true)
           → files.stamps ≡ with_stamps search.files.stamps (stamps_said new (said_in held new (stamps_there loaded search.files) (unread_paths search.files (reached new search.dirs.places)))
@@ -202,7 +206,7 @@ module _ (scope : Scope) (held : Contents) (t : Nodes) (loaded : List Stamp) (se
           → IsFound scope held t loaded found new
       unfolding entries_in best_libraries
       is_found plan few b m d next keeps more stamps begun none =
-          let what = said_files scope held t loaded in
+          let what = judged scope (said_files scope held t loaded) in
           let one = one_agrees (analysis_at files.table) keeps in
           let other = other_agrees (analysis_at files.table) keeps next in
           let one_new : AgreeOn (wanted new search.dirs.places) what (analysis_at files.table) =

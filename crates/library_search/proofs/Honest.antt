@@ -1,4 +1,4 @@
--- What an update finds, if stamps are true and files of equal identity have equal content.
+-- The results of an update's search, assuming that stamps are true and that equal identities imply equal contents.
 use Rattle.std.proofs.Common.{◌≡◌, ◌++◌, List, [], Option, Some, None, filter, not, ap, sym, subst, ◌∙◌}
 use Rattle.std.proofs.lemmas.List.Kept.{IsStrictlySortedBy-filter}
 use Rattle.std.specs.Cmp.Lexicographic.{slice_cmp}
@@ -29,10 +29,11 @@ use Rattle.cache_entries.specs.Walk.{walk}
 use Rattle.library_search.proofs.FilesAgree.{reached_sorted, wanted_sorted}
 use Rattle.library_search.proofs.StampsAgree.{opens_both}
 use Rattle.library_search.specs.Begun.{behind_keys, stamps_wanted, wanted_keys}
+use Rattle.library_search.specs.Judged.{judged}
 use Rattle.library_search.specs.Laws.{IsSaidRight}
 use Rattle.library_search.specs.Ldconfig.{behind_in, entries_in, library_files, library_paths, links_in, places_in, planned_in, reached_in, said_files, said_wanted, stamps_in, walk_in, wanted_in}
 
--- no stamps are true stamps
+-- an empty list of stamps is true
 pub none_true : (held : Contents) (t : Nodes) → AreTrue held t []
 none_true held t path = by (id_at t path)
   where
@@ -48,12 +49,12 @@ pub behind_in_order : (scope : Scope) (held : Contents) (t : Nodes) (loaded : Li
 unfolding reached_in
 behind_in_order scope held t loaded = IsStrictlySortedBy-filter (slice_cmp nat_cmp) _ (reached_in scope held t loaded) (reached_sorted (planned_in scope held t loaded) (places_in scope held t))
 
--- ---- what follows from what is said
+-- ---- consequences of the analyses
 
 module _ (scope : Scope) (held : Contents) (t : Nodes) (loaded others : List Stamp) (first : said_wanted scope held t loaded ≡ said_wanted scope held t others) where
   same_links : links_in scope held t loaded ≡ links_in scope held t others
   unfolding links_in
-  same_links = ap (λ (w : Analyses). links w t (places_in scope held t)) first
+  same_links = ap (λ (w : Analyses). links (judged scope w) t (places_in scope held t)) first
 
   same_planned : planned_in scope held t loaded ≡ planned_in scope held t others
   unfolding planned_in
@@ -72,11 +73,15 @@ module _ (scope : Scope) (held : Contents) (t : Nodes) (loaded others : List Sta
   module _ (all : said_files scope held t loaded ≡ said_files scope held t others) where
     same_entries : entries_in scope held t loaded ≡ entries_in scope held t others
     unfolding entries_in
-    same_entries = ap (λ (w : Analyses). found w (planned_in scope held t loaded) (places_in scope held t)) all ∙ ap (λ n. found (said_files scope held t others) n (places_in scope held t)) same_planned
+    same_entries =
+        ap (λ (w : Analyses). found (judged scope w) (planned_in scope held t loaded) (places_in scope held t)) all
+        ∙ ap (λ n. found (judged scope (said_files scope held t others)) n (places_in scope held t)) same_planned
 
     same_walk : walk_in scope held t loaded ≡ walk_in scope held t others
     unfolding walk_in
-    same_walk = ap (λ (w : Analyses). walk w (planned_in scope held t loaded) (places_in scope held t)) all ∙ ap (λ n. walk (said_files scope held t others) n (places_in scope held t)) same_planned
+    same_walk =
+        ap (λ (w : Analyses). walk (judged scope w) (planned_in scope held t loaded) (places_in scope held t)) all
+        ∙ ap (λ n. walk (judged scope (said_files scope held t others)) n (places_in scope held t)) same_planned
 
     same_stamps : stamps_in scope held t loaded ≡ stamps_in scope held t others
     unfolding stamps_in
@@ -100,7 +105,7 @@ module _ (scope : Scope) (held : Contents) (t : Nodes) (same : AreSame held t t)
     unfolding stamps_in
     stamps_are = ap (λ (w : Analyses). with_stamps [] (stamps_said t w (library_paths scope held t loaded))) said_is
 
-    -- they are true of each tree whose files of equal identity have equal content
+    -- the stamps are true for each tree in which equal identities imply equal contents
     pub stamps_true : (u : Nodes) → AreSame held t u → AreTrue held u (stamps_in scope held t loaded)
     stamps_true u over = subst (AreTrue held u) (sym stamps_are) (true_made held u t over (library_paths scope held t loaded))
 

@@ -1,4 +1,4 @@
--- The keys that an update begins, part by part.
+-- The files that an update opens, part by part.
 use Rattle.std.proofs.Common.{◌≡◌, ◌+◌, ◌++◌, ◌&&◌, ◌||◌, ℕ, Bool, true, false, not, List, [], ◌∷◌, length, refl, Option, Some, None, ap, sym, ◌∙◌, arith}
 use Rattle.std.proofs.lemmas.Bool.{or_left, or_right}
 use Rattle.std.proofs.lemmas.List.{append-nil, length-append}
@@ -26,12 +26,12 @@ lacking_behind : (scope : Scope) (held : Contents) (t : Nodes) (loaded : List St
 unfolding lacks_file
 lacking_behind scope held t loaded none few lacks = rw (none, few) lacks
 
--- the reading of the conf files in a store that holds this
+-- the reading of the conf files in a store with these contents
 abbrev pub ConfBy : Scope → Nodes → Option Contents → Ending → StoreState → StoreState → Type 0
 ConfBy scope t known e a b = ReadsFiles (IsSomeAnd known (λ held. conf_lacks (conf_of scope) held t ≡ true)) (option_map (λ held. conf_keys (conf_of scope) held t) known) (option_map (λ held. conf_bytes (conf_of scope) held t) known) e a b
 
 module _ (scope : Scope) (t : Nodes) (loaded : List Stamp) (known : Option Contents) where
-  -- the readings of the search and of the update there
+  -- the readings of the search and of the update in such a store
   abbrev pub SearchBy : Ending → StoreState → StoreState → Type 0
   SearchBy e a b = ReadsFiles (IsSomeAnd known (λ held. lacks_wanted scope held t loaded ≡ true)) (option_map (λ held. search_keys scope held t loaded) known)
       (option_map (λ held. search_bytes scope held t loaded) known) e a b
@@ -40,7 +40,7 @@ module _ (scope : Scope) (t : Nodes) (loaded : List Stamp) (known : Option Conte
   UpdateBy e a b = IfKnown known (λ held. ReadsFiles (lacks_file scope held t loaded ≡ true) (Some (update_keys scope held t loaded)) (Some (update_bytes scope held t loaded)) e a b)
 
 module _ (scope : Scope) (t : Nodes) (loaded : List Stamp) (e : Ending) where
-  -- only conf files were begun
+  -- only conf files were opened
   pub conf_part : (known : Option Contents) (a b : StoreState) → IsPartial e → ConfBy scope t known e a b → SearchBy scope t loaded known e a b
   unfolding search_keys search_bytes
   conf_part None a b partial reads = reads_early e a b partial _ _ None None None None (λ lacks. lacks) reads
@@ -48,7 +48,7 @@ module _ (scope : Scope) (t : Nodes) (loaded : List Stamp) (e : Ending) where
       reads_early e a b partial (conf_lacks (conf_of scope) held t ≡ true) (lacks_wanted scope held t loaded ≡ true) (Some (conf_keys (conf_of scope) held t)) (Some _) (Some (conf_bytes (conf_of scope) held t)) (Some _)
       (or_left (conf_lacks (conf_of scope) held t) (lacks_one held (wanted_keys scope held t loaded))) reads
 
-  -- all conf files, and then the files with library names that are opened
+  -- all conf files, and then those files with library names that are opened
   pub search_all : (known : Option Contents) (keys : Contents → List (List ℕ)) (a b c : StoreState) → IfKnown known (λ held. conf_lacks (conf_of scope) held t ≡ false)
       → IfKnown known (λ held. keys held ≡ wanted_keys scope held t loaded) → ConfBy scope t known Complete a b → ReadsOpenedBy known keys e b c → SearchBy scope t loaded known e a c
   unfolding search_keys search_bytes
@@ -60,7 +60,7 @@ module _ (scope : Scope) (t : Nodes) (loaded : List Stamp) (e : Ending) where
       rw all (rw (are, all) at both)
 
 module _ (scope : Scope) (t : Nodes) (loaded : List Stamp) (e : Ending) where
-  -- only the search was made
+  -- only the search was completed
   pub search_part : (known : Option Contents) (a b : StoreState) → IsPartial e → SearchBy scope t loaded known e a b → UpdateBy scope t loaded known e a b
   unfolding update_keys update_bytes
   search_part None a b partial reads = tt
@@ -68,7 +68,7 @@ module _ (scope : Scope) (t : Nodes) (loaded : List Stamp) (e : Ending) where
       reads_early e a b partial (lacks_wanted scope held t loaded ≡ true) (lacks_file scope held t loaded ≡ true) (Some (search_keys scope held t loaded)) (Some _) (Some (search_bytes scope held t loaded)) (Some _)
       (lacking_wanted scope held t loaded) reads
 
-  -- all of the search, and then those files that links lead to and that are opened
+  -- the whole search, and then those link targets that are opened
   all_held : (held : Contents) (keys : List (List ℕ)) (a b c : StoreState) → lacks_wanted scope held t loaded ≡ false → has_too_many_nodes scope held t loaded ≡ false → keys ≡ behind_keys scope held t loaded
       → SearchBy scope t loaded (Some held) Complete a b → ReadsFiles (lacks_one held keys ≡ true) (Some (until_lacking held keys)) (Some (most_of held (until_lacking held keys))) e b c
       → ReadsFiles (lacks_file scope held t loaded ≡ true) (Some (update_keys scope held t loaded)) (Some (update_bytes scope held t loaded)) e a c
@@ -85,7 +85,7 @@ module _ (scope : Scope) (t : Nodes) (loaded : List Stamp) (e : Ending) where
   update_all None keys a b c none few are first next = tt
   update_all (Some held) keys a b c none few are first next = all_held held (keys held) a b c none few are first next
 
--- the planned links have no room, so that no link is followed
+-- the planned links don't fit, so no link is followed
 small_held : (scope : Scope) (t : Nodes) (loaded : List Stamp) (held : Contents) (a b : StoreState) → has_too_many_nodes scope held t loaded ≡ true → SearchBy scope t loaded (Some held) Complete a b
     → ReadsFiles (lacks_file scope held t loaded ≡ true) (Some (update_keys scope held t loaded)) (Some (update_bytes scope held t loaded)) Complete a b
 unfolding update_keys update_bytes
@@ -102,7 +102,7 @@ pub update_small : (scope : Scope) (t : Nodes) (loaded : List Stamp) (known : Op
 update_small scope t loaded None a b many reads = tt
 update_small scope t loaded (Some held) a b many reads = small_held scope t loaded held a b many reads
 
--- ---- how many keys are begun
+-- ---- the number of opened files
 
 neither : (a b : Bool) → (a || b) ≡ false → (a ≡ false) × (b ≡ false)
 neither true b h = absurd (cc)
@@ -114,7 +114,7 @@ all_begun held (key ∷ keys) none =
     let parts = neither (is_lacking held key) (lacks_one held keys) none in
     rw (parts.0, all_begun held keys parts.1) refl
 
--- if all of them are held, and the links have room
+-- if the contents of all these files are held and the links fit
 pub keys_counted : (scope : Scope) (held : Contents) (t : Nodes) (loaded : List Stamp) → lacks_wanted scope held t loaded ≡ false → has_too_many_nodes scope held t loaded ≡ false → lacks_one held (behind_keys scope held t loaded) ≡ false
     → length (update_keys scope held t loaded) ≡ length (conf_keys (conf_of scope) held t) + opened_in scope held t loaded
 unfolding update_keys search_keys

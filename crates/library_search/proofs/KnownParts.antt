@@ -6,7 +6,7 @@ use Rattle.elf_dynamic.specs.Begun.{lacks_one}
 use Rattle.hwcap_dirs.specs.declared.kinds.Place.{Place}
 use Rattle.hwcap_dirs.specs.declared.kinds.Scope.{Scope}
 use Rattle.string_pool.proofs.Members.{is_in}
-use Rattle.file_table.specs.Analyses.{AgreeOn, HaveAnalyses, KeepsAnalyses}
+use Rattle.file_table.specs.Analyses.{AgreeOn, Analyses, HaveAnalyses, KeepsAnalyses}
 use Rattle.library_files.specs.Search.{dangling, reached, wanted}
 use Rattle.file_table.specs.Table.{analysis_at}
 use Rattle.planned_tree.specs.Search.{IsSearchedAlike}
@@ -26,10 +26,12 @@ use Rattle.tree_face.specs.Known.{IfKnown}
 use Rattle.tree_face.specs.Store.{Contents}
 use Rattle.image_tree.specs.Tree.{Nodes}
 use Rattle.library_search.proofs.FoundParts as parts
+use Rattle.library_search.proofs.Judged.{judged_agrees}
 use Rattle.library_search.specs.Begun.{behind_keys, has_too_many_nodes, lacks_wanted}
 use Rattle.library_search.specs.declared.following.Followed.{Followed}
 use Rattle.library_search.specs.declared.search.Search.{Search}
 use Rattle.library_search.specs.Found.{HasTooManyNodes, IsFound, IsSearched}
+use Rattle.library_search.specs.Judged.{judged}
 use Rattle.library_search.specs.Ldconfig.{places_in, said_wanted}
 use Rattle.tree_face.proofs.Known.{known_then}
 
@@ -50,10 +52,10 @@ module _ (scope : Scope) (t : Nodes) (loaded : List Stamp) (search : Search) whe
     pub too_large : (nodes : ℕ) → (nodes ≡ nodes_then) × (NODES_MAX < nodes) → IfKnown known (λ held. HasTooManyNodes scope held t loaded nodes)
     too_large nodes many = known_then known _ _ (λ held s. parts.too_large scope held t loaded search s nodes many.0 many.1) s
 
-    pub settled : (new : Nodes) → IsSettled (analysis_at search.files.table) t search.dirs.places new → IfKnown known (λ held. IsSettled (said_wanted scope held t loaded) t (places_in scope held t) new)
+    pub settled : (new : Nodes) → IsSettled (analysis_at search.files.table) t search.dirs.places new → IfKnown known (λ held. IsSettled (judged scope (said_wanted scope held t loaded)) t (places_in scope held t) new)
     settled new still = known_then known _ _ (λ held (s : IsSearched scope held t loaded search).
-        subst (λ (p : List Place). IsSettled (said_wanted scope held t loaded) t p new) s.places
-        (settled_agrees t (analysis_at search.files.table) (said_wanted scope held t loaded) search.dirs.places new (λ path there. sym (parts.agree_wanted scope held t loaded search s path there)) still)) s
+        subst (λ (p : List Place). IsSettled (judged scope (said_wanted scope held t loaded)) t p new) s.places
+        (settled_agrees t (analysis_at search.files.table) (judged scope (said_wanted scope held t loaded)) search.dirs.places new (λ path there. sym (parts.agree_wanted scope held t loaded search s path there)) still)) s
 
   module _ (all : HaveAnalyses (analysis_at search.files.table) (wanted t search.dirs.places))
       (only : (path : List ℕ) → is_in (keys_of search.files.table) path ≡ true → is_in (wanted t search.dirs.places) path ≡ true) (new : Nodes) (alike : IsSearchedAlike t new)
@@ -61,7 +63,7 @@ module _ (scope : Scope) (t : Nodes) (loaded : List Stamp) (search : Search) whe
     abbrev here : List Stamp
     here = stamps_there loaded search.files
 
-    -- the files that links lead to and that weren't read
+    -- the link targets that weren't read
     abbrev behind : List (List ℕ)
     behind = unread_paths search.files (reached new search.dirs.places)
 
@@ -75,10 +77,17 @@ module _ (scope : Scope) (t : Nodes) (loaded : List Stamp) (search : Search) whe
         (d : followed.dangling ≡ dangling new search.dirs.places) (keeps : KeepsAnalyses (analysis_at search.files.table) (analysis_at files.table))
         (more : (path : List ℕ) → is_in (keys_of files.table) path ≡ true → (is_in (keys_of search.files.table) path || is_in (reached new search.dirs.places) path) ≡ true) where
       pub is_found : (known : Option Contents) → IfKnown known (λ held. IsSearched scope held t loaded search)
-          → IfKnown known (λ held. AgreeOn behind (said_in held new here behind) (analysis_at files.table))
+          → IfKnown known (λ held. AgreeOn behind (judged scope (said_in held new here behind)) (analysis_at files.table))
           → IfKnown known (λ held. files.stamps ≡ with_stamps search.files.stamps (stamps_said new (said_in held new here behind) behind))
           → IfKnown known (λ held. files.begun ≡ search.files.begun + length (opened_keys held new here behind))
           → IfKnown known (λ held. lacks_one held (opened_keys held new here behind) ≡ false)
           → IfKnown known (λ held. IsFound scope held t loaded (record { search = record search { files = files }; links = made; followed = followed }) new)
       is_found None s said stamps begun none = tt
       is_found (Some held) s said stamps begun none = parts.is_found scope held t loaded search s all only new alike new_is made followed files still plan few b m d said keeps more stamps begun none
+
+-- judged analyses agree if the analyses do
+module _ (scope : Scope) (what new : Analyses) (judges : (path : List ℕ) → new path ≡ judged scope what path) where
+  pub known_judged : (known : Option Contents) (said : Contents → Analyses) (paths : List (List ℕ)) → IfKnown known (λ held. AgreeOn paths (said held) what)
+      → IfKnown known (λ held. AgreeOn paths (judged scope (said held)) new)
+  known_judged None said paths agree = tt
+  known_judged (Some held) said paths agree = judged_agrees scope what new judges (said held) paths agree

@@ -4,9 +4,11 @@ mod Endings
 pub mod FilesAgree
 mod FoundParts
 pub mod Honest
+pub mod Judged
 mod KeysBegun
 mod KnownParts
 pub mod Limits
+mod Replaced
 mod Rows
 mod SaidBoth
 mod SearchParts

@@ -1,4 +1,4 @@
--- What the test of a limit says.
+-- The meaning of a limit's test.
 use Rattle.std.proofs.Common.{◌≡◌, ◌≤◌, ◌<◌, ℕ, true, false, nat_lt, arith}
 use Rattle.std.proofs.lemmas.Bool.Decides.{nat_tests}
 

@@ -1,4 +1,4 @@
--- The rows of the table once the files with library names were read into it.
+-- The rows of the table after the files with library names were read.
 use Rattle.std.proofs.Common.{◌≡◌, ◌++◌, ◌||◌, ℕ, Bool, true, false, cond, List, [], ◌∷◌, refl, ap, sym, ◌∙◌}
 use Rattle.std.proofs.lemmas.Slice.Eq.{bytes_eq-Decides}
 use Rattle.std.specs.List.{list_any}
@@ -10,7 +10,7 @@ use Rattle.file_table.specs.Analyses.{Analyses, HaveAnalyses, unread}
 use Rattle.file_table.specs.Analyses.{analysed}
 use Rattle.file_table.specs.Table.{Rows, analysis_at}
 
--- if each of these paths has an analysis, none is left out
+-- if each path has an analysis, no path is left out
 all_analysed : (what : Analyses) (paths : List (List ℕ)) → HaveAnalyses what paths → analysed what paths ≡ paths
 all_analysed what [] have = refl
 all_analysed what (path ∷ paths) have =
@@ -22,7 +22,7 @@ all_analysed what (path ∷ paths) have =
     behind true b h = refl
     behind false b h = h
 
--- files that were read into an empty table are its rows, if each has an analysis then
+-- if files are read into an empty table and each has an analysis then, they are the rows of the table
 pub rows_read : (first rows : Rows) (paths : List (List ℕ)) → first ≡ [] → HaveAnalyses (analysis_at rows) paths → keys_of rows ≡ keys_of first ++ unread (analysis_at first) paths
     → keys_of rows ≡ analysed (analysis_at rows) paths
 rows_read first rows paths none have are =

@@ -1,4 +1,4 @@
--- What files are said to be if some of them are read first, and the others in the tree with the planned links.
+-- Analyses, if some files are read first and the others in the tree with the planned links.
 use Rattle.std.proofs.Common.{◌≡◌, ◌++◌, ℕ, true, false, List, [], ◌∷◌, refl, ap, sym, ◌∙◌, append_assoc}
 use Rattle.std.proofs.lemmas.Bool.{or_left, or_right}
 use Rattle.std.proofs.lemmas.List.Elements.{filter_map-append}
@@ -19,7 +19,7 @@ use Rattle.tree_face.specs.Store.{Contents}
 use Rattle.library_search.proofs.FilesAgree.{id_same, what_same}
 use Rattle.library_search.proofs.StampsAgree.{stamps_same}
 
--- stamps of files of which the same is said
+-- equal analyses give equal stamps
 pub stamps_agree : (t u : Nodes) → ((path : List ℕ) → id_at u path ≡ id_at t path) → (what new : Analyses) (paths : List (List ℕ)) → AgreeOn paths what new → stamps_said u new paths ≡ stamps_said t what paths
 stamps_agree t u ids what new [] agree = refl
 stamps_agree t u ids what new (path ∷ paths) agree =
@@ -30,7 +30,7 @@ stamps_agree t u ids what new (path ∷ paths) agree =
     ∙ ap (λ l. cons_option (stamp_by (id_at t path) (what path)) l) rest
 
 module _ (held : Contents) (t : Nodes) (loaded : List Stamp) (xs ys : List (List ℕ)) where
-  -- one of the first
+  -- a path of the first list
   pub said_front : (path : List ℕ) → is_in xs path ≡ true → said_in held t loaded (xs ++ ys) path ≡ said_in held t loaded xs path
   said_front path there = ap (λ l. said_by held t (loaded ++ stamps_at held t l) path) (before_front held t path xs ys there)
 
@@ -40,7 +40,7 @@ module _ (held : Contents) (t : Nodes) (loaded : List Stamp) (xs ys : List (List
         ap (λ i. option_or (option_map of_stamp (option_and_then (stamp_of stamps) i)) (what_is held new path)) (id_same held t new alike path)
         ∙ ap (λ w. option_or (option_map of_stamp (stamp_for stamps t path)) w) (what_same held t new alike path)
 
-    -- one of the others
+    -- a path of the second list
     pub said_behind : (there : List Stamp) → StampTheSame there (loaded ++ stamps_at held t xs) → (path : List ℕ) → is_in xs path ≡ false
         → said_in held new there ys path ≡ said_in held t loaded (xs ++ ys) path
     said_behind there same path out =

@@ -1,5 +1,5 @@
--- What is found before the links are planned.
-use Rattle.std.proofs.Common.{◌≡◌, ◌+◌, ◌||◌, ◌++◌, false, List, [], length, Option, Some, None, ap, sym, subst, ◌∙◌, arith}
+-- The results before the links are planned.
+use Rattle.std.proofs.Common.{◌≡◌, ◌+◌, ◌||◌, ◌++◌, ℕ, false, List, [], length, Option, Some, None, ap, sym, subst, ◌∙◌, arith}
 use Rattle.std.proofs.lemmas.List.{append-nil}
 use Rattle.aux_cache.specs.declared.stamps.Stamp.{Stamp}
 use Rattle.elf_dynamic.specs.Begun.{lacks_one}
@@ -9,7 +9,7 @@ use Rattle.hwcap_dirs.specs.declared.kinds.Scope.{Scope}
 use Rattle.ldso_conf.specs.Reading.{IsConfOf, conf_lacks}
 use Rattle.ldso_conf.specs.declared.kinds.Conf.{Conf}
 use Rattle.file_table.proofs.Unread.{none_read}
-use Rattle.file_table.specs.Analyses.{AgreeOn, unread}
+use Rattle.file_table.specs.Analyses.{AgreeOn, Analyses, unread}
 use Rattle.library_files.specs.Search.{wanted}
 use Rattle.file_table.specs.Table.{analysis_at}
 use Rattle.file_stamps.specs.Opened.{opened_keys}
@@ -20,12 +20,14 @@ use Rattle.file_stamps.specs.declared.files.Files.{Files}
 use Rattle.tree_face.specs.Known.{IfKnown}
 use Rattle.tree_face.specs.Store.{Contents}
 use Rattle.image_tree.specs.Tree.{Nodes}
+use Rattle.library_search.proofs.Judged.{judged_agrees}
 use Rattle.library_search.specs.Begun.{stamps_wanted, wanted_keys}
+use Rattle.library_search.specs.Judged.{judged}
 use Rattle.library_search.specs.Ldconfig.{conf_in, conf_of, places_in, said_wanted, wanted_in}
 use Rattle.library_search.specs.Found.{IsSearched}
 use Rattle.library_search.specs.declared.search.Search.{Search}
 
--- no files are there at first
+-- no files were read before
 pub record IsEmpty (first : Files) : Type 0 where
   pub table : first.table ≡ []
   pub stamps : first.stamps ≡ []
@@ -49,7 +51,7 @@ module _ (scope : Scope) (t : Nodes) (loaded : List Stamp) (conf : Conf) (found 
     keys_are = ap (λ l. opened_keys held t l (unread_paths first (wanted t found))) stamps_first ∙ ap (λ paths. opened_keys held t loaded paths) paths_are
 
     module _ (search : Search) (read : search.conf ≡ conf) (there : search.dirs.places ≡ found) (absent_are : search.dirs.absent ≡ absent t conf.dirs) where
-      is_searched : AgreeOn (unread_paths first (wanted t found)) (said_in held t (stamps_there loaded first) (unread_paths first (wanted t found))) (analysis_at search.files.table)
+      is_searched : AgreeOn (unread_paths first (wanted t found)) (judged scope (said_in held t (stamps_there loaded first) (unread_paths first (wanted t found)))) (analysis_at search.files.table)
           → search.files.stamps ≡ with_stamps first.stamps (stamps_said t (said_in held t (stamps_there loaded first) (unread_paths first (wanted t found))) (unread_paths first (wanted t found)))
           → StampTheSame (stamps_there loaded search.files) (stamps_there loaded first ++ stamps_at held t (unread_paths first (wanted t found)))
           → search.files.begun ≡ first.begun + length (opened_keys held t (stamps_there loaded first) (unread_paths first (wanted t found)))
@@ -79,9 +81,11 @@ module _ (scope : Scope) (t : Nodes) (loaded : List Stamp) (conf : Conf) (found 
   wanted_keys_are None is = tt
   wanted_keys_are (Some held) is = keys_are held is
 
-  module _ (search : Search) (read : search.conf ≡ conf) (there : search.dirs.places ≡ found) (absent_are : search.dirs.absent ≡ absent t conf.dirs) where
+  -- the analyses that were read are judged
+  module _ (search : Search) (read : search.conf ≡ conf) (there : search.dirs.places ≡ found) (absent_are : search.dirs.absent ≡ absent t conf.dirs) (what : Analyses)
+      (judges : (path : List ℕ) → analysis_at search.files.table path ≡ judged scope what path) where
     pub searched : (known : Option Contents) → IfKnown known (λ held. IsConfOf (conf_of scope) conf held t)
-        → IfKnown known (λ held. AgreeOn (unread_paths first (wanted t found)) (said_in held t (stamps_there loaded first) (unread_paths first (wanted t found))) (analysis_at search.files.table))
+        → IfKnown known (λ held. AgreeOn (unread_paths first (wanted t found)) (said_in held t (stamps_there loaded first) (unread_paths first (wanted t found))) what)
         → IfKnown known (λ held. search.files.stamps
         ≡ with_stamps first.stamps (stamps_said t (said_in held t (stamps_there loaded first) (unread_paths first (wanted t found))) (unread_paths first (wanted t found))))
         → IfKnown known (λ held. StampTheSame (stamps_there loaded search.files) (stamps_there loaded first ++ stamps_at held t (unread_paths first (wanted t found))))
@@ -89,7 +93,9 @@ module _ (scope : Scope) (t : Nodes) (loaded : List Stamp) (conf : Conf) (found 
         → IfKnown known (λ held. lacks_one held (opened_keys held t (stamps_there loaded first) (unread_paths first (wanted t found))) ≡ false)
         → IfKnown known (λ held. IsSearched scope held t loaded search)
     searched None is said stamps stamped begun lacks = tt
-    searched (Some held) is said stamps stamped begun lacks = is_searched held is search read there absent_are said stamps stamped begun lacks
+    searched (Some held) is said stamps stamped begun lacks =
+        let agrees = judged_agrees scope what (analysis_at search.files.table) judges (said_in held t (stamps_there loaded first) (unread_paths first (wanted t found))) (unread_paths first (wanted t found)) said in
+        is_searched held is search read there absent_are agrees stamps stamped begun lacks
 
 pub all_conf : (scope : Scope) (t : Nodes) (conf : Conf) (known : Option Contents) → IfKnown known (λ held. IsConfOf (conf_of scope) conf held t) → IfKnown known (λ held. conf_lacks (conf_of scope) held t ≡ false)
 all_conf scope t conf None is = tt

@@ -1,4 +1,4 @@
--- Stamps say of the tree with the planned links what they say of the tree.
+-- Stamps give the same analyses for the tree with the planned links as for the tree without them.
 use Rattle.std.proofs.Common.{◌≡◌, ◌+◌, ◌++◌, ℕ, cond, List, [], ◌∷◌, length, None, refl, ap, sym, ◌∙◌, arith}
 use Rattle.std.proofs.lemmas.List.{length-append}
 use Rattle.std.specs.List.{cons_option, filter_map}
@@ -19,7 +19,7 @@ use Rattle.file_stamps.specs.Stamped.{AreSame, StampTheSame, id_at, stamp_at, st
 use Rattle.tree_face.specs.Store.{Contents}
 use Rattle.library_search.proofs.FilesAgree.{id_same, key_same, what_same}
 
--- only the identities with stamps count
+-- only the set of identities with stamps matters
 pub keys_alike : (held : Contents) (t : Nodes) (xs ys : List Stamp) (paths : List (List ℕ)) → AreSorted paths → StampTheSame xs ys → opened_keys held t xs paths ≡ opened_keys held t ys paths
 keys_alike held t xs ys paths sorted alike = opened_are held t xs paths sorted ∙ opened_alike held t xs ys paths alike ∙ sym (opened_are held t ys paths sorted)
 
@@ -46,7 +46,7 @@ module _ (held : Contents) (t new : Nodes) (alike : IsSearchedAlike t new) where
   pub keys_same : (stamps : List Stamp) (paths : List (List ℕ)) → AreSorted paths → opened_keys held new stamps paths ≡ opened_keys held t stamps paths
   keys_same stamps paths sorted = opened_are held new stamps paths sorted ∙ opened_same stamps paths ∙ sym (opened_are held t stamps paths sorted)
 
--- files that are read first, and others
+-- files that are read first, and files that are read after them
 pub opens_both : (held : Contents) (t : Nodes) → AreSame held t t → (stamps : List Stamp) (xs ys : List (List ℕ)) → AreSorted xs → AreSorted ys
     → length (opened_keys held t stamps xs) + length (opened_keys held t (stamps ++ stamps_at held t xs) ys) ≡ opens held t stamps (xs ++ ys)
 opens_both held t same stamps xs ys first next =

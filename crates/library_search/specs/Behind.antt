@@ -1,4 +1,4 @@
--- The files that links with library names lead to and that are still to be read.
+-- The targets of links with library names that aren't read yet.
 use Rattle.std.specs.Prelude.{ℕ, List}
 use Rattle.aux_cache.specs.declared.stamps.Stamp.{Stamp}
 use Rattle.library_files.specs.Search.{reached}
@@ -10,18 +10,18 @@ use Rattle.file_table.specs.Analyses.{Analyses}
 use Rattle.file_stamps.specs.declared.files.Files.{Files}
 use Rattle.tree_face.specs.Store.{Contents}
 
--- the paths of those that have no analysis yet
+-- the paths of the targets that have no analysis yet
 abbrev pub unread_behind : Files → Nodes → Dirs → List (List ℕ)
 unread_behind files t dirs = unread_paths files (reached t dirs.places)
 
--- the keys of those that are opened
+-- the keys of the targets that are opened
 abbrev pub opened_behind : Contents → List Stamp → Files → Nodes → Dirs → List (List ℕ)
 opened_behind held loaded files t dirs = opened_keys held t (stamps_there loaded files) (unread_behind files t dirs)
 
--- what they are said to be
+-- the analyses of the targets
 abbrev pub said_behind : Contents → List Stamp → Files → Nodes → Dirs → Analyses
 said_behind held loaded files t dirs = said_there held t loaded files (unread_behind files t dirs)
 
--- the stamps that are made of them
+-- the stamps that are made from the targets
 abbrev pub made_behind : Contents → List Stamp → Files → Nodes → Dirs → List Stamp
 made_behind held loaded files t dirs = made_there held t loaded files (unread_behind files t dirs)

@@ -1,4 +1,4 @@
--- Why an image isn't looked through to the end, by the faults of the parts.
+-- Why the search of an image fails, converted from the errors of its parts.
 use Rattle.std.specs.Prelude.{Bool, true, false, Result, Ok, Err}
 use Rattle.elf_dynamic.specs.declared.fault.AnalyseFault.{AnalyseFault}
 use Rattle.elf_dynamic.specs.declared.fault.AnalyseFault.TheVariants as reading
@@ -10,12 +10,12 @@ use Rattle.tree_face.specs.StoreUse.{Ending, Complete, DeviceFailed, GaveUp}
 use Rattle.library_search.specs.declared.fault.FindFault.{FindFault}
 use Rattle.library_search.specs.declared.fault.FindFault.TheVariants.{StoreFault, TooLarge, NoMemory}
 
--- the fault of a conf file's reading
+-- the error of reading a conf file
 abbrev pub of_conf : ConfFault → FindFault
 of_conf conf.StoreFault = StoreFault
 of_conf conf.NoMemory = NoMemory
 
--- the fault of a library file's reading
+-- the error of reading a library file
 abbrev pub of_reading : AnalyseFault → FindFault
 of_reading reading.StoreFault = StoreFault
 of_reading reading.NoMemory = NoMemory

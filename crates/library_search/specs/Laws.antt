@@ -1,4 +1,4 @@
--- What an update finds, if stamps are true and files of equal identity have equal content: what one without stamps finds.
+-- If stamps are true and equal identities imply equal contents, an update finds the same as an update without stamps.
 use Rattle.std.specs.Prelude.{◌≡◌, ℕ, List, []}
 use Rattle.aux_cache.specs.declared.stamps.Stamp.{Stamp}
 use Rattle.elf_dynamic.specs.Begun.{lacks_one}
@@ -11,15 +11,15 @@ use Rattle.library_search.specs.Begun.{behind_keys, opened_in, wanted_keys}
 use Rattle.library_search.specs.Ldconfig.{entries_in, library_files, library_paths, links_in, said_files, stamps_in, walk_in}
 
 pub record IsSaidRight (scope : Scope) (held : Contents) (t : Nodes) (loaded : List Stamp) : Type 0 where
-  -- each file is said to be what it is
+  -- the analysis of each file is that of its content
   pub said : (path : List ℕ) → said_files scope held t loaded path ≡ what_is held t path
   pub links : links_in scope held t loaded ≡ links_in scope held t []
   pub files : library_files scope held t loaded ≡ library_files scope held t []
   pub entries : entries_in scope held t loaded ≡ entries_in scope held t []
   pub walk : walk_in scope held t loaded ≡ walk_in scope held t []
   pub stamps : stamps_in scope held t loaded ≡ stamps_in scope held t []
-  -- a file isn't held in the one update exactly if one isn't in the other
+  -- one update misses a content exactly if the other does
   pub wanted_lack : lacks_one held (wanted_keys scope held t loaded) ≡ lacks_one held (wanted_keys scope held t [])
   pub behind_lack : lacks_one held (behind_keys scope held t loaded) ≡ lacks_one held (behind_keys scope held t [])
-  -- each file is opened that has no identity or no stamp, of the libraries one for each identity
+  -- counts the files without identity or stamp that are opened; of the libraries with one identity, only one is opened
   pub opened : opened_in scope held t loaded ≡ opens held t loaded (library_paths scope held t loaded)

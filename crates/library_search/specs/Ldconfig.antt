@@ -1,5 +1,5 @@
--- An update of an image as ldconfig(8) makes it, from the conf file to the cache, for the contents that a store holds and the stamps
--- that are loaded.
+-- The results of an update of an image by ldconfig(8), from the conf file to the cache, for the contents in a store and the loaded
+-- stamps.
 use Rattle.std.specs.Prelude.{◌++◌, ℕ, List, [], Option, Some, None, filter, not}
 use Rattle.std.specs.List.{list_any}
 use Rattle.std.specs.Str.{bytes_eq}
@@ -9,8 +9,8 @@ use Rattle.cache_entries.specs.Walk.{walk}
 use Rattle.hwcap_dirs.specs.declared.kinds.Place.{Place}
 use Rattle.hwcap_dirs.specs.Places.{places}
 use Rattle.hwcap_dirs.specs.declared.kinds.Scope.{Scope}
-use Rattle.hwcap_dirs.specs.declared.kinds.Scope.TheVariants.{Image, Root}
-use Rattle.ldso_conf.specs.Reading.{Reading, conf_path, reading}
+use Rattle.hwcap_dirs.specs.declared.kinds.Scope.TheVariants.{Image, Only, Root}
+use Rattle.ldso_conf.specs.Reading.{ConfFile, Given, Reading, Source, conf_path, reading}
 use Rattle.lib_types.specs.declared.abi.Abi.{Abi}
 use Rattle.lib_types.specs.declared.entry.Entry.{Entry}
 use Rattle.file_table.specs.Analyses.{Analyses}
@@ -24,50 +24,54 @@ use Rattle.file_stamps.specs.Said.{said_in, stamps_said}
 use Rattle.file_stamps.specs.Stamped.{with_stamps}
 use Rattle.tree_face.specs.Store.{Contents}
 use Rattle.image_tree.specs.Tree.{Nodes}
+use Rattle.library_search.specs.Judged.{judged}
 
 -- the path of the conf file
 abbrev pub conf_or : Option (List ℕ) → List ℕ
 conf_or None = conf_path
 conf_or (Some path) = path
 
-abbrev pub conf_of : Scope → List ℕ
-conf_of Image = conf_path
-conf_of (Root conf) = conf_or conf
+-- where the search directories are named
+abbrev pub conf_of : Scope → Source
+conf_of Image = ConfFile conf_path
+conf_of (Root conf) = ConfFile (conf_or conf)
+conf_of (Only dirs) = Given dirs
 
--- The conf file and the files that it includes name directories.
+-- The directories that are named there.
 unfoldable pub conf_in : Scope → Contents → Nodes → Reading
 conf_in scope held t = reading (conf_of scope) t held
 
--- Libraries are looked for in these, and then in the directories of the system, each followed by its subdirectories for processors.
+-- The search directories: these and then the system's directories, each followed by its hwcaps subdirectories.
 unfoldable pub places_in : Scope → Contents → Nodes → List Place
 places_in scope held t = places scope t (conf_in scope held t).dirs
 
--- The files there with library names are looked at.
+-- The files with library names in these directories.
 unfoldable pub wanted_in : Scope → Contents → Nodes → List (List ℕ)
 wanted_in scope held t = wanted t (places_in scope held t)
 
--- ---- What they are said to be, with the stamps that are loaded (`said_in`): so does all that follows.
+-- ---- The analyses of these files, given the loaded stamps (`said_in`). All of the following depends on them.
 
 unfoldable pub said_wanted : Scope → Contents → Nodes → List Stamp → Analyses
 said_wanted scope held t loaded = said_in held t loaded (wanted_in scope held t)
 
--- The best library of each soname in a place wants a link of the soname's name. Those that aren't there are planned.
+-- By the analyses that count (`judged`), the best library of each soname in a search directory wants a link that is named by the soname. The
+-- missing links are planned.
 unfoldable pub links_in : Scope → Contents → Nodes → List Stamp → List Planned
-links_in scope held t loaded = links (said_wanted scope held t loaded) t (places_in scope held t)
+links_in scope held t loaded = links (judged scope (said_wanted scope held t loaded)) t (places_in scope held t)
 
--- the tree with them
+-- the tree with the planned links
 unfoldable pub planned_in : Scope → Contents → Nodes → List Stamp → Nodes
 planned_in scope held t loaded = with_links t (links_in scope held t loaded)
 
--- The files to which links with library names then lead are looked at too.
+-- The targets of links with library names in that tree. They are examined too.
 unfoldable pub reached_in : Scope → Contents → Nodes → List Stamp → List (List ℕ)
 reached_in scope held t loaded = reached (planned_in scope held t loaded) (places_in scope held t)
 
--- the library files, by their paths
+-- the paths of the library files
 abbrev pub library_files : Scope → Contents → Nodes → List Stamp → List (List ℕ)
 library_files scope held t loaded = ascending (wanted_in scope held t ++ reached_in scope held t loaded)
 
--- those among them that have other names
+-- the link targets that aren't among the files with library names
 abbrev pub behind_in : Scope → Contents → Nodes → List Stamp → List (List ℕ)
 behind_in scope held t loaded = filter (λ path. not (list_any (bytes_eq path) (wanted_in scope held t))) (reached_in scope held t loaded)
 
@@ -75,23 +79,23 @@ behind_in scope held t loaded = filter (λ path. not (list_any (bytes_eq path) (
 abbrev pub library_paths : Scope → Contents → Nodes → List Stamp → List (List ℕ)
 library_paths scope held t loaded = wanted_in scope held t ++ behind_in scope held t loaded
 
--- what all of them are said to be
+-- the analyses of all library files
 unfoldable pub said_files : Scope → Contents → Nodes → List Stamp → Analyses
 said_files scope held t loaded = said_in held t loaded (library_paths scope held t loaded)
 
--- The auxiliary cache has the stamps of those that have identities and are said to be libraries, by their identities.
+-- The stamps in the auxiliary cache, sorted by identity: those of all library files that have an identity and are libraries.
 unfoldable pub stamps_in : Scope → Contents → Nodes → List Stamp → List Stamp
 stamps_in scope held t loaded = with_stamps [] (stamps_said t (said_files scope held t loaded) (library_paths scope held t loaded))
 
--- Each soname in a place has an entry in the cache, for the best of its files, or else of the links to its files. They are in no order here.
+-- The cache entries, in no order. Each soname in a search directory has one, for its best file, or if it has no file, for its best link.
 unfoldable pub entries_in : Scope → Contents → Nodes → List Stamp → List Entry
-entries_in scope held t loaded = found (said_files scope held t loaded) (planned_in scope held t loaded) (places_in scope held t)
+entries_in scope held t loaded = found (judged scope (said_files scope held t loaded)) (planned_in scope held t loaded) (places_in scope held t)
 
 -- The best library of each soname in each place.
 unfoldable pub best_libraries : Scope → Contents → Nodes → List Stamp → List (List Library)
-best_libraries scope held t loaded = bests_of (said_files scope held t loaded) (planned_in scope held t loaded) (places_in scope held t)
+best_libraries scope held t loaded = bests_of (judged scope (said_files scope held t loaded)) (planned_in scope held t loaded) (places_in scope held t)
 
--- For a name, an ABI and a loader's hwcaps names, the search of the places gives the path of the first winner: in their order those for
--- each hwcaps name, and then the directories themselves (ld.so(8): glibc-hwcaps).
+-- The search of the directories for a name, an ABI and the loader's hwcaps names. It gives the path of the first winner: it tries the
+-- subdirectories of each hwcaps name in order, and then the directories themselves (ld.so(8): glibc-hwcaps).
 unfoldable pub walk_in : Scope → Contents → Nodes → List Stamp → List ℕ → Abi → List (List ℕ) → Option (List ℕ)
-walk_in scope held t loaded = walk (said_files scope held t loaded) (planned_in scope held t loaded) (places_in scope held t)
+walk_in scope held t loaded = walk (judged scope (said_files scope held t loaded)) (planned_in scope held t loaded) (places_in scope held t)

@@ -1,4 +1,4 @@
-//! Why an image isn't looked through to the end.
+//! Why the search of an image fails.
 ghost use Rattle.std.specs.Prelude.{◌≡◌};
 ghost use Rattle.library_search.specs.Faults.{of_apply, of_conf, of_reading};
 ghost use Rattle.library_search.specs.declared.fault.FindFault.TheVariants as faults;
@@ -8,12 +8,12 @@ use ldso_conf::ConfFault;
 use lib_types::NoMemory;
 use soname_links::ApplyFault;
 
-/// Why an image isn't looked through to the end.
+/// Why the search of an image fails.
 #[derive(Clone, Copy, Debug, PartialEq, Eq)]
 pub enum FindFault {
     /// A conf file or a library file can't be read.
     StoreFault,
-    /// The tree with the planned links has more nodes than a tree may have.
+    /// The tree with the planned links would have too many nodes.
     TooLarge { nodes: u64 },
     NoMemory,
 }

@@ -1,4 +1,4 @@
-//! All that an update finds.
+//! The results of an update's search.
 ghost use Rattle.std.specs.Prelude.{◌≡◌, ℕ, IfOk, IsErrOf, IsTrue, OnOk};
 ghost use Rattle.hwcap_dirs.specs.Places.{are_spelled};
 ghost use Rattle.place_libraries.specs.Best.{bests_of};
@@ -12,10 +12,12 @@ ghost use Rattle.aux_cache.specs.Stamps.{HaveNames};
 ghost use Rattle.tree_face.specs.Known.{IfKnown};
 ghost use Rattle.library_search.specs.Faults.{find_ending};
 ghost use Rattle.library_search.specs.Found.{HasTooManyNodes, IsFound, ReadsFinding};
+ghost use Rattle.library_search.specs.Judged.{judged};
 ghost use Rattle.library_search.specs.Ldconfig.{places_in, said_wanted};
 
 use crate::fault::FindFault;
 use crate::following::{Followed, follow_links};
+use crate::judging::judge;
 use crate::search::{Search, search_image};
 use aux_cache::Stamps;
 use hwcap_dirs::Scope;
@@ -24,7 +26,7 @@ use soname_links::Survey;
 use std::alloc::Global;
 use tree_face::{Store, Tree};
 
-/// All that an update finds. The files are all library files.
+/// The results of an update's search. `files` has all library files. Those that the loader can't search for count as no libraries.
 #[derive(Drop)]
 pub struct Found {
     pub search: Search,
@@ -32,8 +34,8 @@ pub struct Found {
     pub followed: Followed,
 }
 
-/// Looks through an image, and puts the planned links into its tree. Of the library files only those are opened of which no stamp says what
-/// they are: none that is loaded, and none of a library that was read before.
+/// Searches an image, and puts the planned links into its tree. It opens a library file only if the file's identity has no stamp: no
+/// loaded one, and none from a library that was read before.
 pub fn find<S: Store>(
     alloc: Global,
     scope: &Scope,
@@ -47,7 +49,7 @@ pub fn find<S: Store>(
     ensures is_tree { OnOk result (IsTree tree.new) }
     ensures alike { OnOk result (IsSearchedAlike tree.old tree.new) }
     ensures settled { OnOk result (IfKnown (S.state store.old).held
-        (λ held. IsSettled (said_wanted scope.now held tree.old loaded.now) tree.old (places_in scope.now held tree.old) tree.new)) }
+        (λ held. IsSettled (judged scope.now (said_wanted scope.now held tree.old loaded.now)) tree.old (places_in scope.now held tree.old) tree.new)) }
     ensures links { IfOk result (λ found. found.followed.links ≡ followed tree.new found.search.dirs.places) }
     ensures bests { IfOk result (λ found. found.links.bests ≡ bests_of (analysis_at found.search.files.table) tree.new found.search.dirs.places) }
     ensures spelled { IfOk result (λ found. IsTrue (are_spelled found.search.dirs.places)) }
@@ -58,6 +60,7 @@ pub fn find<S: Store>(
     let mut search = search_image(alloc, scope, tree, store, loaded)?;
     let links = plan_links(alloc, tree, &search.dirs, &search.files.table)?;
     let followed = follow_links(alloc, tree, store, loaded, &search.dirs, &mut search.files)?;
+    judge(alloc, scope, &mut search.files.table)?;
     Ok(Found {
         search,
         links,

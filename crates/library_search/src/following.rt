@@ -1,4 +1,4 @@
-//! What is found in the tree with the planned links.
+//! The results in the tree with the planned links.
 ghost use Rattle.std.specs.Prelude.{◌≡◌, ◌+◌, ◌||◌, ℕ, List, true, false, length, IfErr, IfOk, OnOk};
 ghost use Rattle.std.specs.List.{list_any};
 ghost use Rattle.std.specs.Map.{keys_of};
@@ -27,14 +27,14 @@ use tree_face::{Store, Tree};
 /// The links with library names.
 #[derive(Drop)]
 pub struct Followed {
-    /// Those of each place.
+    /// The links in each search directory.
     pub links: PlaceLinks,
-    /// Those that lead to no file.
+    /// The links that lead to no file.
     pub dangling: Texts,
 }
 
-/// Follows the links with library names, and reads the files to which they lead, if those have no analysis yet. Only those are opened of which no
-/// stamp says what they are.
+/// Follows the links with library names, and reads their targets, unless these have an analysis. It opens a file only if the file's
+/// identity has no stamp.
 pub fn follow_links<S: Store>(
     alloc: Global,
     tree: &Tree,

@@ -1,9 +1,10 @@
-//! All that an update finds in an image: conf files, places, libraries, planned links, and the files that links lead to.
+//! The results of an update's search: conf files, search directories, libraries, planned links, and the link targets.
 #![tactic(auto)]
 
 mod fault;
 mod finding;
 mod following;
+mod judging;
 mod search;
 
 pub use fault::FindFault;

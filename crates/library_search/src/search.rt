@@ -1,5 +1,5 @@
-//! What is found in an image before its links are planned.
-ghost use Rattle.std.specs.Prelude.{◌≡◌, ℕ, List, true, IfErr, IfOk, IsTrue};
+//! The results of an image's search before its links are planned.
+ghost use Rattle.std.specs.Prelude.{◌≡◌, ◌≤◌, ℕ, All, List, true, IfErr, IfOk, IsTrue, length};
 ghost use Rattle.std.specs.List.{list_any};
 ghost use Rattle.std.specs.Map.{keys_of};
 ghost use Rattle.std.specs.Str.{bytes_eq};
@@ -11,41 +11,66 @@ ghost use Rattle.place_libraries.specs.Rows.{AreOfPlaces};
 ghost use Rattle.library_files.specs.Search.{wanted};
 ghost use Rattle.file_table.specs.Table.{analysis_at};
 ghost use Rattle.tree_face.specs.Known.{IfKnown};
+ghost use Rattle.image_tree.specs.declared.path.TheConstants.{PATH_MAX};
+ghost use Rattle.ldso_conf.specs.Endings.{ending_of};
+ghost use Rattle.ldso_conf.specs.Reading.{IsConfOf, ReadsConf};
 ghost use Rattle.library_search.specs.Faults.{find_ending, is_store_fault};
 ghost use Rattle.library_search.specs.Found.{IsSearched, ReadsSearch};
-ghost use Rattle.library_search.specs.Ldconfig.{conf_of};
+ghost use Rattle.library_search.specs.Judged.{AreJudged};
+ghost use Rattle.library_search.specs.Ldconfig.{conf_of, conf_or};
 
 use crate::fault::FindFault;
+use crate::judging::judge;
 use aux_cache::Stamps;
 use file_stamps::{Files, read_files};
 use hwcap_dirs::{Dirs, Scope, order};
-use ldso_conf::{CONF_PATH, Conf, read_conf};
+use ldso_conf::{CONF_PATH, Conf, ConfFault, given_dirs, read_conf};
+use lib_types::Text;
 use library_files::wanted_files;
 use std::alloc::Global;
 use tree_face::{Store, Tree};
 
-/// What is found in an image before its links are planned.
+/// The results of an image's search before its links are planned.
 #[derive(Drop)]
 pub struct Search {
     pub conf: Conf,
-    /// Where libraries are looked for.
+    /// The search directories.
     pub dirs: Dirs,
-    /// What the files with library names there are.
+    /// The analyses of the files with library names in these directories. Those that the loader can't search for count as no libraries.
     pub files: Files,
 }
 
 // The path of the conf file.
-fn conf_of(scope: &Scope) -> &[u8]
-    ensures { result.now ≡ conf_of scope.now }
+fn conf_or(conf: &Option<Text>) -> &[u8]
+    ensures { result.now ≡ conf_or conf.now }
 {
-    match scope {
-        Scope::Root { conf: Some(path) } => path.as_bytes(),
-        Scope::Image | Scope::Root { conf: None } => CONF_PATH,
+    match conf {
+        Some(path) => path.as_bytes(),
+        None => CONF_PATH,
     }
 }
 
-/// Reads the conf files, and then the files with library names in the places. Of the latter only those are opened of which no stamp says what
-/// they are.
+// The directories that the conf files name, or those of the command line.
+#[tactic(auto, using(ldso_conf::proofs::CommandLine::given_reads, ldso_conf::proofs::CommandLine::given_gave_up))]
+fn read_source<S: Store>(
+    alloc: Global,
+    scope: &Scope,
+    tree: &Tree,
+    store: &mut S,
+) -> Result<Conf, ConfFault>
+    ensures conf { IfOk result (λ conf. IfKnown (S.state store.old).held (λ held. IsConfOf (conf_of scope.now) conf held tree.now)) }
+    ensures short { IfOk result (λ conf. All (λ dir. length dir ≤ PATH_MAX) conf.dirs) }
+    ensures reads { ReadsConf (conf_of scope.now) tree.now (ending_of result) (S.state store.old) (S.state store.new) }
+{
+    match scope {
+        Scope::Image => read_conf(alloc, CONF_PATH, tree, store),
+        Scope::Root { conf } => read_conf(alloc, conf_or(conf), tree, store),
+        Scope::Only { dirs } => Ok(given_dirs(alloc, dirs)?),
+    }
+}
+
+/// Reads the conf files, unless the command line gives directories, and then the files with library names in the search directories. It
+/// opens one of the latter only if the file's identity has no stamp.
 pub fn search_image<S: Store>(
     alloc: Global,
     scope: &Scope,
@@ -61,15 +86,17 @@ pub fn search_image<S: Store>(
     ensures all { IfOk result (λ search. HaveAnalyses (analysis_at search.files.table) (wanted tree.now search.dirs.places)) }
     ensures only { IfOk result (λ search. (path : List ℕ) → list_any (bytes_eq path) (keys_of search.files.table) ≡ true →
         list_any (bytes_eq path) (wanted tree.now search.dirs.places) ≡ true) }
+    ensures judged { IfOk result (λ search. AreJudged scope.now (analysis_at search.files.table)) }
     ensures rows { IfOk result (λ search. AreOfPlaces tree.now search.dirs.places search.files.table) }
     ensures reads { ReadsSearch scope.now tree.now loaded.now (find_ending result) (S.state store.old) (S.state store.new) }
     ensures others { IfErr result (λ fault. is_store_fault fault ≡ true) }
 {
     tree.know();
-    let conf = read_conf(alloc, conf_of(scope), tree, store)?;
+    let conf = read_source(alloc, scope, tree, store)?;
     let dirs = order(alloc, scope, tree, &conf.dirs)?;
     let found = wanted_files(alloc, tree, &dirs)?;
     let mut files = Files::new(alloc, found.len());
     read_files(alloc, tree, store, loaded, found, &mut files)?;
+    judge(alloc, scope, &mut files.table)?;
     Ok(Search { conf, dirs, files })
 }

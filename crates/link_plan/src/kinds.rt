@@ -1,28 +1,28 @@
-//! What is planned for an image, and sonames of its places.
+//! The symlinks planned for an image, and sonames with their search directory.
 use lib_types::{Seq, Text};
 
-/// A link that is planned.
+/// A planned symlink.
 #[derive(Drop)]
 pub struct Planned {
-    /// The number of the place that gets it.
+    /// The number of the search directory in which the link is.
     pub place: u32,
     pub soname: Text,
-    /// The name of the file to which it leads, which is its text.
+    /// The target of the link: the name of a file in the same directory.
     pub file: Text,
-    /// Its path in the tree, without links.
+    /// The path of the link in the tree; none of its directories is a link.
     pub path: Text,
 }
 
-/// The links that are planned, by place and then by the bytes of their sonames.
+/// The planned links, ordered by search directory and then by the bytes of their sonames.
 pub type Plan = Seq<Planned>;
 
-/// A soname in a place.
+/// A soname in a search directory.
 #[derive(Drop)]
 pub struct Mark {
-    /// The number of the place.
+    /// The number of the search directory.
     pub place: u32,
     pub soname: Text,
 }
 
-/// Sonames in places, by place and then by the bytes of the sonames.
+/// Sonames in search directories, ordered by search directory and then by the bytes of the sonames.
 pub type Marks = Seq<Mark>;

@@ -1,4 +1,4 @@
-//! The links that are planned for an image, and the sonames that are reported.
+//! The symlinks planned for an image, and the sonames to report.
 #![tactic(auto)]
 
 mod kinds;

@@ -1,4 +1,4 @@
--- Paths in the folders of a known one.
+-- Paths whose directory is a known path or above it.
 use Rattle.std.proofs.Common.{◌≡◌, inl, inr, ◌<◌, ◌≤◌, ◌-◌, ◌+◌, ℕ, true, false, leb, ltb, eqb, not, ◌&&◌, ◌||◌, List, [], ◌∷◌, ◌++◌, length, take, drop, get_or, refl, ap, sym, subst, ◌∙◌, length-append, take-append-drop, arith}
 use Rattle.std.specs.List.{list_all, list_any, slice_split, onto_first, starts_with, All}
 use Rattle.std.specs.Str.{is_utf8}
@@ -18,7 +18,7 @@ use Rattle.manifest_words.specs.Escape.{backslash}
 use Rattle.manifest_words.specs.Plain.{is_own, is_short, is_plain_path, IsKnown, IsAbove}
 use Rattle.manifest_words.proofs.FullWords.{path_first, path_names}
 
--- nothing, or a slash and then names with a slash between each two, without a backslash
+-- empty, or a slash and then names joined by slashes; without a backslash
 record IsNamed (p : List ℕ) : Type 0 where
   names : List (List ℕ)
   split : slice_split is_slash p ≡ [] ∷ names
@@ -62,7 +62,7 @@ named_above : (folder known : List ℕ) → IsAbove folder known → IsNamed kno
 named_above folder known (inl same) h = subst IsNamed same h
 named_above folder known (inr more) h = named_front folder more.0 (subst IsNamed more.1 h)
 
--- ---- one name more
+-- ---- one more name
 
 record IsOwn (name : List ℕ) : Type 0 where
   plain : is_plain_ascii name ≡ true
@@ -138,7 +138,7 @@ divided_at path at some within slash =
     sym (take-append-drop (at - 1) path)
     ∙ ap (λ r. take (at - 1) path ++ r) (drop_more path (at - 1) 0 (omega arith) ∙ ap (λ b. b ∷ drop (at - 1 + 1) path) slash ∙ ap (λ n. 47 ∷ drop n path) back)
 
--- ---- what stands behind the front of a path
+-- ---- the rest of a path after its front
 
 empty : (xs : List ℕ) → length xs ≡ 0 → xs ≡ []
 empty [] e = refl

@@ -38,7 +38,7 @@ pub decoded_nil : decoded [] ≡ Some []
 unfolding decoded
 decoded_nil = refl
 
--- a byte that is no backslash stands for itself
+-- a byte except a backslash represents itself
 pub decoded_plain : (b : ℕ) (rest : List ℕ) → eqb b backslash ≡ false → decoded (b ∷ rest) ≡ in_front (Some b) (decoded rest)
 decoded_plain b rest h = decoded_step b rest ∙ ap (λ t. then_rest (cond t (escape_at rest) (Some (b, rest)))) h
 
@@ -46,7 +46,7 @@ pub none_is : (word : List ℕ) → list_any (λ b. eqb b backslash) word ≡ fa
 none_is [] h = tt
 none_is (b ∷ rest) h = let parts = or_parts (eqb b backslash) (list_any (λ b. eqb b backslash) rest) h in (parts.0, none_is rest parts.1)
 
--- a word without a backslash stands for itself
+-- a word without a backslash represents itself
 pub other_decoded : (word : List ℕ) → AllByRecursion (λ b. eqb b backslash ≡ false) word → decoded word ≡ Some word
 other_decoded [] all = decoded_nil
 other_decoded (b ∷ rest) all = decoded_plain b rest all.0 ∙ ap (in_front (Some b)) (other_decoded rest all.1)
@@ -54,7 +54,7 @@ other_decoded (b ∷ rest) all = decoded_plain b rest all.0 ∙ ap (in_front (So
 pub plain_decoded : (word : List ℕ) → list_any (λ b. eqb b backslash) word ≡ false → decoded word ≡ Some word
 plain_decoded word h = other_decoded word (none_is word h)
 
--- bytes before those that a word stands for
+-- bytes, and then the bytes that a word represents
 abbrev pub behind : List ℕ → Option (List ℕ) → Option (List ℕ)
 behind front text = option_map (λ bytes. front ++ bytes) text
 
@@ -62,7 +62,7 @@ behind_one : (front : List ℕ) (b : ℕ) (text : Option (List ℕ)) → behind 
 behind_one front b None = refl
 behind_one front b (Some bytes) = ap Some (sym (append_assoc front (b ∷ []) bytes))
 
--- one byte more
+-- one more byte
 pub behind_step : (front rest after : List ℕ) (b : ℕ) → 0 < length rest → first_byte rest ≡ Some (b, after) → behind (front ++ b ∷ []) (decoded after) ≡ behind front (decoded rest)
 behind_step front [] after b some e = absurd (omega arith)
 behind_step front (x ∷ rest) after b some e = sym (ap (behind front) (decoded_step x rest ∙ ap then_rest e) ∙ behind_one front b (decoded after))
@@ -73,12 +73,12 @@ all_decoded old new [] None empty e = absurd (cc (ap (behind new) decoded_nil))
 all_decoded old new [] (Some text) empty e = (refl, cc (ap (behind new) decoded_nil, append-nil new))
 all_decoded old new (x ∷ rest) text empty e = absurd (omega arith)
 
--- no escape
+-- a bad escape
 pub not_decoded : (old new rest : List ℕ) (text : Option (List ℕ)) → 0 < length rest → first_byte rest ≡ None → behind new (decoded rest) ≡ behind old text → Decodes old new text false
 not_decoded old new rest None some none e = refl
 not_decoded old new [] (Some text) some none e = absurd (omega arith)
 not_decoded old new (x ∷ rest) (Some text) some none e = absurd (cc (ap (behind new) (decoded_step x rest ∙ ap then_rest none)))
 
--- the fault of a value that stands for itself
+-- the error of a value without a backslash
 pub plain_fault : (is_contents : Bool) (value : List ℕ) → list_any (λ b. eqb b backslash) value ≡ false → fault_of_text is_contents value ≡ written_fault is_contents value
 plain_fault is_contents value h = sym (ap (text_fault (may_be is_contents)) (plain_decoded value h))

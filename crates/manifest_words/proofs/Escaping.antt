@@ -1,4 +1,4 @@
--- What is escaped decodes to what it was.
+-- Escaped bytes decode to the same bytes.
 use Rattle.std.proofs.Common.{◌≡◌, ◌≢◌, ◌<◌, ◌+◌, ◌/◌, ◌%◌, ℕ, Bool, true, false, leb, eqb, not, ◌&&◌, ◌||◌, cond, List, [], ◌∷◌, ◌++◌, length, map, codes, Option, Some, None, refl, ap, sym, ◌∙◌, length-append, arith}
 use Rattle.std.specs.Option.{is_none, option_eq, option_map, option_and_then}
 use Rattle.std.specs.List.{list_all, list_any, filter, slice_split, onto_first, AllByRecursion}
@@ -21,7 +21,7 @@ use Rattle.manifest_words.proofs.Tokens.{are_printed, goes_on-append}
 
 -- ---- one byte, by a table of all bytes
 
--- three octal digits stand for their byte, and no letter begins them
+-- three octal digits represent their byte, and the first digit isn't an escape letter
 abbrev is_octal_of : ℕ → Bool
 is_octal_of b = option_eq eqb (octal (byte "0" + b / 64) (byte "0" + b / 8 % 8) (byte "0" + b % 8)) (Some b) && is_none (letter (byte "0" + b / 64))
 
@@ -34,7 +34,7 @@ is_sound b =
 all_sound : (b : ℕ) → b < 256 → is_sound b ≡ true
 all_sound b lt = agree_below_at is_sound (λ _. true) 256 b refl lt
 
--- what the table says of a byte
+-- what the table says about a byte
 record IsSound (b : ℕ) : Type 0 where
   octal : b ≢ 0 → is_octal_of b ≡ true
   printed : are_printed (escaped_byte b) ≡ true
@@ -117,7 +117,7 @@ escaped_ends (b ∷ []) all some = ap goes_on (append-nil (escaped_byte b)) ∙ 
 escaped_ends (b ∷ c ∷ bytes) all some =
     goes_on-append (escaped_byte b) (escaped (c ∷ bytes)) (escaped_some (c ∷ bytes) (omega arith)) ∙ escaped_ends (c ∷ bytes) all.1 (omega arith)
 
--- bytes that are all plain stand for themselves
+-- bytes that need no escapes are not changed
 pub plain_escaped : (bytes : List ℕ) → list_all is_unescaped bytes ≡ true → escaped bytes ≡ bytes
 plain_escaped [] all = refl
 plain_escaped (b ∷ bytes) all =
@@ -164,7 +164,7 @@ split_escaped (b ∷ bytes) all = by_byte (eqb b 47) b bytes refl all (split_esc
         ∙ ap (onto_front (escaped_byte b)) rest
         ∙ sym (ap (map escaped) (slice_split-cons_no is_slash b bytes e) ∙ escaped_first b (slice_split is_slash bytes))
 
--- what holds of all bytes holds of those of each part
+-- what holds for all bytes holds for the bytes of each part
 pub all_of_parts : (P : ℕ → Type 0) (bytes : List ℕ) → AllByRecursion P bytes → AllByRecursion (AllByRecursion P) (slice_split is_slash bytes)
 all_of_parts P [] all = (tt, tt)
 all_of_parts P (b ∷ bytes) all = by_byte (is_slash b) (slice_split is_slash bytes) (all_of_parts P bytes all.1)
@@ -191,7 +191,7 @@ bytes_same (x ∷ xs) (y ∷ ys) e =
 name_decoded : (name : List ℕ) → is_name name ≡ true → AreBytes name → decoded (escaped name) ≡ Some name
 name_decoded name e all = decoded_escaped name all (no_nul name (name_facts name e).clear)
 
--- a name is no component that is dropped
+-- an escaped name is not dropped like an empty component or a dot
 name_kept : (name : List ℕ) → is_name name ≡ true → AreBytes name → is_kept (escaped name) ≡ true
 name_kept name e all =
     let facts = name_facts name e in

@@ -1,4 +1,4 @@
--- First words of a dot and a path.
+-- First words that are a dot and a path.
 use Rattle.std.proofs.Common.{◌≡◌, ◌≤◌, ℕ, Bool, true, false, leb, eqb, not, ◌&&◌, ◌||◌, List, [], ◌∷◌, length, drop, codes, Some, None, refl, ap, sym, subst, ◌∙◌, option_and_then, arith}
 use Rattle.std.specs.Option.{option_map}
 use Rattle.std.specs.List.{list_all, list_any, filter, slice_split, starts_with, flat_map, join_with_byte, AllByRecursion}
@@ -31,7 +31,7 @@ slashed_all : (names : List (List ℕ)) → 1 ≤ length names → flat_map (λ 
 slashed_all [] some = absurd (omega arith)
 slashed_all (n ∷ ns) some = slashed n ns
 
--- a dot, a slash and a word of which these names come
+-- a dot, a slash and a word that gives these names
 module _ (rest word : List ℕ) (proper : is_path (47 ∷ rest) ≡ true) (found : names_of (46 ∷ 47 ∷ word) ≡ Some (slice_split is_slash rest)) where
   names : List (List ℕ)
   names = slice_split is_slash rest

@@ -1,4 +1,4 @@
--- Names and the paths that they make.
+-- Names and the paths made of them.
 use Rattle.std.proofs.Common.{◌≡◌, ◌≤◌, ℕ, true, false, leb, eqb, not, ◌&&◌, List, [], ◌∷◌, ◌++◌, length, drop, codes, refl, ap, subst, ◌∙◌, length-append, length-drop, arith}
 use Rattle.std.specs.List.{list_all, join_with_byte, slice_split, starts_with, flat_map}
 use Rattle.std.specs.Str.{IsUtf8, is_utf8, bytes_eq}
@@ -12,7 +12,7 @@ use Rattle.lib_types.specs.Name.{is_name, are_dots, have_no_slash}
 use Rattle.image_tree.specs.Node.{is_key, is_target, has_no_nul}
 use Rattle.image_tree.specs.Paths.{is_path, are_names, root}
 
--- what a name is, as facts
+-- the properties of a name
 pub record IsName (name : List ℕ) : Type 0 where
   pub some : 1 ≤ length name
   pub clear : have_no_slash name ≡ true
@@ -34,12 +34,12 @@ no_nul (b ∷ bytes) e =
     let parts = and_parts (not (eqb b 47) && not (eqb b 0)) (have_no_slash bytes) e in
     and_from (not (eqb b 0)) (has_no_nul bytes) (and_parts (not (eqb b 47)) (not (eqb b 0)) parts.0).1 (no_nul bytes parts.1)
 
--- names with a slash before each, and with one between each two
+-- names with a slash before each are a slash and the names joined by slashes
 pub slashed : (name : List ℕ) (names : List (List ℕ)) → flat_map (λ n. 47 ∷ n) (name ∷ names) ≡ 47 ∷ join_with_byte 47 (name ∷ names)
 slashed name [] = ap (λ n. 47 ∷ n) (append-nil name)
 slashed name (next ∷ names) = ap (λ rest. 47 ∷ name ++ rest) (slashed next names)
 
--- bytes of which a key can be
+-- bytes that may be a part of a key
 record IsText (bytes : List ℕ) : Type 0 where
   some : 1 ≤ length bytes
   no_nul : has_no_nul bytes ≡ true
@@ -50,7 +50,7 @@ name_text name e =
     let facts = name_facts name e in
     record { some = facts.some; no_nul = no_nul name facts.clear; utf8 = IsUtf8-from_is_utf8 name facts.utf8 }
 
--- names with a slash between each two
+-- names joined by slashes
 joined_text : (name : List ℕ) (names : List (List ℕ)) → list_all is_name (name ∷ names) ≡ true → IsText (join_with_byte 47 (name ∷ names))
 joined_text name [] good = name_text name (and_parts (is_name name) true good).0
 joined_text name (next ∷ names) good =

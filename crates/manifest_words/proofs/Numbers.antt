@@ -24,24 +24,24 @@ module _ {E : Type 0} (m n : ℕ) where
   without_some P (Ok x) p h = (h.0.1, h.1)
   without_some P (Err e) p h = λ lt. h (p, lt)
 
--- what parsing gives of digits
+-- the result of parsing digits
 pub parsed : {E : Type 0} (bs : List ℕ) (r : Result ℕ E) → ParsesUnsigned 64 10 bs r → list_all is_ascii_digit bs ≡ true → 0 < length bs → result_ok r ≡ cond (ltb (digits_value 10 bs) (2 ^ 64)) (Some (digits_value 10 bs)) None
 parsed bs r h digits some =
     below_or_not (digits_value 10 bs) (2 ^ 64) r
     (without_some (digits_value 10 bs) (2 ^ 64) (0 < length bs) r some (parse_digits digits_model 64 bs r h digits))
 
--- digits are a text
+-- digits are valid UTF-8
 pub digits_text : (bs : List ℕ) → list_all is_ascii_digit bs ≡ true → IsUtf8 bs
 digits_text bs digits = IsUtf8-from_ascii bs (IsAscii-from_digits bs ((digits_model).to bs digits))
 
--- few digits write a small number
+-- at most 19 digits represent a number below 10^19
 short_value : (bs : List ℕ) → length bs ≤ 19 → list_all is_ascii_digit bs ≡ true → digits_value 10 bs < 10 ^ 19
 short_value bs few digits = digits_value_short digits_model bs 19 digits few
 
 pub short_fits : (bs : List ℕ) → length bs ≤ 19 → list_all is_ascii_digit bs ≡ true → digits_value 10 bs < 2 ^ 64
 short_fits bs few digits = omega (arith, short_value bs few digits)
 
--- ---- one digit more of such a number
+-- ---- one more digit of such a number
 
 pub one_more_digit : (bs : List ℕ) (i : ℕ) → i < length bs → list_all is_ascii_digit (take i bs) ≡ true → is_ascii_digit (get_or bs i 0) ≡ true → list_all is_ascii_digit (take (i + 1) bs) ≡ true
 one_more_digit bs i lt digits test =
@@ -64,6 +64,6 @@ digit_step bs i lt few digits test =
       fits = omega (arith, short_value (take (i + 1) bs) (omega (arith, length-take (i + 1) bs)) (one_more_digit bs i lt digits test));
     }
 
--- a byte that is no digit, and all of the bytes if none is
+-- if one byte isn't a digit, the bytes aren't all digits
 pub no_digits : (bs : List ℕ) (i : ℕ) → i < length bs → is_ascii_digit (get_or bs i 0) ≡ false → list_all is_ascii_digit bs ≡ false
 no_digits bs i lt test = list_all_at is_ascii_digit bs i 0 lt test

@@ -1,4 +1,4 @@
--- Where a first word leads.
+-- The path that a first word names.
 use Rattle.std.proofs.Common.{◌≡◌, ◌≤◌, ℕ, Bool, false, cond, drop, eqb, not, ◌&&◌, ◌||◌, List, [], ◌∷◌, ◌++◌, length, flat_map, length-append, Option, Some, None, ap, sym, ◌∙◌, refl, arith}
 use Rattle.std.specs.List.{list_all}
 use Rattle.std.proofs.lemmas.Bool.{eq-eqb, ne_eqb}
@@ -9,7 +9,7 @@ use Rattle.image_tree.specs.Paths.{is_path}
 use Rattle.manifest_words.specs.Paths.{Stack, current, is_full, below, is_place, place_fault_of, path_of, place, names_of}
 use Rattle.manifest_words.specs.Naming.{Names, is_place_behind, place_fault_behind}
 
--- names make a path longer
+-- a path gets longer exactly if there are names
 no_longer : (base : List ℕ) (names : List (List ℕ)) → eqb (length (below base names)) (length base) ≡ eqb (length names) 0
 no_longer base [] = eq-eqb _ _ (omega (arith, length-append base []))
 no_longer base (name ∷ names) =
@@ -19,7 +19,7 @@ no_longer base (name ∷ names) =
 place_behind : (is_dir : Bool) (base : List ℕ) (names : List (List ℕ)) → is_place_behind is_dir (list_all is_name names) (length base) (below base names) ≡ is_place is_dir base names
 place_behind is_dir base names = ap (λ t. (list_all is_name names && (is_dir || not t)) && (eqb (length (below base names)) 0 || is_path (below base names))) (no_longer base names)
 
--- the fault of a word, by its path
+-- the error of a word, given its path
 pub fault_behind : (is_dir : Bool) (base word new : List ℕ) (found : Option (List (List ℕ))) (good : Bool) → Names base new found (Some good) → place_fault_behind word (is_place_behind is_dir good (length base) new) ≡ place_fault_of is_dir base word found
 fault_behind is_dir base word new None good e = absurd (cc)
 fault_behind is_dir base word new (Some names) good e =
@@ -27,7 +27,7 @@ fault_behind is_dir base word new (Some names) good e =
     let path : new ≡ below base names = e.1 in
     rw (all, path) (ap (place_fault_behind word) (place_behind is_dir base names))
 
--- a relative word leads on from the current directory
+-- a relative word is resolved from the current directory
 place_is : (dirs : Stack) (first : List ℕ) → is_full first ≡ false → place dirs first ≡ path_of (names_of first) (current dirs)
 place_is dirs first relative = ap (λ t. path_of (names_of first) (cond t [] (current dirs))) relative
 

@@ -1,4 +1,4 @@
--- The words of a canonical line, and the line that they make.
+-- The words of a canonical line, and the line made of them.
 use Rattle.std.proofs.Common.{◌≡◌, ◌<◌, ◌≤◌, ◌+◌, ◌-◌, ℕ, Bool, true, false, leb, ltb, eqb, not, ◌&&◌, map, List, [], ◌∷◌, ◌++◌, length, take, drop, get_or, refl, ap, sym, ◌∙◌, append_assoc, length-append, arith, inr}
 use Rattle.std.specs.List.{list_all, filter, slice_split, flat_map, All, AllByRecursion}
 use Rattle.std.specs.Cmp.Lexicographic.{pointwise}
@@ -31,14 +31,14 @@ goes_on-append a b some =
 abbrev pub spaced : List (List ℕ) → List ℕ
 spaced words = flat_map (λ word. 32 ∷ word) words
 
--- a line of tokens doesn't go on
+-- a line of tokens is not continued on the next line
 tokens_end : (front : List ℕ) (words : List (List ℕ)) → goes_on front ≡ false → AllByRecursion IsToken words → goes_on (front ++ spaced words) ≡ false
 tokens_end front [] ends all = ap goes_on (append-nil front) ∙ ends
 tokens_end front (word ∷ words) ends all =
     ap goes_on (sym (append_assoc front (32 ∷ word) (spaced words)))
     ∙ tokens_end (front ++ 32 ∷ word) words (goes_on-append front (32 ∷ word) (omega arith) ∙ goes_on-append (32 ∷ []) word (all.0).some ∙ (all.0).ends) all.1
 
--- no byte of it is below the blank
+-- all bytes of the tokens and blanks are at least the blank, 32
 tokens_printed : (words : List (List ℕ)) → AllByRecursion IsToken words → list_all (λ b. leb 32 b) (spaced words) ≡ true
 tokens_printed [] all = refl
 tokens_printed (word ∷ words) all =
@@ -68,7 +68,7 @@ tokens_words word (next ∷ words) first all =
     ∙ kept_word word (slice_split is_blank (next ++ spaced words)) first.some
     ∙ ap (λ ws. word ∷ ws) (tokens_words next words all.0 all.1)
 
--- a line that may stand in a text
+-- a line that may be in a canonical text
 pub record IsBody (body : List ℕ) : Type 0 where
   pub printed : list_all (λ b. leb 32 b) body ≡ true
   pub ends : goes_on body ≡ false

@@ -5,7 +5,7 @@ use Rattle.std.specs.Str.{byte}
 abbrev pub backslash : ℕ
 backslash = byte "\\"
 
--- the byte that a letter behind a backslash stands for: a blank, a tab, a line feed, or itself
+-- the byte that a backslash and this letter represent: a blank, a tab, a line feed, or the letter itself
 abbrev pub letter : ℕ → Option ℕ
 letter c =
     if c == byte "s" then Some 32 else
@@ -26,17 +26,18 @@ octal a b c =
     if is_octal a && is_octal b && is_octal c && nat_le 1 (octal_value a b c) && nat_le (octal_value a b c) 255
     then Some (octal_value a b c) else None
 
--- a byte in front of the bytes, if there are both
+-- the byte and then the bytes, if both are given
 abbrev pub in_front : Option ℕ → Option (List ℕ) → Option (List ℕ)
 in_front None text = None
 in_front (Some b) text = option_map (λ bytes. b ∷ bytes) text
 
--- an escape is a letter, before what follows it, or else three octal digits, before what follows them
+-- the decoded text of an escape: if it is a letter, its byte and the text after the letter; else the byte of three octal digits and the
+-- text after the digits
 abbrev pub escape : Option ℕ → Option (List ℕ) → Option ℕ → Option (List ℕ) → Option (List ℕ)
 escape (Some b) behind_letter digits behind_digits = in_front (Some b) behind_letter
 escape None behind_letter digits behind_digits = in_front digits behind_digits
 
--- The bytes that a word stands for; none if a backslash begins no escape. Each byte but a backslash stands for itself.
+-- The bytes that a word represents; None if a backslash doesn't begin an escape. Each byte except a backslash represents itself.
 unfoldable pub decoded : List ℕ → Option (List ℕ)
 decoded [] = Some []
 decoded (b ∷ []) = if b == backslash then None else in_front (Some b) (decoded [])
@@ -49,9 +50,9 @@ decoded (b ∷ c ∷ d ∷ e ∷ rest) =
     then escape (letter c) (decoded (d ∷ e ∷ rest)) (octal c d e) (decoded rest)
     else in_front (Some b) (decoded (c ∷ d ∷ e ∷ rest))
 
--- ---- the same as a relation: a word is a row of texts, each of which writes one byte
+-- ---- the same as a relation: a word is a sequence of texts, each of which represents one byte
 
--- the byte that a text writes: itself, but for a backslash; or a backslash and a letter, or three octal digits
+-- the byte that a text represents; the text is a byte except a backslash, or a backslash with a letter or three octal digits
 abbrev pub byte_of : List ℕ → Option ℕ
 byte_of (b ∷ []) = if b == backslash then None else Some b
 byte_of (b ∷ c ∷ []) = if b == backslash then letter c else None
@@ -63,11 +64,11 @@ pub record StandsFor (word bytes : List ℕ) : Type 0 where
   pub joined : flat_map (λ text. text) texts ≡ word
   pub each : map byte_of texts ≡ map Some bytes
 
--- Of all words those that stand for bytes are decoded, each to the bytes that it stands for.
+-- A word decodes to bytes exactly if it represents these bytes.
 abbrev pub DecodesAll : Type 0
 DecodesAll = (word bytes : List ℕ) → (decoded word ≡ Some bytes) ↔ StandsFor word bytes
 
--- the bytes that the canonical text leaves as they are: printable ASCII but the backslash and `#`
+-- the bytes that are not escaped in the canonical text: printable ASCII except blank, backslash and `#`
 abbrev pub is_unescaped : ℕ → Bool
 is_unescaped b = nat_le 33 b && nat_le b 126 && not (b == backslash) && not (b == byte "#")
 
@@ -77,6 +78,6 @@ octal_digits b = (byte "0" + b / 64) ∷ (byte "0" + b / 8 % 8) ∷ (byte "0" + 
 abbrev pub escaped_byte : ℕ → List ℕ
 escaped_byte b = if is_unescaped b then b ∷ [] else backslash ∷ octal_digits b
 
--- the bytes as the canonical text has them
+-- the bytes as they are escaped in the canonical text
 abbrev pub escaped : List ℕ → List ℕ
 escaped bytes = flat_map escaped_byte bytes

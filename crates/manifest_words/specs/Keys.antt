@@ -1,4 +1,4 @@
--- The keywords of a manifest's lines (mtree(5); `dev` and `ctime` are this product's own).
+-- The keywords of a manifest's lines (mtree(5); `dev` and `ctime` are extensions of this product).
 use Rattle.std.specs.Prelude.{ℕ, ◌+◌, ◌^◌, Bool, true, false, List, [], ◌∷◌, ◌==◌, ◌&&◌, not, nat_le, nat_lt, if◌then◌else◌, codes, length, take, drop, fold, position, Option, Some, None, is_some}
 use Rattle.std.specs.List.{list_any, list_all}
 use Rattle.std.specs.Char.{is_ascii_digit}
@@ -14,7 +14,7 @@ use Rattle.manifest_words.specs.declared.keys.Keyword.TheVariants as keyword
 use Rattle.manifest_words.specs.declared.keys.LineType.{LineType}
 use Rattle.manifest_words.specs.declared.keys.LineType.TheVariants as types
 
--- ---- the first fault of a line counts
+-- ---- the first error of a line is reported
 
 abbrev pub rank : LineKind → ℕ
 rank BadEscape = 0
@@ -23,7 +23,7 @@ rank BadNumber = 2
 rank BadType = 3
 rank NoTarget = 4
 
--- of two faults the one of the lower rank
+-- of two errors, the error with the lower rank
 abbrev pub first_fault : Option LineKind → Option LineKind → Option LineKind
 first_fault None b = b
 first_fault (Some a) None = Some a
@@ -32,7 +32,7 @@ first_fault (Some a) (Some b) = if nat_le (rank a) (rank b) then Some a else Som
 abbrev pub fault_unless : Bool → LineKind → Option LineKind
 fault_unless holds kind = if holds then None else Some kind
 
--- ---- one keyword, divided from its value at the first `=`
+-- ---- one keyword, separated from its value by the first `=`
 
 abbrev pub is_equals : ℕ → Bool
 is_equals b = b == byte "="
@@ -60,7 +60,7 @@ is_known keyword.Contents = true
 abbrev pub no_node_types : List (List ℕ)
 no_node_types = codes "block" ∷ codes "char" ∷ codes "fifo" ∷ codes "socket" ∷ []
 
--- the types that make a node, those that make none, and what is no type
+-- the type of a line: a type of nodes, a type that is ignored, or an unknown type
 abbrev pub type_of : List ℕ → LineType
 type_of value =
     if bytes_eq value (codes "file") then types.File else
@@ -82,7 +82,7 @@ number_of value =
     if nat_le 1 (length value) && nat_le (length value) 20 && list_all is_ascii_digit value && nat_lt (digits_value 10 value) (2 ^ 64)
     then Some (digits_value 10 value) else None
 
--- what a link's text may be; the empty one is no target
+-- whether a text may be a link's target; an empty text counts as no target, but isn't an error here
 abbrev pub is_link_text : List ℕ → Bool
 is_link_text text = nat_le (length text) TEXT_MAX && has_no_nul text
 
@@ -102,7 +102,7 @@ value_fault keyword.Other value = None
 
 -- ---- the values of the keywords
 
--- the values that hold for a line; those of `link` and `contents` as they are written
+-- the values that apply to a line; `link` and `contents` are as written, with their escapes
 pub record Values : Type 0 where
   pub kind : LineType
   -- empty if there is none
@@ -113,7 +113,7 @@ pub record Values : Type 0 where
   pub size : Option ℕ
   pub contents : Option (List ℕ)
 
--- without a type a line is a file
+-- a line without a type is a file
 abbrev pub no_values : Values
 no_values = record { kind = types.File; link = []; dev = None; inode = None; ctime = None; size = None; contents = None }
 
@@ -127,7 +127,7 @@ with_value v keyword.Size value = record v { size = number_of value }
 with_value v keyword.Contents value = record v { contents = Some value }
 with_value v keyword.Other value = v
 
--- without the value of a keyword
+-- the values, without the value of this keyword
 abbrev pub without : Values → Keyword → Values
 without v keyword.Type = record v { kind = types.File }
 without v keyword.Link = record v { link = [] }
@@ -140,12 +140,12 @@ without v keyword.Other = v
 
 -- ---- the keywords of a line
 
--- the values after some of a line's keywords, and the first fault of these
+-- the values after some of a line's keywords, and the first error of these keywords
 pub record Given : Type 0 where
   pub values : Values
   pub fault : Option LineKind
 
--- KEY=VALUE, or a KEY that has no value
+-- KEY=VALUE, or KEY without a value
 abbrev pub divided : List ℕ → Option ℕ → Keyword × Option (List ℕ)
 divided word None = (keyword_of word, None)
 divided word (Some n) = (keyword_of (take n word), Some (drop (n + 1) word))
@@ -159,7 +159,7 @@ given_by g (keyword, Some value) =
 abbrev pub given_word : Given → List ℕ → Given
 given_word g word = given_by g (divided word (position is_equals word))
 
--- what keywords give over defaults
+-- the values of a line: its keywords override the defaults
 abbrev pub given : Values → List (List ℕ) → Given
 given defaults words = fold given_word (record { values = defaults; fault = None }) words
 

@@ -4,7 +4,7 @@ use Rattle.std.specs.List.{slice_split, ends_with}
 use Rattle.bstr.specs.Text.{lines_of, without_terminator}
 use Rattle.manifest_words.specs.Escape.{backslash}
 
--- the physical lines, each without its line feed and a carriage return before it
+-- the physical lines, each without its line feed and without a carriage return before the line feed
 abbrev pub physical_lines : List ℕ → List (List ℕ)
 physical_lines text = map without_terminator (lines_of text)
 
@@ -15,11 +15,11 @@ is_blank b = b == 32 || b == 9
 abbrev pub words_of : List ℕ → List (List ℕ)
 words_of line = filter (λ word. not (length word == 0)) (slice_split is_blank line)
 
--- the line goes on in the next one
+-- the line is continued on the next line
 abbrev pub goes_on : List ℕ → Bool
 goes_on line = ends_with nat_eq line (backslash ∷ [])
 
--- the words of a physical line, at whose end a backslash counts as a blank
+-- the words of a physical line; a backslash at its end counts as a blank
 abbrev pub physical_words : List ℕ → List (List ℕ)
 physical_words line = words_of (if goes_on line then take (length line - 1) line else line)
 
@@ -28,7 +28,7 @@ pub record Line : Type 0 where
   pub number : ℕ
   pub words : List (List ℕ)
 
--- the words of a line that goes on, before those of the line that follows, or of none at the end of the text
+-- a continued line: its words come before the words of the next line, if there is a next line
 abbrev pub before : ℕ → List (List ℕ) → List Line → List Line
 before number words [] = record { number = number; words = words } ∷ []
 before number words (line ∷ lines) = record { number = number; words = words ++ line.words } ∷ lines
@@ -38,7 +38,7 @@ joined_before number line lines =
     if goes_on line then before number (physical_words line) lines
     else record { number = number; words = physical_words line } ∷ lines
 
--- the joined lines of physical lines, of which the first has this number
+-- the joined lines of physical lines; the first physical line has this number
 abbrev pub joined : ℕ → List (List ℕ) → List Line
 joined number [] = []
 joined number (line ∷ lines) = joined_before number line (joined (number + 1) lines)

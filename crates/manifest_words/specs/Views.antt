@@ -1,4 +1,4 @@
--- What the code's values stand for.
+-- The values of the specification that the code's values represent.
 use Rattle.std.specs.Prelude.{ℕ, Bool, true, false, List, Option}
 use Rattle.std.specs.Option.{option_copied}
 use Rattle.image_tree.specs.Node.{is_key}

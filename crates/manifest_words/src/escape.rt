@@ -1,4 +1,4 @@
-//! Escapes in words, decoded and written.
+//! Decoding the escapes in words.
 ghost use Rattle.std.specs.Prelude.{◌≡◌, ◌==◌, ◌<◌, length, Some, None, IfOk, IfSome, MatchOption};
 ghost use Rattle.std.specs.List.{list_any};
 ghost use Rattle.manifest_words.specs.Escape.{letter, octal, is_octal, backslash, decoded};
@@ -6,7 +6,7 @@ ghost use Rattle.manifest_words.specs.Decoding.{octal_at, escape_at, first_byte,
 
 use lib_types::{NoMemory, has_byte};
 
-// The byte that a letter behind a backslash stands for.
+// The byte that a backslash and this letter represent.
 fn letter(c: u8) -> Option<u8>
     ensures { result ≡ letter c }
 {
@@ -26,7 +26,7 @@ fn is_octal(c: u8) -> bool
     b'0' <= c && c <= b'7'
 }
 
-// The byte of three octal digits.
+// The byte that a backslash and these three octal digits represent.
 fn octal(a: u8, b: u8, c: u8) -> Option<u8>
     ensures { result ≡ octal a b c }
 {
@@ -41,7 +41,7 @@ fn octal(a: u8, b: u8, c: u8) -> Option<u8>
     }
 }
 
-// The byte of the three octal digits at the front, and what stands behind them.
+// The byte of the three octal digits at the front, and the rest after them.
 fn octal_at(rest: &[u8]) -> Option<(u8, &[u8])>
     ensures { MatchOption result (octal_at rest.now ≡ None) (λ r. octal_at rest.now ≡ Some (r.0, r.1.now)) }
 {
@@ -54,7 +54,7 @@ fn octal_at(rest: &[u8]) -> Option<(u8, &[u8])>
     }
 }
 
-// The byte of the escape behind a backslash, and what stands behind the escape.
+// The byte of the escape after a backslash, and the rest after the escape.
 fn escape_at(rest: &[u8]) -> Option<(u8, &[u8])>
     ensures { MatchOption result (escape_at rest.now ≡ None) (λ r. escape_at rest.now ≡ Some (r.0, r.1.now)) }
 {
@@ -67,7 +67,7 @@ fn escape_at(rest: &[u8]) -> Option<(u8, &[u8])>
     }
 }
 
-// The byte that the front of a word stands for, and what stands behind that front.
+// The first byte that a word represents, and the rest of the word after it.
 fn first_byte(word: &[u8]) -> Option<(u8, &[u8])>
     ensures exact { MatchOption result (first_byte word.now ≡ None) (λ r. first_byte word.now ≡ Some (r.0, r.1.now)) }
     ensures shorter { IfSome result (λ r. length r.1.now < length word.now) }
@@ -97,14 +97,14 @@ fn decode_bytes(out: &mut Vec<u8>, word: &[u8]) -> Result<bool, NoMemory>
     Ok(true)
 }
 
-/// Whether the word may have an escape.
+/// Whether the word has a backslash, and so may have an escape.
 pub fn has_backslash(word: &[u8]) -> bool
     ensures { result ≡ list_any (λ b. b == backslash) word.now }
 {
     has_byte(b'\\', word)
 }
 
-/// Appends the bytes that a word stands for, and says whether each of its escapes is one.
+/// Appends the bytes that a word represents. Returns false if a backslash doesn't begin an escape.
 #[tactic(auto, using(crate::proofs::Decoded::plain_decoded))]
 pub fn decode(out: &mut Vec<u8>, word: &[u8]) -> Result<bool, NoMemory>
     ensures { IfOk result (λ good. Decodes out.old.items out.new.items (decoded word.now) good) }

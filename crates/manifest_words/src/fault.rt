@@ -1,15 +1,15 @@
-//! What is wrong with a line.
+//! The errors of a line.
 
-/// What is wrong with a line. Of several faults of one line the first in this order counts.
+/// The error of a line. If a line has several errors, the first in this order is reported.
 #[derive(Clone, Copy, Debug, PartialEq, Eq)]
 pub enum LineKind {
-    /// A backslash begins no escape.
+    /// A backslash doesn't begin an escape.
     BadEscape,
-    /// The line has no form that a line may have.
+    /// The line is malformed.
     BadLine,
     /// A number isn't 1 to 20 decimal digits, or isn't below 2^64.
     BadNumber,
-    /// The value of `type` is no type.
+    /// The value of `type` is unknown.
     BadType,
     /// A link has no target.
     NoTarget,

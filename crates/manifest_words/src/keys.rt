@@ -14,7 +14,7 @@ use lib_types::{NoMemory, find_byte, is_utf8};
 use std::alloc::Global;
 use tree_face::TEXT_MAX;
 
-/// The keywords that have a meaning here, and all others.
+/// The keywords that are used here. All others are `Other`.
 #[derive(Clone, Copy, Debug, PartialEq, Eq)]
 pub enum Keyword {
     Type,
@@ -27,7 +27,7 @@ pub enum Keyword {
     Other,
 }
 
-/// The types that make a node, those that make none, and what is no type.
+/// The type of a line: a type of nodes, a type that is ignored, or an unknown type.
 #[derive(Clone, Copy, Debug, PartialEq, Eq)]
 pub enum LineType {
     File,
@@ -37,7 +37,7 @@ pub enum LineType {
     Unknown,
 }
 
-/// The values of keywords. Those of `link` and `contents` are kept as they are written.
+/// The values of keywords. The values of `link` and `contents` are kept as written, with their escapes.
 #[derive(Clone, Copy)]
 pub struct Keys<'a> {
     pub kind: LineType,
@@ -50,14 +50,14 @@ pub struct Keys<'a> {
     pub contents: Option<&'a [u8]>,
 }
 
-/// The values after some of a line's keywords, and the first fault of these.
+/// The values after some of a line's keywords, and the first error of these keywords.
 #[derive(Clone, Copy)]
 pub struct Given<'a> {
     pub keys: Keys<'a>,
     pub fault: Option<LineKind>,
 }
 
-/// No value at all: a line without a type is a file's.
+/// No values. A line without a type is a file.
 pub fn no_keys<'a>() -> Keys<'a>
     ensures { values_in result ≡ no_values }
 {
@@ -84,7 +84,7 @@ fn rank(kind: LineKind) -> u8
     }
 }
 
-/// Of two faults of one line the one that counts.
+/// The error that is reported if a line has these two.
 pub fn first_fault(a: Option<LineKind>, b: Option<LineKind>) -> Option<LineKind>
     ensures { result ≡ first_fault a b }
 {
@@ -97,7 +97,7 @@ pub fn first_fault(a: Option<LineKind>, b: Option<LineKind>) -> Option<LineKind>
     if rank(x) <= rank(y) { a } else { b }
 }
 
-/// No fault if the test holds.
+/// No error if the test holds, otherwise an error of this kind.
 pub fn fault_unless(holds: bool, kind: LineKind) -> Option<LineKind>
     ensures { result ≡ fault_unless holds kind }
 {
@@ -128,7 +128,7 @@ fn is_known(keyword: Keyword) -> bool
     }
 }
 
-// Whether the value is a type that makes no node.
+// Whether the value is a type that is ignored.
 fn makes_no_node(value: &[u8]) -> bool
     ensures { result ≡ list_any (bytes_eq value.now) no_node_types }
 {
@@ -165,7 +165,7 @@ fn are_digits(value: &[u8]) -> bool
     value.iter().all(|b| b.is_ascii_digit())
 }
 
-// The number that twenty digits write, if it is below 2^64.
+// The number that the digits represent, if it is below 2^64.
 #[tactic(auto, using(crate::proofs::Numbers::parsed, crate::proofs::Numbers::digits_text))]
 fn long_number(value: &[u8]) -> Option<u64>
     requires some { 0 < length value.now }
@@ -178,7 +178,7 @@ fn long_number(value: &[u8]) -> Option<u64>
     }
 }
 
-// The number that fewer digits write, which is below 2^64, in one pass.
+// The number that at most 19 digits represent, in one pass. It is always below 2^64.
 #[tactic(auto, using(crate::proofs::Numbers::no_digits))]
 fn short_number(value: &[u8]) -> Option<u64>
     requires few { length value.now ≤ 19 }
@@ -210,7 +210,7 @@ fn number_of(value: &[u8]) -> Option<u64>
     }
 }
 
-// Keeps the number that the value writes, and returns the fault of a value that writes none.
+// Stores the number that the value represents. Returns an error if the value isn't a number.
 fn number_in(number: &mut Option<u64>, value: &[u8]) -> Option<LineKind>
     ensures number { number.new ≡ number_of value.now }
     ensures fault { result ≡ fault_unless (is_some (number_of value.now)) BadNumber }
@@ -237,7 +237,7 @@ fn is_key(text: &[u8]) -> bool
     !text.is_empty() && is_link_text(text) && is_utf8(text)
 }
 
-// The fault of a text that may be a key, or else a link's.
+// The error of a decoded value: a key if `is_contents`, otherwise a link's target.
 fn fault_of_text(is_contents: bool, text: &[u8]) -> Option<LineKind>
     ensures { result ≡ fault_of_text is_contents text.now }
 {
@@ -249,7 +249,7 @@ fn fault_of_text(is_contents: bool, text: &[u8]) -> Option<LineKind>
     fault_unless(good, LineKind::BadLine)
 }
 
-// The fault of a value that has escapes, which are decoded for the test.
+// The error of a value with escapes. The escapes are decoded for the test.
 fn escaped_fault(
     alloc: Global,
     is_contents: bool,
@@ -265,7 +265,7 @@ fn escaped_fault(
     }
 }
 
-// The fault of a value of `contents` or `link`. One that stands for itself is tested where it stands.
+// The error of a value of `contents` or `link`. A value without a backslash is tested without a copy.
 #[tactic(auto, using(crate::proofs::Decoded::plain_fault))]
 fn written_fault(
     alloc: Global,
@@ -281,7 +281,7 @@ fn written_fault(
     }
 }
 
-// The values with one more, whose fault counts with those before.
+// Adds one more value. Its error is combined with the errors before it.
 fn given_value<'a>(
     alloc: Global,
     given: &mut Given<'a>,
@@ -331,7 +331,7 @@ fn without<'a>(keys: Keys<'a>, keyword: Keyword) -> Keys<'a>
     keys
 }
 
-/// Adds what one word more gives.
+/// Adds the keyword and value of one more word.
 pub fn given_word<'a>(alloc: Global, given: &mut Given<'a>, word: &'a [u8]) -> Result<(), NoMemory>
     ensures { OnOk result (given_in given.new ≡ given_word (given_in given.old) word.entry.now) }
 {
@@ -343,7 +343,7 @@ pub fn given_word<'a>(alloc: Global, given: &mut Given<'a>, word: &'a [u8]) -> R
     given_value(alloc, given, keyword_of(&word[..n]), &word[n + 1..])
 }
 
-/// The values without that of the keyword that the word names, or without all.
+/// Removes the value of the keyword that the word names. Removes all values if the word is `all`.
 pub fn unset_word<'a>(keys: Keys<'a>, word: &[u8]) -> Keys<'a>
     ensures { values_in result ≡ unset_word (values_in keys.entry) word.now }
 {

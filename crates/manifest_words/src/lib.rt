@@ -1,4 +1,4 @@
-//! The words of a manifest's line, as mtree(5) has them: escapes, paths, keywords with their values.
+//! The words of a manifest's line (mtree(5)): escapes, paths, and keywords with their values.
 #![tactic(auto)]
 
 mod escape;

@@ -1,4 +1,4 @@
-//! First words that are a dot and a path without escapes, as most are.
+//! First words that are a dot and a path without escapes. Most first words are.
 ghost use Rattle.std.specs.Prelude.{◌≡◌, ◌≤◌, ◌++◌, ◌∷◌, [], length, drop, IfSome, IsTrue};
 ghost use Rattle.std.specs.List.{list_all};
 ghost use Rattle.lib_types.specs.Name.{slash};
@@ -11,7 +11,7 @@ use lib_types::NAME_MAX;
 use std::marker::Model;
 use tree_face::{PATH_MAX, is_path};
 
-/// The path of the last such word, which contracts see as its bytes. It is empty before the first one.
+/// The path of the last such word. It is empty before the first such word. Contracts see its bytes.
 #[derive(Drop)]
 pub struct KnownPath<'a> {
     bytes: &'a [u8],
@@ -28,14 +28,14 @@ impl<'a> Model for KnownPath<'a> {
     ghost invariant = { λ k. IsKnown k.bytes.now };
 }
 
-// Whether an ASCII byte stands for itself in a word, and divides no names.
+// Whether a byte is ASCII, represents itself in a word, and doesn't separate names.
 fn is_own(b: u8) -> bool
     ensures { result ≡ is_own b }
 {
     b != b'/' && b != 0 && b != b'\\' && b < 128
 }
 
-// The index from which on all bytes stand for themselves.
+// The first index from which on `is_own` holds for all bytes.
 #[tactic(auto, using(crate::proofs::Beside::own_before))]
 fn own_from(path: &[u8]) -> usize
     ensures within { result ≤ length path.now }
@@ -48,7 +48,7 @@ fn own_from(path: &[u8]) -> usize
     at
 }
 
-// The path's folder and its last name, if all bytes of the name stand for themselves.
+// The path's directory and its last name, if `is_own` holds for all bytes of the name.
 #[tactic(auto, using(crate::proofs::Beside::divided_at))]
 fn divided(path: &[u8]) -> Option<(&[u8], &[u8])>
     ensures parts { IfSome result (λ r. path.now ≡ r.0.now ++ slash ∷ r.1.now) }
@@ -62,7 +62,7 @@ fn divided(path: &[u8]) -> Option<(&[u8], &[u8])>
     }
 }
 
-// Whether a name has the length of one, and isn't the folder itself or the one above it.
+// Whether a name has the length of a name, and isn't `.` or `..`.
 fn is_short(name: &[u8]) -> bool
     ensures { result ≡ is_short name.now }
 {
@@ -71,7 +71,7 @@ fn is_short(name: &[u8]) -> bool
         && !(name == b".".as_slice() || name == b"..".as_slice())
 }
 
-// Whether a path is the folder, or leads through it.
+// Whether a path is the folder, or is below it.
 #[tactic(auto, using(crate::proofs::Beside::above_end, crate::proofs::Beside::above_slash))]
 fn is_above(folder: &[u8], path: &[u8]) -> bool
     ensures { IsTrue result → IsAbove folder.now path.now }
@@ -82,7 +82,7 @@ fn is_above(folder: &[u8], path: &[u8]) -> bool
     }
 }
 
-// Whether the bytes are a path without escapes in a folder of the known path. Then only the name is looked at.
+// Whether the bytes are a path without escapes whose directory is the known path or above it. Only the last name is checked.
 fn is_beside(known: &[u8], path: &[u8]) -> bool
     requires known { IsKnown known.now }
     ensures { IsTrue result → IsTrue (is_plain_path path.now) }
@@ -103,7 +103,7 @@ fn is_plain_path(path: &[u8]) -> bool
     is_path(path) && !has_backslash(path)
 }
 
-// The path of a first word that is a dot and a path without escapes.
+// The path of a first word, if the word is a dot and a path without escapes.
 #[tactic(auto, using(crate::proofs::FullWords::dotted_path))]
 fn dotted_path<'a>(known: &[u8], word: &'a [u8]) -> Option<&'a [u8]>
     requires known { IsKnown known.now }
@@ -126,7 +126,7 @@ impl<'a> KnownPath<'a> {
         KnownPath { bytes: b"" }
     }
 
-    /// The path of a first word that is a dot and a path without escapes, which is known from here on.
+    /// The path of a first word, if the word is a dot and a path without escapes. It becomes the known path.
     pub fn next_path(&mut self, word: &'a [u8]) -> Option<&'a [u8]>
         ensures { IfSome result (λ path. LeadsTo word.entry.now path.now) }
     {

@@ -1,4 +1,4 @@
--- Lines without a fault have a node that may stand at their path.
+-- A line without an error has a node that may be put at its path.
 use Rattle.std.proofs.Common.{◌≡◌, ℕ, Bool, true, false, cond, leb, not, ◌&&◌, ◌||◌, eqb, List, [], ◌∷◌, length, codes, Option, Some, None, Result, Ok, Err, unwrap_or, refl, ap, sym, subst, ◌∙◌, arith}
 use Rattle.std.specs.Option.{is_none}
 use Rattle.std.specs.List.{fold, position}
@@ -28,7 +28,7 @@ use Rattle.mtree_manifest.specs.declared.line.Head.TheVariants as head
 use Rattle.manifest_words.specs.declared.keys.LineType.{LineType}
 use Rattle.manifest_words.specs.declared.keys.LineType.TheVariants as types
 
--- no fault of a line is none of its parts
+-- if a line has no error, its parts have no error
 pub neither : (a b : Option LineKind) → first_fault a b ≡ None → (a ≡ None) × (b ≡ None)
 neither None b e = (refl, e)
 neither (Some x) None e = absurd (cc)
@@ -48,7 +48,7 @@ faultless dirs first g e = ap (λ f. unless_faulty f (Puts (stack_behind dirs fi
 pub faulty : (dirs : Stack) (first : List ℕ) (g : Given) (kind : LineKind) → entry_fault dirs first g ≡ Some kind → entry dirs first g ≡ Faulty kind
 faulty dirs first g kind e = ap (λ f. unless_faulty f (Puts (stack_behind dirs first g.values) (put_by (place dirs first) g.values))) e
 
--- a place that is not the root's is a path's
+-- a word that has no error and doesn't name the root names a valid path
 pub path_found : (d : Bool) (base word : List ℕ) (found : Option (List (List ℕ))) → place_fault_of d base word found ≡ None → eqb (length (path_of found base)) 0 ≡ false → is_path (path_of found base) ≡ true
 path_found d base word None e some = absurd (cc)
 path_found d base word (Some names) e some =
@@ -66,7 +66,7 @@ good_path dirs first g n e made =
     let none = neither _ _ (neither g.fault _ e).1 in
     path_found (is_dir g.values.kind) (base_of dirs first) first (names_of first) none.0 (of_place _ _ n made).0
 
--- texts that were found good
+-- texts that were checked
 good_text : (may_be : List ℕ → Bool) (text : Option (List ℕ)) → is_none (text_fault may_be text) ≡ true → may_be (unwrap_or text []) ≡ true
 good_text may_be None e = absurd (cc)
 good_text may_be (Some text) e = by_test (may_be text) refl e
@@ -173,7 +173,7 @@ pub words_good : (o : Open) (words : List (List ℕ)) → IsGoodOpen o → IsGoo
 words_good o [] good = good
 words_good o (word ∷ words) good = words_good (with_word o word) words (word_good o.number o.first o.given word good)
 
--- ---- the defaults behind a line are good
+-- ---- the defaults after a line are good
 
 same_state : (a b : State) → ◌≡◌ {A = Result State ManifestFault} (Ok a) (Ok b) → a ≡ b
 same_state a b e = cc

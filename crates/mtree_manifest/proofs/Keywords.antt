@@ -1,4 +1,4 @@
--- The keywords of a canonical line, and what they give.
+-- The keywords of a canonical line, and the values that they give.
 use Rattle.std.proofs.Common.{◌≡◌, ◌<◌, ◌≤◌, ◌+◌, ◌^◌, ℕ, Bool, true, false, leb, ltb, eqb, not, ◌&&◌, cond, List, [], ◌∷◌, ◌++◌, length, drop, codes, decimal, Option, Some, None, refl, ap, sym, ◌∙◌, length-append, append_assoc, arith}
 use Rattle.std.specs.Option.{is_some, unwrap_or}
 use Rattle.std.specs.List.{list_all, fold, position, position_or_len, AllByRecursion}
@@ -73,7 +73,7 @@ path_word path = 46 ∷ escaped path
 pub line_spaced : (path : List ℕ) (n : Node) → node_line (path, n) ≡ (path_word path ++ spaced (keywords path n)) ++ 10 ∷ []
 line_spaced path n = ap (λ words. (path_word path ++ words) ++ 10 ∷ []) (node_spaced path n)
 
--- ---- each is a token
+-- ---- each word is a token
 
 no_backslash_ends : (w : List ℕ) → list_all (λ b. not (eqb b 92)) w ≡ true → goes_on w ≡ false
 no_backslash_ends [] h = refl
@@ -101,7 +101,7 @@ digits_end (b ∷ w) h =
     let bounds = digit_bounds b parts.0 in
     and_from (not (eqb b 92)) (list_all (λ x. not (eqb x 92)) w) (ap (λ t. not t) (ne_eqb b 92 (λ e. absurd (omega arith)))) (digits_end w parts.1)
 
--- a key with its `=`, and then a value
+-- a keyword with its `=`, and then a value
 pub keyed_token : (front value : List ℕ) → are_printed front ≡ true → are_printed value ≡ true → 0 < length value → goes_on value ≡ false → IsToken (front ++ value)
 keyed_token front value f v some ends = record {
   some = omega (arith, length-append front value);
@@ -152,7 +152,7 @@ keyword_tokens path (node.Link target) good range =
 pub path_token : (path : List ℕ) → AreBytes path → 0 < length path → IsToken (path_word path)
 path_token path all some = text_token (codes ".") path refl all some
 
--- ---- what they give
+-- ---- the values that they give
 
 first_passes : (p : ℕ → Bool) (w v : List ℕ) (b : ℕ) → list_all (λ x. not (p x)) w ≡ true → p b ≡ true → position_or_len p (w ++ b ∷ v) ≡ length w
 first_passes p [] v b none at = cond-false (not (p b)) _ _ (ap (λ t. not t) at)
@@ -201,7 +201,7 @@ ctime_given v n lt = gives v (codes "ctime") (decimal n) refl (number_good n lt)
 size_given : (v : Values) (n : ℕ) → n < 2 ^ 64 → given_word (record { values = v; fault = None }) (codes "size=" ++ decimal n) ≡ record { values = record v { size = Some n }; fault = None }
 size_given v n lt = gives v (codes "size") (decimal n) refl (number_good n lt) ∙ ap (λ o. record { values = record v { size = o }; fault = None }) (number_read n lt)
 
--- the values with an identity, and with a key
+-- the values with an identity added, and with a key added
 abbrev pub with_id : Option Id → Values → Values
 with_id None v = v
 with_id (Some id) v = record v { dev = Some id.dev; inode = Some id.inode; ctime = Some id.ctime; size = Some id.size }
@@ -284,7 +284,7 @@ file_kind true key (Some id) = refl
 file_kind false key None = refl
 file_kind false key (Some id) = refl
 
--- of which the node is made again
+-- these values give the same node
 pub node_made : (path : List ℕ) (n : Node) → is_node n ≡ true → IsNodeInRange n → node_by (values_for path n).kind (values_for path n) path ≡ Some n
 unfolding values_for
 node_made path node.Dir good range = refl

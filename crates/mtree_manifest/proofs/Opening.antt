@@ -17,7 +17,7 @@ kept path lens fewer n stack e = subst (IsStack path) (sym e) (record {
       rw (first, second) (stack.rising i j d lt (omega arith));
 })
 
--- a path that goes on behind the current one leaves those that are open
+-- extending the current path doesn't change the paths of the open directories
 same_paths : (path more lens : List ℕ) (m : ℕ) → m ≤ length path → ((i : ℕ) → i < length lens → get_or lens i 0 ≤ m) → paths_in (take m path ++ more) lens ≡ paths_in path lens
 same_paths path more [] m within below = refl
 same_paths path more (n ∷ lens) m within below =
@@ -27,7 +27,7 @@ same_paths path more (n ∷ lens) m within below =
     ap (λ x. x ∷ paths_in (take m path ++ more) lens) first
     ∙ ap (λ xs. take n path ∷ xs) (same_paths path more lens m within (λ i lt. below (suc i) (omega arith)))
 
--- no length is above the last one
+-- each length is at most the last length
 below_top : (path lens : List ℕ) → IsStack path lens → (i : ℕ) → i < length lens → get_or lens i 0 ≤ top lens
 below_top path lens stack i lt =
     ⊎_elim (λ before. stack.rising i (length lens - 1) 0 before (omega arith))

@@ -1,4 +1,4 @@
--- Going over the physical lines gives what the joined lines give.
+-- Reading the physical lines has the same result as reading the joined lines.
 use Rattle.std.proofs.Common.{◌≡◌, ℕ, ◌+◌, Bool, true, false, cond, List, [], ◌∷◌, ◌++◌, Some, None, Result, Ok, Err, refl, ap, sym, ◌∙◌, append_assoc}
 use Rattle.std.specs.List.{fold}
 use Rattle.manifest_words.specs.Keys.{Values, Given, unset_word, unset}
@@ -27,7 +27,7 @@ by_head head.Unset d dirs first rest = ap Reading.Defaults (unset_values (record
 by_head head.Close d dirs first rest = refl
 by_head head.Entry d dirs first rest = refl
 
--- the words, one after another, read as the line
+-- adding the words one at a time has the same result as the whole line
 words_read : (n : ℕ) (s : State) (words : List (List ℕ)) → line_ended s (fold with_word (started n s.defaults) words) ≡ with_line s (record { number = n; words = words })
 words_read n s [] = refl
 words_read n s (first ∷ rest) =
@@ -82,6 +82,6 @@ whole (line ∷ lines) s m ws n =
         (λ t. rest t (n + 1) [] (n + 1) ∙ no_words t (n + 1) lines)
         ∙ ap (λ r. r >>= (λ t. with_lines t (joined (n + 1) lines))) (words_read m s (ws ++ physical_words line))
 
--- the physical lines read as the joined lines
+-- the physical lines have the same result as the joined lines
 pub physicals : (s : State) (n : ℕ) (lines : List (List ℕ)) → with_physicals (record { state = s; line = started n s.defaults; next = n }) lines ≡ with_lines s (joined n lines)
 physicals s n lines = whole lines s n [] n ∙ no_words s n lines

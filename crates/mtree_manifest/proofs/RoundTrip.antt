@@ -1,4 +1,4 @@
--- The canonical text of a tree reads as the tree.
+-- Reading the canonical text of a tree gives the tree.
 use Rattle.std.proofs.Common.{◌≡◌, ◌<◌, ◌≤◌, ◌+◌, ℕ, Bool, true, false, leb, eqb, not, ◌&&◌, List, [], ◌∷◌, ◌++◌, length, map, codes, Some, None, Ok, refl, ap, sym, subst, ◌∙◌, length-append, append_assoc, arith}
 use Rattle.std.specs.Option.{option_map}
 use Rattle.std.specs.Result.{result_ok}
@@ -33,7 +33,7 @@ use Rattle.manifest_words.specs.Escape.{escaped}
 use Rattle.manifest_words.proofs.FullWords.{path_first, path_names, leads_there, leads_well}
 use Rattle.manifest_words.proofs.Tokens.{IsBody, spaced, tokens_body, tokens_physical, physical_first}
 
--- ---- the first word of a line leads to the path
+-- ---- the first word of a line names the path
 
 module _ (rest : List ℕ) (proper : is_path (47 ∷ rest) ≡ true) (range : AreBytes (47 ∷ rest)) where
   names_found : names_of (path_word (47 ∷ rest)) ≡ Some (slice_split is_slash rest)
@@ -85,7 +85,7 @@ any_front p (x ∷ xs) ys e =
     let parts = or_parts (p x) (list_any p (xs ++ ys)) e in
     or_from (p x) (list_any p xs) parts.0 (any_front p xs ys parts.1)
 
--- a node behind all others
+-- a node whose path comes after all other paths
 put_last : (done : Nodes) (k : List ℕ) (n : Node) → AllByRecursion (λ (x : List ℕ × Node). path_cmp x.0 k ≡ Less) done → insert_entry path_cmp done k n ≡ done ++ (k, n) ∷ []
 put_last [] k n all = refl
 put_last (x ∷ done) k n all =
@@ -183,7 +183,7 @@ reads_back t tree range short =
     ∙ ap (λ lines. with_lines no_lines (joined 1 lines) >>= (λ s. Ok s.tree)) physicals
     ∙ ap (λ r. r >>= (λ s. Ok s.tree)) (lines_read t [] 2 tree range)
 
--- the same of a text that was written
+-- the same for a text that was written
 pub read_again : (t : Nodes) (text : List ℕ) → text ≡ canon t → IsTree t → AreInRange t → length text ≤ TEXT_MAX → tree_of text ≡ Some t
 read_again t text same tree range short =
     ap tree_of same ∙ ap result_ok (reads_back t tree range (subst (λ bytes. length bytes ≤ TEXT_MAX) same short))

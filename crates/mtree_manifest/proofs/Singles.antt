@@ -1,4 +1,4 @@
--- A line by itself, as the code reads it.
+-- A single line, as the code reads it.
 use Rattle.std.proofs.Common.{◌≡◌, ℕ, Bool, true, false, not, ◌&&◌, eqb, List, [], ◌∷◌, length, Option, Some, None, Result, Ok, Err, refl, ap, ◌∙◌}
 use Rattle.std.proofs.lemmas.Bool.{and_parts, not-true}
 use Rattle.std.specs.List.{fold}
@@ -20,9 +20,9 @@ use Rattle.manifest_words.specs.declared.fault.LineKind.TheVariants.{BadLine}
 use Rattle.mtree_manifest.specs.declared.line.Head.{Head}
 use Rattle.mtree_manifest.specs.declared.line.Head.TheVariants as head
 
--- ---- the words, one after another
+-- ---- the words, one at a time
 
--- what the words so far give
+-- the result of the words so far
 abbrev pub alone_of : Option (List ℕ) → Given → Result (Option (List ℕ × Node)) LineKind
 alone_of None g = Err (pathless_fault g.fault)
 alone_of (Some first) g = entry_alone first g
@@ -48,7 +48,7 @@ read (first ∷ rest) =
     ap (λ (o : Open). alone_of (path_word o.first) o.given) (behind_first 1 (head_of first) first (record { values = no_values; fault = None }) rest)
     ∙ by_head (head_of first) first rest
 
--- ---- the fault of a first word
+-- ---- the error of a first word
 
 after : (t : Bool) (kind : LineKind) (lead : Bool) → fault_unless t BadLine ≡ Some kind → first_fault (fault_unless t BadLine) (fault_unless lead BadLine) ≡ Some kind
 after true kind lead e = absurd (cc)
@@ -61,16 +61,16 @@ by_names d base first None kind true e = e
 by_names d base first None kind false e = e
 by_names d base first (Some names) kind lead e = after (not (is_directive first) && is_place d base names) kind lead e
 
--- a fault of the word comes before that of where it leads
+-- an error of the word comes before an error of its path
 pub refused : (d : Bool) (first : List ℕ) (kind : LineKind) → place_fault d [] first ≡ Some kind → place_fault_alone d first ≡ Some kind
 refused d first kind e = by_names d (base_of [] first) first (names_of first) kind (is_full first && not (eqb (length (place [] first)) 0)) e
 
 pub found : (d : Bool) (first : List ℕ) → place_fault d [] first ≡ None → place_fault_alone d first ≡ lead_fault first
 found d first e = ap (λ f. first_fault f (lead_fault first)) e
 
--- ---- a word without a fault
+-- ---- a word without an error
 
--- it leads to a path
+-- the word names a valid path
 pub leads : (word : List ℕ) → place_fault_alone false word ≡ None → is_path (place [] word) ≡ true
 leads word e =
     let both = neither (place_fault false [] word) (lead_fault word) e in
@@ -78,7 +78,7 @@ leads word e =
     let some = (and_parts (is_full word) (not (eqb (length (place [] word)) 0)) full).1 in
     path_found false (base_of [] word) word (names_of word) both.0 (not-true (eqb (length (place [] word)) 0) some)
 
--- ---- a line without a fault
+-- ---- a line without an error
 
 no_fault : (first : List ℕ) (g : Given) → fault_alone first g ≡ None → entry_fault [] first g ≡ None
 no_fault first g e =
@@ -87,7 +87,7 @@ no_fault first g e =
     let place = neither (place_fault (is_dir g.values.kind) [] first) _ word.0 in
     rw (all.0, place.0, word.1) refl
 
--- the path of a word without a fault was found
+-- the first word of a line without an error has no error
 pub none_placed : (first : List ℕ) (g : Given) → fault_alone first g ≡ None → place_fault_alone (is_dir g.values.kind) first ≡ None
 none_placed first g e = (neither (place_fault_alone (is_dir g.values.kind) first) _ (neither g.fault _ e).1).0
 
@@ -96,7 +96,7 @@ by_node : (first : List ℕ) (g : Given) (n : Option Node) → fault_alone first
 by_node first g None e good made = tt
 by_node first g (Some n) e good made = (good_path [] first g n (no_fault first g e) made, good_node [] first g n (no_fault first g e) good made)
 
--- its node may be put at its path
+-- the line's node may be put at its path
 pub proper : (first : List ℕ) (g : Given) → fault_alone first g ≡ None → IsGood g →
     IfSome (put_by (place [] first) g.values) (λ entry. IsTrue (is_path entry.0) × IsTrue (is_node entry.1))
 proper first g e good = by_node first g (node_of g.values (place [] first)) e good refl

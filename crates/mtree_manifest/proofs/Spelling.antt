@@ -1,4 +1,4 @@
--- What words are decoded to is what they stand for.
+-- A word decodes to the bytes that it represents.
 use Rattle.std.proofs.Common.{◌≡◌, ◌<◌, ◌≤◌, ℕ, zero, suc, Bool, true, false, cond, eqb, leb, not, ◌&&◌, ◌||◌, List, [], ◌∷◌, ◌++◌, length, map, flat_map, Option, Some, None, refl, ap, sym, ◌∙◌, arith}
 use Rattle.std.proofs.lemmas.Bool.{agree_below_at, and_parts, leb-true}
 use Rattle.std.specs.Option.{is_none, option_map}
@@ -6,9 +6,9 @@ use Rattle.manifest_words.specs.Decoding.{first_byte, escape_at, escape_by, octa
 use Rattle.manifest_words.specs.Escape.{DecodesAll, StandsFor, backslash, byte_of, decoded, in_front, is_octal, letter, octal, octal_value}
 use Rattle.manifest_words.proofs.Decoded.{decoded_nil, decoded_plain, decoded_step, then_rest}
 
--- ---- what stands for bytes is decoded to them
+-- ---- a word that represents bytes decodes to them
 
--- no letter is a digit
+-- an octal digit isn't an escape letter
 abbrev is_no_letter : ℕ → Bool
 is_no_letter c = not (is_octal c) || is_none (letter c)
 
@@ -44,7 +44,7 @@ plain_one : (p : Bool) (x b : ℕ) (rest : List ℕ) → eqb x backslash ≡ p �
 plain_one true x b rest is h = absurd (cc)
 plain_one false x b rest is h = decoded_plain x rest is ∙ ap (λ o. in_front o (decoded rest)) h
 
--- an escape that is one of the two
+-- an escape with a letter
 by_letter : (l : Option ℕ) (b : ℕ) (rest : List ℕ) (digits : Option (ℕ × List ℕ)) → l ≡ Some b → then_rest (escape_by l rest digits) ≡ in_front (Some b) (decoded rest)
 by_letter l b rest digits e = rw e refl
 
@@ -80,7 +80,7 @@ all_decoded (text ∷ texts) (b ∷ bytes) each =
     let rest : map byte_of texts ≡ map Some bytes = cc in
     one_decoded text (flat_map (λ text. text) texts) b first ∙ ap (in_front (Some b)) (all_decoded texts bytes rest)
 
--- ---- what is decoded stands for its bytes
+-- ---- a word that decodes to bytes represents them
 
 -- the parts of a pair
 first_is : (p q : ℕ × List ℕ) → Some p ≡ Some q → p.0 ≡ q.0
@@ -150,7 +150,7 @@ with_front word bytes after b front rest = record {
   each = cc (front.writes, rest.each);
 }
 
--- what the rest of a word stands for, if that is known of all shorter ones
+-- the induction hypothesis: shorter words represent the bytes that they decode to
 abbrev Shorter : ℕ → Type 0
 Shorter n = (word bytes : List ℕ) → length word ≤ n → decoded word ≡ Some bytes → StandsFor word bytes
 

@@ -13,7 +13,7 @@ id_words (Some id) =
     codes " dev=" ++ decimal id.dev ++ codes " inode=" ++ decimal id.inode
     ++ codes " ctime=" ++ decimal id.ctime ++ codes " size=" ++ decimal id.size
 
--- a key other than the path without its first slash
+-- a key that is not the path without its first slash
 abbrev pub key_words : List ℕ → List ℕ → List ℕ
 key_words path key = if bytes_eq key (drop 1 path) then [] else codes " contents=" ++ escaped key
 

@@ -1,4 +1,4 @@
--- Values that were found good, of which a node can be made.
+-- Values that were checked, so that a node can be made of them.
 use Rattle.std.specs.Prelude.{◌≡◌, Bool, true, List, ℕ, ◌&&◌, Option, Some, None, is_none}
 use Rattle.manifest_words.specs.Keys.{Values, Given, value_fault}
 use Rattle.mtree_manifest.specs.Progress.{Open}
@@ -16,7 +16,7 @@ is_good_contents (Some value) = is_none (value_fault keyword.Contents value)
 abbrev pub are_good : Values → Bool
 are_good v = is_good_link v.link && is_good_contents v.contents
 
--- without a fault so far the values are good
+-- if the words so far have no error, the values are good
 abbrev pub IsGood : Given → Type 0
 IsGood g = g.fault ≡ None → are_good g.values ≡ true
 

@@ -1,4 +1,4 @@
--- What the code's open line stands for.
+-- The open line that the code's value represents.
 use Rattle.std.specs.Prelude.{option_map}
 use Rattle.mtree_manifest.specs.Progress.{Open}
 use Rattle.manifest_words.specs.Views.{given_in}

@@ -21,16 +21,16 @@ use Rattle.mtree_manifest.specs.declared.line.Head.TheVariants as head
 use Rattle.manifest_words.specs.declared.keys.LineType.{LineType}
 use Rattle.manifest_words.specs.declared.keys.LineType.TheVariants as types
 
--- ---- what one line reads as
+-- ---- the reading of one line
 
 pub data Reading : Type 0 where
   Faulty : LineKind → Reading
   -- new defaults
   Defaults : Values → Reading
-  -- the stack behind the line, and what it puts, if anything
+  -- the stack after the line, and the node that the line puts, if any
   Puts : Stack → Option (List ℕ × Node) → Reading
 
--- the text that a value of `link` or `contents` stands for
+-- the text that a value of `link` or `contents` represents
 abbrev pub text_of : List ℕ → List ℕ
 text_of value = unwrap_or (decoded value) []
 
@@ -56,7 +56,7 @@ node_by types.Link v path = Some (node.Link (text_of v.link))
 node_by types.NoNode v path = None
 node_by types.Unknown v path = None
 
--- the node of a path; the root has none
+-- the node of a path; the root has no node
 abbrev pub node_of : Values → List ℕ → Option Node
 node_of v path = if length path == 0 then None else node_by v.kind v path
 
@@ -78,7 +78,7 @@ is_link types.Unknown = false
 abbrev pub target_fault : Values → Option LineKind
 target_fault v = fault_unless (not (is_link v.kind && length v.link == 0)) NoTarget
 
--- a relative line of a directory opens it
+-- a relative line with type `dir` opens the directory
 abbrev pub stack_behind : Stack → List ℕ → Values → Stack
 stack_behind dirs first v = if is_dir v.kind && not (is_full first) then dirs ++ place dirs first ∷ [] else dirs
 
@@ -89,16 +89,16 @@ unless_faulty (Some kind) reading = Faulty kind
 abbrev pub put_by : List ℕ → Values → Option (List ℕ × Node)
 put_by path v = option_map (λ node. (path, node)) (node_of v path)
 
--- the first fault of a line with a path
+-- the first error of a line with a path
 abbrev pub entry_fault : Stack → List ℕ → Given → Option LineKind
 entry_fault dirs first g = first_fault g.fault (first_fault (place_fault (is_dir g.values.kind) dirs first) (target_fault g.values))
 
--- a line with a path, for what its keywords give over the defaults
+-- a line with a path; its keywords have overridden the defaults
 abbrev pub entry : Stack → List ℕ → Given → Reading
 entry dirs first g =
     unless_faulty (entry_fault dirs first g) (Puts (stack_behind dirs first g.values) (put_by (place dirs first) g.values))
 
--- `/set` makes defaults of its keywords
+-- `/set` adds its keywords to the defaults
 abbrev pub set_line : Given → Reading
 set_line g = unless_faulty g.fault (Defaults g.values)
 
@@ -109,7 +109,7 @@ close_line dirs = if length dirs == 0 then Faulty BadLine else Puts (closed dirs
 abbrev pub is_comment : List ℕ → Bool
 is_comment first = starts_with nat_eq first (codes "#")
 
--- what the first word of a line makes of it
+-- the kind of a line, given by its first word
 abbrev pub head_of : List ℕ → Head
 head_of first =
     if is_comment first then head.Comment else
@@ -124,7 +124,7 @@ reading_by head.Unset defaults dirs first rest = Defaults (unset defaults rest)
 reading_by head.Close defaults dirs first rest = close_line dirs
 reading_by head.Entry defaults dirs first rest = entry dirs first (given defaults rest)
 
--- what a line's words read as, for defaults and a stack
+-- the reading of a line's words, for these defaults and this stack
 abbrev pub reading : Values → Stack → List (List ℕ) → Reading
 reading defaults dirs [] = Puts dirs None
 reading defaults dirs (first ∷ rest) = reading_by (head_of first) defaults dirs first rest
@@ -139,7 +139,7 @@ pub record State : Type 0 where
 abbrev pub no_lines : State
 no_lines = record { tree = []; defaults = no_values; dirs = [] }
 
--- the tree with one node more, if it clashes with none and has room
+-- the tree with one more node, if the node doesn't clash and there is room for it
 abbrev pub with_node : ℕ → Nodes → List ℕ × Node → Result Nodes ManifestFault
 with_node number tree e =
     if clashes tree e.0 e.1 then Err (Clash number) else
@@ -166,7 +166,7 @@ abbrev pub with_lines : State → List Line → Result State ManifestFault
 with_lines s [] = Ok s
 with_lines s (line ∷ lines) = with_line s line >>= (λ t. with_lines t lines)
 
--- the tree that the puts of all lines give in order, or the first line that is bad
+-- the tree made of the puts of all lines in order, or the first bad line
 unfoldable pub outcome : List ℕ → Result Nodes ManifestFault
 outcome text =
     if nat_le (length text) TEXT_MAX

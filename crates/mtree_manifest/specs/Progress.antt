@@ -1,4 +1,4 @@
--- How the code goes over the physical lines: with the line that is open, word by word.
+-- How the code reads the physical lines: it keeps the open line and adds words to it, one at a time.
 use Rattle.std.specs.Prelude.{ℕ, ◌+◌, Bool, List, [], ◌∷◌, fold, if◌then◌else◌, Option, Some, None, Result, Ok}
 use Rattle.manifest_words.specs.Keys.{Values, Given, given_word, unset_word}
 use Rattle.manifest_words.specs.Lines.{goes_on, physical_words}
@@ -42,7 +42,7 @@ abbrev pub reading_behind : Option (Head × List ℕ) → Given → Stack → Re
 reading_behind None g dirs = Puts dirs None
 reading_behind (Some first) g dirs = reading_of first.0 first.1 g dirs
 
--- the lines that are read, and the one that is open
+-- the state after the lines that have ended, and the open line
 pub record Progress : Type 0 where
   pub state : State
   pub line : Open
@@ -58,7 +58,7 @@ going_on goes_on next s o =
     if goes_on then Ok (record { state = s; line = o; next = next })
     else line_ended s o >>= (λ t. Ok (record { state = t; line = started next t.defaults; next = next }))
 
--- one physical line more, for the number of the next one
+-- reads one more physical line; `next` is the number of the line after it
 abbrev pub physical_taken : ℕ → State → Open → List ℕ → Result Progress ManifestFault
 physical_taken next s o line = going_on (goes_on line) next s (fold with_word o (physical_words line))
 

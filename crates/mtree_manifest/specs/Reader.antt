@@ -1,4 +1,4 @@
--- What the reader's parts stand for.
+-- The values of the specification that the reader's parts represent.
 use Rattle.std.specs.Prelude.{ℕ, List, Result}
 use Rattle.manifest_words.specs.Keys.{Values}
 use Rattle.manifest_words.specs.Paths.{place}
@@ -16,6 +16,6 @@ state_in r = record { tree = r.tree; defaults = values_in r.defaults; dirs = r.d
 abbrev pub progress_in : the_reader.Reader → ℕ → the_line.Line → Progress
 progress_in r next line = record { state = state_in r; line = line_in line; next = next }
 
--- the state with the node of a line that has no fault
+-- the state after a line without an error, whose node is put
 abbrev pub entry_put : ℕ → State → List ℕ → Values → Result State ManifestFault
 entry_put number s first v = with_put number s (stack_behind s.dirs first v) (put_by (place s.dirs first) v)

@@ -1,4 +1,4 @@
--- One line by itself (mtree(5): a full path with its keywords), without defaults and without a directory that is open.
+-- A single line (mtree(5): a full path with its keywords), without defaults and without open directories.
 use Rattle.std.specs.Prelude.{ℕ, Bool, false, ◌==◌, ◌&&◌, not, List, [], ◌∷◌, if◌then◌else◌, length, Option, Some, None, unwrap_or, Result, Ok, Err}
 use Rattle.image_tree.specs.declared.node.Node.{Node}
 use Rattle.manifest_words.specs.Keys.{Given, fault_unless, first_fault, given, no_values}
@@ -10,15 +10,15 @@ use Rattle.manifest_words.specs.declared.fault.LineKind.TheVariants.{BadLine}
 use Rattle.mtree_manifest.specs.declared.line.Head.{Head}
 use Rattle.mtree_manifest.specs.declared.line.Head.TheVariants as head
 
--- the first word is a full path, and not the root's
+-- the first word must be a full path, and not the root
 abbrev pub lead_fault : List ℕ → Option LineKind
 lead_fault first = fault_unless (is_full first && not (length (place [] first) == 0)) BadLine
 
--- the fault of a first word, in a line that is a directory's or another's
+-- the error of a first word; `is_dir` says whether the line is a directory's
 abbrev pub place_fault_alone : Bool → List ℕ → Option LineKind
 place_fault_alone is_dir first = first_fault (place_fault is_dir [] first) (lead_fault first)
 
--- the first fault of a line with a path
+-- the first error of a line with a path
 abbrev pub fault_alone : List ℕ → Given → Option LineKind
 fault_alone first g = first_fault g.fault (first_fault (place_fault_alone (is_dir g.values.kind) first) (target_fault g.values))
 
@@ -26,15 +26,15 @@ abbrev pub entry_unless : Option LineKind → Option (List ℕ × Node) → Resu
 entry_unless None entry = Ok entry
 entry_unless (Some kind) entry = Err kind
 
--- a line with a path, for what its keywords give; a type that makes no node gives none
+-- a line with a path and the values of its keywords; None if its type is ignored
 abbrev pub entry_alone : List ℕ → Given → Result (Option (List ℕ × Node)) LineKind
 entry_alone first g = entry_unless (fault_alone first g) (put_by (place [] first) g.values)
 
--- the fault of a line without a path, of which an escape may be bad
+-- the error of a line without a path: BadEscape if an escape is bad, otherwise BadLine
 abbrev pub pathless_fault : Option LineKind → LineKind
 pathless_fault fault = unwrap_or (first_fault fault (Some BadLine)) BadLine
 
--- Only a line with a path gives something; of the others the keywords of `/set` are looked at.
+-- Only a line with a path is good. For a `/set` line the error also depends on its keywords.
 abbrev pub alone_by : Head → List ℕ → List (List ℕ) → Result (Option (List ℕ × Node)) LineKind
 alone_by head.Entry first rest = entry_alone first (given no_values rest)
 alone_by head.Set first rest = Err (pathless_fault (given no_values rest).fault)
@@ -46,21 +46,21 @@ abbrev pub words_alone : List (List ℕ) → Result (Option (List ℕ × Node)) 
 words_alone [] = Err BadLine
 words_alone (first ∷ rest) = alone_by (head_of first) first rest
 
--- the path and the node that a line gives, or its first fault; it goes on in no other line
+-- the path and the node of a line, or its first error; the line must not be continued on the next line
 abbrev pub line_alone : List ℕ → Result (Option (List ℕ × Node)) LineKind
 line_alone line = if goes_on line then Err BadLine else words_alone (words_of line)
 
--- ---- one word by itself
+-- ---- a single word
 
 abbrev pub path_unless : Option LineKind → List ℕ → Result (List ℕ) LineKind
 path_unless None path = Ok path
 path_unless (Some kind) path = Err kind
 
--- the path to which a full word leads, or its first fault, of which a bad escape comes before all others
+-- the path that a full word names, or its first error: BadEscape if an escape is bad, otherwise BadLine
 abbrev pub path_alone : List ℕ → Result (List ℕ) LineKind
 path_alone word = path_unless (place_fault_alone false word) (place [] word)
 
--- ---- words of private functions
+-- ---- for the contracts of private functions
 
 abbrev pub path_word : Option (Head × List ℕ) → Option (List ℕ)
 path_word None = None

@@ -1,11 +1,11 @@
--- How the code keeps the open directories: one buffer, and how many of its bytes each of their paths takes.
+-- How the code stores the open directories: one buffer, and the length of each path in it.
 use Rattle.std.specs.Prelude.{ℕ, ◌≤◌, ◌-◌, List, [], ◌∷◌, ◌++◌, All, AllPairs, map, take, length, slice_index}
 use Rattle.manifest_words.specs.Paths.{Stack, current}
 
 abbrev pub paths_in : List ℕ → List ℕ → Stack
 paths_in path lens = map (λ n. take n path) lens
 
--- how many bytes the path of the current directory takes
+-- the length of the current directory's path
 abbrev pub top : List ℕ → ℕ
 top lens = slice_index lens (length lens - 1)
 

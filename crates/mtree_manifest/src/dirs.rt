@@ -1,4 +1,4 @@
-//! The directories that are open.
+//! The stack of open directories.
 ghost use Rattle.std.specs.Prelude.{◌≡◌, ◌≤◌, ◌++◌, ◌∷◌, ◌==◌, [], not, length, OnOk};
 ghost use Rattle.manifest_words.specs.Paths.{current, closed};
 ghost use Rattle.mtree_manifest.specs.Stacks.{IsStack, paths_in, top, opened};
@@ -7,12 +7,12 @@ use lib_types::NoMemory;
 use std::alloc::Global;
 use std::marker::Model;
 
-/// The directories that are open, which contracts see as the list of their paths. The path of each begins with that of the
-/// one opened before it, so one buffer has them all.
+/// The stack of open directories. Contracts see the list of their paths. Each path begins with the path of the directory
+/// opened before it, so one buffer holds all paths.
 #[derive(Drop)]
 pub(crate) struct Dirs {
     path: Vec<u8>,
-    /// How many bytes of the buffer each of them takes, the one opened last at the end.
+    /// The length of each path in the buffer. The directory opened last is at the end.
     lens: Vec<usize>,
 }
 
@@ -27,7 +27,7 @@ impl Model for Dirs {
     ghost invariant = { λ d. IsStack d.path.items d.lens.items };
 }
 
-// How many bytes the path of the current directory takes.
+// The length of the current directory's path.
 fn top(path: &Vec<u8>, lens: &Vec<usize>) -> usize
     requires { IsStack path.now.items lens.now.items }
     ensures value { result ≡ top lens.now.items }
@@ -39,7 +39,7 @@ fn top(path: &Vec<u8>, lens: &Vec<usize>) -> usize
     }
 }
 
-// Opens the directory whose path goes on with these bytes.
+// Opens a directory. Its path is the current directory's path and then these bytes.
 #[tactic(auto, using(crate::proofs::Opening::one_more))]
 fn open_in(path: &mut Vec<u8>, lens: &mut Vec<usize>, more: &[u8]) -> Result<(), NoMemory>
     requires { IsStack path.old.items lens.old.items }
@@ -64,14 +64,14 @@ impl Dirs {
         }
     }
 
-    /// The path of the current directory, the root's being empty.
+    /// The path of the current directory. The path of the root is empty.
     pub(crate) fn current(&self) -> &[u8]
         ensures { result.now ≡ current self.now }
     {
         &self.path.as_slice()[..top(&self.path, &self.lens)]
     }
 
-    /// Closes the directory that was opened last. Says whether one was open.
+    /// Closes the directory that was opened last. Returns whether a directory was open.
     pub(crate) fn close(&mut self) -> bool
         ensures open { result ≡ not (length self.old == 0) }
         ensures closed { self.new ≡ closed self.old }
@@ -79,7 +79,7 @@ impl Dirs {
         self.lens.pop().is_some()
     }
 
-    /// Opens the directory whose path goes on with these bytes behind that of the current one.
+    /// Opens a directory. Its path is the current directory's path and then these bytes.
     pub(crate) fn open(&mut self, more: &[u8]) -> Result<(), NoMemory>
         ensures { OnOk result (self.new ≡ self.old ++ (current self.old ++ more.now) ∷ []) }
     {

@@ -1,4 +1,4 @@
-//! What a line with a path makes.
+//! The node that a line with a path makes.
 ghost use Rattle.std.specs.Prelude.{◌≡◌, None, drop, IfOk, IfSome, IsErrOf, OnOk, IsTrue};
 ghost use Rattle.std.specs.Option.{option_copied};
 ghost use Rattle.image_tree.specs.Node.{is_node};
@@ -46,7 +46,7 @@ pub(crate) fn target_fault(keys: &Keys<'_>) -> Option<LineKind>
     fault_unless(!lacks_target, LineKind::NoTarget)
 }
 
-// Fills the buffer with these bytes alone.
+// Overwrites the buffer with these bytes.
 fn fill(buffer: &mut Vec<u8>, bytes: &[u8]) -> Result<(), NoMemory>
     ensures { OnOk result (buffer.new.items ≡ bytes.now) }
 {
@@ -55,14 +55,14 @@ fn fill(buffer: &mut Vec<u8>, bytes: &[u8]) -> Result<(), NoMemory>
     Ok(())
 }
 
-// Fills the buffer with the path of the directory from which a word leads on.
+// Fills the buffer with the path of the directory from which a word is resolved.
 fn begin_at(path: &mut Vec<u8>, current: &[u8], word: &[u8]) -> Result<(), NoMemory>
     ensures { OnOk result (path.new.items ≡ base_by word.now current.now) }
 {
     fill(path, if is_full(word) { b"" } else { current })
 }
 
-// Whether a word leads to a place, by the path from which it leads on and the one to which it leads.
+// Whether a word names a valid path, given the path and the length of the directory's path before the word's names.
 fn is_place(is_dir: bool, are_names: bool, start: usize, path: &[u8]) -> bool
     ensures { result ≡ is_place_behind is_dir are_names start path.now }
 {
@@ -75,7 +75,7 @@ fn place_fault(word: &[u8], is_place: bool) -> Option<LineKind>
     fault_unless(!is_directive(word) && is_place, LineKind::BadLine)
 }
 
-/// Fills the buffer with where a first word leads, in or below the current directory. Says what is wrong with the word.
+/// Fills the buffer with the path that a first word names. Returns the error of the word, if it has an error.
 #[tactic(auto, using(manifest_words::proofs::Places::fault_behind))]
 pub(crate) fn find_place<'a>(
     path: &mut Vec<u8>,
@@ -129,7 +129,7 @@ fn id_of(keys: &Keys<'_>) -> Option<Id>
     })
 }
 
-/// The node of a path; the root has none.
+/// The node of a path. The root has no node.
 pub(crate) fn node_of<'a>(
     alloc: Global,
     last: &mut LastValue<'a>,
@@ -158,7 +158,7 @@ pub(crate) fn node_of<'a>(
     }
 }
 
-/// Puts the node of the line with this number.
+/// Puts the node into the tree. `number` is the line's number, for errors.
 pub(crate) fn put_node(
     tree: &mut Tree,
     number: u64,

@@ -1,27 +1,27 @@
-//! What is wrong with a manifest.
+//! The errors of a manifest.
 ghost use Rattle.std.specs.Prelude.{◌≡◌};
 
 use lib_types::NoMemory;
 use manifest_words::LineKind;
 use std::alloc::{AllocError, AllocFailed};
 
-/// The most bytes of a manifest's text: 64 MiB, some eighty bytes for each node that a tree may have.
+/// The maximum size of a manifest's text: 64 MiB, about 80 bytes for each node that a tree may have.
 pub const TEXT_MAX: usize = 1 << 26;
 
 /// Why a manifest was not read. Lines are counted from 1, and a joined line has the number of its first physical line.
 #[derive(Clone, Copy, Debug, PartialEq, Eq)]
 pub enum ManifestFault {
-    /// The text has more bytes than a manifest may have.
+    /// The text has more than `TEXT_MAX` bytes.
     TooLong { length: u64 },
     Bad { line: u64, kind: LineKind },
-    /// The line would put something below a file or a link.
+    /// The line would put a node below a file or a link, or a file or a link above a node.
     Clash { line: u64 },
-    /// The line's node would be one more than a tree may have.
+    /// With the line's node, the tree would have too many nodes.
     TooMany { line: u64 },
     NoMemory,
 }
 
-/// Why a line by itself was not read.
+/// Why a single line was not read.
 #[derive(Clone, Copy, Debug, PartialEq, Eq)]
 pub enum EntryLineFault {
     Bad(LineKind),

@@ -1,4 +1,4 @@
-//! The manifest of an image, as mtree(5) has it: read into a tree, and written from one.
+//! The manifest of an image (mtree(5)): read into a tree, and written from a tree.
 #![tactic(auto)]
 
 mod dirs;

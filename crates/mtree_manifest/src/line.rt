@@ -1,4 +1,4 @@
-//! A line whose words are read one after another.
+//! A line, whose words are read one at a time.
 ghost use Rattle.std.specs.Prelude.{◌≡◌, true, nat_eq, codes, fold, OnOk};
 ghost use Rattle.std.specs.List.{starts_with};
 ghost use Rattle.manifest_words.specs.Lines.{words_of, goes_on, physical_words};
@@ -11,7 +11,7 @@ use lib_types::{NoMemory, Separator, split};
 use manifest_words::{Given, Keys, given_word, unset_word};
 use std::alloc::Global;
 
-/// What the first word of a line makes of it.
+/// The kind of a line, given by its first word.
 #[derive(Clone, Copy, Debug, PartialEq, Eq)]
 pub(crate) enum Head {
     Comment,
@@ -21,7 +21,7 @@ pub(crate) enum Head {
     Entry,
 }
 
-/// A joined line: the number of its first physical line, its first word, and what the words behind that give.
+/// A joined line: the number of its first physical line, its first word, and the values given by the following words.
 #[derive(Clone, Copy)]
 pub(crate) struct Line<'a> {
     pub number: u64,
@@ -43,7 +43,7 @@ pub(crate) fn start_line<'a>(number: u64, defaults: Keys<'a>) -> Line<'a>
     }
 }
 
-// Most first words begin with none of the characters that the others begin with.
+// Tests the first character first: it decides most first words.
 fn head_of(word: &[u8]) -> Head
     ensures { result ≡ head_of word.now }
 {
@@ -55,7 +55,7 @@ fn head_of(word: &[u8]) -> Head
     }
 }
 
-// What a word that begins with a slash makes of its line.
+// The kind of a line whose first word begins with a slash.
 fn slash_head(word: &[u8]) -> Head
     requires { starts_with nat_eq word.now (codes "/") ≡ true }
     ensures { result ≡ head_of word.now }
@@ -69,7 +69,7 @@ fn slash_head(word: &[u8]) -> Head
     }
 }
 
-// Adds what a word gives that stands behind the first one.
+// Adds a word after the first word.
 fn given_by_head<'a>(
     alloc: Global,
     head: Head,
@@ -101,7 +101,7 @@ fn add_word<'a>(alloc: Global, line: &mut Line<'a>, word: &'a [u8]) -> Result<()
     }
 }
 
-/// Adds the words between blanks.
+/// Adds the words of some bytes, which are separated by blanks.
 pub(crate) fn add_words<'a>(
     alloc: Global,
     line: &mut Line<'a>,
@@ -117,7 +117,7 @@ pub(crate) fn add_words<'a>(
     Ok(())
 }
 
-/// Whether a physical line goes on in the next one.
+/// Whether a physical line is continued on the next line.
 pub(crate) fn goes_on(physical: &[u8]) -> bool
     ensures { result ≡ goes_on physical.now }
 {

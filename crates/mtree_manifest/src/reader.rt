@@ -1,4 +1,4 @@
-//! A manifest's tree.
+//! Reading a manifest into a tree.
 ghost use Rattle.mtree_manifest.specs.declared.fault.TheConstants.{TEXT_MAX};
 ghost use Rattle.mtree_manifest.specs.declared.fault.ManifestFault.TheVariants as faults;
 ghost use Rattle.std.specs.Prelude.{◌≡◌, ◌⊎◌, ◌≤◌, Some, None, length, OnOk, IfOk, IfErr, IsErrOf, IsTrue};
@@ -24,21 +24,21 @@ use manifest_words::{Given, Keys, KnownPath, LineKind, first_fault, is_full, no_
 use std::alloc::Global;
 use tree_face::Tree;
 
-/// What the lines so far have made.
+/// The result of the lines so far.
 #[derive(Drop)]
 pub(crate) struct Reader<'a> {
     alloc: Global,
     tree: Tree,
     dirs: Dirs,
     defaults: Keys<'a>,
-    /// The path of the line at hand.
+    /// The path of the current line.
     path: Vec<u8>,
-    /// That of the last line that has it as it is. The next one mostly stands in a folder on the way to it.
+    /// The path of the last line that has its path without escapes. The next path is usually in the same directory or in one above it.
     known: KnownPath<'a>,
     last: LastValue<'a>,
 }
 
-// Opens the directory of a relative line, whose path begins with that of the current one.
+// Opens the directory of a relative line. Its path begins with the current directory's path.
 #[tactic(auto, using(manifest_words::proofs::Places::place_from, manifest_words::proofs::Places::place_longer))]
 fn open_place(dirs: &mut Dirs, keys: &Keys<'_>, first: &[u8], path: &[u8]) -> Result<(), NoMemory>
     requires { path.now ≡ place dirs.old first.now }
@@ -66,7 +66,7 @@ impl<'a> Reader<'a> {
         }
     }
 
-    // Finds the path of a line, and says what is wrong with the line.
+    // Finds the path of a line. Returns the error of the line, if it has an error.
     fn find_entry(
         &mut self,
         given: &Given<'a>,
@@ -87,7 +87,7 @@ impl<'a> Reader<'a> {
         Ok(first_fault(given.fault, first_fault(place, target_fault(keys))))
     }
 
-    // Puts the node of a line without a fault, whose path was found.
+    // Puts the node of a line without an error. The path was found before.
     fn put_entry(&mut self, line: &Line<'a>, first: &[u8]) -> Result<(), ManifestFault>
         requires faultless { entry_fault self.old.dirs first.now (given_in line.now.given) ≡ None }
         requires path { self.old.path.items ≡ place self.old.dirs first.now }
@@ -146,7 +146,7 @@ impl<'a> Reader<'a> {
         }
     }
 
-    // Takes what the words of a line say.
+    // Applies a line after all of its words are read.
     fn end_line(&mut self, line: &Line<'a>) -> Result<(), ManifestFault>
         requires good { IsGoodOpen (line_in line.now) }
         ensures { Ends result (line_ended (state_in self.old) (line_in line.now)) (state_in self.new) }
@@ -167,7 +167,7 @@ impl<'a> Reader<'a> {
     }
 }
 
-// Takes one physical line more: the line goes on, or it ends and the next one starts.
+// Reads one more physical line. If the line isn't continued, applies it and starts the next line.
 fn take_physical<'a>(
     reader: &mut Reader<'a>,
     line: &mut Line<'a>,
@@ -204,14 +204,14 @@ fn read_lines<'a>(reader: &mut Reader<'a>, text: &'a [u8]) -> Result<(), Manifes
     reader.end_line(&line)
 }
 
-/// The tree of a manifest, or its first fault: the text's length, or the first line that is bad.
+/// Reads a manifest into a tree. Returns the first error: the text is too long, or the first bad line.
 #[tactic(auto, unfolding(crate::specs::Manifest::outcome))]
 pub fn read(alloc: Global, text: &[u8]) -> Result<Tree, ManifestFault>
     ensures tree { IfOk result (λ tree. tree_of text.now ≡ Some tree) }
     ensures fault { IfErr result (λ fault. (fault ≡ faults.NoMemory) ⊎ (first_bad text.now ≡ Some fault)) }
     ensures no_memory { IsErrOf result faults.NoMemory → length text.now ≤ TEXT_MAX }
 
-    // What `decoded` gives for a word, of which the tree is made, is what the word stands for.
+    // The tree is made of the result of `decoded` for each word. This is the text that the word represents.
     ensures words { DecodesAll }
 {
     if text.len() > TEXT_MAX {

@@ -1,4 +1,4 @@
-//! One line by itself, with a full path and no defaults, as a script has it.
+//! A single line of a script: a full path, and no defaults.
 ghost use Rattle.std.specs.Prelude.{◌≡◌, [], Ok, Err, None, IfOk, IfSome, IsErrOf, IsTrue, option_map};
 ghost use Rattle.std.specs.Option.{option_copied};
 ghost use Rattle.image_tree.specs.Node.{is_node};
@@ -20,7 +20,7 @@ use manifest_words::{
 use std::alloc::Global;
 use tree_face::Node;
 
-// Fills the buffer with the path to which a full first word leads. Says what is wrong with the word.
+// Fills the buffer with the path that a full first word names. Returns the error of the word, if it has an error.
 #[tactic(auto, using(crate::proofs::Singles::found, crate::proofs::Singles::refused))]
 fn find_path(path: &mut Vec<u8>, is_dir: bool, first: &[u8]) -> Result<Option<LineKind>, NoMemory>
     ensures fault { IfOk result (λ fault. fault ≡ place_fault_alone is_dir first.now) }
@@ -36,7 +36,7 @@ fn find_path(path: &mut Vec<u8>, is_dir: bool, first: &[u8]) -> Result<Option<Li
     }
 }
 
-// The node that a line puts, with its path; a type that makes none, and the root, give none.
+// The path and the node that a line puts. None if the line's type is ignored, or for the root.
 fn put_by(alloc: Global, keys: &Keys<'_>, path: Vec<u8>) -> Result<Option<(Text, Node)>, NoMemory>
     ensures { IfOk result (λ entry. entry ≡ put_by path.items (values_in keys.now)) }
 {
@@ -83,7 +83,8 @@ fn pathless_fault(given: Option<LineKind>) -> LineKind
     first_fault(given, Some(LineKind::BadLine)).unwrap_or(LineKind::BadLine)
 }
 
-/// The path and the node of one line with a full path and no defaults, or its first fault. A type that makes no node gives none.
+/// Reads the path and the node of a single line with a full path and no defaults. Returns the line's first error. Returns None
+/// if the line's type is ignored.
 #[tactic(auto, using(crate::proofs::Singles::read, crate::proofs::Singles::good))]
 pub fn read_entry(alloc: Global, line: &[u8]) -> Result<Option<(Text, Node)>, EntryLineFault>
     ensures entry { IfOk result (λ entry. line_alone line.now ≡ Ok entry) }
@@ -101,7 +102,7 @@ pub fn read_entry(alloc: Global, line: &[u8]) -> Result<Option<(Text, Node)>, En
     }
 }
 
-/// The path that one word leads to, which is a full path, as a script's line that drops a node has it.
+/// Reads the full path in a single word, for a script's line that drops a node.
 #[tactic(auto, using(crate::proofs::Singles::leads))]
 pub fn read_path(alloc: Global, word: &[u8]) -> Result<Text, EntryLineFault>
     ensures path { IfOk result (λ path. path_alone word.now ≡ Ok path) }

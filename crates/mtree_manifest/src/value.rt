@@ -1,4 +1,4 @@
-//! What values of `contents` and `link` stand for.
+//! The texts that values of `contents` and `link` represent.
 ghost use Rattle.std.specs.Prelude.{◌≡◌, IfOk};
 ghost use Rattle.mtree_manifest.specs.Manifest.{text_of};
 
@@ -7,13 +7,13 @@ use manifest_words::decode;
 use std::alloc::Global;
 use std::marker::Model;
 
-/// The last value of `contents` or `link` that was read. A default of many lines is read once for all of them, so that a long one takes its
-/// memory once.
+/// The last value of `contents` or `link` that was read. If many lines have the same default value, its text is decoded once and shared.
+/// So a long default takes its memory only once.
 #[derive(Drop)]
 pub(crate) struct LastValue<'a> {
-    // as it is written
+    // the value as written, with its escapes
     written: &'a [u8],
-    // the text for which it stands, from the second line on that has it
+    // the text that the value represents, from the second line on that has the value
     text: Option<Text>,
 }
 
@@ -29,7 +29,7 @@ impl<'a> Model for LastValue<'a> {
     ghost invariant = { λ v. ForSome v.text (λ text. text ≡ text_of v.written.now) };
 }
 
-// The text for which a value stands. One without escapes is copied once.
+// The text that a value represents.
 fn text_of(alloc: Global, value: &[u8]) -> Result<Text, NoMemory>
     ensures { IfOk result (λ text. text ≡ text_of value.now) }
 {
@@ -50,7 +50,7 @@ impl<'a> LastValue<'a> {
         }
     }
 
-    // The text of the last value, which another line has too.
+    // The text of the last value, shared between lines.
     fn shared(&mut self, alloc: Global) -> Result<Text, NoMemory>
         ensures { IfOk result (λ text. text ≡ text_of self.old) }
     {
@@ -63,7 +63,7 @@ impl<'a> LastValue<'a> {
         Ok(copy)
     }
 
-    /// The text for which a value stands.
+    /// The text that a value represents.
     pub(crate) fn text_of(&mut self, alloc: Global, value: &'a [u8]) -> Result<Text, NoMemory>
         ensures { IfOk result (λ text. text ≡ text_of value.entry.now) }
     {

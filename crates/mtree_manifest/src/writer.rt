@@ -1,4 +1,4 @@
-//! A tree's canonical manifest.
+//! Writing the canonical manifest of a tree.
 ghost use Rattle.std.specs.Prelude.{◌≡◌, ◌+◌, ◌++◌, ◌<◌, ◌≤◌, ◌^◌, codes, decimal, flat_map, drop, length, Some, OnOk, IfOk};
 ghost use Rattle.std.specs.List.{list_all};
 ghost use Rattle.std.specs.Str.{bytes_eq};
@@ -15,10 +15,10 @@ use manifest_words::behind_first;
 use std::alloc::Global;
 use tree_face::{Id, Node, Tree};
 
-// More bytes than most lines have: with room for so many for each line, the text rarely has to grow.
+// Most lines have fewer bytes than this. With this much room for each line, the text rarely has to grow.
 const LINE_SIZE: usize = 128;
 
-// The words of an identity's four numbers, with their digits, fit into so many bytes.
+// The maximum size of the four words of an identity: 25 bytes for the keywords, and 20 digits for each number.
 const ID_SIZE: usize = 25 + 4 * 20;
 
 fn is_unescaped(b: u8) -> bool
@@ -45,7 +45,7 @@ fn push_byte(out: &mut Vec<u8>, b: u8) -> Result<(), NoMemory>
     Ok(())
 }
 
-// Whether all bytes go out as they are. Nothing ends the loop early, so that many bytes are tested at once.
+// Whether no byte needs an escape. The loop doesn't end early, so that the compiler can test many bytes at once.
 fn are_plain(bytes: &[u8]) -> bool
     ensures plain { result ≡ list_all is_unescaped bytes.now }
     ensures range { AreBytes bytes.now }
@@ -84,7 +84,7 @@ fn push_text(out: &mut Vec<u8>, text: &[u8]) -> Result<(), NoMemory>
     Ok(())
 }
 
-// Puts a word and a number behind it into a text, so that they end at this place. Gives where the word begins.
+// Writes a word and then a number into a text, so that they end at this index. Returns the index where the word begins.
 fn put_before(text: &mut [u8; ID_SIZE], end: usize, word: &[u8], n: u64) -> usize
     requires room { length word.now + 20 ≤ end }
     requires within { end ≤ ID_SIZE }
@@ -99,7 +99,7 @@ fn put_before(text: &mut [u8; ID_SIZE], end: usize, word: &[u8], n: u64) -> usiz
     start
 }
 
-// An identity is put together from its end, so that it goes out as one text.
+// The words of an identity are written from the end of a buffer, so that they are appended as one text.
 fn push_id(out: &mut Vec<u8>, id: &Id) -> Result<(), NoMemory>
     ensures text { OnOk result (out.new.items ≡ out.old.items ++ id_words (Some id.now)) }
     ensures range { OnOk result (IsIdInRange id.now) }
@@ -171,7 +171,7 @@ fn push_lines(out: &mut Vec<u8>, tree: &Tree) -> Result<(), NoMemory>
     Ok(())
 }
 
-/// The canonical text of a tree: a line for each node, in the order of the tree.
+/// Writes the canonical text of a tree: a line for each node, in the order of the tree.
 #[tactic(auto, unfolding(crate::specs::Canon::canon), using(crate::proofs::RoundTrip::read_again))]
 pub fn write(alloc: Global, tree: &Tree) -> Result<Vec<u8>, NoMemory>
     ensures text { IfOk result (λ text. text.items ≡ canon tree.now) }

@@ -5,7 +5,7 @@ use std::process::Abort;
 use std::test::Fail;
 use tree_face::NODES_MAX;
 
-// How many nodes a manifest's tree has.
+// The number of nodes in a manifest's tree.
 fn count(alloc: Global, text: &[u8]) -> Result<usize, ManifestFault> {
     let tree = read(alloc, text)?;
     Ok(tree.len())
@@ -77,7 +77,7 @@ fn long_texts_are_read(rt: HostRuntime) -> Result<(), Fail> {
     Ok(())
 }
 
-// A line for each number below this, of a file that comes behind those before it.
+// A line of a file for each number below this, in ascending order of their paths.
 fn push_files(text: &mut Vec<u8>, n: usize) -> Result<(), Fail> {
     for i in 0..n {
         let name = [

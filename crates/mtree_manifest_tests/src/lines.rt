@@ -1,4 +1,4 @@
-// Each text of the table gives what stands beside it.
+// Each text of the tables gives the result beside it.
 use crate::table::{BAD_LINES, CLASHES, TREES};
 use mtree_manifest::{ManifestFault, read, write};
 use std::alloc::Global;

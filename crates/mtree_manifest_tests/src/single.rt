@@ -1,4 +1,4 @@
-// Lines by themselves: what each gives, or its first fault.
+// Single lines: the result of each, or its first fault.
 use lib_types::Text;
 use mtree_manifest::{EntryLineFault, LineKind, read_entry, write};
 use std::alloc::Global;
@@ -6,7 +6,7 @@ use std::process::Abort;
 use std::test::Fail;
 use tree_face::{Node, Tree};
 
-// A line, and the canonical line of what it gives.
+// A line, and the canonical line of its result.
 const GIVEN: &[(&[u8], &[u8])] = &[
     (b"./usr type=file", b"./usr type=file\n"),
     (b"./usr/", b"./usr type=file\n"),

@@ -1,7 +1,7 @@
-//! Manifests and what they give: the lines of their tree's canonical text, or their first fault.
+//! Manifests and their results: the lines of their tree's canonical text, or their first fault.
 use mtree_manifest::LineKind;
 
-/// Manifests of a tree, each with the lines of the canonical text behind `#mtree`.
+/// Manifests of a tree, each with the lines of the canonical text after `#mtree`.
 pub const TREES: &[(&[u8], &[u8])] = &[
     // lines, and what ends them
     (b"", b""),
@@ -73,7 +73,7 @@ pub const TREES: &[(&[u8], &[u8])] = &[
         b"/set type=dir\nusr\nx type=file\n..\nlib\n",
         b"./lib type=dir\n./usr type=dir\n./usr/x type=file\n",
     ),
-    // paths: empty components and dots are dropped, and the root makes no node
+    // paths: empty components and dots are dropped, and the root has no node
     (b".//a/./b/\n", b"./a/b type=file\n"),
     (b"/a/b\na/c\n", b"./a/b type=file\n./a/c type=file\n"),
     (
@@ -84,7 +84,7 @@ pub const TREES: &[(&[u8], &[u8])] = &[
         b"./a-b type=dir\n./a/x type=dir\n",
         b"./a/x type=dir\n./a-b type=dir\n",
     ),
-    // keywords: unknown ones are passed over, the first `=` divides, and later ones override
+    // keywords: unknown ones are skipped, the first `=` divides, and later ones override
     (
         b"./a mode=0755 nochange =x type=dir uname=root\n",
         b"./a type=dir\n",
@@ -113,7 +113,7 @@ pub const TREES: &[(&[u8], &[u8])] = &[
         b"./a type=link link=\\001\\377\n",
     ),
     (b"./usr\\001 mode=\\q\n", b"./usr\\001 type=file\n"),
-    // numbers have leading zeros or none
+    // numbers with and without leading zeros
     (
         b"./a inode=00000000000000000007 ctime=0 size=18446744073709551615\n",
         b"./a type=file dev=0 inode=7 ctime=0 size=18446744073709551615\n",
@@ -122,7 +122,7 @@ pub const TREES: &[(&[u8], &[u8])] = &[
         b"./a dev=9 inode=1 size=3\n./b inode=1 ctime=2\n./c ctime=2 size=3\n",
         b"./a type=file\n./b type=file\n./c type=file\n",
     ),
-    // types that make no node
+    // types that have no node
     (
         b"./a type=file\n./a/b type=fifo\n./c type=block\n./d type=char\n./e type=socket\n",
         b"./a type=file\n",
@@ -140,7 +140,7 @@ pub const TREES: &[(&[u8], &[u8])] = &[
         b"./a type=dir link=x contents=k size=1\n",
         b"./a type=dir\n",
     ),
-    // a node instead of another
+    // a node that replaces another
     (
         b"./a\n./a type=dir\n./a/b\n./a/b type=link link=c\n",
         b"./a type=dir\n./a/b type=link link=c\n",
@@ -168,7 +168,7 @@ pub const BAD_LINES: &[(&[u8], u64, LineKind)] = &[
     ),
     (b"./a\n\n\n./b type=pear\n./c dev\n", 4, LineKind::BadType),
     (b"./a size=x\n./b\\q\n", 1, LineKind::BadNumber),
-    // a carriage return is dropped before a line feed only, and a backslash at the end is no escape
+    // a carriage return is dropped only before a line feed, and a backslash at the end is not an escape
     (b"./a type=dir\r", 1, LineKind::BadType),
     (b"./a\\\\\n", 1, LineKind::BadEscape),
     (b"./a type=dir\r \n", 1, LineKind::BadType),
@@ -242,7 +242,7 @@ pub const BAD_LINES: &[(&[u8], u64, LineKind)] = &[
     (b"/set type=link\n./a link=x\n./b\n", 3, LineKind::NoTarget),
     (b"/set type=link link=x\n./a link=\n", 2, LineKind::NoTarget),
     (b"./a link=x\n./b type=link\n", 2, LineKind::NoTarget),
-    // of several faults the first kind counts
+    // of several faults the first kind is reported
     (
         b"./../b size=x type=pear link=\\q\n",
         1,

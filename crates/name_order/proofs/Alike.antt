@@ -1,4 +1,4 @@
--- Names that begin with the same bytes compare as what is behind these, from the begin of a part on.
+-- Names with a common prefix compare by the rest of the names, if the rest begins at a part.
 use Rattle.std.proofs.Common.{◌≡◌, ◌⊎◌, inl, inr, ⊎_elim, ℕ, zero, suc, ◌-◌, ◌<◌, ◌≤◌, Bool, true, false, get_or, List, [], ◌∷◌, ◌++◌, Option, Some, None, unwrap_or, length, take, drop, refl, ap, sym, subst, ◌∙◌, arith}
 use Rattle.std.proofs.lemmas.Bool.{cases_lt}
 use Rattle.std.proofs.lemmas.Bool.Decides.{nat_tests}
@@ -12,14 +12,14 @@ use Rattle.name_order.specs.Numbers.{GoOnWithNumbers}
 use Rattle.name_order.specs.Order.{Byte, Number, Token, number_token, token_cmp, token_order, tokens, tokens_after, with_digit}
 use Rattle.name_order.proofs.Fronts.{known_digit}
 
--- ---- from the begin of a part on
+-- ---- from the start of a part
 
--- the number so far ends before this offset
+-- a number that is read so far ends before this offset
 abbrev Ends : Option ℕ → ℕ → List ℕ → Type 0
 Ends number zero a = number ≡ None
 Ends number (suc n) a = IsFree (suc n) a
 
--- ends before this offset, or no digit goes on with it
+-- the number ends before this offset, or no digit follows at it in either name
 abbrev Parts : Option ℕ → ℕ → List ℕ → List ℕ → Type 0
 Parts number n a b = Ends number n a ⊎ ((is_ascii_digit (get_or a n 0) ≡ false) × (is_ascii_digit (get_or b n 0) ≡ false))
 
@@ -31,7 +31,7 @@ same_number : (number : Option ℕ) (a b : List Token) → slice_cmp token_cmp (
 same_number None a b = refl
 same_number (Some n) a b = same_first (Number n) a b
 
--- a number that no digit goes on with
+-- if no digit follows a number, its token is complete
 number_ended : (n : ℕ) (xs : List ℕ) → is_ascii_digit (get_or xs 0 0) ≡ false → tokens_after (Some n) xs ≡ Number n ∷ tokens_after None xs
 number_ended n [] h = refl
 number_ended n (x ∷ xs) h = rw h refl
@@ -45,7 +45,7 @@ behind_digit number next zero x y a b e (inl f) = absurd (cc)
 behind_digit number next zero x y a b e (inr f) = inr f
 behind_digit number next (suc n) x y a b e parts = parts
 
--- one more equal byte decides nothing
+-- one more equal byte doesn't change the order
 one_passed : (number : Option ℕ) (n x y : ℕ) (a b : List ℕ) (order : Ordering) → x ≡ y
     → ((next : Option ℕ) → Parts next n a b → slice_cmp token_cmp (tokens_after next a) (tokens_after next b) ≡ order)
     → Parts number (suc n) (x ∷ a) (y ∷ b) → slice_cmp token_cmp (tokens_after number (x ∷ a)) (tokens_after number (y ∷ b)) ≡ order
@@ -89,13 +89,13 @@ fewer_alike (suc m) (suc n) (x ∷ a) (y ∷ b) h same =
     let rest : take n a ≡ take n b = cc in
     (λ j. first j ∷ fewer_alike m n a b (omega arith) rest j)
 
--- equal bytes decide nothing if no digit stands behind them
+-- the common prefix doesn't change the order if no digit follows it
 pub passed_to_byte : (a b : List ℕ) (n : ℕ) → n ≤ length a → n ≤ length b → take n a ≡ take n b → is_ascii_digit (get_or a n 0) ≡ false → is_ascii_digit (get_or b n 0) ≡ false
     → token_order (drop n a) (drop n b) ≡ token_order a b
 unfolding tokens
 passed_to_byte a b n h k same x y = sym (passed n None a b h k same (inr (x, y)))
 
--- nor what they are, if what is behind them has no digit at its front
+-- the same, stated for the rest of the names
 pub in_bytes : (a b : List ℕ) (n : ℕ) → n ≤ length a → n ≤ length b → take n a ≡ take n b → HaveNoDigit 0 (drop n a) (drop n b)
     → token_order (drop n a) (drop n b) ≡ token_order a b
 in_bytes a b n h k same free = passed_to_byte a b n h k same (at n a free.0) (at n b free.1)
@@ -105,7 +105,7 @@ in_bytes a b n h k same free = passed_to_byte a b n h k same (at n a free.0) (at
     at (suc n) [] f = f
     at (suc n) (x ∷ xs) f = at n xs f
 
--- nor if no digit stands before their end
+-- the first m bytes don't change the order if byte m - 1 isn't a digit
 pub passed_to_number : (a b : List ℕ) (m n : ℕ) → m ≤ n → n ≤ length a → n ≤ length b → take n a ≡ take n b → IsFree m a
     → token_order (drop m a) (drop m b) ≡ token_order a b
 unfolding tokens
@@ -117,11 +117,11 @@ passed_to_number a b m n l h k same free = sym (passed m None a b (omega arith) 
 
 -- ---- in the middle of a number
 
--- the number of a digit that isn't zero
+-- a number that ends in a digit other than zero is above zero
 above_nothing : (n x : ℕ) → 48 < x → 0 < with_digit n x
 above_nothing n x h = omega arith
 
--- names that begin with the same bytes go on with the same number
+-- after the first n bytes, both names have read the same number m > 0
 abbrev GoesOn : ℕ → List ℕ → List ℕ → Ordering → Type 0
 GoesOn n a b order = (m : ℕ) × (0 < m) × (order ≡ slice_cmp token_cmp (tokens_after (Some m) (drop n a)) (tokens_after (Some m) (drop n b)))
 
@@ -164,7 +164,7 @@ goes_on_with (suc n) number (x ∷ a) (y ∷ b) h k same e =
     let rest : take (suc n) a ≡ take (suc n) b = cc in
     one_more number (suc n) x y a b first (λ next. goes_on_with n next a b (omega arith) (omega arith) rest e)
 
--- names whose bytes in common end in a number go on with it
+-- names whose common prefix ends in a number continue with that number
 pub in_numbers : (n : ℕ) (a b : List ℕ) → n ≤ length a → n ≤ length b → take n a ≡ take n b → EndsInNumber n a → GoOnWithNumbers n a b
 unfolding tokens
 in_numbers zero a b h k same e = absurd e
@@ -183,7 +183,7 @@ digits_alike_first (suc n) (x ∷ a) (y ∷ b) h k same d =
     let rest : take n a ≡ take n b = cc in
     (first, d 0 (omega arith) (omega arith), digits_alike_first n a b (omega arith) (omega arith) rest (λ k low high. d (suc k) (omega arith) (omega arith)))
 
--- equal bytes that are digits
+-- equal bytes that are digits are equal digits
 pub digits_alike : (a b : List ℕ) (m n : ℕ) → m ≤ n → n ≤ length a → n ≤ length b → take n a ≡ take n b → AreDigitsWithin a m n → AreEqualDigits (n - m) (drop m a) (drop m b)
 digits_alike a b zero n l h k same d = let e : n - zero ≡ n = omega arith in rw e (digits_alike_first n a b h k same d)
 digits_alike a b (suc m) zero l h k same d = absurd (omega arith)
@@ -197,7 +197,7 @@ digits_alike (x ∷ a) (y ∷ b) (suc m) (suc n) l h k same d =
 pub none_alike : (a b : List ℕ) (n : ℕ) → AreEqualDigits (n - n) a b
 none_alike a b n = let e : n - n ≡ 0 = omega arith in rw e tt
 
--- a digit before digits
+-- a digit directly before a run of digits extends the run
 pub digit_before : (name : List ℕ) (begin end : ℕ) → 0 < begin → is_ascii_digit (get_or name (begin - 1) 0) ≡ true → AreDigitsWithin name begin end → AreDigitsWithin name (begin - 1) end
 digit_before name begin end some d digits k low high = ⊎_elim
     (λ before. let e : begin - 1 ≡ k = omega arith in subst (λ n. IsAsciiDigit (get_or name n 0)) e (known_digit (get_or name (begin - 1) 0) d))

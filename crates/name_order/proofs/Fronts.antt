@@ -1,4 +1,4 @@
--- Names that begin with numbers compare as these do, if they differ.
+-- Names that begin with different numbers compare by these numbers.
 use Rattle.std.proofs.Common.{◌≡◌, ℕ, zero, suc, ◌⊎◌, inl, inr, ⊎_elim, Some, ◌<◌, ◌≤◌, Bool, true, false, get_or, List, [], ◌∷◌, None, length, drop, refl, ap, sym, subst, ◌∙◌, one-add, arith}
 use Rattle.std.specs.declared.cmp.Ordering.{Ordering}
 use Rattle.std.specs.declared.cmp.Ordering.TheVariants.{Less, Equal, Greater}
@@ -23,7 +23,7 @@ digit_known x d = grind (arith, nat_tests)
 
 -- ---- runs of digits
 
--- the run has as many digits as are counted
+-- the length of the run is the number of digits at the front
 length-run : (xs : List ℕ) → length (run xs) ≡ prefix_len is_ascii_digit xs
 length-run [] = refl
 length-run (x ∷ xs) = by (is_ascii_digit x) refl (length-run xs)
@@ -32,7 +32,7 @@ length-run (x ∷ xs) = by (is_ascii_digit x) refl (length-run xs)
     by true e rest = rw (e, one-add (prefix_len is_ascii_digit xs)) (ap suc rest)
     by false e rest = rw e refl
 
--- a run begins with the first byte
+-- a run begins with the first byte of the name
 first-run : (xs : List ℕ) → 0 < prefix_len is_ascii_digit xs → (get_or (run xs) 0 0 ≡ get_or xs 0 0) × (48 ≤ get_or xs 0 0)
 first-run [] some = absurd (omega arith)
 first-run (x ∷ xs) some = by (is_ascii_digit x) refl
@@ -41,7 +41,7 @@ first-run (x ∷ xs) some = by (is_ascii_digit x) refl
     by true e = (rw (e, one-add (prefix_len is_ascii_digit xs)) refl, let d = known_digit x e in omega (arith, d.0, d.1))
     by false e = absurd (let none : prefix_len is_ascii_digit (x ∷ xs) ≡ 0 = simp e in omega arith)
 
--- a name that begins with a digit begins with the number that goes on from nothing
+-- a name that begins with a digit has the same tokens after a number that is 0 so far
 from_nothing : (xs : List ℕ) → 0 < prefix_len is_ascii_digit xs → tokens xs ≡ tokens_after (Some 0) xs
 unfolding tokens
 from_nothing [] some = absurd (omega arith)
@@ -51,14 +51,14 @@ from_nothing (x ∷ xs) some = by (is_ascii_digit x) refl
     by true e = rw e refl
     by false e = absurd (let none : prefix_len is_ascii_digit (x ∷ xs) ≡ 0 = simp e in omega arith)
 
--- ---- numbers that go on from one number
+-- ---- numbers that continue the same number
 
--- fewer digits are the smaller number, unless the greater begins with a zero
+-- the number with fewer digits is smaller, unless it continues 0 and the longer one begins with a zero
 fewer_below : (n : ℕ) (xs ys : List ℕ) → AreDigits xs → (0 < n ⊎ 48 < get_or ys 0 0) → length xs < length ys → fold with_digit n xs < fold with_digit n ys
 fewer_below n xs [] digits begun less = absurd (omega arith)
 fewer_below n xs (y ∷ ys) digits begun less = stays_above n (with_digit n y) xs ys digits (⊎_elim (λ p. omega (arith, p)) (λ p. omega (arith, p)) begun) (omega arith)
 
--- of as many digits the first that differs decides
+-- if two numbers continue n with equally many digits, and the first of these digits differs, it decides
 first_below : (n : ℕ) (xs ys : List ℕ) → AreDigits xs → length xs ≡ length ys → 0 < length xs → get_or xs 0 0 < get_or ys 0 0 → 48 ≤ get_or xs 0 0 → fold with_digit n xs < fold with_digit n ys
 first_below n [] ys digits long some below least = absurd (omega arith)
 first_below n (x ∷ xs) [] digits long some below least = absurd (omega arith)
@@ -109,14 +109,14 @@ module _ (n : ℕ) (a b : List ℕ) where
       by Equal h = absurd (other h)
       by Greater h = number_above (first_below n (run b) (run a) (AreDigits-run b) (omega (arith, p, q, long)) (omega (arith, p, q, long, some)) (omega (arith, x.0, y.0, h)) (omega (arith, y.0, y.1)))
 
--- ---- behind equal digits
+-- ---- after equal digits
 
 at_front : (k : ℕ) (xs : List ℕ) → get_or xs k 0 ≡ get_or (drop k xs) 0 0
 at_front zero xs = refl
 at_front (suc k) [] = refl
 at_front (suc k) (x ∷ xs) = at_front k xs
 
--- what is compared behind equal digits, with the number that they write
+-- the order of the names is the order of the tokens after k digits, with the number n read so far
 abbrev Behind : ℕ → ℕ → List ℕ → List ℕ → Ordering → Type 0
 Behind k n a b order = order ≡ slice_cmp token_cmp (tokens_after (Some n) (drop k a)) (tokens_after (Some n) (drop k b))
 
@@ -130,7 +130,7 @@ passed (suc k) n (x ∷ a) (y ∷ b) p e =
     let r = passed k (with_digit n x) a b (omega (arith, p)) e.2 in
     (r.0, r.1, rw (dx, dy) (ap (λ z. slice_cmp token_cmp (tokens_after (Some (with_digit n x)) a) (tokens_after (Some (with_digit n z)) b)) (sym e.0) ∙ r.2))
 
--- a number at the front has a digit
+-- a number at the front has at least one digit
 some_digit : (xs : List ℕ) → BeginsByNumber xs → 0 < prefix_len is_ascii_digit xs
 some_digit [] p = absurd (omega (arith, p.0))
 some_digit (x ∷ xs) p = let d : is_ascii_digit x ≡ true = grind (arith, nat_tests, p.0, p.1) in by (is_ascii_digit x) refl d
@@ -142,7 +142,7 @@ some_digit (x ∷ xs) p = let d : is_ascii_digit x ≡ true = grind (arith, nat_
 first_above : (xs : List ℕ) → BeginsByNumber xs → 48 < get_or (run xs) 0 0
 first_above xs p = let x = first-run xs (some_digit xs p) in omega (arith, x.0, p.0)
 
--- names that begin with numbers go on with them behind their equal digits
+-- names that begin with numbers continue them after their equal digits
 pub behind_equal : (k : ℕ) (a b : List ℕ) → AreEqualDigits k a b → BeginsByNumber a → BeginsByNumber b → GoOnWithNumbers k a b
 unfolding tokens
 behind_equal zero a b e first second = record {

@@ -1,4 +1,4 @@
--- Runs of digits, compared without a copy, compare as the numbers that they write.
+-- The comparison of two runs of digits, without a copy, gives the order of their numbers.
 use Rattle.std.proofs.Common.{◌≡◌, ℕ, ◌+◌, ◌<◌, ◌≤◌, Bool, true, false, cond, ◌==◌, List, [], ◌∷◌, length, drop, refl, ◌∙◌, ap, one-add, arith}
 use Rattle.std.specs.declared.cmp.Ordering.{Ordering}
 use Rattle.std.specs.declared.cmp.Ordering.TheVariants.{Less, Equal, Greater}
@@ -13,7 +13,7 @@ use Rattle.std.proofs.lemmas.Bool.Decides.{nat_tests}
 use Rattle.name_order.specs.Order.{value, with_digit}
 use Rattle.name_order.specs.Digits.{AreDigits, significant}
 
--- the greater number stays the greater if no fewer digits follow it
+-- the greater number stays greater if at least as many digits follow it
 pub stays_above : (m n : ℕ) (xs ys : List ℕ) → AreDigits xs → m < n → length xs ≤ length ys → fold with_digit m xs < fold with_digit n ys
 stays_above m n [] [] digits above short = above
 stays_above m n [] (y ∷ ys) digits above short = stays_above m (with_digit n y) [] ys digits (omega arith) (omega arith)
@@ -21,7 +21,7 @@ stays_above m n (x ∷ xs) [] digits above short = absurd (omega arith)
 stays_above m n (x ∷ xs) (y ∷ ys) digits above short =
     stays_above (with_digit m x) (with_digit n y) xs ys digits.1 (omega arith) (omega arith)
 
--- as many digits compare as bytes do
+-- runs of equal length compare by their bytes
 same_length : (n : ℕ) (xs ys : List ℕ) → AreDigits xs → AreDigits ys → length xs ≡ length ys → slice_cmp nat_cmp xs ys ≡ nat_cmp (fold with_digit n xs) (fold with_digit n ys)
 same_length n [] [] first second long = nat_cmp_is n n Equal refl
 same_length n [] (y ∷ ys) first second long = absurd (omega arith)
@@ -41,7 +41,7 @@ abbrev IsTrimmed : List ℕ → Type 0
 IsTrimmed [] = ⊤
 IsTrimmed (x ∷ xs) = byte "0" < x
 
--- digits with no zero at the front are above fewer digits
+-- a run without a leading zero is above any shorter run
 longer : (xs ys : List ℕ) → AreDigits xs → IsTrimmed ys → length xs < length ys → value xs < value ys
 longer xs [] digits trimmed short = absurd (omega arith)
 longer xs (y ∷ ys) digits trimmed short = stays_above 0 (with_digit 0 y) xs ys digits (omega arith) (omega arith)
@@ -53,7 +53,7 @@ significant-cons x xs = by (x == 48)
     by true = ap (λ n. drop n (x ∷ xs)) (one-add _)
     by false = refl
 
--- what holds of the digits and their number without the zeros at the front
+-- ys is xs without the leading zeros: it has no leading zero, and the same value
 record Trims (xs ys : List ℕ) : Type 0 where
   digits : AreDigits ys
   trimmed : IsTrimmed ys
@@ -77,7 +77,7 @@ trimmed_compared xs ys first second x_trimmed y_trimmed = by (nat_cmp (length xs
     by Equal h = same_length 0 xs ys first second h
     by Greater h = nat_cmp_is _ _ Greater (longer ys xs second x_trimmed h)
 
--- without zeros at the front, the longer run of digits is the greater number
+-- without leading zeros, the longer run of digits is the greater number
 pub compared : (a b : List ℕ) → AreDigits a → AreDigits b →
     ordering_then (nat_cmp (length (significant a)) (length (significant b))) (slice_cmp nat_cmp (significant a) (significant b)) ≡ nat_cmp (value a) (value b)
 compared a b first second =

@@ -12,14 +12,14 @@ use Rattle.std.proofs.lemmas.List.{take_rest}
 use Rattle.name_order.specs.Order.{Byte, Number, token_cmp, token_order, tokens, tokens_after, value, with_digit}
 use Rattle.name_order.specs.Digits.{AreDigits}
 
--- the digits at the front, and what is behind them
+-- the digits at the front, and the bytes after them
 abbrev pub run : List ℕ → List ℕ
 run xs = take (prefix_len is_ascii_digit xs) xs
 
 abbrev pub behind : List ℕ → List ℕ
 behind xs = drop (prefix_len is_ascii_digit xs) xs
 
--- the number so far goes on to the end of the digits
+-- a number that has begun continues to the last digit of the run
 pub goes_on : (n : ℕ) (xs : List ℕ) → tokens_after (Some n) xs ≡ Number (fold with_digit n (run xs)) ∷ tokens_after None (behind xs)
 goes_on n [] = refl
 goes_on n (x ∷ xs) = by (is_ascii_digit x) refl (goes_on (with_digit n x) xs)
@@ -30,7 +30,7 @@ goes_on n (x ∷ xs) = by (is_ascii_digit x) refl (goes_on (with_digit n x) xs)
     by true e rest = rw (e, one-add (prefix_len is_ascii_digit xs)) rest
     by false e rest = simp e
 
--- all of it is digits
+-- each byte of the run is a digit
 pub AreDigits-run : (xs : List ℕ) → AreDigits (run xs)
 AreDigits-run [] = tt
 AreDigits-run (x ∷ xs) = by (is_ascii_digit x) refl (AreDigits-run xs)
@@ -42,7 +42,7 @@ AreDigits-run (x ∷ xs) = by (is_ascii_digit x) refl (AreDigits-run xs)
     by true e rest = rw (e, one-add (prefix_len is_ascii_digit xs)) (digit e, rest)
     by false e rest = rw e tt
 
--- what a name that begins with a digit begins with
+-- the first token of a name that begins with a digit
 pub tokens-run : (name : List ℕ) → 0 < prefix_len is_ascii_digit name → tokens name ≡ Number (value (run name)) ∷ tokens (behind name)
 unfolding tokens
 tokens-run [] some = absurd (omega arith)
@@ -52,7 +52,7 @@ tokens-run (x ∷ xs) some = by (is_ascii_digit x) refl
     by true e = rw (e, one-add (prefix_len is_ascii_digit xs)) (goes_on (with_digit 0 x) xs)
     by false e = absurd (let none : prefix_len is_ascii_digit (x ∷ xs) ≡ 0 = simp e in omega arith)
 
--- what any other name begins with
+-- the first token of any other name
 pub tokens-byte : (name : List ℕ) → 0 < length name → prefix_len is_ascii_digit name ≡ 0 → tokens name ≡ Byte (get_or name 0 0) ∷ tokens (take (length name - 1) (drop 1 name))
 unfolding tokens
 tokens-byte [] some none = absurd (omega arith)
@@ -62,7 +62,7 @@ tokens-byte (x ∷ xs) some none = by (is_ascii_digit x) refl
     by true e = absurd (let more : prefix_len is_ascii_digit (x ∷ xs) ≡ 1 + prefix_len is_ascii_digit xs = simp e in omega arith)
     by false e = rw (e, take_rest (x ∷ xs) 1) refl
 
--- the end of a name is below any bytes
+-- an empty name is below any other name
 pub end_below : (xs : List ℕ) → 0 < length xs → token_order [] xs ≡ Less
 unfolding tokens
 end_below [] some = absurd (omega arith)
@@ -72,7 +72,7 @@ end_below (x ∷ xs) some = by (is_ascii_digit x) refl
     by true e = rw (e, goes_on (with_digit 0 x) xs) refl
     by false e = rw e refl
 
--- first bytes that differ and are no digits decide
+-- if the first bytes differ and neither is a digit, they decide
 pub first_decides : (a b : List ℕ) → 0 < length a → 0 < length b → (get_or a 0 0 ≡ get_or b 0 0 → ⊥) → is_ascii_digit (get_or a 0 0) ≡ false → is_ascii_digit (get_or b 0 0) ≡ false
     → nat_cmp (get_or a 0 0) (get_or b 0 0) ≡ token_order a b
 unfolding tokens

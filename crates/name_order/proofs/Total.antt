@@ -1,4 +1,4 @@
--- The loader's order and the name order are total, and no two names are equal in the name order.
+-- The loader's order and the name order are total. In the name order only identical names are equal.
 use Rattle.std.proofs.Common.{◌≡◌, ℕ, List, refl, sym, ◌∙◌, ap, subst}
 use Rattle.std.specs.declared.cmp.Ordering.{Ordering}
 use Rattle.std.specs.declared.cmp.Ordering.TheVariants.{Less, Equal, Greater}
@@ -9,7 +9,7 @@ use Rattle.std.proofs.lemmas.Cmp.{nat_cmp_total, on_total, then_total, tied_itse
 use Rattle.std.proofs.lemmas.Map.Lookups.{exact_bytes}
 use Rattle.name_order.specs.Order.{Byte, Number, Token, name_order, token_cmp, token_order, tokens}
 
--- numbers above bytes
+-- numbers are above bytes
 kind : Token → ℕ
 kind (Byte byte) = 0
 kind (Number n) = 1
@@ -36,13 +36,13 @@ token_order-total = on_total tokens (lists_total token_cmp-total)
 pub name_order-total : IsTotalOrder name_order
 name_order-total = then_total token_order-total nat_list_cmp_total
 
--- if two orders one after the other find no difference, the second finds none
+-- if a lexicographic combination of two orders is Equal, the second order is Equal
 second_tied : (r s : Ordering) → ordering_then r s ≡ Equal → s ≡ Equal
 second_tied Less s e = cc
 second_tied Equal s e = e
 second_tied Greater s e = cc
 
--- names that the order finds equal are the same name
+-- names that are equal in the order are the same name
 pub name_order-exact : (a b : List ℕ) → name_order a b ≡ Equal → a ≡ b
 name_order-exact a b e = exact_bytes a b (second_tied (token_order a b) _ e)
 

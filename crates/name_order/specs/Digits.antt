@@ -1,4 +1,4 @@
--- What private functions say of runs of digits.
+-- Properties of runs of digits, for the contracts of private functions.
 use Rattle.std.specs.Prelude.{◌≡◌, ◌<◌, ◌≤◌, false, slice_index_or, ℕ, zero, suc, List, [], ◌∷◌, drop, ◌==◌}
 use Rattle.std.specs.Bool.{⊤}
 use Rattle.std.specs.List.{AllByRecursion, prefix_len}
@@ -12,22 +12,22 @@ AreDigits bytes = AllByRecursion IsAsciiDigit bytes
 abbrev pub significant : List ℕ → List ℕ
 significant digits = drop (prefix_len (λ digit. digit == byte "0") digits) digits
 
--- both lists begin with so many equal digits
+-- both lists begin with n equal digits
 abbrev pub AreEqualDigits : ℕ → List ℕ → List ℕ → Type 0
 AreEqualDigits zero a b = ⊤
 AreEqualDigits (suc n) [] b = ⊥
 AreEqualDigits (suc n) (x ∷ a) [] = ⊥
 AreEqualDigits (suc n) (x ∷ a) (y ∷ b) = (x ≡ y) × IsAsciiDigit x × AreEqualDigits n a b
 
--- a number is at the front, and its first digit isn't zero
+-- the first byte is a digit other than zero
 abbrev pub BeginsByNumber : List ℕ → Type 0
 BeginsByNumber name = (byte "0" < slice_index_or name 0 0) × (slice_index_or name 0 0 ≤ byte "9")
 
--- digits stand at all offsets between these
+-- each byte from `begin` to before `end` is a digit
 abbrev pub AreDigitsWithin : List ℕ → ℕ → ℕ → Type 0
 AreDigitsWithin name begin end = (k : ℕ) → begin ≤ k → k < end → IsAsciiDigit (slice_index_or name k 0)
 
--- no digit stands directly before this offset
+-- the byte directly before this offset isn't a digit
 abbrev pub IsFree : ℕ → List ℕ → Type 0
 IsFree zero name = ⊤
 IsFree (suc n) name = is_ascii_digit (slice_index_or name n 0) ≡ false
@@ -36,7 +36,7 @@ IsFree (suc n) name = is_ascii_digit (slice_index_or name n 0) ≡ false
 abbrev pub HaveNoDigit : ℕ → List ℕ → List ℕ → Type 0
 HaveNoDigit n a b = (is_ascii_digit (slice_index_or a n 0) ≡ false) × (is_ascii_digit (slice_index_or b n 0) ≡ false)
 
--- a digit that isn't zero stands directly before this offset
+-- the byte directly before this offset is a digit other than zero
 abbrev pub EndsInNumber : ℕ → List ℕ → Type 0
 EndsInNumber zero name = ⊥
 EndsInNumber (suc n) name = (byte "0" < slice_index_or name n 0) × (slice_index_or name n 0 ≤ byte "9")

@@ -1,11 +1,11 @@
--- What private functions say of names that go on with numbers.
+-- Names that are compared from the middle of a number on, for the contracts of private functions.
 use Rattle.std.specs.Prelude.{◌≡◌, ◌⊎◌, ◌<◌, ℕ, List, drop, Some}
 use Rattle.std.specs.Cmp.Lexicographic.{slice_cmp}
 use Rattle.name_order.specs.Digits.{BeginsByNumber}
 use Rattle.name_order.specs.Order.{token_cmp, token_order, tokens_after}
 
--- Both names go on behind so many bytes with the same number so far, and compare as these do. It is above zero, or numbers begin here that have
--- no zero at their front.
+-- After the first `count` bytes, both names have read the same number so far, and their order is the order of the remaining tokens. Either
+-- that number is above zero, or both names begin a number here whose first digit isn't zero.
 pub record GoOnWithNumbers (count : ℕ) (a b : List ℕ) : Type 0 where
   pub number : ℕ
   pub begun : (0 < number) ⊎ (BeginsByNumber (drop count a) × BeginsByNumber (drop count b))

@@ -1,6 +1,6 @@
--- The order in which ldconfig(8) writes library names into its cache and ld.so(8) looks them up there: that of
--- `_dl_cache_libcmp`, which dl-cache.h declares, at ASCII names with numbers below 2 ^ 31. Here bytes past ASCII
--- compare as unsigned values, and a number has any size.
+-- The order in which ldconfig(8) writes library names into its cache and ld.so(8) looks them up there. For ASCII names with numbers below
+-- 2 ^ 31 it is the order of `_dl_cache_libcmp` in dl-cache.h. Here bytes above 127 compare as unsigned values, and a number may have any
+-- size.
 use Rattle.std.specs.Prelude.{ℕ, ◌+◌, ◌-◌, ◌*◌, List, [], ◌∷◌, ◌++◌, if◌then◌else◌, Option, Some, None, unwrap_or}
 use Rattle.std.specs.Str.{byte}
 use Rattle.std.specs.List.{fold}
@@ -10,25 +10,25 @@ use Rattle.std.specs.declared.cmp.Ordering.{Ordering}
 use Rattle.std.specs.declared.cmp.Ordering.TheVariants.{Less, Greater}
 use Rattle.std.specs.Ordering.{nat_cmp, then_cmp}
 
--- what is compared as one: a byte, or a maximal run of ASCII digits as the number that it writes, of any size
+-- a unit of comparison: a byte, or the number that a maximal run of ASCII digits represents
 pub data Token : Type 0 where
   Byte : ℕ → Token
   Number : ℕ → Token
 
--- the number that the digits of n and then this digit write
+-- the number n with this digit appended
 abbrev pub with_digit : ℕ → ℕ → ℕ
 with_digit n digit = 10 * n + (digit - byte "0")
 
--- the number that digits write
+-- the number that the digits represent
 abbrev pub value : List ℕ → ℕ
 value digits = fold with_digit 0 digits
 
--- the token of the number so far, if there is one
+-- the token of the number read so far, if there is one
 abbrev pub number_token : Option ℕ → List Token
 number_token None = []
 number_token (Some n) = Number n ∷ []
 
--- the tokens of a name that goes on with these bytes behind the number so far
+-- the tokens of the number read so far and the bytes that follow it
 abbrev pub tokens_after : Option ℕ → List ℕ → List Token
 tokens_after number [] = number_token number
 tokens_after number (b ∷ rest) =
@@ -46,7 +46,7 @@ token_cmp (Byte a) (Number n) = Less
 token_cmp (Number m) (Byte b) = Greater
 token_cmp (Number m) (Number n) = nat_cmp m n
 
--- the loader's order: the first pair of tokens that differs decides, and the end is below each token
+-- the loader's order: the first pair of tokens that differs decides, and the end of a name is below each token
 abbrev pub token_order : List ℕ → List ℕ → Ordering
 token_order a b = slice_cmp token_cmp (tokens a) (tokens b)
 

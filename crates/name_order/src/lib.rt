@@ -18,7 +18,7 @@ use lib_types::equal_len;
 use part::{compare_parts, digits_len, next_part};
 use std::cmp::Ordering;
 
-// The order of names whose first bytes differ, if neither is a digit: nothing behind these bytes counts.
+// The order of two names whose first bytes differ, if neither byte is a digit. The bytes after these don't matter.
 #[tactic(auto, using(crate::proofs::Runs::first_decides))]
 fn compare_first(a: &[u8], b: &[u8]) -> Option<Ordering>
     ensures order { IfSome result (λ order. order ≡ token_order a.now b.now) }
@@ -34,7 +34,7 @@ fn compare_first(a: &[u8], b: &[u8]) -> Option<Ordering>
     Some(x.cmp(&y))
 }
 
-// How many digits a name goes on with behind so many bytes.
+// The number of digits that follow the first `count` bytes of a name.
 #[tactic(auto, using(std::proofs::lemmas::List::take_rest))]
 fn digits_behind(name: &[u8], count: usize) -> usize
     requires { count ≤ length name.now }
@@ -44,15 +44,15 @@ fn digits_behind(name: &[u8], count: usize) -> usize
     digits_len(&name[count..])
 }
 
-// Whether the name begins with a number that has no zero at its front.
+// Whether the name begins with a digit other than zero.
 fn begins_by_number(name: &[u8]) -> bool
     ensures { IsTrue result → BeginsByNumber name.now }
 {
     !name.is_empty() && name[0] > b'0' && name[0] <= b'9'
 }
 
-// The order of names that go on with numbers behind so many bytes, if the numbers differ: more digits are the greater number, and of as
-// many the first that differs decides.
+// The order of two names that are in the middle of equal numbers after `count` bytes, or begin numbers there. It is known if the rest of
+// the numbers differs: the number with more digits is greater, and among numbers of equal length the first digit decides.
 fn compare_digits(a: &[u8], b: &[u8], count: usize) -> Option<Ordering>
     requires within { (count ≤ length a.now) × (count ≤ length b.now) }
     requires numbers { GoOnWithNumbers count a.now b.now }
@@ -68,7 +68,7 @@ fn compare_digits(a: &[u8], b: &[u8], count: usize) -> Option<Ordering>
     Some(a[count].cmp(&b[count]))
 }
 
-// The order of names whose first parts differ and show it soon, and that begin with so many equal digits.
+// The order of two names that begin with `count` equal digits, if the first number or the first byte decides it.
 #[tactic(auto, using(crate::proofs::Fronts::behind_equal))]
 fn compare_fronts(a: &[u8], b: &[u8], count: usize) -> Option<Ordering>
     requires within { (count ≤ length a.now) × (count ≤ length b.now) }
@@ -81,7 +81,7 @@ fn compare_fronts(a: &[u8], b: &[u8], count: usize) -> Option<Ordering>
     compare_first(a, b)
 }
 
-// The order of names, part by part.
+// The order of two names, compared part by part.
 #[tactic(auto, using(crate::proofs::Runs::end_laws), unfolding(crate::specs::Order::tokens))]
 fn compare_by_parts(a: &[u8], b: &[u8]) -> Ordering
     ensures { result ≡ token_order a.now b.now }
@@ -106,8 +106,8 @@ fn compare_by_parts(a: &[u8], b: &[u8]) -> Ordering
     }
 }
 
-// The order of names by the bytes behind those in common, if both have one there and neither is a digit: of most names that aren't
-// versions of one library.
+// The order of two names by the first byte after their common prefix, if both have one and neither is a digit. This decides most names
+// that aren't versions of one library.
 fn compare_in_bytes(a: &[u8], b: &[u8], same: usize) -> Option<Ordering>
     requires within { (same ≤ length a.now) × (same ≤ length b.now) }
     requires same { take same a.now ≡ take same b.now }
@@ -116,7 +116,7 @@ fn compare_in_bytes(a: &[u8], b: &[u8], same: usize) -> Option<Ordering>
     compare_first(&a[same..], &b[same..])
 }
 
-// The order of names by the numbers that the bytes in common end in, if they do and the numbers differ: of most names that a sort compares.
+// The order of two names whose common prefix ends in a number, if the numbers differ. This decides most names that a sort compares.
 #[tactic(auto, using(crate::proofs::Alike::in_numbers))]
 fn compare_in_numbers(a: &[u8], b: &[u8], same: usize) -> Option<Ordering>
     requires within { (same ≤ length a.now) × (same ≤ length b.now) }
@@ -130,7 +130,7 @@ fn compare_in_numbers(a: &[u8], b: &[u8], same: usize) -> Option<Ordering>
     }
 }
 
-// The order of names that begin with so many equal bytes, from the part on in which the next ones are.
+// The order of two names whose first `same` bytes are equal. The comparison begins at the part that contains the next byte.
 fn compare_behind(a: &[u8], b: &[u8], same: usize) -> Ordering
     requires within { (same ≤ length a.now) × (same ≤ length b.now) }
     requires same { take same a.now ≡ take same b.now }
@@ -144,7 +144,7 @@ fn compare_behind(a: &[u8], b: &[u8], same: usize) -> Ordering
     }
 }
 
-/// The loader's order of two names. Names that differ only in the zeros before a number are equal in it.
+/// The loader's order of two names. It treats names that differ only in leading zeros of numbers as equal.
 pub fn compare_tokens(a: &[u8], b: &[u8]) -> Ordering
     ensures { result ≡ token_order a.now b.now }
 {
@@ -158,7 +158,7 @@ pub fn compare_tokens(a: &[u8], b: &[u8]) -> Ordering
     }
 }
 
-/// The loader's order, and the order of the bytes if two names are equal in it.
+/// The loader's order. If two names are equal in it, the order of their bytes.
 #[tactic(auto, using(crate::proofs::Total::name_laws))]
 pub fn compare(a: &[u8], b: &[u8]) -> Ordering
     ensures value { result ≡ name_order a.now b.now }
@@ -168,7 +168,7 @@ pub fn compare(a: &[u8], b: &[u8]) -> Ordering
     compare_tokens(a, b).then_with(|| a.cmp(b))
 }
 
-/// Whether a file of this name may be a library, to judge only by its name.
+/// Whether a file with this name may be a library. The test uses only the name.
 #[tactic(auto, unfolding(crate::specs::LibraryName::is_library_name))]
 pub fn is_library_name(name: &[u8]) -> bool
     ensures { result ≡ is_library_name name.now }
@@ -185,14 +185,14 @@ fn has_library_prefix(name: &[u8]) -> bool
     name.starts_with(b"lib") || name.starts_with(b"ld-")
 }
 
-/// Whether the name has a suffix of files that dpkg and prelink are about to rename.
+/// Whether the name has a suffix that dpkg or prelink gives to a file before it renames it.
 fn has_temporary_suffix(name: &[u8]) -> bool
     ensures { result ≡ has_temporary_suffix name.now }
 {
     ends_with(name, b".dpkg-new") || ends_with(name, b".dpkg-tmp") || ends_with(name, b".#prelink#")
 }
 
-// Whether the name has this suffix, which the last byte shows of most names that don't.
+// Whether the name has this suffix. The last byte rules out most names that don't.
 #[tactic(auto, using(crate::proofs::Suffix::too_short, crate::proofs::Suffix::other_end))]
 fn ends_with(name: &[u8], suffix: &[u8]) -> bool
     requires { 0 < length suffix.now }
@@ -207,7 +207,7 @@ fn ends_with(name: &[u8], suffix: &[u8]) -> bool
     name.ends_with(suffix)
 }
 
-// Whether `.so` begins at this offset, which the first byte shows of most offsets where it doesn't.
+// Whether `.so` begins at this offset. The first byte rules out most offsets where it doesn't.
 #[tactic(auto, using(crate::proofs::Contained::other_first))]
 fn has_so_at(name: &[u8], at: usize) -> bool
     requires { at < length name.now }
@@ -219,7 +219,7 @@ fn has_so_at(name: &[u8], at: usize) -> bool
     name[at..].starts_with(b".so")
 }
 
-// Whether the name has `.so` in it, which is looked for from the end: mostly a version is behind it, and a longer text before it.
+// Whether the name contains `.so`. The search begins at the end, since mostly a short version follows `.so` and a longer text precedes it.
 #[tactic(auto, using(crate::proofs::Contained::so_laws))]
 fn contains_so(name: &[u8]) -> bool
     ensures { result ≡ contains (codes ".so") name.now }

@@ -10,14 +10,14 @@ ghost use Rattle.name_order.specs.Part.{BeginsWith, IsPart, token_of};
 
 use std::cmp::Ordering;
 
-/// What is compared as one: a byte, or a run of digits as it is written.
+/// A unit of comparison: a byte, or a run of digits as they are written.
 #[derive(Clone, Copy)]
 pub(crate) enum Part<'a> {
     Byte(u8),
     Digits(&'a [u8]),
 }
 
-/// The first part of a name, and what is behind it.
+/// The first part of a name, and the rest of the name.
 #[tactic(auto, using(crate::proofs::Runs::run_laws))]
 pub(crate) fn next_part(name: &[u8]) -> Option<(Part<'_>, &[u8])>
     ensures { MatchOption result (name.now ≡ []) (λ next. BeginsWith name.now next.0 next.1.now) }
@@ -33,7 +33,7 @@ pub(crate) fn next_part(name: &[u8]) -> Option<(Part<'_>, &[u8])>
     }
 }
 
-/// How many digits a name begins with.
+/// The number of digits at the front of a name.
 pub(crate) fn digits_len(name: &[u8]) -> usize
     ensures value { result ≡ prefix_len is_ascii_digit name.now }
     ensures bound { result ≤ length name.now }
@@ -41,7 +41,7 @@ pub(crate) fn digits_len(name: &[u8]) -> usize
     name.iter().take_while(|byte| byte.is_ascii_digit()).count()
 }
 
-/// A byte is below a number.
+/// The order of two parts. A byte is below a number.
 pub(crate) fn compare_parts(a: Part<'_>, b: Part<'_>) -> Ordering
     requires first { IsPart a }
     requires second { IsPart b }
@@ -55,7 +55,7 @@ pub(crate) fn compare_parts(a: Part<'_>, b: Part<'_>) -> Ordering
     }
 }
 
-/// Numbers of any size: without leading zeros the longer is the greater.
+/// The order of two numbers of any size. Without leading zeros, the longer number is the greater one.
 #[tactic(auto, using(crate::proofs::Numbers::number_laws))]
 fn compare_numbers(a: &[u8], b: &[u8]) -> Ordering
     requires first { AreDigits a.now }

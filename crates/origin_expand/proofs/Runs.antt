@@ -1,4 +1,4 @@
--- The longest run at the front of some bytes, by the first byte that isn't of it.
+-- The longest run at the front of some bytes ends at the first byte outside it.
 use Rattle.std.proofs.Common.{◌≡◌, ◌+◌, ℕ, Bool, true, false, not, cond, ltb, List, [], ◌∷◌, length, take, Some, None, refl, ap, sym, ◌∙◌}
 use Rattle.std.proofs.lemmas.Bool.{ltb-false}
 use Rattle.std.proofs.lemmas.List.{take_all}

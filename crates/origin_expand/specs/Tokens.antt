@@ -1,5 +1,5 @@
 -- The tokens in the loader's paths (ld.so(8), "Dynamic string tokens"): `$ORIGIN`, `$LIB` and `$PLATFORM`, each also in braces.
--- No token has a dollar, so each part of a text between its dollars is read by itself.
+-- No token contains a dollar, so each part of a text between its dollars is parsed separately.
 use Rattle.std.specs.Prelude.{ℕ, Bool, true, false, ◌==◌, ◌&&◌, ◌||◌, nat_eq, if◌then◌else◌, List, [], ◌∷◌, ◌++◌, length, drop, flat_map, codes, Option, Some, None, option_map}
 use Rattle.std.specs.Char.{is_ascii_alphanumeric}
 use Rattle.std.specs.List.{list_any, slice_split, starts_with, take_while}
@@ -8,7 +8,7 @@ use Rattle.std.specs.Str.{bytes_eq}
 use Rattle.origin_expand.specs.declared.token.Token.{Token}
 use Rattle.origin_expand.specs.declared.token.Token.TheVariants.{Origin, Lib, Platform}
 
--- ---- how tokens are spelled
+-- ---- names of tokens
 
 abbrev pub name_of : Token → List ℕ
 name_of Origin = codes "ORIGIN"
@@ -22,7 +22,7 @@ in_braces token = codes "{" ++ name_of token ++ codes "}"
 abbrev pub is_in_name : ℕ → Bool
 is_in_name b = is_ascii_alphanumeric b || b == 95
 
--- What stands behind a token at the front of a part. Without braces the longest run of letters, digits and `_` must be its name.
+-- The rest of a part after a token at its front. Without braces, the longest run of letters, digits and `_` must be the token's name.
 abbrev pub behind : List ℕ → Token → Option (List ℕ)
 behind part token =
     if bytes_eq (take_while is_in_name part) (name_of token) then Some (drop (length (name_of token)) part) else
@@ -32,13 +32,13 @@ behind part token =
 abbrev pub read : List ℕ → Token → Option (Token × List ℕ)
 read part token = option_map (λ rest. (token, rest)) (behind part token)
 
--- the token at the front of a part, and what stands behind it
+-- the token at the front of a part, and the rest of the part
 abbrev pub token_in : List ℕ → Option (Token × List ℕ)
 token_in part = option_or (read part Origin) (option_or (read part Lib) (read part Platform))
 
--- ---- what they stand for
+-- ---- values of tokens
 
--- the folder of the object, the folder of its ABI's libraries, the processor's name
+-- the object's directory, the ABI's library directory, the processor's name
 abbrev pub value_of : List ℕ → List ℕ → List ℕ → Token → List ℕ
 value_of origin lib platform Origin = origin
 value_of origin lib platform Lib = lib
@@ -50,7 +50,7 @@ dollar = 36
 abbrev pub is_dollar : ℕ → Bool
 is_dollar b = b == dollar
 
--- a token by its value; a dollar before no token stays
+-- replaces a token by its value; if there is no token, the dollar stays
 abbrev pub with_value : (Token → List ℕ) → List ℕ → Option (Token × List ℕ) → List ℕ
 with_value value part (Some (token, rest)) = value token ++ rest
 with_value value part None = dollar ∷ part
@@ -58,7 +58,7 @@ with_value value part None = dollar ∷ part
 abbrev pub replaced : (Token → List ℕ) → List ℕ → List ℕ
 replaced value part = with_value value part (token_in part)
 
--- the first part, which no dollar is before, and then each other one
+-- joins the parts: the first one follows no dollar, each other one follows a dollar
 abbrev pub join_replaced : (Token → List ℕ) → List (List ℕ) → List ℕ
 join_replaced value [] = []
 join_replaced value (front ∷ parts) = front ++ flat_map (replaced value) parts
@@ -75,10 +75,10 @@ abbrev pub has_origin_in : List (List ℕ) → Bool
 has_origin_in [] = false
 has_origin_in (front ∷ parts) = list_any begins_with_origin parts
 
--- `$ORIGIN` stands in the text
+-- the text contains `$ORIGIN`
 unfoldable pub has_origin : List ℕ → Bool
 has_origin text = has_origin_in (slice_split is_dollar text)
 
--- The text with the values in place of the tokens; in secure execution none with `$ORIGIN`.
+-- The text with its tokens replaced by their values. In secure execution there is no result if the text contains `$ORIGIN`.
 unfoldable pub expanded : (Token → List ℕ) → Bool → List ℕ → Option (List ℕ)
 expanded value secure text = if secure && has_origin text then None else Some (join_replaced value (slice_split is_dollar text))

@@ -1,4 +1,4 @@
-//! The tokens `$ORIGIN`, `$LIB` and `$PLATFORM` in the texts of DT_RPATH, of DT_RUNPATH and of the library path.
+//! The tokens `$ORIGIN`, `$LIB` and `$PLATFORM` in DT_RPATH, DT_RUNPATH and the library path.
 #![tactic(auto)]
 
 mod replacing;

@@ -1,4 +1,4 @@
-//! Texts with their tokens replaced.
+//! Replacement of the tokens in a text.
 ghost use Rattle.std.specs.Prelude.{◌≡◌, ◌++◌, IfOk, OnOk};
 ghost use Rattle.origin_expand.specs.Tokens.{begins_with_origin, expanded, has_origin, replaced, value_of};
 
@@ -6,7 +6,7 @@ use crate::token::{Token, token_in};
 use lib_types::{NoMemory, Separator, Text, cut};
 use std::alloc::Global;
 
-// What the tokens stand for.
+// The values of the tokens.
 #[derive(Clone, Copy)]
 struct Values<'a> {
     origin: &'a [u8],
@@ -37,7 +37,7 @@ fn begins_with_origin(part: &[u8]) -> bool
     }
 }
 
-// Whether `$ORIGIN` stands in a text.
+// Whether a text contains `$ORIGIN`.
 #[tactic(auto, unfolding(crate::specs::Tokens::has_origin))]
 fn has_origin(text: &[u8]) -> bool
     ensures { result ≡ has_origin text.now }
@@ -53,7 +53,7 @@ fn has_origin(text: &[u8]) -> bool
     false
 }
 
-// Adds the part behind a dollar.
+// Adds the part after a dollar.
 fn add_replaced(out: &mut Vec<u8>, values: Values<'_>, part: &[u8]) -> Result<(), NoMemory>
     ensures { OnOk result (out.new.items ≡ out.old.items ++ replaced (value_of values.entry.origin.now values.entry.lib.now values.entry.platform.now) part.now) }
 {
@@ -70,9 +70,9 @@ fn add_replaced(out: &mut Vec<u8>, values: Values<'_>, part: &[u8]) -> Result<()
     Ok(())
 }
 
-/// The text with its tokens replaced; none if it has `$ORIGIN` in secure execution.
+/// The text with its tokens replaced. In secure execution there is no result if the text contains `$ORIGIN`.
 ///
-/// A token's value is put in as it is: with the origin `/`, `$ORIGIN/lib` gives `//lib`.
+/// A token's value is inserted unchanged: if the origin is `/`, `$ORIGIN/lib` gives `//lib`.
 #[tactic(auto, unfolding(crate::specs::Tokens::expanded))]
 pub fn expand(
     alloc: Global,

@@ -1,15 +1,15 @@
-//! Which token a text begins with.
+//! The token at the front of a text.
 ghost use Rattle.std.specs.Prelude.{◌≡◌, ◌<◌, not, length, position, option_map, IfSome};
 ghost use Rattle.std.specs.List.{take_while};
 ghost use Rattle.std.specs.Option.{option_copied};
 ghost use Rattle.origin_expand.specs.Tokens.{behind, in_braces, is_in_name, is_origin, name_of, read, token_in};
 
-/// What the loader replaces in its paths.
+/// A token that the loader replaces in its paths.
 #[derive(Clone, Copy, Debug, PartialEq, Eq)]
 pub enum Token {
-    /// The folder of the path by which the object was found.
+    /// The directory of the path by which the object was found.
     Origin,
-    /// The folder of the ABI's libraries, such as `lib64`.
+    /// The directory name of the ABI's libraries, such as `lib64`.
     Lib,
     /// The processor's name.
     Platform,
@@ -53,7 +53,7 @@ fn is_in_name(b: u8) -> bool
     b.is_ascii_alphanumeric() || b == b'_'
 }
 
-// The index of the first byte that is no letter, digit or `_`.
+// The index of the first byte that isn't a letter, a digit or `_`.
 fn first_outside(part: &[u8]) -> Option<usize>
     ensures index { result ≡ position (λ b. not (is_in_name b)) part.now }
     ensures within { IfSome result (λ n. n < length part.now) }
@@ -72,7 +72,7 @@ fn run(part: &[u8]) -> &[u8]
     }
 }
 
-// What stands behind a token at the front of a part, if it begins with that.
+// The rest of a part after a token, if the part begins with this token.
 fn behind(part: &[u8], token: Token) -> Option<&[u8]>
     ensures { option_copied result ≡ behind part.now token }
 {
@@ -91,7 +91,7 @@ fn read(part: &[u8], token: Token) -> Option<(Token, &[u8])>
     Some((token, behind(part, token)?))
 }
 
-/// The token behind a dollar, and what stands behind it.
+/// The token after a dollar, and the rest after the token.
 pub fn token_in(part: &[u8]) -> Option<(Token, &[u8])>
     ensures { option_map (λ found. (found.0, found.1.now)) result ≡ token_in part.now }
 {

@@ -1,11 +1,11 @@
-//! What the tokens of a text are replaced by.
+//! Texts with their tokens replaced.
 use lib_types::{NoMemory, Text};
 use origin_expand::expand;
 use std::alloc::Global;
 use table_rows::{Row, Said, Trial, Words, divide, has_line, value};
 
-/// A row has what the tokens are replaced by, and `secure` in secure execution. Each line `text` is followed by the result, `-` if the text
-/// is dropped.
+/// A row has the replacements of the tokens, and `secure` for secure execution. Each line `text` is followed by the result, or by `-` if
+/// the text is dropped.
 pub(crate) struct Tokens;
 
 fn expanded(alloc: Global, row: Row<'_>, text: &[u8]) -> Result<Option<Text>, NoMemory> {

@@ -1,5 +1,5 @@
 -- The sonames in what files are said to be are names.
-use Rattle.std.proofs.Common.{◌≡◌, ◌++◌, ℕ, zero, suc, Bool, true, false, cond, drop, find, not, List, [], ◌∷◌, Option, Some, None, option_map, refl, ap, sym, subst, ◌∙◌}
+use Rattle.std.proofs.Common.{◌≡◌, ◌++◌, ◌&&◌, ℕ, zero, suc, Bool, true, false, if◌then◌else◌, cond, drop, find, not, List, [], ◌∷◌, Option, Some, None, option_map, refl, ap, sym, subst, ◌∙◌}
 use Rattle.std.proofs.lemmas.List.Elements.{All-append, All-cons, All-nil}
 use Rattle.std.specs.List.{All, before_first, cons_option}
 use Rattle.std.specs.Option.{option_and_then, option_map_or, option_or}
@@ -17,7 +17,9 @@ use Rattle.file_stamps.proofs.Stamps.{name_found, stamp_by_says}
 use Rattle.file_stamps.specs.Files.{what_is}
 use Rattle.file_stamps.specs.Said.{said_in}
 use Rattle.file_stamps.specs.Stamped.{id_at, of_stamp, stamp_at, stamp_by, stamp_for, stamps_at}
-use Rattle.file_table.specs.Analyses.{HaveNames, has_name, is_soname}
+use Rattle.file_table.specs.Analyses.{Analyses, HaveNames, has_name, is_soname}
+use Rattle.hwcap_dirs.specs.declared.kinds.Scope.{Scope}
+use Rattle.hwcap_dirs.specs.declared.kinds.Scope.TheVariants.{Image, Only, Root}
 use Rattle.image_tree.specs.Tree.{Nodes, node_at}
 use Rattle.image_tree.specs.declared.node.Id.{Id}
 use Rattle.lib_types.proofs.SortedPairs.{by_test}
@@ -26,7 +28,10 @@ use Rattle.lib_types.specs.declared.abi.Abi.{Abi}
 use Rattle.lib_types.specs.declared.analysis.Analysis.{Analysis}
 use Rattle.lib_types.specs.declared.analysis.Analysis.TheVariants.{Lib, Not}
 use Rattle.lib_types.specs.declared.analysis.Defect.{Defect}
-use Rattle.lib_types.specs.declared.analysis.Defect.TheVariants.{BadMachine}
+use Rattle.lib_types.specs.declared.analysis.Defect.TheVariants.{BadMachine, Unsearchable}
+use Rattle.library_search.specs.Judged.{judged, judged_all, judged_by}
+use Rattle.path_walk.specs.Names.{last}
+use Rattle.searchable_names.specs.Searchable.{is_searchable}
 use Rattle.tree_face.specs.Store.{Contents}
 
 -- ---- what a file is
@@ -133,3 +138,28 @@ module _ (held : Contents) (t : Nodes) where
       by_stamp (Some s) named e =
           let same : of_stamp s ≡ found = cc in
           subst (λ (a : Analysis). has_name a ≡ true) same (named_stamp s (named s refl))
+
+-- ---- those that the loader can search for
+
+judged_name : (path : List ℕ) (found : Analysis) → has_name found ≡ true → has_name (judged_by path found) ≡ true
+judged_name path (Not d) h = refl
+judged_name path (Lib abi soname) h = by (is_searchable (last path) && option_map_or is_searchable soname true)
+  where
+    by : (b : Bool) → has_name (if b then Lib abi soname else Not Unsearchable) ≡ true
+    by true = h
+    by false = refl
+
+all_judged : (what : Analyses) → HaveNames what → HaveNames (judged_all what)
+unfolding judged_all
+all_judged what named path found e = by (what path) refl e
+  where
+    by : (o : Option Analysis) → what path ≡ o → option_map (judged_by path) o ≡ Some found → has_name found ≡ true
+    by None is e = absurd (cc)
+    by (Some a) is e =
+        let same : judged_by path a ≡ found = cc in
+        subst (λ (a : Analysis). has_name a ≡ true) same (judged_name path a (named path a is))
+
+pub judged_named : (scope : Scope) (what : Analyses) → HaveNames what → HaveNames (judged scope what)
+judged_named Image what named = named
+judged_named (Root conf) what named = all_judged what named
+judged_named (Only dirs) what named = all_judged what named

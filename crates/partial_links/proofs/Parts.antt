@@ -1,4 +1,5 @@
--- A tree with a part of its planned links is the tree with those of them that are there, and the others give the planned tree.
+-- A tree with a part of its planned links: the original tree with these links is this tree, and this tree with the missing links
+-- is the planned tree.
 use Rattle.std.proofs.Common.{◌≡◌, ◌⊎◌, inl, inr, ℕ, Bool, true, false, not, ◌||◌, List, [], ◌∷◌, filter, refl, ap, sym, subst, ◌∙◌, Option, Some, None}
 use Rattle.std.proofs.lemmas.Bool.{and_parts, or_left, or_parts, or_right}
 use Rattle.std.proofs.lemmas.List.Elements.{filter_passes}
@@ -15,8 +16,8 @@ use Rattle.image_tree.specs.declared.node.Node.{Node}
 use Rattle.image_tree.specs.declared.node.Node.TheVariants as node
 use Rattle.library_files.specs.Places.{is_link_to}
 use Rattle.link_plan.specs.declared.kinds.Planned.{Planned}
-use Rattle.partial_links.proofs.Alike.{IsAlike}
-use Rattle.partial_links.proofs.Planned.{planned_alike}
+use Rattle.planned_tree.proofs.Alike.{IsAlike}
+use Rattle.planned_tree.proofs.Planned.{planned_alike}
 use Rattle.soname_links.proofs.Rooms.{HaveRoom}
 use Rattle.soname_links.specs.Plan.{with_link, with_links}
 use Rattle.partial_links.proofs.SameNodes.{same_nodes}

@@ -1,5 +1,5 @@
 -- An update of a tree with a part of its planned links ends and writes as one of the tree.
-use Rattle.std.proofs.Common.{◌≡◌, ◌∷◌, ◌≤◌, ℕ, Bool, nat_lt, List, [], length, Option, None, refl, ap, sym, subst, ◌∙◌}
+use Rattle.std.proofs.Common.{◌≡◌, ◌∷◌, ◌≤◌, ℕ, Bool, true, false, nat_lt, List, [], length, Option, None, refl, ap, sym, subst, ◌∙◌}
 use Rattle.aux_cache.specs.AuxText.{aux_text}
 use Rattle.aux_cache.specs.Stamps.{HaveNames}
 use Rattle.cache_entries.specs.Entries.{AreEntriesOf}
@@ -9,37 +9,40 @@ use Rattle.elf_dynamic.specs.Begun.{lacks_one}
 use Rattle.file_stamps.proofs.Truth.{same_in, true_in}
 use Rattle.file_stamps.specs.Stamped.{AreSame, AreTrue}
 use Rattle.hwcap_dirs.specs.declared.kinds.Scope.{Scope}
-use Rattle.hwcap_dirs.specs.declared.kinds.Scope.TheVariants.{Root}
+use Rattle.hwcap_dirs.specs.declared.kinds.Scope.TheVariants.{Image, Root, Only}
 use Rattle.image_session.specs.Session.{Loaded}
 use Rattle.image_tree.specs.Tree.{Nodes, IsPathSorted, IsTree}
 use Rattle.image_tree.specs.declared.tree.TheConstants.{NODES_MAX}
 use Rattle.ldconfig_core.proofs.OneText.{one_entries, one_outcome, one_written, some_texts}
-use Rattle.ldconfig_core.specs.Outcome.{Lacking, Outcome, TooLarge, TooMany, first_refusal, is_too_long, new_manifest, size_of, update_outcome}
+use Rattle.ldconfig_core.specs.Outcome.{Lacking, Outcome, TooLarge, TooMany, first_refusal, is_too_long, manifest_with, new_manifest, size_of, update_outcome}
 use Rattle.ldconfig_core.specs.Texts.{AreAlike, AreTextsOf, UpdateTexts}
 use Rattle.ldso_conf.specs.Reading.{conf_lacks}
 use Rattle.lib_types.specs.declared.entry.Entry.{Entry}
 use Rattle.library_search.specs.Begun.{behind_keys, wanted_keys}
 use Rattle.library_search.specs.Ldconfig.{conf_of, entries_in, links_in, planned_in}
+use Rattle.link_plan.specs.declared.kinds.Planned.{Planned}
 use Rattle.soname_links.specs.Apply.{nodes_with}
 use Rattle.tree_face.specs.Store.{Contents}
 use Rattle.partial_links.proofs.Resumed.{finds_same, is_tree}
 use Rattle.partial_links.specs.Partial.{HasPart}
-use Rattle.partial_links.specs.Resumed.{FindsSame, IsRepaired, WritesSame, with_tree}
+use Rattle.partial_links.specs.Resumed.{FindsSame, IsRepaired, WritesSame, is_image, with_tree}
+
+-- a directory has no manifest
+none_with : (scope : Scope) (edited : Bool) (t : Nodes) (plan : List Planned) → is_image scope ≡ false → manifest_with scope edited t plan ≡ None
+none_with Image edited t plan none = absurd (cc)
+none_with (Root conf) edited t plan none = refl
+none_with (Only dirs) edited t plan none = refl
 
 alike_twice : (a b c : UpdateTexts) → AreAlike a b → AreAlike b c → AreAlike a c
 alike_twice a b c first second = record { manifest = second.manifest ∙ first.manifest; cache = second.cache ∙ first.cache; aux = second.aux ∙ first.aux }
 
-module _ (conf : Option (List ℕ)) (held : Contents) (s : Loaded) (new : Nodes) (finds : FindsSame (Root conf) held s.tree s.stamps new) where
-  abbrev scope : Scope
-  scope = Root conf
-
+module _ (scope : Scope) (none : is_image scope ≡ false) (held : Contents) (s : Loaded) (new : Nodes) (finds : FindsSame scope held s.tree s.stamps new) where
   abbrev again : Loaded
   again = with_tree s new
 
-  -- a directory has no manifest
-  no_manifest : (image : Loaded) → new_manifest (Root conf) held image ≡ None
+  no_manifest : (image : Loaded) → new_manifest scope held image ≡ None
   unfolding new_manifest
-  no_manifest image = refl
+  no_manifest image = none_with scope image.edited (planned_in scope held image.tree image.stamps) (links_in scope held image.tree image.stamps) none
 
   same_texts : (texts others : UpdateTexts) → AreTextsOf scope held s texts → AreTextsOf scope held again others → AreAlike texts others
   same_texts texts others are is =
@@ -82,7 +85,7 @@ module _ (conf : Option (List ℕ)) (held : Contents) (s : Loaded) (new : Nodes)
       ∙ ap (outcome_by (conf_lacks (conf_of scope) held t) (wanted_keys scope held t loaded) (nodes_with t (links_in scope held t loaded)) (behind_keys scope held t loaded)
       (new_manifest scope held s) (planned_in scope held t loaded)) finds.entries
 
-  writes_same : WritesSame conf held s again
+  writes_same : WritesSame scope held s again
   writes_same = record { outcome = same_outcome; texts = same_texts }
 
   -- ---- an image of the same tree with other stamps
@@ -90,7 +93,7 @@ module _ (conf : Option (List ℕ)) (held : Contents) (s : Loaded) (new : Nodes)
   module _ (are : AreTrue held s.tree s.stamps) (same : AreSame held s.tree s.tree) (later : Loaded) (of_tree : later.tree ≡ new) (edited : later.edited ≡ s.edited)
       (too : AreTrue held s.tree later.stamps) where
     there : (u : Loaded) → AreTrue held s.tree u.stamps → AreTrue held new u.stamps
-    there u true = true_in held s.tree new finds.ids finds.contents u.stamps true
+    there u holds = true_in held s.tree new finds.ids finds.contents u.stamps holds
 
     same_new : AreSame held new new
     same_new = same_in held s.tree new finds.ids finds.contents same
@@ -98,7 +101,7 @@ module _ (conf : Option (List ℕ)) (held : Contents) (s : Loaded) (new : Nodes)
     of_later : AreTrue held later.tree later.stamps
     of_later = subst (λ (n : Nodes). AreTrue held n later.stamps) (sym of_tree) (there later too)
 
-    stamped : WritesSame conf held s later
+    stamped : WritesSame scope held s later
     stamped = record {
       outcome = one_outcome scope held again later of_tree edited same_new (there s are) of_later ∙ same_outcome;
       texts = λ texts others is others_are.
@@ -108,9 +111,9 @@ module _ (conf : Option (List ℕ)) (held : Contents) (s : Loaded) (new : Nodes)
     }
 
 -- What is left of the links of an image's update is repaired by the next one.
-pub repaired : (conf : Option (List ℕ)) (held : Contents) (s : Loaded) (new : Nodes) → IsTree s.tree → HaveNames s.stamps → IsPathSorted new
-    → nodes_with s.tree (links_in (Root conf) held s.tree s.stamps) ≤ NODES_MAX → HasPart s.tree (links_in (Root conf) held s.tree s.stamps) new → IsRepaired conf held s new
-repaired conf held s new tree names sorted few part =
-    let after = is_tree (Root conf) held s.tree s.stamps new tree names part sorted few in
-    let finds = finds_same (Root conf) held s.tree s.stamps new tree names part after in
-    record { is_tree = after; finds = finds; writes = writes_same conf held s new finds; stamped = stamped conf held s new finds }
+pub repaired : (scope : Scope) → is_image scope ≡ false → (held : Contents) (s : Loaded) (new : Nodes) → IsTree s.tree → HaveNames s.stamps → IsPathSorted new
+    → nodes_with s.tree (links_in scope held s.tree s.stamps) ≤ NODES_MAX → HasPart s.tree (links_in scope held s.tree s.stamps) new → IsRepaired scope held s new
+repaired scope none held s new tree names sorted few part =
+    let after = is_tree scope held s.tree s.stamps new tree names part sorted few in
+    let finds = finds_same scope held s.tree s.stamps new tree names part after in
+    record { is_tree = after; finds = finds; writes = writes_same scope none held s new finds; stamped = stamped scope none held s new finds }

@@ -26,14 +26,14 @@ use Rattle.place_libraries.specs.Best.{best, bests, sonames}
 use Rattle.place_libraries.specs.Libraries.{libraries_in, library_at}
 use Rattle.place_libraries.specs.Library.{Library}
 use Rattle.planned_tree.proofs.Agree.{agree}
-use Rattle.partial_links.proofs.Alike.{IsAlike, IsSame, IsSpot, same_dir, same_file}
-use Rattle.partial_links.proofs.Children.{children_kept, is_kept, same_kept}
-use Rattle.partial_links.proofs.Places.{same_places}
-use Rattle.partial_links.proofs.Reading.{same_items}
+use Rattle.planned_tree.proofs.Alike.{IsAlike, IsSame, IsSpot, same_dir, same_file}
+use Rattle.planned_tree.proofs.Children.{children_kept, is_kept, same_kept}
+use Rattle.planned_tree.proofs.Places.{same_places}
+use Rattle.planned_tree.proofs.Reading.{same_items}
 use Rattle.planned_tree.specs.Search.{IsSearchedAlike}
-use Rattle.partial_links.proofs.OneText.{all_same, one_text}
+use Rattle.soname_links.proofs.OneText.{all_same, one_text}
 use Rattle.soname_links.proofs.Rooms.{have_room}
-use Rattle.partial_links.proofs.Stays.{is_same_link, links_there}
+use Rattle.soname_links.proofs.Stays.{is_same_link, links_there}
 use Rattle.soname_links.specs.Plan.{is_blocked, is_regarded, is_taken, link_for, links, links_in, with_links}
 use Rattle.string_pool.proofs.Members.{left_out}
 use Rattle.string_pool.specs.Order.{ascending}

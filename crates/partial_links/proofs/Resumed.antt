@@ -25,23 +25,27 @@ use Rattle.library_search.proofs.FilesAgree.{content_same, id_same, what_same}
 use Rattle.library_search.proofs.Honest.{behind_in_order, wanted_in_order}
 use Rattle.library_search.proofs.StampsAgree.{keys_same, stamps_same}
 use Rattle.library_search.specs.Begun.{behind_keys, stamps_wanted, wanted_keys}
+use Rattle.library_search.specs.Judged.{judged}
 use Rattle.library_search.specs.Ldconfig.{behind_in, conf_in, conf_of, entries_in, library_paths, links_in, places_in, planned_in, reached_in, said_files, said_wanted, stamps_in, walk_in, wanted_in}
 use Rattle.link_plan.specs.declared.kinds.Planned.{Planned}
 use Rattle.planned_tree.proofs.Agree.{agree}
 use Rattle.planned_tree.specs.Search.{IsSearchedAlike}
-use Rattle.partial_links.proofs.Counted.{nodes_counted}
+use Rattle.soname_links.proofs.Counted.{nodes_counted}
 use Rattle.soname_links.specs.Apply.{nodes_with}
 use Rattle.soname_links.specs.Plan.{links, with_links}
 use Rattle.tree_face.specs.Store.{Contents}
-use Rattle.partial_links.proofs.Named.{said_named}
+use Rattle.partial_links.proofs.Named.{judged_named, said_named}
 use Rattle.partial_links.proofs.Rest.{alike_with, plans_rest, same_search}
 use Rattle.partial_links.proofs.Whole.{part_tree}
 use Rattle.partial_links.specs.Partial.{HasPart, PlansRest, missing}
 use Rattle.partial_links.specs.Resumed.{FindsSame}
 
 module _ (scope : Scope) (held : Contents) (t : Nodes) (loaded : List Stamp) (new : Nodes) (tree : IsTree t) (names : HaveNames loaded) (part : HasPart t (links_in scope held t loaded) new) where
+  abbrev said : Analyses
+  said = said_wanted scope held t loaded
+
   abbrev what : Analyses
-  what = said_wanted scope held t loaded
+  what = judged scope said
 
   abbrev dirs : List Place
   dirs = places_in scope held t
@@ -52,7 +56,7 @@ module _ (scope : Scope) (held : Contents) (t : Nodes) (loaded : List Stamp) (ne
 
   named : analyses.HaveNames what
   unfolding said_wanted
-  named = said_named held t loaded names (wanted_in scope held t)
+  named = judged_named scope said (said_named held t loaded names (wanted_in scope held t))
 
   planned_are : links_in scope held t loaded ≡ links what t dirs
   unfolding links_in
@@ -107,7 +111,7 @@ module _ (scope : Scope) (held : Contents) (t : Nodes) (loaded : List Stamp) (ne
         ∙ ap (λ i. option_or (option_map of_stamp (option_and_then (stamp_of stamps) i)) (what_is held new path)) (ids path)
         ∙ ap (λ w. option_or (option_map of_stamp (stamp_for stamps t path)) w) (what_same held t new alike path))
 
-    same_first : said_wanted scope held new loaded ≡ what
+    same_first : said_wanted scope held new loaded ≡ said
     unfolding said_wanted
     same_first = same_said (wanted_in scope held new) ∙ ap (said_in held t loaded) same_wanted
 
@@ -115,7 +119,7 @@ module _ (scope : Scope) (held : Contents) (t : Nodes) (loaded : List Stamp) (ne
 
     links_are : links_in scope held new loaded ≡ links what new dirs
     unfolding links_in
-    links_are = ap (λ (w : Analyses). links w new (places_in scope held new)) same_first ∙ ap (links what new) same_places
+    links_are = ap (λ (w : Analyses). links (judged scope w) new (places_in scope held new)) same_first ∙ ap (links what new) same_places
 
     rest_is : links_in scope held new loaded ≡ missing new (links_in scope held t loaded)
     rest_is = links_are ∙ plans.rest ∙ ap (missing new) (sym planned_are)
@@ -149,16 +153,16 @@ module _ (scope : Scope) (held : Contents) (t : Nodes) (loaded : List Stamp) (ne
     same_entries : entries_in scope held new loaded ≡ entries_in scope held t loaded
     unfolding entries_in
     same_entries =
-        ap (λ (w : Analyses). found w (planned_in scope held new loaded) (places_in scope held new)) same_files
-        ∙ ap (λ n. found (said_files scope held t loaded) n (places_in scope held new)) same_planned
-        ∙ ap (found (said_files scope held t loaded) (planned_in scope held t loaded)) same_places
+        ap (λ (w : Analyses). found (judged scope w) (planned_in scope held new loaded) (places_in scope held new)) same_files
+        ∙ ap (λ n. found (judged scope (said_files scope held t loaded)) n (places_in scope held new)) same_planned
+        ∙ ap (found (judged scope (said_files scope held t loaded)) (planned_in scope held t loaded)) same_places
 
     same_walk : walk_in scope held new loaded ≡ walk_in scope held t loaded
     unfolding walk_in
     same_walk =
-        ap (λ (w : Analyses). walk w (planned_in scope held new loaded) (places_in scope held new)) same_files
-        ∙ ap (λ n. walk (said_files scope held t loaded) n (places_in scope held new)) same_planned
-        ∙ ap (walk (said_files scope held t loaded) (planned_in scope held t loaded)) same_places
+        ap (λ (w : Analyses). walk (judged scope w) (planned_in scope held new loaded) (places_in scope held new)) same_files
+        ∙ ap (λ n. walk (judged scope (said_files scope held t loaded)) n (places_in scope held new)) same_planned
+        ∙ ap (walk (judged scope (said_files scope held t loaded)) (planned_in scope held t loaded)) same_places
 
     same_stamps : stamps_in scope held new loaded ≡ stamps_in scope held t loaded
     unfolding stamps_in

@@ -5,7 +5,7 @@ use Rattle.std.specs.Option.{option_map}
 use Rattle.atomic_replace.specs.Replace.{Write}
 use Rattle.aux_cache.specs.Stamps.{HaveNames}
 use Rattle.elf_dynamic.specs.Begun.{lacks_one}
-use Rattle.hwcap_dirs.specs.declared.kinds.Scope.TheVariants.{Root}
+use Rattle.hwcap_dirs.specs.declared.kinds.Scope.{Scope}
 use Rattle.image_session.specs.Aux.{stamps_of_slot}
 use Rattle.image_session.specs.Session.{Loaded}
 use Rattle.image_tree.specs.Tree.{Nodes, IsPathSorted, IsTree, node_at}
@@ -35,6 +35,7 @@ use Rattle.partial_links.proofs.Slots.{slot_named}
 use Rattle.partial_links.proofs.Trees.{whole_tree}
 use Rattle.partial_links.specs.Left.{IsLeft, MightBeLeft, Repairs, linkings}
 use Rattle.partial_links.specs.Partial.{HasPart, IsOfPlan}
+use Rattle.partial_links.specs.Resumed.{is_image}
 
 -- ---- what is left
 
@@ -98,13 +99,13 @@ not_many false false false n rest h = refl
 not_over : (most n : ℕ) → nat_lt most n ≡ false → n ≤ most
 not_over most n h = grind (arith, nat_tests)
 
-room_for : (conf : Option (List ℕ)) (held : Contents) (s : Loaded) → update_outcome (Root conf) held s ≡ Writes → nodes_with s.tree (links_in (Root conf) held s.tree s.stamps) ≤ NODES_MAX
+room_for : (scope : Scope) (held : Contents) (s : Loaded) → update_outcome scope held s ≡ Writes → nodes_with s.tree (links_in scope held s.tree s.stamps) ≤ NODES_MAX
 unfolding update_outcome
-room_for conf held s h =
-    let nodes = nodes_with s.tree (links_in (Root conf) held s.tree s.stamps) in
-    let conf_lack = conf_lacks (conf_of (Root conf)) held s.tree in
-    let wanted_lack = lacks_one held (wanted_keys (Root conf) held s.tree s.stamps) in
-    not_over NODES_MAX nodes (not_many conf_lack wanted_lack (nat_lt NODES_MAX nodes) nodes (drop 3 (refusals (Root conf) held s)) h)
+room_for scope held s h =
+    let nodes = nodes_with s.tree (links_in scope held s.tree s.stamps) in
+    let conf_lack = conf_lacks (conf_of scope) held s.tree in
+    let wanted_lack = lacks_one held (wanted_keys scope held s.tree s.stamps) in
+    not_over NODES_MAX nodes (not_many conf_lack wanted_lack (nat_lt NODES_MAX nodes) nodes (drop 3 (refusals scope held s)) h)
 
 -- links that aren't asked for aren't made
 wider : (t left : Nodes) (plan : List Planned) (asked : Bool) → HasPart t (cond asked plan []) left → HasPart t plan left
@@ -133,17 +134,17 @@ module _ (start old new : FolderState) (keeps : KeepsFolder start old) where
   same_left left (inr crash) = inr (same_settled crash.0, subst (λ t. MightBeLeft t new left) (sym keeps.time) crash.1)
 
 -- An update of this image has read the directory, and made the links of its plan, or some of them: whatever is left is repaired.
-pub repairs : (conf : Option (List ℕ)) (held : Contents) (s : Loaded) (aux : Content) (plan : List Planned) (asked : Bool) (tag : Tag) (writes : List Write)
+pub repairs : (scope : Scope) → is_image scope ≡ false → (held : Contents) (s : Loaded) (aux : Content) (plan : List Planned) (asked : Bool) (tag : Tag) (writes : List Write)
     (result : Result (Unit {0}) WriteFault) (start : FolderState) (old new : States) (c : FolderContent)
-    → s.stamps ≡ stamps_of_slot aux → start.contents ≡ Some c → s.tree ≡ c.now → update_outcome (Root conf) held s ≡ Writes → plan ≡ links_in (Root conf) held s.tree s.stamps
+    → s.stamps ≡ stamps_of_slot aux → start.contents ≡ Some c → s.tree ≡ c.now → update_outcome scope held s ≡ Writes → plan ≡ links_in scope held s.tree s.stamps
     → KeepsFolder start old.folder → HasMoments start → HasWholeTree start → HasWholeTree new.folder
-    → WritesRoot tag (linkings (cond asked plan [])) writes result old new → Repairs conf held s start new.folder
-repairs conf held s aux plan asked tag writes result start old new c stamps_are known tree_is outcome plan_is keeps moments whole later written left is =
+    → WritesRoot tag (linkings (cond asked plan [])) writes result old new → Repairs scope held s start new.folder
+repairs scope none held s aux plan asked tag writes result start old new c stamps_are known tree_is outcome plan_is keeps moments whole later written left is =
     let here = same_left start old.folder new.folder keeps left is in
     let made = left_part tag (cond asked plan []) writes result old new c (keeps.contents ∙ known) written (same_moments start old.folder new.folder keeps moments) left here in
     let part : HasPart c.now plan left = wider c.now left plan asked made in
-    let room = room_for conf held s outcome in
+    let room = room_for scope held s outcome in
     let of_dir : IsWhole c.now = subst (λ o. IfKnown o (λ (c : FolderContent). IsWhole c.now)) known whole in
     let tree : IsTree s.tree = whole_tree s.tree (subst (λ (t : Nodes). IsWhole t) (sym tree_is) of_dir) (omega (arith, room)) in
-    repaired conf held s left tree (subst HaveNames (sym stamps_are) (slot_named aux)) (left_sorted start new.folder later left is) room
+    repaired scope none held s left tree (subst HaveNames (sym stamps_are) (slot_named aux)) (left_sorted start new.folder later left is) room
     (subst (λ (p : List Planned). HasPart s.tree p left) plan_is (subst (λ (t : Nodes). HasPart t plan left) (sym tree_is) part))

@@ -15,8 +15,8 @@ use Rattle.image_tree.specs.Tree.{Nodes, IsPathSorted, IsTree, clashes}
 use Rattle.image_tree.specs.declared.node.Node.TheVariants as node
 use Rattle.image_tree.specs.declared.tree.TheConstants.{NODES_MAX}
 use Rattle.link_plan.specs.declared.kinds.Planned.{Planned}
-use Rattle.partial_links.proofs.Clear.{room_clear}
-use Rattle.partial_links.proofs.Counted.{nodes_counted}
+use Rattle.soname_links.proofs.Clear.{room_clear}
+use Rattle.soname_links.proofs.Counted.{nodes_counted}
 use Rattle.soname_links.proofs.Named.{links_named}
 use Rattle.soname_links.proofs.Rooms.{have_room}
 use Rattle.soname_links.proofs.Targets.{name_is_target}

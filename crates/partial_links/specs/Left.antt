@@ -1,6 +1,7 @@
 -- What is left of a directory in which planned links are made one after another (symlink(2), rename(2), fsync(2)): by a call that failed, and by a crash.
-use Rattle.std.specs.Prelude.{◌≡◌, ◌⊎◌, ℕ, true, List, map, Option, Some}
+use Rattle.std.specs.Prelude.{◌≡◌, ◌⊎◌, ℕ, true, List, map, Some}
 use Rattle.std.specs.Option.{option_map}
+use Rattle.hwcap_dirs.specs.declared.kinds.Scope.{Scope}
 use Rattle.image_session.specs.Session.{Loaded}
 use Rattle.image_tree.specs.Tree.{Nodes, IsPathSorted, node_at}
 use Rattle.link_plan.specs.declared.kinds.Planned.{Planned}
@@ -27,5 +28,5 @@ abbrev pub IsLeft : FolderState → FolderState → Nodes → Type 0
 IsLeft old new left = (option_map (λ c. c.now) new.contents ≡ Some left) ⊎ (IsSettled old × MightBeLeft old.time new left)
 
 -- whichever tree is left, an update of it plans the links that aren't there, and ends and writes as the update of the image
-abbrev pub Repairs : Option (List ℕ) → Contents → Loaded → FolderState → FolderState → Type 0
-Repairs conf held s old new = (left : Nodes) → IsLeft old new left → IsRepaired conf held s left
+abbrev pub Repairs : Scope → Contents → Loaded → FolderState → FolderState → Type 0
+Repairs scope held s old new = (left : Nodes) → IsLeft old new left → IsRepaired scope held s left

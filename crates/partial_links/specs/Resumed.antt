@@ -1,9 +1,9 @@
 -- An update of a tree with a part of its planned links finds what one of the tree finds; one of a directory ends the same, and writes the same.
-use Rattle.std.specs.Prelude.{◌≡◌, ℕ, List, Option}
+use Rattle.std.specs.Prelude.{◌≡◌, ℕ, Bool, true, false, List}
 use Rattle.aux_cache.specs.declared.stamps.Stamp.{Stamp}
 use Rattle.file_stamps.specs.Stamped.{AreSame, AreTrue, content_of, id_at}
 use Rattle.hwcap_dirs.specs.declared.kinds.Scope.{Scope}
-use Rattle.hwcap_dirs.specs.declared.kinds.Scope.TheVariants.{Root}
+use Rattle.hwcap_dirs.specs.declared.kinds.Scope.TheVariants.{Image, Root, Only}
 use Rattle.image_session.specs.Session.{Loaded}
 use Rattle.image_tree.specs.Tree.{Nodes, IsTree}
 use Rattle.ldconfig_core.specs.Outcome.{update_outcome}
@@ -43,20 +43,26 @@ pub record FindsSame (scope : Scope) (held : Contents) (t : Nodes) (loaded : Lis
 
 -- ---- an update of a directory
 
+-- an update by a manifest; each other update has no manifest to write
+abbrev pub is_image : Scope → Bool
+is_image Image = true
+is_image (Root conf) = false
+is_image (Only dirs) = false
+
 -- the image with another tree
 abbrev pub with_tree : Loaded → Nodes → Loaded
 with_tree s new = record s { tree = new }
 
 -- It ends the same, and writes the same cache and the same auxiliary cache.
-pub record WritesSame (conf : Option (List ℕ)) (held : Contents) (s again : Loaded) : Type 0 where
-  pub outcome : update_outcome (Root conf) held again ≡ update_outcome (Root conf) held s
-  pub texts : (texts others : UpdateTexts) → AreTextsOf (Root conf) held s texts → AreTextsOf (Root conf) held again others → AreAlike texts others
+pub record WritesSame (scope : Scope) (held : Contents) (s again : Loaded) : Type 0 where
+  pub outcome : update_outcome scope held again ≡ update_outcome scope held s
+  pub texts : (texts others : UpdateTexts) → AreTextsOf scope held s texts → AreTextsOf scope held again others → AreAlike texts others
 
 -- The tree is one. An update of it plans the links that aren't there, and ends and writes as the update of the image.
-pub record IsRepaired (conf : Option (List ℕ)) (held : Contents) (s : Loaded) (new : Nodes) : Type 0 where
+pub record IsRepaired (scope : Scope) (held : Contents) (s : Loaded) (new : Nodes) : Type 0 where
   pub is_tree : IsTree new
-  pub finds : FindsSame (Root conf) held s.tree s.stamps new
-  pub writes : WritesSame conf held s (with_tree s new)
+  pub finds : FindsSame scope held s.tree s.stamps new
+  pub writes : WritesSame scope held s (with_tree s new)
   -- so does one with other stamps, if stamps are true and files of equal identity have equal content
   pub stamped : AreTrue held s.tree s.stamps → AreSame held s.tree s.tree
-      → (again : Loaded) → again.tree ≡ new → again.edited ≡ s.edited → AreTrue held s.tree again.stamps → WritesSame conf held s again
+      → (again : Loaded) → again.tree ≡ new → again.edited ≡ s.edited → AreTrue held s.tree again.stamps → WritesSame scope held s again

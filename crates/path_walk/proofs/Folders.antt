@@ -14,7 +14,7 @@ pub last_other : (xs : List ℕ) (b : ℕ) → is_slash b ≡ false → before_l
 last_other [] b e = rw e refl
 last_other (x ∷ xs) b e = ap (more_before x) (last_other xs b e)
 
--- one byte less: it is no slash, or the slash that ends the folder
+-- one byte less: the byte is the slash that ends the folder, or another byte
 module _ (place : List ℕ) (n m : ℕ) (less : n ≡ m + 1) (within : n ≤ length place) where
   cut_off : take n place ≡ take m place ++ get_or place m 0 ∷ []
   cut_off = rw less (take_more place m 0 (omega arith))
@@ -28,7 +28,7 @@ module _ (place : List ℕ) (n m : ℕ) (less : n ≡ m + 1) (within : n ≤ len
 -- ---- the folder of a path by the number of bytes before its last slash
 
 module _ (path : List ℕ) (n : ℕ) (ends : ends_at path n) (within : n ≤ length path) where
-  -- none is before it, or there is no slash
+  -- the last slash is the first byte, or the path has no slash
   pub empty_before : n ≡ 0 → parent path ≡ root
   empty_before e = ap unless_empty (ends ∙ ap (λ m. take m path) e)
 

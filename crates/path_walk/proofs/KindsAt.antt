@@ -1,4 +1,4 @@
--- What stands at the paths of a tree: only directories above a directory.
+-- What is at the paths of a tree. All paths above a directory are directories.
 use Rattle.std.proofs.Common.{◌≡◌, ℕ, true, false, cond, ◌||◌, not, nat_eq, List, [], ◌∷◌, ◌++◌, append_assoc, refl, ap, sym, subst, ◌∙◌, Option, Some, None, unwrap_or, Result, Ok, Err, arith}
 use Rattle.std.proofs.Math.Bool.{or-true}
 use Rattle.std.proofs.lemmas.Bool.Decides.{nat_tests}
@@ -45,7 +45,7 @@ module _ (t : Nodes) (q : List ℕ) where
   at_proper : is_path q ≡ true → kind_at t q ≡ kind_there (node_at t q) (has_below t q)
   at_proper proper = at_path (not_root q proper) proper
 
-  -- the kind of a path with a node is that of the node
+  -- the kind of a path with a node is the node's kind
   pub kind_of_node : (n : Node) → is_path q ≡ true → node_at t q ≡ Some n → kind_at t q ≡ kind_of n
   kind_of_node n proper e = at_proper proper ∙ ap (λ o. kind_there o (has_below t q)) e
 
@@ -61,7 +61,7 @@ module _ (t : Nodes) (q : List ℕ) where
       (λ b. there ∙ ap (kind_there None) b))
       (λ p. at_none r p))
 
--- ---- what lies above
+-- ---- paths above a path
 
 below_trans : (p q r : List ℕ) → is_path p ≡ true → is_path q ≡ true → is_below p q ≡ true → is_below q r ≡ true → is_below p r ≡ true
 below_trans p q r proper next h k =
@@ -91,7 +91,7 @@ module _ (t : Nodes) (tree : IsTree t) where
   with_below p (Some (node.File key id)) e b = let z : true ≡ false = sym b ∙ none_below p (node.File key id) e refl in absurd (cc)
   with_below p (Some (node.Link target)) e b = let z : true ≡ false = sym b ∙ none_below p (node.Link target) e refl in absurd (cc)
 
-  -- above a directory there are directories
+  -- all paths above a directory are directories
   pub dir_above : (p q : List ℕ) → is_path p ≡ true → is_path q ≡ true → is_below p q ≡ true → kind_at t q ≡ Dir → kind_at t p ≡ Dir
   dir_above p q proper next h k =
       at_proper t p proper ∙ with_below p (node_at t p) refl (some_below (node_at t q) refl (sym (at_proper t q next) ∙ k))
@@ -138,7 +138,7 @@ module _ (t : Nodes) where
           let above : is_path (x ∷ front) ≡ true = path_above (x ∷ front) cut.0 (λ n. cc) (sym (ap is_path cut.1) ∙ proper) in
           dir_above t tree (x ∷ front) p above proper (below_from (x ∷ front) p cut.0 above cut.1) h
 
-  -- a target goes on from a directory
+  -- a link's target starts in a directory
   pub start_dir : (target place : List ℕ) → kind_at t place ≡ Dir → kind_at t (start_of target place) ≡ Dir
   start_dir target place h = by_test (starts_with nat_eq target root)
       (λ e. ap (λ b. kind_at t (cond b root place)) e)
@@ -157,7 +157,7 @@ module _ (t : Nodes) where
     halts_after (halt.Reached e) h = ends_after e h
     halts_after (halt.Link target rest) h = λ d. h (keeps d)
 
-  -- the last end of a walk is where it halts
+  -- the end of a walk is where it halts
   pub last_ends : (p q r : List ℕ) → KeepsDir t p q → (h : Halt) → HaltsAt t q r h → (result : Result End WalkFault) → MatchResult result (λ e. h ≡ halt.Reached e) (LinkIsLeft h) →
       IfOk result (EndsAt t p r)
   last_ends p q r keeps h halts (Ok e) is = ends_after p q r keeps e (subst (HaltsAt t q r) is halts)

@@ -25,7 +25,7 @@ onto_front : (b : ℕ) (parts : List (List ℕ)) (part : List ℕ) → 0 < lengt
 onto_front b [] part some = absurd (omega arith)
 onto_front b (first ∷ parts) part some = refl
 
--- with one byte more before it
+-- the same with one more byte in front
 begun : (b : ℕ) (text : List ℕ) (front : Option (List ℕ)) → slice_split is_slash text ≡ with_last text front → slice_split is_slash (b ∷ text) ≡ with_last (b ∷ text) (more_before b front)
 begun b text None e = by_test (is_slash b)
     (λ s. slice_split-cons_yes is_slash b text s ∙ ap (λ parts. [] ∷ parts) e ∙ sym (ap (λ c. with_last (b ∷ text) (cond c (Some []) None)) s))

@@ -1,4 +1,4 @@
--- The walk to a link of a directory, which goes on at the link.
+-- The walk to a link in a directory, and then along the link's target.
 use Rattle.std.proofs.Common.{◌≡◌, ◌⊎◌, inl, inr, ℕ, true, false, cond, not, ◌&&◌, ◌==◌, ◌-◌, nat_eq, nat_le, List, [], ◌∷◌, ◌++◌, append_assoc, codes, length, filter, refl, ap, sym, ◌∙◌, Option, Some, Ok, arith}
 use Rattle.std.proofs.lemmas.Bool.{and_from, and_parts, or_parts}
 use Rattle.std.proofs.lemmas.Bool.Decides.{nat_tests}
@@ -168,7 +168,7 @@ none_is_slash (b ∷ name) h =
     let parts = or_parts (is_slash b) (list_any is_slash name) h in
     All-cons (λ b. is_slash b ≡ false) b name parts.0 (none_is_slash name parts.1)
 
--- what is behind the last slash of a path is a name
+-- the text after the last slash of a path is a name
 last_name : (s name : List ℕ) → slice_split is_slash name ≡ name ∷ [] → is_path ((s ++ root) ++ name) ≡ true → is_name name ≡ true
 last_name [] name alone h = (and_parts _ _ (sym (ap (list_all is_name) alone) ∙ (and_parts _ _ h).1)).0
 last_name (x ∷ s) name alone h =
@@ -215,7 +215,7 @@ module _ (t : Nodes) (tree : IsTree t) (p name target : List ℕ) (d : kind_at t
       ∙ ap (λ o. at_link Full name (target_in o) [] p) link
       ∙ ap (λ names. Follows names (start_of target p)) (append-nil (components target))
 
-  -- the walk to a link of a directory goes on by its target, with one link less
+  -- the walk to a link in a directory goes on along the link's target, with one link less
   pub from_link : resolution t (join p name) Full ≡ walk t Full (LINKS_MAX - 1) (steps t Full (components target) (start_of target p))
   unfolding resolution
   from_link =

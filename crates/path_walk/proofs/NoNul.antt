@@ -1,4 +1,4 @@
--- A text that leads somewhere has no NUL.
+-- A path text that can be resolved has no NUL.
 use Rattle.std.proofs.Common.{◌≡◌, ◌<◌, ℕ, zero, suc, Bool, true, false, cond, not, ◌&&◌, ◌==◌, nat_eq, nat_le, List, [], ◌∷◌, ◌++◌, codes, length, filter, Ok, Err, refl, ap, sym, subst, ◌∙◌, arith}
 use Rattle.std.proofs.lemmas.Bool.{and_from, and_parts}
 use Rattle.std.proofs.lemmas.Bool.Decides.{nat_tests}
@@ -107,7 +107,7 @@ module _ (t : Nodes) (mode : Mode) where
       (λ e. by_test (is_path path) (path_clean path) (λ f. absurd (there (rw (e, f) refl)))) in
       (and_parts _ _ (sym (list_all-append (λ b. not (b == 0)) (folder place) name) ∙ whole)).1
 
-  -- the walk can lead somewhere, and the names that are left have no NUL
+  -- the walk doesn't end with a fault, and the names that are left have no NUL
   abbrev IsClean : Stop → Type 0
   IsClean (Ends (Ok place)) = Unit {0}
   IsClean (Ends (Err fault)) = ⊥

@@ -17,20 +17,20 @@ is_file kinds.Absent = false
 is_file kinds.Dir = false
 is_file kinds.Link = false
 
--- the file to which a walk leads, if it leads to one
+-- the file at which a walk ends, if it ends at a file
 abbrev pub file_by : Nodes → Result (List ℕ) WalkFault → Option (List ℕ)
 file_by t (Ok place) = if is_file (kind_at t place) then Some place else None
 file_by t (Err fault) = None
 
--- the same of a walk by a path text from a folder, by at most so many links
+-- the file to which a path text leads from a folder, if at most `links` links are followed
 abbrev pub file_from : Nodes → ℕ → List ℕ → List ℕ → Option (List ℕ)
 file_from t links path folder = file_by t (walk t Full links (steps t Full (components path) folder))
 
--- the file to which a path text leads, all links followed
+-- the file to which a path text leads if all links are followed
 abbrev pub file_at : Nodes → List ℕ → Option (List ℕ)
 file_at t path = file_by t (resolution t path Full)
 
--- a call gives the file to which a link of this folder leads: that of the link's path, whatever its name
+-- the result is the file to which a link in this folder leads: the file at the link's path, for every name of the link
 abbrev pub GivesFile : Nodes → List ℕ → List ℕ → Result (Option (List ℕ)) NoMemory → Type 0
 GivesFile t folder target result = (name : List ℕ) → kind_at t folder ≡ kinds.Dir → IsTrue (is_name name) → node_at t (join folder name) ≡ Some (Link target) →
     IfOk result (λ file. file ≡ file_at t (join folder name))

@@ -1,9 +1,9 @@
--- The texts of places.
+-- The parts of paths.
 use Rattle.std.specs.Prelude.{ℕ, ◌+◌, Bool, List, [], ◌∷◌, nat_eq, if◌then◌else◌, drop, length, unwrap_or, Option, Some, None}
 use Rattle.std.specs.List.{starts_with}
 use Rattle.image_tree.specs.Paths.{root, is_slash}
 
--- the text begins at the root
+-- the path is absolute
 abbrev pub is_absolute : List ℕ → Bool
 is_absolute text = starts_with nat_eq text root
 
@@ -16,7 +16,7 @@ abbrev pub before_last : List ℕ → Option (List ℕ)
 before_last [] = None
 before_last (b ∷ rest) = more_before b (before_last rest)
 
--- the folder of a place; that of the root is the root
+-- the directory of a path; the root is its own directory
 abbrev pub unless_empty : List ℕ → List ℕ
 unless_empty [] = root
 unless_empty (b ∷ rest) = b ∷ rest
@@ -24,6 +24,6 @@ unless_empty (b ∷ rest) = b ∷ rest
 abbrev pub parent : List ℕ → List ℕ
 parent place = unless_empty (unwrap_or (before_last place) [])
 
--- what is behind the last slash of a path
+-- the bytes after the last slash of a path
 abbrev pub last : List ℕ → List ℕ
 last path = drop (length (unwrap_or (before_last path) []) + 1) path

@@ -1,4 +1,4 @@
--- Where a path text leads in an image's tree (path_resolution(7), symlink(7)). A walk goes from name to name, begins at the root,
+-- Path resolution in an image's tree (path_resolution(7), symlink(7)). A walk begins at the root, takes one step for each name,
 -- and follows at most 40 links.
 use Rattle.std.specs.Prelude.{◌≡◌, ◌⊎◌, ℕ, zero, suc, Bool, true, false, List, [], ◌∷◌, ◌++◌, ◌&&◌, nat_eq, if◌then◌else◌, codes, Option, Some, None, Result, Ok, Err}
 use Rattle.std.specs.List.{starts_with}
@@ -17,7 +17,7 @@ use Rattle.path_walk.specs.declared.walk.WalkFault.{WalkFault}
 use Rattle.path_walk.specs.declared.walk.WalkFault.TheVariants.{Absent, NotDir, TooManyLinks, NoMemory}
 use Rattle.path_walk.specs.declared.walk.TheConstants.{LINKS_MAX}
 
--- where a walk without a further link ends, or the names that a link leaves, and the place from which they go on
+-- how a walk stops: it ends with a result, or it must follow a link; then these names are left, and the walk goes on from this place
 pub data Stop : Type 0 where
   Ends : Result (List ℕ) WalkFault → Stop
   Follows : List (List ℕ) → List ℕ → Stop
@@ -26,7 +26,7 @@ abbrev pub is_plain_mode : Mode → Bool
 is_plain_mode Plain = true
 is_plain_mode Full = false
 
--- the text of the link at a path
+-- the target of the link at a path
 abbrev pub target_in : Option Node → List ℕ
 target_in (Some (Link target)) = target
 target_in (Some Dir) = []
@@ -36,7 +36,7 @@ target_in None = []
 abbrev pub target_at : Nodes → List ℕ → List ℕ
 target_at t path = target_in (node_at t path)
 
--- a target that begins with a slash goes on from the root, any other from the link's folder
+-- where a target starts: at the root if it begins with a slash, otherwise in the link's folder
 abbrev pub start_of : List ℕ → List ℕ → List ℕ
 start_of target place = if starts_with nat_eq target root then root else place
 
@@ -45,7 +45,7 @@ abbrev pub at_link : Mode → List ℕ → List ℕ → List (List ℕ) → List
 at_link mode name target rest place =
     if is_plain_mode mode && is_library_name name then Ends (Err Absent) else Follows (components target ++ rest) (start_of target place)
 
--- Nothing lies below a file, and it has no `..`.
+-- A walk ends at a file. If names are left, even `..`, the fault is NotDir.
 abbrev pub at_file : List (List ℕ) → List ℕ → Stop
 at_file [] place = Ends (Ok place)
 at_file (name ∷ rest) place = Ends (Err NotDir)
@@ -56,7 +56,7 @@ at_child kinds.Link link file dir = link
 at_child kinds.File link file dir = file
 at_child kinds.Dir link file dir = dir
 
--- the walk by these names from a directory, up to the first link that is followed
+-- the walk by these names from a directory, to its end or to the first link that must be followed
 abbrev pub steps : Nodes → Mode → List (List ℕ) → List ℕ → Stop
 steps t mode [] place = Ends (Ok place)
 steps t mode (name ∷ rest) place =
@@ -66,16 +66,16 @@ steps t mode (name ∷ rest) place =
     (at_file rest (join place name))
     (steps t mode rest (join place name))
 
--- the walk with at most so many further links
+-- the walk, following at most `links` further links
 abbrev pub walk : Nodes → Mode → ℕ → Stop → Result (List ℕ) WalkFault
 walk t mode links (Ends result) = result
 walk t mode zero (Follows names place) = Err TooManyLinks
 walk t mode (suc links) (Follows names place) = walk t mode links (steps t mode names place)
 
--- the fault is that of the walk, or memory is out
+-- the fault is the fault of the walk, or NoMemory
 abbrev pub LeadsNowhere : Result (List ℕ) WalkFault → WalkFault → Type 0
 LeadsNowhere walk fault = (fault ≡ NoMemory) ⊎ (walk ≡ Err fault)
 
--- the place to which a path text leads, without links
+-- the path, without links, to which a path text leads
 unfoldable pub resolution : Nodes → List ℕ → Mode → Result (List ℕ) WalkFault
 resolution t path mode = walk t mode LINKS_MAX (steps t mode (components path) root)

@@ -12,7 +12,7 @@ use lib_types::{NoMemory, Text};
 use std::alloc::Global;
 use tree_face::{Node, Tree};
 
-// The file to which a path text leads from a directory, if it leads to one by at most so many links.
+// The file to which a path text leads from a directory, if it leads to a file and follows at most `links` links.
 fn file_from(
     alloc: Global,
     tree: &Tree,
@@ -33,7 +33,7 @@ fn file_from(
     }
 }
 
-/// The file to which a path leads, all links followed, if it leads to one.
+/// The file to which a path leads, if it leads to a file. All links are followed.
 #[tactic(auto, unfolding(crate::specs::Walk::resolution))]
 pub fn file_at(alloc: Global, tree: &Tree, path: &[u8]) -> Result<Option<Text>, NoMemory>
     ensures { IfOk result (λ file. file ≡ file_at tree.now path.now) }
@@ -43,7 +43,7 @@ pub fn file_at(alloc: Global, tree: &Tree, path: &[u8]) -> Result<Option<Text>, 
     file_from(alloc, tree, root, path, LINKS_MAX)
 }
 
-// The file to which a link's target leads from the link's directory, by at most so many further links.
+// The file to which a link's target leads from the link's directory, if at most `links` further links are followed.
 fn file_by_target(
     alloc: Global,
     tree: &Tree,
@@ -70,8 +70,8 @@ enum Beside<'t> {
     Other,
 }
 
-// What a link's target names beside the link, by one search: the paths of a tree have names alone, so that a target without a slash
-// is a name if there is a node.
+// What a link's target names in the link's directory, by one search. A path in a tree consists of names only. So if a target without
+// a slash has a node in this directory, the target is a name.
 #[tactic(auto, using(crate::proofs::Linked::file_beside, crate::proofs::Linked::link_beside))]
 fn find_beside<'t>(
     alloc: Global,
@@ -92,8 +92,8 @@ fn find_beside<'t>(
     }
 }
 
-// The same as `file_by_target`. Most targets are the name of a file beside the link, or of a link there, so that there is nothing
-// to walk by.
+// The same as `file_by_target`, but faster. Most targets are the name of a file or link in the link's own directory. Those need
+// no walk.
 #[tactic(auto, using(crate::proofs::Walks::walk_ends, crate::proofs::Walks::walk_follows))]
 fn file_beside(
     alloc: Global,
@@ -118,10 +118,10 @@ fn file_beside(
     file_by_target(alloc, tree, folder, text, left)
 }
 
-/// The file to which a link of a directory leads, given its target, if it leads to one: the walk begins at the link.
+/// The file to which a link in a directory leads, given the link's target, if it leads to a file. The walk begins at the link.
 ///
-/// A target that names a file beside the link, as most do, costs one search of the tree and the memory of the result. Any other is
-/// walked by from the directory, with a search for each name and two where there is no node.
+/// Most targets name a file in the link's own directory. Such a target costs one search of the tree and the memory of the result.
+/// Any other target is walked from the directory, with one search for each name, or two searches if the name has no node.
 pub fn linked_file(
     alloc: Global,
     tree: &Tree,

@@ -1,4 +1,4 @@
-//! Where paths lead in the tree of an image.
+//! Path resolution in the tree of an image.
 #![tactic(auto)]
 
 mod files;

@@ -1,4 +1,4 @@
-//! The names of a path text, and the texts of places.
+//! The names of a path text, and the paths at which a walk is.
 ghost use Rattle.std.specs.Prelude.{◌≡◌, ◌<◌, ◌≤◌, ◌∷◌, ◌++◌, [], None, length, position, IfSome, MatchOption, OnOk, IfOk, drop, ◌+◌};
 ghost use Rattle.std.specs.Option.{option_copied};
 ghost use Rattle.lib_types.specs.Name.{slash};
@@ -11,14 +11,14 @@ use lib_types::{NoMemory, Separator, Text, cut};
 use std::alloc::Global;
 use tree_face::is_kept;
 
-/// Whether a text begins at the root.
+/// Whether the path is absolute.
 pub fn is_absolute(text: &[u8]) -> bool
     ensures { result ≡ is_absolute text.now }
 {
     text.starts_with(b"/")
 }
 
-/// The first name of a path text, and the text that is left; None if it has no name.
+/// The first name of a path text, and the text after it. None if the text has no name.
 pub fn next_name(text: Option<&[u8]>) -> Option<(&[u8], Option<&[u8]>)>
     ensures name { MatchOption result (names_in (option_copied text.entry) ≡ [])
         (λ next. names_in (option_copied text.entry) ≡ next.0.now ∷ names_in (option_copied next.1)) }
@@ -45,7 +45,7 @@ pub fn join(alloc: Global, folder: &[u8], name: &[u8]) -> Result<Text, NoMemory>
     Ok(Text::from_vec(path))
 }
 
-/// Makes a text, whatever it was, the path of a name in a directory.
+/// Overwrites a text with the path of a name in a directory.
 pub fn join_into(path: &mut Vec<u8>, folder: &[u8], name: &[u8]) -> Result<(), NoMemory>
     ensures { OnOk result (path.new.items ≡ join folder.now name.now) }
 {
@@ -54,7 +54,7 @@ pub fn join_into(path: &mut Vec<u8>, folder: &[u8], name: &[u8]) -> Result<(), N
     enter(path, name)
 }
 
-/// Goes to the place of this name in the folder.
+/// Appends a name to the path of a directory.
 pub fn enter(place: &mut Vec<u8>, name: &[u8]) -> Result<(), NoMemory>
     ensures { OnOk result (place.new.items ≡ join place.old.items name.now) }
 {
@@ -65,7 +65,7 @@ pub fn enter(place: &mut Vec<u8>, name: &[u8]) -> Result<(), NoMemory>
     Ok(())
 }
 
-// How many bytes of a place are those of its folder, without the slash behind them.
+// The length of the directory part of a path, without the slash after it.
 #[tactic(auto, using(crate::proofs::Folders::goes_on, crate::proofs::Folders::ends_here))]
 fn folder_len(place: &[u8]) -> usize
     ensures ends { ends_at place.now result }
@@ -81,14 +81,14 @@ fn folder_len(place: &[u8]) -> usize
     0
 }
 
-// What follows the byte at an offset.
+// The bytes after the byte at an offset.
 fn after_byte(path: &[u8], n: usize) -> &[u8]
     ensures { result.now ≡ drop (n + 1) path.now }
 {
     if n < path.len() { &path[n + 1..] } else { b"" }
 }
 
-/// The folder of a path, and its name there: what follows its last slash.
+/// The directory of a path, and its last name, which follows the last slash.
 #[tactic(auto, using(crate::proofs::Folders::empty_before, crate::proofs::Folders::some_before, crate::proofs::Folders::last_behind))]
 pub fn parted(path: &[u8]) -> (&[u8], &[u8])
     ensures folder { result.0.now ≡ parent path.now }
@@ -102,7 +102,7 @@ pub fn parted(path: &[u8]) -> (&[u8], &[u8])
     (&path[..n], name)
 }
 
-/// Goes to the folder of the place; from the root to the root.
+/// Replaces a path by the path of its directory. The root is its own directory.
 pub fn leave(place: &mut Vec<u8>) -> Result<(), NoMemory>
     ensures { OnOk result (place.new.items ≡ parent place.old.items) }
 {
@@ -125,7 +125,7 @@ fn with_slash(alloc: Global, first: &[u8], rest: &[u8]) -> Result<Vec<u8>, NoMem
     Ok(text)
 }
 
-/// A text of the first one's names and then of those that are left.
+/// A path text with the names of the first text, and then the names of the rest.
 #[tactic(auto, using(crate::proofs::Joining::names_joined, crate::proofs::Joining::names_alone))]
 pub fn joined(alloc: Global, first: &[u8], rest: Option<&[u8]>) -> Result<Vec<u8>, NoMemory>
     ensures { IfOk result (λ text. components text.items ≡ components first.now ++ names_in (option_copied rest.entry)) }

@@ -1,4 +1,4 @@
-//! The walk from name to name.
+//! The walk along a path, name by name.
 ghost use Rattle.std.specs.Prelude.{◌≡◌, ◌∷◌, None, IfOk, IfErr, Ok, MatchResult, MatchOption, OnOk};
 ghost use Rattle.std.specs.Option.{option_copied};
 ghost use Rattle.image_tree.specs.Paths.{components};
@@ -25,14 +25,14 @@ pub enum Mode {
     Full,
 }
 
-/// Why a path leads nowhere.
+/// Why a path cannot be resolved.
 #[derive(Clone, Copy, Debug, PartialEq, Eq)]
 pub enum WalkFault {
-    /// A name isn't there.
+    /// A name doesn't exist.
     Absent,
-    /// A name or `..` is looked for below a file.
+    /// A name or `..` follows a file.
     NotDir,
-    /// More links would have to be followed than a walk may follow.
+    /// The walk would have to follow more than `LINKS_MAX` links.
     TooManyLinks,
     NoMemory,
 }
@@ -53,17 +53,17 @@ impl From<AllocError> for WalkFault {
     }
 }
 
-/// The most links that one walk follows (as Linux does, path_resolution(7)).
+/// The maximum number of links that one walk follows, as in Linux (path_resolution(7)).
 pub const LINKS_MAX: usize = 40;
 
-// What a walk ends at.
+// The kind of the path at which a walk ends.
 #[derive(Clone, Copy)]
 pub(crate) enum End {
     Dir,
     File,
 }
 
-// Where a walk halts: at its end, or at a link that is followed.
+// Where a walk halts: at its end, or at a link that it must follow.
 #[derive(Clone, Copy)]
 enum Halt<'t, 'p> {
     Reached(End),
@@ -73,7 +73,7 @@ enum Halt<'t, 'p> {
     },
 }
 
-// What stands at a place, a link with its target.
+// What is at a path. A link has its target.
 #[derive(Clone, Copy)]
 enum Child<'t> {
     Dir,
@@ -81,7 +81,7 @@ enum Child<'t> {
     Link(&'t [u8]),
 }
 
-// What stands at a place without a node, which is of this kind: a directory if something lies below it.
+// What is at a path that has no node, given the path's kind. It is a directory if there is something below it.
 #[tactic(auto, using(crate::proofs::KindsAt::absent_else))]
 fn child_by<'t>(tree: &'t Tree, place: &[u8], kind: Kind) -> Option<Child<'t>>
     requires none { node_at tree.now place.now ≡ None }
@@ -94,7 +94,7 @@ fn child_by<'t>(tree: &'t Tree, place: &[u8], kind: Kind) -> Option<Child<'t>>
     }
 }
 
-// What stands at a place, by one search.
+// What is at a path, by one search.
 #[tactic(auto, using(crate::proofs::KindsAt::kind_of_node))]
 fn child_at<'t>(tree: &'t Tree, place: &[u8]) -> Option<Child<'t>>
     ensures { MatchOption result (kind_at tree.now place.now ≡ kinds.Absent) (IsAt tree.now place.now) }
@@ -116,7 +116,7 @@ fn is_plain_mode(mode: Mode) -> bool
     }
 }
 
-// What the name stands for at its place: in mode Plain a link with a library name counts as absent. Takes no memory.
+// What is at a path with this last name. In mode Plain, a link with a library name counts as absent. Allocates no memory.
 fn child_in<'t>(
     tree: &'t Tree,
     mode: Mode,
@@ -135,7 +135,7 @@ fn child_in<'t>(
     Ok(child)
 }
 
-// Goes to the child of this name in the folder; to a link not, since the walk goes on by its target.
+// Goes to the child with this name in the directory. If the child is a link, stays in the directory.
 fn step<'t>(
     tree: &'t Tree,
     mode: Mode,
@@ -154,7 +154,7 @@ fn step<'t>(
     Ok(child)
 }
 
-// Ends a walk at a file, behind which no name may be left. Takes no memory.
+// Ends a walk at a file. It is an error if a name follows the file. Allocates no memory.
 fn end_at_file(rest: Option<&[u8]>) -> Result<(), WalkFault>
     ensures { EndsAtFile (names_in (option_copied rest.entry)) result }
 {
@@ -164,7 +164,7 @@ fn end_at_file(rest: Option<&[u8]>) -> Result<(), WalkFault>
     }
 }
 
-// Goes on by one name, with this text left behind it: None if the walk goes on from the new place.
+// Takes one step of the walk, by a name; `rest` is the text after it. Returns None if the walk goes on from the new place.
 #[tactic(auto, using(crate::proofs::KindsAt::folder_dir))]
 fn go<'t, 'p>(
     tree: &'t Tree,
@@ -192,7 +192,7 @@ fn go<'t, 'p>(
     }
 }
 
-// Walks by the names of this text, up to the end or to the first link that is followed.
+// Walks along the names of this text, to the end or to the first link that must be followed.
 fn walk_names<'t, 'p>(
     tree: &'t Tree,
     mode: Mode,
@@ -214,7 +214,7 @@ fn walk_names<'t, 'p>(
     Ok(Halt::Reached(End::Dir))
 }
 
-// Goes to the place from which the walk goes on by a target.
+// Goes to the directory where a link's target starts: the root if the target is absolute, otherwise the link's directory.
 pub(crate) fn restart(place: &mut Vec<u8>, target: &[u8]) -> Result<(), NoMemory>
     ensures { OnOk result (place.new.items ≡ start_of target.now place.old.items) }
 {
@@ -225,7 +225,7 @@ pub(crate) fn restart(place: &mut Vec<u8>, target: &[u8]) -> Result<(), NoMemory
     Ok(())
 }
 
-// What a walk ends at that follows no further link. Takes no memory.
+// The end of a walk that may follow no more links. Allocates no memory.
 fn last_end(halt: Halt<'_, '_>) -> Result<End, WalkFault>
     ensures { MatchResult result (λ end. halt.entry ≡ halts.Reached end) (LinkIsLeft halt.entry) }
 {
@@ -235,7 +235,7 @@ fn last_end(halt: Halt<'_, '_>) -> Result<End, WalkFault>
     }
 }
 
-// The walk by this path text from the place, which follows at most so many links.
+// Walks along this path text from the place, and follows at most `links` links.
 #[tactic(auto, using(crate::proofs::Walks::walk_ends, crate::proofs::Walks::walk_follows, crate::proofs::Walks::walk_stops, crate::proofs::KindsAt::start_dir))]
 pub(crate) fn follow(
     alloc: Global,
@@ -264,9 +264,9 @@ pub(crate) fn follow(
     last_end(walk_names(tree, mode, place, Some(&path))?)
 }
 
-/// The place to which a path text leads, without links. A text is taken below the root, with or without a slash in front.
+/// Resolves a path text to a path without links. Every text is resolved from the root, with or without a leading slash.
 ///
-/// Takes memory for the place and for what is left of the path.
+/// Allocates memory for the result and for the rest of the path.
 #[tactic(auto, unfolding(crate::specs::Walk::resolution))]
 pub fn resolve(alloc: Global, tree: &Tree, path: &[u8], mode: Mode) -> Result<Text, WalkFault>
     ensures place { IfOk result (λ place. resolution tree.now path.now mode ≡ Ok place) }

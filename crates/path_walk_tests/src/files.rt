@@ -15,13 +15,13 @@ fn is_file(found: &Option<Text>, want: Option<&str>) -> bool {
     }
 }
 
-// Whether the path leads to this file, or to none.
+// Whether the path leads to this file, or to no file.
 fn leads(alloc: Global, tree: &Tree, path: &str, want: Option<&str>) -> Result<bool, NoMemory> {
     let found = file_at(alloc, tree, path.as_bytes())?;
     Ok(is_file(&found, want))
 }
 
-// Whether a link of the folder with this target leads to this file, or to none.
+// Whether a link with this target in the directory leads to this file, or to no file.
 fn links(
     alloc: Global,
     tree: &Tree,
@@ -117,7 +117,7 @@ fn links_of_the_root_lead_to_files(rt: HostRuntime) -> Result<(), Fail> {
     Ok(())
 }
 
-// No tree has a link with an empty target; the walk by it ends at the folder.
+// A tree can't have a link with an empty target. A walk of an empty target ends at the directory.
 #[test]
 fn empty_target_leads_to_no_file(rt: HostRuntime) -> Result<(), Fail> {
     let alloc = rt.alloc();

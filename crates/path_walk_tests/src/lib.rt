@@ -1,4 +1,4 @@
-//! Tests of the walk from name to name, a crate of their own since a crate with tests is proved twice.
+//! Tests of the walk from component to component, a crate of their own since a crate with tests is proved twice.
 #![tactic(auto)]
 
 #[cfg(test)]

@@ -5,7 +5,7 @@ use std::alloc::Global;
 use std::test::Fail;
 use tree_face::Tree;
 
-// Whether the path leads to this place, or ends with this fault.
+// Whether the path resolves to this path, or its walk ends with this fault.
 fn leads(
     alloc: Global,
     tree: &Tree,

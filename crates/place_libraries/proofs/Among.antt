@@ -1,4 +1,4 @@
--- The libraries of a folder are those of the rows of a table that tells of the files in places.
+-- The libraries of a directory are those of a table's rows, if the table has the files of the search directories.
 use Rattle.std.proofs.Common.{◌≡◌, ℕ, Bool, true, false, cond, ◌&&◌, ◌||◌, List, [], ◌∷◌, ◌++◌, filter, flat_map, map, refl, ap, sym, subst, ◌∙◌, Option, Some, None, Ordering}
 use Rattle.std.proofs.lemmas.Bool.{and_parts, or_right}
 use Rattle.std.proofs.lemmas.Cmp.{nat_list_cmp_total}
@@ -48,11 +48,11 @@ use Rattle.file_table.specs.Table.{Rows, analysis_at}
 abbrev cmp : List ℕ → List ℕ → Ordering
 cmp = slice_cmp nat_cmp
 
--- the path is that of a file in this folder
+-- the path is that of a file in this directory
 abbrev is_of : List ℕ → List ℕ → Bool
 is_of folder path = bytes_eq (parent path) folder
 
--- ---- the files of a folder, by the order of their names
+-- ---- the files of a directory, sorted by their names
 
 joined_cmp : (front a b : List ℕ) → cmp (front ++ a) (front ++ b) ≡ cmp a b
 joined_cmp [] a b = refl
@@ -95,7 +95,7 @@ module _ (t : Nodes) (folder : List ℕ) where
   all_are_of kinds.File names dir named = refl
   all_are_of kinds.Link names dir named = refl
 
--- ---- the files of a folder among those of all places
+-- ---- the files of a directory among those of all search directories
 
 shared : (a b c : Bool) → ((a && c) || (b && c)) ≡ ((a || b) && c)
 shared true b true = refl
@@ -147,7 +147,7 @@ module _ (t : Nodes) (tree : IsTree t) where
         (files_sorted t folder (children_of t folder) (children_sorted t folder tree.sorted))
         (λ z. kept_in (is_of folder) z (wanted t places) ∙ ap (λ b. is_of folder z && b) (in_ascending all z) ∙ kept_same z)
 
--- ---- rows by their paths
+-- ---- the rows of paths
 
 wanted_sorted : (t : Nodes) (places : List Place) → AreSorted (wanted t places)
 unfolding wanted
@@ -158,7 +158,7 @@ found_same path [] = refl
 found_same path (row ∷ rows) =
     ap (λ b. cond b (Some row.1) (lookup (is_at (cmp path)) rows)) (sym (texts_ties path row.0)) ∙ ap (cond (bytes_eq path row.0) (Some row.1)) (found_same path rows)
 
--- the row of a path, if it has an analysis
+-- the row of a path, if it has ELF information
 abbrev row_with : Analyses → List ℕ → Option (List ℕ × Analysis)
 row_with what path = option_map (λ analysis. (path, analysis)) (what path)
 
@@ -168,7 +168,7 @@ rows_by_paths rows sorted =
     (λ path. ap (option_map (λ analysis. (path, analysis))) (sym (found_same path rows))) (keys_of rows)
     ∙ by_entries nat_list_cmp_total rows sorted
 
--- what is made of what is made
+-- two passes of `filter_map` are one pass
 fused : {X Y Z : Type 0} (f : X → Option Y) (g : Y → Option Z) (xs : List X) → filter_map g (filter_map f xs) ≡ filter_map (λ x. option_and_then g (f x)) xs
 fused f g [] = refl
 fused f g (x ∷ xs) =

@@ -1,4 +1,4 @@
--- What items come to by their sonames, if they come in the order of these: each soname's items follow one another.
+-- The folds of items that are sorted by their sonames. The items of each soname are consecutive.
 use Rattle.std.proofs.Common.{◌≡◌, inl, inr, ◌<◌, ◌+◌, ◌-◌, ℕ, suc, zero, Bool, true, false, cond, not, ◌&&◌, ◌||◌, List, [], ◌∷◌, ◌++◌, append_assoc, get_or, length, map, refl, ap, sym, subst, ◌∙◌, Option, Some, None, Ordering, arith}
 use Rattle.std.proofs.lemmas.Cmp.{nat_list_cmp_total, tied_itself}
 use Rattle.std.proofs.lemmas.List.Elements.{filter_agree}
@@ -77,7 +77,7 @@ module _ {X : Type 0} where
   pub sorted_by_soname : (items sorted : List (List ℕ × X)) → IsPermutation items sorted → IsSorted soname_order sorted → IsStable soname_order items sorted → AreBySoname items sorted
   sorted_by_soname items sorted same up stable = record { same = same; ascending = are_ascending sorted up; stable = stable_at items sorted same stable }
 
--- ---- texts in their order
+-- ---- texts in ascending order
 
 without_one : (P : List ℕ → Type 0) (xs : List (List ℕ)) (k : List ℕ) (ys : List (List ℕ)) → AllByRecursion P (xs ++ k ∷ ys) → AllByRecursion P (xs ++ ys)
 without_one P [] k ys a = a.1
@@ -91,7 +91,7 @@ in_middle : (P : List ℕ → Type 0) (xs : List (List ℕ)) (k : List ℕ) (ys 
 in_middle P [] k ys a = a.0
 in_middle P (x ∷ xs) k ys a = in_middle P xs k ys a.1
 
--- a text behind others is below none of them
+-- a text after others is not less than any of them
 not_below : (xs : List (List ℕ)) (k : List ℕ) (ys : List (List ℕ)) → AreAscending (xs ++ k ∷ ys) → AllByRecursion (λ x. is_lt (cmp k x) ≡ false) xs
 not_below [] k ys up = tt
 not_below (x ∷ xs) k ys up = (in_middle (λ other. is_lt (cmp other x) ≡ false) xs k ys up.0, not_below xs k ys up.1)
@@ -148,7 +148,7 @@ module _ {G : Type 0} where
           rw (h, differs) refl)
           (λ h. rw h (found_again front (sorted_tail cmp e.0 (keys_of (front ++ (k, last) ∷ [])) s) q))
 
-    -- ---- an entry behind all others
+    -- ---- an entry after all others
 
     pub keys_more : (es : List (List ℕ × G)) → AllByRecursion (λ x. cmp x k ≡ Less) (keys_of es) → keys_of (es ++ (k, g) ∷ []) ≡ with_text (keys_of es) k
     keys_more [] a = refl
@@ -191,7 +191,7 @@ module _ {G : Type 0} where
         let there : bytes_eq x k ≡ true = (bytes_eq-Decides x k).1 (sym (same_text k x a)) in absurd (cc))
         (λ a. flipped nat_list_cmp_total k x Greater a)
 
-    -- all are below a key that is below none of them, if the last of them is another
+    -- if a key is not less than any entry's key and differs from the last, all entries' keys are less than it
     pub all_less : (es : List (List ℕ × G)) → AreOrdered es → AllByRecursion (λ x. is_lt (cmp k x) ≡ false) (keys_of es) → is_last k es ≡ false
         → AllByRecursion (λ x. cmp x k ≡ Less) (keys_of es)
     all_less [] s a other = tt
@@ -209,7 +209,7 @@ module _ {G : Type 0} (soname : List ℕ) where
   last_at (e ∷ f ∷ es) zero h = absurd (omega arith)
   last_at (e ∷ f ∷ es) (suc at) h = last_at (f ∷ es) at (omega arith)
 
-  -- the last one, if there is one
+  -- the last entry, if there is one
   pub last_is : (es : List (List ℕ × G)) (o : Option (List ℕ × G)) → o ≡ slice_get es (length es - 1) → is_last soname es ≡ unwrap_or (option_map (λ e. bytes_eq e.0 soname) o) false
   last_is es o e = last_at es (length es - 1) refl ∙ ap (λ p. unwrap_or (option_map (λ e. bytes_eq e.0 soname) p) false) (sym e)
 
@@ -223,13 +223,13 @@ module _ {G : Type 0} (soname : List ℕ) where
       let same : last.0 ≡ soname = (bytes_eq-Decides last.0 soname).0 (sym (ends front last) ∙ sym (ap (is_last soname) e) ∙ h) in
       e ∙ ap (λ q. front ++ (q, last.1) ∷ []) same
 
--- ---- one item more
+-- ---- adding an item
 
 module _ {X G : Type 0} (step : Option G → X → Option G) (soname : List ℕ) (item : X) where
   there_last : (front : List (List ℕ × G)) (last : G) → AreOrdered (front ++ (soname, last) ∷ []) → found_at (front ++ (soname, last) ∷ []) soname ≡ Some last
   there_last front last s = found_again soname last last front s soname ∙ ap (λ b. cond b (Some last) (found_at (front ++ (soname, last) ∷ []) soname)) (itself soname)
 
-  -- it comes to the last one, which has its soname
+  -- the item is added to the last entry, which has its soname
   pub gathered_last : (es front : List (List ℕ × G)) (last g : G) (new : List (List ℕ × G)) → es ≡ front ++ (soname, last) ∷ [] → AreOrdered es
       → Some g ≡ step (Some last) item → new ≡ front ++ (soname, g) ∷ [] → IsGathered step es soname item new
   gathered_last es front last g new is s steps made =
@@ -249,7 +249,7 @@ module _ {X G : Type 0} (step : Option G → X → Option G) (soname : List ℕ)
         same_or_more = inl (same_keys soname g last front);
       }
 
-  -- it is the first of its soname
+  -- the item is the first with its soname
   pub gathered_new : (es : List (List ℕ × G)) (g : G) (new : List (List ℕ × G)) → AllByRecursion (λ x. cmp x soname ≡ Less) (keys_of es) → AreOrdered es → Some g ≡ step None item
       → new ≡ es ++ (soname, g) ∷ [] → IsGathered step es soname item new
   gathered_new es g new less s steps made =
@@ -273,7 +273,7 @@ module _ {X G : Type 0} (step : Option G → X → Option G) (soname : List ℕ)
 
 -- ---- all items
 
--- the items that are left complete what those so far came to
+-- the remaining items complete the folds of those so far
 pub record GoesOn {X G : Type 0} (step : Option G → X → Option G) (items : List (List ℕ × X)) (es : List (List ℕ × G)) (rest : List (List ℕ × X)) : Type 0 where
   pub keys : fold with_text (keys_of es) (keys_of rest) ≡ ascending (keys_of items)
   pub found : (soname : List ℕ) → fold (λ found e. step found e.1) (found_at es soname) (of_soname soname rest) ≡ gathered_at step items soname
@@ -315,7 +315,7 @@ module _ {X G : Type 0} (step : Option G → X → Option G) (items : List (List
   pub done : (es : List (List ℕ × G)) → GoesOn step items es [] → AreGathered step items es
   done es on = record { keys = on.keys; found = on.found; ordered = on.ordered }
 
-  -- sorted items come to what the items come to
+  -- sorting the items doesn't change the folds
   pub all_gathered : (sorted : List (List ℕ × X)) (es : List (List ℕ × G)) → AreBySoname items sorted → AreGathered step sorted es → AreGathered step items es
   all_gathered sorted es by on = record {
     keys = on.keys ∙ same_members (ascending (keys_of sorted)) (ascending (keys_of items)) (ascending_sorted (keys_of sorted)) (ascending_sorted (keys_of items))

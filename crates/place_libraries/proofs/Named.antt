@@ -1,4 +1,4 @@
--- The names and sonames of libraries are names.
+-- The names and sonames of libraries are valid names.
 use Rattle.std.proofs.Common.{◌≡◌, ℕ, Bool, true, false, cond, ◌&&◌, List, [], ◌∷◌, refl, subst, Option, Some, None}
 use Rattle.std.proofs.lemmas.List.Elements.{filter_passes}
 use Rattle.std.proofs.lemmas.List.Sums.{list_all-from_AllPass}
@@ -20,7 +20,7 @@ use Rattle.library_files.specs.Search.{file_in}
 use Rattle.file_table.specs.Analyses.{Analyses, HaveNames, has_name}
 use Rattle.place_libraries.specs.Library.{Library}
 
--- ---- the analyses
+-- ---- the ELF information
 
 -- ---- the libraries
 
@@ -53,7 +53,7 @@ module _ (what : Analyses) (named : HaveNames what) where
       all_given has_names is_name (library_in what t place.real) (λ name library n e. in_named name library (file_in t place.real name) n e)
       (children_of t place.real) (children_named t place.real entries)
 
--- ---- the best ones
+-- ---- the best libraries
 
 abbrev if_some : (Library → Bool) → Option Library → Bool
 if_some p None = true
@@ -66,12 +66,12 @@ best_of p (library ∷ libraries) found h all =
     best_of p libraries (better found library)
     (elim (is_better_by is_preferred library found) as (λ b. if_some p (cond b (Some library) found) ≡ true) [ true ↦ parts.0 | false ↦ h ]) parts.1
 
--- what all libraries meet, the best one of a soname meets
+-- if all libraries pass a test, the best library of a soname passes it
 pub best_meets : (p : Library → Bool) (libraries : List Library) (soname : List ℕ) (library : Library) → list_all p libraries ≡ true → best libraries soname ≡ Some library → p library ≡ true
 best_meets p libraries soname library all e =
     subst (λ o. if_some p o ≡ true) e (best_of p (filter (has_soname soname) libraries) None refl (all_left p (has_soname soname) libraries all))
 
--- the best library of a soname has it
+-- the best library of a soname has this soname
 pub best_has : (libraries : List Library) (soname : List ℕ) (library : Library) → best libraries soname ≡ Some library → library.soname ≡ soname
 best_has libraries soname library e =
     let p : Library → Bool = has_soname soname in
@@ -80,6 +80,6 @@ best_has libraries soname library e =
     (subst (λ o. if_some p o ≡ true) e (best_of p kept None refl (list_all-from_AllPass p kept (filter_passes p libraries))))
 
 module _ (what : Analyses) (t : Nodes) (entries : list_all is_entry t ≡ true) (named : HaveNames what) where
-  -- the soname of a best library is a name, and so is the library's own
+  -- the soname of a best library is a valid name, and so is the library's name
   pub best_named : (place : Place) (soname : List ℕ) (library : Library) → best (libraries_in what t place) soname ≡ Some library → has_names library ≡ true
   best_named place soname library e = best_meets has_names (libraries_in what t place) soname library (libraries_named what named t place entries) e

@@ -1,4 +1,5 @@
--- The libraries of places depend on their files alone: what agrees on these gives the same libraries.
+-- The libraries of search directories depend only on their files.
+-- If two tables have the same ELF information for these, the libraries are the same.
 use Rattle.std.proofs.Common.{◌≡◌, ℕ, ◌+◌, List, [], ◌∷◌, ◌++◌, flat_map, map, refl, ap, ◌∙◌, Some, None}
 use Rattle.std.proofs.lemmas.Bool.{or_left, or_right}
 use Rattle.std.specs.List.{cons_option, filter_map}
@@ -14,7 +15,7 @@ use Rattle.library_files.specs.Places.{by_place}
 use Rattle.library_files.specs.Search.{file_in, files_in, wanted}
 use Rattle.file_table.proofs.Agreeing.{kept_agree, agree_first, agree_later, agree_in_order}
 
--- ---- what is made of the same libraries is the same
+-- ---- the same libraries give the same results
 
 pub map_same : {L M : Type 0} (f : L → M) (g h : Place → L) (places : List Place) → map h places ≡ map g places → map (λ place. f (h place)) places ≡ map (λ place. f (g place)) places
 map_same f g h [] e = refl
@@ -65,6 +66,6 @@ pub bests_agree : (t : Nodes) (what new : Analyses) (places : List Place) → Ag
 unfolding bests_of
 bests_agree t what new places same = map_same bests (libraries_in what t) (libraries_in new t) places (libraries_agree t what new places same)
 
--- The libraries of places stay if their files have analyses and these are kept.
+-- The libraries of search directories stay the same if their files have ELF information and keep it.
 pub bests_stay : (t : Nodes) (what new : Analyses) → KeepsAnalyses what new → (places : List Place) → HaveAnalyses what (wanted t places) → bests_of new t places ≡ bests_of what t places
 bests_stay t what new keeps places have = bests_agree t what new places (kept_agree what new (wanted t places) have keeps)

@@ -1,4 +1,4 @@
--- Names and sonames in one text: they stay as they are where the text gets longer.
+-- Names and sonames in one text. They stay the same when the text gets longer.
 use Rattle.std.proofs.Common.{◌≡◌, ◌≤◌, ℕ, List, ◌++◌, length, ap, ◌∙◌}
 use Rattle.lib_types.proofs.Offsets.{part_kept, part_within}
 use Rattle.place_libraries.specs.OneText.{library_in, IsRowWithin}

@@ -1,4 +1,4 @@
--- The rows of a table, each put to the libraries of its folder.
+-- The rows of a table, each added to the libraries of its directory.
 use Rattle.std.proofs.Common.{◌≡◌, ◌+◌, ℕ, zero, suc, ◌||◌, true, false, cond, List, [], ◌∷◌, ◌++◌, append_assoc, get_or, length, map, set, refl, ap, sym, ◌∙◌, Option, Some, None, arith}
 use Rattle.std.proofs.lemmas.Bool.{or_parts}
 use Rattle.std.proofs.lemmas.List.{append-nil}
@@ -23,7 +23,7 @@ module _ (path : List ℕ) (analysis : Analysis) where
   abbrev made : Option Library
   made = library_by (last path) (last path) analysis
 
-  -- a row of another folder, or of no library, adds nothing
+  -- a row of another directory, or of a file that isn't a library, adds nothing
   away : (folder : List ℕ) (libraries : List Library) → cond (bytes_eq (parent path) folder) made None ≡ None → libraries ++ filter_map (library_of folder) ((path, analysis) ∷ []) ≡ libraries
   away folder libraries e = ap (λ o. libraries ++ cons_option o []) e ∙ append-nil libraries
 
@@ -43,12 +43,12 @@ module _ (path : List ℕ) (analysis : Analysis) where
       sym (ap (λ l. l ∷ with_row (path, analysis) folders found) (away folder libraries (ap (λ b. cond b made None) parts.0))
       ∙ ap (λ ls. libraries ∷ ls) (sym (row_away folders found parts.1 (omega (arith, e)))))
 
-  -- the folders behind that of the row are others
+  -- the directories after the row's directory are different from it
   others : (folder : List ℕ) (folders : List (List ℕ)) → parent path ≡ folder → AllByRecursion (λ y. bytes_eq folder y ≡ false) folders → list_any (bytes_eq (parent path)) folders ≡ false
   others folder [] is all = refl
   others folder (next ∷ folders) is all = ap (λ b. b || list_any (bytes_eq (parent path)) folders) (ap (λ f. bytes_eq f next) is ∙ all.0) ∙ others folder folders is all.1
 
-  -- a folder ahead of that of the row is another
+  -- a directory before the row's directory is different from it
   ahead : (folder : List ℕ) (folders : List (List ℕ)) (row : ℕ) → AllByRecursion (λ y. bytes_eq folder y ≡ false) folders → slice_get folders row ≡ Some (parent path) → bytes_eq (parent path) folder ≡ false
   ahead folder [] row all at = absurd (cc)
   ahead folder (next ∷ folders) zero all at =

@@ -1,4 +1,4 @@
--- A library of a place: the name of its file or of a link to it, and the soname by which it is looked up (gABI: DT_SONAME).
+-- A library of a search directory: the name of its file or of a link to it, and the soname by which it is looked up (gABI: DT_SONAME).
 use Rattle.std.specs.Prelude.{ℕ, List}
 use Rattle.lib_types.specs.declared.abi.Abi.{Abi}
 

@@ -8,7 +8,7 @@ use Rattle.place_libraries.specs.declared.best.Row.{Row}
 abbrev pub library_in : List ℕ → Row → Library
 library_in text row = record { name = part_of text row.name; soname = part_of text row.soname; abi = row.abi }
 
--- within a text of so many bytes
+-- the parts of the row are within a text of `count` bytes
 abbrev pub IsRowWithin : ℕ → Row → Type 0
 IsRowWithin count row = IsWithin count row.name × IsWithin count row.soname
 

@@ -1,4 +1,4 @@
-//! The best libraries of sonames, and which of two is better.
+//! The best library of each soname, and which of two libraries is better.
 ghost use Rattle.std.specs.Prelude.{◌≡◌, ◌∷◌, ◌++◌, [], IfOk, OnOk, length, slice_get};
 ghost use Rattle.place_libraries.specs.Best.{is_own, is_preferred};
 ghost use Rattle.place_libraries.specs.Library.{Library};
@@ -13,10 +13,10 @@ use std::cmp::Ordering;
 use std::marker::Model;
 use string_pool::Shared;
 
-// How many bytes a library's name and soname take, more or less: room for so many is taken at once.
+// An estimate of the bytes of a library's name and soname, for the initial allocation.
 const NAMES_LEN: usize = 24;
 
-// Where a library's name and soname are in a text.
+// The positions of a library's name and soname in a text.
 #[derive(Clone, Copy)]
 struct Row {
     name: Part,
@@ -24,15 +24,15 @@ struct Row {
     abi: Abi,
 }
 
-/// The best library of each soname of a folder, by the bytes of the sonames. Their names and sonames are kept in one text. Contracts see
-/// it as the list of the libraries.
+/// The best library of each soname in a directory, sorted by the bytes of the sonames. The names and sonames are stored in
+/// one text. Contracts see the list of the libraries.
 #[derive(Drop)]
 pub struct BestLibraries {
     text: Vec<u8>,
     rows: Vec<Row>,
 }
 
-/// The best library of each soname of each place, in the order of the places.
+/// The best library of each soname of each search directory, in the order of the search directories.
 pub type PlaceBests = Shared<BestLibraries>;
 
 impl Model for BestLibraries {
@@ -59,7 +59,7 @@ fn library_in<'a>(text: &'a [u8], row: &Row) -> Library<'a>
     }
 }
 
-// Adds the name of a library to a text, and its soname if it is another.
+// Adds a library's name to a text, and its soname if it is different from the name.
 fn add_names(text: &mut Vec<u8>, library: &Library<'_>) -> Result<Row, NoMemory>
     ensures longer { IsLonger text.old.items text.new.items }
     ensures within { IfOk result (IsRowWithin (length text.new.items)) }
@@ -82,7 +82,7 @@ fn add_names(text: &mut Vec<u8>, library: &Library<'_>) -> Result<Row, NoMemory>
 }
 
 impl BestLibraries {
-    /// No libraries, with room for so many.
+    /// An empty list, with room for `count` libraries.
     pub fn with_capacity(alloc: Global, count: usize) -> Result<BestLibraries, NoMemory>
         ensures { IfOk result (λ libraries. libraries ≡ []) }
     {
@@ -92,7 +92,7 @@ impl BestLibraries {
         })
     }
 
-    /// How many they are.
+    /// The number of libraries.
     pub fn len(&self) -> usize
         ensures { result ≡ length self.now }
     {
@@ -108,7 +108,7 @@ impl BestLibraries {
         Ok(())
     }
 
-    /// The libraries, borrowed.
+    /// An iterator over the libraries.
     pub fn iter(&self) -> BestIter<'_>
         ensures { result ≡ self.now }
     {
@@ -119,7 +119,7 @@ impl BestLibraries {
     }
 }
 
-/// Libraries of a list, one after another. Contracts see it as the list of those that are left.
+/// An iterator over the libraries of a list. Contracts see the list of the remaining libraries.
 #[derive(Drop)]
 pub struct BestIter<'a> {
     text: &'a [u8],
@@ -139,7 +139,7 @@ impl<'a> Model for BestIter<'a> {
 }
 
 impl<'a> BestIter<'a> {
-    /// The first of those that are left, which stays.
+    /// The next library. It is not consumed.
     pub fn first(&self) -> Option<Library<'a>>
         ensures { result ≡ slice_get self.now 0 }
     {
@@ -171,7 +171,7 @@ pub fn is_own(library: &Library<'_>) -> bool
     are_same(library.name, library.soname)
 }
 
-/// Whether the first of two libraries of one soname is better.
+/// Whether the first of two libraries with the same soname is better.
 pub fn is_preferred(library: &Library<'_>, other: &Library<'_>) -> bool
     ensures { result ≡ is_preferred library.now other.now }
 {

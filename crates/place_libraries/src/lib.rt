@@ -1,4 +1,4 @@
-//! The libraries of the searched places by the table of their files, and the best one of each soname.
+//! The libraries of the search directories, from the table of their files, and the best library of each soname.
 #![tactic(auto)]
 
 mod best;

@@ -1,4 +1,4 @@
-//! The libraries of folders.
+//! The libraries of directories.
 ghost use Rattle.std.specs.List.{list_any, slice_get, slice_index_or, slice_set, IsDistinct};
 ghost use Rattle.std.specs.Prelude.{◌≡◌, ◌<◌, [], ◌∷◌, ◌++◌, Some, false, IfOk, MatchOption, OnOk, length, map, unwrap_or};
 ghost use Rattle.std.specs.Str.{bytes_eq};
@@ -12,8 +12,8 @@ use path_walk::parted;
 use std::alloc::Global;
 use std::marker::Model;
 
-/// A library of a place: the name of its file or of a link to it, and the soname by which it is looked up. Both stay where they
-/// are, in the tree and in the analyses.
+/// A library of a search directory: the name of its file or of a link to it, and the soname by which it is looked up. Both are
+/// borrowed from the tree and from the table of ELF information.
 #[derive(Drop)]
 pub struct Library<'a> {
     pub name: &'a [u8],
@@ -61,7 +61,7 @@ fn library_by<'a>(name: &'a [u8], own: &'a [u8], analysis: &'a Analysis) -> Opti
     }
 }
 
-// The row of a folder, looked for first in this row: files are gone through folder by folder.
+// The row of a directory. Looks at the row `near` first, since files are visited directory by directory.
 fn row_of(folders: &IndexSet<Text>, near: usize, folder: &[u8]) -> Option<usize>
     ensures row { MatchOption result (list_any (bytes_eq folder.now) folders.now.keys ≡ false) (λ row. slice_get folders.now.keys row ≡ Some folder.now) }
     ensures distinct { IsDistinct bytes_eq folders.now.keys }
@@ -74,7 +74,7 @@ fn row_of(folders: &IndexSet<Text>, near: usize, folder: &[u8]) -> Option<usize>
     folders.get_index_of(TextRef { bytes: folder })
 }
 
-// Adds a library behind those in this row.
+// Adds a library after the libraries in this row.
 fn push_at<'a>(
     found: &mut Vec<Seq<Library<'a>>>,
     row: usize,
@@ -86,7 +86,8 @@ fn push_at<'a>(
     found[row].push(library)
 }
 
-// Adds the library of a table's row to those of its folder, if it is one of these. The number of the folder's row is kept.
+// Adds the library of a table's row to the libraries of its directory, if the directory is one of these. Keeps the number of
+// the directory's row in `near`.
 #[tactic(auto, using(crate::proofs::Spread::row_none, crate::proofs::Spread::row_away, crate::proofs::Spread::row_added))]
 fn add_row<'a>(
     folders: &IndexSet<Text>,
@@ -110,7 +111,7 @@ fn add_row<'a>(
     Ok(())
 }
 
-// No libraries for each of these folders.
+// An empty list of libraries for each of these directories.
 fn none_each<'a>(alloc: Global, folders: &[Text]) -> Result<Vec<Seq<Library<'a>>>, NoMemory>
     ensures { IfOk result (λ found. found.items ≡ map (libraries_among []) folders.now) }
 {
@@ -121,7 +122,7 @@ fn none_each<'a>(alloc: Global, folders: &[Text]) -> Result<Vec<Seq<Library<'a>>
     Ok(found)
 }
 
-/// The libraries of each of these folders among the files of a table, in the order of its rows.
+/// The libraries of each of these directories, from the files of a table, in the order of its rows.
 #[tactic(auto, using(crate::proofs::Spread::all_rows, crate::proofs::Spread::as_many))]
 pub fn libraries_in<'a>(
     alloc: Global,

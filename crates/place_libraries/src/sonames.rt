@@ -1,4 +1,4 @@
-//! Items in the order of their sonames.
+//! Items sorted by their sonames.
 ghost use Rattle.std.proofs.Common.{refl};
 ghost use Rattle.std.specs.Cmp.{eq_by_cmp_equiv, partial_equiv_from_equiv, partial_order_from_total};
 ghost use Rattle.std.specs.Ordering.{as_partial_cmp, eq_by_cmp, is_lt, nat_cmp};
@@ -14,7 +14,7 @@ use std::alloc::Global;
 use std::cmp::Ordering;
 use std::marker::Model;
 
-/// An item with its soname, by which it is sorted. Contracts see it as the pair of both.
+/// An item with its soname, by which it is sorted. Contracts see a pair.
 #[derive(Drop)]
 pub struct BySoname<'a, T> {
     soname: &'a [u8],
@@ -97,7 +97,7 @@ impl<'a, T> Ord for BySoname<'a, T> {
     }
 }
 
-// Puts items in the order of their sonames; those of one soname stay in their order.
+// Sorts items by their sonames. The sort is stable.
 #[tactic(auto, using(crate::proofs::Gathered::sorted_by_soname))]
 fn sort_by_soname<'a, T: Drop>(items: &mut Vec<BySoname<'a, T>>) -> Result<(), NoMemory>
     ensures { OnOk result (AreBySoname items.old.items items.new.items) }
@@ -106,20 +106,20 @@ fn sort_by_soname<'a, T: Drop>(items: &mut Vec<BySoname<'a, T>>) -> Result<(), N
     Ok(())
 }
 
-/// What items of one soname come to, one after another.
+/// A fold over the items that share a soname.
 pub trait Gather<X> {
     ghost step: { Option Self → X → Option Self };
 
-    /// What the first item comes to.
+    /// The fold of the first item.
     fn first(item: X) -> Self
         ensures { Some result ≡ step None item };
 
-    /// What comes of this with an item more.
+    /// Adds one item to the fold.
     fn with(self, item: X) -> Self
         ensures { Some result ≡ step (Some self) item };
 }
 
-// Whether the last one has this soname.
+// Whether the last entry has this soname.
 #[tactic(auto, using(crate::proofs::Gathered::last_is))]
 fn is_last<'a, G>(found: &[BySoname<'a, G>], soname: &[u8]) -> bool
     ensures { result ≡ is_last soname.now found.now }
@@ -130,7 +130,7 @@ fn is_last<'a, G>(found: &[BySoname<'a, G>], soname: &[u8]) -> bool
     }
 }
 
-// Takes out what the items of this soname came to, which is the last one if there are any.
+// Removes and returns the fold of this soname. It is the last entry, if there is one.
 fn take_last<'a, G: Drop>(found: &mut Vec<BySoname<'a, G>>, soname: &[u8]) -> Option<G>
     ensures { MatchOption result ((found.new.items ≡ found.old.items) × (is_last soname.now found.old.items ≡ false))
         (λ last. found.old.items ≡ found.new.items ++ (soname.now, last) ∷ []) }
@@ -142,7 +142,7 @@ fn take_last<'a, G: Drop>(found: &mut Vec<BySoname<'a, G>>, soname: &[u8]) -> Op
     Some(last.into_item())
 }
 
-// Adds an item whose soname is below none of those that are there.
+// Adds an item. Its soname must not be less than any soname so far.
 fn add<'a, X: Drop, G: Gather<X> + Drop>(
     found: &mut Vec<BySoname<'a, G>>,
     soname: &'a [u8],
@@ -160,7 +160,7 @@ fn add<'a, X: Drop, G: Gather<X> + Drop>(
     Ok(())
 }
 
-// What sorted items come to.
+// The folds of sorted items.
 #[tactic(auto, using(crate::proofs::Gathered::done))]
 fn gather_sorted<'a, X: Drop, G: Gather<X> + Drop>(
     alloc: Global,
@@ -177,7 +177,7 @@ fn gather_sorted<'a, X: Drop, G: Gather<X> + Drop>(
     Ok(found)
 }
 
-/// What items come to by their sonames, each soname once, in the order of their bytes.
+/// The fold over the items of each soname. Each soname occurs once, sorted by its bytes.
 pub fn gather_by_soname<'a, X: Drop, G: Gather<X> + Drop>(
     alloc: Global,
     items: Vec<BySoname<'a, X>>,

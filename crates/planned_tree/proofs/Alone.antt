@@ -16,7 +16,7 @@ one_more : (x : ℕ) (parts : List (List ℕ)) → is_slash x ≡ false → AreA
 one_more x [] e all = (slice_split-cons_no is_slash x [] e, tt)
 one_more x (part ∷ parts) e all = (slice_split-cons_no is_slash x part e ∙ ap (onto_first x) all.0, all.1)
 
--- what stands between slashes has none
+-- a part between two slashes has no slash
 parts_alone : (text : List ℕ) → AreAlone (slice_split is_slash text)
 parts_alone [] = (refl, tt)
 parts_alone (x ∷ text) = by_test (is_slash x)

@@ -1,12 +1,12 @@
 pub mod Agree
-mod Alike
+pub mod Alike
 mod Alone
-mod Children
+pub mod Children
 mod Ends
 mod Patterns
-mod Places
-mod Planned
-mod Reading
+pub mod Places
+pub mod Planned
+pub mod Reading
 mod Searches
 mod There
 mod Walks

@@ -3,7 +3,7 @@ use Rattle.std.proofs.Common.{◌≡◌, ℕ, zero, suc, ◌+◌, ◌++◌, List
 use Rattle.std.specs.List.{flat_map}
 use Rattle.conf_patterns.specs.Patterns.{Found, found_at, results}
 use Rattle.ldso_conf.specs.Lines.{arguments_of, hwcap, include, lines_of, text_of, words_of}
-use Rattle.ldso_conf.specs.Reading.{Item, Names, Reports, Reads, Passes, Misses, all_from, asked, conf_items, included_at, included_by, place_in, steps_in, until_missing, with_steps}
+use Rattle.ldso_conf.specs.Reading.{ConfFile, Given, Item, Source, Names, Reports, Reads, Passes, Misses, all_from, asked, conf_items, included_at, included_by, place_in, steps_in, until_missing, with_steps}
 use Rattle.ldso_conf.specs.Reading as conf
 use Rattle.ldso_conf.specs.Steps.{included, line_steps, numbered, origin_at, steps_by, steps_of}
 use Rattle.ldso_conf.specs.declared.kinds.Origin.{Origin}
@@ -57,7 +57,8 @@ module _ (t new : Nodes) (tree : IsTree t) (after : IsTree new) (alike : IsAlike
     from_same None = refl
     from_same (Some f) = items_same (DEPTH_MAX + 1) [] f
 
-  pub same_items : (path : List ℕ) (held : Contents) → conf_items path held new ≡ conf_items path held t
+  pub same_items : (source : Source) (held : Contents) → conf_items source held new ≡ conf_items source held t
   unfolding conf_items
-  same_items path held =
+  same_items (Given dirs) held = refl
+  same_items (ConfFile path) held =
       ap (λ found. until_missing (all_from new held (found path))) (same_found t new tree after alike) ∙ ap until_missing (from_same held (found_at t path))

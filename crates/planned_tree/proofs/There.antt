@@ -169,7 +169,7 @@ module _ (t : Nodes) (entries : list_all is_entry t ≡ true) (d : List ℕ) (di
       let names : is_in (dedup bytes_eq (names_below t d)) z ≡ true = sym (ap (λ names. is_in names z) children_are) ∙ h in
       none_goes d z t entries (absent_nothing absent) (sym (in_below d z t) ∙ from_once z (names_below t d) names)
 
-  -- and what is something there is a child
+  -- a name is a child if something is at its path
   pub there_child : is_name z ≡ true → (kind_at t (join d z) ≡ kinds.Absent → ⊥) → is_in (children_of t d) z ≡ true
   there_child named there =
       let goes : list_any (λ e. goes_by d z e.0) t ≡ true = by_test (bytes_eq (join d z) root)

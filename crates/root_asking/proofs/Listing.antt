@@ -1,4 +1,4 @@
--- A program of a directory that has a listing is listed.
+-- If a program of a directory has a listing, the command lists it.
 use Rattle.std.proofs.Common.{◌≡◌, ◌<◌, ◌≤◌, ◌∙◌, ◌⊎◌, length, Option, Some, None, Result, Ok, Err, inr, ap, refl, subst, sym, arith}
 use Rattle.std.specs.Result.{result_map_both}
 use Rattle.asking_runs.proofs.Completing.{by_image, failed}

@@ -21,7 +21,7 @@ abbrev pub of_root_list : RootListFault → Status
 of_root_list (faults.Read fault) = of_read fault
 of_root_list (faults.List fault) = of_list fault
 
--- ---- no reason is that of arguments which are those of no command
+-- ---- no reason has the status of invalid arguments
 
 pub read_no_usage : (fault : ReadFault) → of_read fault ≡ Usage → ⊥
 read_no_usage (reading.Tree (trees.Failed at)) e = absurd (cc)

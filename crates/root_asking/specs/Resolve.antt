@@ -34,7 +34,7 @@ pub record ListsRoot (asked : Resolve) (image : ReadImage) (answer : Result Answ
   pub lists : ListsImage Debian asked image listed old new
   pub answer_is : answer ≡ result_map_both (λ text. text) faults.List listed
 
--- the same of what was read; nothing is opened if that is nothing
+-- the same, for the result of the readings; if they failed, nothing is opened
 abbrev pub AnswersRoot : Resolve → Result ReadImage ReadFault → Result AnswerText RootListFault → StoreState → StoreState → Type 0
 AnswersRoot asked (Ok image) answer old new = ListsRoot asked image answer old new
 AnswersRoot asked (Err fault) answer old new = (answer ≡ Err (faults.Read fault)) × (new ≡ old)
@@ -48,14 +48,14 @@ pub record IsRootAnswerable (asked : Resolve) (tree : Nodes) (held : Contents) (
   pub cache_is : cache_of cache ≡ Ok entries
   pub listing : HasListing Debian asked tree entries held
 
--- If it has, it is listed, unless an interface fails or memory runs out.
+-- If the program has a listing, it is listed, unless an interface fails or memory runs out.
 abbrev pub CompletesRoot : Resolve → Nodes → Contents → Content → FolderState → FolderState → DeviceStates → DeviceStates → Status → Type 0
 CompletesRoot asked tree held cache before after old new status =
     IsRootAnswerable asked tree held cache → (HasRisen before.faults after.faults → ⊥) → NoFault old new → ((status ≡ Done) ⊎ (status ≡ Missing)) ⊎ (status ≡ NoMemory)
 
 -- ---- the command
 
--- The tree and the cache of the directory are read, and the command ends by the answer of that. Nothing is written but the answer.
+-- The tree and the cache of the directory are read, and the command ends with the answer. It writes nothing but the answer.
 pub record ResolvesRoot (asked : Resolve) (before after : FolderState) (old new : DeviceStates) (status : Status) : Type 0 where
   pub read : Result ReadImage ReadFault
   pub reads : ReadsRoot read before after old.disk new.disk

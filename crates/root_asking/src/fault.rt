@@ -5,21 +5,21 @@ use image_session::SlotFault;
 use root_tree::TreeRead;
 use root_update::{RootFault, status_of};
 
-/// Why a directory isn't read.
+/// Why a directory can't be read.
 #[derive(Drop)]
 pub(crate) enum ReadFault {
-    /// Its tree isn't read.
+    /// Its tree can't be read.
     Tree(TreeRead),
-    /// Its cache isn't read.
+    /// Its cache can't be read.
     Cache(SlotFault),
 }
 
 /// Why a program of a directory isn't listed.
 #[derive(Drop)]
 pub(crate) enum RootListFault {
-    /// The directory isn't read.
+    /// The directory can't be read.
     Read(ReadFault),
-    /// The cache is refused, or the program has no listing.
+    /// The cache is malformed, or the program has no listing.
     List(ListFault),
 }
 

@@ -1,4 +1,4 @@
-//! The commands that only ask, of a directory that has no manifest: `resolve`.
+//! The command `resolve`, for a directory that has no manifest. It only asks.
 #![tactic(auto)]
 
 mod fault;

@@ -8,7 +8,7 @@ use root_tree::read_tree;
 use std::alloc::Global;
 use tree_face::{Disk, Slot};
 
-/// Reads the tree of a directory, and then its cache. Without a tree the cache isn't read.
+/// Reads the tree of a directory, and then its cache. If the tree can't be read, the cache isn't read.
 pub(crate) fn read_root<F: Folder, D: Disk>(
     alloc: Global,
     folder: &mut F,

@@ -16,7 +16,7 @@ use rpath_search::SystemDirs;
 use std::alloc::Global;
 use tree_face::{Disk, Sink, Store};
 
-// The answer of what was read of a directory.
+// The answer for what was read of a directory.
 fn resolve<S: Store>(
     alloc: Global,
     asked: Resolve,
@@ -35,8 +35,8 @@ fn resolve<S: Store>(
     }
 }
 
-/// Runs the command `resolve` for a program of a directory that has no manifest. Debian's directories of each ABI are searched too, and
-/// nothing is written. The state of the input is any, since nothing is read from it.
+/// Runs the command `resolve` for a program of a directory that has no manifest. It also searches Debian's directories of each ABI. It
+/// writes nothing but the answer. The input may be in any state, because nothing is read from it.
 pub fn resolve_root<F: Folder, S: Store, D: Disk, O: Sink>(
     alloc: Global,
     asked: Resolve,

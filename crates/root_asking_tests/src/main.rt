@@ -1,4 +1,4 @@
-//! Tests of the command `resolve` of a directory: its status, what it writes, which files it opens, and that it writes nothing to the
+//! Tests of the command `resolve` for a directory: its status, its output, the files that it opens, and that it writes nothing to the
 //! directory. The table is a file of data/.
 #![tactic(auto)]
 

@@ -1,4 +1,4 @@
-//! One row: a run of `resolve` of a directory.
+//! One row: a run of `resolve` for a directory.
 use commands::Resolve;
 use elf_samples::SampleFault;
 use image_rows::{
@@ -13,8 +13,9 @@ use std::alloc::Global;
 use table_rows::{Row, Said, Trial, Words, calls, count, lines_in, value};
 use tree_face::{MemDisk, MemSink};
 
-/// A row has the tree of a directory as a manifest, the store's files, the cache, what the loader is given, the path of the program, the
-/// calls that fail, the exit status, what is written, the keys of the files that are opened and the files of the disk that are read.
+/// A row has the tree of a directory as a manifest, the store's files, the cache, the loader's environment, the path of the program, and
+/// the calls that fail. It has the exit status, the output, the keys of the files that are opened, and the files that are read from the
+/// disk.
 pub(crate) struct Listed;
 
 fn asked_of(alloc: Global, row: Row<'_>) -> Result<Resolve, NoMemory> {

@@ -18,7 +18,7 @@ or_true true b e = inl refl
 or_true false b e = inr e
 
 module _ (P : List ℕ → Found → Type 0) where
-  -- one call after another
+  -- two calls in sequence
   pub leaves_on : (a b c : FolderState) → Leaves P a b → Leaves P b c → Leaves P a c
   leaves_on a b c first next = record {
     later = omega (arith, first.later, next.later);
@@ -27,7 +27,7 @@ module _ (P : List ℕ → Found → Type 0) where
   }
 
   module _ (a b : FolderState) where
-    -- a reading
+    -- a call that reads
     pub reading_leaves : KeepsFolder a b → Leaves P a b
     reading_leaves keeps = record {
       later = let same = keeps.time in omega (arith, same);
@@ -70,7 +70,7 @@ module _ (P : List ℕ → Found → Type 0) where
             (λ other. same_now p x (adds.others p other) may);
       }
 
-    -- a flushing of a directory
+    -- an fsync of a directory
     module _ (dir : List ℕ) (laws : HasMoments a) where
       settled_now : (c : Option FolderContent) → a.contents ≡ c → (p : List ℕ) (x : Found) → IfKnown c (λ c. b.may p x ≡ found_eq (node_at c.now p) x) → b.may p x ≡ true → a.may p x ≡ true
       settled_now None is p x done may = laws.unknown is p x

@@ -53,7 +53,7 @@ parent_joined : (q s : List ℕ) → is_path q ≡ true → parent (q ++ slash �
 parent_joined [] s h = absurd (cc)
 parent_joined (b ∷ q) s h = ap (λ o. unless_empty (unwrap_or o [])) (before_joined (b ∷ q) s)
 
--- ---- its node
+-- ---- the node of a directory
 
 is_dir_node : (found : Found) → option_map_or is_dir found false ≡ true → found ≡ Some Dir
 is_dir_node None h = absurd (false≢true h)
@@ -83,7 +83,7 @@ module _ (t : Nodes) (whole : IsWhole t) (q : List ℕ) (proper : is_path q ≡ 
           let sum = length-append (b ∷ q) (slash ∷ f) in
           omega (arith, size, sum)
 
-  -- the directory of a path below it is it, or lies below it too
+  -- if a path is below `q`, its directory is `q` or is below `q`
   step : (n : ℕ) (s : List ℕ) (o : Option (List ℕ)) → before_last s ≡ o → length (q ++ slash ∷ s) ≤ suc n
       → ((p : List ℕ) → length p ≤ n → has_dir t (parent p) ≡ true → is_below q p ≡ true → node_at t q ≡ Some Dir)
       → has_dir t (q ++ behind_slash o) ≡ true → node_at t q ≡ Some Dir
@@ -112,7 +112,7 @@ module _ (t : Nodes) (whole : IsWhole t) (q : List ℕ) (proper : is_path q ≡ 
       step n cut.0 (before_last cut.0) refl (omega (arith, le, size)) (above n)
       (subst (λ (z : List ℕ). has_dir t z ≡ true) (ap parent cut.1 ∙ parent_joined q cut.0 proper) dir)
 
-  -- a directory is one by its node
+  -- if a node is below `q`, the node at `q` is a directory
   pub dir_above : has_below t q ≡ true → node_at t q ≡ Some Dir
   dir_above h =
       let m = member (λ (e : List ℕ × Node). is_below q e.0) t h in

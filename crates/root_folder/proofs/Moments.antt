@@ -1,4 +1,4 @@
--- What the writing calls of a directory in memory do to what a crash leaves.
+-- How the writing calls of an in-memory directory change what a crash may leave.
 use Rattle.std.proofs.Common.{◌≡◌, ◌≤◌, ◌+◌, ◌||◌, ◌&&◌, ◌++◌, not, nat_le, ℕ, Bool, true, false, cond, List, [], ◌∷◌, length, reverse, refl, sym, ap, subst, ◌∙◌, arith, Option, Some, None, Result, Ok, Err, MatchResult, OnErr, OnOk, inl, inr}
 use Rattle.std.specs.Result.{is_err}
 use Rattle.std.proofs.lemmas.Bool.{and_parts, false≢true}
@@ -27,7 +27,7 @@ use Rattle.root_folder.specs.declared.memory.folders.MemFolder.{MemFolder}
 use Rattle.root_folder.specs.declared.memory.past.Change.{Change}
 use Rattle.root_folder.specs.declared.memory.past.Change.TheVariants.{Linked, Settled}
 
--- ---- what passes for a node is it
+-- ---- nodes that compare equal are equal
 
 same_id : (a b : Id) → id_eq a b ≡ true → a ≡ b
 same_id a b e =
@@ -63,7 +63,7 @@ found_is None (Some b) e = absurd (false≢true e)
 found_is (Some a) None e = absurd (false≢true e)
 found_is (Some a) (Some b) e = ap (λ (n : Node). Some n) (same_node a b e)
 
--- ---- one path, and a change more
+-- ---- one path, and one more change
 
 turned_or : (a b : Bool) → (a || b) ≡ (b || a)
 turned_or true true = refl
@@ -77,7 +77,7 @@ or_both false true n f = absurd (false≢true (f refl))
 or_both false false n f = refl
 
 module _ (p : List ℕ) (x : Found) where
-  -- what is there may be left, and belongs to what might have been left
+  -- a crash may leave what is there, and this is part of what a crash since an earlier moment might have left
   there_left : (now : Found) (cs : List Change) → found_eq now x ≡ true → left_in p now cs x ≡ true
   there_left now cs e = subst (λ (f : Found). left_in p now cs f ≡ true) (found_is now x e) (left_now p now cs)
 
@@ -99,11 +99,11 @@ module _ (p : List ℕ) (x : Found) where
         ∙ ap (λ b. once_left_in t p was cs x || (b || left_in p now (c ∷ cs) x)) (sym (one_moment p x was cs))
         ∙ ap (λ b. once_left_in t p was cs x || b) (sym (once_more (length cs) (omega arith)))
 
-    -- nothing that couldn't be left before
+    -- the change adds nothing that a crash couldn't have left before
     pub once_same : (t : ℕ) → t ≤ length cs → (left_in p now (c ∷ cs) x ≡ true → left_in p was cs x ≡ true) → once_left_in t p now (c ∷ cs) x ≡ once_left_in t p was cs x
     once_same t le f = once_more t le ∙ absorbed _ _ (λ e. left_once t was cs le (f e))
 
-    -- a change that doesn't settle the path
+    -- a change that isn't an fsync of the path's directory
     pub left_more : is_settled_by p c ≡ false → left_in p now (c ∷ cs) x ≡ (left_in p was cs x || found_eq now x)
     left_more other =
         ap (λ b. found_eq now x || (not b && left_in p (found_before p now c) cs x)) other
@@ -115,11 +115,11 @@ module _ (p : List ℕ) (x : Found) where
         once_more t le ∙ ap (λ b. once_left_in t p was cs x || b) (left_more other)
         ∙ or_in (once_left_in t p was cs x) (left_in p was cs x) (found_eq now x) (left_once t was cs le)
 
-    -- .. and leaves there what was there
+    -- .. and keeps what is at the path
     pub left_same : is_settled_by p c ≡ false → now ≡ was → left_in p now (c ∷ cs) x ≡ left_in p was cs x
     left_same other same = left_more other ∙ absorbed _ _ (λ e. there_left was cs (sym (ap (λ f. found_eq f x) same) ∙ e))
 
-    -- one that does
+    -- an fsync of the path's directory
     pub left_alone : is_settled_by p c ≡ true → left_in p now (c ∷ cs) x ≡ found_eq now x
     left_alone here = ap (λ b. found_eq now x || (not b && left_in p (found_before p now c) cs x)) here ∙ or_none (found_eq now x)
       where
@@ -145,7 +145,7 @@ module _ (a b : MemFolder) where
   abbrev then : List Change
   then = reverse b.changes.items
 
-  -- the tree and the changes stay
+  -- the tree and the changes stay the same
   module _ (unchanged : IsUnchanged (held_of a) (held_of b)) where
     kept_log : then ≡ first
     kept_log = ap reverse unchanged.changes
@@ -174,7 +174,7 @@ module _ (a b : MemFolder) where
       settled = λ p. ap (λ (t : Nodes). settled_in p (node_at t p) then) unchanged.tree ∙ ap (λ l. settled_in p (was p) l) kept_log;
     }
 
-  -- one change more
+  -- one more change
   module _ (c : Change) (more : b.changes.items ≡ a.changes.items ++ c ∷ []) (before : (p : List ℕ) → found_before p (now p) c ≡ was p) where
     longer : then ≡ c ∷ first
     longer = ap reverse more ∙ reverse-append a.changes.items (c ∷ [])
@@ -294,7 +294,7 @@ module _ (path target : List ℕ) (a b : MemFolder) where
   link_failed (Err x) (Ok y) same unchanged = tt
   link_failed (Err x) (Err y) same unchanged = inl (kept_content a b unchanged)
 
--- ---- flushings of a directory
+-- ---- fsyncs of a directory
 
 module _ (dir : List ℕ) (a b : MemFolder) where
   module _ (settled : IsSettledIn dir (held_of a) (held_of b)) where

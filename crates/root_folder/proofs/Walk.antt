@@ -1,4 +1,4 @@
--- A walk back through the changes of a directory in memory.
+-- A walk back through the changes of an in-memory directory.
 use Rattle.std.proofs.Common.{◌≡◌, ◌+◌, ℕ, true, false, ◌&&◌, ◌||◌, not, List, [], ◌∷◌, take, get_or, reverse, Some, ap, sym, ◌∙◌, slice_get}
 use Rattle.std.proofs.lemmas.List.{reverse-append, take_more}
 use Rattle.std.proofs.lemmas.Option.{get_or_from_slice_get, slice_get_within}
@@ -17,15 +17,15 @@ module _ (p : List ℕ) (now x : Found) (cs : List Change) (i n : ℕ) (c : Chan
       ap (λ m. left_in p now (reverse (take m cs)) x) more ∙ ap (λ l. left_in p now l x) (last_first cs i c at)
       ∙ ap (λ b. b || (not (is_settled_by p c) && left_in p (found_before p now c) (reverse (take i cs)) x)) other
 
-  -- the change settled the path
+  -- the change was an fsync of the path's directory
   pub settled_here : is_settled_by p c ≡ true → left_in p now (reverse (take n cs)) x ≡ false
   settled_here e = step ∙ ap (λ b. not b && left_in p (found_before p now c) (reverse (take i cs)) x) e
 
-  -- it didn't
+  -- the change was not an fsync of the path's directory
   pub goes_back : is_settled_by p c ≡ false → left_in p (found_before p now c) (reverse (take i cs)) x ≡ left_in p now (reverse (take n cs)) x
   goes_back e = sym (step ∙ ap (λ b. not b && left_in p (found_before p now c) (reverse (take i cs)) x) e)
 
--- what is there may be left
+-- a crash may leave what is there
 pub left_at_once : (p : List ℕ) (now x : Found) (cs : List Change) → found_eq now x ≡ true → left_in p now cs x ≡ true
 left_at_once p now x [] e = e
 left_at_once p now x (c ∷ cs) e = ap (λ b. b || (not (is_settled_by p c) && left_in p (found_before p now c) cs x)) e

@@ -1,4 +1,4 @@
--- A tree in which every directory has a node, with one link more.
+-- A tree in which every directory has a node, after a link is added.
 use Rattle.std.proofs.Common.{◌≡◌, ℕ, Bool, true, false, ◌||◌, List, [], ◌∷◌, Some, None, Result, Ok, Err, OnOk, OnErr, IfOk, IfSome, refl, ap, sym, subst, ◌∙◌}
 use Rattle.std.proofs.lemmas.Bool.{and_from, and_parts, false≢true}
 use Rattle.std.proofs.lemmas.Slice.Eq.{bytes_eq-Decides}
@@ -35,7 +35,7 @@ module _ (t : Nodes) (path target : List ℕ) (room : can_link t path ≡ true) 
   abbrev new : Nodes
   new = put t path (Link target)
 
-  -- a directory stays one
+  -- a directory stays a directory
   dir_kept : (dir : List ℕ) → has_dir t dir ≡ true → has_dir new dir ≡ true
   dir_kept dir h = by_test (bytes_eq dir path)
       (λ e.
@@ -55,7 +55,7 @@ module _ (t : Nodes) (path target : List ℕ) (room : can_link t path ≡ true) 
         (dir_kept (parent path) (and_parts _ _ room).0);
   }
 
-  -- or without it
+  -- the tree with the link or without it
   pub whole_either : IsWhole t → is_path path ≡ true → is_target target ≡ true → (r : Result (Unit {0}) TreeFault) (after : Nodes)
       → OnOk r (after ≡ new) → OnErr r (after ≡ t) → IsWhole after
   whole_either whole proper valid (Ok x) after done refused = subst IsWhole (sym done) (whole_put whole proper valid)

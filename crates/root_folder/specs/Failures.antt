@@ -1,4 +1,4 @@
--- Which calls of a directory in memory fail on demand.
+-- Which calls of an in-memory directory are made to fail.
 use Rattle.tree_face.specs.Failures.{Plan}
 use Rattle.root_folder.specs.declared.memory.failures.Failures.{Failures}
 

@@ -23,7 +23,7 @@ use Rattle.root_folder.specs.declared.folder.FolderRead.TheVariants as reads
 pub record FolderContent : Type 0 where
   -- the tree
   pub now : Nodes
-  -- what was at each path when its directory was last settled
+  -- what was at each path at the last fsync of its directory
   pub settled : List ℕ → Found
 
 pub record FolderState : Type 0 where
@@ -31,34 +31,34 @@ pub record FolderState : Type 0 where
   pub contents : Option FolderContent
   -- the clock
   pub time : ℕ
-  -- whether a crash now may leave this at a path
+  -- whether a crash now may leave this node, or nothing, at a path
   pub may : List ℕ → Found → Bool
-  -- whether a crash at some moment from this one on might have left it
+  -- whether a crash at this moment or a later one might have left it
   pub since : ℕ → List ℕ → Found → Bool
-  -- the calls in their order, if known; one that failed may be missing
+  -- the calls in order, if known; a call that failed may be missing
   pub calls : Option (List FolderCall)
   pub counts : FolderCounts
   pub faults : ℕ
-  -- how many of the faults were of readings
+  -- how many of the faults were in calls that read
   pub read_faults : ℕ
 
 -- ---- every call
 
--- with this call more
+-- the counts with this call added
 abbrev pub counted : FolderCall → FolderCounts → FolderCounts
 counted (calls.Names dir) c = record c { lists = raised c.lists 1 }
 counted (calls.Look path) c = record c { looks = raised c.looks 1 }
 counted (calls.Link tag path target) c = record c { links = raised c.links 1 }
 counted (calls.Settle dir) c = record c { settles = raised c.settles 1 }
 
--- the counts of faults stay
+-- the counts of faults stay the same
 pub record HasNoFault (old new : FolderState) : Type 0 where
   pub faults : new.faults ≡ old.faults
   pub read_faults : new.read_faults ≡ old.read_faults
 
--- ---- readings
+-- ---- calls that read
 
--- the content stays, and what a crash leaves
+-- the content stays the same, and so does what a crash may leave
 pub record KeepsFolder (old new : FolderState) : Type 0 where
   pub contents : new.contents ≡ old.contents
   pub time : new.time ≡ old.time
@@ -78,13 +78,13 @@ pub record Reads {A : Type 0} (call : FolderCall) (old new : FolderState) (resul
   pub cause : IsErrOf result reads.Failed → HasRisen old.faults new.faults
   pub read_cause : IsErrOf result reads.Failed → HasRisen old.read_faults new.read_faults
 
--- the names in a directory, each once, in the order of their bytes
+-- the names in a directory, each once, sorted by their bytes
 pub record GivesNames (dir : List ℕ) (old : FolderState) (result : Result (List (List ℕ)) FolderRead) : Type 0 where
   pub there : OnOk result (IfKnown old.contents (λ c. kind_at c.now dir ≡ kinds.Dir))
   pub names : IfOk result (λ names. IfKnown old.contents (λ c. names ≡ children_of c.now dir))
   pub sorted : IfOk result (λ names. IsStrictlySortedBy (slice_cmp nat_cmp) names)
 
--- the node at a path, or none
+-- the node at a path, if there is one
 pub record GivesNode (path : List ℕ) (old : FolderState) (result : Result Found FolderRead) : Type 0 where
   pub node : IfOk result (λ found. IfKnown old.contents (λ c. found ≡ node_at c.now path))
   pub valid : IfOk result (λ found. IfSome found (λ node. IsTrue (is_node node)))
@@ -96,26 +96,26 @@ pub record KeepsContent (a b : FolderContent) : Type 0 where
   pub now : b.now ≡ a.now
   pub settled : (p : List ℕ) → b.settled p ≡ a.settled p
 
--- the link is made, where there is nothing or in place of a link
+-- the link is made at an unused path, or replaces a link
 pub record Links (path target : List ℕ) (a b : FolderContent) : Type 0 where
   pub room : can_link a.now path ≡ true
   pub now : b.now ≡ put a.now path (nodes.Link target)
   pub settled : (p : List ℕ) → b.settled p ≡ a.settled p
 
--- a link that failed: it is made, or nothing changes
+-- a link call that failed: the link is made, or nothing changes
 abbrev pub MayLink : List ℕ → List ℕ → FolderContent → FolderContent → Type 0
 MayLink path target a b = KeepsContent a b ⊎ Links path target a b
 
--- what is directly in the directory is settled
+-- an fsync of the directory: the nodes directly in it are settled
 pub record SettlesIn (dir : List ℕ) (a b : FolderContent) : Type 0 where
   pub there : kind_at a.now dir ≡ kinds.Dir
   pub now : b.now ≡ a.now
   pub inside : (p : List ℕ) → is_in dir p ≡ true → b.settled p ≡ node_at a.now p
   pub others : (p : List ℕ) → is_in dir p ≡ false → b.settled p ≡ a.settled p
 
--- ---- writings
+-- ---- calls that write
 
--- a call that writes: what it does to the content if it returns Ok, and if it returns Failed
+-- a call that writes: `change` is its effect on the content if it returns Ok, `left` its effect if it returns Failed
 pub record Does (call : FolderCall) (change left : FolderContent → FolderContent → Type 0) (old new : FolderState) (result : Result (Unit {0}) Failed) : Type 0 where
   pub done : OnOk result (Relates change old.contents new.contents)
   pub failed : OnErr result (Relates left old.contents new.contents)

@@ -1,4 +1,4 @@
--- The state of a directory in memory.
+-- The state of an in-memory directory.
 use Rattle.std.specs.Prelude.{◌≡◌, ◌++◌, ◌∷◌, [], ℕ, Bool, true, List, Some, length, reverse}
 use Rattle.image_tree.specs.Tree.{Nodes, kind_at, node_at, put}
 use Rattle.image_tree.specs.declared.tree.Kind.TheVariants as kinds
@@ -17,7 +17,7 @@ use Rattle.root_folder.specs.declared.memory.past.Change.TheVariants.{Linked, Se
 abbrev pub tree_of : MemFolder → Nodes
 tree_of f = f.tree.tree
 
--- the tree, and what changed it or what a crash leaves of it, in the order of time
+-- the tree, and the calls that changed it or changed what a crash leaves, oldest first
 pub record Held : Type 0 where
   pub tree : Nodes
   pub changes : List Change
@@ -58,18 +58,18 @@ folder_plan f = plan_of f.failures
 
 -- ---- changes
 
--- the tree and the changes stay
+-- the tree and the changes stay the same
 pub record IsUnchanged (old new : Held) : Type 0 where
   pub tree : new.tree ≡ old.tree
   pub changes : new.changes ≡ old.changes
 
--- a link is made, with the change that it is
+-- a link is made, and its change is recorded
 pub record IsLinked (path target : List ℕ) (old new : Held) : Type 0 where
   pub room : can_link old.tree path ≡ true
   pub tree : new.tree ≡ put old.tree path (Link target)
   pub changes : new.changes ≡ old.changes ++ Linked path (node_at old.tree path) ∷ []
 
--- a directory is settled
+-- an fsync of a directory is recorded
 pub record IsSettledIn (dir : List ℕ) (old new : Held) : Type 0 where
   pub there : kind_at old.tree dir ≡ kinds.Dir
   pub tree : new.tree ≡ old.tree

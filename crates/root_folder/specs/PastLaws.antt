@@ -1,4 +1,4 @@
--- Directories in memory meet the laws of a directory's clock.
+-- In-memory directories satisfy the laws of a directory's clock.
 use Rattle.std.specs.Prelude.{◌≡◌, ◌≤◌, ◌<◌, ◌&&◌, ◌||◌, ℕ, Bool, true, false, nat_le, is_some, List, [], ◌∷◌, length, reverse, Some, None}
 use Rattle.std.specs.Str.{bytes_eq}
 use mathlib.Core.Path.{refl, sym, ap}
@@ -35,7 +35,7 @@ or_map : (a b c d : Bool) → (a ≡ true → c ≡ true) → (b ≡ true → d 
 or_map true b c d f g e = or_left c d (f refl)
 or_map false b c d f g e = or_right c d (g e)
 
--- ---- what is there is itself
+-- ---- equality of nodes is reflexive
 
 same_bytes : (xs : List ℕ) → bytes_eq xs xs ≡ true
 same_bytes xs = (bytes_eq-Decides xs xs).1 refl
@@ -56,12 +56,12 @@ same_found (Some n) = same_node n
 -- ---- the moments of a path
 
 module _ (p : List ℕ) where
-  -- a crash may leave what is there
+  -- a crash may leave what is at the path now
   pub left_now : (now : Found) (cs : List Change) → left_in p now cs now ≡ true
   left_now now [] = same_found now
   left_now now (c ∷ cs) = or_left _ _ (same_found now)
 
-  -- and what was there when it was last settled
+  -- a crash may leave what was at the path at the last fsync of its directory
   pub left_settled : (now : Found) (cs : List Change) → left_in p now cs (settled_in p now cs) ≡ true
   left_settled now [] = same_found now
   left_settled now (c ∷ cs) = by_test (is_settled_by p c)
@@ -69,7 +69,7 @@ module _ (p : List ℕ) where
       (λ e. rw e (or_right _ _ (left_settled (found_before p now c) cs)))
 
   module _ (x : Found) where
-    -- no moment has a greater number than now
+    -- now is the moment with the greatest number
     never : (t : ℕ) (now : Found) (cs : List Change) → length cs < t → once_left_in t p now cs x ≡ false
     never t now [] h = let no : nat_le t 0 ≡ false = grind (arith, nat_tests) in rw no refl
     never t now (c ∷ cs) h =

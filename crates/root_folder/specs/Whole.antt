@@ -10,7 +10,7 @@ use Rattle.image_tree.specs.declared.node.Node.TheVariants.{Dir, File, Link}
 use Rattle.path_walk.specs.Names.{parent}
 use Rattle.root_folder.specs.Found.{Found}
 
--- the root is a directory, and so is a path whose node is one
+-- the root is a directory, and so is a path whose node is a directory
 abbrev pub has_dir : Nodes → List ℕ → Bool
 has_dir t dir = bytes_eq dir root || option_map_or is_dir (node_at t dir) false
 
@@ -27,7 +27,7 @@ pub record IsWhole (t : Nodes) : Type 0 where
 abbrev pub is_in : List ℕ → List ℕ → Bool
 is_in dir path = bytes_eq (parent path) dir
 
--- nothing is there, or a link
+-- the path is unused, or a link is there
 abbrev pub is_free : Found → Bool
 is_free None = true
 is_free (Some Dir) = false

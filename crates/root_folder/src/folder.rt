@@ -28,7 +28,7 @@ pub struct FolderCounts {
     pub settles: u64,
 }
 
-/// Why a directory wasn't listed, or a path not looked at.
+/// Why a directory couldn't be listed, or a path not looked up.
 #[derive(Clone, Copy, Debug, PartialEq, Eq)]
 pub enum FolderRead {
     Failed,
@@ -45,13 +45,12 @@ impl From<NoMemory> for FolderRead {
     }
 }
 
-/// The directory of an image. Each call is counted, and each that returns Failed raises the count of faults, a reading
-/// also that of the readings' faults. A call that returns Ok or NoMemory raises neither.
+/// The directory of an image. Each call is counted. A call that returns Failed raises the count of faults. If the call
+/// reads, it raises the count of read faults too. A call that returns Ok or NoMemory raises neither count.
 pub trait Folder {
     ghost state: { Self → FolderState };
 
-    /// The names of what is directly in a directory, each once, in the order of their bytes. Where there is no directory
-    /// the call fails.
+    /// The names directly in a directory, each once, sorted by their bytes. If the path is not a directory, the call fails.
     fn names(&mut self, alloc: Global, dir: &[u8]) -> Result<Texts, FolderRead>
         ensures reads { Reads (calls.Names dir.now) (state self.old) (state self.new) result }
         ensures names { GivesNames dir.now (state self.old) result };
@@ -61,9 +60,9 @@ pub trait Folder {
         ensures reads { Reads (calls.Look path.now) (state self.old) (state self.new) result }
         ensures node { GivesNode path.now (state self.old) result };
 
-    /// Makes a symbolic link with this text where there is nothing, or in place of a link. Where there is a directory or a
-    /// file, and where there is no directory for it, the call fails and changes nothing. After another error there is what
-    /// was there or the link. Until the directory of the path is settled, a crash may leave either.
+    /// Makes a symbolic link with this text at an unused path, or in place of a link. If the path has a directory or a
+    /// file, or its parent is not a directory, the call fails and changes nothing. After another error the path has its
+    /// old node or the link. Until `settle` is called on the path's directory, a crash may leave either.
     fn link(&mut self, tag: Tag, path: &[u8], target: &[u8]) -> Result<(), Failed>
         requires path { IsTrue (is_path path.now) }
         requires target { IsTrue (is_target target.now) }
@@ -71,13 +70,13 @@ pub trait Folder {
             (state self.old) (state self.new) result }
         ensures crash { AddsLink path.now target.now (state self.old) (state self.new) result };
 
-    /// Flushes a directory to stable storage. From then on a crash leaves at each path that is directly in it what is there.
-    /// Where there is no directory the call fails.
+    /// Flushes a directory to stable storage (fsync). After that a crash leaves each node directly in it as it is.
+    /// If the path is not a directory, the call fails.
     fn settle(&mut self, dir: &[u8]) -> Result<(), Failed>
         ensures does { Does (calls.Settle dir.now) (SettlesIn dir.now) KeepsContent (state self.old) (state self.new) result }
         ensures crash { Settles dir.now (state self.old) (state self.new) result };
 
-    // What a crash now may leave belongs to what it might have left since any earlier moment.
+    // What a crash now may leave is part of what a crash since any earlier moment might have left.
     ghost moments: { (folder : Self) → HasMoments (state folder) };
 
     // Every directory of a known tree has a node.

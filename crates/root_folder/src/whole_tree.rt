@@ -11,7 +11,7 @@ use path_walk::parted;
 use std::alloc::Global;
 use tree_face::{Kind, Node, Tree};
 
-// Whether there is a directory with a node, or the root.
+// Whether the path is the root or has a directory node.
 fn has_dir(tree: &Tree, dir: &[u8]) -> bool
     ensures { result ≡ has_dir tree.now dir.now }
 {
@@ -33,7 +33,7 @@ fn are_in_dirs(tree: &Tree) -> bool
     tree.nodes().all(|entry| has_dir(tree, parted(entry.0).0))
 }
 
-// Whether nothing or a link is there.
+// Whether the path is unused or has a link.
 fn is_free(found: Option<&Node>) -> bool
     ensures { result ≡ is_free (option_copied found.entry) }
 {
@@ -116,7 +116,7 @@ impl WholeTree {
         has_dir(&self.tree, parted(path).0) && is_free(self.tree.node(path))
     }
 
-    /// Makes a link at a path that is free for it.
+    /// Makes a link at a path where `can_link` allows one.
     #[tactic(auto, using(crate::proofs::Whole::whole_either))]
     pub fn put_link(&mut self, path: &[u8], target: Text) -> Result<(), NoMemory>
         requires path { IsTrue (is_path path.now) }

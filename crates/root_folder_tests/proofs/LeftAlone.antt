@@ -1,4 +1,4 @@
--- A link that is made and settled.
+-- A link whose directory was flushed after it was made.
 use Rattle.std.proofs.Common.{◌≡◌, ℕ, true, List, refl, ap, sym, ◌∙◌, Option, Some, None, Result, Ok, Err, OnOk}
 use Rattle.std.proofs.lemmas.Slice.Eq.{bytes_eq-Decides}
 use Rattle.lib_types.specs.declared.fault.Failed.{Failed}

@@ -10,6 +10,6 @@ use Rattle.root_folder.specs.Found.{Found}
 abbrev pub IsLinkAt : List ℕ → List ℕ → List ℕ → Found → Type 0
 IsLinkAt path target p x = (p ≡ path) × (x ≡ Some (Link target))
 
--- it is all that a crash leaves there
+-- a crash leaves nothing else at the path
 abbrev pub IsLeftAlone : List ℕ → List ℕ → FolderState → Type 0
 IsLeftAlone path target s = IfKnown s.contents (λ c. (x : Found) → s.may path x ≡ is_link_to target x)

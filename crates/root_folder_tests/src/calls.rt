@@ -1,4 +1,4 @@
-// Each call, and each refusal.
+// Each call, and each rejected call.
 use super::image::{Placed, folder_of, link, look_of, names_of, tree_of};
 use lib_types::Text;
 use root_folder::{Folder, FolderCall, FolderCounts, MemFolder};
@@ -125,7 +125,7 @@ fn push_call(text: &mut Vec<u8>, call: &FolderCall) -> Result<(), Fail> {
     }
 }
 
-// The calls, each with a bar behind it.
+// The calls, each followed by a bar.
 fn text_of(alloc: Global, calls: &[FolderCall]) -> Result<Vec<u8>, Fail> {
     let mut text = Vec::new(alloc);
     for call in calls {
@@ -160,7 +160,7 @@ fn calls_are_kept(rt: HostRuntime) -> Result<(), Fail> {
     Ok(())
 }
 
-// Trees of which a node is in no directory that has a node.
+// Trees in which the parent of some node has no node.
 const NOT_WHOLE: &[&[Placed<'_>]] = &[
     &[("/usr/lib", Kind::Dir, "")],
     &[("/usr", Kind::Dir, ""), ("/usr/lib/a", Kind::File, "k")],

@@ -5,7 +5,7 @@ use std::alloc::Global;
 use std::process::Abort;
 use std::test::Fail;
 
-// Whether a crash may leave at the path each of these, which are separate links or nothing, and none of those.
+// Whether a crash may leave at the path a link with each target of `some`, and with no target of `none`. An empty target means no link.
 fn assert_left(
     rt: &impl Abort,
     alloc: Global,

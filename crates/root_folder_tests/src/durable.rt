@@ -1,4 +1,4 @@
-//! A caller that knows no more than the trait.
+//! A caller that knows only the trait's contract.
 ghost use Rattle.std.specs.Prelude.{◌≡◌, IsTrue, OnErr, OnOk};
 ghost use Rattle.image_tree.specs.Node.{is_target};
 ghost use Rattle.image_tree.specs.Paths.{is_path};
@@ -11,7 +11,7 @@ use path_walk::parted;
 use root_folder::Folder;
 use tree_face::Tag;
 
-/// Makes a link and settles its directory. If no call fails, the link is all that a crash leaves at its path.
+/// Makes a link and flushes its directory. If no call fails, a crash leaves only the link at its path.
 pub fn link_durably<F: Folder>(
     folder: &mut F,
     tag: Tag,

@@ -1,4 +1,4 @@
-// The image that the tests speak of.
+// The image of the tests.
 use lib_types::Text;
 use root_folder::{Folder, FolderRead, MemFolder};
 use std::alloc::Global;
@@ -50,7 +50,7 @@ pub(super) fn tree_of(rt: &impl Abort, alloc: Global, nodes: &[Placed<'_>]) -> R
     Ok(tree)
 }
 
-/// The image, whose calls of these numbers fail.
+/// The image, in which the calls with these numbers fail.
 pub(super) fn folder_of(rt: &impl Abort, alloc: Global, fail: &[u64]) -> Result<MemFolder, Fail> {
     let tree = tree_of(rt, alloc, NODES)?;
     let fail = Vec::from_slice(alloc, fail)?;
@@ -60,7 +60,7 @@ pub(super) fn folder_of(rt: &impl Abort, alloc: Global, fail: &[u64]) -> Result<
     }
 }
 
-/// The names of a directory, each with a bar behind it; or why they aren't given.
+/// The names of a directory, each followed by a bar, or why there are none.
 pub(super) fn names_of<F: Folder>(
     alloc: Global,
     folder: &mut F,
@@ -90,7 +90,7 @@ fn shown(alloc: Global, node: Option<&Node>) -> Result<Vec<u8>, Fail> {
     Ok(Vec::from_slice(alloc, text)?)
 }
 
-/// The key of a file, the target of a link, or what else is at the path; or why it isn't given.
+/// The key of a file, the target of a link, or a word for anything else at the path; or why it can't be read.
 pub(super) fn look_of<F: Folder>(
     alloc: Global,
     folder: &mut F,

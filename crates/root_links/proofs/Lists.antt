@@ -1,4 +1,4 @@
--- Items of lists, and directories that are neighbours.
+-- Items of lists, and consecutive equal directories.
 use Rattle.std.proofs.Common.{◌≡◌, ◌⊎◌, inl, inr, ⊎_elim, ◌<◌, ◌+◌, ℕ, zero, suc, Bool, true, false, cond, ◌&&◌, ◌||◌, not, fold, map, List, [], ◌∷◌, ◌++◌, drop, take, length, refl, ap, sym, subst, ◌∙◌, Some, None, slice_get, add-one, arith}
 use Rattle.std.proofs.Math.Bool.{or-true}
 use Rattle.std.proofs.lemmas.Bool.{and_parts, false≢true}
@@ -18,7 +18,7 @@ use Rattle.root_links.specs.Steps.{is_last_of}
 use Rattle.root_links.specs.declared.making.NewLink.{NewLink}
 
 module _ {A : Type 0} where
-  -- an item, and those after it
+  -- an item, and the items after it
   drop_suc : (xs : List A) (i : ℕ) (x : A) → slice_get xs i ≡ Some x → drop i xs ≡ x ∷ drop (suc i) xs
   drop_suc [] i x e = absurd (cc)
   drop_suc (y ∷ xs) zero x e = let same : y ≡ x = cc in ap (λ z. z ∷ xs) same
@@ -27,7 +27,7 @@ module _ {A : Type 0} where
   pub drop_next : (xs : List A) (i : ℕ) (x : A) → slice_get xs i ≡ Some x → drop i xs ≡ x ∷ drop (i + 1) xs
   drop_next xs i x e = rw add-one (drop_suc xs i x e)
 
-  -- those before it, and it
+  -- the items before it, and the item
   take_suc : (xs : List A) (i : ℕ) (x : A) → slice_get xs i ≡ Some x → take (suc i) xs ≡ take i xs ++ x ∷ []
   take_suc [] i x e = absurd (cc)
   take_suc (y ∷ xs) zero x e = let same : y ≡ x = cc in ap (λ z. z ∷ []) same
@@ -53,7 +53,7 @@ module _ {A : Type 0} where
 
 -- ---- links
 
--- a link of the list
+-- each link of a valid list is valid
 pub valid_at : (links : List Linking) (i : ℕ) (l : Linking) → slice_get links i ≡ Some l → are_valid links ≡ true → (is_path l.0 ≡ true) × (is_target l.1 ≡ true)
 valid_at [] i l e all = absurd (cc)
 valid_at (k ∷ links) zero l e all = let same : k ≡ l = cc in subst (λ (z : Linking). (is_path z.0 ≡ true) × (is_target z.1 ≡ true)) same (and_parts (is_path k.0) (is_target k.1) (and_parts (is_valid k) (are_valid links) all).0)
@@ -88,7 +88,7 @@ dir_of_link [] i l dir e is = absurd (cc)
 dir_of_link (k ∷ links) zero l dir e is = let same : k ≡ l = cc in ap (λ (z : Linking). Some (dir_of z)) same ∙ ap (λ (z : List ℕ). Some z) (sym is)
 dir_of_link (k ∷ links) (suc i) l dir e is = dir_of_link links i l dir e is
 
--- the last of neighbours that are the same stands for them
+-- if the next directory is a different one, `dedup` keeps this one
 pub last_stays : (dir : List ℕ) (dirs : List (List ℕ)) → is_last_of (dir ∷ dirs) ≡ true → dedup bytes_eq (dir ∷ dirs) ≡ dir ∷ dedup bytes_eq dirs
 last_stays dir [] h = refl
 last_stays dir (next ∷ dirs) h = by_test (bytes_eq next dir)
@@ -104,7 +104,7 @@ others_go dir (next ∷ dirs) h = by_test (bytes_eq next dir)
 exact : (x y : List ℕ) → bytes_eq x y ≡ true → x ≡ y
 exact x y e = (bytes_eq-Decides x y).0 e
 
--- a directory is among those of the links exactly if it is among all
+-- a directory in the list is also in the list without consecutive duplicates
 pub once : (z : List ℕ) (dirs : List (List ℕ)) → list_any (bytes_eq z) dirs ≡ true → list_any (bytes_eq z) (dedup bytes_eq dirs) ≡ true
 once z dirs h = list_any-from_Contains nat_list_eq_equiv z (dedup bytes_eq dirs) (Contains-dedup nat_list_eq_equiv exact dirs z (Contains-from_any exact z dirs h))
 

@@ -1,4 +1,4 @@
--- Links that are made, and then made durable.
+-- Links are made, and then made durable.
 use Rattle.std.proofs.Common.{◌≡◌, ◌⊎◌, inl, inr, ⊎_elim, ◌<◌, ◌≤◌, ◌+◌, ℕ, Bool, true, false, List, [], ◌∷◌, ◌++◌, map, take, length, refl, ap, sym, subst, ◌∙◌, Option, Some, None, arith}
 use Rattle.std.specs.Str.{bytes_eq}
 use Rattle.image_tree.specs.Tree.{Nodes, node_at}

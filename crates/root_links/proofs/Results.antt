@@ -1,4 +1,4 @@
--- What follows from the facts of a result.
+-- Consequences of the postconditions of a result.
 use Rattle.std.proofs.Common.{Result, Ok, Err, OnOk}
 use Rattle.std.specs.Result.{IfErr}
 

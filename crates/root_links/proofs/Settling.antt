@@ -1,4 +1,4 @@
--- Directories that are settled one after another.
+-- Directories are synced in order.
 use Rattle.std.proofs.Common.{◌≡◌, ◌⊎◌, inl, inr, ⊎_elim, ◌<◌, ◌+◌, ℕ, Bool, true, false, ◌||◌, List, [], ◌∷◌, ◌++◌, append_assoc, drop, slice_get, map, length, refl, ap, sym, subst, ◌∙◌, Option, Some, None, Result, Ok, Err, arith}
 use Rattle.std.proofs.lemmas.Bool.{false≢true, or_parts}
 use Rattle.std.proofs.lemmas.List.{append-nil}
@@ -38,7 +38,7 @@ either_false : (a : Bool) → (a || false) ≡ true → a ≡ true
 either_false true h = refl
 either_false false h = absurd (false≢true h)
 
--- ---- none so far
+-- ---- no directory so far
 
 same : (c : Option FolderContent) → Relates (HasSettled []) c c
 same None = tt
@@ -62,7 +62,7 @@ none_settled all s = record {
   };
 }
 
--- ---- one more
+-- ---- one more directory
 
 module _ (all : List (List ℕ)) (d : List ℕ) (left : List (List ℕ)) (a b c : FolderState) (laws : HasMoments b) (so_far : HasSettledFirst all (d ∷ left) a b) where
   abbrev first : List (List ℕ)
@@ -165,7 +165,7 @@ module _ (all : List (List ℕ)) (d : List ℕ) (left : List (List ℕ)) (a b c 
   dir_fails links number (Ok x) e is less does crash = absurd (cc)
   dir_fails links number (Err x) e is less does crash = settling_fails links number x is less does crash
 
--- ---- the next directory of those that are left
+-- ---- the next of the remaining directories
 
 module _ (all dirs : List (List ℕ)) (i : ℕ) (dir : List ℕ) (at : slice_get dirs i ≡ Some dir) (a b : FolderState) (so_far : HasSettledFirst all (dedup bytes_eq (drop i dirs)) a b) where
   pub next_is : is_last_of (drop i dirs) ≡ true → HasSettledFirst all (dir ∷ dedup bytes_eq (drop (i + 1) dirs)) a b
@@ -176,6 +176,6 @@ module _ (all dirs : List (List ℕ)) (i : ℕ) (dir : List ℕ) (at : slice_get
   next_later other = subst (λ (l : List (List ℕ)). HasSettledFirst all l a b)
       (ap (dedup bytes_eq) (drop_next dirs i dir at) ∙ others_go dir (drop (i + 1) dirs) (sym (ap is_last_of (drop_next dirs i dir at)) ∙ other)) so_far
 
--- all of them
+-- all directories are synced
 pub settling_ends : (all : List (List ℕ)) (a b : FolderState) → HasSettledFirst all [] a b → SettlesAll all a b
 settling_ends all a b so_far = subst (λ (dirs : List (List ℕ)). SettlesAll dirs a b) (sym (so_far.parts ∙ append-nil so_far.first)) so_far.made

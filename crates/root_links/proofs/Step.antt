@@ -1,4 +1,4 @@
--- Links that are made one after another.
+-- Links are made in order.
 use Rattle.std.proofs.Common.{◌≡◌, ◌⊎◌, inl, inr, ⊎_elim, ◌<◌, ◌+◌, ℕ, zero, suc, true, false, List, [], ◌∷◌, ◌++◌, drop, map, take, length, refl, ap, sym, subst, ◌∙◌, Option, Some, None, Result, Ok, Err, slice_get, add-one, arith}
 use Rattle.std.proofs.lemmas.List.{append-nil}
 use Rattle.std.specs.Result.{is_err}
@@ -29,7 +29,7 @@ map_next : (tag : Tag) (xs : List Linking) (l : Linking) → map (link_call tag)
 map_next tag [] l = refl
 map_next tag (x ∷ xs) l = ap (λ z. link_call tag x ∷ z) (map_next tag xs l)
 
--- the calls before a link, its call, and those after it
+-- the calls before a link's call, that call, and the calls after it
 parts_of : (tag : Tag) (xs : List Linking) (n : ℕ) (k : Linking) → slice_get xs n ≡ Some k
     → (map (link_call tag) (take n xs) ++ link_call tag k ∷ []) ++ map (link_call tag) (drop (n + 1) xs) ≡ map (link_call tag) xs
 parts_of tag xs n k e = rw add-one (by xs n e)

@@ -1,4 +1,4 @@
--- Links that are made in a directory, one after another, and then made durable (symlink(2), rename(2), fsync(2)).
+-- Links are made in a directory in order, and then made durable (symlink(2), rename(2), fsync(2)).
 use Rattle.std.specs.Prelude.{◌≡◌, ◌⊎◌, ◌<◌, ◌+◌, ◌&&◌, ℕ, Bool, true, false, List, [], ◌∷◌, ◌++◌, drop, fold, length, map, not, take, Some}
 use Rattle.std.specs.List.{dedup, list_all, list_any}
 use Rattle.std.specs.Str.{bytes_eq}
@@ -22,7 +22,7 @@ use Rattle.tree_face.specs.Known.{IfKnown, Relates}
 
 -- ---- links
 
--- a path, and the text of the link there
+-- a path, and the target of the link there
 abbrev pub Linking : Type 0
 Linking = List ℕ × List ℕ
 
@@ -53,7 +53,7 @@ dir_of l = parent l.0
 abbrev pub dirs_in : List Linking → List (List ℕ)
 dirs_in links = map dir_of links
 
--- The directories of the links, once for neighbours in the list.
+-- The directories of the links. Consecutive links in the same directory give one entry.
 abbrev pub dirs_of : List Linking → List (List ℕ)
 dirs_of links = dedup bytes_eq (dirs_in links)
 
@@ -74,18 +74,18 @@ calls_of tag links = map (link_call tag) links ++ map settling (dirs_of links)
 
 -- ---- contents
 
--- all links are there, and what is in their directories is settled
+-- all links exist, and their directories are synced
 pub record HasMade (links : List Linking) (a b : FolderContent) : Type 0 where
   pub now : b.now ≡ with_links a.now links
   pub inside : (p : List ℕ) → is_beside links p ≡ true → b.settled p ≡ node_at b.now p
   pub others : (p : List ℕ) → is_beside links p ≡ false → b.settled p ≡ a.settled p
 
--- so many links are there when this call failed
+-- `made` is a possible number of existing links after this call failed
 abbrev pub Stops : LinkFault → List Linking → ℕ → Type 0
 Stops (faults.Link number) links made = (number < length links) × ((made ≡ number) ⊎ (made ≡ number + 1))
 Stops (faults.Settle number) links made = (number < length links) × (made ≡ length links)
 
--- the first links are there, and nothing else changed
+-- the first links exist, and nothing else changed
 pub record MayHaveMade (links : List Linking) (fault : LinkFault) (a b : FolderContent) : Type 0 where
   pub made : ℕ
   pub stops : Stops fault links made
@@ -94,20 +94,20 @@ pub record MayHaveMade (links : List Linking) (fault : LinkFault) (a b : FolderC
 
 -- ---- crashes
 
--- one of the links is at this path
+-- what is at this path is one of the links
 abbrev pub IsOfLinks : List Linking → List ℕ → Found → Type 0
 IsOfLinks [] p x = ⊥
 IsOfLinks (l ∷ links) p x = ((p ≡ l.0) × (x ≡ Some (nodes.Link l.1))) ⊎ IsOfLinks links p x
 
--- ---- on the whole directory
+-- ---- the whole directory
 
--- no count of a reading changes
+-- the counts of calls that read stay the same
 pub record KeepsReadings (old new : FolderState) : Type 0 where
   pub lists : new.counts.lists ≡ old.counts.lists
   pub looks : new.counts.looks ≡ old.counts.looks
   pub read_faults : new.read_faults ≡ old.read_faults
 
--- all links are made and durable, by these calls, and no fault comes
+-- all links are made and durable, by these calls, and no call fails
 pub record MakesAll (tag : Tag) (links : List Linking) (old new : FolderState) : Type 0 where
   pub contents : Relates (HasMade links) old.contents new.contents
   pub calls : Relates (IsFollowedBy (calls_of tag links)) old.calls new.calls
@@ -116,7 +116,7 @@ pub record MakesAll (tag : Tag) (links : List Linking) (old new : FolderState) :
   pub readings : KeepsReadings old new
   pub faults : new.faults ≡ old.faults
 
--- a call failed, for which the count of faults rises
+-- a call failed, and the count of faults rose
 pub record MakesPart (tag : Tag) (links : List Linking) (fault : LinkFault) (old new : FolderState) : Type 0 where
   pub contents : Relates (MayHaveMade links fault) old.contents new.contents
   pub calls : Relates (IsFollowedByPart (calls_of tag links)) old.calls new.calls

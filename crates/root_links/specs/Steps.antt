@@ -1,4 +1,4 @@
--- What private functions say: links are made, and directories are settled.
+-- The contracts of private functions: links are made, and directories are synced.
 use Rattle.std.specs.Prelude.{◌≡◌, ◌⊎◌, ◌<◌, ◌+◌, ℕ, Bool, true, false, List, [], ◌∷◌, ◌++◌, drop, length, map, not, take}
 use Rattle.std.specs.List.{list_any}
 use Rattle.std.specs.Str.{bytes_eq}
@@ -21,7 +21,7 @@ pub record HasLinked (links : List Linking) (a b : FolderContent) : Type 0 where
   pub now : b.now ≡ with_links a.now links
   pub settled : (p : List ℕ) → b.settled p ≡ a.settled p
 
--- so many links are made, the first ones
+-- the first `n` links are made
 pub record LinksFirst (tag : Tag) (links : List Linking) (n : ℕ) (old new : FolderState) : Type 0 where
   pub contents : Relates (HasLinked (take n links)) old.contents new.contents
   pub calls : Relates (IsFollowedBy (map (link_call tag) (take n links))) old.calls new.calls
@@ -44,7 +44,7 @@ pub record FailsToLink (tag : Tag) (links : List Linking) (fault : LinkFault) (o
 
 -- ---- directories
 
--- the second directory isn't the first
+-- the next directory, if there is one, is a different one
 abbrev pub differs : List ℕ → List (List ℕ) → Bool
 differs dir [] = true
 differs dir (next ∷ dirs) = not (bytes_eq next dir)
@@ -74,7 +74,7 @@ pub record MayHaveSettled (a b : FolderContent) : Type 0 where
   pub now : b.now ≡ a.now
   pub settled : (p : List ℕ) → (b.settled p ≡ a.settled p) ⊎ (b.settled p ≡ node_at b.now p)
 
--- the flushing of a link's directory failed
+-- the fsync of a link's directory failed
 abbrev pub IsOfSettling : LinkFault → ℕ → Type 0
 IsOfSettling (faults.Link number) links = ⊥
 IsOfSettling (faults.Settle number) links = number < links
@@ -87,7 +87,7 @@ pub record FailsToSettle (links : List Linking) (fault : LinkFault) (old new : F
   pub readings : KeepsReadings old new
   pub faults : HasRisen old.faults new.faults
 
--- the first directories are settled, and these are left
+-- the first directories are synced, and the directories in `left` are not yet
 pub record HasSettledFirst (all left : List (List ℕ)) (old new : FolderState) : Type 0 where
   pub first : List (List ℕ)
   pub parts : all ≡ first ++ left

@@ -3,8 +3,8 @@
 /// The call that failed, by the index of a link in the list.
 #[derive(Clone, Copy, Debug, PartialEq, Eq)]
 pub enum LinkFault {
-    /// The call that makes this link. The link is there, or what was there before.
+    /// The call that makes this link. The path has the link, or what was there before.
     Link { number: usize },
-    /// The flushing of this link's directory. All links are there.
+    /// The fsync of this link's directory. All links exist.
     Settle { number: usize },
 }

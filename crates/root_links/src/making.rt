@@ -1,4 +1,4 @@
-//! Links are made one after another, and then their directories are flushed.
+//! Makes links in order, and then flushes their directories with fsync.
 ghost use Rattle.std.specs.Prelude.{◌≡◌, ◌<◌, Some, IfErr, OnOk, drop, length, slice_get, true};
 ghost use Rattle.root_links.specs.Links.{MakesAll, MakesPart, are_valid, dirs_in, dirs_of, link_of, links_in};
 ghost use Rattle.root_links.specs.Steps.{FailsToLink, FailsToSettle, LinksFirst, SettlesAll, is_last_of};
@@ -8,7 +8,7 @@ use path_walk::parted;
 use root_folder::Folder;
 use tree_face::Tag;
 
-/// A link that is to be made: its path, and its text.
+/// A link that is to be made: its path and its target.
 #[derive(Clone, Copy)]
 pub struct NewLink<'a> {
     pub path: &'a [u8],
@@ -22,7 +22,7 @@ fn link_at<'a>(links: &[NewLink<'a>], i: usize) -> NewLink<'a>
     links[i]
 }
 
-// Makes the links, in their order.
+// Makes the links in order.
 #[tactic(auto, using(crate::proofs::Lists::valid_at))]
 fn link_all<F: Folder>(folder: &mut F, tag: Tag, links: &[NewLink<'_>]) -> Result<(), LinkFault>
     requires valid { are_valid (links_in links.now) ≡ true }
@@ -61,7 +61,7 @@ fn is_last_in(links: &[NewLink<'_>], i: usize) -> bool
     dir_at(links, i + 1) != dir
 }
 
-// Flushes the directories of the links, each after the last of the links that are neighbours in it.
+// Flushes the directories of the links with fsync. Consecutive links in the same directory need one fsync.
 fn settle_all<F: Folder>(folder: &mut F, links: &[NewLink<'_>]) -> Result<(), LinkFault>
     ensures done { OnOk result (SettlesAll (dirs_of (links_in links.now)) (F.state folder.old) (F.state folder.new)) }
     ensures failed { IfErr result (λ fault. FailsToSettle (links_in links.now) fault (F.state folder.old) (F.state folder.new)) }
@@ -77,9 +77,9 @@ fn settle_all<F: Folder>(folder: &mut F, links: &[NewLink<'_>]) -> Result<(), Li
     Ok(())
 }
 
-/// Makes these links in their order, and then flushes the directory of each, once for neighbours in the list. No memory is
-/// taken. At each moment a crash leaves at the path of each link what was there or the link, and leaves other paths alone.
-/// After Ok the links are there and stay.
+/// Makes these links in order, and then flushes their directories with fsync. Consecutive links in the same directory need
+/// one fsync. Allocates no memory. At each moment, a crash leaves at the path of each link the old node or the link, and
+/// doesn't affect other paths. After Ok the links are durable.
 pub fn make_links<F: Folder>(
     folder: &mut F,
     tag: Tag,

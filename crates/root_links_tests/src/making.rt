@@ -36,7 +36,7 @@ fn put(rt: &impl Abort, tree: &mut Tree, path: &str, node: Node) -> Result<(), F
     Ok(())
 }
 
-// The image, whose calls of these numbers fail.
+// The image, in which the calls with these numbers fail.
 fn folder_of(rt: &impl Abort, alloc: Global, fail: &[u64]) -> Result<MemFolder, Fail> {
     let mut tree = Tree::new(alloc);
     for dir in DIRS {
@@ -74,7 +74,7 @@ fn push_pair(text: &mut Vec<u8>, word: &str, more: &Text) -> Result<(), Fail> {
     Ok(())
 }
 
-// The calls, each with a bar behind it. That of a link has the tag 7.
+// The calls, each followed by a bar. That of a link has the tag 7.
 fn calls_of(alloc: Global, folder: &MemFolder) -> Result<Vec<u8>, Fail> {
     let mut text = Vec::new(alloc);
     for call in folder.calls() {
@@ -121,7 +121,8 @@ fn may_leave(alloc: Global, folder: &MemFolder, path: &str, target: &str) -> Res
     Ok(folder.may_leave(path.as_bytes(), Some(&node)))
 }
 
-// After so many calls the others fail: the fault, for each link whether a crash leaves the old one, and whether the new one.
+// The number of calls before all calls fail; then the fault, and for each link whether a crash may leave the old one, and whether the new
+// one.
 const STOPS: &[(u64, Result<(), LinkFault>, &str, &str)] = &[
     (0, Err(LinkFault::Link { number: 0 }), "oooo", "...."),
     (1, Err(LinkFault::Link { number: 1 }), "oooo", "n..."),

@@ -1,4 +1,4 @@
--- Texts in the order of their bytes rise strictly.
+-- If texts are sorted by their bytes without duplicates, each is below the next one.
 use Rattle.std.proofs.Common.{◌≡◌, ℕ, List, sym, subst}
 use Rattle.std.specs.Cmp.Lexicographic.{slice_cmp}
 use Rattle.std.specs.List.Sorted.{IsStrictlySortedBy}

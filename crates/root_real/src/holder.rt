@@ -1,4 +1,4 @@
-//! Which process has the lock on a file, by /proc/locks (proc_locks(5)).
+//! The process that has the lock on a file, from /proc/locks (proc_locks(5)).
 use device_rules::Identity;
 use std::rt::Runtime;
 use std::{fs, io};
@@ -15,15 +15,15 @@ pub(crate) fn holder<R: Runtime>(rt: &R, file: Identity) -> io::Result<Option<St
     Ok(None)
 }
 
-// The file as the list names it: the device's two numbers, in hexadecimal, and the inode.
+// The file as /proc/locks names it: the device's two numbers, in hexadecimal, and the inode.
 fn place_of<R: Runtime>(rt: &R, file: Identity) -> io::Result<String<R::A>> {
     let (major, minor) = (major_of(file.device), minor_of(file.device));
     let inode = file.inode;
     Ok(format!(in rt.alloc(); "{major:02x}:{minor:02x}:{inode}")?)
 }
 
-// The process of a line of the list, if the line is of a held lock on this file. A lock that is waited for has an arrow in place
-// of its class.
+// The process in a line of /proc/locks, if the line is of a held lock on this file. If a process waits for a lock, the line has an arrow
+// in place of the lock's class.
 fn holder_in<'a>(line: &'a str, place: &str) -> Option<&'a str> {
     let mut words = line.split_whitespace();
     let _number = words.next()?;

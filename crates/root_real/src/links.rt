@@ -1,4 +1,4 @@
-//! Links are made, and directories flushed.
+//! Making links and flushing directories.
 use crate::paths::{below_root, dir_below_root, no_path};
 use crate::temporary::{make_temporary, remove_left};
 use device_rules::{RunId, divided};
@@ -10,7 +10,7 @@ use std::rt::Runtime;
 use std::str::from_utf8;
 use tree_face::Tag;
 
-/// Makes a link where there is nothing, or in place of a link. Where there is something else the call fails and changes nothing.
+/// Makes a link where there is nothing, or in place of a link. If anything else is there, the call fails and changes nothing.
 pub(crate) fn make_link<R: Runtime>(
     image: &mut ImageFolder<R>,
     run: RunId,
@@ -41,9 +41,9 @@ fn text_of(target: &[u8]) -> io::Result<&str> {
     }
 }
 
-// Replaces the link that was looked at last. The new one is made under a temporary name in the same directory and renamed, so
-// there is the old link or the new one at each moment. A file that takes the old link's place before the rename is lost: the
-// library has no rename that refuses to replace it.
+// Replaces the link that was looked at last. The new link is made under a temporary name in the same directory and renamed. So the old
+// link or the new one is there at each moment. A file that takes the old link's place before the rename is lost, because the library has
+// no rename that refuses to replace a file.
 fn replace<R: Runtime>(
     image: &ImageFolder<R>,
     run: RunId,
@@ -71,14 +71,24 @@ fn in_the_way(kind: FileType) -> Error {
     Error::new(ErrorKind::AlreadyExists, found)
 }
 
-/// Removes the temporary links that runs have left in a directory below the image's.
+/// Removes the temporary links that runs left in a directory below the image's, and flushes it if there were any. If a removal weren't
+/// flushed before the first link is made, a crash of the machine could undo it and keep the link. Then no later run would remove it.
 pub(crate) fn clean<R: Runtime>(image: &mut ImageFolder<R>, dir: &str) -> io::Result<()>
 where
     R::File: HeldFile,
 {
     image.enter(dir, Missing::IsFault)?;
     image.go_to("")?;
-    remove_left(&image.rt, image.path())
+    if remove_left(&image.rt, image.path())? {
+        flush_entered(image)?;
+    }
+    Ok(())
+}
+
+// Flushes the directory that was entered.
+fn flush_entered<R: Runtime>(image: &ImageFolder<R>) -> io::Result<()> {
+    let path = image.path_beside(".")?;
+    fs::open(&image.rt, path.as_str())?.sync_all()
 }
 
 /// Flushes a directory to stable storage.
@@ -90,6 +100,5 @@ where
         return Err(no_path());
     };
     image.enter(dir, Missing::IsFault)?;
-    let path = image.path_beside(".")?;
-    fs::open(&image.rt, path.as_str())?.sync_all()
+    flush_entered(image)
 }

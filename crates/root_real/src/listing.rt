@@ -4,6 +4,7 @@ ghost use Rattle.std.specs.Cmp.Lexicographic.{slice_cmp};
 ghost use Rattle.std.specs.List.Sorted.{IsStrictlySortedBy};
 ghost use Rattle.std.specs.Ordering.{nat_cmp};
 
+use crate::extent::{Extent, Names};
 use crate::paths::{dir_below_root, no_path};
 use device_rules::is_no_text;
 use image_folder::{HeldFile, ImageFolder, Missing};
@@ -19,11 +20,11 @@ use string_pool::ascending;
 #[derive(Drop)]
 pub(crate) struct Listing {
     pub(crate) names: Texts,
-    /// Whether a name was passed over because it isn't UTF-8 text. The library doesn't give its bytes.
+    /// Whether a name was skipped because it isn't UTF-8 text. The library doesn't return its bytes.
     pub(crate) has_other: bool,
 }
 
-/// The error of a name that was passed over.
+/// The error of a name that was skipped.
 pub(crate) fn passed_over() -> Error {
     Error::new(
         ErrorKind::InvalidFilename,
@@ -47,14 +48,15 @@ impl Listed {
         }
     }
 
-    // Adds an entry of the directory.
+    // Adds an entry of the directory, if its name is one of these.
     fn add<R: Runtime>(
         &mut self,
         alloc: Global,
+        wanted: Names,
         entry: io::Result<DirEntry<R, R::A>>,
     ) -> io::Result<()> {
         match entry {
-            Ok(entry) => self.add_name(alloc, entry.file_name()),
+            Ok(entry) => self.add_name(alloc, wanted, entry.file_name()),
             Err(error) if is_no_text(error.kind()) => {
                 self.has_other = true;
                 Ok(())
@@ -63,9 +65,9 @@ impl Listed {
         }
     }
 
-    // Adds a name. One that is too long for a tree is passed over.
-    fn add_name(&mut self, alloc: Global, name: &str) -> io::Result<()> {
-        if is_name(name.as_bytes()) {
+    // Adds a name, if it is one of these. A name that is too long for a tree is skipped.
+    fn add_name(&mut self, alloc: Global, wanted: Names, name: &str) -> io::Result<()> {
+        if wanted.has(name.as_bytes()) && is_name(name.as_bytes()) {
             self.names.push(copy_of(alloc, name)?)?;
         }
         Ok(())
@@ -81,7 +83,7 @@ fn out_of_memory(_: NoMemory) -> Error {
     Error::from(ErrorKind::OutOfMemory)
 }
 
-/// The device of the file system that the image's directory is in.
+/// The device of the image directory's file system.
 pub(crate) fn device_of<R: Runtime>(image: &mut ImageFolder<R>) -> io::Result<u64>
 where
     R::File: HeldFile,
@@ -101,7 +103,7 @@ where
     }
 }
 
-// Enters a directory, and returns whether it is on this device. What is no directory is on none.
+// Enters a directory, and returns whether it is on this device. The result is false if the path is not a directory.
 fn enter_on<R: Runtime>(image: &mut ImageFolder<R>, device: u64, dir: &str) -> io::Result<bool>
 where
     R::File: HeldFile,
@@ -113,12 +115,13 @@ where
     }
 }
 
-/// Lists a directory on this device: its names in the order of their bytes, each once. Where another file system is mounted, and in what
-/// only counts as a directory, no name is found.
+/// Lists a directory on this device: its names that belong to the tree, in the order of their bytes, each once. The list is empty for a
+/// mount point of another file system, and for a file that only counts as a directory.
 pub(crate) fn list<R: Runtime>(
     alloc: Global,
     image: &mut ImageFolder<R>,
     device: u64,
+    extent: Extent,
     dir: &[u8],
 ) -> io::Result<Listing>
 where
@@ -128,19 +131,20 @@ where
     let Some(dir) = dir_below_root(dir) else {
         return Err(no_path());
     };
-    if !enter_on(image, device, dir)? {
+    let wanted = extent.names_in(dir.as_bytes());
+    if wanted == Names::Nothing || !enter_on(image, device, dir)? {
         return in_order(Listed::new(alloc));
     }
     image.go_to("")?;
-    let listed = read_names(alloc, &image.rt, image.path())?;
+    let listed = read_names(alloc, &image.rt, image.path(), wanted)?;
     in_order(listed)
 }
 
-// Reads the names in the directory of this path, as the system lists them.
-fn read_names<R: Runtime>(alloc: Global, rt: &R, path: &str) -> io::Result<Listed> {
+// Reads those of these names that are in the directory of this path, as the system lists them.
+fn read_names<R: Runtime>(alloc: Global, rt: &R, path: &str, wanted: Names) -> io::Result<Listed> {
     let mut listed = Listed::new(alloc);
     for entry in read_dir(rt, path)? {
-        listed.add(alloc, entry)?;
+        listed.add(alloc, wanted, entry)?;
     }
     Ok(listed)
 }

@@ -9,13 +9,13 @@ use std::rt::Runtime;
 use std::thread;
 use std::time::Duration;
 
-/// An exclusive lock on the open directory of an image. The system gives it up when this value is dropped, or the program ends.
+/// An exclusive lock on the open directory of an image. The system releases it when this value is dropped, or when the program ends.
 #[derive(Drop)]
 pub struct RootLock<R: Runtime> {
     file: R::File,
 }
 
-/// Why there is no lock.
+/// Why the lock was not taken.
 #[derive(Clone, Copy, Debug, PartialEq, Eq)]
 pub enum LockFault {
     /// The directory can't be opened.
@@ -24,7 +24,7 @@ pub enum LockFault {
     NotTaken,
 }
 
-// How often a lock that another run has is tried, with a pause before each time: for a minute.
+// How often to try a lock that another run has, with a pause before each time: for a minute.
 const MOST_TURNS: u64 = 600;
 
 const PAUSE_MILLIS: u64 = 100;
@@ -33,8 +33,8 @@ impl<R: Runtime + Streams> RootLock<R>
 where
     R::File: HeldFile,
 {
-    /// Takes the lock on the directory `root`, and waits up to a minute for a run that has it. Lines on the error output say that
-    /// it waits, and why there is no lock.
+    /// Takes the lock on the directory `root`. If another run has it, it waits up to a minute. Lines on the error output say that it
+    /// waits, and why it didn't get the lock.
     pub fn take(rt: &R, root: &str) -> Result<RootLock<R>, LockFault> {
         match open_dir(rt, root) {
             Ok(file) => take_file(rt, root, file),
@@ -46,7 +46,7 @@ where
     }
 }
 
-// The dot keeps the system from opening a pipe, which would wait.
+// With the dot, opening a pipe fails at once instead of waiting.
 fn open_dir<R: Runtime>(rt: &R, root: &str) -> io::Result<R::File> {
     let path = format!(in rt.alloc(); "{root}/.")?;
     fs::open(rt, path.as_str())
@@ -70,7 +70,7 @@ where
     Err(LockFault::NotTaken)
 }
 
-// Takes the lock on the open directory, and says whether it did. A lock that isn't free is waited for, after a line that says so.
+// Takes the lock on the open directory, and says whether it did. If the lock isn't free, it writes a line that says so and waits.
 fn wait_for<R: Runtime + Streams>(rt: &R, root: &str, file: &R::File) -> io::Result<bool>
 where
     R::File: HeldFile,
@@ -93,7 +93,7 @@ where
     Ok(false)
 }
 
-// Whether the lock was free and is taken now.
+// Whether the lock was free and was taken.
 fn try_once<F: HeldFile>(file: &F) -> io::Result<bool> {
     match file.take_lock() {
         Lock::Own => Ok(true),
@@ -110,7 +110,7 @@ fn held_by<R: Runtime>(rt: &R, file: &R::File) -> Error {
     }
 }
 
-// It names the process, if the system shows it.
+// The error names the process, if the system shows it.
 fn holder_error<R: Runtime>(rt: &R, file: &R::File) -> io::Result<Error> {
     let identity = identity_of(&file.metadata()?);
     match holder(rt, identity) {

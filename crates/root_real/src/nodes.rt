@@ -2,6 +2,7 @@
 ghost use Rattle.std.specs.Prelude.{◌≡◌, ◌↔◌, ◌⊎◌, ◌+◌, ◌*◌, ◌^◌, ◌<◌, IfOk, IfSome, IsTrue, SomeIff};
 ghost use Rattle.image_tree.specs.Node.{is_node};
 
+use crate::extent::Extent;
 use crate::listing::copy_of;
 use crate::paths::below_root;
 use device_rules::{divided, is_missing, is_no_text, stamp_of};
@@ -12,11 +13,12 @@ use std::io::{self, ErrorKind};
 use std::rt::Runtime;
 use tree_face::{Id, Node, is_node};
 
-/// The node at a path: a directory, a regular file or a link. What else is there counts as a directory, since no link may take its
-/// place.
+/// The node at a path, if the path belongs to the tree: a directory, a regular file or a link. Any other file counts as a directory,
+/// because no link may replace it.
 pub(crate) fn look<R: Runtime>(
     alloc: Global,
     image: &mut ImageFolder<R>,
+    extent: Extent,
     path: &[u8],
 ) -> io::Result<Option<Node>>
 where
@@ -26,15 +28,18 @@ where
     let Some(path) = below_root(path) else {
         return Ok(None);
     };
+    if !extent.has(path) {
+        return Ok(None);
+    }
     match find(image, path)? {
         Some(found) if found.is_file() => file_of(alloc, path, &found),
-        Some(found) if found.is_symlink() => link_of(alloc, image),
+        Some(found) if found.is_symlink() => link_of(alloc, image, extent),
         Some(_) => Ok(Some(Node::Dir)),
         None => Ok(None),
     }
 }
 
-// What is at a path. Below what isn't a directory there is nothing.
+// The file at a path. If a parent isn't a directory, there is none.
 fn find<R: Runtime>(image: &mut ImageFolder<R>, path: &str) -> io::Result<Option<Metadata>>
 where
     R::File: HeldFile,
@@ -47,7 +52,7 @@ where
     }
 }
 
-// The error of a path below what isn't there, or isn't a directory.
+// The error of a path whose parent is missing or isn't a directory.
 fn is_nowhere(kind: ErrorKind) -> bool
     ensures { IsTrue result ↔ (kind ≡ ErrorKind.NotFound ⊎ kind ≡ ErrorKind.NotADirectory) }
 {
@@ -62,13 +67,17 @@ fn file_of(alloc: Global, path: &str, found: &Metadata) -> io::Result<Option<Nod
     Ok(valid(Node::File { key, id }))
 }
 
-// The node of the link that was looked at last. It has none if its target isn't UTF-8 text or is longer than a tree's links have.
-fn link_of<R: Runtime>(alloc: Global, image: &ImageFolder<R>) -> io::Result<Option<Node>>
+// The node of the link that was looked at last. It is None if its target isn't UTF-8 text, or is longer than a tree allows.
+fn link_of<R: Runtime>(
+    alloc: Global,
+    image: &ImageFolder<R>,
+    extent: Extent,
+) -> io::Result<Option<Node>>
     ensures { IfOk result (λ found. IfSome found (λ node. IsTrue (is_node node))) }
 {
     match fs::read_link(&image.rt, image.path()) {
         Ok(target) => {
-            let target = copy_of(alloc, target.as_str())?;
+            let target = copy_of(alloc, extent.target(target.as_str()))?;
             Ok(valid(Node::Link { target }))
         }
         Err(error) if is_no_text(error.kind()) || is_missing(error.kind()) => Ok(None),
@@ -94,7 +103,7 @@ fn id_of(found: &Metadata) -> Option<Id> {
     })
 }
 
-// The time in nanoseconds since the epoch. There is none before it: its seconds are the bits of a negative number.
+// The time in nanoseconds since the epoch. Before the epoch it is None, because the seconds are then the bits of a negative number.
 fn nanos_since_epoch(seconds: u64, nanos: u64) -> Option<u64>
     ensures { SomeIff result (seconds * 10 ^ 9 + nanos < 2 ^ 64) (seconds * 10 ^ 9 + nanos) }
 {

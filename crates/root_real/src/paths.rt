@@ -6,7 +6,7 @@ use std::io::{Error, ErrorKind};
 use std::str::from_utf8;
 use tree_face::is_path;
 
-/// A path without its first slash. The root and what isn't a path have none.
+/// A path without its first slash. It is None for the root, and for a text that isn't a path.
 pub(crate) fn below_root(path: &[u8]) -> Option<&str>
     ensures { IfSome result (λ below. path.now ≡ 47 ∷ below.now) }
 {
@@ -17,7 +17,7 @@ pub(crate) fn below_root(path: &[u8]) -> Option<&str>
     }
 }
 
-/// The same of a directory. The root's is empty.
+/// A directory's path without its first slash. It is empty for the root.
 pub(crate) fn dir_below_root(dir: &[u8]) -> Option<&str>
     ensures { IfSome result (λ below. dir.now ≡ 47 ∷ below.now) }
 {
@@ -36,7 +36,7 @@ fn without_slash(path: &[u8]) -> Option<&str>
     }
 }
 
-/// The error of a text that isn't the path of anything.
+/// The error of a text that isn't a path.
 pub(crate) fn no_path() -> Error {
     Error::new(ErrorKind::InvalidInput, "not a path of an image")
 }

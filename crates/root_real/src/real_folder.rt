@@ -11,6 +11,7 @@ ghost use Rattle.lib_types.specs.Counts.{raised};
 ghost use Rattle.root_folder.specs.declared.folder.FolderRead.TheVariants as reads;
 ghost use Rattle.root_real.specs.Unknown.{no_counts, unknown_folder, unknown_moments};
 
+use crate::extent::Extent;
 use crate::links::{clean, make_link, settle};
 use crate::listing::{Listing, device_of, list, passed_over};
 use crate::nodes::look;
@@ -25,25 +26,26 @@ use std::io::{self, Error};
 use std::rt::Runtime;
 use tree_face::{Node, Tag};
 
-/// The directory ROOT of an image, with a count of the calls that failed. A symbolic link in it is never followed. What is in
-/// another file system than ROOT is left out, as /proc is.
+/// The directory ROOT of an image, or a directory of libraries on this machine, with a count of the calls that failed. A symbolic link in
+/// it is never followed. Files on other file systems than the directory's, such as /proc, are left out.
 #[derive(Drop)]
 pub struct RootFolder<R: Runtime> {
     image: ImageFolder<R>,
+    extent: Extent,
     // The directory, as it was given.
     root: String<R::A>,
     run: RunId,
-    // The device of its file system, once it was looked at.
+    // The device of its file system, once it is known.
     device: Option<u64>,
     // The directory from which temporary links were removed last.
     cleaned: Option<String<R::A>>,
     counts: FolderCounts,
     faults: u64,
-    // How many of the faults were of readings.
+    // The number of faults in reading calls.
     read_faults: u64,
 }
 
-// One more; the count saturates at its last value.
+// The count plus one, saturating at its largest value.
 fn one_more(count: u64) -> u64
     ensures { result ≡ raised count 1 }
 {
@@ -51,15 +53,33 @@ fn one_more(count: u64) -> u64
 }
 
 impl<R: Runtime> RootFolder<R> {
-    /// The directory `root`. The run makes temporary names its own.
+    /// The directory `root` of an image. `run` makes the temporary names unique to this run.
     pub fn new(rt: R, root: &str, run: RunId) -> Result<RootFolder<R>, NoMemory>
         ensures { IfOk result (λ folder. unknown_folder folder.counts folder.faults folder.read_faults ≡ unknown_folder no_counts 0 0) }
     {
         let name = String::from_str(rt.alloc(), root)?;
         let image = ImageFolder::new(rt, root)?;
-        Ok(RootFolder {
+        Ok(RootFolder::over(image, Extent::Whole, name, run))
+    }
+
+    /// The directory `dir` of this machine, as a tree with the libraries in it and in its glibc-hwcaps subdirectories. In this tree, a link
+    /// whose target is absolute or has a component `..` leads to no file. Lines name files by their path, which begins with `dir`.
+    pub fn of_libraries(rt: R, dir: &str, run: RunId) -> Result<RootFolder<R>, NoMemory>
+        ensures { IfOk result (λ folder. unknown_folder folder.counts folder.faults folder.read_faults ≡ unknown_folder no_counts 0 0) }
+    {
+        let name = String::from_str(rt.alloc(), dir)?;
+        let image = ImageFolder::of_machine(rt, dir)?;
+        Ok(RootFolder::over(image, Extent::Libraries, name, run))
+    }
+
+    // No call was made yet.
+    fn over(image: ImageFolder<R>, extent: Extent, root: String<R::A>, run: RunId) -> RootFolder<R>
+        ensures { unknown_folder result.counts result.faults result.read_faults ≡ unknown_folder no_counts 0 0 }
+    {
+        RootFolder {
             image,
-            root: name,
+            extent,
+            root,
             run,
             device: None,
             cleaned: None,
@@ -71,7 +91,7 @@ impl<R: Runtime> RootFolder<R> {
             },
             faults: 0,
             read_faults: 0,
-        })
+        }
     }
 }
 
@@ -79,7 +99,7 @@ impl<R: Runtime + Streams> RootFolder<R>
 where
     R::File: HeldFile,
 {
-    // Writes the line that a call failed. The image's own directory is named as it was given.
+    // Writes the line that a call failed. It names the image's own directory by the path that was given.
     fn write_line(&self, call: &str, error: Error) {
         match self.image.name() {
             Ok(name) if name.as_str() != "." => {
@@ -89,7 +109,7 @@ where
         }
     }
 
-    // Why a reading failed, which is counted unless memory was out.
+    // The fault of a reading. It is counted unless memory ran out.
     fn read_fault(&mut self, error: Error) -> FolderRead
         ensures counts { self.new.counts ≡ self.old.counts }
         ensures faults { self.old.faults ≤ self.new.faults }
@@ -107,7 +127,7 @@ where
         FolderRead::Failed
     }
 
-    // The result of a writing call, which counts a failure.
+    // The result of a writing call. A failure is counted.
     fn result(&mut self, call: &str, done: io::Result<()>) -> Result<(), Failed>
         ensures same { is_err result ≡ is_err done }
         ensures faults { self.old.faults ≤ self.new.faults }
@@ -126,7 +146,7 @@ where
         }
     }
 
-    // The device of the directory's file system, which is looked at once.
+    // The device of the directory's file system, which is read once.
     fn device(&mut self) -> io::Result<u64>
         ensures counts { self.new.counts ≡ self.old.counts }
         ensures faults { self.new.faults ≡ self.old.faults }
@@ -140,8 +160,8 @@ where
         Ok(device)
     }
 
-    // Makes a link. What runs have left in its directory is removed before the first one there: a run that is stopped until then has
-    // made no link, so the next one comes here too. A plan has the links of a directory together.
+    // Makes a link. Before the first link in a directory, temporary links that earlier runs left there are removed. A run that is stopped
+    // before has not made a link there, so the next run removes them too. The links of a directory are next to each other in a plan.
     fn make(&mut self, tag: Tag, path: &[u8], target: &[u8]) -> io::Result<()>
         ensures counts { self.new.counts ≡ self.old.counts }
         ensures faults { self.new.faults ≡ self.old.faults }
@@ -173,7 +193,7 @@ where
         ensures sorted { IfOk result (λ listing. IsStrictlySortedBy (slice_cmp nat_cmp) listing.names) }
     {
         let device = self.device()?;
-        list(alloc, &mut self.image, device, dir)
+        list(alloc, &mut self.image, device, self.extent, dir)
     }
 
     // The node at a path.
@@ -183,7 +203,7 @@ where
         ensures read_faults { self.new.read_faults ≡ self.old.read_faults }
         ensures valid { IfOk result (λ found. IfSome found (λ node. IsTrue (is_node node))) }
     {
-        look(alloc, &mut self.image, path)
+        look(alloc, &mut self.image, self.extent, path)
     }
 }
 

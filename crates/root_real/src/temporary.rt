@@ -1,5 +1,5 @@
 //! Links under temporary names.
-use device_rules::{RunId, is_missing, is_no_text, is_there, maker_of, temporary_path};
+use device_rules::{MOST_NAMES, RunId, is_missing, is_no_text, is_there, maker_of, temporary_path};
 use image_folder::ImageFolder;
 use std::fs::{self, DirEntry, read_dir};
 use std::io::{self, Error, ErrorKind};
@@ -7,13 +7,10 @@ use std::os::unix::fs::symlink;
 use std::rt::Runtime;
 use tree_face::Tag;
 
-// What temporary names begin with. It is no front of a library's name, and is short enough beside a link of any name.
+// The prefix of temporary names. It is not the start of a library name, and is short enough for a link of any name.
 const FRONT: &str = ".ldconfig";
 
-// How many names are tried, should one be taken.
-const MOST_NAMES: u64 = 100;
-
-/// Makes a link under a temporary name in the directory that was entered, and gives its path.
+/// Makes a link under a temporary name in the directory that was entered, and returns its path.
 pub(crate) fn make_temporary<R: Runtime>(
     image: &ImageFolder<R>,
     run: RunId,
@@ -36,31 +33,39 @@ pub(crate) fn make_temporary<R: Runtime>(
     Err(Error::new(ErrorKind::AlreadyExists, "its temporary names are taken"))
 }
 
-/// Removes the temporary links in the directory of this path that runs have left which ended. What can't be looked at or removed
-/// stays.
-pub(crate) fn remove_left<R: Runtime>(rt: &R, dir: &str) -> io::Result<()> {
+/// Removes the temporary links of ended runs in this directory, and returns whether there were any. Links that can't be examined or
+/// removed stay.
+pub(crate) fn remove_left<R: Runtime>(rt: &R, dir: &str) -> io::Result<bool> {
+    let mut removed = false;
     for entry in read_dir(rt, dir)? {
         match entry {
-            Ok(entry) => remove_entry(rt, &entry),
+            Ok(entry) => removed = remove_entry(rt, &entry) || removed,
             Err(error) if is_no_text(error.kind()) => {}
             Err(error) => return Err(error),
         }
     }
-    Ok(())
+    Ok(removed)
 }
 
-fn remove_entry<R: Runtime>(rt: &R, entry: &DirEntry<R, R::A>) {
-    if let Some(process) = maker_of(entry.file_name(), FRONT) {
-        let _ = remove_if_left(rt, process, entry);
+// Removes the link of a directory entry, if it is such a temporary link. Returns whether it did.
+fn remove_entry<R: Runtime>(rt: &R, entry: &DirEntry<R, R::A>) -> bool {
+    match maker_of(entry.file_name(), FRONT) {
+        Some(process) => remove_if_left(rt, process, entry).unwrap_or(false),
+        None => false,
     }
 }
 
-// Removes the link that a process has made, unless a process has this number now: it may be about to rename the link.
-fn remove_if_left<R: Runtime>(rt: &R, process: &str, entry: &DirEntry<R, R::A>) -> io::Result<()> {
-    if entry.metadata()?.is_symlink() && is_gone(rt, process)? {
-        rt.remove_file(entry.path().as_str())?;
+// Removes the link that a process made, unless a process now has this number: it may be about to rename the link. Returns whether it did.
+fn remove_if_left<R: Runtime>(
+    rt: &R,
+    process: &str,
+    entry: &DirEntry<R, R::A>,
+) -> io::Result<bool> {
+    if !entry.metadata()?.is_symlink() || !is_gone(rt, process)? {
+        return Ok(false);
     }
-    Ok(())
+    rt.remove_file(entry.path().as_str())?;
+    Ok(true)
 }
 
 fn is_gone<R: Runtime>(rt: &R, process: &str) -> io::Result<bool> {

@@ -1,4 +1,4 @@
--- A node more of the tree, and a directory more to be listed.
+-- Adding a node to the tree, and a directory to the list.
 use Rattle.std.proofs.Common.{◌≡◌, ◌≤◌, ◌+◌, ℕ, Bool, true, false, cond, List, [], ◌∷◌, ◌++◌, length, length-append, refl, ap, sym, subst, ◌∙◌, Option, Some, None, option_map, unwrap_or, arith}
 use Rattle.std.proofs.lemmas.Map.Entries.{sum_by-insert_entry}
 use Rattle.std.specs.List.{sum_by}

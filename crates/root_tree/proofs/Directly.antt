@@ -1,4 +1,4 @@
--- A node is listed by its last name in its directory.
+-- A node is listed in its directory under the last name of its path.
 use Rattle.std.proofs.Common.{◌≡◌, ℕ, Bool, true, false, ◌&&◌, ◌||◌, List, [], ◌∷◌, length, refl, ap, sym, ◌∙◌, Some}
 use Rattle.std.proofs.lemmas.Bool.{and_from}
 use Rattle.std.proofs.lemmas.Cmp.{nat_list_eq_equiv}
@@ -22,7 +22,7 @@ once z names h =
     list_any-from_Contains nat_list_eq_equiv z (dedup bytes_eq names) (Contains-dedup nat_list_eq_equiv exact names z (Contains-from_any exact z names h))
 
 module _ (d z : List ℕ) where
-  -- the path goes on from the directory by the name
+  -- the path is below the directory, and the next name is `z`
   abbrev goes_by : List ℕ → Bool
   goes_by p = is_below d p && bytes_eq z (name_behind (length (folder d)) p)
 

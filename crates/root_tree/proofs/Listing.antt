@@ -1,4 +1,4 @@
--- The listing of a directory, name by name, and of one directory after another.
+-- The listing of a directory, one name at a time, and of several directories in sequence.
 use Rattle.std.proofs.Common.{◌≡◌, ◌<◌, ◌≤◌, ◌+◌, ◌-◌, ℕ, fold, List, [], ◌∷◌, ◌++◌, length, length-append, drop, get_or, add-one, drop-cons, refl, ap, sym, subst, ◌∙◌, Option, Some, None, Result, Ok, Err, IfErr, arith}
 use Rattle.image_tree.specs.Tree.{Nodes, IsTree, children_of, kind_at}
 use Rattle.image_tree.specs.Paths.{join, root}
@@ -16,7 +16,7 @@ use Rattle.root_tree.specs.declared.fault.TreeRead.{TreeRead}
 use Rattle.root_tree.specs.declared.fault.TreeRead.TheVariants.{Failed, TooLarge, NoMemory}
 use Rattle.tree_face.specs.Known.{IfKnown}
 
--- ---- readings one after another
+-- ---- readings in sequence
 
 keeps_on : (a b c : FolderState) → KeepsFolder a b → KeepsFolder b c → KeepsFolder a c
 keeps_on a b c first next = record { contents = next.contents ∙ first.contents; time = next.time ∙ first.time; may = next.may ∙ first.may; since = next.since ∙ first.since }
@@ -61,7 +61,7 @@ both P Q R (Some c) f p q = f c p q
 
 -- ---- names of a directory
 
--- the next of the names that are left
+-- the next of the remaining names
 pub next_name : (names : List (List ℕ)) (i : ℕ) (item name : List ℕ) → i < length names → item ≡ get_or names i item → name ≡ item → drop i names ≡ name ∷ drop (i + 1) names
 next_name names i item name less is same =
     let step : drop i names ≡ get_or names i item ∷ drop (i + 1) names = rw (drop-cons names i item less, add-one) refl in
@@ -125,7 +125,7 @@ pub listing_ends : (dir : List ℕ) (names : List (List ℕ)) (start here : SoFa
 unfolding listed
 listing_ends dir names start here old new is list = both _ _ _ old.contents (λ c all at. all ∙ ap (fold (seen c.now dir) start) at.1) is.seen_all list
 
--- ---- one directory after another
+-- ---- directories in sequence
 
 raised_on : (c a b : ℕ) → raised (raised c a) b ≡ raised c (a + b)
 raised_on c a b = omega arith

@@ -1,4 +1,4 @@
--- A path is the path of its last name in its directory.
+-- A path is its directory joined with its last name.
 use Rattle.std.proofs.Common.{◌≡◌, ◌<◌, ◌+◌, ℕ, suc, Bool, true, false, cond, List, [], ◌∷◌, ◌++◌, append_assoc, drop, length, length-append, refl, ap, sym, subst, ◌∙◌, Option, Some, None, unwrap_or, arith, if◌then◌else◌, nat_eq}
 use Rattle.std.proofs.lemmas.Bool.{and_parts, eqb-true, false≢true}
 use Rattle.std.proofs.lemmas.Bool.Decides.{Decides-eqb}
@@ -90,21 +90,21 @@ module _ (q : List ℕ) (proper : is_path q ≡ true) where
         ap first_name named ∙ is.name ∙ sym named,
       )
 
-  -- the name's path in the directory is the path
+  -- the directory joined with the last name is the path
   pub joined : join (parent q) (last q) ≡ q
   joined = (by_front (before_last q) refl).0
 
   last_whole : first_name (last q) ≡ last q
   last_whole = (by_front (before_last q) refl).1
 
-  -- it is below its directory, and goes on with its last name
+  -- the path is below its directory, followed by its last name
   pub below_parent : is_below (parent q) q ≡ true
   below_parent = (starts_is Decides-eqb q (folder (parent q)) (is_below (parent q) q) refl).1 (last q) (sym joined)
 
   pub named_behind : name_behind (length (folder (parent q))) q ≡ last q
   named_behind = ap (λ x. first_name (drop (length (folder (parent q))) x)) (sym joined) ∙ ap first_name (drop_at (folder (parent q)) (last q) (length (folder (parent q))) refl) ∙ last_whole
 
-  -- its directory is shorter, but for the root
+  -- the directory's path is shorter, unless the directory is the root
   pub shorter : bytes_eq (parent q) root ≡ false → length (parent q) < length q
   shorter other = by (before_last q) refl
     where

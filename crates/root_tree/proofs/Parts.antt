@@ -1,4 +1,4 @@
--- A sorted list of nodes all of which another one has is no longer, and if it is as long, it is that list.
+-- If a sorted list has all nodes of another sorted list, the other list is not longer. If both have the same length, they are equal.
 use Rattle.std.proofs.Common.{◌≡◌, ◌<◌, ◌≤◌, ◌+◌, ℕ, Bool, true, false, cond, ◌||◌, ◌&&◌, not, List, [], ◌∷◌, length, refl, ap, sym, subst, ◌∙◌, Option, Some, None, arith, Ordering}
 use Rattle.std.proofs.lemmas.Bool.{and_parts, eqb-true, false≢true}
 use Rattle.std.proofs.lemmas.Cmp.{tied_itself}
@@ -28,7 +28,7 @@ found_here e t = ap (λ r. cond (is_eq r) (Some e.1) (node_at t e.0)) (tied_itse
 found_behind : (e : List ℕ × Node) (t : Nodes) (q : List ℕ) → path_cmp e.0 q ≡ Less → node_at (e ∷ t) q ≡ node_at t q
 found_behind e t q less = ap (λ r. cond (is_eq r) (Some e.1) (node_at t q)) (flipped path_total e.0 q Less less)
 
--- what is found is behind what all are behind
+-- if all keys of a list are greater than `p`, so is the key of a node that is found in it
 found_later : (p : List ℕ) (t : Nodes) (q : List ℕ) (n : Node) → AllByRecursion (λ k. path_cmp p k ≡ Less) (keys_of t) → node_at t q ≡ Some n → path_cmp p q ≡ Less
 found_later p [] q n all e = absurd (cc)
 found_later p (f ∷ t) q n all e = by_test (is_at (path_cmp q) f.0)
@@ -89,7 +89,7 @@ shorter (y ∷ t) (x ∷ part) st sp is =
     pair : (a b : List ℕ × Node) → a.0 ≡ b.0 → a.1 ≡ b.1 → a ≡ b
     pair a b k n = ap (λ z. (z, a.1)) k ∙ ap (λ z. (b.0, z)) n
 
--- two lists of which each has the other's nodes are one
+-- if each of two sorted lists has the nodes of the other, they are equal
 pub one_list : (t part : Nodes) → IsPathSorted t → IsPathSorted part → IsPart t part → IsPart part t → part ≡ t
 one_list t part st sp is back = (shorter t part st sp is).same (shorter part t sp st back).few
 
@@ -114,7 +114,7 @@ any_found test (e ∷ t) s h = by_test (test e)
       passes = rest.passes;
     })
 
--- ---- a node more
+-- ---- adding a node
 
 pub one_longer : (t : Nodes) (path : List ℕ) (node : Node) → node_at t path ≡ None → length (tree.put t path node) ≡ length t + 1
 one_longer [] path node none = refl

@@ -1,4 +1,4 @@
--- What is looked at, if the directory is known.
+-- The result of looking up a path, if the content of the directory is known.
 use Rattle.std.proofs.Common.{◌≡◌, ◌∙◌, ◌&&◌, ℕ, Bool, true, false, cond, List, Option, Some, None, is_none, ap, sym, refl}
 use Rattle.std.specs.Option.{IsSomeAnd}
 use Rattle.lib_types.proofs.SortedPairs.{by_test}

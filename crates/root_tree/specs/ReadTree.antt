@@ -17,31 +17,31 @@ use Rattle.tree_face.specs.Known.{IfKnown}
 
 -- ---- faults
 
--- the fault of a call on a path
+-- the error of a call on a path
 abbrev pub of_read : FolderRead → List ℕ → TreeRead
 of_read folder.Failed at = Failed at
 of_read folder.NoMemory at = NoMemory
 
--- why there is no tree: a call failed, for which the counts rose, or else no count did
+-- why no tree is returned: a call failed and the fault counts rose, or no call failed and the fault counts are the same
 abbrev pub HasCause : TreeRead → FolderState → FolderState → Type 0
 HasCause (Failed at) old new = HasRisen old.faults new.faults × HasRisen old.read_faults new.read_faults
 HasCause TooLarge old new = HasNoFault old new
 HasCause NoMemory old new = HasNoFault old new
 
--- ---- what a reading leaves
+-- ---- the state after a reading
 
--- no link is made, and no directory is settled
+-- no link is made, and no directory is synced
 pub record KeepsMade (a b : FolderCounts) : Type 0 where
   pub links : b.links ≡ a.links
   pub settles : b.settles ≡ a.settles
 
--- nothing changes but counts, and no fault comes
+-- only counts change, and no call fails
 pub record HasRead (old new : FolderState) : Type 0 where
   pub keeps : KeepsFolder old new
   pub made : KeepsMade old.counts new.counts
   pub no_fault : HasNoFault old new
 
--- nothing changes but counts
+-- only counts change
 pub record ReadsOn {A : Type 0} (result : Result A TreeRead) (old new : FolderState) : Type 0 where
   pub keeps : KeepsFolder old new
   pub made : KeepsMade old.counts new.counts
@@ -60,7 +60,7 @@ dirs_in t = sum_by count_dir (values_of t)
 abbrev pub IsTooLarge : FolderState → Type 0
 IsTooLarge s = IfKnown s.contents (λ c. NODES_MAX < length c.now)
 
--- The tree of the directory is read. Each of its directories is listed once, and so is the root.
+-- The tree of the directory is read. The root and each directory of the tree are listed once.
 pub record ReadsTree (result : Result Nodes TreeRead) (old new : FolderState) : Type 0 where
   pub tree : IfOk result (λ tree. IfKnown old.contents (λ c. tree ≡ c.now))
   pub lists : IfOk result (λ tree. new.counts.lists ≡ raised old.counts.lists (1 + dirs_in tree))

@@ -1,14 +1,14 @@
-//! Why the tree of a directory isn't read.
+//! Why the tree of a directory couldn't be read.
 ghost use Rattle.std.specs.Prelude.{◌≡◌};
 ghost use Rattle.root_tree.specs.ReadTree.{of_read};
 
 use lib_types::{NoMemory, Text};
 use root_folder::FolderRead;
 
-/// Why the tree of a directory isn't read.
+/// Why the tree of a directory couldn't be read.
 #[derive(Drop)]
 pub enum TreeRead {
-    /// The directory at this path can't be listed, or the path can't be looked at.
+    /// The directory at this path can't be listed, or the path can't be looked up.
     Failed { at: Text },
     /// There are more nodes than a tree may have.
     TooLarge,
@@ -25,7 +25,7 @@ impl From<NoMemory> for TreeRead {
     }
 }
 
-/// The fault of a call on this path.
+/// The error of a call on this path.
 pub(crate) fn fault_at(fault: FolderRead, at: Text) -> TreeRead
     ensures { result ≡ of_read fault at }
 {

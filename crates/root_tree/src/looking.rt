@@ -1,4 +1,4 @@
-//! What is in a directory is looked at.
+//! Lists a directory and looks up each of its names.
 ghost use Rattle.std.specs.Prelude.{◌≡◌, ◌++◌, ◌∷◌, [], true, IfErr, IfOk, IfSome, IsErrOf, IsSomeAnd, IsTrue, OnOk};
 ghost use Rattle.image_tree.specs.Node.{is_dir};
 ghost use Rattle.image_tree.specs.Paths.{join};
@@ -34,8 +34,8 @@ fn add_dir(todo: &mut Vec<Text>, dir: Text) -> Result<(), NoMemory>
     Ok(())
 }
 
-// Adds a node. A directory is still to be listed. A node that can't be there with the others is passed over: in a
-// directory that doesn't change there is none.
+// Adds a node. If it is a directory, it is still to be listed. A node that clashes with the other nodes is skipped. This
+// can only happen if the directory changes while it is read.
 #[tactic(auto, using(crate::proofs::Added::grows))]
 fn add_node(tree: &mut Tree, todo: &mut Vec<Text>, path: Text, node: Node) -> Result<(), TreeRead>
     requires { IsNew tree.old path node }
@@ -58,7 +58,7 @@ fn add_node(tree: &mut Tree, todo: &mut Vec<Text>, path: Text, node: Node) -> Re
     Ok(())
 }
 
-// Adds what was found, if anything was.
+// Adds the node that was found, if there is one.
 fn add_found(
     tree: &mut Tree,
     todo: &mut Vec<Text>,
@@ -77,7 +77,7 @@ fn add_found(
     }
 }
 
-// What is at a path, unless the tree has a node there, or it is no path.
+// What is at a path. None if the tree already has a node there, or if the text isn't a valid path.
 fn look_new<F: Folder>(
     alloc: Global,
     folder: &mut F,
@@ -94,7 +94,7 @@ fn look_new<F: Folder>(
     folder.look(alloc, path)
 }
 
-// Looks at a name of a directory, unless the tree has a node there.
+// Looks up a name of a directory, unless the tree already has a node there.
 #[tactic(auto, using(crate::proofs::Sees::is_full))]
 fn see<F: Folder>(
     alloc: Global,
@@ -134,7 +134,7 @@ fn names_in<F: Folder>(alloc: Global, folder: &mut F, dir: Text) -> Result<(Text
     }
 }
 
-/// Lists a directory, and looks at each name in it.
+/// Lists a directory, and looks up each name in it.
 #[tactic(auto, unfolding(crate::specs::SoFar::listed))]
 pub(crate) fn list<F: Folder>(
     alloc: Global,

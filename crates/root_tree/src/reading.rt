@@ -1,4 +1,4 @@
-//! The whole tree is read, directory by directory.
+//! Reads the whole tree, one directory at a time.
 ghost use Rattle.std.specs.Prelude.{◌≡◌, ◌++◌, ◌∷◌, [], IfOk, MatchOption};
 ghost use Rattle.image_tree.specs.Paths.{root};
 ghost use Rattle.root_tree.specs.ReadTree.{ReadsTree};
@@ -10,7 +10,7 @@ use root_folder::Folder;
 use std::alloc::Global;
 use tree_face::Tree;
 
-// The root, which is the first to be listed.
+// The list of directories to be listed, at first only the root.
 fn root_alone(alloc: Global) -> Result<Vec<Text>, NoMemory>
     ensures { IfOk result (λ todo. todo.items ≡ root ∷ []) }
 {
@@ -19,15 +19,15 @@ fn root_alone(alloc: Global) -> Result<Vec<Text>, NoMemory>
     Ok(todo)
 }
 
-// Takes the directory that was added last.
+// Removes and returns the directory that was added last.
 fn take_last(todo: &mut Vec<Text>) -> Option<Text>
     ensures { MatchOption result ((todo.old.items ≡ []) × (todo.new.items ≡ [])) (λ dir. todo.old.items ≡ todo.new.items ++ dir ∷ []) }
 {
     todo.pop()
 }
 
-/// Reads the tree of a directory. Each directory in it is listed once, and then each of its names is looked at, so that a
-/// directory is opened once. Directories that are still to be listed wait in a list: the depth of the tree costs no stack.
+/// Reads the tree of a directory. Each directory in it is listed once, and then each of its names is looked up. So each
+/// directory is opened once. Directories still to be listed are kept in a list, so a deep tree needs no more stack.
 pub fn read_tree<F: Folder>(alloc: Global, folder: &mut F) -> Result<Tree, TreeRead>
     ensures { ReadsTree result (F.state folder.old) (F.state folder.new) }
 {

@@ -1,4 +1,4 @@
-// Images that the tests speak of.
+// Images of the tests.
 use lib_types::Text;
 use root_folder::MemFolder;
 use std::alloc::Global;
@@ -37,7 +37,7 @@ fn tree_of(rt: &impl Abort, alloc: Global, nodes: &[Placed<'_>]) -> Result<Tree,
     Ok(tree)
 }
 
-/// A directory with these nodes, whose calls of these numbers fail.
+/// A directory with these nodes, in which the calls with these numbers fail.
 pub(super) fn folder_of(
     rt: &impl Abort,
     alloc: Global,
@@ -52,7 +52,7 @@ pub(super) fn folder_of(
     }
 }
 
-/// The nodes of a tree: each path, what is there, and a bar.
+/// The nodes of a tree: each path, its node, and a bar.
 pub(super) fn text_of(alloc: Global, tree: &Tree) -> Result<Vec<u8>, Fail> {
     let mut text = Vec::new(alloc);
     for (path, node) in tree.nodes() {

@@ -1,4 +1,4 @@
-//! Tests of the reading of a directory's tree. They are a crate of their own, since a crate with tests is proved twice.
+//! Tests of reading a directory's tree. They are a crate of their own, since a crate with tests is proved twice.
 #![tactic(auto)]
 
 #[cfg(test)]

@@ -19,7 +19,7 @@ const USUAL: &[Placed<'_>] = &[
     ("/usr-x/f", Kind::File, "k"),
 ];
 
-// The nodes of a directory, the tree as it is read, and how many directories are listed and paths are looked at.
+// The nodes of a directory, the tree that is read, the number of listed directories, and the number of paths that are looked at.
 const TREES: &[(&[Placed<'_>], &str, u64, u64)] = &[
     (&[], "", 1, 0),
     (&[("/a", Kind::File, "k")], "/a = k|", 1, 1),
@@ -66,7 +66,7 @@ fn trees_are_read(rt: HostRuntime) -> Result<(), Fail> {
     Ok(())
 }
 
-// Whether a call on this path was made just once.
+// Whether exactly one call was made on this path.
 fn is_once(folder: &MemFolder, is_names: bool, path: &str) -> bool {
     let mut count = 0;
     for call in folder.calls() {
@@ -98,7 +98,7 @@ fn each_call_is_made_once(rt: HostRuntime) -> Result<(), Fail> {
     Ok(())
 }
 
-// The path at which a reading failed.
+// The path where a reading failed.
 fn failed_at(alloc: Global, folder: &mut MemFolder) -> Result<Vec<u8>, Fail> {
     match read_tree(alloc, folder) {
         Ok(_) => Ok(Vec::from_slice(alloc, b"read")?),
@@ -114,7 +114,7 @@ const TWO: &[Placed<'_>] = &[
     ("/c", Kind::File, "k"),
 ];
 
-// Which call fails, counted from 0, and where.
+// The number of the call that fails, counted from 0, and its path.
 const FAILING: &[(u64, &str)] = &[
     (0, "/"),
     (1, "/a"),

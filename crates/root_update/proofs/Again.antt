@@ -1,21 +1,22 @@
--- A second update of a directory plans no link and makes the same caches, and an update without an auxiliary cache makes the same.
+-- A second update of a directory plans no link and writes the same caches. So does an update without an auxiliary cache.
 use Rattle.std.proofs.Common.{◌≡◌, ◌∙◌, ℕ, List, [], Some, ap, refl, subst, sym}
 use Rattle.aux_cache.specs.declared.stamps.Stamp.{Stamp}
 use Rattle.file_stamps.specs.Opened.{opens}
 use Rattle.file_stamps.specs.Stamped.{AreSame, AreTrue, stamps_of}
+use Rattle.file_table.specs.Analyses.{Analyses}
 use Rattle.hwcap_dirs.specs.declared.kinds.Scope.{Scope}
-use Rattle.hwcap_dirs.specs.declared.kinds.Scope.TheVariants.{Image}
 use Rattle.image_session.specs.Aux.{stamps_of_slot}
 use Rattle.image_session.specs.Session.{Loaded, image_with}
 use Rattle.ldconfig_core.proofs.OneText.{again, both_links, one_outcome, one_written, some_texts}
 use Rattle.ldconfig_core.specs.Settled.{AreCachesAgain, AreSettled, planned_image, unstamped_image}
 use Rattle.ldconfig_core.specs.Texts.{AreTextsOf, UpdateTexts}
-use Rattle.library_search.proofs.Honest.{none_true, said_law, stamps_are}
+use Rattle.library_search.proofs.Honest.{none_true, said_is, said_law, stamps_are, wanted_is}
 use Rattle.library_search.specs.Begun.{opened_in}
-use Rattle.library_search.specs.Ldconfig.{library_paths, places_in, stamps_in}
+use Rattle.library_search.specs.Judged.{AreJudged}
+use Rattle.library_search.specs.Ldconfig.{library_paths, stamps_in}
 use Rattle.root_update.proofs.AsImage.{same_cache}
 use Rattle.root_update.proofs.Reopened.{opens_again}
-use Rattle.root_update.specs.Made.{ChangesNothing, IsRootRebuilt, IsRootSettled, tree_after, unstamped_in}
+use Rattle.root_update.specs.Made.{AreAllSearchable, ChangesNothing, HasCacheOfImage, IsRootRebuilt, IsRootSettled, tree_after, unstamped_in}
 use Rattle.tree_face.specs.Disk.{Content}
 use Rattle.tree_face.specs.Store.{Contents}
 
@@ -71,10 +72,17 @@ module _ (scope : Scope) (held : Contents) (image : Loaded) (texts : UpdateTexts
     abbrev none : AreTrue held image.tree []
     none = none_true held image.tree
 
-    as_image : places_in Image held image.tree ≡ places_in scope held image.tree → (others : UpdateTexts) → AreTextsOf Image held bare others → others.cache ≡ texts.cache
-    as_image alike others is =
+    -- without stamps, each library's name is searchable too
+    all_bare : AreAllSearchable scope held image → AreAllSearchable scope held bare
+    all_bare all = record {
+      wanted = subst (λ (w : Analyses). AreJudged scope w) (wanted_is scope held image.tree same image.stamps truth ∙ sym (wanted_is scope held image.tree same [] none)) all.wanted;
+      files = subst (λ (w : Analyses). AreJudged scope w) (said_is scope held image.tree same image.stamps truth ∙ sym (said_is scope held image.tree same [] none)) all.files;
+    }
+
+    as_image : HasCacheOfImage scope held image bare texts
+    as_image alike all others is =
         let mid = some_texts scope held bare in
-        same_cache scope held bare alike mid.0 others mid.1 is ∙ (one_written scope held image bare refl refl same truth none texts mid.0 are mid.1).cache
+        same_cache scope held bare alike (all_bare all) mid.0 others mid.1 is ∙ (one_written scope held image bare refl refl same truth none texts mid.0 are mid.1).cache
 
     pub is_rebuilt : IsRootRebuilt scope held image texts
     is_rebuilt = record {

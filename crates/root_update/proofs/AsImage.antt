@@ -1,5 +1,5 @@
--- Where the places are those of an image, the update of a directory makes the cache of an image's update.
-use Rattle.std.proofs.Common.{◌≡◌, ◌∙◌, ◌++◌, ℕ, List, filter, not, ap, sym, subst}
+-- If a directory has the search directories of an image, and the loader can search for each library's name, its update makes the cache of an image's update.
+use Rattle.std.proofs.Common.{◌≡◌, ◌∙◌, ◌++◌, List, filter, not, ap, sym, subst}
 use Rattle.std.specs.List.{list_any}
 use Rattle.std.specs.Str.{bytes_eq}
 use Rattle.aux_cache.specs.declared.stamps.Stamp.{Stamp}
@@ -14,12 +14,15 @@ use Rattle.image_tree.specs.Tree.{Nodes}
 use Rattle.ldconfig_core.proofs.OneText.{one_entries}
 use Rattle.ldconfig_core.specs.Texts.{AreTextsOf, UpdateTexts}
 use Rattle.library_files.specs.Search.{reached, wanted}
+use Rattle.library_search.specs.Judged.{judged}
 use Rattle.library_search.specs.Ldconfig.{behind_in, entries_in, library_paths, links_in, places_in, planned_in, reached_in, said_files, said_wanted, wanted_in}
 use Rattle.lib_types.specs.declared.entry.Entry.{Entry}
+use Rattle.planned_tree.proofs.Agree.{agree}
+use Rattle.root_update.specs.Made.{AreAllSearchable}
 use Rattle.soname_links.specs.Plan.{links, with_links}
 use Rattle.tree_face.specs.Store.{Contents}
 
-module _ (scope : Scope) (held : Contents) (s : Loaded) (same : places_in Image held s.tree ≡ places_in scope held s.tree) where
+module _ (scope : Scope) (held : Contents) (s : Loaded) (same : places_in Image held s.tree ≡ places_in scope held s.tree) (all : AreAllSearchable scope held s) where
   abbrev t : Nodes
   t = s.tree
 
@@ -34,9 +37,15 @@ module _ (scope : Scope) (held : Contents) (s : Loaded) (same : places_in Image 
   unfolding said_wanted
   same_said = ap (said_in held t loaded) same_wanted
 
+  -- each library with a library name counts
+  counted_wanted : judged scope (said_wanted scope held t loaded) ≡ said_wanted scope held t loaded
+  counted_wanted = agree (judged scope (said_wanted scope held t loaded)) (said_wanted scope held t loaded) all.wanted
+
   same_links : links_in Image held t loaded ≡ links_in scope held t loaded
   unfolding links_in
-  same_links = ap (λ (w : Analyses). links w t (places_in Image held t)) same_said ∙ ap (links (said_wanted scope held t loaded) t) same
+  same_links =
+      ap (λ (w : Analyses). links w t (places_in Image held t)) (same_said ∙ sym counted_wanted)
+      ∙ ap (links (judged scope (said_wanted scope held t loaded)) t) same
 
   same_planned : planned_in Image held t loaded ≡ planned_in scope held t loaded
   unfolding planned_in
@@ -58,12 +67,15 @@ module _ (scope : Scope) (held : Contents) (s : Loaded) (same : places_in Image 
   unfolding said_files
   same_files = ap (said_in held t loaded) same_paths
 
+  counted_files : judged scope (said_files scope held t loaded) ≡ said_files scope held t loaded
+  counted_files = agree (judged scope (said_files scope held t loaded)) (said_files scope held t loaded) all.files
+
   same_entries : entries_in Image held t loaded ≡ entries_in scope held t loaded
   unfolding entries_in
   same_entries =
-      ap (λ (w : Analyses). found w (planned_in Image held t loaded) (places_in Image held t)) same_files
-      ∙ ap (λ n. found (said_files scope held t loaded) n (places_in Image held t)) same_planned
-      ∙ ap (found (said_files scope held t loaded) (planned_in scope held t loaded)) same
+      ap (λ (w : Analyses). found w (planned_in Image held t loaded) (places_in Image held t)) (same_files ∙ sym counted_files)
+      ∙ ap (λ n. found (judged scope (said_files scope held t loaded)) n (places_in Image held t)) same_planned
+      ∙ ap (found (judged scope (said_files scope held t loaded)) (planned_in scope held t loaded)) same
 
   pub same_cache : (texts others : UpdateTexts) → AreTextsOf scope held s texts → AreTextsOf Image held s others → others.cache ≡ texts.cache
   same_cache texts others are is =

@@ -1,12 +1,11 @@
--- A check of a directory, put together from its parts.
-use Rattle.std.proofs.Common.{◌≡◌, ◌∙◌, ◌∷◌, ◌++◌, ◌&&◌, ◌⊎◌, inl, inr, true, false, not, Bool, ℕ, List, [], Option, Some, None, Result, Ok, Err, if◌then◌else◌, ap, refl, subst, sym}
+-- The contract of a check of a directory, from the contracts of its parts.
+use Rattle.std.proofs.Common.{◌≡◌, ◌∷◌, ◌&&◌, inl, inr, true, false, not, Bool, ℕ, List, [], Option, Some, None, Ok, Err, if◌then◌else◌, refl, subst, sym}
 use Rattle.image_session.proofs.ReadSlots.{reads_next, reads_none}
-use Rattle.image_session.specs.Session.{Loaded}
 use Rattle.image_session.specs.declared.fault.SlotFault.{SlotFault}
 use Rattle.ldconfig_core.specs.Stages.{texts_of}
 use Rattle.ldconfig_core.specs.declared.preparing.Prepared.{Prepared}
 use Rattle.root_folder.specs.Folder.{FolderState}
-use Rattle.root_update.specs.Check.{ChecksRoot, Compares, FindsChanges, ReadsNoCache, aux_slots, slots_checked}
+use Rattle.root_update.specs.Check.{ChecksRoot, Compares, FindsChanges, ReadsNoCache, aux_slots}
 use Rattle.root_update.specs.Loading.{UsesAux}
 use Rattle.link_plan.specs.declared.kinds.Planned.{Planned}
 use Rattle.root_update.specs.Made.{MakesNone, Prepares, RootStates, root_states}
@@ -21,7 +20,6 @@ use Rattle.tree_face.specs.DiskUse.{ReadsOnly}
 use Rattle.tree_face.specs.Known.{IfKnown}
 use Rattle.tree_face.specs.Store.{StoreState}
 use Rattle.tree_face.specs.StoreUse.{Complete}
-use Rattle.tree_face.specs.declared.disk.Slot.{Slot}
 use Rattle.tree_face.specs.declared.disk.Slot.TheVariants.{Cache}
 
 -- nothing was made
@@ -31,7 +29,7 @@ unmade parts (faults.Tree fault) old new is = is
 unmade parts (faults.Update fault) old new is = is
 unmade parts (faults.Write fault) old new is = absurd is
 
--- ---- the slots that are read
+-- ---- the files that are read
 
 unread : (a b : DiskState) → b ≡ a → ReadsOnly [] Complete a b
 unread a b same = subst (λ (s : DiskState). ReadsOnly [] Complete a s) (sym same) (reads_none a)

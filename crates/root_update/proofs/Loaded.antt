@@ -1,30 +1,30 @@
--- The image of a directory, by the readings of its tree and of the auxiliary cache.
-use Rattle.std.proofs.Common.{◌≡◌, ◌∙◌, ◌∷◌, ℕ, false, List, [], Option, Some, None, Result, Ok, Err, IfErr, IfOk, ap, refl, subst, sym}
+-- The image of a directory, from the tree and the auxiliary cache that were read.
+use Rattle.std.proofs.Common.{◌≡◌, ◌∙◌, ◌∷◌, ℕ, false, List, [], Option, Some, None, Result, Ok, Err, IfErr, IfOk, ap, subst, sym}
 use Rattle.aux_cache.specs.Stamps.{HaveNames}
 use Rattle.aux_cache.specs.declared.stamps.Stamp.{Stamp}
 use Rattle.image_session.proofs.ReadSlots.{gave_up}
 use Rattle.image_session.specs.Aux.{damage_of_slot, stamps_of_slot}
-use Rattle.image_session.specs.Reading.{ReadsContent, slot_ending}
+use Rattle.image_session.specs.Reading.{ReadsContent}
 use Rattle.image_session.specs.Session.{Loaded, image_with}
 use Rattle.image_session.specs.declared.fault.SlotFault.{SlotFault}
 use Rattle.image_session.specs.declared.fault.SlotFault.TheVariants as slots
 use Rattle.image_tree.specs.Tree.{Nodes}
 use Rattle.root_tree.specs.ReadTree.{ReadsTree}
 use Rattle.root_tree.specs.declared.fault.TreeRead.{TreeRead}
-use Rattle.root_update.specs.Loading.{IfAux, IsRead, LoadsRoot, ReadsAux, ReadsNoTree, SaysOf, UsesAux, root_image}
+use Rattle.root_update.specs.Loading.{IfAux, LoadsRoot, ReadsAux, ReadsNoTree, SaysOf, UsesAux, root_image}
 use Rattle.root_update.specs.declared.fault.RootFault.TheVariants as faults
 use Rattle.root_update.specs.declared.parts.AuxUse.{AuxUse}
 use Rattle.root_update.specs.declared.parts.AuxUse.TheVariants.{Unused, Replaced, Updated}
 use Rattle.root_update.specs.declared.stamps.AuxStamps.{AuxStamps}
 use Rattle.root_folder.specs.Folder.{FolderState}
-use Rattle.root_writes.specs.Writing.{States, states}
+use Rattle.root_writes.specs.Writing.{states}
 use Rattle.tree_face.specs.Disk.{Content, DiskContent, DiskState}
 use Rattle.tree_face.specs.Known.{IfKnown}
 use Rattle.tree_face.specs.declared.disk.Slot.TheVariants.{Aux}
 
 -- ---- the auxiliary cache
 
--- what a text says that is read, unless memory is out
+-- the stamps of a text that was read, unless memory runs out
 pub of_text : (aux : Content) (result : Result AuxStamps SlotFault) (a b : DiskState) → ReadsContent Aux (Ok aux) a b
     → IfOk result (λ read. read.stamps ≡ stamps_of_slot aux) → IfOk result (λ read. read.damaged ≡ damage_of_slot aux) → IfOk result (λ read. HaveNames read.stamps)
     → IfErr result (λ fault. fault ≡ slots.NoMemory) → ReadsAux Updated result a b
@@ -32,7 +32,7 @@ of_text aux (Ok read) a b is stamps damaged names fault = (aux, (record { stamps
 of_text aux (Err fault) a b is stamps damaged names no_memory =
     subst (λ (fault : SlotFault). ReadsContent Aux (Err fault) a b) (sym no_memory) (record { content = tt; fails = tt; reads = gave_up (Aux ∷ []) a b is.reads })
 
--- a fact of the content that was read
+-- a property of the content that was read
 in_slot : (known : Option DiskContent) (aux : Content) (P : Content → Type 0) → IfKnown known (λ c. c.now.aux ≡ aux) → P aux → IfKnown known (λ c. P c.now.aux)
 in_slot None aux P is fact = tt
 in_slot (Some c) aux P is fact = subst P (sym is) fact

@@ -1,4 +1,4 @@
--- What an update of a directory makes, put together from its parts.
+-- What an update of a directory makes, from the contracts of its parts.
 use Rattle.std.proofs.Common.{◌≡◌, List, Option, Some, None, Err, refl}
 use Rattle.hwcap_dirs.specs.declared.kinds.Scope.{Scope}
 use Rattle.image_session.specs.Aux.{stamps_of_slot}
@@ -41,7 +41,7 @@ module _ (scope : Scope) (how : AuxUse) (image : Loaded) (prepared : Prepared) (
     texts_are = record {
       are = are;
       plan_is = plan;
-      as_image = known_then old.store.held _ _ (λ held texts same others is. same_cache scope held image same (texts_of prepared) others texts is) are.are_of;
+      as_image = known_then old.store.held _ _ (λ held texts same all others is. same_cache scope held image same all (texts_of prepared) others texts is) are.are_of;
       rebuilt = known_then old.store.held _ _ (λ held texts truth same. is_rebuilt scope held image (texts_of prepared) texts truth same) are.are_of;
       settles = settles scope image (texts_of prepared) old.store.held are.are_of are.aux_read are.settles;
     };

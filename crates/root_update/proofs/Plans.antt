@@ -23,7 +23,7 @@ valid_links (planned ∷ plan) h =
     and_from (made.is_valid (linking planned)) (are_valid (map linking plan))
     (and_from (is_path planned.path) (is_target planned.file) link.0 (name_is_target planned.file link.1)) (valid_links plan parts.1)
 
--- made one after another they give the planned tree
+-- making them one after another gives the planned tree
 pub same_tree : (plan : List Planned) (t : Nodes) → made.with_links t (map linking plan) ≡ with_links t plan
 same_tree [] t = refl
 same_tree (planned ∷ plan) t = same_tree plan (put t planned.path (Link planned.file))

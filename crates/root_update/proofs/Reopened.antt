@@ -1,7 +1,8 @@
--- With the stamps of some files, of these files only those are opened that have no stamp: those without an identity, and those that are no libraries.
-use Rattle.std.proofs.Common.{◌≡◌, ◌∙◌, ◌+◌, ◌||◌, if◌then◌else◌, Bool, true, false, List, [], ◌∷◌, ℕ, filter, length, Option, Some, None, ap, refl, sym, subst, arith}
+-- With the stamps of some files, an update opens only the files that have no stamp: those without an identity, and those that are not
+-- libraries.
+use Rattle.std.proofs.Common.{◌≡◌, ◌∙◌, ◌||◌, if◌then◌else◌, Bool, true, false, List, [], ◌∷◌, ℕ, filter, length, Option, Some, None, ap, refl, sym, subst, arith}
 use Rattle.std.proofs.lemmas.Cmp.{tied_itself}
-use Rattle.std.specs.List.{cons_option, filter_map}
+use Rattle.std.specs.List.{cons_option}
 use Rattle.std.specs.Option.{is_none, is_some, option_and_then}
 use Rattle.std.specs.Ordering.{is_eq}
 use Rattle.std.specs.Prelude.{IfSome}
@@ -37,7 +38,7 @@ stays stamps [] id there = there
 stays stamps (s ∷ more) id there = stays (put stamps s) more id (stamped_put stamps s id ∙ true_behind (is_same id s.id) (is_stamped stamps id) there)
 
 module _ (held : Contents) (t : Nodes) where
-  -- each of these files that has a stamp has it among these
+  -- every one of these files that has a stamp at all has it in this list
   abbrev AreStamped : List Stamp → List (List ℕ) → Type 0
   AreStamped stamps [] = Unit {0}
   AreStamped stamps (path ∷ paths) = IfSome (stamp_at held t path) (λ s. is_stamped stamps s.id ≡ true) × AreStamped stamps paths
@@ -52,7 +53,7 @@ module _ (held : Contents) (t : Nodes) where
       by (Some s) rest = (stays (put made s) (stamps_at held t paths) s.id (put_there made s), rest (put made s))
 
   module _ (stamps : List Stamp) where
-    -- a file whose stamp is among these isn't left
+    -- a file whose stamp is in the list isn't opened again
     found : (path : List ℕ) (s : Stamp) → stamp_at held t path ≡ Some s → is_stamped stamps s.id ≡ true → is_none (stamp_for stamps t path) ≡ false
     found path s is there = by (what_is held t path) is
       where
@@ -82,7 +83,7 @@ module _ (held : Contents) (t : Nodes) where
             absurd (cc)
 
     module _ (are : AreTrue held t stamps) where
-      -- a file without a stamp is left, whatever is among true stamps
+      -- a file without a stamp is opened again, whatever true stamps the list has
       left : (path : List ℕ) → is_none (stamp_at held t path) ≡ true → is_none (stamp_for stamps t path) ≡ true
       left path none = by (id_at t path) refl
         where

@@ -1,5 +1,5 @@
--- What an update of a directory writes, put together from its parts.
-use Rattle.std.proofs.Common.{◌≡◌, ◌∙◌, true, List, [], ℕ, map, if◌then◌else◌, Option, Some, None, Result, Ok, IfSome, ap, subst}
+-- What an update of a directory writes, from the contracts of its parts.
+use Rattle.std.proofs.Common.{◌≡◌, ◌∙◌, List, [], map, if◌then◌else◌, Option, Some, None, Result, Ok, IfSome, ap, subst}
 use Rattle.aux_cache.specs.declared.stamps.Stamp.{Stamp}
 use Rattle.image_session.specs.Aux.{stamps_of_slot}
 use Rattle.image_session.specs.Session.{Loaded}
@@ -26,7 +26,7 @@ use Rattle.tree_face.specs.Store.{Contents}
 use Rattle.tree_face.specs.declared.disk.Tag.{Tag}
 
 module _ (parts : RootParts) (tag : Tag) (result : Result (Unit {0}) WriteFault) (updated : Option Updated) (old : RootStates) (folder : FolderState) (disk : DiskState) (new : RootStates) where
-  -- these links and files are those that are asked for
+  -- these links and files are the requested ones
   pub writes_made : (image : Loaded) (plan : List Planned) (texts : UpdateTexts) (links : List Linking) (cache aux : Content)
       → MakesRoot parts.scope parts.aux image plan texts old (root_states folder new.store disk)
       → links ≡ links_for parts plan → cache ≡ (if parts.cache then Some texts.cache else None) → aux ≡ aux_for parts.aux texts.aux

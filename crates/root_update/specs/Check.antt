@@ -21,7 +21,7 @@ use Rattle.tree_face.specs.StoreUse.{Complete}
 use Rattle.tree_face.specs.declared.disk.Slot.{Slot}
 use Rattle.tree_face.specs.declared.disk.Slot.TheVariants.{Aux, Cache}
 
--- the slots that are read: the auxiliary cache, if it is used, and then the cache that is there, if one is asked for
+-- the files that are read: the auxiliary cache if it is used, then the existing cache if one is requested
 abbrev pub aux_slots : AuxUse → List Slot
 aux_slots uses.Unused = []
 aux_slots uses.Replaced = []
@@ -30,23 +30,23 @@ aux_slots uses.Updated = Aux ∷ []
 abbrev pub slots_checked : RootParts → List Slot
 slots_checked parts = aux_slots parts.aux ++ (if parts.cache then Cache ∷ [] else [])
 
--- what is said of them, as of an update
+-- the report, links and search directories of a check, as those of an update
 abbrev pub said_of : RootChanges → Updated
 said_of changes = record { report = changes.report; links = changes.links; looked = changes.looked }
 
--- All is made as for an update, and compared with what is there: the links that it would make, and whether the cache is another.
+-- Everything is made as for an update and compared with what exists: which links are missing, and whether the cache differs.
 pub record FindsChanges (parts : RootParts) (changes : RootChanges) (old new : RootStates) : Type 0 where
   pub image : Loaded
   pub plan : List Planned
   pub texts : UpdateTexts
-  -- the disk when all was made
+  -- the disk when everything was made
   pub disk : DiskState
   pub makes : MakesRoot parts.scope parts.aux image plan texts old (root_states new.folder new.store disk)
   pub said : IsSaidOf parts old.store.held image plan texts (said_of changes)
   pub cache_is : IfKnown old.disk.contents (λ c. changes.cache ≡ (parts.cache && not (content_eq c.now.cache (Some texts.cache))))
   pub reads : ReadsOnly (slots_checked parts) Complete old.disk new.disk
 
--- all is made, but the cache that is there isn't read
+-- everything is made, but the existing cache can't be read
 pub record ReadsNoCache (parts : RootParts) (fault : SlotFault) (old new : RootStates) : Type 0 where
   pub asked : parts.cache ≡ true
   pub image : Loaded
@@ -65,7 +65,7 @@ ChecksRoot parts (Err (faults.Write fault)) old new = ⊥
 
 -- ---- what private functions say
 
--- the cache that is there is read and compared with this one, if one is asked for
+-- if a cache is requested, the existing one is read and compared with this one
 abbrev pub Compares : Bool → List ℕ → Result Bool SlotFault → DiskState → DiskState → Type 0
 Compares true cache (Ok differs) old new = IfKnown old.contents (λ c. differs ≡ not (content_eq c.now.cache (Some cache))) × ReadsOnly (Cache ∷ []) Complete old new
 Compares true cache (Err fault) old new = ReadsContent Cache (Err fault) old new

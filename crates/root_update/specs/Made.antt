@@ -19,7 +19,8 @@ use Rattle.ldconfig_core.specs.declared.fault.UpdateFault.{UpdateFault}
 use Rattle.ldconfig_core.specs.declared.preparing.Prepared.{Prepared}
 use Rattle.ldconfig_core.specs.declared.report.Report.{Report}
 use Rattle.library_search.specs.Begun.{opened_in}
-use Rattle.library_search.specs.Ldconfig.{library_paths, links_in, places_in, planned_in}
+use Rattle.library_search.specs.Judged.{AreJudged}
+use Rattle.library_search.specs.Ldconfig.{library_paths, links_in, places_in, planned_in, said_files, said_wanted}
 use Rattle.link_plan.specs.declared.kinds.Planned.{Planned}
 use Rattle.root_folder.specs.Folder.{FolderState}
 use Rattle.root_update.specs.Loading.{LoadsRoot, ReadsNoAux, ReadsNoTree}
@@ -40,42 +41,55 @@ pub record RootStates : Type 0 where
 abbrev pub root_states : FolderState → StoreState → DiskState → RootStates
 root_states folder store disk = record { folder = folder; store = store; disk = disk }
 
--- what is read for the image, and what is written in the end
+-- the directory and the disk
 abbrev pub image_states : RootStates → States
 image_states s = states s.folder s.disk
 
--- ---- an update again
+-- ---- an update by a manifest
+
+-- The loader can search for each library of the image, so each counts as what it is.
+pub record AreAllSearchable (scope : Scope) (held : Contents) (image : Loaded) : Type 0 where
+  pub wanted : AreJudged scope (said_wanted scope held image.tree image.stamps)
+  pub files : AreJudged scope (said_files scope held image.tree image.stamps)
+
+-- An update of the image `manifested` by a manifest makes the same cache, if the two rules of a directory change nothing: Debian's directories add no
+-- search directory, and the loader can search for each library's name.
+abbrev pub HasCacheOfImage : Scope → Contents → Loaded → Loaded → UpdateTexts → Type 0
+HasCacheOfImage scope held image manifested texts =
+    places_in Image held image.tree ≡ places_in scope held image.tree → AreAllSearchable scope held image
+    → (others : UpdateTexts) → AreTextsOf Image held manifested others → others.cache ≡ texts.cache
+
+-- ---- a second update
 
 -- the tree with the planned links
 abbrev pub tree_after : Scope → Contents → Loaded → Nodes
 tree_after scope held image = planned_in scope held image.tree image.stamps
 
--- how many of the library files can have no stamp: those without an identity, and those that are no libraries
+-- the number of library files that can't have a stamp: those without an identity, and those that are not libraries
 abbrev pub unstamped_in : Scope → Contents → Nodes → List Stamp → ℕ
 unstamped_in scope held t loaded = length (file_keys t (filter (λ path. is_none (stamp_at held t path)) (library_paths scope held t loaded)))
 
--- An update of the next image plans no link, and makes the caches of these texts.
+-- An update of the image `next` plans no link, and writes the caches of these texts.
 pub record ChangesNothing (scope : Scope) (held : Contents) (image next : Loaded) (texts : UpdateTexts) : Type 0 where
   pub no_links : links_in scope held next.tree next.stamps ≡ []
   pub writes : update_outcome scope held image ≡ Writes → update_outcome scope held next ≡ Writes
   pub caches : (again : UpdateTexts) → AreTextsOf scope held next again → AreCachesAgain texts again
 
--- So does each update of the tree with the planned links whose auxiliary cache is true of it: none, one that was true before, or the one that is made.
+-- A second update of the tree with the planned links changes nothing, if its auxiliary cache is true of that tree. It may have
+-- no auxiliary cache, one that was true before, or the one that this update makes.
 pub record IsRootSettled (scope : Scope) (held : Contents) (image : Loaded) (texts : UpdateTexts) : Type 0 where
   pub again : (aux : Content) → AreTrue held (tree_after scope held image) (stamps_of_slot aux) → ChangesNothing scope held image (image_with (tree_after scope held image) aux) texts
   pub still_true : (stamps : List Stamp) → AreTrue held image.tree stamps → AreTrue held (tree_after scope held image) stamps
   pub made_true : AreTrue held (tree_after scope held image) (stamps_of_slot (Some texts.aux))
-  -- with the one that is made, no library that has an identity is opened again
+  -- with the one that this update makes, no library that has an identity is opened again
   pub opened : opened_in scope held (tree_after scope held image) (stamps_of_slot (Some texts.aux))
       ≡ unstamped_in scope held (tree_after scope held image) (stamps_of_slot (Some texts.aux))
 
--- An update without the auxiliary cache makes the same.
+-- An update without the auxiliary cache writes the same.
 pub record IsRootRebuilt (scope : Scope) (held : Contents) (image : Loaded) (texts : UpdateTexts) : Type 0 where
   pub outcome : update_outcome scope held (unstamped_image image) ≡ update_outcome scope held image
   pub same : (others : UpdateTexts) → AreTextsOf scope held (unstamped_image image) others → AreAlike texts others
-  -- where Debian's directories add no place, one by any manifest of this tree makes the same cache
-  pub as_image : places_in Image held image.tree ≡ places_in scope held image.tree
-      → (others : UpdateTexts) → AreTextsOf Image held (unstamped_image image) others → others.cache ≡ texts.cache
+  pub as_image : HasCacheOfImage scope held image (unstamped_image image) texts
 
 -- ---- what is made
 
@@ -83,14 +97,13 @@ pub record IsRootRebuilt (scope : Scope) (held : Contents) (image : Loaded) (tex
 pub record AreRootTexts (scope : Scope) (known : Option Contents) (image : Loaded) (plan : List Planned) (texts : UpdateTexts) : Type 0 where
   pub are : AreUpdateTexts scope image known texts
   pub plan_is : IfKnown known (λ held. plan ≡ links_in scope held image.tree image.stamps)
-  -- where Debian's directories add no place, the cache is that of an update by any manifest of this tree with the same auxiliary cache
-  pub as_image : IfKnown known (λ held. places_in Image held image.tree ≡ places_in scope held image.tree
-      → (others : UpdateTexts) → AreTextsOf Image held image others → others.cache ≡ texts.cache)
-  -- if the stamps are true, as no stamps are, and files of equal identity have equal content
+  -- with the same auxiliary cache
+  pub as_image : IfKnown known (λ held. HasCacheOfImage scope held image image texts)
+  -- if the stamps are true, and files of equal identity have equal content
   pub rebuilt : IfHonestly known image (λ held. IsRootRebuilt scope held image texts)
   pub settles : IfHonestly known image (λ held. IsRootSettled scope held image texts)
 
--- The image of the directory is read, and all that is written is made.
+-- The image of the directory is read, and everything that is written later is made.
 pub record MakesRoot (scope : Scope) (how : AuxUse) (image : Loaded) (plan : List Planned) (texts : UpdateTexts) (old new : RootStates) : Type 0 where
   pub loads : LoadsRoot how image (image_states old) (image_states new)
   pub texts_are : AreRootTexts scope old.store.held image plan texts
@@ -102,14 +115,14 @@ pub record IsRootReport (scope : Scope) (known : Option Contents) (image : Loade
   pub text : report.text ≡ texts.report
   pub numbers : IfKnown known (λ held. IsReportFor scope held image report)
 
--- the image is read, but there is nothing to be written, for this reason
+-- the image is read, but there is nothing to write, for this reason
 pub record RefusesRoot (scope : Scope) (how : AuxUse) (fault : UpdateFault) (old new : RootStates) : Type 0 where
   pub image : Loaded
   pub loads : LoadsRoot how image (image_states old) (image_states new)
   pub answers : IfKnown old.store.held (λ held. IsAnswer {A = Prepared} (update_outcome scope held image) (Err fault) old.store new.store)
   pub reads : ReadsUpdate scope image (update_ending {A = Prepared} (Err fault)) old.store new.store
 
--- Nothing was made, for this reason: the auxiliary cache or the tree isn't read, or there is nothing to be written.
+-- Nothing was made, for this reason: the auxiliary cache or the tree can't be read, or there is nothing to write.
 abbrev pub MakesNone : Scope → AuxUse → RootFault → RootStates → RootStates → Type 0
 MakesNone scope how (faults.Slot fault) old new = ReadsNoAux how fault (image_states old) (image_states new) × (new.store ≡ old.store)
 MakesNone scope how (faults.Tree fault) old new = ReadsNoTree how fault (image_states old) (image_states new) × (new.store ≡ old.store)
@@ -118,7 +131,7 @@ MakesNone scope how (faults.Write fault) old new = ⊥
 
 -- ---- what private functions say
 
--- all that is written is made, or why not
+-- everything that is written later is made, or the fault says why not
 abbrev pub Prepares : Scope → AuxUse → Result Prepared RootFault → RootStates → RootStates → Type 0
 Prepares scope how (Ok prepared) old new =
     (image : Loaded) × (MakesRoot scope how image prepared.plan (texts_of prepared) old new

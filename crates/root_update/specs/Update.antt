@@ -1,4 +1,5 @@
--- An update of a directory without a manifest (ldconfig(8): -r, -f, -N, -X, -i): its links are made, then its cache is written, and then the auxiliary cache.
+-- An update of a directory without a manifest (ldconfig(8): -r, -f, -N, -X, -i). It makes the links, then writes the cache, and then the
+-- auxiliary cache.
 use Rattle.std.specs.Prelude.{◌≡◌, ℕ, List, [], map, true, if◌then◌else◌, Option, Some, None, Result, Ok, Err, IfSome}
 use Rattle.atomic_replace.specs.Replace.{Write}
 use Rattle.image_session.specs.Aux.{stamps_of_slot}
@@ -29,11 +30,11 @@ use Rattle.tree_face.specs.declared.disk.Tag.{Tag}
 abbrev pub linking : Planned → Linking
 linking planned = (planned.path, planned.file)
 
--- the links of the plan, unless none is asked for
+-- the links of the plan, or none with -X
 abbrev pub asked_links : RootParts → List Planned → List Planned
 asked_links parts plan = if parts.links then plan else []
 
--- they are made in the order of the plan
+-- the links to make, in the order of the plan
 abbrev pub links_for : RootParts → List Planned → List Linking
 links_for parts plan = map linking (asked_links parts plan)
 
@@ -43,13 +44,13 @@ aux_for uses.Unused aux = None
 aux_for uses.Replaced aux = Some aux
 aux_for uses.Updated aux = Some aux
 
--- the cache, unless none is to be built, and then the auxiliary cache
+-- the cache, unless -N is given, and then the auxiliary cache
 abbrev pub files_for : RootParts → UpdateTexts → List Write
 files_for parts texts = file_writes (if parts.cache then Some texts.cache else None) (aux_for parts.aux texts.aux)
 
--- ---- what is said
+-- ---- what is reported
 
--- the text and the numbers of the update, the links of its plan that are asked for, and where it looked
+-- the text and the numbers of the report, the planned links that are requested, and the directories that were searched
 pub record IsSaidOf (parts : RootParts) (known : Option Contents) (image : Loaded) (plan : List Planned) (texts : UpdateTexts) (said : Updated) : Type 0 where
   pub report : IsRootReport parts.scope known image texts said.report
   pub links : said.links ≡ asked_links parts plan
@@ -57,17 +58,17 @@ pub record IsSaidOf (parts : RootParts) (known : Option Contents) (image : Loade
 
 -- ---- one update
 
--- All is made; then the links are made, and then the files are replaced, or a call of these failed.
+-- Everything is made; then the links are made and the files are replaced, unless one of these calls fails.
 pub record WritesMade (parts : RootParts) (tag : Tag) (result : Result (Unit {0}) WriteFault) (updated : Option Updated) (old new : RootStates) : Type 0 where
   pub image : Loaded
   pub plan : List Planned
   pub texts : UpdateTexts
-  -- the directory and the disk when all was made
+  -- the directory and the disk when everything was made
   pub folder : FolderState
   pub disk : DiskState
   pub makes : MakesRoot parts.scope parts.aux image plan texts old (root_states folder new.store disk)
   pub written : WritesRoot tag (links_for parts plan) (files_for parts texts) result (states folder disk) (image_states new)
-  -- a crash leaves a new file only where all links are there and stay
+  -- a crash leaves a new file only if all links were made and flushed before
   pub order : LeavesInOrder tag (links_for parts plan) (files_for parts texts) (states folder disk) (image_states new)
   pub said : IfSome updated (IsSaidOf parts old.store.held image plan texts)
 
@@ -78,7 +79,7 @@ UpdatesRoot parts tag (Err (faults.Slot fault)) old new = MakesNone parts.scope 
 UpdatesRoot parts tag (Err (faults.Tree fault)) old new = MakesNone parts.scope parts.aux (faults.Tree fault) old new
 UpdatesRoot parts tag (Err (faults.Update fault)) old new = MakesNone parts.scope parts.aux (faults.Update fault) old new
 
--- With links, the directory of a known tree and known files becomes the tree with the planned links: nothing else in it changes.
+-- Without -X, the directory of a known tree and known files has the tree with the planned links afterwards. Nothing else in it changes.
 abbrev pub LeavesPlanned : RootParts → RootStates → RootStates → Type 0
 LeavesPlanned parts old new =
     parts.links ≡ true → IfKnown old.store.held (λ held. IfKnown old.folder.contents (λ before. IfKnown new.folder.contents (λ after.

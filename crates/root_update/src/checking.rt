@@ -17,13 +17,13 @@ use tree_face::{Disk, Slot, Store};
 pub struct RootChanges {
     /// The links that it would make.
     pub links: Plan,
-    /// Whether the cache would be another.
+    /// Whether the cache would change.
     pub cache: bool,
     pub report: Report,
     pub looked: Looked,
 }
 
-// Whether a cache is asked for, and the one that is there has other bytes or there is none.
+// Whether a cache is requested, and the existing one has other bytes or is missing.
 fn differs<D: Disk>(
     alloc: Global,
     asked: bool,

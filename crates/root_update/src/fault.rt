@@ -13,13 +13,13 @@ use tree_face::NODES_MAX;
 /// Why a directory isn't updated.
 #[derive(Drop)]
 pub enum RootFault {
-    /// Its tree isn't read. Nothing was written.
+    /// Its tree can't be read. Nothing was written.
     Tree(TreeRead),
     /// The links and the cache weren't made. Nothing was written.
     Update(UpdateFault),
-    /// The auxiliary cache, or the cache that is there, isn't read. Nothing was written.
+    /// The auxiliary cache or the existing cache can't be read. Nothing was written.
     Slot(SlotFault),
-    /// Not all was written.
+    /// Some of the links and files were not written.
     Write(WriteFault),
 }
 

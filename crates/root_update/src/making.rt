@@ -24,7 +24,7 @@ use root_tree::read_tree;
 use std::alloc::Global;
 use tree_face::{Disk, Store, Tree};
 
-// The image that is the directory.
+// The directory as an image.
 fn root_image(tree: Tree, aux: AuxStamps) -> Session
     requires names { HaveNames aux.stamps }
     ensures { result ≡ root_image tree aux }
@@ -37,7 +37,7 @@ fn root_image(tree: Tree, aux: AuxStamps) -> Session
     }
 }
 
-// Reads the auxiliary cache, if it is to be read, and then the tree.
+// Reads the auxiliary cache, if it is used, and then the tree.
 fn read_image<F: Folder, D: Disk>(
     alloc: Global,
     aux: AuxUse,
@@ -77,7 +77,7 @@ pub(crate) fn prepare_root<F: Folder, S: Store, D: Disk>(
     }
 }
 
-/// The links of a plan, unless none is asked for.
+/// The links of a plan, or none if they aren't requested.
 pub(crate) fn asked_links(alloc: Global, asked: bool, plan: Plan) -> Plan
     requires { IsTrue (is_plan plan) }
     ensures links { result ≡ (if asked then plan else []) }
@@ -86,7 +86,7 @@ pub(crate) fn asked_links(alloc: Global, asked: bool, plan: Plan) -> Plan
     if asked { plan } else { Plan::new(alloc) }
 }
 
-/// The links of a plan, as they are to be made.
+/// The links of a plan, as paths and targets.
 pub(crate) fn new_links<'a>(
     alloc: Global,
     plan: &'a [Planned],
@@ -105,7 +105,7 @@ pub(crate) fn new_links<'a>(
     Ok(links)
 }
 
-/// The cache, if it is asked for.
+/// The cache, if it is requested.
 pub(crate) fn cache_for(asked: bool, cache: &[u8]) -> Option<&[u8]>
     ensures { option_copied result ≡ (if asked then Some cache.now else None) }
 {

@@ -4,7 +4,7 @@ use hwcap_dirs::Scope;
 /// What an update does with the auxiliary cache.
 #[derive(Clone, Copy, Debug, PartialEq, Eq)]
 pub enum AuxUse {
-    /// It is neither read nor written.
+    /// The auxiliary cache isn't read or written.
     Unused,
     /// It isn't read, and is replaced.
     Replaced,

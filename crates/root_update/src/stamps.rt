@@ -12,11 +12,11 @@ use image_session::{SlotFault, read_slot};
 use std::alloc::Global;
 use tree_face::{Disk, Slot};
 
-/// What an auxiliary cache says of files.
+/// The information in an auxiliary cache.
 #[derive(Drop)]
 pub(crate) struct AuxStamps {
     pub stamps: Stamps,
-    /// The first place at which it is damaged.
+    /// The first offset at which it is malformed.
     pub damaged: Option<u64>,
 }
 
@@ -29,7 +29,7 @@ fn no_stamps(alloc: Global) -> AuxStamps
     }
 }
 
-// What this auxiliary cache says. A damaged one gives no stamps.
+// The information in this auxiliary cache. A malformed one gives no stamps.
 fn stamps_of(alloc: Global, text: &[u8]) -> Result<AuxStamps, SlotFault>
     ensures stamps { IfOk result (λ read. read.stamps ≡ stamps_of_slot (Some text.now)) }
     ensures damaged { IfOk result (λ read. read.damaged ≡ damage_of_slot (Some text.now)) }
@@ -61,7 +61,7 @@ fn read_stamps<D: Disk>(alloc: Global, disk: &mut D) -> Result<AuxStamps, SlotFa
     }
 }
 
-/// Reads the stamps of the auxiliary cache, if it is to be read. Else there are none.
+/// Reads the stamps of the auxiliary cache, if it is used. Otherwise there are none.
 pub(crate) fn read_aux<D: Disk>(
     alloc: Global,
     aux: AuxUse,

@@ -20,14 +20,15 @@ use tree_face::{Disk, Store, Tag};
 #[derive(Drop)]
 pub struct Updated {
     pub report: Report,
-    /// The links that were made, by their places.
+    /// The links that were made, with their paths.
     pub links: Plan,
     pub looked: Looked,
 }
 
-/// Updates a directory without a manifest: reads the auxiliary cache, if it is used, and the tree, plans the links of its libraries, and makes
-/// the cache of the libraries' entries. Then it makes the links, flushes their directories, and replaces the cache and then the auxiliary cache.
-/// All is read and all memory is taken before the first writing call. A second update would make no link and the same caches.
+/// Updates a directory without a manifest. It reads the auxiliary cache, if that is used, and the tree. Then it plans the links of the
+/// libraries and builds the cache of their entries. Then it makes the links, flushes their directories, and replaces the cache and the
+/// auxiliary cache, in this order. It reads everything and allocates all memory before the first writing call. A second update would
+/// make no link and write the same caches.
 pub fn update_root<F: Folder, S: Store, D: Disk>(
     alloc: Global,
     parts: &RootParts,

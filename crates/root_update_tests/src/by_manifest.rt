@@ -1,7 +1,4 @@
 //! An update by a manifest of the same tree.
-use crate::devices::{Devices, TAG, aux_use, store_of};
-use crate::left::{file_left, tree_left};
-use crate::tree::whole_tree;
 use elf_samples::SampleFault;
 use image_rows::aux_of;
 use image_session::Session;
@@ -9,6 +6,7 @@ use ldconfig_core::update;
 use lib_types::NoMemory;
 use mtree_manifest::write;
 use root_update::AuxUse;
+use root_update_fixture::{Devices, TAG, aux_use, file_left, store_of, tree_left, whole_tree};
 use std::alloc::Global;
 use table_rows::{Row, Said, has_line};
 use tree_face::{Disk, MemDisk, MemStore, Slot};
@@ -33,7 +31,7 @@ fn left_in(
     }
 }
 
-// Updates the image of a disk. None if that fails.
+// Updates the image of a disk. The result is None if that fails.
 fn update_image(
     alloc: Global,
     store: &mut MemStore,
@@ -76,7 +74,7 @@ fn is_same(want: &Outcome, got: &Outcome, said: &mut Said) -> Result<bool, NoMem
     )
 }
 
-// Whether the row compares its update with one by a manifest: a run that is refused, or that leaves something out, isn't compared.
+// Whether the row compares its update with one by a manifest. A run that is rejected or leaves something out isn't compared.
 fn is_compared(row: Row<'_>) -> bool {
     !has_line(row, b"refused") && !has_line(row, b"no-links") && !has_line(row, b"no-cache")
 }

@@ -1,14 +1,13 @@
 //! The caches that an update leaves.
-use crate::devices::{Devices, TAG, aux_use};
-use crate::left::{file_left, new_file};
 use cache_reader::{CacheView, print};
 use lib_types::NoMemory;
 use root_update::AuxUse;
+use root_update_fixture::{Devices, TAG, aux_use, file_left, new_file};
 use std::alloc::Global;
 use table_rows::{Row, Said, count, has_line, text};
 use tree_face::{Call, DoneCall, MemSink, Slot, Tag};
 
-// Whether the cache is printed so; a malformed one isn't printed at all.
+// Whether the cache is printed as the row says. A malformed cache isn't printed.
 fn is_printed(
     alloc: Global,
     row: Row<'_>,
@@ -22,7 +21,7 @@ fn is_printed(
     said.is_text(alloc, row, b"print", sink.written())
 }
 
-/// Whether the cache is the one that the row says, or without `print` the one that was there.
+/// Whether the cache is the row's or, without `print`, the one that was there.
 pub(crate) fn has_cache(
     alloc: Global,
     row: Row<'_>,
@@ -41,7 +40,7 @@ pub(crate) fn has_cache(
     )
 }
 
-/// Whether the auxiliary cache has the records of the row, or is as before if the row has none.
+/// Whether the auxiliary cache has the records of the row. If the row has none, it is as before.
 pub(crate) fn has_records(
     alloc: Global,
     row: Row<'_>,
@@ -61,7 +60,7 @@ const REPLACING: &[Call] = &[
     Call::Settle,
 ];
 
-// The tag with which a call is listed: flushing a file's directory has none.
+// The tag of a call in the list of calls: flushing a file's directory has none.
 fn tag_of(call: Call) -> Tag {
     if call == Call::Settle { Tag(0) } else { TAG }
 }
@@ -89,7 +88,7 @@ fn push_update(calls: &mut Vec<DoneCall>, row: Row<'_>) -> Result<(), NoMemory> 
     Ok(())
 }
 
-/// Whether the disk was asked to replace the cache, and then the auxiliary cache, in each of so many updates, and nothing else.
+/// Whether the writing calls of the disk are those of `updates` updates, each of which replaces the cache and then the auxiliary cache.
 pub(crate) fn has_calls(
     alloc: Global,
     row: Row<'_>,

@@ -1,9 +1,8 @@
 //! What a check lists.
-use crate::devices::{Devices, parts_of};
-use crate::left::writing_calls;
 use lib_types::NoMemory;
 use link_plan::Planned;
 use root_update::{RootChanges, check_root, status_of};
+use root_update_fixture::{Devices, parts_of, writing_calls};
 use std::alloc::Global;
 use table_rows::{Row, Said};
 
@@ -64,7 +63,7 @@ fn check(alloc: Global, row: Row<'_>, devices: &mut Devices) -> Result<(u64, Vec
     }
 }
 
-/// Whether a check ends so and writes nothing.
+/// Whether a check has this result and writes nothing.
 pub(crate) fn is_listed(
     alloc: Global,
     row: Row<'_>,

@@ -1,18 +1,12 @@
-//! Tests of the update of a directory: what it checks, which links it makes and which directories it flushes, the cache that it writes,
-//! the tree that it leaves, that a second update changes nothing, that an update by a manifest of the same tree writes the same, and that
-//! the next update repairs what a failing call or a crash leaves. Each table is a file of data/.
+//! Tests of the update of a directory: what a check lists, which links are made, which directories are flushed, which cache is written,
+//! and which tree is left. A second update changes nothing. An update by a manifest of the same tree writes the same. Each table is a file
+//! of data/.
 #![tactic(auto)]
 
 mod by_manifest;
 mod cache;
 mod checking;
-mod crashes;
-mod devices;
-mod left;
-mod state;
-mod tree;
 mod trial;
-mod turns;
 mod updating;
 
 use crate::trial::Directory;
@@ -23,11 +17,11 @@ use table_rows::{status, try_tables};
 const TABLES: &[&str] = &[
     "directories",
     "links",
+    "names",
     "places",
     "options",
     "refusals",
     "records",
-    "failures",
 ];
 
 fn main(rt: HostRuntime) -> io::Result<ExitCode> {

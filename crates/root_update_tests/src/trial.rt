@@ -1,21 +1,19 @@
 //! One row: a directory, and its updates.
 use crate::by_manifest::is_as_by_manifest;
 use crate::checking::{Listing, is_listed};
-use crate::crashes::are_crashes_repaired;
-use crate::devices::{Devices, Failing, RUN, devices_of};
-use crate::turns::are_turns_repaired;
 use crate::updating::{is_first, is_second};
 use elf_samples::SampleFault;
 use image_rows::{AUX, FILES, MANIFEST, is_made};
 use lib_types::NoMemory;
+use root_update_fixture::{Devices, Failing, RUN, devices_of};
 use std::alloc::Global;
 use table_rows::{Row, Said, Trial, Words, count, has_line, number, text, value};
 
-/// A row has the directory's nodes, its files, the caches that are there, the options of the run, and which calls fail. It has the exit
-/// status and the lines of a check; the exit status of the update, the path that can't be read, the report and the number of opened files;
-/// the writing calls in the directory; and of the cache what is printed of it, its length and its bytes if they are compared, and the records of the auxiliary cache if they change. After an
-/// update without an error a second one follows, which reports `again`, or the same without the line, and a check that lists nothing. With
-/// `in-turn` each call fails in turn, and the machine stops after each writing call.
+/// A row describes a directory: its nodes, its files, the existing caches, the options of the run, and the calls that fail. It has the
+/// exit status and the lines of a check. Of the update it has the exit status, the path that can't be read, the report and the number of
+/// opened files. It has the writing calls in the directory. If the caches are compared, it has the printed text, the length and the bytes
+/// of the cache, and the records of the auxiliary cache. After an update without an error follows a second update, which reports `again`,
+/// or the same if the row has no such line. Then follows a check that lists nothing.
 pub(crate) struct Directory;
 
 const WORDS: &[Words] = &[
@@ -27,7 +25,6 @@ const WORDS: &[Words] = &[
         b"folder-fails",
         b"store-fails",
         b"disk-fails",
-        b"in-turn",
         b"check",
         b"changes",
         b"refused",
@@ -78,7 +75,7 @@ fn is_checked(alloc: Global, row: Row<'_>, said: &mut Said) -> Result<bool, Samp
     Ok(is_listed(alloc, row, want, &mut devices, said)?)
 }
 
-// Whether the update leaves what the row says, and a second one the same.
+// Whether the update leaves what the row says, and a second update leaves the same.
 fn is_updated(
     alloc: Global,
     row: Row<'_>,
@@ -91,14 +88,6 @@ fn is_updated(
     Ok(has_line(row, b"refused") || is_second(alloc, row, devices, said)?)
 }
 
-// Whether the next update repairs what calls leave that fail, if the row says that they fail in turn.
-fn is_repaired(alloc: Global, row: Row<'_>, said: &mut Said) -> Result<bool, SampleFault> {
-    if !has_line(row, b"in-turn") {
-        return Ok(true);
-    }
-    Ok(are_turns_repaired(alloc, row, said)? && are_crashes_repaired(alloc, row, said)?)
-}
-
 fn try_row(alloc: Global, row: Row<'_>, said: &mut Said) -> Result<bool, SampleFault> {
     let Some(mut devices) = devices_for(alloc, row, said)? else {
         return Ok(false);
@@ -106,8 +95,7 @@ fn try_row(alloc: Global, row: Row<'_>, said: &mut Said) -> Result<bool, SampleF
     Ok(
         is_checked(alloc, row, said)?
             && is_updated(alloc, row, &mut devices, said)?
-            && is_as_by_manifest(alloc, row, &mut devices, said)?
-            && is_repaired(alloc, row, said)?,
+            && is_as_by_manifest(alloc, row, &mut devices, said)?,
     )
 }
 
@@ -116,7 +104,7 @@ impl Trial for Directory {
         WORDS
     }
 
-    // An update that always returns NoMemory meets its contract; the rows refuse it.
+    // An update that always returns NoMemory meets its contract, but not the rows.
     fn is_right(alloc: Global, row: Row<'_>, said: &mut Said) -> Result<bool, NoMemory> {
         let tried = try_row(alloc, row, said);
         is_made(tried, said)

@@ -1,13 +1,11 @@
-//! An update, what it leaves, and a second one.
+//! An update, the state that it leaves, and a second update.
 use crate::cache::{has_cache, has_calls, has_records};
 use crate::checking::{NOTHING, is_listed};
-use crate::devices::{Devices, update};
-use crate::left::{file_left, has_tree, writing_calls};
-use crate::tree::links_in;
 use lib_types::NoMemory;
 use link_plan::{Plan, Planned};
 use root_tree::TreeRead;
 use root_update::{RootFault, Updated, status_of};
+use root_update_fixture::{Devices, file_left, has_tree, links_in, update, writing_calls};
 use std::alloc::Global;
 use table_rows::{Row, Said, count, has_line, lines_in, text, value};
 use tree_face::Slot;
@@ -34,7 +32,7 @@ fn is_refused(
     )
 }
 
-// The word of what a second update reports.
+// The word of the line with the report of a second update.
 fn second_output(row: Row<'_>) -> &'static [u8] {
     if has_line(row, b"again") {
         b"again"
@@ -51,7 +49,7 @@ fn push_pair(lines: &mut Vec<u8>, planned: &Planned) -> Result<(), NoMemory> {
     Ok(())
 }
 
-// Whether an update says that it made the links of `made`, or none if it is a second one.
+// Whether an update says that it made the links of `made`. A second update says that it made none.
 fn has_links(
     alloc: Global,
     row: Row<'_>,
@@ -94,7 +92,7 @@ fn is_done(
     )
 }
 
-// Updates the directory, for the first time or the second. Whether it ends as the row says.
+// Updates the directory, for the first time or the second. Returns whether it ends as the row says.
 fn ends_so(
     alloc: Global,
     row: Row<'_>,

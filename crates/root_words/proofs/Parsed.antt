@@ -26,11 +26,11 @@ module _ (a : App) (words : List (List ℕ)) (is : a ≡ root_app) where
   memory_alone e (inl memory) = memory
   memory_alone e (inr among) = absurd among
 
-  -- if there is no fault, only memory can run out
+  -- if the options have no error, parsing can only run out of memory
   pub refused : (e : Error) → (is_simple_and_free a ≡ true → HasKind (fault_of a words) e) → fault_of root_app words ≡ [] → kind_of e ≡ OutOfMemory
   refused e has none = memory_alone e (subst (λ ks. HasKind ks e) none (kinds e has))
 
-  -- an error as a fault says that there is something against the arguments, or that memory ran out
+  -- the error's fault says whether the arguments are wrong or memory ran out
   pub fits : (e : Error) (f : RootWordsFault) → (is_simple_and_free a ≡ true → HasKind (fault_of a words) e) → FitsKind (kind_of e) f → FitsRefusal (fault_of root_app words) f
   fits e (faults.Refused line) has fit = λ none. fit (refused e has none)
   fits e (faults.Rejected rejection) has fit = fit

@@ -1,4 +1,4 @@
--- Why there is no command.
+-- Why the arguments are not a command.
 use Rattle.std.specs.Prelude.{◌≡◌, ⊤, ℕ, List, [], Result, Ok, Err}
 use Rattle.clap.specs.Words.{Kinds}
 use Rattle.clap.specs.declared.error.kind.ErrorKind.{ErrorKind}
@@ -17,26 +17,26 @@ because why argument = record { argument = argument; why = why }
 abbrev pub rejection_of : Rejected → Rejection
 rejection_of r = because r.why r.argument.now
 
--- what arguments come to
+-- the result of reading the arguments
 pub data Verdict : Type 0 where
   takes : RootCommand → Verdict
   rejects : Rejection → Verdict
   refuses : Verdict
 
--- what a call returns, which may also run out of memory
+-- the result of a call, which may also run out of memory
 abbrev pub Gives : Verdict → Result RootCommand RootWordsFault → Type 0
 Gives verdict (Ok command) = verdict ≡ takes command
 Gives verdict (Err (faults.Rejected rejection)) = verdict ≡ rejects rejection
 Gives verdict (Err (faults.Refused line)) = verdict ≡ refuses
 Gives verdict (Err faults.NoMemory) = ⊤
 
--- an error of `clap` as a fault: want of memory stays what it is
+-- an error of `clap` as a fault: out of memory stays out of memory
 abbrev pub FitsKind : ErrorKind → RootWordsFault → Type 0
 FitsKind kind (faults.Refused line) = kind ≡ OutOfMemory → ⊥
 FitsKind kind (faults.Rejected rejection) = ⊥
 FitsKind kind faults.NoMemory = ⊤
 
--- `clap` refuses the arguments, against which it has something, or memory ran out
+-- `clap` rejects the arguments because they have an error, or memory ran out
 abbrev pub FitsRefusal : Kinds → RootWordsFault → Type 0
 FitsRefusal kinds (faults.Refused line) = kinds ≡ [] → ⊥
 FitsRefusal kinds (faults.Rejected rejection) = ⊥

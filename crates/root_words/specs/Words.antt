@@ -1,4 +1,4 @@
--- The command of the options, by what `clap` found.
+-- The command of the options, from what `clap` found.
 use Rattle.std.specs.Prelude.{◌&&◌, ◌||◌, ℕ, Bool, false, not, List, [], ◌∷◌, codes, Option, Some, None, is_some, option_map, option_and_then, if◌then◌else◌}
 use Rattle.std.specs.List.{list_any}
 use Rattle.std.specs.Option.{option_map_or}
@@ -90,7 +90,7 @@ no_root found =
     if has_value (codes "ROOT") found || has (codes "only") found || (has (codes "print") found && has_value (codes "CACHE") found)
     then None else Some (codes "-r")
 
--- the first reason that there is
+-- the first rejection in the list
 abbrev pub first_some : List (Option Rejection) → Option Rejection
 first_some [] = None
 first_some (Some rejection ∷ others) = Some rejection
@@ -142,11 +142,11 @@ command_by found =
     then print_by found
     else commands.Run (options_by found)
 
--- what the options that are found come to
+-- the command, or the rejection, of the options that `clap` found
 abbrev pub judged : List Row → Verdict
 judged found = option_map_or rejects (rejection_by found) (takes (command_by found))
 
--- what the arguments come to, by what `clap` has against them and what it finds
+-- the result, from the errors that `clap` reports and the options that it finds
 abbrev pub parsed_by : Kinds → List Row → Verdict
 parsed_by [] found = judged found
 parsed_by (kind ∷ kinds) found = refuses
@@ -154,6 +154,6 @@ parsed_by (kind ∷ kinds) found = refuses
 unfoldable pub parsed : List (List ℕ) → Verdict
 parsed words = parsed_by (fault_of root_app words) (matches_of root_app words)
 
--- what the arguments come to
+-- the result of reading the arguments
 abbrev pub verdict_of : List (List ℕ) → Verdict
 verdict_of words = option_map_or takes (request_in words) (parsed words)

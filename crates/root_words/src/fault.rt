@@ -1,4 +1,4 @@
-//! Why there is no command.
+//! Why the arguments are not a command.
 ghost use Rattle.std.specs.Prelude.{◌≡◌};
 ghost use Rattle.root_words.specs.declared.fault.RootWordsFault.TheVariants as faults;
 
@@ -53,7 +53,7 @@ pub struct Rejection {
     pub why: Why,
 }
 
-/// Why arguments have no command.
+/// Why the arguments are not a command.
 #[derive(Drop)]
 pub enum RootWordsFault {
     /// `clap` cannot read the arguments. Its line names the argument.

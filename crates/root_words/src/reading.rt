@@ -127,7 +127,7 @@ fn command_by(alloc: Global, found: &ArgMatches<'_>) -> Result<RootCommand, NoMe
     }
 }
 
-// The rejection as a fault, which has a copy of the argument.
+// The rejection as a fault, which owns a copy of the argument.
 fn reject(alloc: Global, rejected: Rejected<'_>) -> Result<RootCommand, RootWordsFault>
     ensures { Gives (rejects (rejection_of rejected.entry)) result }
 {
@@ -136,7 +136,7 @@ fn reject(alloc: Global, rejected: Rejected<'_>) -> Result<RootCommand, RootWord
     Err(RootWordsFault::Rejected(Rejection { argument, why }))
 }
 
-// What the options that are found come to.
+// The command of the options that `clap` found, or the rejection of one of them.
 fn judged(alloc: Global, found: &ArgMatches<'_>) -> Result<RootCommand, RootWordsFault>
     ensures { Gives (judged (rows_of (found_of found.now))) result }
 {
@@ -146,7 +146,7 @@ fn judged(alloc: Global, found: &ArgMatches<'_>) -> Result<RootCommand, RootWord
     }
 }
 
-// What the arguments come to that `clap` reads.
+// The command of the arguments, as `clap` parses them.
 #[tactic(auto, unfolding(crate::specs::Words::parsed), using(crate::proofs::Parsed::gives_refused, crate::proofs::Parsed::gives_judged))]
 fn read(alloc: Global, words: &[String]) -> Result<RootCommand, RootWordsFault>
     ensures { Gives (parsed (map string_bytes words.now)) result }
@@ -155,7 +155,7 @@ fn read(alloc: Global, words: &[String]) -> Result<RootCommand, RootWordsFault>
     judged(alloc, &found)
 }
 
-/// The command of these arguments, the program's name not among them.
+/// The command of these arguments, which don't include the program's name.
 pub fn command_of(alloc: Global, words: &[String]) -> Result<RootCommand, RootWordsFault>
     ensures { Gives (verdict_of (map string_bytes words.now)) result }
 {

@@ -1,4 +1,4 @@
-//! Tests of the arguments of root commands: what they ask for, or why they are rejected. The table is a file of data/.
+//! Tests of the arguments of root commands: the command, or why the arguments are rejected. The table is a file of data/.
 #![tactic(auto)]
 
 mod shown;

@@ -1,4 +1,4 @@
-//! One row: arguments, and the command that they are.
+//! One row: arguments, and the command that they name.
 use crate::shown::shown;
 use lib_types::NoMemory;
 use root_words::{command_of, is_root_command};
@@ -6,7 +6,7 @@ use std::alloc::Global;
 use std::str::from_utf8;
 use table_rows::{Row, Said, Trial, Words, divide, text};
 
-/// A row has a line for each argument, and the command with its values, `other` if it is one of another kind, or the fault.
+/// A row has a line for each argument. It has the command with its values, or `other` for a command of another kind, or the fault.
 pub(crate) struct Arguments;
 
 // The lines of a text.
@@ -24,7 +24,7 @@ fn words_of(alloc: Global, text: &[u8]) -> Result<Vec<String>, NoMemory> {
     Ok(words)
 }
 
-// What the arguments come to, as text.
+// The command or the fault of the arguments, as text.
 fn answer(alloc: Global, words: &[String]) -> Result<Vec<u8>, NoMemory> {
     if is_root_command(words) {
         shown(alloc, command_of(alloc, words))
@@ -40,7 +40,7 @@ impl Trial for Arguments {
         WORDS
     }
 
-    // A body that always returns NoMemory meets the contract; the rows refuse it.
+    // A body that always returns NoMemory meets the contract, but not the rows.
     fn is_right(alloc: Global, row: Row<'_>, said: &mut Said) -> Result<bool, NoMemory> {
         let words = words_of(alloc, &text(alloc, row, b"arguments")?)?;
         let got = answer(alloc, words.as_slice())?;

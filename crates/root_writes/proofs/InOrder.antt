@@ -1,4 +1,4 @@
--- No file is new before all links are there.
+-- A crash leaves a new file only after all links exist.
 use Rattle.std.proofs.Common.{◌≡◌, ◌≤◌, ◌⊎◌, inl, inr, ⊎_elim, ℕ, true, List, ap, sym, ◌∙◌, Result, Ok, Err, arith}
 use Rattle.atomic_replace.specs.Replace.{Write}
 use Rattle.atomic_replace.specs.OneByOne.{IsOfWrites}

@@ -1,4 +1,4 @@
-//! What a run writes into a directory: the links, then the cache, then the auxiliary cache.
+//! The writes of a run to a directory: the links, then the cache, then the auxiliary cache.
 #![tactic(auto)]
 
 mod fault;

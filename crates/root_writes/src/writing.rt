@@ -1,4 +1,4 @@
-//! The links are made and flushed before the first file is touched.
+//! The links are made and their directories fsynced before the first file changes.
 ghost use Rattle.std.specs.Prelude.{◌≡◌, ◌≤◌, IfErr, OnOk, true};
 ghost use Rattle.std.specs.Option.{option_copied};
 ghost use Rattle.atomic_replace.specs.OneByOne.{KeepsRestMade, WritesAll, WritesPart};
@@ -12,14 +12,14 @@ use root_folder::Folder;
 use root_links::{NewLink, make_links};
 use tree_face::{Disk, Slot, Tag};
 
-/// What is to be written. It takes no memory any more.
+/// The requested writes. Making them allocates no memory.
 #[derive(Clone, Copy)]
 pub struct RootWrites<'l, 'p, 'f> {
     /// The links, in the order of the plan.
     pub links: &'l [NewLink<'p>],
-    /// The cache, unless the run builds none.
+    /// The cache; None if the run builds no cache.
     pub cache: Option<&'f [u8]>,
-    /// The auxiliary cache, if the run keeps one.
+    /// The auxiliary cache; None if the run keeps none.
     pub aux: Option<&'f [u8]>,
 }
 
@@ -41,7 +41,7 @@ fn aux_write(bytes: &[u8]) -> SlotWrite<'_>
     }
 }
 
-// Replaces the cache, and then the auxiliary cache.
+// Replaces the cache, then the auxiliary cache.
 fn replace_files<D: Disk>(
     disk: &mut D,
     tag: Tag,
@@ -65,9 +65,9 @@ fn replace_files<D: Disk>(
     }
 }
 
-/// Makes the links and flushes their directories; then replaces the cache, and then the auxiliary cache. No memory is taken.
-/// At each moment a crash leaves each link old or new and each file old or new. It leaves a new file only if all links are
-/// there and stay.
+/// Makes the links and fsyncs their directories, then replaces the cache, then the auxiliary cache. It allocates no memory. At each
+/// moment a crash leaves each link old or new, and each file old or new. A crash leaves a new file only if all links exist and are
+/// durable.
 #[tactic(auto, using(crate::proofs::InOrder::in_order))]
 pub fn write_root<F: Folder, D: Disk>(
     folder: &mut F,

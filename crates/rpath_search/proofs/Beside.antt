@@ -1,4 +1,4 @@
--- A search beside no file.
+-- A search when no file is loaded.
 use Rattle.std.proofs.Common.{◌≡◌, ℕ, not, List, [], ◌∷◌, filter, take, Option, refl, ap, subst}
 use Rattle.lib_types.specs.declared.abi.Abi.{Abi}
 use Rattle.tree_face.specs.Store.{Contents, StoreState}

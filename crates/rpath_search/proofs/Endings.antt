@@ -1,4 +1,4 @@
--- Searches that fail, whatever they would have given.
+-- Failed searches, for each possible result of a complete search.
 use Rattle.std.proofs.Common.{◌≡◌, Err, refl}
 use Rattle.tree_face.proofs.StoreUse.{IsPartial}
 use Rattle.rpath_search.specs.Faults.{search_ending}

@@ -1,4 +1,4 @@
--- A file's object says whether it is a library, as its analysis does.
+-- The ELF information of a file shows whether the file is a library, in agreement with the file's analysis.
 use Rattle.std.proofs.Common.{◌≡◌, ℕ, Bool, true, false, cond, List, [], ◌∷◌, Option, Some, None, is_some, Result, Ok, Err, refl, ap, sym, ◌∙◌}
 use Rattle.std.specs.Option.{option_and_then, option_map_or}
 use Rattle.std.specs.Prelude.{IsSomeAnd}
@@ -33,7 +33,7 @@ module _ (abi : Abi) (bytes : List ℕ) where
   pub is_either : is_some (library_by abi bytes) ≡ is_library_of abi (analysis bytes)
   is_either = either (object bytes) refl
 
--- the file at a place is a library if it has the object of one
+-- the file at a path is a library if the path has a library's ELF information
 pub by_object : (held : Contents) (t : Nodes) (abi : Abi) (real : List ℕ) → is_library_at held t abi real ≡ is_some (library_at held t abi real)
 by_object held t abi real =
     elim (option_and_then held (key_in (node_at t real))) as (λ content. option_map_or (λ bytes. is_library_of abi (analysis bytes)) content false ≡ is_some (option_and_then (library_by abi) content))
@@ -57,7 +57,7 @@ module _ (t : Nodes) (abi : Abi) (real key : List ℕ) (there : key_in (node_at 
 
 -- ---- the file to which a path leads
 
--- its key, if it isn't loaded
+-- the key of the file, if the file isn't loaded
 pub new_keys : (t : Nodes) (places : List (List ℕ)) (path real : List ℕ) → file_at t path ≡ Some real → is_among places real ≡ false →
     keys_beside t places (path ∷ []) ≡ file_keys t (real ∷ [])
 new_keys t places path real leads new = rw (leads, new) refl
@@ -66,13 +66,13 @@ module _ (known : Option Contents) (t : Nodes) (abi : Abi) (places : List (List 
   good_at : (held : Contents) (path real : List ℕ) → file_at t path ≡ Some real → is_good held t abi path ≡ is_some (library_at held t abi real)
   good_at held path real leads = ap (λ file. option_map_or (is_library_at held t abi) file false) leads ∙ by_object held t abi real
 
-  -- a library is found
+  -- the file is a library of the ABI
   pub new_tries : (f : Found) → file_at t f.path ≡ Some f.real → IfKnown known (λ held. Some f.object ≡ library_at held t abi f.real) →
       IfKnown known (λ held. Tries held t abi places f.path (Some (answer.New f)))
   new_tries f leads object = elim known as (λ k. IfKnown k (λ held. Some f.object ≡ library_at held t abi f.real) → IfKnown k (λ held. Tries held t abi places f.path (Some (answer.New f))))
       [ None ↦ λ o. tt | Some held ↦ λ o. (good_at held f.path f.real leads ∙ ap is_some (sym o), record { here = refl; object = sym o }) ] object
 
-  -- no library is there
+  -- the file isn't a library of the ABI
   pub none_tries : (path real : List ℕ) → file_at t path ≡ Some real → IfKnown known (λ held. None ≡ library_at held t abi real) → IfKnown known (λ held. Tries held t abi places path None)
   none_tries path real leads object = elim known as (λ k. IfKnown k (λ held. None ≡ library_at held t abi real) → IfKnown k (λ held. Tries held t abi places path None))
       [ None ↦ λ o. tt | Some held ↦ λ o. good_at held path real leads ∙ ap is_some (sym o) ] object

@@ -1,4 +1,4 @@
--- The objects of a chain, and the paths of a name that its first object needs.
+-- The objects of a chain, and the search paths of a name that the first object needs.
 use Rattle.std.proofs.Common.{◌≡◌, ◌<◌, ◌+◌, ◌-◌, ◌==◌, ℕ, zero, suc, false, List, [], ◌∷◌, ◌++◌, length, drop, get_or, Option, refl, sym, ap, ◌∙◌, arith}
 use Rattle.std.proofs.lemmas.List.{length-append, length-drop}
 use Rattle.std.proofs.Math.Seq.{get_or-append_seam}
@@ -26,14 +26,14 @@ last_is reaches r =
     ap (reach_at (reaches ++ r ∷ [])) len ∙ get_or-append_seam reaches r [] nowhere
 
 module _ (env : Env) (owners : List Owner) where
-  -- the last of the chain alone
+  -- the last object of the chain alone
   pub begins : (i : ℕ) (owner : Owner) → i < length owners → i + 1 ≡ length owners → get_or owners i owner ≡ owner → HasLast env (drop i owners) (reach_of env owner [] ∷ [])
   begins i owner within end is = record {
     some = omega arith;
     last = sym (ap (reach_in env) (drop_at owners i owner within ∙ ap (λ l. get_or owners i owner ∷ l) (none_left owners (i + 1) end) ∙ ap (λ o. o ∷ []) is));
   }
 
-  -- the next one
+  -- the next object
   pub goes_on : (i j : ℕ) (owner : Owner) (reaches : List Reach) → i ≡ j + 1 → i < length owners → get_or owners j owner ≡ owner → HasLast env (drop i owners) reaches →
       HasLast env (drop j owners) (reaches ++ reach_over env owner (reach_at reaches (length reaches - 1)) ∷ [])
   goes_on i j owner reaches next within is so_far = record {
@@ -51,7 +51,7 @@ module _ (env : Env) (owners : List Owner) where
       over [] some = absurd (omega (arith, some))
       over (o ∷ more) some = refl
 
--- the paths of the first object
+-- the search paths of the first object
 pub all_listed : (name : List ℕ) (chain : List Owner) (env : Env) (cached : Option (List ℕ)) (reach : Reach) → has_slash name ≡ false → (length chain == 0) ≡ false → reach ≡ reach_in env chain →
     all_paths name (env_for env env.abi) reach cached ≡ paths name chain (with_caps_once env) cached
 unfolding paths

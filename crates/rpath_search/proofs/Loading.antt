@@ -1,4 +1,4 @@
--- Where the requests of objects are searched, one object after another.
+-- The search directories of the objects, computed one object after another.
 use Rattle.std.proofs.Common.{◌≡◌, ◌<◌, ◌≤◌, ℕ, false, List, [], ◌∷◌, ◌++◌, length, get_or, Option, Some, None, IfSome, refl, sym, ap, ◌∙◌, ⊎_elim, arith}
 use Rattle.std.proofs.lemmas.Bool.{cases_lt}
 use Rattle.std.proofs.lemmas.List.{get_or_append_left, length-append}
@@ -9,7 +9,7 @@ use Rattle.rpath_search.specs.declared.kinds.Owner.{Owner}
 use Rattle.rpath_search.specs.Loaders.{AreLinked, nowhere, own_dirs, reach_at, reach_by, reach_over, reaches_from, reaches_of, rpaths_from}
 use Rattle.rpath_search.specs.Places.{Reach}
 
--- any object
+-- some object
 abbrev some_link : Link
 some_link = record { dirs = record { rpath = []; runpath = None; nodeflib = false }; above = None }
 
@@ -20,7 +20,7 @@ module _ (library : List (List ℕ)) (links : List Link) (are : AreLinked librar
   pub reach_library : (reach_at (reaches_of library links) i).library ≡ library
   reach_library = ap (λ (r : Reach). r.library) (are.linked i some_link inside)
 
--- ---- one more
+-- ---- one more object
 
 reaches_more : (library : List (List ℕ)) (reaches : List Reach) (links : List Link) (l : Link) →
     reaches_from library reaches (links ++ l ∷ []) ≡ reaches_from library reaches links ++ reach_by library (reaches_from library reaches links) l ∷ []
@@ -75,7 +75,7 @@ module _ (library : List (List ℕ)) (links : List Link) (l : Link) (are : AreLi
         (cases_lt i (length links));
   }
 
-  -- it is the reach of an object with this loader
+  -- the added object has the search directories of an object with this loader
   pub added : (env : Env) (owner : Owner) (loader : ℕ) → loader < length before → l.dirs ≡ own_dirs env owner → rpaths_from before l.above ≡ rpaths_from before (Some loader) →
       reaches_of library (links ++ l ∷ []) ≡ before ++ reach_over env owner (reach_at before loader) ∷ []
   added env owner loader there dirs upwards = one_more ∙ ap (λ (r : Reach). before ++ r ∷ []) (rw (dirs, upwards, reach_library library links are loader there) refl)

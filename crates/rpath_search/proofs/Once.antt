@@ -1,4 +1,4 @@
--- A path that was looked at already gives nothing new.
+-- A path that occurs again in a list doesn't change the first good path.
 use Rattle.std.proofs.Common.{◌≡◌, ℕ, Bool, false, not, List, [], ◌∷◌, Option, Some, None, refl, sym, subst, ◌∙◌}
 use Rattle.std.proofs.lemmas.Slice.Eq.{bytes_eq-Decides}
 use Rattle.std.specs.List.{filter, find}
@@ -12,7 +12,7 @@ use Rattle.string_pool.specs.Distinct.{distinct}
 use Rattle.rpath_search.specs.Search.{first_good, is_good}
 
 module _ (good : List ℕ → Bool) where
-  -- without the paths that equal one that isn't good
+  -- paths equal to a path that isn't good can be dropped
   found_among : (p : List ℕ) → good p ≡ false → (paths : List (List ℕ)) → find good (filter (λ other. not (bytes_eq p other)) paths) ≡ find good paths
   found_among p bad [] = refl
   found_among p bad (x ∷ paths) = by_test (bytes_eq p x)
@@ -29,7 +29,7 @@ module _ (good : List ℕ → Bool) where
       (λ found. rw found refl)
       (λ none. rw none (found_once paths ∙ sym (found_among p none (distinct paths))))
 
--- a list finds what it finds without its repetitions
+-- a list and the list without repetitions have the same first good path
 pub first_once : (known : Option Contents) (t : Nodes) (abi : Abi) (paths : List (List ℕ)) (found : Option (List ℕ)) → IfKnown known (λ held. found ≡ first_good held t abi paths) →
     IfKnown known (λ held. found ≡ first_good held t abi (distinct paths))
 first_once None t abi paths found first = tt

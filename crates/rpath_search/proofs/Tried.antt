@@ -1,4 +1,4 @@
--- The paths are tried one after another.
+-- The paths are tried in order.
 use Rattle.std.proofs.Common.{◌≡◌, ◌+◌, ◌-◌, ◌≤◌, ◌++◌, ℕ, zero, suc, Bool, true, false, not, List, [], ◌∷◌, take, drop, filter, find, Option, Some, None, refl, ap, sym, subst, ◌∙◌, arith}
 use Rattle.std.proofs.Math.Seq.{take-add}
 use Rattle.std.proofs.lemmas.List.{append-nil}
@@ -18,7 +18,7 @@ use Rattle.rpath_search.specs.Searching.{AreHeld, Finds, SearchesBeside, Tries, 
 use Rattle.rpath_search.specs.Trying.{HasTried, IsBehind}
 use Rattle.rpath_search.specs.declared.search.Answer.{Answer}
 
--- behind the next path
+-- the paths after the next path
 rest_is : (paths : List (List ℕ)) (i : ℕ) (path : List ℕ) (more : List (List ℕ)) → drop i paths ≡ path ∷ more → drop (i + 1) paths ≡ more
 rest_is [] zero path more e = absurd (cc)
 rest_is [] (suc i) path more e = absurd (cc)
@@ -58,7 +58,7 @@ module _ (known : Option Contents) (t : Nodes) (abi : Abi) (places paths : List 
       all None = tt
       all (Some held) = record { place = omega arith; first = refl }
 
-  -- the search ends before it has tried more than these
+  -- the search fails after at most n paths
   stops : (n : ℕ) (e : Ending) (before after : StoreState) → IsPartial e → IfKnown known (λ held. n ≤ looked_at held t abi paths) →
       ReadsBy known (keys t places (take n paths)) e before after → SearchesBeside known t abi places paths e before after
   stops n e before after partial few reads = by known few reads
@@ -160,7 +160,7 @@ module _ (known : Option Contents) (t : Nodes) (abi : Abi) (places paths : List 
               let first : first_good held t abi paths ≡ Some path = behind.first ∙ ap (find p) at_hand ∙ here in
               rw first tries.1
 
-      -- the search ends with this path
+      -- the search fails at this path
       pub failed_on : (e : Ending) (after : StoreState) → IsPartial e → ReadsBy known (keys t places (path ∷ [])) e here after → SearchesBeside known t abi places paths e before after
       failed_on e after partial reads = stops (i + 1) e before after partial (few known so_far.behind) (reads_more e after reads)
         where
@@ -199,7 +199,7 @@ module _ (known : Option Contents) (t : Nodes) (abi : Abi) (places paths : List 
               let first : first_good held t abi paths ≡ None = a.first ∙ ap (find (is_good held t abi)) none_left in
               rw first tt
 
--- what was found says whether the path is good
+-- an answer for a path shows that the path is good
 pub good_answer : (known : Option Contents) (t : Nodes) (abi : Abi) (places : List (List ℕ)) (path : List ℕ) (a : Answer) →
     IfKnown known (λ held. Tries held t abi places path (Some a)) → IfKnown known (λ held. is_good held t abi path ≡ true)
 good_answer None t abi places path a tries = tt

@@ -1,4 +1,4 @@
--- The paths of a search that are left.
+-- The remaining paths of a search.
 use Rattle.std.specs.Prelude.{◌≡◌, ◌<◌, ◌+◌, ◌*◌, ℕ, suc, List, [], ◌∷◌, ◌++◌, drop, flat_map, if◌then◌else◌, length, map, Option, Some, None, IfSome, option_to_list}
 use Rattle.std.specs.Option.{option_copied, option_map_or}
 use Rattle.rpath_search.specs.Loaders.{rpaths_from}
@@ -10,39 +10,39 @@ use Rattle.rpath_search.specs.declared.candidates.FirstDirs.{FirstDirs}
 use Rattle.rpath_search.specs.declared.kinds.Env.{Env}
 use Rattle.image_tree.specs.Paths.{root}
 
--- the paths of a name that an object needs whose requests are searched in these directories
+-- the search paths of a name, for an object that is searched for in these directories
 abbrev pub all_paths : List ℕ → Env → Reach → Option (List ℕ) → List (List ℕ)
 all_paths name env reach cached = if has_slash name then from_root name ∷ [] else paths_by name env reach cached
 
--- ---- what is left
+-- ---- the remaining directories and paths
 
--- the directories before the cache
+-- the remaining directories before the cache
 abbrev pub dirs_left : FirstDirs → List (List ℕ)
 dirs_left s = s.list.now ++ rpaths_from s.loaders.now s.above ++ s.second.now ++ s.third.now
 
 abbrev pub IsInside : FirstDirs → Type 0
 IsInside s = IfSome s.above (λ i. i < length s.loaders.now)
 
--- how many lists are left, the last one counted more
+-- a measure of the remaining lists; the last list counts twice
 abbrev pub lists_left : FirstDirs → ℕ
 lists_left s = option_map_or suc s.above 0 + length s.second.now + 2 * length s.third.now
 
--- the same directories, in fewer lists
+-- the same directories, with a smaller measure
 pub record IsRefilled (old new : FirstDirs) : Type 0 where
   pub left : dirs_left new ≡ dirs_left old
   pub inside : IsInside new
   pub fewer : lists_left new < lists_left old
 
--- the default directories
+-- the remaining default directories
 abbrev pub defaults_left : DefaultDirs → List (List ℕ)
 defaults_left s = drop s.done (system_dirs_of s.system)
 
--- the paths in the directory at hand
+-- the remaining paths in the current directory
 abbrev pub paths_at : List ℕ → Option At → List (List ℕ)
 paths_at name None = []
 paths_at name (Some at) = map (hwcaps_path at.dir.now name) at.caps.now ++ (at.dir.now ++ root ++ name) ∷ []
 
--- the paths behind those in the directory at hand
+-- the paths after those in the current directory
 abbrev pub paths_behind : Candidates → List (List ℕ)
 paths_behind s =
     flat_map (paths_in s.name.now s.caps.now) (dirs_left s.first)
@@ -52,12 +52,12 @@ paths_behind s =
 abbrev pub paths_left : Candidates → List (List ℕ)
 paths_left s = s.listed.now ++ option_to_list s.whole ++ paths_at s.name.now s.at ++ paths_behind s
 
--- the first of the paths, if there is one, and the others
+-- the first path, if there is one, and the paths after it
 abbrev pub IsNext : Option (List ℕ) → List (List ℕ) → List (List ℕ) → Type 0
 IsNext None all rest = (all ≡ []) × (rest ≡ [])
 IsNext (Some path) all rest = all ≡ path ∷ rest
 
--- there is a first path
+-- the first path and the paths after it
 abbrev pub IsNextAt : Option (List ℕ) → List (List ℕ) → List (List ℕ) → Type 0
 IsNextAt None all rest = ⊥
 IsNextAt (Some path) all rest = all ≡ path ∷ rest

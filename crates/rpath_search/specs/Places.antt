@@ -1,4 +1,4 @@
--- The paths at which the loader looks for a library that an object needs, as one list (ld.so(8), "DESCRIPTION").
+-- The list of paths at which the loader looks for a library that an object needs (ld.so(8), "DESCRIPTION").
 use Rattle.std.specs.Prelude.{ℕ, Bool, ◌==◌, ◌&&◌, nat_eq, if◌then◌else◌, List, [], ◌∷◌, ◌++◌, length, map, flat_map, codes, Option, Some, None, is_some, option_and_then, option_map, option_to_list}
 use Rattle.std.specs.List.{before_last, filter_map, list_any, slice_split, starts_with}
 use Rattle.std.specs.Option.{option_map_or}
@@ -14,13 +14,13 @@ use Rattle.rpath_search.specs.declared.kinds.SystemDirs.TheVariants.{Loader, Deb
 use Rattle.rpath_search.specs.declared.kinds.Env.{Env}
 use Rattle.rpath_search.specs.declared.kinds.Owner.{Owner}
 
--- ---- texts of paths
+-- ---- texts as paths
 
--- a text that doesn't begin at the root is taken below it
+-- puts a slash in front of a text that doesn't begin with one
 abbrev pub from_root : List ℕ → List ℕ
 from_root text = if starts_with nat_eq text root then text else root ++ text
 
--- the folder of a path's text: what stands before its last slash; the root, if nothing does
+-- the directory of a path's text: the text before its last slash; if that is empty, the root
 abbrev pub or_root : List ℕ → List ℕ
 or_root text = if length text == 0 then root else text
 
@@ -30,52 +30,52 @@ folder_of path = or_root (before_last (is_in slashes) path)
 abbrev pub has_slash : List ℕ → Bool
 has_slash name = list_any is_slash name
 
--- ---- the directories of a text
+-- ---- the directories in a text
 
--- the directory that a text names, without slashes at its end: nothing for the root
+-- the directory that a text names, without slashes at its end; the root is the empty text
 abbrev pub directory : List ℕ → List ℕ
 directory text = without_end slashes (from_root text)
 
--- an empty text has no items
+-- the items of a text; an empty text has none
 abbrev pub items : List ℕ → List ℕ → List (List ℕ)
 items separators text = if length text == 0 then [] else slice_split (is_in separators) text
 
--- by an item, its tokens replaced; it is dropped if that gives no text
+-- the directory of an item after its tokens are replaced; secure execution drops an item with `$ORIGIN`
 abbrev pub item_dir : Env → List ℕ → List ℕ → Option (List ℕ)
 item_dir env origin item = option_map directory (expanded (value_of origin (lib_of env.abi) env.platform) env.secure item)
 
 abbrev pub dirs_of : Env → List ℕ → List ℕ → List ℕ → List (List ℕ)
 dirs_of env separators origin text = filter_map (item_dir env origin) (items separators text)
 
--- by DT_RPATH or DT_RUNPATH of an object
+-- the directories of an object's DT_RPATH or DT_RUNPATH
 abbrev pub dirs_by : Env → Owner → List ℕ → List (List ℕ)
 dirs_by env owner text = dirs_of env (codes ":") owner.origin text
 
--- DT_RPATH counts only in an object without DT_RUNPATH
+-- the DT_RPATH directories of an object; none if it has DT_RUNPATH
 abbrev pub rpath_dirs : Env → Owner → List (List ℕ)
 rpath_dirs env owner = if is_some owner.runpath then [] else option_map_or (dirs_by env owner) owner.rpath []
 
--- by the library path, which secure execution leaves out
+-- the directories of the library path; none in secure execution
 abbrev pub library_dirs : Env → Owner → List (List ℕ)
 library_dirs env program = if env.secure then [] else dirs_of env (codes ":;") program.origin env.library_path
 
--- ---- where the requests of an object are searched
+-- ---- the search directories of an object
 
 pub record Reach : Type 0 where
-  -- by DT_RPATH of the object, of its loader, and so upwards to the program
+  -- from DT_RPATH of the object, of its loader, and so on up to the program
   pub rpaths : List (List ℕ)
   pub library : List (List ℕ)
-  -- by its DT_RUNPATH, if it has one
+  -- from the object's DT_RUNPATH, if it has one
   pub runpath : Option (List (List ℕ))
-  -- without the default directories
+  -- whether the default directories are left out
   pub nodeflib : Bool
 
--- the last of an object and its loaders
+-- the last one of an object and its loaders, the program
 abbrev pub program_of : Owner → List Owner → Owner
 program_of owner [] = owner
 program_of owner (loader ∷ more) = program_of loader more
 
--- of an object with these loaders: the one that was the first to request it, and so upwards to the program
+-- the search directories of an object with these loaders: the object that needed it first, and so on up to the program
 abbrev pub reach_of : Env → Owner → List Owner → Reach
 reach_of env owner loaders = record {
   rpaths = flat_map (rpath_dirs env) (owner ∷ loaders);
@@ -84,33 +84,33 @@ reach_of env owner loaders = record {
   nodeflib = owner.nodeflib;
 }
 
--- the directories before the cache: those by DT_RPATH only if the object has no DT_RUNPATH
+-- the directories before the cache; if the object has DT_RUNPATH, DT_RPATH directories are left out
 abbrev pub first_dirs : Reach → List (List ℕ)
 first_dirs reach = (if is_some reach.runpath then [] else reach.rpaths) ++ reach.library ++ option_map_or (λ dirs. dirs) reach.runpath []
 
--- the directories that are searched by default (ld.so(8)), perhaps with Debian's
+-- the default directories of ld.so(8), and Debian's if they are wanted
 abbrev pub system_dirs_of : SystemDirs → List (List ℕ)
 system_dirs_of Loader = system_dirs
 system_dirs_of Debian = all_builtin_dirs
 
--- the directories behind the cache
+-- the directories after the cache
 abbrev pub default_dirs : Env → Reach → List (List ℕ)
 default_dirs env reach = if reach.nodeflib then [] else system_dirs_of env.system
 
--- ---- the paths of a name
+-- ---- the search paths of a name
 
 abbrev pub hwcaps_path : List ℕ → List ℕ → List ℕ → List ℕ
 hwcaps_path dir name cap = dir ++ codes "/glibc-hwcaps/" ++ cap ++ root ++ name
 
--- in the subdirectory of a directory for each hwcaps name in order, and then in the directory itself
+-- for each hwcaps name in order the path in that subdirectory, then the path in the directory itself
 abbrev pub paths_in : List ℕ → List (List ℕ) → List ℕ → List (List ℕ)
 paths_in name caps dir = map (hwcaps_path dir name) caps ++ (dir ++ root ++ name) ∷ []
 
--- a path in one of the default directories or below it; Debian's are below those of the loader
+-- the path is in a default directory or below one; Debian's directories are below those of the loader
 abbrev pub is_default : List ℕ → Bool
 is_default path = list_any (λ dir. is_below dir path) system_dirs
 
--- an object with NODEFLIB leaves the default directories out, in the cache too
+-- the path in the cache; an object with DF_1_NODEFLIB ignores it if it is below a default directory
 abbrev pub cached_path : Bool → List ℕ → Option (List ℕ)
 cached_path nodeflib path = if nodeflib && is_default path then None else Some path
 
@@ -123,13 +123,13 @@ paths_by name env reach cached =
     ++ cached_paths reach cached
     ++ flat_map (paths_in name env.caps) (default_dirs env reach)
 
--- ---- the list
+-- ---- all search paths
 
--- with each hwcaps name once: of a repeated one the first counts
+-- each hwcaps name only once, at its first position
 abbrev pub with_caps_once : Env → Env
 with_caps_once env = record env { caps = distinct env.caps }
 
--- the same for a program of this ABI
+-- the same, for a program with this ABI
 abbrev pub env_for : Env → Abi → Env
 env_for env abi = record (with_caps_once env) { abi = abi }
 
@@ -137,9 +137,8 @@ abbrev pub searched : List ℕ → Env → List Owner → Option (List ℕ) → 
 searched name env [] cached = []
 searched name env (owner ∷ loaders) cached = paths_by name env (reach_of env owner loaders) cached
 
--- The paths for a name that the first object of a chain needs. Behind it in the chain stands the object that was the first to
--- request it, and so upwards to the program. `cached` is the path that the cache has for the name. A name with a slash is itself
--- the one path.
+-- The search paths of a name that the first object of a chain needs. The next object in the chain needed the first object first, and so
+-- on up to the program. `cached` is the path of the name in the cache, if there is one. If the name contains a slash, it is the only path.
 unfoldable pub paths : List ℕ → List Owner → Env → Option (List ℕ) → List (List ℕ)
 paths name chain env cached =
     if has_slash name then from_root name ∷ [] else searched name env chain cached

@@ -1,4 +1,4 @@
--- What private functions say of the paths that were tried so far.
+-- What private functions know about the paths that were tried so far.
 use Rattle.std.specs.Prelude.{◌≡◌, ◌+◌, ℕ, false, List, take, drop, find, Option}
 use Rattle.std.specs.List.{position_or_len}
 use Rattle.lib_types.specs.declared.abi.Abi.{Abi}
@@ -10,12 +10,12 @@ use Rattle.elf_dynamic.specs.Begun.{ReadsBy, lacks_one}
 use Rattle.rpath_search.specs.Search.{is_good}
 use Rattle.rpath_search.specs.Searching.{keys_beside}
 
--- the first good path is one of the others
+-- none of the first i paths is good
 pub record IsBehind (held : Contents) (t : Nodes) (abi : Abi) (paths : List (List ℕ)) (i : ℕ) : Type 0 where
   pub place : position_or_len (is_good held t abi) paths ≡ i + position_or_len (is_good held t abi) (drop i paths)
   pub first : find (is_good held t abi) paths ≡ find (is_good held t abi) (drop i paths)
 
--- some first paths were tried, none of them is good, and these are left
+-- the first `count` paths were tried, none of them is good, and `rest` remains
 pub record HasTried (known : Option Contents) (t : Nodes) (abi : Abi) (places paths rest : List (List ℕ)) (before here : StoreState) : Type 0 where
   pub count : ℕ
   pub left : drop count paths ≡ rest

@@ -13,7 +13,7 @@ use lib_types::{NoMemory, Text, has_byte};
 use std::alloc::Global;
 use tree_face::is_below;
 
-// The directories before the cache that are left: these, those by DT_RPATH from an object upwards, and those of two more lists.
+// The remaining directories before the cache: `list`, the DT_RPATH directories of the object `above` and its loaders, and two more lists.
 #[derive(Clone, Copy)]
 struct FirstDirs<'a> {
     list: &'a [Text],
@@ -24,7 +24,7 @@ struct FirstDirs<'a> {
 }
 
 impl<'a> FirstDirs<'a> {
-    // None.
+    // No directories.
     fn none(loaders: &'a Loaders) -> FirstDirs<'a>
         ensures left { dirs_left result ≡ [] }
         ensures inside { IsInside result }
@@ -38,7 +38,7 @@ impl<'a> FirstDirs<'a> {
         }
     }
 
-    // Those of an object.
+    // The directories of an object.
     fn of(loaders: &'a Loaders, number: usize) -> FirstDirs<'a>
         requires { number < length loaders.now }
         ensures left { dirs_left result ≡ first_dirs (reach_at loaders.now number) }
@@ -64,7 +64,7 @@ impl<'a> FirstDirs<'a> {
         }
     }
 
-    // With the next list in place of one that is empty, if there is one.
+    // Replaces the empty list by the next list, if there is one.
     fn refilled(self) -> Option<FirstDirs<'a>>
         requires empty { self.list.now ≡ [] }
         requires inside { IsInside self }
@@ -90,7 +90,7 @@ impl<'a> FirstDirs<'a> {
     }
 }
 
-// The next directory, and those behind it.
+// The next directory, and the directories after it.
 fn split_first<'a>(dirs: FirstDirs<'a>) -> Option<(&'a Text, FirstDirs<'a>)>
     requires { IsInside dirs }
     ensures { MatchOption result (dirs_left dirs.entry ≡ []) (λ r. (dirs_left dirs.entry ≡ r.0.now ∷ dirs_left r.1) × IsInside r.1) }
@@ -103,7 +103,7 @@ fn split_first<'a>(dirs: FirstDirs<'a>) -> Option<(&'a Text, FirstDirs<'a>)>
     Some((dir, FirstDirs { list: rest, ..left }))
 }
 
-// The next of the default directories, after the first `done`, and the number of those up to it.
+// The default directory with index `done`, and the index after it.
 fn next_dir(system: SystemDirs, done: usize) -> Option<(&'static [u8], usize)>
     ensures { MatchOption result (drop done (system_dirs_of system) ≡ []) (λ r. drop done (system_dirs_of system) ≡ r.0.now ∷ drop r.1 (system_dirs_of system)) }
 {
@@ -113,16 +113,16 @@ fn next_dir(system: SystemDirs, done: usize) -> Option<(&'static [u8], usize)>
     }
 }
 
-// The default directories that are left.
+// The remaining default directories.
 #[derive(Clone, Copy)]
 struct DefaultDirs {
     system: SystemDirs,
-    // How many of them are done.
+    // The number of directories that are already used.
     done: usize,
 }
 
 impl DefaultDirs {
-    // None.
+    // No directories.
     fn none() -> DefaultDirs
         ensures { defaults_left result ≡ [] }
     {
@@ -132,7 +132,7 @@ impl DefaultDirs {
         }
     }
 
-    // Those of an object.
+    // The default directories of an object.
     fn of(system: SystemDirs, nodeflib: bool) -> DefaultDirs
         ensures { defaults_left result ≡ (if nodeflib then [] else system_dirs_of system) }
     {
@@ -142,7 +142,7 @@ impl DefaultDirs {
         DefaultDirs { system, done: 0 }
     }
 
-    // The next one, and those behind it.
+    // The next directory, and the directories after it.
     fn split_first(self) -> Option<(&'static [u8], DefaultDirs)>
         ensures { MatchOption result (defaults_left self ≡ []) (λ r. defaults_left self ≡ r.0.now ∷ defaults_left r.1) }
     {
@@ -151,14 +151,14 @@ impl DefaultDirs {
     }
 }
 
-// A directory, and the hwcaps names whose subdirectories are left.
+// A directory, and the hwcaps names whose subdirectories remain.
 #[derive(Clone, Copy)]
 struct At<'a> {
     dir: &'a [u8],
     caps: &'a [Text],
 }
 
-// The next path of a name in it, and what is left.
+// The next path of a name in the directory, and the remaining subdirectories.
 fn next_at<'a>(alloc: Global, name: &[u8], at: At<'a>) -> Result<(Text, Option<At<'a>>), NoMemory>
     ensures { IfOk result (λ r. paths_at name.now (Some at.entry) ≡ r.0 ∷ paths_at name.now r.1) }
 {
@@ -171,7 +171,7 @@ fn next_at<'a>(alloc: Global, name: &[u8], at: At<'a>) -> Result<(Text, Option<A
     }
 }
 
-// Whether a path is in one of the default directories or below it. Debian's are below those of the loader.
+// Whether a path is in a default directory or below one. Debian's directories are below those of the loader.
 fn is_default(path: &[u8]) -> bool
     ensures { result ≡ is_default path.now }
 {
@@ -185,7 +185,7 @@ fn is_default(path: &[u8]) -> bool
     false
 }
 
-// The path that the cache has, if the search tries it.
+// The path of the cache, if the search tries it.
 fn tried<'a>(cached: Option<&'a [u8]>, nodeflib: bool) -> Option<&'a [u8]>
     ensures { option_copied result ≡ option_and_then (cached_path nodeflib) (option_copied cached.entry) }
 {
@@ -196,21 +196,21 @@ fn tried<'a>(cached: Option<&'a [u8]>, nodeflib: bool) -> Option<&'a [u8]>
     Some(path)
 }
 
-// The first path of a list, and those behind it.
+// The first path of a list, and the paths after it.
 fn split_list<'a>(list: &'a [Text]) -> Option<(&'a Text, &'a [Text])>
     ensures { MatchOption result (list.entry.now ≡ []) (λ r. list.entry.now ≡ r.0.now ∷ r.1.now) }
 {
     list.split_first()
 }
 
-/// The paths at which a name is searched, in their order. None is made before it is asked for.
+/// The search paths of a name, in order. Each path is built only when it is requested.
 #[derive(Drop)]
 pub struct Candidates<'a> {
     name: &'a [u8],
     caps: &'a [Text],
-    // Paths that are given as a list.
+    // Paths from a given list.
     listed: &'a [Text],
-    // The one path of a name with a slash.
+    // The only path of a name with a slash.
     whole: Option<Text>,
     at: Option<At<'a>>,
     first: FirstDirs<'a>,
@@ -252,7 +252,7 @@ impl<'a> Candidates<'a> {
         }
     }
 
-    // Those of a name without a slash.
+    // The search paths of a name without a slash.
     fn of_name(
         loaders: &'a Loaders,
         number: usize,
@@ -277,7 +277,7 @@ impl<'a> Candidates<'a> {
         }
     }
 
-    /// Those of a name that the object with this number needs. `cached` is the path that the cache has for the name.
+    /// The search paths of a name that the object with this number needs. `cached` is the path of the name in the cache, if there is one.
     pub fn new(
         alloc: Global,
         loaders: &'a Loaders,
@@ -297,7 +297,7 @@ impl<'a> Candidates<'a> {
         Ok(Candidates::of_name(loaders, number, name, env, cached))
     }
 
-    // The next path in a directory.
+    // The next path in the current directory.
     fn next_in(&mut self, alloc: Global, at: At<'a>) -> Result<Option<Text>, NoMemory>
         ensures next { IfOk result (λ path. IsNextAt path (paths_at self.old.name.now (Some at.entry)) (paths_at self.old.name.now self.new.at)) }
         ensures same { self.new ≡ record self.old { at = self.new.at } }
@@ -307,7 +307,7 @@ impl<'a> Candidates<'a> {
         Ok(Some(path))
     }
 
-    /// The next path, if one is left.
+    /// The next path, if there is one.
     pub fn next_path(&mut self, alloc: Global) -> Result<Option<Text>, NoMemory>
         requires { IsInside self.old.first }
         ensures next { IfOk result (λ path. IsNext path (paths_left self.old) (paths_left self.new)) }

@@ -1,4 +1,4 @@
-//! The directories that texts name.
+//! The directories in DT_RPATH, DT_RUNPATH and the library path.
 ghost use Rattle.std.specs.Prelude.{◌≡◌, IfOk};
 ghost use Rattle.rpath_search.specs.Places.{directory, dirs_of, item_dir, library_dirs};
 ghost use Rattle.rpath_search.specs.Loaders.{own_dirs};
@@ -10,14 +10,14 @@ use lib_types::{NoMemory, Separator, Text, Texts, split};
 use origin_expand::expand;
 use std::alloc::Global;
 
-/// The directories of an object, by its own texts. Their tokens are replaced.
+/// The directories from an object's own DT_RPATH and DT_RUNPATH, with their tokens replaced.
 #[derive(Drop)]
 pub(crate) struct OwnDirs {
-    /// By DT_RPATH, unless there is a DT_RUNPATH.
+    /// From DT_RPATH; empty if there is a DT_RUNPATH.
     pub rpath: Texts,
-    /// By DT_RUNPATH, if there is one.
+    /// From DT_RUNPATH, if there is one.
     pub runpath: Option<Texts>,
-    /// Without the default directories.
+    /// Whether the default directories are left out.
     pub nodeflib: bool,
 }
 
@@ -28,7 +28,7 @@ fn directory(alloc: Global, text: &[u8]) -> Result<Text, NoMemory>
     Text::copy_of(alloc, without_end(b"/", whole.as_bytes()))
 }
 
-// The directory by an item, if its tokens give one.
+// The directory of an item after its tokens are replaced; secure execution drops an item with `$ORIGIN`.
 fn item_dir(alloc: Global, env: &Env, origin: &[u8], item: &[u8]) -> Result<Option<Text>, NoMemory>
     ensures { IfOk result (λ dir. dir ≡ item_dir env.now origin.now item.now) }
 {
@@ -41,7 +41,7 @@ fn item_dir(alloc: Global, env: &Env, origin: &[u8], item: &[u8]) -> Result<Opti
     Ok(Some(dir))
 }
 
-// The directories by each item of a text.
+// The directories of the items in a text.
 fn dirs_of(
     alloc: Global,
     env: &Env,
@@ -63,7 +63,7 @@ fn dirs_of(
     Ok(dirs)
 }
 
-/// Those of the library path.
+/// The directories of the library path.
 pub(crate) fn library_dirs(alloc: Global, env: &Env, program: &Owner) -> Result<Texts, NoMemory>
     ensures { IfOk result (λ dirs. dirs ≡ library_dirs env.now program.now) }
 {
@@ -74,7 +74,7 @@ pub(crate) fn library_dirs(alloc: Global, env: &Env, program: &Owner) -> Result<
     dirs_of(alloc, env, b":;", program.origin.as_bytes(), text)
 }
 
-/// Those of an object.
+/// The directories of an object.
 pub(crate) fn own_dirs(alloc: Global, env: &Env, owner: &Owner) -> Result<OwnDirs, NoMemory>
     ensures { IfOk result (λ dirs. dirs ≡ own_dirs env.now owner.now) }
 {

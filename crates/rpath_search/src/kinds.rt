@@ -1,4 +1,4 @@
-//! What a search is made for, and what it finds.
+//! The input and the result of a search.
 ghost use Rattle.std.specs.Prelude.{◌≡◌, IfOk};
 ghost use Rattle.rpath_search.specs.Places.{env_for};
 
@@ -7,33 +7,33 @@ use lib_types::{Abi, NoMemory, Seq, Text, Texts};
 use std::alloc::Global;
 use string_pool::distinct;
 
-/// Which directories are searched by default, after the cache.
+/// The default directories, which are searched after the cache.
 #[derive(Clone, Copy, Debug, PartialEq, Eq)]
 pub enum SystemDirs {
-    /// Those that the loader searches by itself.
+    /// The loader's own default directories.
     Loader,
-    /// Also Debian's of each ABI.
+    /// The loader's directories and Debian's directories for each ABI.
     Debian,
 }
 
-/// What the loader is given beside the files.
+/// The loader's environment.
 #[derive(Drop)]
 pub struct Env {
-    /// The program's.
+    /// The program's ABI.
     pub abi: Abi,
-    /// The hwcaps names that the processor has, the preferred one first. Of a repeated one the first counts.
+    /// The hwcaps names that the processor supports, in order of preference. If a name occurs again, only its first position counts.
     pub caps: Texts,
-    /// `LD_LIBRARY_PATH`: directories between colons and semicolons; empty, if there is none.
+    /// `LD_LIBRARY_PATH`: directories separated by colons or semicolons; empty if it isn't set.
     pub library_path: Text,
-    /// What `$PLATFORM` stands for.
+    /// The value of `$PLATFORM`.
     pub platform: Text,
-    /// Secure execution, as of a set-user-ID program: without the library path, and without items that have `$ORIGIN`.
+    /// Secure execution, as for a set-user-ID program: the library path and items with `$ORIGIN` are ignored.
     pub secure: bool,
     pub system: SystemDirs,
 }
 
 impl Env {
-    /// The same for programs of this ABI, with each hwcaps name once: of a repeated one the first counts.
+    /// The same for programs of this ABI, with each hwcaps name only once, at its first position.
     pub fn for_abi(&self, alloc: Global, abi: Abi) -> Result<Env, NoMemory>
         ensures { IfOk result (λ env. env ≡ env_for self.now abi) }
     {
@@ -48,12 +48,12 @@ impl Env {
     }
 }
 
-/// What an object says of the search for the libraries that it needs.
+/// The part of an object's ELF information that the search for its needed libraries uses.
 #[derive(Drop)]
 pub struct Owner {
-    /// What `$ORIGIN` stands for: the folder of the path by which the object was found.
+    /// The value of `$ORIGIN`: the directory of the path by which the object was found.
     pub origin: Text,
-    /// DT_RPATH, which the search leaves out if there is a DT_RUNPATH.
+    /// DT_RPATH; the search ignores it if there is a DT_RUNPATH.
     pub rpath: Option<Text>,
     /// DT_RUNPATH.
     pub runpath: Option<Text>,
@@ -61,16 +61,16 @@ pub struct Owner {
     pub nodeflib: bool,
 }
 
-/// The requesting object, then its loader, which is the object that was the first to request it, and so upwards to the program.
+/// The object that needs a library, then its loader (the object that needed it first), and so on up to the program.
 pub type Chain = Seq<Owner>;
 
-/// What a search finds.
+/// The library that a search found.
 #[derive(Drop)]
 pub struct Found {
-    /// The path, as the search spells it.
+    /// The path in the form in which the search built it.
     pub path: Text,
-    /// The file to which that leads, without links.
+    /// The file to which the path leads, as a path without links.
     pub real: Text,
-    /// What the file says of itself.
+    /// The ELF information of the file.
     pub object: Object,
 }

@@ -1,4 +1,4 @@
-//! Where the loader looks for the libraries that an object needs, and which file it takes.
+//! The paths at which the loader looks for the libraries that an object needs, and the file that it selects.
 #![tactic(auto)]
 
 mod candidates;

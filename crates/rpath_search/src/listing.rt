@@ -1,4 +1,4 @@
-//! The list of paths.
+//! The search paths as a list.
 ghost use Rattle.std.specs.Prelude.{◌≡◌, ◌<◌, length, IfOk};
 ghost use Rattle.std.specs.Option.{option_copied};
 ghost use Rattle.rpath_search.specs.Candidates.{IsInside, paths_left};
@@ -27,7 +27,7 @@ fn loaders_of(alloc: Global, env: &Env, owners: &[Owner]) -> Result<Loaders, NoM
     Ok(loaders)
 }
 
-// All that are left.
+// All remaining paths.
 fn collected(alloc: Global, candidates: Candidates<'_>) -> Result<Texts, NoMemory>
     requires { IsInside candidates.first }
     ensures { IfOk result (λ list. list ≡ paths_left candidates.entry) }
@@ -40,10 +40,10 @@ fn collected(alloc: Global, candidates: Candidates<'_>) -> Result<Texts, NoMemor
     Ok(list)
 }
 
-/// The paths at which the loader looks for a name that the first object of a chain needs, in their order. `cached` is the path that
-/// the cache has for the name. Of a hwcaps name that stands in `caps` again the first counts, so no directory comes twice by it.
+/// The search paths of a name that the first object of a chain needs, in order. `cached` is the path of the name in the cache, if there is
+/// one. If a hwcaps name occurs again in `caps`, only its first position counts, so it repeats no directory.
 ///
-/// They take memory in proportion to the chain's items and to `caps`, for each name again.
+/// The memory for each name is proportional to the number of the chain's items and to the length of `caps`.
 #[tactic(auto, unfolding(crate::specs::Places::paths))]
 pub fn places(
     alloc: Global,

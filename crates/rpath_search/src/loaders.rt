@@ -1,4 +1,4 @@
-//! The objects that are loaded, with the directories in which their requests are searched.
+//! The loaded objects with their search directories.
 ghost use Rattle.std.specs.Prelude.{◌≡◌, ◌<◌, ◌∷◌, ◌++◌, [], ℕ, List, Some, length, IfOk, IfSome, OnOk};
 ghost use Rattle.rpath_search.specs.Places.{reach_of};
 ghost use Rattle.rpath_search.specs.Loaders.{AreLinked, IsReachOf, reach_at, reach_over, reaches_of, rpaths_from};
@@ -9,16 +9,16 @@ use lib_types::{NoMemory, Text, Texts};
 use std::alloc::Global;
 use std::marker::Model;
 
-/// An object, and the number of the nearest of its loaders that has directories by DT_RPATH.
+/// An object, and the number of the nearest of its loaders that has DT_RPATH directories.
 #[derive(Drop)]
 pub(crate) struct Link {
     pub dirs: OwnDirs,
     pub above: Option<usize>,
 }
 
-/// The loaded objects by their numbers, the program first. Contracts see where the requests of each are searched.
+/// The loaded objects by number, the program first. In contracts, this is the list of their search directories.
 ///
-/// The texts of an object are read once, and a search goes only to those of its loaders that have directories by DT_RPATH.
+/// An object's texts are parsed once. A search visits only those loaders of an object that have DT_RPATH directories.
 #[derive(Drop)]
 pub struct Loaders {
     library: Texts,
@@ -37,7 +37,7 @@ impl Model for Loaders {
     ghost invariant = { λ s. AreLinked s.library s.links.items };
 }
 
-// The nearest object with directories by DT_RPATH, from this one upwards.
+// The nearest object with DT_RPATH directories, from this one up to the program.
 fn nearest(links: &Vec<Link>, loader: usize) -> Option<usize>
     requires { loader < length links.now.items }
     ensures same { (library : List (List ℕ)) → AreLinked library links.now.items
@@ -64,7 +64,7 @@ impl Loaders {
         Ok(Loaders { library, links })
     }
 
-    /// No object. It takes no memory.
+    /// No objects. It allocates no memory.
     pub(crate) fn empty(alloc: Global) -> Loaders
         ensures { result ≡ [] }
     {
@@ -74,14 +74,14 @@ impl Loaders {
         }
     }
 
-    /// How many there are.
+    /// The number of objects.
     pub fn len(&self) -> usize
         ensures { result ≡ length self.now }
     {
         self.links.len()
     }
 
-    /// Adds an object that is loaded for the one with this number.
+    /// Adds an object whose loader has this number.
     pub fn add(
         &mut self,
         alloc: Global,
@@ -98,7 +98,7 @@ impl Loaders {
         Ok(())
     }
 
-    /// What an object's own texts give.
+    /// The directories of an object, and the number of its nearest loader with DT_RPATH directories.
     pub(crate) fn link(&self, number: usize) -> &Link
         requires { number < length self.now }
         ensures below { IfSome result.now.above (λ j. j < number) }
@@ -107,7 +107,7 @@ impl Loaders {
         &self.links[number]
     }
 
-    /// The directories by the library path.
+    /// The directories of the library path.
     pub(crate) fn library(&self) -> &[Text]
         ensures { (i : ℕ) → i < length self.now → (reach_at self.now i).library ≡ result.now }
     {

@@ -1,4 +1,4 @@
-//! The texts of paths.
+//! Texts as paths.
 ghost use Rattle.std.specs.Prelude.{◌≡◌, ◌++◌, IfOk};
 ghost use Rattle.image_tree.specs.Paths.{root};
 ghost use Rattle.rpath_search.specs.Places.{folder_of, from_root, hwcaps_path};
@@ -8,7 +8,7 @@ use lib_types::{NoMemory, Text};
 use path_walk::is_absolute;
 use std::alloc::Global;
 
-/// The folder of a path, by its text alone.
+/// The directory of a path, from its text alone.
 pub fn folder_of(path: &[u8]) -> &[u8]
     ensures { result.now ≡ folder_of path.now }
 {
@@ -16,7 +16,7 @@ pub fn folder_of(path: &[u8]) -> &[u8]
     if folder.is_empty() { b"/" } else { folder }
 }
 
-/// The text, below the root if it doesn't begin there.
+/// Puts a slash in front of the text if it doesn't begin with one.
 pub fn from_root(alloc: Global, text: &[u8]) -> Result<Text, NoMemory>
     ensures { IfOk result (λ path. path ≡ from_root text.now) }
 {
@@ -29,7 +29,7 @@ pub fn from_root(alloc: Global, text: &[u8]) -> Result<Text, NoMemory>
     Ok(Text::from_vec(path))
 }
 
-/// The path of a name in a directory, whose text has no slash at its end.
+/// The path of a name in a directory whose text has no slash at its end.
 pub(crate) fn plain_path(alloc: Global, dir: &[u8], name: &[u8]) -> Result<Text, NoMemory>
     ensures { IfOk result (λ path. path ≡ dir.now ++ root ++ name.now) }
 {
@@ -40,7 +40,7 @@ pub(crate) fn plain_path(alloc: Global, dir: &[u8], name: &[u8]) -> Result<Text,
     Ok(Text::from_vec(path))
 }
 
-/// The same in its subdirectory for a hwcaps name.
+/// The path of a name in a directory's subdirectory for a hwcaps name.
 pub(crate) fn hwcaps_path(
     alloc: Global,
     dir: &[u8],

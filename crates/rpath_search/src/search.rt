@@ -1,4 +1,4 @@
-//! Which file is taken.
+//! The file that a search selects.
 ghost use Rattle.std.specs.Prelude.{◌≡◌, ◌∷◌, [], None, true, false, IfOk, IfSome, is_some, option_map};
 ghost use Rattle.std.specs.Option.{option_copied};
 ghost use Rattle.elf_dynamic.specs.Begun.{ReadsBy, file_keys, key_in, lacks_one};
@@ -25,25 +25,25 @@ use tree_face::{Node, Store, Tree};
 
 const ET_EXEC: u16 = 2;
 
-/// The files that are loaded, by their paths without links.
+/// The loaded files, by their paths without links.
 #[derive(Drop)]
 pub struct LoadedFiles {
     /// In the order of the objects.
     pub loaded: TextSet,
-    /// The program, if it is no library of its ABI: a path that leads there is passed over.
+    /// The program, if it isn't a library of its ABI. A search skips paths that lead to it.
     pub outsider: Option<Text>,
 }
 
-/// What a search gives.
+/// The result of a search.
 #[derive(Drop)]
 pub enum Answer {
-    /// The file with this number, which is loaded already.
+    /// The loaded file with this number.
     Loaded(usize),
     New(Found),
 }
 
 impl LoadedFiles {
-    /// No file. It takes no memory.
+    /// No files. It allocates no memory.
     pub fn none(alloc: Global) -> LoadedFiles
         ensures loaded { result.loaded ≡ [] }
         ensures outsider { result.outsider ≡ None }
@@ -54,7 +54,7 @@ impl LoadedFiles {
         }
     }
 
-    // Whether the file is the program that is no library.
+    // Whether the file is the program, and the program isn't a library of its ABI.
     fn is_outsider(&self, real: &[u8]) -> bool
         ensures { result ≡ is_outsider self.now.outsider real.now }
     {
@@ -75,7 +75,7 @@ pub fn key_at<'a>(tree: &'a Tree, real: &[u8]) -> Option<&'a [u8]>
     }
 }
 
-/// Whether an object is a library of this ABI.
+/// Whether the ELF information is that of a library of this ABI.
 pub fn is_library(abi: Abi, object: &Object) -> bool
     ensures { result ≡ is_library abi object.now }
 {
@@ -85,7 +85,7 @@ pub fn is_library(abi: Abi, object: &Object) -> bool
     }
 }
 
-/// Reads the file at a path without links: what it says of itself, if it is a library of this ABI.
+/// Reads the file at a path without links, and returns its ELF information if it is a library of this ABI.
 pub fn library_at<S: Store>(
     alloc: Global,
     tree: &Tree,
@@ -117,7 +117,7 @@ pub fn library_at<S: Store>(
     }
 }
 
-// What is found at one path, if it is good. A file that is loaded isn't read.
+// The answer for one path, if the path is good. A loaded file isn't read.
 fn try_path<S: Store>(
     alloc: Global,
     tree: &Tree,
@@ -148,7 +148,7 @@ fn try_path<S: Store>(
     }
 }
 
-/// What is found at the first good one of these paths. No file that is loaded is read.
+/// The answer for the first good path. Loaded files aren't read.
 pub fn search_paths<S: Store>(
     alloc: Global,
     tree: &Tree,
@@ -174,8 +174,8 @@ pub fn search_paths<S: Store>(
     Ok(None)
 }
 
-/// The first of these paths that leads to a library of the ABI, with what the library says of itself. Every other path is passed over, so
-/// a path that stands in the list again changes nothing.
+/// The first of these paths that leads to a library of the ABI, and the library's ELF information. All other paths are skipped, so a
+/// repeated path changes nothing.
 pub fn find<S: Store>(
     alloc: Global,
     tree: &Tree,

@@ -1,4 +1,4 @@
-//! Which file is taken.
+//! The file that is taken.
 use elf_samples::SampleFault;
 use image_rows::{FILES, MANIFEST, STORE_FAILS, is_made, store_of, tree_of};
 use lib_types::{Abi, NoMemory};
@@ -7,8 +7,8 @@ use std::alloc::Global;
 use table_rows::{Row, Said, Trial, Words, lines_in, list, text, value};
 use tree_face::Tree;
 
-/// A row has a manifest and the store's files, the paths as text, the path that is taken with the file to which it leads (`found`, `-` for
-/// none), or the fault, and the keys of the files that are opened. The ABI is x86-64.
+/// A row has a manifest and the store's files, and the paths as text. It has the path that is taken with the file to which it leads
+/// (`found`, `-` for none), or the fault. It has the keys of the files that are opened. The ABI is x86-64.
 pub(crate) struct Finds;
 
 // `PATH FILE`

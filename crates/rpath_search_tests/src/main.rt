@@ -1,4 +1,4 @@
-//! Tests of the paths at which the loader looks for a library, and of the library that it takes. Each table is a file of data/.
+//! Tests of the paths where the loader looks for a library, and of the library that it takes. Each table is a file of data/.
 #![tactic(auto)]
 
 mod finds;

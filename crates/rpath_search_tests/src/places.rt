@@ -1,4 +1,4 @@
-//! At which paths a library is looked for.
+//! The paths where a library is looked for.
 use image_rows::{LOADER, env_of};
 use lib_types::{NoMemory, Text};
 use rpath_search::{Chain, Owner, places};
@@ -7,8 +7,9 @@ use table_rows::{
     Row, Said, Trial, Words, divide, has_line, lines_before, lines_in, owned_value, value,
 };
 
-/// A row has the name that is looked for, the objects of the chain, the requesting one first, each by the directory in which it was found
-/// with the lines `rpath`, `runpath` and `nodeflib` below it, what the loader is given, the path in the cache, and the paths.
+/// A row has the name that is looked for, and the objects of the chain, the requesting one first. Each object has the directory where it
+/// was found, with the lines `rpath`, `runpath` and `nodeflib` below it. The row has the loader's environment, the path in the cache, and
+/// the expected paths.
 pub(crate) struct Places;
 
 const OBJECT: Words = &[b"object"];

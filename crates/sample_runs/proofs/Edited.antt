@@ -1,4 +1,4 @@
--- Both images of a sample are edited, so that both updates write all three slots.
+-- Both images of a sample are edited, so both updates write all three files.
 use Rattle.std.proofs.Common.{◌≡◌, ◌<◌, ◌++◌, ◌/◌, ◌%◌, ℕ, zero, suc, Bool, true, false, List, [], ◌∷◌, fold, Some, refl, ap, ◌∙◌, if◌then◌else◌, arith}
 use Rattle.hwcap_dirs.specs.declared.kinds.Scope.TheVariants.{Image}
 use Rattle.ldconfig_core.specs.Outcome.{manifest_with, new_manifest}
@@ -51,7 +51,7 @@ unfolding sample_files
 replaced_edited zero image some = absurd (omega (arith, some))
 replaced_edited (suc n) image some = stays_replaced (files_from (next (next (suc n))) 1 n) _ refl
 
--- ---- the slots
+-- ---- the files
 
 pub writes_all : (held : Contents) (s : Loaded) (texts : UpdateTexts) → AreTextsOf Image held s texts → s.edited ≡ true → slots_of (writes_of texts) ≡ update_slots
 unfolding new_manifest

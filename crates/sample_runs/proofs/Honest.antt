@@ -1,4 +1,4 @@
--- Both images of a sample meet the assumption on identities: the inode of a file says which library it has, and so what its key is.
+-- Both images of a sample meet the assumption on identities: a file's inode determines its library, and so its key.
 use Rattle.std.proofs.Common.{◌≡◌, ◌<◌, ◌≤◌, ◌+◌, ◌-◌, ◌++◌, ℕ, zero, suc, Bool, true, false, nat_lt, List, [], ◌∷◌, All, fold, Option, Some, None, codes, refl, ap, sym, subst, ◌∙◌, if◌then◌else◌, arith}
 use Rattle.std.proofs.lemmas.List.Elements.{All-cons, All-head, All-nil, All-tail}
 use Rattle.std.proofs.lemmas.Map.Views.{All-map-remove_entry, All-values-insert_entry, IfSome-lookup_from_All}
@@ -29,14 +29,14 @@ use Rattle.sample_runs.specs.Images.{empty_image, first_image, node_of, second_i
 
 -- ---- keys by identities
 
--- which library, by the inode of one of its files: those for processors have the inodes after the others
+-- the library of a file with this inode: the files for processors have the last inodes
 abbrev index_of : ℕ → ℕ → ℕ
 index_of n inode = if nat_lt n inode then inode - (n + 1) else inode - 1
 
 abbrev key_of : ℕ → Id → List ℕ
 key_of n id = codes "s" ++ decimal (index_of n id.inode)
 
--- a file has the key of its identity, if it has one
+-- a file that has an identity has the key of that identity
 abbrev HasOwnKey : ℕ → Node → Type 0
 HasOwnKey n Dir = ⊤
 HasOwnKey n (Link target) = ⊤

@@ -27,7 +27,7 @@ second_is : (held : Contents) (n : ℕ) (updated : Loaded) → updated ≡ plann
 unfolding second_image
 second_is held n updated planned = ap (all_replaced n) planned
 
--- where the disk is known before, it is known later
+-- if the disk's content is known before, it is known later
 later : (P : Type 0) (texts : UpdateTexts) (a b : Option DiskContent) → Relates (Leaves texts) a b → IfKnown b (λ _. P) → IfKnown a (λ _. P)
 later P texts None b leaves is = tt
 later P texts (Some a) None leaves is = absurd leaves
@@ -64,7 +64,7 @@ module _ (n : ℕ) (updated image : Loaded) (first second : SampleUpdate) (store
   are None first_update second_update = tt
   are (Some held) first_update second_update = made held first_update second_update
 
-  -- the keys of both updates, since the second image is that of the definition
+  -- the files that both updates open, since the second image is that of the definition
   begun : (held : Contents) → (IsUpdateOf held (first_image n) one.texts (updated, first))
       → (Relates (IsFollowedBy (keys_of held (first_image n))) store.keys middle_store.keys)
       → (Relates (IsFollowedBy (keys_of held (all_replaced n updated))) middle_store.keys after_store.keys)
@@ -158,10 +158,10 @@ module _ (n : ℕ) (updating updated again : Loaded) (first : SampleUpdate) (sto
   second_fails_by after_store fault fails = second_fails n updated first store middle_store after_store disk middle after_disk one_is goes fault
       (subst (λ (s : Loaded). UpdateFails s fault middle_store after_store middle after_disk) again_is fails)
 
--- ---- what is read, if the updates aren't made
+-- ---- what is read, if one of the updates isn't made
 
 module _ (n : ℕ) (store after_store : StoreState) (disk after_disk : DiskState) where
-  -- the first one isn't
+  -- the first update isn't made
   begins_first : (known : Option Contents) → IfKnown known (λ held. Relates (IsFollowedByPart (keys_of held (first_image n))) store.keys after_store.keys)
       → IfKnown known (λ held. Relates (IsFollowedByPart (sample_keys held n)) store.keys after_store.keys)
   begins_first None part = tt
@@ -192,7 +192,7 @@ module _ (n : ℕ) (store after_store : StoreState) (disk after_disk : DiskState
 module _ (n : ℕ) (updating updated again : Loaded) (first : SampleUpdate) (store middle_store after_store : StoreState) (disk middle after_disk : DiskState)
     (first_is : updating ≡ first_image n) (again_is : again ≡ all_replaced n updated)
     (one : UpdatesTo updating (updated, first) store middle_store disk middle) (goes : Goes store middle_store disk middle) where
-  -- the second one isn't
+  -- the second update isn't made
   begins_second : (known : Option Contents) → IfKnown known (λ held. IsUpdateOf held updating one.texts (updated, first))
       → IfKnown known (λ held. Relates (IsFollowedBy (keys_of held updating)) store.keys middle_store.keys)
       → IfKnown known (λ held. Relates (IsFollowedByPart (keys_of held again)) middle_store.keys after_store.keys)
@@ -214,7 +214,7 @@ module _ (n : ℕ) (updating updated again : Loaded) (first : SampleUpdate) (sto
         (λ x y z. follow_part (Cache ∷ []) (Cache ∷ []) x y z) disk.reads middle.reads after_disk.reads one.reads part.reads;
   }
 
--- memory is out between both
+-- memory runs out between the two updates
 pub stops_between : (n : ℕ) (updating updated : Loaded) (first : SampleUpdate) (store middle_store : StoreState) (disk middle : DiskState) → updating ≡ first_image n
     → UpdatesTo updating (updated, first) store middle_store disk middle → UsesSample n store middle_store disk middle
 stops_between n updating updated first store middle_store disk middle is one = first_stops_by n store middle_store disk middle updating is (record {
@@ -222,7 +222,7 @@ stops_between n updating updated first store middle_store disk middle is one = f
   reads = relates_by (IsFollowedBy (Cache ∷ [])) (IsFollowedByPart (Cache ∷ [])) (part_whole (Cache ∷ [])) disk.reads middle.reads one.reads;
 })
 
--- both were made, and memory is out before the text is
+-- both updates were made, and memory runs out before the text is complete
 pub text_stops : (n : ℕ) (numbers : SampleUpdate × SampleUpdate) (store after_store : StoreState) (disk after_disk : DiskState) → UpdatesTwice n numbers store after_store disk after_disk
     → UsesSample n store after_store disk after_disk
 text_stops n numbers store after_store disk after_disk both = record {

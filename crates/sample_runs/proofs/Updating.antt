@@ -47,7 +47,7 @@ none_follow {A} items (Some a) (Some b) e = (0, ap (λ (o : Option (List A)). or
     or_else other None = other
     or_else other (Some items) = items
 
--- all keys are begun, which is a part of them
+-- all keys are opened, which is a prefix of them
 pub all_begun : (keys : Contents → List (List ℕ)) (a b : Option (List (List ℕ))) (known : Option Contents) → IfKnown known (λ held. Relates (IsFollowedBy (keys held)) a b)
     → IfKnown known (λ held. Relates (IsFollowedByPart (keys held)) a b)
 all_begun keys a b None begun = tt
@@ -55,7 +55,7 @@ all_begun keys a b (Some held) begun = relates_by (IsFollowedBy (keys held)) (Is
 
 -- ---- one update
 
--- the slots hold what the texts' writes leave
+-- the files hold what the writes of these texts leave
 abbrev pub Leaves : UpdateTexts → DiskContent → DiskContent → Type 0
 Leaves texts a b = b.now ≡ slots_after (writes_of texts) a.now
 
@@ -115,18 +115,18 @@ module _ (s : Loaded) (store after_store : StoreState) (disk middle after_disk :
   is_failed (faults.TooMany count) u = record { store_faults = u.reads.any.cause; disk_faults = ap (λ (d : DiskState). d.faults) u.written }
   is_failed faults.NoMemory u = record { store_faults = u.reads.any.cause; disk_faults = ap (λ (d : DiskState). d.faults) u.written }
 
-  -- the cache isn't read
+  -- the cache can't be read
   pub is_unread : (updated : Loaded × Report) → Updates Image sample_tag s (Ok updated) store after_store disk middle → (fault : SampleFault) → ReadFails fault middle after_disk
       → UpdateFails s fault store after_store disk after_disk
   is_unread updated u StoreFault failed = absurd failed
   is_unread updated u DiskFault failed = risen_since disk.faults middle.faults after_disk.faults u.disk_faults failed
   is_unread updated u NoMemory same = record { store_faults = u.reads.any.cause; disk_faults = same ∙ u.written.written.faults }
 
-  -- the store holds what it held, and no count falls
+  -- the contents of the store don't change, and no count falls
   pub goes_on : (result : Result (Loaded × Report) UpdateFault) → Updates Image sample_tag s result store after_store disk middle → middle.faults ≤ after_disk.faults → Goes store after_store disk after_disk
   goes_on result u read = record { held = u.reads.any.held; store_faults = u.reads.any.faults; disk_faults = omega (arith, u.disk_faults, read) }
 
-  -- ---- what is read, if it isn't made or the cache isn't read
+  -- ---- what is read, if the update isn't made or the cache can't be read
 
   stops_by : (e : Ending) (known : Option Contents) → IfKnown known (λ held. Relates (BeginsKeys e (keys_of held s)) store.keys after_store.keys)
       → IfKnown known (λ held. Relates (IsFollowedByPart (keys_of held s)) store.keys after_store.keys)

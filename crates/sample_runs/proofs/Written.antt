@@ -1,4 +1,4 @@
--- The text of a sample is that of its updates.
+-- The text of a sample has the numbers of its updates.
 use Rattle.std.proofs.Common.{◌≡◌, ℕ, Option, Some, None, refl}
 use Rattle.tree_face.specs.Disk.{DiskContent, DiskState}
 use Rattle.tree_face.specs.Known.{IfKnown}

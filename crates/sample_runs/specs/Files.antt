@@ -1,4 +1,4 @@
--- The libraries of a sample: their numbers are drawn.
+-- The libraries of a sample. Their version numbers are pseudo-random.
 use Rattle.std.specs.Prelude.{ℕ, zero, suc, ◌+◌, ◌*◌, ◌^◌, ◌==◌, Bool, List, [], ◌∷◌, ◌++◌, codes, decimal, ◌/◌, ◌%◌, Some, None, false}
 use Rattle.elf_maker.specs.Made.{made}
 use Rattle.elf_maker.specs.declared.kinds.Spec.{Spec}
@@ -17,7 +17,7 @@ drawn state = state / 65536
 
 -- ---- the libraries
 
--- so many libraries from this state and index on: of each the major number is drawn, and then the minor one
+-- this number of libraries from this state and index on: for each, the major number is drawn first, then the minor number
 abbrev pub files_from : ℕ → ℕ → ℕ → List SampleFile
 files_from state index zero = []
 files_from state index (suc count) =
@@ -44,7 +44,7 @@ hwcaps_path file = codes "/usr/lib/glibc-hwcaps/x86-64-v3/libs" ++ decimal file.
 abbrev pub key : SampleFile → List ℕ
 key file = codes "s" ++ decimal file.index
 
--- a shared object of x86-64 that has a soname alone
+-- an x86-64 shared object that has only a soname
 abbrev pub shared_object : List ℕ → Spec
 shared_object name = record {
   abi = X86_64;
@@ -55,7 +55,7 @@ shared_object name = record {
 unfoldable pub content : SampleFile → List ℕ
 content file = made (shared_object (soname file))
 
--- whether a library is also there for processors of x86-64-v3
+-- whether a library also has a file for processors of x86-64-v3
 abbrev pub has_hwcaps_file : SampleFile → Bool
 has_hwcaps_file file = file.index % 4 == 3
 

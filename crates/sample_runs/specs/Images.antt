@@ -1,4 +1,4 @@
--- The two images of a sample of which updates are made.
+-- The two images of a sample that are updated.
 use Rattle.std.specs.Prelude.{ℕ, ◌+◌, [], fold, length, Some, None, if◌then◌else◌}
 use Rattle.hwcap_dirs.specs.declared.kinds.Scope.TheVariants.{Image}
 use Rattle.image_tree.specs.declared.node.Id.{Id}
@@ -46,13 +46,13 @@ first_image n = fold (with_files n) empty_image (sample_files n)
 abbrev pub with_newer : Loaded → SampleFile → Loaded
 with_newer image file = with_node (without_node image (library_path file file.minor)) (library_path file (file.minor + 1)) (node_of file (file.index + 1) 2)
 
--- the same for one of those that are replaced
+-- the same if the library is one that is replaced
 abbrev pub with_replaced : Loaded → SampleFile → Loaded
 with_replaced image file = if is_replaced file then with_newer image file else image
 
 abbrev pub all_replaced : ℕ → Loaded → Loaded
 all_replaced n image = fold with_replaced image (sample_files n)
 
--- the image that the first update leaves, in which libraries are replaced
+-- the image that the first update leaves, with some libraries replaced
 unfoldable pub second_image : Contents → ℕ → Loaded
 second_image held n = all_replaced n (planned_image Image held (first_image n))

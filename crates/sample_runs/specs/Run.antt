@@ -1,4 +1,4 @@
--- The command `sample` on devices in memory of its own.
+-- The command `sample` with its own devices in memory.
 use Rattle.std.specs.Prelude.{◌≡◌, ◌⊎◌, ℕ, List, map, Ok}
 use Rattle.command_status.specs.declared.status.Status.{Status}
 use Rattle.command_status.specs.declared.status.Status.TheVariants.{StoreFault, DiskFault, NoMemory}
@@ -13,11 +13,11 @@ use Rattle.sample_runs.specs.Sample.{EndsBy, IsTextOf}
 abbrev pub pair_of : SampleFile → Pair
 pair_of file = (key file, content file)
 
--- what the store holds: the content of each library under its key
+-- the contents of the store: each library's content under its key
 unfoldable pub sample_contents : ℕ → Contents
 sample_contents n = held_in (map pair_of (sample_files n))
 
--- the text of the sample of these contents
+-- the text of the sample with these contents
 pub record IsOwnText (n : ℕ) (text : List ℕ) : Type 0 where
   pub first : UpdateTexts
   pub second : UpdateTexts
@@ -29,6 +29,6 @@ own_status StoreFault = NoMemory
 own_status DiskFault = NoMemory
 own_status status = status
 
--- The text of the sample is written, or a prefix of it if the output fails; or memory is out, and nothing is written.
+-- The text of the sample is written, or a prefix of it if the output fails. If memory runs out, nothing is written.
 abbrev pub RunEnds : ℕ → Status → SinkState → SinkState → Type 0
 RunEnds n status out after = ((text : List ℕ) × (IsOwnText n text × EndsBy (Ok text) status out after)) ⊎ ((status ≡ NoMemory) × (after ≡ out))

@@ -18,18 +18,19 @@ use Rattle.sample_runs.specs.Images.{first_image, second_image}
 use Rattle.sample_runs.specs.Text.{sample_text}
 use Rattle.sample_runs.specs.Updates.{AreWritten, ReadsTwice, SampleFails, UsesSample}
 
--- the texts are those of the two updates, each of which writes all three slots if there are libraries, and the text of the sample has their numbers
+-- The texts are those of the two updates. If there are libraries, each update writes all three files. The text of the sample has their
+-- numbers.
 pub record IsTextOf (held : Contents) (n : ℕ) (text : List ℕ) (first second : UpdateTexts) : Type 0 where
   pub first_are : AreTextsOf Image held (first_image n) first
   pub second_are : AreTextsOf Image held (second_image held n) second
-  -- each file is said to be what it is, so that updates without stamps give the same
+  -- the image has the true ELF information of each file, so updates without stamps give the same
   pub first_right : IsSaidRight Image held (first_image n).tree (first_image n).stamps
   pub second_right : IsSaidRight Image held (second_image held n).tree (second_image held n).stamps
   pub first_all : 0 < n → slots_of (writes_of first) ≡ update_slots
   pub second_all : 0 < n → slots_of (writes_of second) ≡ update_slots
   pub text_is : text ≡ sample_text held n first.cache second.cache
 
--- two updates are made, and this is the text: that of the sample, where contents are known
+-- two updates are made, and this is the sample's text, if the contents are known
 pub record IsSample (n : ℕ) (text : List ℕ) (store after_store : StoreState) (old new : DiskState) : Type 0 where
   pub first : UpdateTexts
   pub second : UpdateTexts
@@ -44,7 +45,7 @@ Samples n (Err fault) store after_store disk after_disk = SampleFails n fault st
 
 -- ---- the end
 
--- the text is written, or a prefix of it if the output fails; no text is written without one
+-- the text is written, or a prefix of it if the output fails; if there is none, nothing is written
 abbrev pub EndsBy : Result (List ℕ) SampleFault → Status → SinkState → SinkState → Type 0
 EndsBy (Ok text) status out after =
     ((status ≡ Done) × (Relates (IsFollowedBy text) out.written after.written × (after.faults ≡ out.faults)))

@@ -31,7 +31,7 @@ links_text links opened = codes " libs, " ++ decimal links ++ codes " links, " +
 unfoldable pub size_text : ℕ → List ℕ
 size_text size = codes " files opened, " ++ decimal size
 
--- the line of an update, by its numbers
+-- the line of an update with these numbers
 unfoldable pub update_line : ℕ → ℕ → ℕ → ℕ → ℕ → List ℕ
 update_line number libs links opened bytes = libs_text number libs ++ links_text links opened ++ size_text bytes ++ codes " bytes\n"
 
@@ -54,18 +54,18 @@ lookups_line found n = codes "lookups: " ++ decimal found ++ codes " found of " 
 
 -- ---- readings
 
--- post 0 has tag 0 and the second cache, post 1 has tag 1 and the first cache
+-- updater 0 has tag 0 and writes the second cache, updater 1 has tag 1 and writes the first cache
 abbrev pub posts : List ℕ → List ℕ → List Post
 posts first second = record { tag = record { 0 = 0 }; bytes = second } ∷ record { tag = record { 0 = 1 }; bytes = first } ∷ []
 
--- a step of each post, and a loader after each
+-- a step of each updater, and a loader after each step
 abbrev pub round : List Turn
 round = Step 0 ∷ Load ∷ Step 1 ∷ Load ∷ []
 
 abbrev pub schedule : List Turn
 schedule = round ++ round ++ round ++ round ++ round
 
--- what the loaders read while both posts replace the first cache
+-- what the loaders read while both updaters replace the first cache
 unfoldable pub readings : List ℕ → List ℕ → List Reading
 readings first second = readings_behind (Some first) (posts first second) [] schedule
 
@@ -82,7 +82,7 @@ readings_line rs =
 
 -- ---- all of it
 
--- after the lines of the updates, by the caches that they write
+-- the lines after those of the updates, from the caches that the updates write
 abbrev pub last_lines : ℕ → List ℕ → List ℕ → List ℕ
 last_lines n first second = lookups_line (count_by (is_found (read second)) (sample_files n)) n ++ readings_line (readings first second)
 

@@ -27,7 +27,7 @@ sample_tag = record { 0 = 0 }
 
 -- ---- one update
 
--- the store holds what it held, and no count of faults falls
+-- the contents of the store don't change, and no count of faults falls
 pub record Goes (store after_store : StoreState) (disk after_disk : DiskState) : Type 0 where
   pub held : after_store.held ≡ store.held
   pub store_faults : store.faults ≤ after_store.faults
@@ -50,11 +50,11 @@ pub record IsUpdateOf (held : Contents) (s : Loaded) (texts : UpdateTexts) (upda
   pub image_is : updated.0 ≡ planned_image Image held s
   pub numbers : AreNumbers held s updated.1
 
--- the keys of the update of this image
+-- the files that the update of this image opens
 abbrev pub keys_of : Contents → Loaded → List (List ℕ)
 keys_of held s = update_keys Image held s.tree s.stamps
 
--- the writes of the texts are made, and the cache is then read; no other slot is, and no other key is begun
+-- the texts are written, and then the cache is read; no other file is written or opened
 pub record UpdatesTo (s : Loaded) (updated : Loaded × SampleUpdate) (store after_store : StoreState) (disk after_disk : DiskState) : Type 0 where
   pub texts : UpdateTexts
   pub slots : Relates (λ (a b : DiskContent). b.now ≡ slots_after (writes_of texts) a.now) disk.contents after_disk.contents
@@ -65,22 +65,22 @@ pub record UpdatesTo (s : Loaded) (updated : Loaded × SampleUpdate) (store afte
   pub reads : Relates (IsFollowedBy (Cache ∷ [])) disk.reads after_disk.reads
   pub none_rise : NoneRise store after_store disk after_disk
 
--- a file of the image isn't held
+-- the store doesn't hold a file of the image
 abbrev pub Lacks : Option Contents → Loaded → Type 0
 Lacks known s = IsSomeAnd known (λ held. lacks_some Image held s.tree ≡ true)
 
--- the count of the device rose, or the store doesn't hold a file of the image; memory is out only if no count rose
+-- the device's count of faults rose, or the store doesn't hold a file of the image; memory ran out only if no count rose
 abbrev pub UpdateFails : Loaded → SampleFault → StoreState → StoreState → DiskState → DiskState → Type 0
 UpdateFails s StoreFault store after_store disk after_disk = HasRisen store.faults after_store.faults ⊎ Lacks store.held s
 UpdateFails s DiskFault store after_store disk after_disk = HasRisen disk.faults after_disk.faults
 UpdateFails s NoMemory store after_store disk after_disk = NoneRise store after_store disk after_disk
 
--- a prefix of these keys is begun, and a prefix of these slots is read
+-- a prefix of these keys is opened, and a prefix of these files is read
 pub record UsesPart (keys : Contents → List (List ℕ)) (slots : List Slot) (store after_store : StoreState) (disk after_disk : DiskState) : Type 0 where
   pub begins : IfKnown store.held (λ held. Relates (IsFollowedByPart (keys held)) store.keys after_store.keys)
   pub reads : Relates (IsFollowedByPart slots) disk.reads after_disk.reads
 
--- why the cache isn't read
+-- why the cache can't be read
 abbrev pub ReadFails : SampleFault → DiskState → DiskState → Type 0
 ReadFails StoreFault disk after_disk = ⊥
 ReadFails DiskFault disk after_disk = HasRisen disk.faults after_disk.faults
@@ -88,13 +88,14 @@ ReadFails NoMemory disk after_disk = after_disk.faults ≡ disk.faults
 
 -- ---- both updates
 
--- the slots hold what these updates write, and the writing calls are theirs
+-- the files hold what these updates write, and the writing calls are theirs
 pub record AreWritten (first second : UpdateTexts) (old new : DiskState) : Type 0 where
   pub slots : Relates (λ (a b : DiskContent). b.now ≡ slots_after (writes_of second) (slots_after (writes_of first) a.now)) old.contents new.contents
   pub calls : Relates (IsFollowedBy (calls_of sample_tag (writes_of first) ++ calls_of sample_tag (writes_of second))) old.calls new.calls
 
--- The texts and the numbers are those of the updates of both images, each of which writes all three slots if there are libraries. Each file is said to be
--- what it is, so that updates without stamps give the same.
+-- The texts and the numbers are those of the updates of both images. If there are libraries, each update writes all three files. The image
+-- has
+-- the true ELF information of each file, so updates without stamps give the same.
 pub record AreUpdatesOf (held : Contents) (n : ℕ) (first second : UpdateTexts) (numbers : SampleUpdate × SampleUpdate) : Type 0 where
   pub first_are : AreTextsOf Image held (first_image n) first
   pub second_are : AreTextsOf Image held (second_image held n) second
@@ -105,11 +106,11 @@ pub record AreUpdatesOf (held : Contents) (n : ℕ) (first second : UpdateTexts)
   pub first_right : IsSaidRight Image held (first_image n).tree (first_image n).stamps
   pub second_right : IsSaidRight Image held (second_image held n).tree (second_image held n).stamps
 
--- the keys of both updates, one after the other
+-- the files that both updates open, one after the other
 abbrev pub sample_keys : Contents → ℕ → List (List ℕ)
 sample_keys held n = keys_of held (first_image n) ++ keys_of held (second_image held n)
 
--- what is read: the cache after each update, and the keys of both; no count of faults rises
+-- what is read: the cache after each update, and the files of both; no count of faults rises
 pub record ReadsTwice (n : ℕ) (store after_store : StoreState) (disk after_disk : DiskState) : Type 0 where
   pub begins : IfKnown store.held (λ held. Relates (IsFollowedBy (sample_keys held n)) store.keys after_store.keys)
   pub reads : Relates (IsFollowedBy (Cache ∷ Cache ∷ [])) disk.reads after_disk.reads
@@ -124,15 +125,15 @@ pub record UpdatesTwice (n : ℕ) (numbers : SampleUpdate × SampleUpdate) (stor
   pub are : IfKnown store.held (λ held. AreUpdatesOf held n first second numbers)
   pub reads : ReadsTwice n store after_store disk after_disk
 
--- a file of one of the two images isn't held
+-- the store doesn't hold a file of one of the two images
 abbrev pub LacksFile : ℕ → Option Contents → Type 0
 LacksFile n known = IsSomeAnd known (λ held. (lacks_some Image held (first_image n).tree ≡ true) ⊎ (lacks_some Image held (second_image held n).tree ≡ true))
 
--- what is read then of the keys of both updates, and of the cache after each
+-- the part of the files of both updates, and of the cache after each, that is read if a sample fails
 abbrev pub UsesSample : ℕ → StoreState → StoreState → DiskState → DiskState → Type 0
 UsesSample n store after_store disk after_disk = UsesPart (λ held. sample_keys held n) (Cache ∷ Cache ∷ []) store after_store disk after_disk
 
--- the count of the device rose, or the store doesn't hold a file of the images; memory is out only if no count rose
+-- the device's count of faults rose, or the store doesn't hold a file of the images; memory ran out only if no count rose
 abbrev pub SampleFails : ℕ → SampleFault → StoreState → StoreState → DiskState → DiskState → Type 0
 SampleFails n StoreFault store after_store disk after_disk = HasRisen store.faults after_store.faults ⊎ LacksFile n store.held
 SampleFails n DiskFault store after_store disk after_disk = HasRisen disk.faults after_disk.faults

@@ -18,7 +18,7 @@ pub enum SampleFault {
 impl From<UpdateFault> for SampleFault {
     ghost from_gives = { λ update fault. fault ≡ of_update update };
 
-    // No image of a sample is too large, so that one for its size means out of memory.
+    // No image of a sample is too large, so `TooLarge` and `TooMany` can only mean out of memory.
     fn from(fault: UpdateFault) -> Self {
         match fault {
             UpdateFault::StoreFault => SampleFault::StoreFault,

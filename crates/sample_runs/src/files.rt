@@ -84,7 +84,7 @@ pub(crate) fn key(alloc: Global, file: SampleFile) -> Result<Text, NoMemory>
     Ok(Text::from_vec(key))
 }
 
-// What a library's file says of itself: that it is a shared object with this soname.
+// The ELF information of a library's file: a shared object with this soname.
 fn shared_object(alloc: Global, soname: Text) -> Spec
     ensures { result ≡ shared_object soname }
 {

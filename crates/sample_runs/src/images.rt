@@ -1,4 +1,4 @@
-//! The images of a sample of which updates are made.
+//! The images of a sample that are updated.
 ghost use Rattle.std.specs.Prelude.{◌≡◌, fold, IfOk, OnOk};
 ghost use Rattle.image_session.specs.Edit.{with_node};
 ghost use Rattle.sample_runs.specs.Files.{sample_files};
@@ -11,7 +11,7 @@ use lib_types::{NoMemory, Text};
 use std::alloc::Global;
 use tree_face::{Id, Node, Tree, is_node, is_path};
 
-// An image without nodes and stamps.
+// An image without nodes or stamps.
 fn empty_image(alloc: Global) -> Session
     ensures { result ≡ empty_image }
 {

@@ -1,4 +1,5 @@
-//! The command `sample`: two updates of images of generated libraries on devices in memory, look-ups, and readings while updaters are at work.
+//! The command `sample`: two updates of images of generated libraries in memory, look-ups in their caches, and readings while updaters
+//! write.
 #![tactic(auto)]
 
 mod fault;

@@ -7,8 +7,7 @@ ghost use Rattle.lib_types.specs.declared.abi.Abi.TheVariants.{X86_64};
 ghost use Rattle.sample_runs.specs.Text.{caps, is_found};
 
 use crate::files::{SampleFile, soname};
-use cache_lookup::{Counted, Sorted, sorted};
-use cache_reader::CacheView;
+use cache_lookup::{Counted, Sorted, sorted_cache};
 use lib_types::{Abi, NoMemory, Text, Texts};
 use std::alloc::Global;
 
@@ -60,15 +59,12 @@ fn count_found(alloc: Global, cache: &Sorted<'_>, files: &[SampleFile]) -> Resul
     Ok(found)
 }
 
-/// How many of the libraries the loader finds by a cache.
+/// The number of these libraries that the loader finds with this cache.
 pub(crate) fn found_in(alloc: Global, cache: &[u8], files: &[SampleFile]) -> Result<usize, NoMemory>
     ensures { IfOk result (λ found. found ≡ count_by (is_found (read cache.now)) files.now) }
 {
-    // What an update has written is a cache in order.
-    let Ok(view) = CacheView::parse(cache) else {
-        return Err(NoMemory);
-    };
-    let Ok(cache) = sorted(view) else {
+    // An update writes only well-formed caches.
+    let Ok(cache) = sorted_cache(cache) else {
         return Err(NoMemory);
     };
     count_found(alloc, &cache, files)

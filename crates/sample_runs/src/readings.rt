@@ -1,4 +1,4 @@
-//! Readings of the cache slot while two updaters replace it.
+//! Readings of the cache file while two updaters replace it.
 ghost use Rattle.std.specs.Prelude.{◌≡◌, IfOk};
 ghost use Rattle.std.specs.List.{count_by};
 ghost use Rattle.sample_runs.specs.Text.{is_by, is_first, posts, readings, schedule};
@@ -8,7 +8,7 @@ use std::alloc::Global;
 use tree_face::Tag;
 use update_world::{Post, Posts, Reading, Readings, Turn, World, world_run};
 
-// A step of each updater and a loader after each, five times.
+// Each updater makes a step, with a loader after each step, five times.
 const SCHEDULE: [Turn; 20] = [
     Turn::Step(0),
     Turn::Load,
@@ -32,7 +32,7 @@ const SCHEDULE: [Turn; 20] = [
     Turn::Load,
 ];
 
-// The updaters: of the second cache with tag 0, and of the first with tag 1.
+// The updaters: one of the second cache with tag 0, and one of the first cache with tag 1.
 fn posts(alloc: Global, first: &[u8], second: &[u8]) -> Result<Posts, NoMemory>
     ensures { IfOk result (λ list. list ≡ posts first.now second.now) }
 {
@@ -48,7 +48,7 @@ fn posts(alloc: Global, first: &[u8], second: &[u8]) -> Result<Posts, NoMemory>
     Ok(list)
 }
 
-/// What loaders read while both replace the first cache.
+/// What loaders read while both updaters replace the first cache.
 #[tactic(auto, unfolding(crate::specs::Text::readings))]
 pub(crate) fn readings(alloc: Global, first: &[u8], second: &[u8]) -> Result<Readings, NoMemory>
     ensures { IfOk result (λ list. list ≡ readings first.now second.now) }
@@ -75,14 +75,14 @@ fn is_by(reading: &Reading, tag: u16) -> bool
     }
 }
 
-/// How many of the readings are of the first cache.
+/// The number of readings that gave the first cache.
 pub(crate) fn count_first(readings: &Readings) -> usize
     ensures { result ≡ count_by is_first readings.now }
 {
     readings.as_slice().iter().filter(|r| is_first(r)).count()
 }
 
-/// How many of the readings are of the updater with this tag.
+/// The number of readings that gave the cache of the updater with this tag.
 pub(crate) fn count_by(readings: &Readings, tag: u16) -> usize
     ensures { result ≡ count_by (is_by tag) readings.now }
 {

@@ -1,4 +1,4 @@
-//! The command `sample` on devices in memory of its own.
+//! The command `sample` with its own devices in memory.
 ghost use Rattle.std.specs.Prelude.{◌≡◌, map, IfOk};
 ghost use Rattle.sample_runs.specs.Files.{sample_files};
 ghost use Rattle.sample_runs.specs.Run.{RunEnds, own_status, pair_of};
@@ -46,7 +46,7 @@ fn own_status(status: Status) -> Status
     }
 }
 
-/// Runs the command `sample` on devices in memory of its own, and writes no fault line.
+/// Runs the command `sample` with its own devices in memory. It writes no fault line.
 #[tactic(auto, using(crate::proofs::Ran::not_usage))]
 pub fn run_sample<O: Sink>(alloc: Global, n: u16, out: &mut O) -> Status
     ensures ends { RunEnds n result (O.state out.old) (O.state out.new) }

@@ -92,7 +92,7 @@ fn sample<S: Store, D: Disk>(
     }
 }
 
-/// Makes the two updates of a sample of n libraries on these devices, and writes its text but no fault line.
+/// Updates the two images of a sample of `n` libraries on these devices, and writes the sample's text. It writes no fault line.
 pub fn sample_on<S: Store, D: Disk, O: Sink>(
     alloc: Global,
     n: u16,

@@ -21,7 +21,7 @@ pub struct SampleUpdate {
     pub cache: Text,
 }
 
-// The cache in its slot.
+// The cache in its file.
 fn read_cache<D: Disk>(alloc: Global, disk: &mut D) -> Result<Text, SampleFault>
     ensures content { IfOk result (λ cache. IfKnown (D.state disk.old).contents (λ known. known.now.cache ≡ Some cache)) }
     ensures failed { IfErr result (λ fault. ReadFails fault (D.state disk.old) (D.state disk.new)) }
@@ -38,7 +38,7 @@ fn read_cache<D: Disk>(alloc: Global, disk: &mut D) -> Result<Text, SampleFault>
     }
 }
 
-/// Updates an image, and reads the cache that is written.
+/// Updates an image, and reads the cache that the update writes.
 #[tactic(auto, using(crate::proofs::Updating::is_updated, crate::proofs::Updating::is_failed, crate::proofs::Updating::is_unread, crate::proofs::Updating::stops, crate::proofs::Updating::stops_reading, crate::proofs::Updating::goes_on))]
 pub(crate) fn update<S: Store, D: Disk>(
     alloc: Global,

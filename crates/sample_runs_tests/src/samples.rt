@@ -1,4 +1,4 @@
-//! One library, on devices of its own, and on a store in memory without a fault and with one.
+//! A sample of one library, on its own devices, and on a store in memory with and without a fault.
 use command_status::Status;
 use elf_samples::library_file;
 use lib_types::{Abi, NoMemory, Text};
@@ -13,7 +13,7 @@ lookups: 1 found of 1
 readings: 6 first, 1 tag 0, 3 tag 1
 ";
 
-// A store of the one library, whose calls of these numbers fail.
+// A store with the one library, in which the calls with these numbers fail.
 fn store_of(alloc: Global, fail: &[u64]) -> Result<MemStore, Fail> {
     let content = library_file(alloc, Abi::X86_64, b"libs0.so.18").map_err(|_| Fail::from(
         NoMemory,

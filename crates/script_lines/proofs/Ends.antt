@@ -1,11 +1,11 @@
--- Which lines go on in the next one.
+-- Lines that are continued on the next line.
 use Rattle.std.proofs.Common.{◌≡◌, ◌-◌, ℕ, zero, suc, true, List, [], ◌∷◌, length, drop, subst, arith}
 use Rattle.manifest_words.specs.Lines.{goes_on}
 
 less : (n : ℕ) → suc n - 1 ≡ n
 less n = omega arith
 
--- a byte ahead changes nothing
+-- a line that is continued is continued with one more byte in front, too
 behind : (b : ℕ) (bytes : List ℕ) → goes_on bytes ≡ true → goes_on (b ∷ bytes) ≡ true
 behind b [] e = absurd (cc)
 behind b (c ∷ rest) e = rw (less (suc (length rest))) (rw (less (length rest)) at e)
@@ -15,6 +15,6 @@ dropped zero bytes e = e
 dropped (suc k) [] e = e
 dropped (suc k) (b ∷ bytes) e = behind b bytes (dropped k bytes e)
 
--- what follows n bytes goes on only if the line does
+-- the bytes after the first n bytes are continued only if the line is
 pub rest_ends : (bytes rest : List ℕ) (n : ℕ) → rest ≡ drop n bytes → goes_on rest ≡ true → goes_on bytes ≡ true
 rest_ends bytes rest n whole e = dropped n bytes (subst (λ r. goes_on r ≡ true) whole e)

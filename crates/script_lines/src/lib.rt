@@ -1,4 +1,4 @@
-//! The lines of a script of edits and updates.
+//! Parsing the lines of a script of edits and updates.
 #![tactic(auto)]
 
 mod line;

@@ -1,4 +1,4 @@
-//! What a line of a script asks for.
+//! The command on a line of a script.
 ghost use Rattle.std.specs.Prelude.{◌≡◌, false, IfOk, IsErrOf, IsTrue};
 ghost use Rattle.std.specs.Str.{bytes_eq};
 ghost use Rattle.image_tree.specs.Paths.{is_path};
@@ -11,16 +11,16 @@ use mtree_manifest::{EntryLineFault, LineKind, read_entry, read_path};
 use std::alloc::Global;
 use tree_face::Node;
 
-/// What a line asks for.
+/// The command on a line.
 #[derive(Drop)]
 pub enum ScriptLine {
-    /// Nothing: it has no words, or is a comment.
+    /// The line has no words, or is a comment.
     Ignored,
-    /// To put the node at the path; nothing is put if the line's type makes no node.
+    /// Put the node at the path. None if the line's type is ignored.
     Put(Option<(Text, Node)>),
-    /// To remove the node of the path.
+    /// Remove the node at the path.
     Drop(Text),
-    /// To update the image.
+    /// Update the image.
     Update,
 }
 
@@ -44,7 +44,7 @@ fn goes_on(line: &[u8]) -> bool
 
 const BAD_LINE: EntryLineFault = EntryLineFault::Bad(LineKind::BadLine);
 
-// The path of the one word there is.
+// Reads the path in a text that has exactly one word.
 fn read_dropped(alloc: Global, rest: &[u8]) -> Result<Text, EntryLineFault>
     ensures path { IfOk result (λ path. path_in (words_of rest.now) ≡ Ok path) }
     ensures bad { (kind : LineKind) → IsErrOf result (EntryLineFault.Bad kind) → path_in (words_of rest.now) ≡ Err kind }
@@ -59,7 +59,7 @@ fn read_dropped(alloc: Global, rest: &[u8]) -> Result<Text, EntryLineFault>
     read_path(alloc, one.word)
 }
 
-// What a line asks for whose first word is this. Its rest ends as the line does.
+// The command on a line, given its first word and the rest. The line must not be continued on the next line.
 fn read_words(alloc: Global, words: Words<'_>) -> Result<ScriptLine, EntryLineFault>
     requires { goes_on words.rest.now ≡ false }
     ensures asked { IfOk result (λ asked. asked_by words.entry.word.now (words_of words.entry.rest.now) ≡ Ok asked) }
@@ -78,7 +78,7 @@ fn read_words(alloc: Global, words: Words<'_>) -> Result<ScriptLine, EntryLineFa
     Err(BAD_LINE)
 }
 
-/// What a line asks for, which has no line feed.
+/// Reads the command on a line. The line has no line feed.
 pub fn read_line(alloc: Global, line: &[u8]) -> Result<ScriptLine, EntryLineFault>
     ensures asked { IfOk result (λ asked. line_of line.now ≡ Ok asked) }
     ensures bad { (kind : LineKind) → IsErrOf result (EntryLineFault.Bad kind) → line_of line.now ≡ Err kind }

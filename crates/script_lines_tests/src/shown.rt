@@ -1,4 +1,4 @@
-//! What a line asks for, as text.
+//! The meaning of a line, as text.
 use lib_types::NoMemory;
 use mtree_manifest::{EntryLineFault, LineKind};
 use script_lines::ScriptLine;
@@ -60,7 +60,7 @@ fn name_of(kind: LineKind) -> &'static [u8] {
     }
 }
 
-/// What a line asks for, or its fault, and a line feed.
+/// The meaning of a line, or its fault, and a line feed.
 pub(crate) fn shown(
     alloc: Global,
     read: Result<ScriptLine, EntryLineFault>,

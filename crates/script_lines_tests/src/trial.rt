@@ -1,11 +1,11 @@
-//! One row: a line, and what it asks for.
+//! One row: a line and its meaning.
 use crate::shown::shown;
 use lib_types::NoMemory;
 use script_lines::read_line;
 use std::alloc::Global;
 use table_rows::{Row, Said, Trial, Words, text};
 
-/// A row has a line, with its line feed, and what it asks for or its fault.
+/// A row has a line, with its line feed, and its meaning or its fault.
 pub(crate) struct Lines;
 
 // The text without its last byte, the line feed.
@@ -24,7 +24,7 @@ impl Trial for Lines {
         WORDS
     }
 
-    // A body that always returns NoMemory meets the contract; the rows refuse it.
+    // A body that always returns NoMemory meets the contract, but not the rows.
     fn is_right(alloc: Global, row: Row<'_>, said: &mut Said) -> Result<bool, NoMemory> {
         let line = text(alloc, row, b"line")?;
         let got = shown(alloc, read_line(alloc, line_of(&line)))?;

@@ -1,4 +1,4 @@
--- Of each session of which an update is made, one was asked for.
+-- Every session that is updated is one of those whose update was asked for.
 use Rattle.std.proofs.Common.{◌+◌, ℕ, List, [], ◌∷◌, All, Result, Ok, Err}
 use Rattle.std.specs.List.{Contains}
 use Rattle.std.proofs.lemmas.List.Elements.{All-cons, All-contains_itself, All-head, All-nil, All-weaker, Contains-append_right}

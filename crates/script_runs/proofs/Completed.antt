@@ -1,4 +1,4 @@
--- A script whose lines can all be done is done, unless a device fails or memory is out.
+-- If all lines of a script can be done, the script is done, unless a device fails or memory runs out.
 use Rattle.std.proofs.Common.{◌≡◌, ◌⊎◌, ℕ, List, Option, Some, None, Result, Ok, Err, refl, sym, ◌∙◌, inl, inr}
 use Rattle.commands.specs.Devices.{IfBothKnown}
 use Rattle.ldconfig_core.specs.Repair.{IsImageIn}
@@ -25,7 +25,7 @@ abbrev IsComplete : Status → Type 0
 IsComplete status = (status ≡ Done) ⊎ (status ≡ NoMemory)
 
 module _ (old new : States) (none : NoneRose old new) where
-  -- the session isn't loaded
+  -- the session can't be loaded
   unloaded : (fault : LoadFault) → StopsLoading fault old.disk new.disk → IsComplete (of_load fault)
   unloaded (loading.DiskFailed slot) risen = absurd (none.disk risen)
   unloaded loading.NoMemory why = inr refl
@@ -33,7 +33,7 @@ module _ (old new : States) (none : NoneRose old new) where
   unloaded (loading.BadManifest fault) why = absurd why
 
   module _ (course : Course) (rest : List Loaded) (session : Loaded) (done : course.end ≡ Ok session) where
-    -- the course doesn't end with a fault
+    -- the expected run doesn't end with a fault
     not_end : (fault : ScriptFault) → IsCourseEnd course rest (Err fault) → ⊥
     not_end fault (nothing, end) = let z : Ok session ≡ Err fault = sym done ∙ end in absurd (cc)
 

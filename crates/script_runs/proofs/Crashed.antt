@@ -50,13 +50,13 @@ first_is x y xs ys e = ap (λ list. get_or list 0 x) e
 rest_is : (x y : UpdateTexts) (xs ys : List UpdateTexts) → x ∷ xs ≡ y ∷ ys → xs ≡ ys
 rest_is x y xs ys e = ap (drop 1) e
 
--- a script that has ended isn't done
+-- a script that ends with a fault isn't done
 pub fault_ends : (to : Result Loaded ScriptFault) (fault : ScriptFault) → to ≡ Err fault → IsNotDone to
 fault_ends to fault is session done = let z : Ok session ≡ Err fault = sym done ∙ is in absurd (cc)
 
 -- ---- updates
 
--- these updates were made from the one disk to the other; the last may have failed
+-- these updates were made between the two disk states; the last one may have failed
 record AreWritten (tag : Tag) (updates : List UpdateTexts) (to : Result Loaded ScriptFault) (old new : DiskState) : Type 0 where
   are : All AreTexts updates
   leaves : Leaves (IsOfWrites (flat_map writes_of updates)) old new
@@ -64,7 +64,7 @@ record AreWritten (tag : Tag) (updates : List UpdateTexts) (to : Result Loaded S
   settled : NoneFailed to → LeavesLast updates new
   calls : Relates (MakesCalls tag updates to) old.calls new.calls
 
--- some updates of which this holds were made
+-- some updates with this property were made
 abbrev HasWritten : Tag → (List UpdateTexts → Type 0) → Result Loaded ScriptFault → DiskState → DiskState → Type 0
 HasWritten tag Of to old new = (updates : List UpdateTexts) × (AreWritten tag updates to old new × Of updates)
 
@@ -72,7 +72,7 @@ no_last : (new : DiskState) → LeavesLast [] new
 no_last new [] last e = absurd (cc)
 no_last new (x ∷ front) last e = absurd (cc)
 
--- no writing call failed, since the script ends so
+-- no writing call failed, because the script ends in the same way
 none_failed : (to other : Result Loaded ScriptFault) → to ≡ other → NoneFailed other → NoneFailed to
 none_failed to other is none fault e = none fault (sym is ∙ e)
 
@@ -145,7 +145,7 @@ one_fault to fault other is e =
     fault_in else (Err (Updating (Update (updating.DiskFault fault)))) = fault
     fault_in else _ = else
 
--- an update that a failing device ends
+-- an update that ends because a device fails
 part_written : (tag : Tag) (Of : List UpdateTexts → Type 0) (texts : UpdateTexts) → AreTexts texts → (to : Result Loaded ScriptFault) (old new : DiskState) (fault : DiskFault)
     → to ≡ Err (Updating (Update (updating.DiskFault fault))) → Of (texts ∷ []) → Leaves (IsOfWrites (writes_of texts)) old new
     → Relates (StopsAt (call_by tag fault.slot fault.call) (calls_of tag (writes_of texts))) old.calls new.calls → HasWritten tag Of to old new
@@ -175,14 +175,14 @@ part_written tag Of texts are to old new fault failed is leaves calls = (
       };
     }
 
--- ---- the course
+-- ---- the expected run
 
 none_of : (to : Result Loaded ScriptFault) (known : Option Contents) (course : Contents → Course)
     → ((held : Contents) (session : Loaded) → to ≡ Ok session → (course held).updates ≡ []) → AreOfCourse known to course []
 none_of to None course none = tt
 none_of to (Some held) course none = none held
 
--- of a script that isn't done some updates may be left
+-- a script that isn't done may have updates left
 none_yet : (to : Result Loaded ScriptFault) (known : Option Contents) (course : Contents → Course) → IsNotDone to → AreOfCourse known to course []
 none_yet to known course not_done = none_of to known course (λ held session done. absurd (not_done session done))
 

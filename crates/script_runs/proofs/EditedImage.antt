@@ -1,4 +1,4 @@
--- What a line makes of a session if it asks for no update.
+-- The effect of a line on a session, if the line asks for no update.
 use Rattle.std.proofs.Common.{◌≡◌, ◌⊎◌, Bool, true, false, Some, None, is_some, Result, Ok, Err, if◌then◌else◌, refl, inl, inr}
 use Rattle.image_tree.specs.Tree.{clashes, has_no_room, node_at}
 use Rattle.image_session.specs.Edit.{with_node, without_node}
@@ -14,7 +14,7 @@ use Rattle.script_runs.specs.declared.fault.LineFault.TheVariants.{Bad}
 use Rattle.script_runs.specs.Faults.{edited}
 use Rattle.script_runs.specs.Run.{after_line}
 
--- the stamps stay, and the session stays or is edited; or the line isn't taken
+-- the stamps stay, and the session stays or is edited; or the line isn't accepted
 abbrev pub IsEdit : Loaded → Result Loaded LineFault → Type 0
 IsEdit s (Ok session) = (session.stamps ≡ s.stamps) × ((session ≡ s) ⊎ (session.edited ≡ true))
 IsEdit s (Err fault) = (kind : ScriptKind) × (fault ≡ Bad kind)

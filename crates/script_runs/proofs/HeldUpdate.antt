@@ -1,4 +1,4 @@
--- The slots that a script leaves hold the update of the last session that was updated, and are those of that session.
+-- The files that a script leaves hold the update of the last updated session, and loading them gives that session.
 use Rattle.std.proofs.Common.{◌≡◌, ◌⊎◌, ◌+◌, ◌++◌, ℕ, Bool, true, false, List, [], ◌∷◌, drop, get_or, Option, Some, None, Result, Ok, Err, refl, ap, sym, subst, ◌∙◌, inl, inr}
 use Rattle.std.proofs.lemmas.List.Elements.{All-contains, All-cons, All-head, All-nil, All-tail, All-weaker}
 use Rattle.std.specs.List.{All, Contains}
@@ -41,7 +41,7 @@ use Rattle.script_runs.specs.Run.{after_line}
 -- ---- the last of a list
 
 module _ (u : Loaded) (us : List Loaded) where
-  -- of a list with one item more the last is that item, or the last of the others
+  -- the last item of a list with one more item in front is that item, or the last of the others
   last_by : (P : Loaded → Type 0) → (us ≡ [] → P u) → OfLast us P → OfLast (u ∷ us) P
   last_by P here later [] last e = subst P (ap (λ list. get_or list 0 u) e) (here (ap (drop 1) e))
   last_by P here later (x ∷ front) last e = later front last (ap (drop 1) e)
@@ -55,7 +55,7 @@ ended : (held : Contents) (us : List Loaded) (before after : Slots) (reports : L
 ended held [] before after reports none made = made.0
 ended held (u ∷ us) before after reports none made = absurd (cc)
 
--- ---- the update of what is left
+-- ---- the update of the files that are left
 
 module _ (held : Contents) where
   held_by : (u : Loaded) (texts : UpdateTexts) (before : Slots) → IsHonest held u → IsUpdateOf held u texts → HoldUpdateOf held (planned_image Image held u) (slots_after (writes_of texts) before)
@@ -87,7 +87,7 @@ module _ (held : Contents) where
 
 -- ---- the manifest
 
--- each session is the one before with the planned links, or it was edited
+-- each session is the one before with the planned links, or is edited
 abbrev AreChained : Contents → Loaded → List Loaded → Type 0
 AreChained held s [] = Unit {0}
 AreChained held s (u ∷ us) = (u.edited ≡ false → (u.tree ≡ s.tree) × (s.edited ≡ false)) × AreChained held (planned_image Image held u) us
@@ -127,7 +127,7 @@ module _ (held : Contents) where
   front_chained s [] rest are = tt
   front_chained s (u ∷ front) rest (first, are) = (first, front_chained (planned_image Image held u) front rest are)
 
-  -- the manifest that is in the slot after an update, new or old, has the planned tree
+  -- after an update, the manifest in its file, new or old, has the planned tree
   unwritten : (edited : Bool) (t : Nodes) (plan : List Planned) → manifest_with Image edited t plan ≡ None → edited ≡ false
   unwritten true t plan none = absurd (cc)
   unwritten false t plan none = refl
@@ -143,7 +143,7 @@ module _ (held : Contents) where
           has (chain not).1 ∙ ap HasTree (sym (chain not).0 ∙ sym (unlinked held u (sym e)))
       by (Some text) e reads = reads
 
-  -- the session with the planned links is that of the slots
+  -- loading the files gives the session with the planned links
   stored_by : (s u : Loaded) (texts : UpdateTexts) (slots : Slots) → IsUpdateOf held u texts → (u.edited ≡ false → (u.tree ≡ s.tree) × (s.edited ≡ false)) → HasItsTree s slots
       → IsImageIn (slots_after (writes_of texts) slots) (planned_image Image held u)
   stored_by s u texts slots is chain has =
@@ -186,7 +186,7 @@ rebuilds_by held lines number s to content old new left = record {
     front [] ys all = All-nil (IsHonest held)
     front (x ∷ xs) ys all = All-cons (IsHonest held) x xs (All-head (IsHonest held) x (xs ++ ys) all) (front xs ys (All-tail (IsHonest held) x (xs ++ ys) all))
 
-    -- the sessions of which updates were made are among those of which updates are asked for
+    -- the sessions that were updated are among those whose updates are asked for
     made_honest : AreHonest held s.stamps (course held number lines s).asked → All (IsHonest held) left.made
     made_honest honest =
         let c = course held number lines s in

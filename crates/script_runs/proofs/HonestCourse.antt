@@ -21,23 +21,23 @@ use Rattle.script_runs.specs.Run.{after_line}
 use Rattle.script_runs.specs.declared.fault.LineFault.{LineFault}
 use Rattle.script_runs.proofs.EditedImage.{IsEdit, edit_is}
 
--- a fact of contents that are known
+-- a property of contents that are known
 pub knowing : (held : Contents) (P : Contents → Type 0) (known : Option Contents) → known ≡ Some held → IfKnown known P → P held
 knowing held P known is given = subst (λ (known : Option Contents). IfKnown known P) is given
 
--- the stamps of an update of such a session are true of each tree whose files of equal identity have equal content
+-- the stamps of an update of this session are true of each tree whose files of equal identity have equal content
 pub made_true : (held : Contents) (s : Loaded) → IsHonest held s → (t : Nodes) → AreSame held s.tree t → AreTrue held t (stamps_in Image held s.tree s.stamps)
 made_true held s here t same = stamps_true Image held s.tree here.1 s.stamps here.0 t same
 
 module _ (held : Contents) (s : Loaded) where
-  -- files of equal identity have equal content in the images after it
+  -- files of equal identity have equal content in the later images
   same_later : (images : List Loaded) → AreHonest held s.stamps (s ∷ images) → All (λ t. All (AreSame held t) (trees_of images)) (trees_of images)
   same_later images honest =
       let trees = trees_of images in
       All-weaker (λ t. All (AreSame held t) (s.tree ∷ trees)) (λ t. All (AreSame held t) trees) (λ t same. All-tail (AreSame held t) s.tree trees same) trees
       (All-tail (λ t. All (AreSame held t) (s.tree ∷ trees)) s.tree trees honest.same)
 
-  -- the stamps of the first image are true of those after it
+  -- the stamps of the first image are true of the later ones
   pub later_is : (images : List Loaded) → AreHonest held s.stamps (s ∷ images) → AreHonest held s.stamps images
   later_is images honest = record { same = same_later images honest; are_true = All-tail (λ t. AreTrue held t s.stamps) s.tree (trees_of images) honest.are_true }
 
@@ -47,7 +47,7 @@ module _ (held : Contents) (s : Loaded) where
     All-head (AreSame held s.tree) s.tree (trees_of images) (All-head (λ t. All (AreSame held t) (trees_of (s ∷ images))) s.tree (trees_of images) honest.same),
   )
 
-  -- the stamps of an update are true of the images of later ones
+  -- the stamps of an update are true of the later images
   pub next_is : (images : List Loaded) → AreHonest held s.stamps (s ∷ images) → AreHonest held (planned_image Image held s).stamps images
   next_is images honest =
       let here = first_is images honest in
@@ -59,7 +59,7 @@ module _ (held : Contents) (s : Loaded) where
         are_true = All-weaker (AreSame held s.tree) (λ t. AreTrue held t (stamps_in Image held s.tree s.stamps)) (λ t same. made_true held s here t same) trees to_first;
       }
 
--- ---- each session of which an update is asked for meets the assumption
+-- ---- each session whose update is asked for meets the assumption
 
 module _ (held : Contents) where
   abbrev AreEach : Loaded → Course → Type 0

@@ -1,4 +1,4 @@
--- The session that is loaded is that of the slots.
+-- The session that is loaded is the one in the files.
 use Rattle.std.proofs.Common.{Some, ap, sym, ◌∙◌}
 use Rattle.ldconfig_core.specs.Repair.{IsImageIn}
 use Rattle.image_session.specs.Manifest.{manifest_of}

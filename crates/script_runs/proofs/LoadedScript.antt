@@ -1,4 +1,4 @@
--- A script of the session in the slots, from its loading on: what it leaves, and what a crash of it leaves.
+-- A script of the session in the files, from its loading on: what it leaves, and what a crash of it leaves.
 use Rattle.std.proofs.Common.{◌≡◌, ◌⊎◌, ◌≤◌, ℕ, Bool, true, List, Option, Some, None, Result, Ok, Err, refl, ap, sym, subst, ◌∙◌, inl, inr, arith}
 use Rattle.commands.specs.Devices.{IfBothKnown}
 use Rattle.ldconfig_core.proofs.WrittenSlots.{one_image}
@@ -30,7 +30,7 @@ use Rattle.script_runs.specs.Left.{LeavesRebuilt}
 use Rattle.script_runs.specs.Run.{RunsLines}
 use Rattle.script_runs.specs.Stored.{AfterLoad, IsRebuilt, IsUnloaded, LeavesBy, LeavesWhole, RebuildsSlots, RunsStored, StopsLoading, StoredFacts}
 
--- ---- the session isn't loaded
+-- ---- the session can't be loaded
 
 module _ (content : DiskContent) (old : States) (between : DiskState) (known : old.disk.contents ≡ Some content) where
   abbrev read : States
@@ -42,7 +42,7 @@ module _ (content : DiskContent) (old : States) (between : DiskState) (known : o
   answer : (loaded : Result Loaded LoadFault) → Loads loaded old.disk between → IsLoad (manifest_of content.now.manifest) loaded
   answer loaded loads = subst (λ (c : Option DiskContent). IfKnown c (λ content. IsLoad (manifest_of content.now.manifest) loaded)) known loads.answers
 
-  -- the disk has failed, or memory is out, since the session is in the slots
+  -- the disk failed or memory ran out, because the files do hold a session
   unloaded : (s : Loaded) → IsImageIn content.now s → (fault : LoadFault) → Loads (Err fault) old.disk between → IsUnloaded (of_load fault) content old read
   unloaded s image fault loads = record { fault = fault; status_is = refl; why = why fault loads; slots = slots_stay loads.reads.keeps; sink = refl }
     where
@@ -56,7 +56,7 @@ module _ (content : DiskContent) (old : States) (between : DiskState) (known : o
 
 module _ (tag : Tag) (lines : List (List ℕ)) (status : Status) (held : Contents) (content : DiskContent) (old new : States) (between : DiskState)
     (is : old.store.held ≡ Some held) (known : old.disk.contents ≡ Some content) where
-  -- what is left since the session was loaded is left since the start
+  -- what is left after the loading is also left after the start
   left_since : (whole : Course) (to : Result Loaded ScriptFault) → old.disk.faults ≤ between.faults → LeavesRebuilt held whole to content (record old { disk = between }) new
       → LeavesRebuilt held whole to content old new
   left_since whole to faults left = record {
@@ -100,7 +100,7 @@ loads_rebuilt tag lines status old new run = by old.store.held refl old.disk.con
 -- ---- a crash
 
 module _ (tag : Tag) (old read : DiskState) (keeps : KeepsAll old read) where
-  -- a disk of which slots were read has its moments
+  -- if a disk had moments before its files were read, it has them afterwards
   moments_kept : HasMoments old → HasMoments read
   moments_kept laws = record {
     held = subst (λ (c : Option DiskContent). IfKnown c (λ c. (slot : Slot) → read.may slot (slot_of c.now slot) ≡ true)) (sym keeps.contents)

@@ -1,4 +1,4 @@
--- No update and no script ends with the status of arguments that are none's.
+-- No update and no script ends with the status of invalid arguments.
 use Rattle.std.proofs.Common.{◌≡◌, List, ℕ, Result, Ok, Err, Vec, Global, sym, ◌∙◌}
 use Rattle.image_session.specs.Session.{Loaded}
 use Rattle.image_session.specs.declared.fault.LoadFault.{LoadFault}

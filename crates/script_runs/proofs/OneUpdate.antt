@@ -1,4 +1,4 @@
--- An update is the run of the script of the one line `update`.
+-- An update does what a script of the single line `update` does.
 use Rattle.std.proofs.Common.{Result, Ok, Err, refl, inl}
 use Rattle.image_session.specs.Session.{Loaded}
 use Rattle.tree_face.specs.declared.disk.Tag.{Tag}

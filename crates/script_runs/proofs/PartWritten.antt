@@ -1,4 +1,4 @@
--- What a replacement of slots that failed leaves in each slot.
+-- The content of each file after a replacement of files that failed.
 use Rattle.std.proofs.Common.{◌≡◌, ◌⊎◌, ℕ, List, [], ◌∷◌, Some, refl, ap, subst, sym, ◌∙◌, inl, inr}
 use Rattle.atomic_replace.specs.Replace.{IsWritten, Write}
 use Rattle.ldconfig_core.specs.Repair.{OldOrNew}
@@ -7,7 +7,7 @@ use Rattle.tree_face.specs.declared.disk.Slot.{Slot}
 use Rattle.tree_face.specs.declared.disk.Slot.TheVariants.{Manifest, Cache, Aux}
 use Rattle.tree_face.specs.Disk.{DiskContent, Slots, slot_of, with_slot}
 
--- a slot that is written has the new content, and the others have what they had
+-- the file that is written has the new content, and the others keep theirs
 one_slot : (slots : Slots) (to : Slot) (bytes : List ℕ) (slot : Slot)
     → (slot_of (with_slot slots to (Some bytes)) slot ≡ slot_of slots slot) ⊎ IsWritten (to, bytes) slot (slot_of (with_slot slots to (Some bytes)) slot)
 one_slot slots Manifest bytes Manifest = inr (refl, refl)
@@ -24,7 +24,7 @@ replaced : (write : Write) (a b : Slots) → b ≡ with_slot a write.0 (Some wri
 replaced write a b is slot =
     subst (λ (b : Slots). (slot_of b slot ≡ slot_of a slot) ⊎ IsWritten write slot (slot_of b slot)) (sym is) (one_slot a write.0 write.1 slot)
 
--- each slot has what it had, or what is written there
+-- each file has its old content, or the content that is written to it
 pub part_written : (tag : ℕ) (at : Slot) (writes : List Write) (a c : DiskContent) → FailsToReplace tag at writes a c → OldOrNew writes a.now c.now
 part_written tag at [] a c fails = absurd fails
 part_written tag at (write ∷ writes) a c (inl (is, may)) = λ slot. elim may.slots [

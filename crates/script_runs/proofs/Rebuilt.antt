@@ -1,4 +1,4 @@
--- What a script leaves is what its course gives.
+-- A script leaves the result of its expected run.
 use Rattle.std.proofs.Common.{◌≡◌, ◌≤◌, ◌+◌, ◌++◌, ℕ, List, [], ◌∷◌, Option, Some, None, Result, Ok, Err, append-nil, refl, ap, sym, subst, ◌∙◌, true, inl, inr, arith}
 use Rattle.hwcap_dirs.specs.declared.kinds.Scope.TheVariants.{Image}
 use Rattle.atomic_replace.specs.Replace.{Write}
@@ -46,11 +46,11 @@ use Rattle.script_runs.specs.Run.{DoesLine, DoesUpdate, GoesOn, RunsLines, after
 
 -- ---- counts of faults
 
--- a count that has risen since a later moment has risen since an earlier one
+-- a count that is above its value at a later moment is above its value at an earlier one
 risen_since : (a b c : ℕ) → a ≤ b → HasRisen b c → HasRisen a c
 risen_since a b c before risen = omega (arith, before, risen)
 
--- the counts of faults didn't fall
+-- no count of faults fell
 pub record AreBefore (old between : States) : Type 0 where
   pub store : old.store.faults ≤ between.store.faults
   pub disk : old.disk.faults ≤ between.disk.faults
@@ -91,7 +91,7 @@ module _ (report : List ℕ) (reports : List (List ℕ)) (a b c : Option (List �
 
 -- ---- the end
 
--- what ends a script from a later moment on ends it from an earlier one on
+-- a reason to end the script after a later moment is also one after an earlier moment
 module _ (later whole : Course) (same : whole.end ≡ later.end) (rest : List Loaded) (old between new : States) (before : AreBefore old between) where
   refused_since : (fault : UpdateFault) → EndsByUpdate fault later rest between new → EndsByUpdate fault whole rest old new
   refused_since updating.StoreFault (inl risen) = inl (risen_since old.store.faults between.store.faults new.store.faults before.store risen)
@@ -129,7 +129,7 @@ module _ (held : Contents) (course : Course) (content : DiskContent) (old new : 
     keys = λ session e. nothing_follows old.store.keys new.store.keys (ap (λ (s : StoreState). s.keys) (store session e));
   }
 
-  -- a line isn't done, and the devices stay
+  -- a line isn't done, and the devices don't change
   unmoved : (to : Result Loaded ScriptFault) → new ≡ old → AreSlots held to course.updates content.now content.now
       → (Relates (IsFollowedBy []) old.sink.written new.sink.written → AreWritten to [] old.sink.written new.sink.written) → EndsBy to course course.updates old new
       → LeavesRebuilt held course to content old new
@@ -163,7 +163,7 @@ module _ (tag : Tag) (held : Contents) (s : Loaded) (more : Loaded → Course) (
           (λ x y z. follow (update_keys Image held s.tree s.stamps) (keys_of held left.made) x y z) old.store.keys between.store.keys new.store.keys begun (left.keys session e);
     }
 
-  -- an update that is made, and whose report isn't written in full
+  -- an update that is made, but whose report isn't written in full
   unreported : (texts : UpdateTexts) → IsUpdateOf held s texts → (after : DiskContent) → after.now ≡ slots_after (writes_of texts) content.now → between.disk.contents ≡ Some after
       → Relates (IsFollowedByPart texts.report) old.sink.written between.sink.written → HasRisen old.sink.faults between.sink.faults
       → LeavesRebuilt held (course_of_update held s Writes more) (Err (Updating OutputFault)) content old between
@@ -190,7 +190,7 @@ module _ (tag : Tag) (held : Contents) (s : Loaded) (more : Loaded → Course) (
     keys = λ session e. absurd (cc);
   }
 
-  -- an update of which a writing call failed
+  -- an update in which a writing call failed
   partly : (texts : UpdateTexts) → IsUpdateOf held s texts → IfKnown between.disk.contents (λ left. OldOrNew (writes_of texts) content.now left.now) → between.sink ≡ old.sink
       → (fault : _) → HasRisen old.disk.faults between.disk.faults
       → LeavesRebuilt held (course_of_update held s Writes more) (Err (Updating (Update (updating.DiskFault fault)))) content old between
@@ -223,14 +223,14 @@ module _ (tag : Tag) (held : Contents) (s : Loaded) (more : Loaded → Course) (
   answer : (result : Result (Loaded × Report) UpdateFault) → IsRun result → IsAnswer (update_outcome Image held s) result old.store between.store
   answer result u = knowing held (λ held. IsAnswer (update_outcome Image held s) result old.store between.store) old.store.held is u.answers
 
-  -- the slots when all is written
+  -- the files when everything is written
   all_written : (writes : List Write) (b : Option DiskContent) → Relates (Replaces tag.0 writes) old.disk.contents b
       → (after : DiskContent) × ((b ≡ Some after) × (after.now ≡ slots_after writes content.now))
   all_written writes None replaced = absurd (subst (λ (a : Option DiskContent). Relates (Replaces tag.0 writes) a None) known replaced)
   all_written writes (Some after) replaced =
       (after, (refl, slots_are tag.0 writes content after (subst (λ (a : Option DiskContent). Relates (Replaces tag.0 writes) a (Some after)) known replaced)))
 
-  -- and when a writing call has failed
+  -- the files when a writing call has failed
   part_slots : (at : Slot) (writes : List Write) (b : Option DiskContent) → Relates (FailsToReplace tag.0 at writes) old.disk.contents b → IfKnown b (λ left. OldOrNew writes content.now left.now)
   part_slots at writes None fails = tt
   part_slots at writes (Some left) fails =
@@ -263,7 +263,7 @@ module _ (tag : Tag) (held : Contents) (s : Loaded) (more : Loaded → Course) (
     planned : done.0 ≡ planned_image Image held s
     planned = let is_updated = knowing held (λ held. IsUpdated Image held s done) old.store.held is u.updated in is_updated.planned
 
-    -- the keys of the update are begun
+    -- the update opens its files
     begun : Relates (IsFollowedBy (update_keys Image held s.tree s.stamps)) old.store.keys between.store.keys
     begun =
         let reads = knowing held

@@ -1,4 +1,6 @@
--- What a crash of a script has left meets the assumption on identities, and what an update of it writes is what one of the old image or of the course writes.
+-- What a crash of a script leaves meets the assumption on identities. An update of it writes what an update of the old image or of an
+-- image of the
+-- expected run writes.
 use Rattle.std.proofs.Common.{◌≡◌, ◌⊎◌, ◌++◌, ℕ, List, [], ◌∷◌, All, flat_map, Option, Some, None, Result, Ok, Err, IfOk, refl, ap, sym, subst, ◌∙◌, inl, inr}
 use Rattle.std.specs.List.{Contains}
 use Rattle.std.proofs.lemmas.List.Elements.{All-cons, All-contains, All-head, All-nil, All-tail, All-weaker}
@@ -42,7 +44,7 @@ each_tree P [] are = All-nil (λ (u : Loaded). P u.tree)
 each_tree P (u ∷ images) are =
     All-cons (λ (u : Loaded). P u.tree) u images (All-head P u.tree (trees_of images) are) (each_tree P images (All-tail P u.tree (trees_of images) are))
 
--- ---- what one of the updates writes
+-- ---- the result of one of the updates
 
 either_writes : (xs ys : List Write) (slot : Slot) (b : Content) → IsOfWrites (xs ++ ys) slot b → IsOfWrites xs slot b ⊎ IsOfWrites ys slot b
 either_writes [] ys slot b is = inr is
@@ -50,7 +52,7 @@ either_writes (x ∷ xs) ys slot b (inl is) = inl (inl is)
 either_writes (x ∷ xs) ys slot b (inr is) = elim (either_writes xs ys slot b is) [ inl first ↦ inl (inr first) | inr second ↦ inr second ]
 
 module _ (held : Contents) (slot : Slot) (b : Content) where
-  -- an update of one of these images writes it
+  -- it is the result of an update of one of these images
   record IsWrittenOf (images : List Loaded) : Type 0 where
     image : Loaded
     among : Contains images image
@@ -81,7 +83,7 @@ module _ (held : Contents) (s : Loaded) (c : Course) (within : AreAsked c) (hone
   abbrev first : IsHonest held s
   first = first_is held s c.asked honest
 
-  -- the stamps of an update are true of each session that is asked for
+  -- the stamps of an update are true of each session whose update is asked for
   all_made_true : (u : Loaded) → Contains asked u → All (λ (v : Loaded). AreTrue held v.tree (stamps_in Image held u.tree u.stamps)) asked
   all_made_true u there =
       let same : All (AreSame held u.tree) (trees_of asked) =
@@ -91,14 +93,14 @@ module _ (held : Contents) (s : Loaded) (c : Course) (within : AreAsked c) (hone
       (λ v same. made_true held u here v.tree same) asked (each_tree (AreSame held u.tree) asked same)
 
   module _ (left : Loaded) (may : MayBeLeft held s c.updates left) where
-    -- its stamps are true of each session that is asked for
+    -- its stamps are true of each session whose update is asked for
     all_true : All (λ (u : Loaded). AreTrue held u.tree left.stamps) asked
     all_true = elim may.stamps [
       | inl old ↦ subst (λ (x : List Stamp). All (λ (u : Loaded). AreTrue held u.tree x) asked) (sym old) (each_tree (λ t. AreTrue held t s.stamps) asked honest.are_true)
       | inr (u, (among, new)) ↦ subst (λ (x : List Stamp). All (λ (u : Loaded). AreTrue held u.tree x) asked) (sym new) (all_made_true u (among_asked u among))
     ]
 
-    -- ---- of the old tree
+    -- ---- with the old tree
 
     module _ (tree : left.tree ≡ s.tree) where
       pub old_true : AreTrue held left.tree left.stamps
@@ -114,7 +116,7 @@ module _ (held : Contents) (s : Loaded) (c : Course) (within : AreAsked c) (hone
         again = λ not texts again are is. one_written Image held s left tree (may.fresh ∙ sym not) first.1 first.0 old_true texts again are is;
       }
 
-    -- ---- of the planned tree of an update
+    -- ---- with the planned tree of an update
 
     module _ (u : Loaded) (among : Contains c.updates u) (made : update_outcome Image held u ≡ Writes) (settled : AreSettled Image held u (planned_image Image held u)) (tree : left.tree ≡ planned_in Image held u.tree u.stamps) where
       pub new_true : AreTrue held left.tree left.stamps
@@ -133,7 +135,7 @@ module _ (held : Contents) (s : Loaded) (c : Course) (within : AreAsked c) (hone
       pub of_update : IsOfUpdate held u left
       of_update = record { tree = tree; made = one_outcome Image held (planned_image Image held u) left tree may.fresh settled.same settled.are_true new_true ∙ settled.outcome made; again = written_again }
 
--- ---- slots each of which is old, or written by an update of the course
+-- ---- files each of which is old, or written by an update of the expected run
 
 module _ (held : Contents) (slots : Slots) (s : Loaded) (in_slots : IsImageIn slots s) (c : Course) (within : AreAsked c) (honest : AreHonest held s.stamps (s ∷ c.asked)) (every : All (IsHonest held) c.asked)
     (image : Slots) (each : (slot : Slot) → (slot_of image slot ≡ slot_of slots slot) ⊎ IsWrittenOf held slot (slot_of image slot) c.updates) where

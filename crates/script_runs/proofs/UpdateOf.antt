@@ -13,14 +13,14 @@ use Rattle.tree_face.specs.Store.{Contents}
 use Rattle.script_runs.specs.Course.{IsHonest}
 use Rattle.script_runs.specs.Left.{IsRebuiltOf, IsUpdateOf}
 
--- without the auxiliary cache they are the same
+-- an update without the auxiliary cache has the same texts
 rebuilt_of : (held : Contents) (s : Loaded) (texts : UpdateTexts) → update_outcome Image held s ≡ Writes → AreTextsOf Image held s texts → IsHonest held s → IsRebuiltOf held s texts
 rebuilt_of held s texts writes are here = record {
   made = one_outcome Image held s (unstamped_image s) refl refl here.1 here.0 (none_true held s.tree) ∙ writes;
   same = λ again others. one_written Image held s (unstamped_image s) refl refl here.1 here.0 (none_true held s.tree) texts again are others;
 }
 
--- they are those of the session, if contents are known
+-- the texts are those of the session's update, if the contents are known
 pub of_update : (s : Loaded) (texts : UpdateTexts) (known : Option Contents) → AreUpdateTexts Image s known texts → IfKnown known (λ held. update_outcome Image held s ≡ Writes)
     → IfKnown known (λ held. IsUpdateOf held s texts)
 of_update s texts None are writes = tt

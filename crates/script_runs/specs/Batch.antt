@@ -1,4 +1,4 @@
--- The command `batch`: the input is read to its end, and the script that it is is run on the session in the slots.
+-- The command `batch`. It reads its input to the end, and runs the script in it on the session in the files.
 use Rattle.std.specs.Prelude.{◌≡◌, ℕ, Vec, Result, Ok, Err, IfOk}
 use Rattle.std.specs.declared.alloc.Global.{Global}
 use Rattle.commands.specs.Devices.{DeviceStates}
@@ -14,22 +14,22 @@ use Rattle.script_runs.specs.Run.{lines_of}
 use Rattle.script_runs.specs.Stored.{RunsStored, StoredFacts}
 use Rattle.script_runs.specs.declared.batch.TheConstants.{SCRIPT_MAX}
 
--- the status of an input that isn't read to its end
+-- the status when the input can't be read to its end
 abbrev pub of_read : ReadFault → Status
 of_read (reading.TooLong taken) = TooLong taken
 of_read reading.InputFault = InputFault
 of_read reading.NoMemory = NoMemory
 
--- those of the devices that an update works on, with this output
+-- the states of the devices that an update works on, with this output
 abbrev pub states_of : DeviceStates → SinkState → States
 states_of devices sink = states devices.store devices.disk sink
 
--- of an input that isn't read to its end nothing is done
+-- if the input can't be read to its end, nothing is done
 abbrev pub AfterInput : Tag → Result (Vec ℕ Global) ReadFault → Status → States → States → Type 0
 AfterInput tag (Ok text) status old new = RunsStored tag (lines_of text.items) status old new
 AfterInput tag (Err fault) status old new = (status ≡ of_read fault) × (new ≡ old)
 
--- the reading of the input, and what is done of it
+-- the reading of the input, and then the run of its script
 pub record RunsInput (tag : Tag) (status : Status) (source after_source : SourceState) (old new : States) : Type 0 where
   pub script : Result (Vec ℕ Global) ReadFault
   pub reads : ReadsAll SCRIPT_MAX source after_source script

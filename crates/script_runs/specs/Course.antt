@@ -1,4 +1,4 @@
--- What a script does, by its lines, its session and the contents alone: of which sessions its updates are made, and how it ends.
+-- The expected run of a script, from its lines, its session and the contents alone: which sessions are updated, and how it ends.
 use Rattle.std.specs.Prelude.{◌+◌, ℕ, List, [], ◌∷◌, map, Result, Ok, Err}
 use Rattle.std.specs.List.{All}
 use Rattle.hwcap_dirs.specs.declared.kinds.Scope.TheVariants.{Image}
@@ -22,13 +22,13 @@ use Rattle.script_runs.specs.declared.fault.ScriptFault.TheVariants.{Updating}
 use Rattle.script_runs.specs.Faults.{numbered}
 use Rattle.script_runs.specs.Run.{after_line}
 
--- for a script whose devices don't fail and for which there is memory
+-- the run if no device fails and memory suffices
 pub record Course : Type 0 where
-  -- the sessions of which updates are asked for, up to the first update that isn't made
+  -- the sessions whose updates are asked for, up to the first update that isn't made
   pub asked : List Loaded
-  -- those of which updates are made
+  -- the sessions that are updated
   pub updates : List Loaded
-  -- the session at the end, or why there is none
+  -- the session at the end, or the fault
   pub end : Result Loaded ScriptFault
 
 abbrev pub ends : Result Loaded ScriptFault → Course
@@ -38,7 +38,7 @@ ends to = record { asked = []; updates = []; end = to }
 abbrev pub refused : Loaded → UpdateFault → Course
 refused s fault = record { asked = s ∷ []; updates = []; end = Err (Updating (Update fault)) }
 
--- one that is made goes on with the planned links
+-- after an update that is made, the run goes on with the planned links
 abbrev pub course_of_update : Contents → Loaded → Outcome → (Loaded → Course) → Course
 course_of_update held s Lacking rest = refused s updating.StoreFault
 course_of_update held s (TooLarge nodes bytes) rest = refused s (updating.TooLarge nodes bytes)
@@ -57,21 +57,21 @@ abbrev pub course_by : Contents → ℕ → Result ScriptLine LineKind → Loade
 course_by held number (Ok asking.Update) s rest = course_of_update held s (update_outcome Image held s) rest
 course_by held number asked s rest = goes_on number (after_line asked s) rest
 
--- the course of lines of which the first has this number, from a session on
+-- the run of these lines from a session on, if the first line has this number
 abbrev pub course : Contents → ℕ → List (List ℕ) → Loaded → Course
 course held number [] s = ends (Ok s)
 course held number (line ∷ lines) s = course_by held number (line_of line) s (λ session. course held (1 + number) lines session)
 
 -- ---- the assumption on identities
 
--- the stamps of a session are true, and its files of equal identity have equal content
+-- the stamps of the session are true, and its files of equal identity have equal content
 abbrev pub IsHonest : Contents → Loaded → Type 0
 IsHonest held s = AreTrue held s.tree s.stamps × AreSame held s.tree s.tree
 
 abbrev pub trees_of : List Loaded → List Nodes
 trees_of sessions = map (λ (session : Loaded). session.tree) sessions
 
--- Files of equal identity have equal content, in one of these sessions or in two, and the stamps are true of each.
+-- Files of equal identity have equal content, within one of these sessions and between any two, and the stamps are true of each session.
 pub record AreHonest (held : Contents) (stamps : List Stamp) (sessions : List Loaded) : Type 0 where
   pub same : All (λ t. All (AreSame held t) (trees_of sessions)) (trees_of sessions)
   pub are_true : All (λ t. AreTrue held t stamps) (trees_of sessions)

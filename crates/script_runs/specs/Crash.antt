@@ -1,4 +1,4 @@
--- What a crash of a script of a session leaves, and what an update makes of it.
+-- What a crash of a script of a session leaves, and what an update then writes.
 use Rattle.std.specs.Prelude.{◌≡◌, ◌⊎◌, ◌++◌, ℕ, false, true, List, [], ◌∷◌, flat_map, Option, Result, Ok, Err}
 use Rattle.std.specs.List.{All, Contains}
 use Rattle.hwcap_dirs.specs.declared.kinds.Scope.TheVariants.{Image}
@@ -26,11 +26,11 @@ use Rattle.script_runs.specs.Left.{IsUpdateOf}
 
 -- ---- the writing calls
 
--- those of all these updates, in their order
+-- the calls of all these updates, in their order
 abbrev pub calls_of_all : Tag → List UpdateTexts → List DoneCall
 calls_of_all tag updates = flat_map (λ (texts : UpdateTexts). calls_of tag (writes_of texts)) updates
 
--- the calls of the updates before the last one were made, and of the last one those before the call that failed, and perhaps that
+-- the calls of all updates but the last were made, those of the last one up to the call that failed, and perhaps that call
 pub record StopsInLast (tag : Tag) (updates : List UpdateTexts) (fault : DiskFault) (a b : List DoneCall) : Type 0 where
   pub front : List UpdateTexts
   pub last : UpdateTexts
@@ -39,7 +39,7 @@ pub record StopsInLast (tag : Tag) (updates : List UpdateTexts) (fault : DiskFau
 
 -- ---- what is left
 
--- a crash now leaves only what the last of these updates has written
+-- a crash now leaves only what the last of these updates wrote
 abbrev pub LeavesLast : List UpdateTexts → DiskState → Type 0
 LeavesLast updates new = (front : List UpdateTexts) (last : UpdateTexts) → updates ≡ front ++ last ∷ [] → IfKnown new.contents (λ _. LeavesOnlyWritten (writes_of last) new)
 
@@ -51,13 +51,13 @@ IsNotDone to = (session : Loaded) → to ≡ Ok session → ⊥
 abbrev pub NoneFailed : Result Loaded ScriptFault → Type 0
 NoneFailed to = (fault : DiskFault) → to ≡ Err (Updating (Update (updating.DiskFault fault))) → ⊥
 
--- these are the texts of updates of the first of these sessions, in their order, and after the last line of all of them
+-- these are the texts of updates of the first sessions in the list, in their order; after the last line, of all sessions
 abbrev pub AreOfFirst : Contents → Result Loaded ScriptFault → List Loaded → List UpdateTexts → Type 0
 AreOfFirst held to sessions [] = (session : Loaded) → to ≡ Ok session → sessions ≡ []
 AreOfFirst held to [] (texts ∷ updates) = ⊥
 AreOfFirst held to (u ∷ sessions) (texts ∷ updates) = IsUpdateOf held u texts × AreOfFirst held to sessions updates
 
--- they are those of the updates that a script asks for, if the contents of the store are known
+-- these are texts of the updates that the script asks for, if the contents of the store are known
 abbrev pub AreOfCourse : Option Contents → Result Loaded ScriptFault → (Contents → Course) → List UpdateTexts → Type 0
 AreOfCourse known to course updates = IfKnown known (λ held. AreOfFirst held to (course held).updates updates)
 
@@ -67,33 +67,35 @@ pub record MakesCalls (tag : Tag) (updates : List UpdateTexts) (to : Result Load
   pub part : (fault : DiskFault) → to ≡ Err (Updating (Update (updating.DiskFault fault))) → StopsInLast tag updates fault a b
 
 pub record LeavesWholeCaches (tag : Tag) (known : Option Contents) (number : ℕ) (lines : List (List ℕ)) (s : Loaded) (to : Result Loaded ScriptFault) (old new : DiskState) : Type 0 where
-  -- the updates that were made, and the one that a failing device has ended; the caches of each are whole
+  -- the updates that were made, and the one that a failing device ended; the caches of each are complete
   pub updates : List UpdateTexts
   pub are : All AreTexts updates
   pub of_course : AreOfCourse known to (λ held. course held number lines s) updates
-  -- at each moment since the start a crash leaves in a slot what a crash at the start might have left there, or what one of them has written
+  -- At each moment since the start, a crash leaves in a file what a crash at the start might have left there, or what one of these updates
+  -- wrote.
   pub whole : (slot : Slot) (b : Content) → new.since old.time slot b ≡ true → (old.may slot b ≡ true) ⊎ IsOfWrites (flat_map writes_of updates) slot b
-  -- and at the end only what the last one has written, unless a writing call has failed
+  -- at the end, a crash leaves only what the last one wrote, unless a writing call failed
   pub settled : NoneFailed to → LeavesLast updates new
-  -- the calls are theirs, and no others
+  -- these updates made all the calls
   pub calls : Relates (MakesCalls tag updates to) old.calls new.calls
 
 -- ---- a further update
 
--- a session that a crash may have left: of the old tree or of that with the planned links of an update, with the old stamps or those of an update, and
--- without edits
+-- A session that a crash may leave. It has the old tree, or the tree with the planned links of an update. It has the old stamps, or those
+-- of an
+-- update. It has no edits.
 pub record MayBeLeft (held : Contents) (s : Loaded) (updates : List Loaded) (left : Loaded) : Type 0 where
   pub tree : (left.tree ≡ s.tree) ⊎ ((u : Loaded) × (Contains updates u × (left.tree ≡ planned_in Image held u.tree u.stamps)))
   pub stamps : (left.stamps ≡ s.stamps) ⊎ ((u : Loaded) × (Contains updates u × (left.stamps ≡ stamps_in Image held u.tree u.stamps)))
   pub fresh : left.edited ≡ false
 
--- its tree is the old one, and an update of it has the outcome of one of the old session if that isn't edited, and writes the same
+-- its tree is the old one; if the old session isn't edited, both have the same outcome of an update and write the same
 pub record IsOfOld (held : Contents) (s left : Loaded) : Type 0 where
   pub tree : left.tree ≡ s.tree
   pub outcome : s.edited ≡ false → update_outcome Image held left ≡ update_outcome Image held s
   pub again : s.edited ≡ false → (texts again : UpdateTexts) → AreTextsOf Image held s texts → AreTextsOf Image held left again → AreAlike texts again
 
--- its tree is that of an update of the session u, and a further update is made, writes no manifest, and the very caches of that one
+-- its tree is that of an update of the session u; a further update is made, writes no manifest and the same caches as that update
 pub record IsOfUpdate (held : Contents) (u left : Loaded) : Type 0 where
   pub tree : left.tree ≡ planned_in Image held u.tree u.stamps
   pub made : update_outcome Image held left ≡ Writes

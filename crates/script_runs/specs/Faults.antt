@@ -1,4 +1,4 @@
--- Why a script ends, by the faults of its lines.
+-- Why a script ends, from the faults of its lines.
 use Rattle.std.specs.Prelude.{ℕ, Result, Ok, Err}
 use Rattle.image_session.specs.Session.{Loaded}
 use Rattle.image_session.specs.declared.fault.EditFault.{EditFault}

@@ -1,5 +1,6 @@
--- What a script of a session leaves: of its updates the first were made, and the slots and the output are theirs. Under the assumption on identities these are
--- those that rebuilding without an auxiliary cache gives.
+-- What a script of a session leaves. Some of its updates were made, from the first on, and the files and the output are their results.
+-- Under the
+-- assumption on identities, a full rebuild without an auxiliary cache gives the same.
 use Rattle.std.specs.Prelude.{◌≡◌, ◌⊎◌, ◌+◌, ◌++◌, ℕ, false, List, [], ◌∷◌, flat_map, length, Option, Some, None, Result, Ok, Err, ⊤}
 use Rattle.std.specs.List.{All}
 use Rattle.hwcap_dirs.specs.declared.kinds.Scope.TheVariants.{Image}
@@ -38,9 +39,11 @@ pub record IsRebuiltOf (held : Contents) (u : Loaded) (texts : UpdateTexts) : Ty
   pub made : update_outcome Image held (unstamped_image u) ≡ Writes
   pub same : (again : UpdateTexts) → AreTextsOf Image held (unstamped_image u) again → AreAlike texts again
 
--- These are the texts of the update of the session: a manifest reads as the session with the planned links, the auxiliary cache as its stamps, and by the
--- cache the loader finds what the search of the directories finds. Under the assumption on identities an update without the auxiliary cache writes the same, and
--- the session is settled.
+-- These are the texts of the session's update. Reading the manifest gives the session with the planned links, and reading the auxiliary
+-- cache gives
+-- its stamps. With the cache the loader finds what a search of the directories finds. Under the assumption on identities, an update
+-- without the
+-- auxiliary cache writes the same, and a second update changes nothing.
 pub record IsUpdateOf (held : Contents) (u : Loaded) (texts : UpdateTexts) : Type 0 where
   pub made : update_outcome Image held u ≡ Writes
   pub are : AreTextsOf Image held u texts
@@ -53,7 +56,7 @@ pub record IsUpdateOf (held : Contents) (u : Loaded) (texts : UpdateTexts) : Typ
   pub rebuilt : IsHonest held u → IsRebuiltOf held u texts
   pub settled : IsHonest held u → AreSettled Image held u (planned_image Image held u)
 
--- the updates of these sessions are made one after the other, from the one slots to the others, and these are their reports
+-- the updates of these sessions are made one after the other; they turn the first files into the second ones, and these are their reports
 abbrev pub AreMade : Contents → List Loaded → Slots → Slots → List (List ℕ) → Type 0
 AreMade held [] before after reports = (after ≡ before) × (reports ≡ [])
 AreMade held (u ∷ us) before after reports =
@@ -61,7 +64,7 @@ AreMade held (u ∷ us) before after reports =
 
 -- ---- how the script ends
 
--- of a writing call of the next update that failed, each slot has what it had or what that update writes there
+-- if a writing call of the next update failed, each file has its old content or what that update writes to it
 abbrev pub AreSlots : Contents → Result Loaded ScriptFault → List Loaded → Slots → Slots → Type 0
 AreSlots held (Err (Updating (Update (updating.DiskFault fault)))) (u ∷ us) made now = (texts : UpdateTexts) × (IsUpdateOf held u texts × OldOrNew (writes_of texts) made now)
 AreSlots held to rest made now = now ≡ made
@@ -74,17 +77,17 @@ FollowsAndPart front last a c = (b : List ℕ) × (IsFollowedBy front a b × IsF
 abbrev pub joined : List (List ℕ) → List ℕ
 joined texts = flat_map (λ text. text) texts
 
--- the reports are written; if the output has failed, those before the last one and a part of that
+-- the reports are written; if the output failed, all but the last one and a part of the last one
 abbrev pub AreWritten : Result Loaded ScriptFault → List (List ℕ) → Option (List ℕ) → Option (List ℕ) → Type 0
 AreWritten (Err (Updating OutputFault)) reports before after =
     (front : List (List ℕ)) × ((last : List ℕ) × ((reports ≡ front ++ last ∷ []) × Relates (FollowsAndPart (joined front) last) before after))
 AreWritten to reports before after = Relates (IsFollowedBy (joined reports)) before after
 
--- all updates of the course were made, and it ends so
+-- all updates of the expected run were made, and the script ends in the same way
 abbrev pub IsCourseEnd : Course → List Loaded → Result Loaded ScriptFault → Type 0
 IsCourseEnd course rest to = (rest ≡ []) × (course.end ≡ to)
 
--- why an update isn't made
+-- the reason why an update isn't made
 abbrev pub EndsByUpdate : UpdateFault → Course → List Loaded → States → States → Type 0
 EndsByUpdate updating.StoreFault course rest old new = HasRisen old.store.faults new.store.faults ⊎ IsCourseEnd course rest (Err (Updating (Update updating.StoreFault)))
 EndsByUpdate (updating.DiskFault fault) course rest old new = HasRisen old.disk.faults new.disk.faults
@@ -92,7 +95,7 @@ EndsByUpdate updating.NoMemory course rest old new = ⊤
 EndsByUpdate (updating.TooLarge nodes bytes) course rest old new = IsCourseEnd course rest (Err (Updating (Update (updating.TooLarge nodes bytes))))
 EndsByUpdate (updating.TooMany count) course rest old new = IsCourseEnd course rest (Err (Updating (Update (updating.TooMany count))))
 
--- which updates were made, and why no more
+-- the reason why no more updates were made
 abbrev pub EndsBy : Result Loaded ScriptFault → Course → List Loaded → States → States → Type 0
 EndsBy (Ok session) course rest old new = IsCourseEnd course rest (Ok session)
 EndsBy (Err (Line number kind)) course rest old new = IsCourseEnd course rest (Err (Line number kind))
@@ -100,12 +103,12 @@ EndsBy (Err (Updating (Update fault))) course rest old new = EndsByUpdate fault 
 EndsBy (Err (Updating OutputFault)) course rest old new = HasRisen old.sink.faults new.sink.faults
 EndsBy (Err NoMemory) course rest old new = ⊤
 
--- the keys that updates of these sessions begin, one after the other
+-- the files that updates of these sessions open, one after the other
 abbrev pub keys_of : Contents → List Loaded → List (List ℕ)
 keys_of held sessions = flat_map (λ (u : Loaded). update_keys Image held u.tree u.stamps) sessions
 
 pub record LeavesRebuilt (held : Contents) (course : Course) (to : Result Loaded ScriptFault) (content : DiskContent) (old new : States) : Type 0 where
-  -- the updates that were made, and those that weren't
+  -- the updates that were made, and the others
   pub made : List Loaded
   pub rest : List Loaded
   pub parts : course.updates ≡ made ++ rest
@@ -115,17 +118,19 @@ pub record LeavesRebuilt (held : Contents) (course : Course) (to : Result Loaded
   pub now : IfKnown new.disk.contents (λ left. AreSlots held to rest slots left.now)
   pub written : AreWritten to reports old.sink.written new.sink.written
   pub ends : EndsBy to course rest old new
-  -- after the last line the keys of these updates were begun, and no others
+  -- after the last line, exactly the files of these updates were opened
   pub keys : (session : Loaded) → to ≡ Ok session → Relates (IsFollowedBy (keys_of held made)) old.store.keys new.store.keys
 
 -- ---- the last update that was made
 
--- a fact of the last of these sessions, if there is one
+-- a property of the last of these sessions, if there is one
 abbrev pub OfLast : List Loaded → (Loaded → Type 0) → Type 0
 OfLast sessions P = (front : List Loaded) (last : Loaded) → sessions ≡ front ++ last ∷ [] → P last
 
--- The slots hold the update of the session: it is made, writes no manifest and the caches that are there, and by the cache the loader finds what the
--- search of the directories finds. The stamps of the session are true, and its files of equal identity have equal content.
+-- The files hold the update of the session: another update is made, writes no manifest, and writes the caches that are there already. With
+-- the cache,
+-- the loader finds what a search of the directories finds. The stamps of the session are true, and its files of equal identity have equal
+-- content.
 pub record HoldUpdateOf (held : Contents) (s : Loaded) (slots : Slots) : Type 0 where
   pub are_true : AreTrue held s.tree s.stamps
   pub same : AreSame held s.tree s.tree
@@ -139,15 +144,17 @@ pub record HoldUpdateOf (held : Contents) (s : Loaded) (slots : Slots) : Type 0 
   pub descending : AreDescending (read texts.cache)
   pub finds : FindsAsSearched Image held s.tree s.stamps texts.cache
 
--- the Manifest slot has the tree of a session that isn't edited
+-- if the session isn't edited, the manifest file has its tree
 abbrev pub HasItsTree : Loaded → Slots → Type 0
 HasItsTree s slots = s.edited ≡ false → manifest_of slots.manifest ≡ HasTree s.tree
 
 -- ---- the whole script
 
--- What a script of this session leaves. The last session that was updated is the one that is loaded from the slots, if the first one was loaded from
--- them at the start. If the sessions of which updates are asked for meet the assumption on identities, each of these sessions does, and the slots hold a
--- further update of the last one.
+-- What a script of this session leaves. If the first session was loaded from the files, loading them at the end gives the last updated
+-- session.
+-- If the sessions whose updates are asked for meet the assumption on identities, every updated session meets it. Then the files hold a
+-- further update of
+-- the last one.
 pub record RebuildsScript (held : Contents) (number : ℕ) (lines : List (List ℕ)) (s : Loaded) (to : Result Loaded ScriptFault) (content : DiskContent) (old new : States) : Type 0 where
   pub left : LeavesRebuilt held (course held number lines s) to content old new
   pub stored : HasItsTree s content.now → OfLast left.made (λ u. IsImageIn left.slots (planned_image Image held u))

@@ -1,4 +1,4 @@
--- The run of a script of a session: its lines are taken in their order, each from the session and the devices that those before it left.
+-- The run of a script of a session. Its lines are done in order, each with the session and the devices that the lines before it left.
 use Rattle.std.specs.Prelude.{◌≡◌, ◌⊎◌, ◌+◌, ℕ, List, [], ◌∷◌, codes, Result, Ok, Err}
 use Rattle.std.specs.List.{slice_split}
 use Rattle.lib_types.specs.Sets.{is_in}
@@ -23,7 +23,7 @@ lines_of text = slice_split (is_in (codes "\n")) text
 
 -- ---- one line
 
--- what a line makes of the session if it asks for no update, or why it isn't done
+-- the session after a line that asks for no update, or why the line isn't done
 abbrev pub after_line : Result ScriptLine LineKind → Loaded → Result Loaded LineFault
 after_line (Err kind) s = Err (lines.Bad (script.Bad kind))
 after_line (Ok (asking.Put entry)) s = edited (put_entry_result s entry)
@@ -34,16 +34,16 @@ after_line (Ok _) s = Ok s
 abbrev pub DoesUpdate : Tag → Loaded → Result Loaded LineFault → States → States → Type 0
 DoesUpdate tag s to old new = (one : Result Loaded UpdatingFault) × (UpdatesTo tag s one old new × (to ≡ updated one))
 
--- an update is made of the session; every other line leaves the devices as they are
+-- the session is updated, or the line leaves the devices as they are
 abbrev pub DoesLine : Tag → Result ScriptLine LineKind → Loaded → Result Loaded LineFault → States → States → Type 0
 DoesLine tag (Ok asking.Update) s to old new = DoesUpdate tag s to old new
 DoesLine tag asked s to old new = (to ≡ after_line asked s) × (new ≡ old)
 
--- that, or memory is out before anything is done
+-- the line is done, or memory runs out before anything is done
 abbrev pub DoesLineOrNothing : Tag → Result ScriptLine LineKind → Loaded → Result Loaded LineFault → States → States → Type 0
 DoesLineOrNothing tag asked s to old new = DoesLine tag asked s to old new ⊎ ((to ≡ Err lines.NoMemory) × (new ≡ old))
 
--- the line is taken, or memory is out before anything is done
+-- the line is accepted and done, or memory runs out before anything is done
 abbrev pub TakesLine : Tag → List ℕ → Loaded → Result Loaded LineFault → States → States → Type 0
 TakesLine tag line s to old new = DoesLineOrNothing tag (line_of line) s to old new
 
@@ -54,7 +54,7 @@ abbrev pub GoesOn : ℕ → Result Loaded LineFault → (Loaded → Type 0) → 
 GoesOn number (Ok session) Rest to between new = Rest session
 GoesOn number (Err fault) Rest to between new = (to ≡ Err (numbered number fault)) × (new ≡ between)
 
--- a script whose first line has this number ends after its last line with what the session is then, or at the first line that isn't done
+-- a script whose first line has this number ends after its last line with the session of that moment, or at the first line that isn't done
 abbrev pub RunsLines : Tag → ℕ → List (List ℕ) → Loaded → Result Loaded ScriptFault → States → States → Type 0
 RunsLines tag number [] s to old new = (to ≡ Ok s) × (new ≡ old)
 RunsLines tag number (line ∷ lines) s to old new =

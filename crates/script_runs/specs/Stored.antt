@@ -1,4 +1,4 @@
--- A script of the session that is loaded from the slots: its run, what it leaves, and what a crash of it leaves.
+-- A script of the session that is loaded from the files: its run, what it leaves, and what a crash of it leaves.
 use Rattle.std.specs.Prelude.{◌≡◌, ◌⊎◌, ℕ, true, List, [], ◌∷◌, codes, Option, Result, Ok, Err, IfOk, ⊤}
 use Rattle.std.specs.List.{Contains}
 use Rattle.hwcap_dirs.specs.declared.kinds.Scope.TheVariants.{Image}
@@ -32,12 +32,12 @@ one_update = codes "update" ∷ []
 
 -- ---- the run
 
--- a session that isn't loaded isn't changed
+-- if the session can't be loaded, nothing is changed
 abbrev pub AfterLoad : Tag → List (List ℕ) → Result Loaded LoadFault → Status → States → States → Type 0
 AfterLoad tag lines (Ok s) status old new = (to : Result Loaded ScriptFault) × ((status ≡ status_of to) × RunsLines tag 1 lines s to old new)
 AfterLoad tag lines (Err fault) status old new = (status ≡ of_load fault) × (new ≡ old)
 
--- the loading, and then the script
+-- the loading of the session, and then the script
 pub record RunsStored (tag : Tag) (lines : List (List ℕ)) (status : Status) (old new : States) : Type 0 where
   pub loaded : Result Loaded LoadFault
   -- the disk when the session is loaded
@@ -47,14 +47,14 @@ pub record RunsStored (tag : Tag) (lines : List (List ℕ)) (status : Status) (o
 
 -- ---- what is left
 
--- why a session that is there isn't loaded
+-- why a session can't be loaded, although there is one
 abbrev pub StopsLoading : LoadFault → DiskState → DiskState → Type 0
 StopsLoading (loading.DiskFailed slot) old new = HasRisen old.faults new.faults
 StopsLoading loading.NoMemory old new = ⊤
 StopsLoading loading.NoManifest old new = ⊥
 StopsLoading (loading.BadManifest fault) old new = ⊥
 
--- nothing is written, since it isn't loaded
+-- nothing is written, because the session can't be loaded
 pub record IsUnloaded (status : Status) (content : DiskContent) (old new : States) : Type 0 where
   pub fault : LoadFault
   pub status_is : status ≡ of_load fault
@@ -66,7 +66,7 @@ pub record IsUnloaded (status : Status) (content : DiskContent) (old new : State
 abbrev pub IsRebuilt : Contents → List (List ℕ) → Loaded → Status → DiskContent → States → States → Type 0
 IsRebuilt held lines s status content old new = (to : Result Loaded ScriptFault) × ((status ≡ status_of to) × RebuildsScript held 1 lines s to content old new)
 
--- what a script leaves of the session that is in the slots
+-- what a script leaves of the session in the files
 abbrev pub RebuildsSlots : List (List ℕ) → Status → States → States → Type 0
 RebuildsSlots lines status old new =
     IfBothKnown old.store.held old.disk.contents (λ held content. (s : Loaded) → IsImageIn content.now s
@@ -80,7 +80,7 @@ pub record NoneRose (old new : States) : Type 0 where
   pub disk : HasRisen old.disk.faults new.disk.faults → ⊥
   pub sink : HasRisen old.sink.faults new.sink.faults → ⊥
 
--- a script of the session in the slots whose lines can all be done is done, unless a device fails or memory is out
+-- if all lines of a script of the session in the files can be done, they are done, unless a device fails or memory runs out
 abbrev pub CompletesScript : List (List ℕ) → Status → States → States → Type 0
 CompletesScript lines status old new =
     IfBothKnown old.store.held old.disk.contents (λ held content. (s : Loaded) → IsImageIn content.now s
@@ -88,7 +88,7 @@ CompletesScript lines status old new =
 
 -- ---- a crash
 
--- the crash of a script of the session that was loaded; if none was, it leaves what a crash at the start might have left
+-- the crash of a script of the session that was loaded; if none was loaded, a crash leaves what a crash at the start might have left
 abbrev pub LeavesBy : Tag → Option Contents → List (List ℕ) → Result Loaded LoadFault → Status → DiskState → DiskState → Type 0
 LeavesBy tag known lines (Ok s) status old new = (to : Result Loaded ScriptFault) × ((status ≡ status_of to) × LeavesWholeCaches tag known 1 lines s to old new)
 LeavesBy tag known lines (Err fault) status old new = (slot : Slot) (b : Content) → new.since old.time slot b ≡ true → old.may slot b ≡ true
@@ -98,15 +98,17 @@ pub record LeavesWhole (tag : Tag) (known : Option Contents) (lines : List (List
   pub in_slots : IfOk loaded (IsLoaded old.contents)
   pub whole : LeavesBy tag known lines loaded status old new
 
--- The manifest is the one before, and an update writes what one of the old session writes; or it is that of an update of the course, and a further
--- update writes the caches of that.
+-- Either the manifest is the one before, and an update writes what an update of the old session writes. Or it is the manifest of an update
+-- of the
+-- expected run, and a further update writes that update's caches.
 abbrev pub WritesAgain : Contents → Loaded → List Loaded → Slots → Slots → Loaded → Type 0
 WritesAgain held s updates slots image left =
     ((image.manifest ≡ slots.manifest) × IsOfOld held s left)
     ⊎ ((u : Loaded) × (Contains updates u × ((image.manifest ≡ new_manifest Image held u) × IsOfUpdate held u left)))
 
--- The slots that a crash has left are those of a session whose stamps are true and whose files of equal identity have equal content, and which the next
--- update repairs.
+-- The files that a crash left hold a session whose stamps are true and whose files of equal identity have equal content. The next update
+-- repairs
+-- them.
 pub record IsRepairable (held : Contents) (s : Loaded) (updates : List Loaded) (slots image : Slots) : Type 0 where
   pub left : Loaded
   pub in_slots : IsImageIn image left
@@ -115,14 +117,15 @@ pub record IsRepairable (held : Contents) (s : Loaded) (updates : List Loaded) (
   pub same : AreSame held left.tree left.tree
   pub writes : WritesAgain held s updates slots image left
 
--- All slots that a crash since the start may leave are so, if a crash at the start leaves only what the slots hold, and if identities are so
--- in their session and in those of which updates are asked for.
+-- This holds for all files that a crash since the start may leave. It assumes that a crash at the start leaves only what the files hold.
+-- It also
+-- assumes that the identities are trustworthy in the session and in those whose updates are asked for.
 abbrev pub RepairsScript : Contents → List (List ℕ) → DiskContent → DiskState → DiskState → Type 0
 RepairsScript held lines content old new =
     LeavesOnly old content.now → (s : Loaded) → IsImageIn content.now s → AreHonest held s.stamps (s ∷ (course held 1 lines s).asked)
     → (image : Slots) → MightBeLeft old.time new image → IsRepairable held s (course held 1 lines s).updates content.now image
 
--- ---- all that is known of it
+-- ---- everything that is known of a script
 
 pub record StoredFacts (tag : Tag) (lines : List (List ℕ)) (status : Status) (old new : States) : Type 0 where
   pub rebuilds : RebuildsSlots lines status old new

@@ -1,4 +1,4 @@
--- The command `update`: what a script of the one line `update` does, of the session in the slots.
+-- The command `update`. It does what a script of the single line `update` does with the session in the files.
 use Rattle.std.specs.Prelude.{◌≡◌}
 use Rattle.commands.specs.Devices.{DeviceStates}
 use Rattle.tree_face.specs.Stream.{SinkState}

@@ -16,7 +16,7 @@ use update_runs::Updater;
 /// The most bytes of a script.
 pub const SCRIPT_MAX: usize = 1 << 26;
 
-// The status of an input that isn't read to its end.
+// The status when the input can't be read to its end.
 fn status_of(fault: ReadFault) -> Status
     ensures { result ≡ of_read fault }
 {
@@ -27,7 +27,7 @@ fn status_of(fault: ReadFault) -> Status
     }
 }
 
-// The loading of a session, and the run of the script.
+// Loads a session and runs the script.
 fn load_and_run<S: Store, D: Disk, O: Sink>(
     by: Updater,
     text: &[u8],
@@ -69,7 +69,7 @@ fn batch<S: Store, D: Disk, I: Source, O: Sink>(
     }
 }
 
-/// Runs the command `batch`: reads the script that is the input, loads the image, and takes the script's lines.
+/// Runs the command `batch`: reads the script from the input, loads the image, and does the script's lines.
 pub fn run_batch<S: Store, D: Disk, I: Source, O: Sink>(
     by: Updater,
     store: &mut S,

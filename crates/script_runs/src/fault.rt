@@ -9,7 +9,7 @@ use update_runs::UpdatingFault;
 /// Why a line of a script isn't done.
 #[derive(Clone, Copy, Debug, PartialEq, Eq)]
 pub enum LineFault {
-    /// It isn't taken.
+    /// The line isn't accepted.
     Bad(ScriptKind),
     /// The update that it asks for ends without its report.
     Updating(UpdatingFault),
@@ -19,7 +19,7 @@ pub enum LineFault {
 /// Why a script ends before its last line is done.
 #[derive(Clone, Copy, Debug, PartialEq, Eq)]
 pub enum ScriptFault {
-    /// This line, counted from 1, isn't taken.
+    /// This line, counted from 1, isn't accepted.
     Line { line: u64, kind: ScriptKind },
     /// An update ends without its report.
     Updating(UpdatingFault),
@@ -27,7 +27,7 @@ pub enum ScriptFault {
 }
 
 impl LineFault {
-    /// The fault of the script whose line with this number it is.
+    /// The fault of a script that stops with this fault at the line with this number.
     pub fn at(self, line: u64) -> ScriptFault
         ensures { result ≡ numbered line self }
     {

@@ -1,4 +1,4 @@
-//! The lines of a script, taken in their order.
+//! The lines of a script, done in order.
 ghost use Rattle.std.specs.Prelude.{◌≡◌, ◌⊎◌, Err, Ok};
 ghost use Rattle.image_tree.specs.Node.{is_node};
 ghost use Rattle.image_tree.specs.Paths.{is_path};
@@ -17,7 +17,7 @@ use script_lines::{ScriptLine, read_line};
 use tree_face::{Disk, Node, Sink, Store};
 use update_runs::{Updater, update_once};
 
-// Puts the node of an entry, if it makes one.
+// Puts the node of an entry, if it has one.
 fn put(session: Session, entry: Option<(Text, Node)>) -> Result<Session, LineFault>
     requires { IsProper (ScriptLine.Put entry) }
     ensures { (result ≡ edited (put_entry_result session entry)) ⊎ (result ≡ Err LineFault.NoMemory) }
@@ -59,7 +59,7 @@ fn update<S: Store, D: Disk, O: Sink>(
     }
 }
 
-// Does what a line asks for.
+// Does what a line says.
 fn do_line<S: Store, D: Disk, O: Sink>(
     by: Updater,
     asked: ScriptLine,
@@ -80,7 +80,7 @@ fn do_line<S: Store, D: Disk, O: Sink>(
     }
 }
 
-// Takes a line.
+// Parses a line and does it.
 fn take_line<S: Store, D: Disk, O: Sink>(
     by: Updater,
     line: &[u8],
@@ -99,7 +99,7 @@ fn take_line<S: Store, D: Disk, O: Sink>(
     }
 }
 
-/// Runs a script of a session, and returns what the session is then. Each update writes its report; no fault line is written.
+/// Runs a script of a session, and returns the session at its end. Each update writes its report. It writes no fault line.
 pub(crate) fn run_lines<S: Store, D: Disk, O: Sink>(
     by: Updater,
     text: &[u8],

@@ -12,7 +12,7 @@ use std::mem::forget;
 use tree_face::{Disk, Sink, Store};
 use update_runs::{Updater, update_once};
 
-// The loading of a session and one update of it, with its report but no fault line.
+// Loads a session and updates it once, with its report but no fault line.
 fn update<S: Store, D: Disk, O: Sink>(
     by: Updater,
     store: &mut S,
@@ -36,7 +36,7 @@ fn update<S: Store, D: Disk, O: Sink>(
     }
 }
 
-/// Runs the command `update`, which does what a script of the one line `update` does. The state of the source is any, since nothing is
+/// Runs the command `update`, which does what a script of the single line `update` does. The source may be in any state, because nothing is
 /// read from it.
 pub fn run_update<S: Store, D: Disk, O: Sink>(
     by: Updater,

@@ -1,4 +1,4 @@
-//! A machine that stops at each writing call of an update, and the next update of each image that it may leave.
+//! A machine that stops at each writing call of an update, and the next update of each image that may be left.
 use command_runs::Status;
 use command_runs_fixture::{
     Devices, Held, NO_STAMPS, OLD, Setting, all, has, image, make_devices, run_update,
@@ -24,7 +24,7 @@ const HELD: &[Held<'_>] = &[
     Held::Library("usr/lib/libfoo.so.1.2", "libfoo.so.1"),
 ];
 
-/// What the Manifest slot and the Aux slot hold before an update that plans a link, and after it.
+/// The manifest file and the auxiliary cache file before an update that plans a link, and after it.
 #[derive(Clone, Copy)]
 struct Update<'a> {
     manifests: (&'a [u8], &'a [u8]),
@@ -39,7 +39,7 @@ const WITHOUT_IDENTITIES: Update<'_> = Update {
     auxes: (None, NO_STAMPS),
 };
 
-// Before the update the one library has a stamp, and a file that is gone.
+// Before the update there are stamps of the only library, and of a file that is gone.
 const WITH_IDENTITIES: Update<'_> = Update {
     manifests: (
         b"#mtree\n./usr/lib/libfoo.so.1 type=link link=libfoo.so.1.1\n./usr/lib/libfoo.so.1.1 type=file dev=0 inode=1 ctime=3 size=253\n./usr/lib/libfoo.so.1.2 type=file dev=0 inode=2 ctime=4 size=253\n",
@@ -63,19 +63,19 @@ const WITH_IDENTITIES: Update<'_> = Update {
     ),
 };
 
-// What a crash may leave in a slot.
+// The content that a crash may leave in a slot's file.
 #[derive(Clone, Copy)]
 enum Left {
     Old,
-    /// The choice says which.
+    /// The choice decides.
     OldOrNew,
     New,
 }
 
-// How many writing calls were made, and what a crash may then leave of the manifest, of the cache and of the auxiliary cache.
+// The number of writing calls, and what a crash may then leave of the manifest, of the cache and of the auxiliary cache.
 type Row = (u64, Left, Left, Left);
 
-// Five calls are made on the manifest, then five on the cache, and then five on the auxiliary cache.
+// Five calls write the manifest, then five the cache, and then five the auxiliary cache.
 const TABLE: &[Row] = &[
     (0, Left::Old, Left::Old, Left::Old),
     (1, Left::Old, Left::Old, Left::Old),
@@ -95,7 +95,7 @@ const TABLE: &[Row] = &[
     (15, Left::New, Left::New, Left::New),
 ];
 
-// The content that is left, if the choice has the new one or not.
+// The content that is left. `chosen` says whether the choice has the new one.
 fn content<'a>(left: Left, chosen: bool, old: Option<&'a [u8]>, new: &'a [u8]) -> Option<&'a [u8]> {
     match left {
         Left::Old => old,
@@ -112,7 +112,7 @@ fn devices_of(alloc: Global, update: &Update<'_>) -> Result<Devices, Fail> {
     Ok(make_devices(alloc, setting, all(alloc, HELD)?)?)
 }
 
-// The next update of an image leaves what one leaves that isn't stopped.
+// The next update of an image leaves what an undisturbed update leaves.
 fn assert_repaired(
     rt: &impl Abort,
     alloc: Global,
@@ -133,7 +133,7 @@ fn assert_repaired(
     Ok(())
 }
 
-// Whether an image by this choice has what is in the table.
+// Whether the image of this choice has the contents of the table's row.
 fn is_image(alloc: Global, update: &Update<'_>, image: &mut MemDisk, choice: u8, row: Row) -> bool {
     let (_, manifest, cache, aux) = row;
     let (before, after) = update.manifests;
@@ -146,7 +146,7 @@ fn is_image(alloc: Global, update: &Update<'_>, image: &mut MemDisk, choice: u8,
         && has(alloc, image, Slot::Aux, aux)
 }
 
-// Stops an update after so many writing calls, and looks at each image that a crash may leave then.
+// Stops an update after this number of writing calls, and checks each image that a crash may then leave.
 fn assert_stopped(
     rt: &impl Abort,
     alloc: Global,

@@ -1,4 +1,4 @@
-//! A machine that stops at each writing call of a script of two updates, and the script of each image that it may leave.
+//! A machine that stops at each writing call of a script of two updates, and the script of each image that may be left.
 use crate::script::{CALLS, SLOTS, UPDATES, content, contents, devices_of, is_after, sure};
 use command_runs::Status;
 use command_runs_fixture::{has, run_script};
@@ -7,8 +7,8 @@ use std::process::Abort;
 use std::test::Fail;
 use tree_face::{MemDisk, Slot};
 
-// What a crash after so many writing calls leaves in a slot, by a choice where it may leave the old content or the new one. It may do so
-// where the slot is published, and not yet settled.
+// The content that a crash after this number of writing calls leaves in a slot's file. If the file is renamed into place but its directory
+// isn't flushed, `chosen` decides between the old content and the new one.
 fn left(slot: Slot, calls: u64, chosen: bool) -> Option<&'static [u8]> {
     if calls == 0 {
         return content(slot, 0);
@@ -25,7 +25,7 @@ fn is_image(alloc: Global, image: &mut MemDisk, calls: u64, choice: u8) -> bool 
     is_so
 }
 
-// The same script, taken again, leaves what it leaves that isn't stopped.
+// Run again, the same script leaves what an undisturbed run leaves.
 fn assert_repaired(rt: &impl Abort, alloc: Global, image: MemDisk, calls: u64) -> Result<(), Fail> {
     let mut devices = devices_of(alloc, sure())?;
     devices.disk = image;
@@ -38,7 +38,7 @@ fn assert_repaired(rt: &impl Abort, alloc: Global, image: MemDisk, calls: u64) -
     Ok(())
 }
 
-// Stops the script after so many writing calls, and looks at each image that a crash may leave then.
+// Stops the script after this number of writing calls, and checks each image that a crash may then leave.
 fn assert_stopped(rt: &impl Abort, alloc: Global, calls: u64) -> Result<(), Fail> {
     let mut devices = devices_of(alloc, sure())?;
     devices.disk.stop_after(calls);

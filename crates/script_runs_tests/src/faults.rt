@@ -8,7 +8,7 @@ use std::process::Abort;
 use std::test::Fail;
 use tree_face::Tag;
 
-// The script ends with this status after so many updates, and has written their reports and a fault line.
+// The script ends with this status after this number of updates, and has written their reports and a fault line.
 fn assert_ends(
     rt: &impl Abort,
     alloc: Global,
@@ -24,7 +24,7 @@ fn assert_ends(
     Ok(())
 }
 
-// The slots are those of so many updates, and the disk was asked for no more.
+// The files are those after this number of updates, and the disk made only the writing calls of these updates.
 fn assert_after(
     rt: &impl Abort,
     alloc: Global,
@@ -48,7 +48,7 @@ fn nothing_fails(rt: HostRuntime) -> Result<(), Fail> {
     assert_after(&rt, alloc, &mut devices, UPDATES)
 }
 
-// Each update begins a key, and reads header, program headers, dynamic entries and the text in one call each.
+// Each update opens one file, and reads its header, program headers, dynamic entries and text in one call each.
 const STORE_CALLS: u64 = 5;
 
 #[test]
@@ -68,7 +68,7 @@ fn the_store_fails(rt: HostRuntime) -> Result<(), Fail> {
     Ok(())
 }
 
-// How many calls of the disk read slots, before any writes one.
+// The number of disk calls that read a file. They come before the writing calls.
 const READS: u64 = 2;
 
 #[test]
@@ -96,7 +96,7 @@ fn the_disk_fails(rt: HostRuntime) -> Result<(), Fail> {
     Ok(())
 }
 
-// Each report is one call of the sink. No fault line stands behind one that isn't written.
+// Each report is one call of the sink. If it isn't written, no fault line follows.
 #[test]
 fn the_sink_fails(rt: HostRuntime) -> Result<(), Fail> {
     let alloc = rt.alloc();
@@ -112,10 +112,10 @@ fn the_sink_fails(rt: HostRuntime) -> Result<(), Fail> {
     Ok(())
 }
 
-// The first report has 32 bytes, of which a sink takes seven at a call.
+// The first report has 32 bytes, of which a sink takes seven per call.
 const FIRST_CALLS: u64 = 5;
 
-// How many bytes are written before a call of a sink that takes seven, and how many updates are made then.
+// The number of bytes that are written before this call of a sink that takes seven, and the number of updates that are made then.
 fn written_before(call: u64) -> (u64, u64) {
     if call < FIRST_CALLS {
         (call.saturating_mul(7), 1)

@@ -1,4 +1,4 @@
-//! A script of two updates, and what the slots may hold when it ends early.
+//! A script of two updates, and the possible contents of the files when it ends early.
 use command_runs_fixture::{Devices, Held, OLD, Setting, all, has, image, make_devices};
 use std::alloc::Global;
 use std::test::Fail;
@@ -14,7 +14,7 @@ pub(crate) const SCRIPT: &[u8] = b"\
 /// The script's two updates.
 pub(crate) const UPDATES: u64 = 2;
 
-/// How many writing calls an update makes: five on the manifest, five on the cache, and five on the auxiliary cache.
+/// The number of writing calls of an update: five for the manifest, five for the cache, and five for the auxiliary cache.
 pub(crate) const CALLS: u64 = 15;
 
 const HELD: &[Held<'_>] = &[
@@ -69,7 +69,7 @@ const FIRST_REPORT: &[u8] = b"1 libs, 0 links, 1 files opened\n";
 const BOTH_REPORTS: &[u8] =
     b"1 libs, 0 links, 1 files opened\nlink: /usr/lib/liba.so.2 -> liba.so.1\n1 libs, 1 links, 1 files opened\n";
 
-/// What a slot holds after so many updates.
+/// The content of a slot's file after this number of updates.
 pub(crate) fn content(slot: Slot, updates: u64) -> Option<&'static [u8]> {
     match (slot, updates) {
         (Slot::Manifest, 0) => Some(EMPTY_MANIFEST),
@@ -84,7 +84,7 @@ pub(crate) fn content(slot: Slot, updates: u64) -> Option<&'static [u8]> {
     }
 }
 
-/// What is written in so many updates.
+/// The reports of this number of updates.
 pub(crate) fn reports(updates: u64) -> &'static [u8] {
     match updates {
         0 => b"",
@@ -93,10 +93,10 @@ pub(crate) fn reports(updates: u64) -> &'static [u8] {
     }
 }
 
-/// The slots, with the bit of a crash's choice that says which content it has of each.
+/// The slots, each with the bit of a crash's choice that selects between its contents.
 pub(crate) const SLOTS: &[(Slot, u8)] = &[(Slot::Manifest, 1), (Slot::Cache, 2), (Slot::Aux, 4)];
 
-// Which of an update's writing calls publishes a slot, counted from 0.
+// The number of the writing call of an update that renames a slot's file into place, counted from 0.
 fn publishing(slot: Slot) -> u64 {
     match slot {
         Slot::Manifest => 3,
@@ -105,14 +105,14 @@ fn publishing(slot: Slot) -> u64 {
     }
 }
 
-// How many updates have published a slot before a writing call of this number.
+// The number of updates that have renamed a slot's file into place before the writing call with this number.
 fn published_before(slot: Slot, call: u64) -> u64 {
     let calls = CALLS.saturating_sub(1).saturating_sub(publishing(slot));
     call.saturating_add(calls) / CALLS
 }
 
-/// What a slot may hold when the writing call of this number fails, or when the machine crashes behind it: the content before the call or
-/// the one behind it, which are the same unless the call publishes the slot.
+/// The two possible contents of a slot's file if the writing call with this number fails, or if the machine crashes after it: the content
+/// before the call and the content after it. They differ only if the call renames the file into place.
 pub(crate) fn contents(slot: Slot, call: u64) -> (Option<&'static [u8]>, Option<&'static [u8]>) {
     let behind = call.saturating_add(1);
     (
@@ -121,7 +121,7 @@ pub(crate) fn contents(slot: Slot, call: u64) -> (Option<&'static [u8]>, Option<
     )
 }
 
-/// Whether each slot has one of the contents that it may have when a writing call of this number has failed.
+/// Whether each slot's file has one of its possible contents after the writing call with this number has failed.
 pub(crate) fn may_be_left(alloc: Global, disk: &mut MemDisk, call: u64) -> bool {
     let mut may_be = true;
     for (slot, _) in SLOTS {
@@ -131,7 +131,7 @@ pub(crate) fn may_be_left(alloc: Global, disk: &mut MemDisk, call: u64) -> bool 
     may_be
 }
 
-/// Whether each slot has what it has after so many updates.
+/// Whether each slot's file has its content after this number of updates.
 pub(crate) fn is_after(alloc: Global, disk: &mut MemDisk, updates: u64) -> bool {
     let mut is_so = true;
     for (slot, _) in SLOTS {
@@ -140,19 +140,19 @@ pub(crate) fn is_after(alloc: Global, disk: &mut MemDisk, updates: u64) -> bool 
     is_so
 }
 
-/// Devices with the script, an empty image and both libraries, which fail as it is set.
+/// Devices with the script, an empty image and both libraries. They fail as `setting` says.
 pub(crate) fn devices_of(alloc: Global, setting: Setting<'_>) -> Result<Devices, Fail> {
     let mut devices = make_devices(alloc, setting, all(alloc, HELD)?)?;
     devices.input = MemSource::new(Vec::from_slice(alloc, SCRIPT)?, Vec::new(alloc));
     Ok(devices)
 }
 
-/// An empty image, in which no device fails.
+/// An empty image. No device fails.
 pub(crate) fn sure() -> Setting<'static> {
     image(EMPTY_MANIFEST)
 }
 
-/// The reports of so many updates, and a fault line.
+/// The reports of this number of updates, and a fault line.
 pub(crate) fn text_of(alloc: Global, updates: u64, fault: &str) -> Result<Vec<u8>, Fail> {
     let mut text = Vec::from_slice(alloc, reports(updates))?;
     text.extend_from_slice(fault.as_bytes())?;

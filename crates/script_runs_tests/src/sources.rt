@@ -7,7 +7,7 @@ use std::process::Abort;
 use std::test::Fail;
 use tree_face::MemSource;
 
-// Nothing is done: no slot is read, no file begun, and what is written is the fault line.
+// Nothing is done: no slot is read, no file is opened, and only the fault line is written.
 fn assert_nothing_done(
     rt: &impl Abort,
     alloc: Global,
@@ -39,7 +39,7 @@ fn assert_source_fault(
     assert_nothing_done(rt, alloc, &mut devices, call)
 }
 
-// One call gives the script, and one its end.
+// One call returns the script, and one its end.
 #[test]
 fn the_source_fails(rt: HostRuntime) -> Result<(), Fail> {
     for call in 0..2 {
@@ -57,7 +57,7 @@ fn long_script(alloc: Global) -> Result<Vec<u8>, Fail> {
     Ok(script)
 }
 
-// A script of 10,181 bytes is three calls, and its end is one.
+// A script of 10,181 bytes takes three calls, and its end takes one.
 #[test]
 fn the_source_fails_in_the_middle(rt: HostRuntime) -> Result<(), Fail> {
     let alloc = rt.alloc();

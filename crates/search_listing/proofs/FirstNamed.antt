@@ -1,4 +1,4 @@
--- The map of directories after one more line of the conf files.
+-- The map of directories after one more line of the conf files is added.
 use Rattle.std.proofs.Common.{◌≡◌, ◌∙◌, ℕ, Bool, true, false, cond, List, [], ◌∷◌, length, Option, Some, None, Bor, is_some, refl, ap, sym, subst, ◌⊎◌, inl, inr, arith}
 use Rattle.std.proofs.lemmas.Slice.Eq.{bytes_eq-Decides}
 use Rattle.std.specs.List.{zip}
@@ -23,9 +23,9 @@ missing : (a : Option (Bor Origin)) → is_some a ≡ false → option_copied a 
 missing None e = refl
 missing (Some x) e = absurd (cc)
 
--- ---- a line more
+-- ---- one more line
 
--- of a directory that is named already
+-- the line names a directory that is already named
 pub named_before : (rows : Rows) (named : List ℕ) (origin : Origin) → is_some (lookup (bytes_eq named) rows) ≡ true → IsAdded rows named origin rows
 named_before rows named origin there dir = by_test (bytes_eq dir named)
     (λ e.
@@ -33,7 +33,7 @@ named_before rows named origin there dir = by_test (bytes_eq dir named)
     stays (lookup (bytes_eq dir) rows) _ (subst (λ (q : List ℕ). is_some (lookup (bytes_eq q) rows) ≡ true) same there))
     (λ e. rw e (alone (found rows dir)))
 
--- of one that is not: it is named by this line, and the others stay
+-- the line names a new directory: the directory gets this line, and the others keep theirs
 pub named_here : (rows new : Rows) (named : List ℕ) (origin : Bor Origin) → is_some (lookup (bytes_eq named) rows) ≡ false
     → ((dir : List ℕ) → lookup (bytes_eq dir) new ≡ cond (bytes_eq named dir) (Some origin) (lookup (bytes_eq dir) rows))
     → IsAdded rows named origin.now new
@@ -49,7 +49,7 @@ named_here rows new named origin none updated dir = by_test (bytes_eq dir named)
     (λ f. f) in
     rw e (ap option_copied (updated dir) ∙ ap (λ b. option_copied (cond b (Some origin) (lookup (bytes_eq dir) rows))) differs ∙ alone (found rows dir)))
 
--- what is found by this line and those that are left
+-- the result from this line and the remaining lines
 pub goes_on : (a : Option Origin) (is_it : Bool) (origin : Origin) (rest : Option Origin)
     → option_or (option_or a (cond is_it (Some origin) None)) rest ≡ option_or a (cond is_it (Some origin) rest)
 goes_on None true origin rest = refl

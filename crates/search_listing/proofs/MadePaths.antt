@@ -1,4 +1,4 @@
--- The set of the paths of links after one more of them.
+-- The set of the paths of links after one more link is added.
 use Rattle.std.proofs.Common.{◌≡◌, ◌∙◌, ℕ, Bool, true, false, ◌||◌, ◌+◌, ◌<◌, List, [], ◌∷◌, drop, get_or, length, refl, ap, sym}
 use Rattle.std.proofs.lemmas.List.{at_drop_more}
 use Rattle.std.proofs.lemmas.List.Folds.{list_any-append}
@@ -15,7 +15,7 @@ grouped true b c = refl
 grouped false true c = refl
 grouped false false c = refl
 
--- what is among the paths, or among others
+-- membership in the set after a path is inserted
 one_more : (paths : List (List ℕ)) (path other : List ℕ) (rest : Bool)
     → (list_any (bytes_eq other) (insert_key bytes_eq paths path) || rest) ≡ (list_any (bytes_eq other) paths || (bytes_eq other path || rest))
 one_more paths path other rest = by_test (list_any (bytes_eq path) paths)
@@ -27,7 +27,7 @@ one_more paths path other rest = by_test (list_any (bytes_eq path) paths)
     (λ differs. rw differs refl)))
     (λ e. rw e (ap (λ b. b || rest) (list_any-append (bytes_eq other) paths (path ∷ [])) ∙ grouped (list_any (bytes_eq other) paths) (bytes_eq other path) rest))
 
--- one of the links that are left, whose path is put in
+-- the path of the next of the remaining links is inserted
 pub link_more : (paths new : List (List ℕ)) (links : List Planned) (i : ℕ) (link : Planned) → i < length links → get_or links i link ≡ link → new ≡ insert_key bytes_eq paths link.path
     → (other : List ℕ) → (list_any (bytes_eq other) new || is_made (drop (i + 1) links) other) ≡ (list_any (bytes_eq other) paths || is_made (drop i links) other)
 link_more paths new links i link within is put other =

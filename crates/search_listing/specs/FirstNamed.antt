@@ -1,4 +1,4 @@
--- How the code finds where a directory is named: by a map, to which the lines of the conf files are added in their order.
+-- How the code finds the line that names a directory: it adds the lines of the conf files in order to a map.
 use Rattle.std.specs.Prelude.{◌≡◌, ℕ, if◌then◌else◌, List, Option, Some, None}
 use Rattle.std.specs.Borrow.{Bor}
 use Rattle.std.specs.Map.{lookup}
@@ -15,10 +15,10 @@ Rows = List (List ℕ × Bor Origin)
 abbrev pub found : Rows → List ℕ → Option Origin
 found rows dir = option_copied (lookup (bytes_eq dir) rows)
 
--- a directory is named by the line that named it, or else by this line if this is the one of this directory
+-- adds a line: a directory that was already named keeps its line; otherwise this line names it, if the directory is the line's
 abbrev pub IsAdded : Rows → List ℕ → Origin → Rows → Type 0
 IsAdded old named origin new = (dir : List ℕ) → found new dir ≡ option_or (found old dir) (if bytes_eq dir named then Some origin else None)
 
--- each directory is named by its first line
+-- each directory has the first line that names it
 abbrev pub AreFirst : Conf → Rows → Type 0
 AreFirst conf rows = (dir : List ℕ) → found rows dir ≡ origin_of conf dir

@@ -25,7 +25,7 @@ origin_by conf before dir (Some name) = before
 abbrev pub origin_after : Conf → Option Origin → Place → Option Origin
 origin_after conf before place = origin_by conf before place.spelled place.cap
 
--- the lines that name search directories, which follow one that this line names
+-- the lines that name the search directories, if `before` names the search directory before them
 abbrev pub origins_after : Conf → Option Origin → List Place → List (Option Origin)
 origins_after conf before [] = []
 origins_after conf before (place ∷ places) = origin_after conf before place ∷ origins_after conf (origin_after conf before place) places
@@ -44,13 +44,13 @@ library_text links place library = library_line library (is_made links (join pla
 
 -- ---- the listing
 
--- of a search directory, the line that names it, and its libraries
-abbrev pub place_text : List Planned → Place → Option Origin → List Library → List ℕ
-place_text links place origin libraries = place_line place origin ++ flat_map (library_text links place) libraries
+-- the text of a search directory, given the line that names it and its libraries
+abbrev pub place_text : List ℕ → List Planned → Place → Option Origin → List Library → List ℕ
+place_text front links place origin libraries = place_line front place origin ++ flat_map (library_text links place) libraries
 
-abbrev pub one_text : List Planned → Place × (Option Origin × List Library) → List ℕ
-one_text links (place, (origin, libraries)) = place_text links place origin libraries
+abbrev pub one_text : List ℕ → List Planned → Place × (Option Origin × List Library) → List ℕ
+one_text front links (place, (origin, libraries)) = place_text front links place origin libraries
 
--- of the search directories with the best libraries of each, when these links were made
-unfoldable pub listing_text : Conf → List Place → List (List Library) → List Planned → List ℕ
-listing_text conf places bests links = flat_map (one_text links) (zip places (zip (origins_of conf places) bests))
+-- The text of all search directories, given the best libraries of each and the links that were made. Their paths begin with `front`.
+unfoldable pub listing_text : List ℕ → Conf → List Place → List (List Library) → List Planned → List ℕ
+listing_text front conf places bests links = flat_map (one_text front links) (zip places (zip (origins_of conf places) bests))

@@ -1,7 +1,7 @@
 //! One line of a listing.
 ghost use Rattle.std.specs.Prelude.{◌≡◌, ◌++◌, OnOk};
 ghost use Rattle.std.specs.Option.{option_copied};
-ghost use Rattle.search_listing.specs.Lines.{cap_text, changed_text, library_line, origin_text, place_line};
+ghost use Rattle.search_listing.specs.Lines.{cap_text, changed_text, library_line, origin_text, place_line, shown};
 
 use hwcap_dirs::Place;
 use ldso_conf::Origin;
@@ -37,16 +37,28 @@ fn put_origin(alloc: Global, out: &mut Vec<u8>, origin: Option<&Origin>) -> Resu
     Ok(())
 }
 
+// Adds the path of a search directory.
+fn put_dir(out: &mut Vec<u8>, front: &[u8], spelled: &[u8]) -> Result<(), NoMemory>
+    ensures { OnOk result (out.new.items ≡ out.old.items ++ shown front.now spelled.now) }
+{
+    out.extend_from_slice(front)?;
+    if front.is_empty() || spelled != b"/".as_slice() {
+        out.extend_from_slice(spelled)?;
+    }
+    Ok(())
+}
+
 /// Adds the line of a search directory.
 pub(crate) fn put_place_line(
     alloc: Global,
     out: &mut Vec<u8>,
+    front: &[u8],
     place: &Place,
     origin: Option<&Origin>,
 ) -> Result<(), NoMemory>
-    ensures { OnOk result (out.new.items ≡ out.old.items ++ place_line place.now (option_copied origin.entry)) }
+    ensures { OnOk result (out.new.items ≡ out.old.items ++ place_line front.now place.now (option_copied origin.entry)) }
 {
-    out.extend_from_slice(place.spelled.as_bytes())?;
+    put_dir(out, front, place.spelled.as_bytes())?;
     out.push(b':')?;
     put_cap(out, &place.cap)?;
     out.extend_from_slice(b" (from ")?;

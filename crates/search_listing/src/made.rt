@@ -8,9 +8,9 @@ use std::alloc::Global;
 use std::marker::Model;
 use string_pool::TextSet;
 
-/// The links that an update made. Contracts see it as the list of them.
+/// The links that an update made. Contracts see the list of the links.
 ///
-/// A look-up takes the time of one path, however many links there are.
+/// The time of a look-up doesn't depend on the number of links.
 #[derive(Drop)]
 pub(crate) struct Made<'a> {
     links: &'a [Planned],
@@ -30,7 +30,7 @@ impl<'a> Model for Made<'a> {
 }
 
 impl<'a> Made<'a> {
-    /// These links.
+    /// Makes the set of these links.
     pub(crate) fn of(alloc: Global, links: &'a [Planned]) -> Result<Made<'a>, NoMemory>
         ensures { IfOk result (λ made. made ≡ links.now) }
     {

@@ -1,4 +1,4 @@
-//! Where the conf files name directories first.
+//! The first line of the conf files that names each directory.
 ghost use Rattle.std.specs.Prelude.{◌≡◌, IfOk, OnOk};
 ghost use Rattle.std.specs.Option.{option_copied};
 ghost use Rattle.search_listing.specs.FirstNamed.{IsAdded};
@@ -11,9 +11,9 @@ use lib_types::{NoMemory, Text, TextRef};
 use std::alloc::Global;
 use std::marker::Model;
 
-/// The directories of the conf files, each with the line that names it first. Contracts see what was read of the conf files.
+/// The directories of the conf files, each with the first line that names it. Contracts see the result of reading the conf files.
 ///
-/// A look-up takes the time of one directory, however many there are.
+/// The time of a look-up doesn't depend on the number of directories.
 #[derive(Drop)]
 pub(crate) struct Named<'a> {
     conf: &'a Conf,
@@ -31,7 +31,7 @@ impl<'a> Model for Named<'a> {
     ghost invariant = { λ n. AreFirst n.conf.now n.first.entries };
 }
 
-// Adds a directory with the line that names it, unless one before it does.
+// Adds a directory with the line that names it, unless an earlier line names it.
 #[tactic(auto, using(crate::proofs::FirstNamed::named_before, crate::proofs::FirstNamed::named_here))]
 fn add<'a>(
     alloc: Global,
@@ -61,7 +61,7 @@ impl<'a> Named<'a> {
         Ok(Named { conf, first })
     }
 
-    // The line that names a directory first.
+    // The first line that names a directory.
     fn origin_of(&self, dir: &[u8]) -> Option<&'a Origin>
         ensures { option_copied result ≡ origin_of self.now dir.now }
     {
@@ -71,7 +71,7 @@ impl<'a> Named<'a> {
         }
     }
 
-    /// The line that names a search directory, after one that this line names.
+    /// The line that names a search directory, if `before` names the search directory before it.
     pub(crate) fn origin_after(
         &self,
         before: Option<&'a Origin>,

@@ -1,13 +1,12 @@
-//! The whole listing, one search directory after another.
+//! The whole listing, one search directory at a time.
 ghost use Rattle.std.specs.Prelude.{◌≡◌, ◌++◌, flat_map, IfOk, OnOk};
-ghost use Rattle.std.specs.Option.{option_copied};
-ghost use Rattle.search_listing.specs.Listing.{library_text, listing_text, place_text};
+ghost use Rattle.search_listing.specs.Listing.{library_text, listing_text};
 
 use crate::lines::{put_library_line, put_place_line};
 use crate::made::Made;
 use crate::named::Named;
 use hwcap_dirs::{Place, Places};
-use ldso_conf::{Conf, Origin};
+use ldso_conf::Conf;
 use lib_types::{NoMemory, Text};
 use link_plan::Planned;
 use path_walk::join_into;
@@ -33,31 +32,17 @@ fn put_libraries(
     Ok(())
 }
 
-// Adds the line of a search directory, and then those of its libraries.
-fn put_place(
-    alloc: Global,
-    out: &mut Vec<u8>,
-    made: &Made<'_>,
-    place: &Place,
-    origin: Option<&Origin>,
-    bests: &BestLibraries,
-) -> Result<(), NoMemory>
-    ensures { OnOk result (out.new.items ≡ out.old.items ++ place_text made.now place.now (option_copied origin.entry) bests.now) }
-{
-    put_place_line(alloc, out, place, origin)?;
-    put_libraries(alloc, out, made, place, bests)?;
-    Ok(())
-}
-
-/// What a verbose update prints of the directories that it searched, by the best libraries of each, when it has made these links.
+/// The output of a verbose update, given the search directories, the best libraries of each, and the links that were made. The paths of
+/// directories begin with `front`.
 pub fn listing(
     alloc: Global,
+    front: &[u8],
     conf: &Conf,
     places: &Places,
     bests: &PlaceBests,
     links: &[Planned],
 ) -> Result<Text, NoMemory>
-    ensures { IfOk result (λ text. text ≡ listing_text conf.now places.now bests.now links.now) }
+    ensures { IfOk result (λ text. text ≡ listing_text front.now conf.now places.now bests.now links.now) }
 {
     let named = Named::of(alloc, conf)?;
     let made = Made::of(alloc, links)?;
@@ -65,7 +50,8 @@ pub fn listing(
     let mut origin = None;
     for (place, bests) in places.as_slice().iter().zip(bests.iter()) {
         origin = named.origin_after(origin, place);
-        put_place(alloc, &mut out, &made, place, origin, bests)?;
+        put_place_line(alloc, &mut out, front, place, origin)?;
+        put_libraries(alloc, &mut out, &made, place, bests)?;
     }
     Ok(Text::from_vec(out))
 }

@@ -1,4 +1,4 @@
--- The calls of one reading after another.
+-- The calls of readings in sequence.
 use Rattle.std.proofs.Common.{◌≡◌, ◌≤◌, ◌+◌, ℕ, true, false, cond, List, [], ◌∷◌, ◌++◌, append_assoc, append-nil, length, length-append, refl, ap, sym, ◌∙◌, Option, Some, None, Result, Ok, Err, arith}
 use Rattle.std.proofs.lemmas.List.Elements.{filter_map-append}
 use Rattle.std.specs.List.{list_any}
@@ -44,7 +44,7 @@ makes_on xs ys a b c first next = record {
       next.lists ∙ ap (λ n. raised n (length (dirs_of ys))) first.lists ∙ raised_on a.counts.lists (length (dirs_of xs)) (length (dirs_of ys)) ∙ ap (raised a.counts.lists) (sym size);
 }
 
--- ---- paths that are looked at
+-- ---- paths that are looked up
 
 pub no_more : (looked : List (List ℕ)) (s : FolderState) → LooksMore looked looked s s
 no_more looked s = record { made = []; looked = sym (append-nil looked); listed = refl; calls = no_calls s }
@@ -60,7 +60,7 @@ looks_on x y z a b c first next = record {
   calls = makes_on first.made next.made a b c first.calls next.calls;
 }
 
--- a path that wasn't looked at
+-- a path that wasn't looked up before
 pub one_more : {A : Type 0} (looked after : List (List ℕ)) (q : List ℕ) (a b : FolderState) (x : A) → Reads {A = A} (calls.Look q) a b (Ok x) → list_any (bytes_eq q) looked ≡ false
     → after ≡ insert_key bytes_eq looked q → LooksMore looked after a b
 one_more looked after q a b x reads fresh is = record {
@@ -92,7 +92,7 @@ lists_none x y dirs a b looks = record {
   calls = looks.calls;
 }
 
--- ---- readings one after another
+-- ---- readings in sequence
 
 keeps_on : (a b c : FolderState) → KeepsFolder a b → KeepsFolder b c → KeepsFolder a c
 keeps_on a b c first next = record { contents = next.contents ∙ first.contents; time = next.time ∙ first.time; may = next.may ∙ first.may; since = next.since ∙ first.since }

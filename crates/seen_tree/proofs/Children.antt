@@ -1,4 +1,4 @@
--- The names in a listed directory that a test passes are those of the part.
+-- In a directory that was listed, the part and the tree have the same names that pass the test.
 use Rattle.std.proofs.Common.{◌≡◌, ◌⊎◌, inl, inr, ⊎_elim, get_or, ℕ, Bool, true, false, cond, not, ◌&&◌, ◌||◌, List, [], ◌∷◌, ◌++◌, append_assoc, length, drop, filter, map, refl, ap, sym, subst, ◌∙◌, Option, Some}
 use Rattle.std.proofs.lemmas.Bool.{and_from, and_parts, cases_lt, eqb-true}
 use Rattle.std.proofs.lemmas.Bool.Decides.{Decides-eqb}
@@ -30,7 +30,7 @@ use Rattle.seen_tree.proofs.Found.{any_found}
 use Rattle.seen_tree.proofs.Same.{kind_seen}
 use Rattle.seen_tree.specs.Part.{AreSeen, IsPart, IsSeen, listed}
 
--- ---- paths that go on from a directory by a name
+-- ---- paths below a directory whose next name is `z`
 
 -- a name ends before its first slash
 first_twice : (s : List ℕ) → first_name (first_name s) ≡ first_name s
@@ -55,7 +55,7 @@ module _ (d z : List ℕ) where
   name_of : (p : List ℕ) → goes_by p ≡ true → z ≡ name_behind (length (folder d)) p
   name_of p h = (bytes_eq-Decides z _).0 (and_parts (is_below d p) _ h).1
 
-  -- the path is that of the name, or lies below it
+  -- the path is the name's path, or is below it
   to_name : (p : List ℕ) → goes_by p ≡ true → (p ≡ join d z) ⊎ ((more : List ℕ) × (p ≡ join d z ++ slash ∷ more))
   to_name p h =
       let rest = drop (length (folder d)) p in
@@ -71,7 +71,7 @@ module _ (d z : List ℕ) where
       (λ ge. inl (whole ∙ ap (λ x. folder d ++ x) (sym (take_all (position_or_len is_slash rest) rest ge) ∙ here)))
       (cases_lt (position_or_len is_slash rest) (length rest))
 
-  -- the name's own path goes on by it
+  -- the name's own path is one of these paths
   goes_itself : (p : List ℕ) → goes_by p ≡ true → goes_by (join d z) ≡ true
   goes_itself p h =
       let once : first_name z ≡ z = ap first_name (name_of p h) ∙ first_twice (drop (length (folder d)) p) ∙ sym (name_of p h) in
@@ -100,7 +100,7 @@ module _ (t : Nodes) (whole : IsWhole t) (d : List ℕ) (dir : kind_at t d ≡ k
       record { node = Dir; at = dir_above t whole (join d z) above below; goes = itself })
       (to_name d z one.path one.passes)
 
--- ---- a part of it
+-- ---- a part of the tree
 
 both_ways : (a b : Bool) → (a ≡ true → b ≡ true) → (b ≡ true → a ≡ true) → a ≡ b
 both_ways true b there back = sym (there refl)
@@ -113,7 +113,7 @@ by_kind kinds.Absent = inr (λ names. refl)
 by_kind kinds.File = inr (λ names. refl)
 by_kind kinds.Link = inr (λ names. refl)
 
--- what is true of each path in a list
+-- if all paths of the names are seen, so is the path of each name
 seen_at : (t part : Nodes) (d z : List ℕ) (names : List (List ℕ)) → AreSeen t part (map (join d) names) → is_in names z ≡ true → IsSeen t part (join d z)
 seen_at t part d z [] all h = absurd (cc)
 seen_at t part d z (name ∷ names) all h = by_test (bytes_eq z name)
@@ -137,7 +137,7 @@ module _ (t part : Nodes) (whole : IsWhole t) (is : IsPart t part) (test : List 
       let parts = and_parts (test z) (is_in (children_of a d) z) (sym (kept_in test z (children_of a d)) ∙ h) in
       kept_in test z (children_of b d) ∙ and_from _ _ parts.0 (moved h parts.1)
 
-  -- a directory was listed, and each of its names that the test passes was looked at
+  -- if a directory was listed and each of its names that pass the test was looked up, the names are those of the tree
   pub names_seen : AreSeen t part (listed test t d) → filter test (children_of part d) ≡ filter test (children_of t d)
   names_seen all =
       let same : kind_at part d ≡ kind_at t d = kind_seen t part whole is d all.0 in

@@ -18,7 +18,7 @@ use Rattle.image_tree.specs.declared.node.Node.{Node}
 found_here : (e : List ℕ × Node) (t : Nodes) → node_at (e ∷ t) e.0 ≡ Some e.1
 found_here e t = ap (λ r. cond (is_eq r) (Some e.1) (node_at t e.0)) (tied_itself path_total e.0)
 
--- what is found comes after what all come after
+-- if all keys of a list are greater than `p`, so is the key of a node that is found in it
 found_later : (p : List ℕ) (t : Nodes) (q : List ℕ) (n : Node) → AllByRecursion (λ k. path_cmp p k ≡ Less) (keys_of t) → node_at t q ≡ Some n → path_cmp p q ≡ Less
 found_later p [] q n all e = absurd (cc)
 found_later p (f ∷ t) q n all e = by_test (is_at (path_cmp q) f.0)

@@ -1,4 +1,4 @@
--- The paths that were looked at, and what is seen of a tree there.
+-- The paths that were looked up, and the part of the tree that was seen there.
 use Rattle.std.proofs.Common.{◌≡◌, ◌⊎◌, inl, inr, ◌≤◌, ℕ, Bool, true, false, cond, ◌&&◌, ◌||◌, not, fold, List, [], ◌∷◌, ◌++◌, refl, ap, sym, subst, ◌∙◌, Option, Some, None}
 use Rattle.std.proofs.Math.Bool.{or-true}
 use Rattle.std.proofs.lemmas.Bool.{and_from, and_parts, false≢true}
@@ -22,7 +22,7 @@ use Rattle.seen_tree.proofs.WithNode.{no_clash, others_seen, part_with, seen_her
 use Rattle.seen_tree.specs.Part.{AreSeen, IsPart, IsSeen}
 use Rattle.seen_tree.specs.Seen.{HasSeen, IsSeenOf, Seen, are_looked, is_looked, seen, with_found, with_path, with_paths}
 
--- ---- the paths that were looked at
+-- ---- the paths that were looked up
 
 itself : (x : List ℕ) → bytes_eq x x ≡ true
 itself x = (bytes_eq-Decides x x).1 refl
@@ -50,7 +50,7 @@ path_still p q looked h = by_test (is_path p)
     by : list_any (bytes_eq p) looked ≡ true → list_any (bytes_eq p) (with_path looked q) ≡ true
     by there = by_test (is_path q) (λ e. rw e (still_in p q looked there)) (λ e. rw e there)
 
--- a path that was looked at stays one
+-- a path that was looked up stays in the list
 pub still_looked : (p : List ℕ) (looked paths : List (List ℕ)) → is_looked looked p ≡ true → is_looked (with_paths looked paths) p ≡ true
 still_looked p looked [] h = h
 still_looked p looked (q ∷ paths) h = still_looked p (with_path looked q) paths (path_still p q looked h)
@@ -61,15 +61,15 @@ all_still looked paths (p ∷ asked) h =
     let parts = and_parts (is_looked looked p) (are_looked looked asked) h in
     and_from _ _ (still_looked p looked paths parts.0) (all_still looked paths asked parts.1)
 
--- those that are added are looked at
+-- the paths that are added are in the list
 pub all_looked : (looked paths : List (List ℕ)) → are_looked (with_paths looked paths) paths ≡ true
 all_looked looked [] = refl
 all_looked looked (p ∷ paths) = and_from _ _ (still_looked p (with_path looked p) paths (path_looked p looked)) (all_looked (with_path looked p) paths)
 
--- ---- what is seen there
+-- ---- the part of the tree that was seen
 
 module _ (t : Nodes) (s : Seen) (is : IsSeenOf t s) where
-  -- a text that is no path has no node
+  -- a text that isn't a valid path has no node
   nowhere : (q : List ℕ) → is_path q ≡ false → IsSeen t s.part q
   nowhere q h = by (node_at s.part q) refl (node_at t q) refl
     where
@@ -89,35 +89,35 @@ module _ (t : Nodes) (s : Seen) (is : IsSeenOf t s) where
       (λ e. seen_in q s.looked is.nodes (sym (ap (λ b. not b || list_any (bytes_eq q) s.looked) e) ∙ h))
       (λ e. nowhere q e)
 
-  -- the paths that were looked at are seen
+  -- at the paths that were looked up, the part agrees with the tree
   pub are_seen : (paths : List (List ℕ)) → are_looked s.looked paths ≡ true → AreSeen t s.part paths
   are_seen [] h = tt
   are_seen (q ∷ paths) h =
       let parts = and_parts (is_looked s.looked q) (are_looked s.looked paths) h in
       (looked_seen q parts.0, are_seen paths parts.1)
 
--- those for which a call asked are seen
+-- after a call, the part agrees with the tree at the call's paths
 pub now_seen : (t : Nodes) (old new : Seen) (paths : List (List ℕ)) → HasSeen t old new paths → AreSeen t new.part paths
 now_seen t old new paths has = are_seen t new has.known paths (ap (λ l. are_looked l paths) has.looked ∙ all_looked old.looked paths)
 
--- and those that were seen before
+-- after a call, the part still agrees with the tree at the paths that were looked up before
 pub still_seen : (t : Nodes) (old new : Seen) (paths asked : List (List ℕ)) → HasSeen t old new paths → are_looked old.looked asked ≡ true → AreSeen t new.part asked
 still_seen t old new paths asked has h = are_seen t new has.known asked (ap (λ l. are_looked l asked) has.looked ∙ all_still old.looked paths asked h)
 
--- of nothing nothing was seen
+-- an empty part is a part of each tree
 pub nothing_seen : (t : Nodes) → IsWhole t → IsSeenOf t (seen [] [])
 unfolding IsStrictlySortedBy
 nothing_seen t whole = record { whole = whole; part = record { sorted = tt; entries = refl; nodes = λ q n e. absurd (cc) }; nodes = tt }
 
 -- ---- one path
 
--- a text that is no path
+-- a text that isn't a valid path
 pub no_path : (known : Option FolderContent) (part : Nodes) (looked : List (List ℕ)) (q : List ℕ) → is_path q ≡ false
     → IfKnown known (λ c. IsSeenOf c.now (seen part looked) → HasSeen c.now (seen part looked) (seen part looked) (q ∷ []))
 no_path None part looked q h = tt
 no_path (Some c) part looked q h = λ is. record { known = is; looked = sym (ap (λ b. cond b (insert_key bytes_eq looked q) looked) h) }
 
--- a path that was looked at
+-- a path that was looked up before
 pub was_seen : (known : Option FolderContent) (part : Nodes) (looked : List (List ℕ)) (q : List ℕ) → list_any (bytes_eq q) looked ≡ true
     → IfKnown known (λ c. IsSeenOf c.now (seen part looked) → HasSeen c.now (seen part looked) (seen part looked) (q ∷ []))
 was_seen None part looked q h = tt
@@ -155,7 +155,7 @@ at_end t part q (x ∷ looked) all h = (all.0, at_end t part q looked all.1 h)
 with_key : (t part : Nodes) (q : List ℕ) (looked : List (List ℕ)) → AreSeen t part looked → IsSeen t part q → AreSeen t part (insert_key bytes_eq looked q)
 with_key t part q looked all h = by_test (list_any (bytes_eq q) looked) (λ e. rw e all) (λ e. rw e (at_end t part q looked all h))
 
--- a path is looked at
+-- a path is looked up
 pub path_seen : (known : Option FolderContent) (part new : Nodes) (looked after : List (List ℕ)) (q : List ℕ) (found : Option Node)
     → IfKnown known (λ c. found ≡ node_at c.now q) → is_path q ≡ true → new ≡ with_found part q found → after ≡ insert_key bytes_eq looked q
     → IfKnown known (λ c. IsSeenOf c.now (seen part looked) → HasSeen c.now (seen part looked) (seen new after) (q ∷ []))

@@ -1,4 +1,4 @@
--- A part has what it has seen of the tree, and a walk by paths that were seen is the tree's.
+-- At paths that were seen, the part agrees with the tree. A resolution that uses only such paths gives the same result in both.
 use Rattle.std.proofs.Common.{◌≡◌, ℕ, zero, suc, Bool, true, false, cond, List, [], ◌∷◌, ◌++◌, codes, refl, ap, sym, subst, ◌∙◌, Option, Some, None, Result, Ok, Err}
 use Rattle.std.specs.Str.{bytes_eq}
 use Rattle.lib_types.proofs.SortedPairs.{by_test}
@@ -30,13 +30,13 @@ seen_parts t part [] ys all = (tt, all)
 seen_parts t part (x ∷ xs) ys all = let more = seen_parts t part xs ys all.1 in ((all.0, more.0), more.1)
 
 module _ (t part : Nodes) (whole : IsWhole t) (is : IsPart t part) where
-  -- what lies below a path in the part lies below it in the tree
+  -- if the part has a node below a path, so has the tree
   pub below_too : (q : List ℕ) → has_below part q ≡ true → has_below t q ≡ true
   below_too q h =
       let one = any_found (λ (e : List ℕ × Node). is_below q e.0) part is.sorted h in
       found_any (λ (e : List ℕ × Node). is_below q e.0) t one.path one.node (is.nodes one.path one.node one.found) one.passes
 
-  -- what is at a path that was seen
+  -- at a path that was seen, the part and the tree have the same kind
   pub kind_seen : (q : List ℕ) → IsSeen t part q → kind_at part q ≡ kind_at t q
   kind_seen q seen = by_test (bytes_eq q root)
       (λ e. at_root part q e ∙ sym (at_root t q e))
@@ -60,7 +60,7 @@ module _ (t part : Nodes) (whole : IsWhole t) (is : IsPart t part) where
     child_seen name rest place path kinds.File here all more = (refl, refl)
     child_seen name rest place path kinds.Dir here all more = more all
 
-    -- a walk by paths that were seen
+    -- a walk that uses only paths that were seen
     pub steps_seen : (names : List (List ℕ)) (place : List ℕ) → AreSeen t part (passed t names place) → IsSame names place
     steps_seen [] place all = (refl, refl)
     steps_seen (name ∷ rest) place all =
@@ -95,7 +95,7 @@ module _ (t part : Nodes) (whole : IsWhole t) (is : IsPart t part) where
               ∙ ap (λ xs. passed t names place ++ xs) (ap (walked part mode links) first.0 ∙ more.1),
         )
 
-    -- a text leads to the same place by the same paths
+    -- a text resolves to the same path, and the same paths are looked up
     pub text_seen : (text : List ℕ) → AreSeen t part (looked_by t text mode)
         → (resolution part text mode ≡ resolution t text mode) × (looked_by part text mode ≡ looked_by t text mode)
     unfolding resolution looked_by
@@ -110,7 +110,7 @@ module _ (t part : Nodes) (whole : IsWhole t) (is : IsPart t part) where
     end_of_walk (suc links) (Follows names from) place all e =
         end_of_walk links (steps t mode names from) place (seen_parts t part (passed t names from) (walked t mode links (steps t mode names from)) all).1 e
 
-    -- the place to which a text leads was seen
+    -- the path that a text resolves to was seen
     pub end_seen : (text place : List ℕ) → AreSeen t part (looked_by t text mode) → resolution t text mode ≡ Ok place → IsSeen t part place
     unfolding resolution looked_by
     end_seen text place all e = end_of_walk (suc 40) (Follows (components text) root) place all e

@@ -1,4 +1,4 @@
--- A part with a node more, and a tree and its part both with a node more.
+-- Adding a node to a part, and adding a node to both a tree and its part.
 use Rattle.std.proofs.Common.{◌≡◌, ℕ, Bool, true, false, ◌&&◌, ◌||◌, not, List, refl, ap, sym, subst, ◌∙◌, Option, Some, None}
 use Rattle.std.proofs.lemmas.Bool.{and_parts, false≢true}
 use Rattle.std.proofs.lemmas.Slice.Eq.{bytes_eq-Decides}
@@ -43,7 +43,7 @@ module _ (t part : Nodes) (is : IsPart t part) (q : List ℕ) (n : Node) (at : n
         (λ f. is.nodes z m (sym (put_other q n z f part) ∙ e));
   }
 
-  -- it has room in the part
+  -- the node doesn't clash with the nodes of the part
   pub no_clash : IsWhole t → clashes part q n ≡ false
   no_clash whole = by_test (clashes part q n) (λ c. absurd (by (any_found (clash_with q n) part is.sorted c))) (λ c. c)
     where
@@ -65,7 +65,7 @@ module _ (t part : Nodes) (is : IsPart t part) (q : List ℕ) (n : Node) (at : n
           let dir = dir_above t whole q (path_of_found t q (Some n) whole.entries at refl) below in
           not_a_dir n (by_some (sym at ∙ dir)) parts.0)
 
--- ---- a node more in both
+-- ---- adding a node to both
 
 module _ (t : Nodes) (q : List ℕ) (n : Node) (part : Nodes) where
   pub seen_both : (z : List ℕ) → IsSeen t part z → IsSeen (tree.put t q n) (tree.put part q n) z

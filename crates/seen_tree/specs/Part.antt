@@ -1,4 +1,4 @@
--- A part of a tree, and the paths for which a walk asks (path_resolution(7)).
+-- A part of a tree, and the paths that a path resolution looks up (path_resolution(7)).
 use Rattle.std.specs.Prelude.{◌≡◌, ℕ, zero, suc, Bool, true, List, [], ◌∷◌, ◌++◌, if◌then◌else◌, codes, filter, map, Some, Result, Ok, Err}
 use Rattle.std.specs.List.{AllByRecursion, list_all}
 use Rattle.std.specs.Str.{bytes_eq}
@@ -12,49 +12,49 @@ use Rattle.path_walk.specs.Walk.{Stop, Ends, Follows, steps}
 use Rattle.path_walk.specs.declared.walk.Mode.{Mode}
 use Rattle.path_walk.specs.declared.walk.TheConstants.{LINKS_MAX}
 
--- each node of the part is one of the tree
+-- each node of the part is a node of the tree
 pub record IsPart (t part : Nodes) : Type 0 where
   pub sorted : IsPathSorted part
   pub entries : list_all is_entry part ≡ true
   pub nodes : (q : List ℕ) (n : Node) → node_at part q ≡ Some n → node_at t q ≡ Some n
 
--- the part has the tree's node at the path, or both have none
+-- at this path, the part and the tree have the same node or both have none
 abbrev pub IsSeen : Nodes → Nodes → List ℕ → Type 0
 IsSeen t part q = node_at part q ≡ node_at t q
 
 abbrev pub AreSeen : Nodes → Nodes → List (List ℕ) → Type 0
 AreSeen t part paths = AllByRecursion (IsSeen t part) paths
 
--- ---- the paths for which a walk asks
+-- ---- the paths that a path resolution looks up
 
--- only below a directory a walk goes on by further names
+-- the resolution continues with further names only below a directory
 abbrev pub below : Kind → List (List ℕ) → List (List ℕ)
 below kinds.Dir more = more
 below kinds.Absent more = []
 below kinds.File more = []
 below kinds.Link more = []
 
--- those of a walk by these names from a directory, up to the first link that is followed
+-- the paths that are looked up for these names, starting in a directory, up to the first link that is followed
 abbrev pub passed : Nodes → List (List ℕ) → List ℕ → List (List ℕ)
 passed t [] place = []
 passed t (name ∷ rest) place =
     if bytes_eq name (codes "..") then passed t rest (parent place) else
     join place name ∷ below (kind_at t (join place name)) (passed t rest (join place name))
 
--- those of a walk with at most so many further links, and its end
+-- the paths that are looked up while at most `links` more links are followed, and the resolved path
 abbrev pub walked : Nodes → Mode → ℕ → Stop → List (List ℕ)
 walked t mode links (Ends (Ok place)) = place ∷ []
 walked t mode links (Ends (Err fault)) = []
 walked t mode zero (Follows names place) = []
 walked t mode (suc links) (Follows names place) = passed t names place ++ walked t mode links (steps t mode names place)
 
--- those of the walk by a path text
+-- the paths that are looked up to resolve this text
 unfoldable pub looked_by : Nodes → List ℕ → Mode → List (List ℕ)
 looked_by t text mode = walked t mode (suc LINKS_MAX) (Follows (components text) root)
 
--- ---- the paths for which a listing asks
+-- ---- the paths that a listing looks up
 
--- a directory, and those of its names that a test passes
+-- a directory, and the paths of its names that pass a test
 abbrev pub listed : (List ℕ → Bool) → Nodes → List ℕ → List (List ℕ)
 listed test t dir = dir ∷ map (join dir) (filter test (children_of t dir))
 
@@ -64,6 +64,6 @@ if_dir kinds.Absent dir = []
 if_dir kinds.File dir = []
 if_dir kinds.Link dir = []
 
--- the directory itself, if it is one: nothing else is listed
+-- the directory itself, if the path is a directory: nothing else is listed
 abbrev pub dirs_at : Nodes → List ℕ → List (List ℕ)
 dirs_at t dir = if_dir (kind_at t dir) dir

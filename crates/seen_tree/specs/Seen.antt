@@ -1,4 +1,4 @@
--- What was seen of a directory: the paths that were looked at, and the nodes that were found (readdir(3), lstat(2)).
+-- The part of a directory that was seen: the paths that were looked up, and the nodes that were found (readdir(3), lstat(2)).
 use Rattle.std.specs.Prelude.{◌≡◌, ◌⊎◌, ◌≤◌, ℕ, Bool, List, [], ◌++◌, ◌||◌, not, if◌then◌else◌, fold, length, Option, Some, None}
 use Rattle.std.specs.List.{AllByRecursion, filter_map, list_all, list_any}
 use Rattle.std.specs.Map.{keys_of}
@@ -17,7 +17,7 @@ use Rattle.seen_tree.specs.Part.{AreSeen, IsPart}
 use Rattle.tree_face.specs.Follows.{IsFollowedBy}
 use Rattle.tree_face.specs.Known.{IfKnown, Relates}
 
--- the nodes that were found, and the paths that were looked at, each once
+-- the nodes that were found, and the paths that were looked up, each once
 pub record Seen : Type 0 where
   pub part : Nodes
   pub looked : List (List ℕ)
@@ -29,9 +29,9 @@ seen part looked = record { part = part; looked = looked }
 abbrev pub Lists : Type 0
 Lists = List (List ℕ × List (List ℕ))
 
--- ---- the paths that were looked at
+-- ---- the paths that were looked up
 
--- with a path more: the root, and a text that is no path, needs no look
+-- adds a path; the root, and a text that isn't a valid path, need not be looked up
 abbrev pub with_path : List (List ℕ) → List ℕ → List (List ℕ)
 with_path looked path = if is_path path then insert_key bytes_eq looked path else looked
 
@@ -44,22 +44,22 @@ is_looked looked path = not (is_path path) || list_any (bytes_eq path) looked
 abbrev pub are_looked : List (List ℕ) → List (List ℕ) → Bool
 are_looked looked paths = list_all (is_looked looked) paths
 
--- with these directories more
+-- adds these directories
 abbrev pub with_dirs : List (List ℕ) → List (List ℕ) → List (List ℕ)
 with_dirs dirs more = fold (insert_key bytes_eq) dirs more
 
--- no further path is looked at
+-- no further path is looked up
 abbrev pub IsFull : Seen → Type 0
 IsFull s = (NODES_MAX ≤ length s.looked) ⊎ (NODES_MAX ≤ length s.part)
 
--- with what was found at a path, unless it can't be there with the others
+-- adds the node that was found at a path, unless it clashes with the other nodes
 abbrev pub with_found : Nodes → List ℕ → Option Node → Nodes
 with_found t path (Some node) = if clashes t path node then t else put t path node
 with_found t path None = t
 
 -- ---- what is known of them
 
--- the part is one of the tree of a directory, and has its node at each path that was looked at
+-- the part is a part of a directory's tree, and agrees with the tree at each path that was looked up
 pub record IsSeenOf (t : Nodes) (s : Seen) : Type 0 where
   pub whole : IsWhole t
   pub part : IsPart t s.part
@@ -69,16 +69,16 @@ pub record IsSeenOf (t : Nodes) (s : Seen) : Type 0 where
 abbrev pub AreNamesOf : Nodes → Lists → Type 0
 AreNamesOf t lists = AllByRecursion (λ e. e.1 ≡ children_of t e.0) lists
 
--- exactly these paths were looked at too
+-- exactly these paths were looked up in addition
 pub record HasSeen (t : Nodes) (old new : Seen) (paths : List (List ℕ)) : Type 0 where
   pub known : IsSeenOf t new
   pub looked : new.looked ≡ with_paths old.looked paths
 
--- in a known folder
+-- the same, if the content of the directory is known
 abbrev pub Sees : FolderState → Seen → Seen → (Nodes → List (List ℕ)) → Type 0
 Sees folder old new paths = IfKnown folder.contents (λ c. IsSeenOf c.now old → HasSeen c.now old new (paths c.now))
 
--- exactly these directories were listed too
+-- exactly these directories were listed in addition
 pub record HasListed (t : Nodes) (old new : Lists) (dirs : List (List ℕ)) : Type 0 where
   pub names : AreNamesOf t new
   pub listed : keys_of new ≡ with_dirs (keys_of old) dirs
@@ -86,7 +86,7 @@ pub record HasListed (t : Nodes) (old new : Lists) (dirs : List (List ℕ)) : Ty
 abbrev pub ListsOf : FolderState → Lists → Lists → (Nodes → List (List ℕ)) → Type 0
 ListsOf folder old new dirs = IfKnown folder.contents (λ c. AreNamesOf c.now old → HasListed c.now old new (dirs c.now))
 
--- both
+-- exactly these paths were looked up and these directories were listed in addition, if the content is known
 abbrev pub SeesIn : FolderState → Seen → Seen → Lists → Lists → (Nodes → List (List ℕ)) → (Nodes → List (List ℕ)) → Type 0
 SeesIn folder old new before after paths dirs =
     IfKnown folder.contents (λ c. IsSeenOf c.now old → AreNamesOf c.now before → HasSeen c.now old new (paths c.now) × HasListed c.now before after (dirs c.now))
@@ -105,7 +105,7 @@ dir_of (calls.Look path) = None
 dir_of (calls.Link tag path target) = None
 dir_of (calls.Settle dir) = None
 
--- the paths that these calls looked at, and the directories that they listed
+-- the paths that these calls looked up, and the directories that they listed
 abbrev pub paths_of : List FolderCall → List (List ℕ)
 paths_of made = filter_map path_of made
 
@@ -118,14 +118,14 @@ pub record Makes (made : List FolderCall) (old new : FolderState) : Type 0 where
   pub looks : new.counts.looks ≡ raised old.counts.looks (length (paths_of made))
   pub lists : new.counts.lists ≡ raised old.counts.lists (length (dirs_of made))
 
--- each path that is new among those that were looked at was looked at by one call, and no directory was listed
+-- each new path was looked up by one call, and no directory was listed
 pub record LooksMore (before after : List (List ℕ)) (old new : FolderState) : Type 0 where
   pub made : List FolderCall
   pub looked : after ≡ before ++ paths_of made
   pub listed : dirs_of made ≡ []
   pub calls : Makes made old new
 
--- each directory that is new among those that were listed was listed by one call too
+-- each new path was looked up by one call, and each new directory was listed by one call
 pub record ListsMore (before after dirs dirs_after : List (List ℕ)) (old new : FolderState) : Type 0 where
   pub made : List FolderCall
   pub looked : after ≡ before ++ paths_of made

@@ -1,4 +1,4 @@
-//! Why a path or a directory wasn't seen.
+//! Why a path couldn't be looked up, or a directory not listed.
 ghost use Rattle.std.specs.Prelude.{◌≡◌};
 ghost use Rattle.root_tree.specs.ReadTree.{of_read};
 
@@ -6,7 +6,7 @@ use lib_types::Text;
 use root_folder::FolderRead;
 use root_tree::TreeRead;
 
-/// The fault of a call on this path.
+/// The error of a call on this path.
 pub(crate) fn fault_at(fault: FolderRead, at: Text) -> TreeRead
     ensures { result ≡ of_read fault at }
 {

@@ -1,4 +1,4 @@
-//! The part of a directory's tree that was looked at: each path is looked at once.
+//! The part of a directory's tree that was looked up. Each path is looked up once.
 #![tactic(auto)]
 
 mod fault;

@@ -1,4 +1,4 @@
-//! The paths that were looked at, and the nodes that were found.
+//! The paths that were looked up, and the nodes that were found.
 ghost use Rattle.std.specs.Prelude.{◌≡◌, ◌∷◌, [], ◌≤◌, IfErr, IfSome, IsErrOf, IsTrue, OnErr, OnOk, false, length, true};
 ghost use Rattle.std.specs.List.{list_any};
 ghost use Rattle.std.specs.Str.{bytes_eq};
@@ -20,8 +20,8 @@ use std::alloc::Global;
 use std::marker::Model;
 use tree_face::{Kind, NODES_MAX, Node, Tree, TreeFault, is_path};
 
-// Adds what was found at a path. A node that can't be there with the others is passed over: in a directory that doesn't
-// change there is none.
+// Adds what was found at a path. A node that clashes with the other nodes is skipped. This can only happen if the
+// directory changes while it is read.
 fn keep(tree: &mut Tree, path: &[u8], found: Option<Node>) -> Result<(), TreeRead>
     requires path { IsTrue (is_path path.now) }
     requires valid { IfSome found (λ node. IsTrue (is_node node)) }
@@ -48,7 +48,7 @@ fn add_path(looked: &mut IndexSet<Text>, path: Text) -> Result<(), NoMemory>
     Ok(())
 }
 
-// Adds a path, and what was found there.
+// Adds a path and the node that was found there.
 fn add(
     tree: &mut Tree,
     looked: &mut IndexSet<Text>,
@@ -67,7 +67,7 @@ fn add(
     keep(tree, path, found)
 }
 
-// Looks at a path that wasn't looked at.
+// Looks up a path for the first time.
 #[tactic(auto, using(crate::proofs::Calls::one_more))]
 fn look_new<F: Folder>(
     alloc: Global,
@@ -93,8 +93,8 @@ fn look_new<F: Folder>(
     }
 }
 
-/// The part of a directory's tree that was looked at: the paths, each of which was looked at once, and the nodes that were
-/// found there. Contracts see both.
+/// The part of a directory's tree that was looked up: the paths, each looked up once, and the nodes that were found there.
+/// Contracts see both.
 #[derive(Drop)]
 pub struct SeenPart {
     alloc: Global,
@@ -115,7 +115,7 @@ impl SeenPart {
     ghost use Rattle.path_walk.specs.Walk.{target_at};
     ghost use Rattle.seen_tree.specs.Seen.{IsFull};
 
-    /// Nothing was looked at. It keeps the allocator and takes no memory.
+    /// An empty part. Keeps the allocator and allocates no memory.
     pub fn new(alloc: Global) -> SeenPart
         ensures { result ≡ seen [] [] }
     {
@@ -138,21 +138,21 @@ impl SeenPart {
         &self.tree
     }
 
-    /// The nodes that were found, without taking memory.
+    /// The nodes that were found, without allocation.
     pub fn into_tree(self) -> Tree
         ensures { result ≡ self.part }
     {
         self.tree
     }
 
-    /// What is at the path, by the nodes that were found.
+    /// What is at the path, according to the nodes that were found.
     pub fn kind(&self, path: &[u8]) -> Kind
         ensures { result ≡ kind_at self.now.part path.now }
     {
         self.tree.kind(path)
     }
 
-    /// The text of the link at the path, if a link was found there, or else no bytes.
+    /// The target of the link at the path, or an empty text if no link was found there.
     pub(crate) fn target(&self, path: &[u8]) -> &[u8]
         ensures { result.now ≡ target_at self.now.part path.now }
     {
@@ -162,9 +162,9 @@ impl SeenPart {
         }
     }
 
-    /// Looks at a path, unless it was looked at. The root, and a text that is no path, needs no look.
+    /// Looks up a path, unless it was looked up before. The root, and a text that isn't a valid path, need not be looked up.
     ///
-    /// TooLarge comes if 2^20 paths were looked at. After an error what was seen may lack a node.
+    /// Returns TooLarge if 2^20 paths have been looked up. After an error the part may lack a node.
     #[tactic(auto, using(crate::proofs::Looked::no_path, crate::proofs::Looked::was_seen, crate::proofs::Calls::no_more, crate::proofs::Looked::full_by_paths, crate::proofs::Looked::full_by_nodes))]
     pub fn see<F: Folder>(&mut self, folder: &mut F, path: &[u8]) -> Result<(), TreeRead>
         ensures seen { OnOk result (Sees (F.state folder.old) self.old self.new (λ t. path.now ∷ [])) }

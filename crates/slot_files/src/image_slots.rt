@@ -1,4 +1,4 @@
-//! The slots of an image, of which the auxiliary cache may be outside of it.
+//! The files of an image's slots. The auxiliary cache may be outside the image.
 use crate::slot_files::{SlotFiles, Written};
 use device_rules::{RunId, SlotPaths};
 use image_folder::HeldFile;
@@ -9,7 +9,7 @@ use std::io::{self, Error};
 use std::rt::Runtime;
 use tree_face::{Slot, Tag};
 
-/// The files of an image's slots. The auxiliary cache may be a file of another folder.
+/// The files of an image's slots. The auxiliary cache may be in another directory.
 #[derive(Drop)]
 pub struct ImageSlots<R: Runtime> {
     image: SlotFiles<R>,
@@ -17,15 +17,16 @@ pub struct ImageSlots<R: Runtime> {
 }
 
 impl<R: Runtime> ImageSlots<R> {
-    /// The slots of the image in the folder `root`, at these paths in it.
-    pub fn new(rt: R, root: &str, run: RunId, paths: SlotPaths) -> Result<ImageSlots<R>, NoMemory> {
+    /// The slots of the image in the directory `root`, at these paths in it. The auxiliary cache is `aux` if it is given.
+    pub fn new(
+        rt: R,
+        root: &str,
+        run: RunId,
+        paths: SlotPaths,
+        aux: Option<SlotFiles<R>>,
+    ) -> Result<ImageSlots<R>, NoMemory> {
         let image = SlotFiles::new(rt, root, run, paths)?;
-        Ok(ImageSlots { image, aux: None })
-    }
-
-    /// From here on the auxiliary cache is this one.
-    pub fn set_aux(&mut self, aux: SlotFiles<R>) {
-        self.aux = Some(aux);
+        Ok(ImageSlots { image, aux })
     }
 
     /// The cache's file, below the root.
@@ -33,7 +34,7 @@ impl<R: Runtime> ImageSlots<R> {
         self.image.cache_file()
     }
 
-    /// What was replaced, and how many entries caches have.
+    /// What was replaced, and the entry counts of the caches.
     pub fn written(&self) -> Written {
         self.image.written()
     }
@@ -43,7 +44,7 @@ impl<R: Runtime> ImageSlots<R>
 where
     R::File: HeldFile,
 {
-    /// As of `SlotFiles`.
+    /// As `SlotFiles::read`.
     pub fn read(&mut self, alloc: Global, slot: Slot) -> io::Result<Option<Vec<u8>>> {
         match (&mut self.aux, slot) {
             (Some(aux), Slot::Aux) => aux.read(alloc, slot),
@@ -51,7 +52,15 @@ where
         }
     }
 
-    /// As of `SlotFiles`.
+    /// As `SlotFiles::require_place`.
+    pub fn require_place(&mut self, slot: Slot) -> io::Result<()> {
+        match (&mut self.aux, slot) {
+            (Some(aux), Slot::Aux) => aux.require_place(slot),
+            _ => self.image.require_place(slot),
+        }
+    }
+
+    /// As `SlotFiles::create`.
     pub fn create(&mut self, tag: Tag, slot: Slot) -> io::Result<()> {
         match (&mut self.aux, slot) {
             (Some(aux), Slot::Aux) => aux.create(tag, slot),
@@ -59,7 +68,7 @@ where
         }
     }
 
-    /// As of `SlotFiles`.
+    /// As `SlotFiles::append`.
     pub fn append(&mut self, tag: Tag, slot: Slot, bytes: &[u8]) -> io::Result<()> {
         match (&mut self.aux, slot) {
             (Some(aux), Slot::Aux) => aux.append(tag, slot, bytes),
@@ -67,7 +76,7 @@ where
         }
     }
 
-    /// As of `SlotFiles`.
+    /// As `SlotFiles::sync`.
     pub fn sync(&mut self, tag: Tag, slot: Slot) -> io::Result<()> {
         match (&mut self.aux, slot) {
             (Some(aux), Slot::Aux) => aux.sync(tag, slot),
@@ -75,7 +84,7 @@ where
         }
     }
 
-    /// As of `SlotFiles`.
+    /// As `SlotFiles::publish`.
     pub fn publish(&mut self, tag: Tag, slot: Slot) -> io::Result<()> {
         match (&mut self.aux, slot) {
             (Some(aux), Slot::Aux) => aux.publish(tag, slot),
@@ -83,7 +92,7 @@ where
         }
     }
 
-    /// As of `SlotFiles`.
+    /// As `SlotFiles::settle`.
     pub fn settle(&mut self, slot: Slot) -> io::Result<()> {
         match (&mut self.aux, slot) {
             (Some(aux), Slot::Aux) => aux.settle(slot),
@@ -96,7 +105,7 @@ impl<R: Runtime + Streams> ImageSlots<R>
 where
     R::File: HeldFile,
 {
-    /// As of `SlotFiles`, about the call of this slot that failed.
+    /// As `SlotFiles::fail`, about the call for this slot that failed.
     pub fn fail(&mut self, slot: Slot, call: &str, error: Error) {
         match (&mut self.aux, slot) {
             (Some(aux), Slot::Aux) => aux.fail(call, error),

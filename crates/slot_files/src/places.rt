@@ -1,8 +1,8 @@
-//! Which slots there are, and where their files are.
+//! The existing slots, and the paths of their files.
 use device_rules::SlotPaths;
 use tree_face::Slot;
 
-/// The files of an image's slots, or the file of the auxiliary cache alone.
+/// The files of an image's slots, or only the auxiliary cache file.
 #[derive(Drop)]
 pub enum Places {
     Image(SlotPaths),
@@ -19,7 +19,7 @@ impl Places {
         }
     }
 
-    /// A slot's file, below the folder.
+    /// The path of a slot's file, below the directory.
     pub fn file_of(&self, slot: Slot) -> &str {
         match self {
             Places::Image(paths) => paths.file_of(slot),
@@ -27,7 +27,7 @@ impl Places {
         }
     }
 
-    /// The folder of a slot's file, and its name there.
+    /// The directory of a slot's file, and its name.
     pub fn place_of(&self, slot: Slot) -> (&str, &str) {
         match self {
             Places::Image(paths) => paths.place_of(slot),

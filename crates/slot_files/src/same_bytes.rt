@@ -4,7 +4,7 @@ use std::os::unix::fs::FileExt;
 
 const WINDOW: usize = 4096;
 
-/// Whether two files of this length have the same bytes. They are read piece by piece, at offsets.
+/// Whether two files of this length have the same bytes. They are read piece by piece, with pread.
 pub fn have_same_bytes<F: FileExt>(one: &F, other: &F, length: u64) -> io::Result<bool> {
     let mut ones = [0u8; WINDOW];
     let mut others = [0u8; WINDOW];

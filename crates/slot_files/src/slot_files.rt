@@ -13,20 +13,20 @@ use image_folder::{HeldFile, ImageFolder, Missing, changed, open_file, read_whol
 use lib_types::NoMemory;
 use standard_streams::{Streams, file_limit};
 use std::alloc::{AllocError, Global};
-use std::fs::{OpenFile, Permissions};
+use std::fs::{Metadata, OpenFile, Permissions};
 use std::io::{self, Error, ErrorKind, Read, Write};
 use std::os::unix::fs::{FileExt, MetadataExt, PermissionsExt};
 use std::rt::Runtime;
 use tree_face::{Slot, Tag};
 
-/// What was replaced, and how many entries caches have.
+/// What was replaced, and the entry counts of the caches.
 #[derive(Clone, Copy, Debug, Default)]
 pub struct Written {
     pub manifest: bool,
     pub cache: bool,
-    /// The entries of the cache that was replaced, if there was one.
+    /// The entry count of the cache that was replaced, if there was one.
     pub entries_before: Option<u32>,
-    /// The entries of the cache that was written.
+    /// The entry count of the cache that was written.
     pub entries: Option<u32>,
     /// The length of the manifest that was read.
     pub manifest_length: Option<u64>,
@@ -44,28 +44,28 @@ impl Written {
 
 /// The files `image.mtree`, `etc/ld.so.cache` and `var/cache/ldconfig/aux-cache` of an image, or the cache at another path.
 ///
-/// A temporary file stands beside its slot's file. One is open at a time: it is made by `create`, and ends with its
-/// publishing, with a failure, or with the next `create`.
+/// A temporary file is in the directory of its slot's file. At most one is open: `create` makes it, and it ends when it is published, when
+/// a call fails, or with the next `create`.
 #[derive(Drop)]
 pub struct SlotFiles<R: Runtime> {
     image: ImageFolder<R>,
     places: Places,
     run: RunId,
     temporary: Option<Temporary<R>>,
-    // Which manifest was read, if it was: none if there was none.
+    // The stamp of the manifest that was read, if it was read: the inner None means that there was no manifest.
     manifest: Option<Option<Stamp>>,
-    // Whether what runs have left was removed.
+    // Whether temporary files that earlier runs left were removed.
     is_clean: bool,
     written: Written,
 }
 
 impl<R: Runtime> SlotFiles<R> {
-    /// The slots of the image in the folder `root`, at these paths in it.
+    /// The slots of the image in the directory `root`, at these paths in it.
     pub fn new(rt: R, root: &str, run: RunId, paths: SlotPaths) -> Result<SlotFiles<R>, NoMemory> {
         SlotFiles::at(rt, root, run, Places::Image(paths))
     }
 
-    /// The slot of the auxiliary cache alone, whose file has this name in the folder `root`.
+    /// Only the slot of the auxiliary cache, whose file has this name in the directory `root`.
     pub fn of_aux(rt: R, root: &str, run: RunId, name: String) -> Result<SlotFiles<R>, NoMemory> {
         SlotFiles::at(rt, root, run, Places::Aux(name))
     }
@@ -88,7 +88,7 @@ impl<R: Runtime> SlotFiles<R> {
         self.places.file_of(Slot::Cache)
     }
 
-    /// What was replaced, and how many entries caches have.
+    /// What was replaced, and the entry counts of the caches.
     pub fn written(&self) -> Written {
         self.written
     }
@@ -98,8 +98,8 @@ impl<R: Runtime> SlotFiles<R>
 where
     R::File: HeldFile,
 {
-    /// The bytes of a slot's file, none if there is no such file. Of a manifest that is too long they are so many that this
-    /// shows, and of what is no cache the first bytes alone.
+    /// The bytes of a slot's file, or None if there is no file. If a manifest is too long, only enough is read to show that. If a file is
+    /// not a cache, only its first bytes are read.
     pub fn read(&mut self, alloc: Global, slot: Slot) -> io::Result<Option<Vec<u8>>> {
         match self.open_slot(slot)? {
             Some((file, stamp)) => Ok(Some(read_slot(alloc, slot, file, stamp.size)?)),
@@ -122,7 +122,7 @@ where
         }
     }
 
-    // From here on this is the manifest that was read.
+    // From here on, this is the manifest that was read.
     fn note_read(&mut self, slot: Slot, found: Option<Stamp>) {
         if slot == Slot::Manifest {
             self.manifest = Some(found);
@@ -130,7 +130,18 @@ where
         }
     }
 
-    /// Makes an empty temporary file, and the folders that it needs.
+    /// Returns an error if it is known before writing that the slot's file can't be replaced: a directory is in its place, or another file
+    /// is in the place of its directory. A directory that is missing is made by `create`.
+    pub fn require_place(&mut self, slot: Slot) -> io::Result<()> {
+        let (folder, name) = self.places.place_of(slot);
+        match self.image.enter(folder, Missing::IsFault) {
+            Ok(()) => require_no_folder(self.image.look(name)),
+            Err(error) if error.kind() == ErrorKind::NotADirectory => Err(error),
+            Err(_) => Ok(()),
+        }
+    }
+
+    /// Makes an empty temporary file, and the directories that it needs.
     pub fn create(&mut self, tag: Tag, slot: Slot) -> io::Result<()> {
         self.discard();
         self.clean();
@@ -140,7 +151,7 @@ where
         self.begin(tag, slot, stood)
     }
 
-    // Makes an empty temporary file in the folder that was entered.
+    // Makes an empty temporary file in the directory that was entered.
     fn begin(&mut self, tag: Tag, slot: Slot, stood: Option<Standing>) -> io::Result<()> {
         let mode = mode_after(slot, stood);
         let (_, slot_name) = self.places.place_of(slot);
@@ -156,7 +167,7 @@ where
         done
     }
 
-    // What the slot's file hands on to its successor, if there is one.
+    // What the new file takes over from the slot's file, if there is one.
     fn what_stands(&mut self, slot: Slot) -> io::Result<Option<Standing>> {
         let (_, name) = self.places.place_of(slot);
         let found = self.image.look(name)?;
@@ -166,12 +177,12 @@ where
         Ok(found.and_then(|found| standing_of(&found)))
     }
 
-    // How many entries the cache has that stands where faults are about now.
+    // The entry count of the cache at the current path.
     fn entries_there(&self) -> Option<u32> {
         head_entries(&self.image.rt, self.image.path())
     }
 
-    // Removes what runs have left that are gone, once.
+    // Removes the temporary files of runs that have ended, once.
     fn clean(&mut self) {
         if !self.is_clean {
             self.is_clean = true;
@@ -218,7 +229,7 @@ where
         flush(&temporary.file, temporary.mode)
     }
 
-    /// Makes the temporary file the slot's.
+    /// Renames the temporary file to the slot's file.
     pub fn publish(&mut self, tag: Tag, slot: Slot) -> io::Result<()> {
         self.opened(tag, slot)?;
         if self.may_replace(slot)? {
@@ -230,8 +241,8 @@ where
         Ok(())
     }
 
-    // Whether the slot's file is to be replaced: not if another update has written the same bytes meanwhile. It is an error if the
-    // manifest is another than the one that was read: that one would be lost.
+    // Whether to replace the slot's file. It is not replaced if another update wrote the same bytes meanwhile. It is an error if the
+    // manifest is another than the one that was read, because that one would be lost.
     fn may_replace(&mut self, slot: Slot) -> io::Result<bool> {
         if slot != Slot::Manifest {
             return Ok(true);
@@ -248,7 +259,7 @@ where
         Ok(false)
     }
 
-    // Whether the file that stands there has the bytes of the temporary file.
+    // Whether the file at the current path has the bytes of the temporary file.
     fn has_new_bytes(&self) -> io::Result<bool> {
         match &self.temporary {
             Some(temporary) => has_bytes_of(&self.image.rt, self.image.path(), &temporary.file),
@@ -261,7 +272,7 @@ where
             let (_, name) = self.places.place_of(slot);
             rename_beside(&self.image, temporary.name.as_str(), name)?;
             if slot == Slot::Manifest {
-                // The renaming changes its stamp.
+                // Renaming changes the stamp.
                 self.manifest = stamp_in(&temporary.file);
             }
         }
@@ -269,7 +280,7 @@ where
         Ok(())
     }
 
-    /// Flushes the root and the folders on the way to a slot's file, some of which `create` may have made.
+    /// Flushes the root and the directories on the way to a slot's file, because `create` may have made some of them.
     pub fn settle(&mut self, slot: Slot) -> io::Result<()> {
         let (folder, _) = self.places.place_of(slot);
         self.image.enter(folder, Missing::IsFault)?;
@@ -290,14 +301,25 @@ impl<R: Runtime + Streams> SlotFiles<R>
 where
     R::File: HeldFile,
 {
-    /// Writes on the error output what call failed and why, and removes the temporary file that is open.
+    /// Writes on the error output which call failed and why, and removes the temporary file that is open.
     pub fn fail(&mut self, call: &str, error: Error) {
         self.image.write_error_line(call, error);
         self.discard();
     }
 }
 
-// A file that would become longer than this program may make one is an error, and no signal.
+// Returns an error if this is a directory. If it can't be looked at, a later call says why.
+fn require_no_folder(found: io::Result<Option<Metadata>>) -> io::Result<()> {
+    match found {
+        Ok(Some(found)) if found.is_dir() => Err(Error::new(
+            ErrorKind::IsADirectory,
+            "a directory in place of a regular file",
+        )),
+        _ => Ok(()),
+    }
+}
+
+// Returns an error if the file would become longer than this program may make one, so that no SIGXFSZ is raised.
 fn require_room<F: OpenFile>(file: &F, limit: Option<u64>, more: usize) -> io::Result<()> {
     if limit.is_none() || has_room(limit, file.metadata()?.len(), more) {
         Ok(())
@@ -306,7 +328,7 @@ fn require_room<F: OpenFile>(file: &F, limit: Option<u64>, more: usize) -> io::R
     }
 }
 
-// Writes bytes to a file, of which none may have more than the limit.
+// Writes bytes to a file, unless it would become longer than the limit.
 fn write_within<F: OpenFile + Write>(
     file: &mut F,
     limit: Option<u64>,
@@ -316,7 +338,7 @@ fn write_within<F: OpenFile + Write>(
     file.write_all(bytes)
 }
 
-// Flushes a file, which is whole and so gets its mode.
+// Sets the file's mode, because it is complete now, and flushes it.
 fn flush<F: OpenFile>(file: &F, mode: u32) -> io::Result<()> {
     if mode_until_whole(mode) != mode {
         file.set_permissions(Permissions::from_mode(mode))?;
@@ -324,7 +346,7 @@ fn flush<F: OpenFile>(file: &F, mode: u32) -> io::Result<()> {
     file.sync_all()
 }
 
-// From here on faults are about the file of this name in this folder.
+// From here on, faults are about the file of this name in this directory.
 fn go_to_file<R: Runtime>(image: &mut ImageFolder<R>, place: (&str, &str)) -> io::Result<()>
 where
     R::File: HeldFile,
@@ -335,7 +357,7 @@ where
     Ok(())
 }
 
-// Removes the file of this name in this folder.
+// Removes the file of this name in this directory.
 fn remove_in<R: Runtime>(image: &mut ImageFolder<R>, folder: &str, name: &str) -> io::Result<()>
 where
     R::File: HeldFile,
@@ -345,7 +367,7 @@ where
     image.rt.remove_file(path.as_str())
 }
 
-// Renames a file in the folder that was entered.
+// Renames a file in the directory that was entered.
 fn rename_beside<R: Runtime>(image: &ImageFolder<R>, from: &str, to: &str) -> io::Result<()> {
     let from = image.path_beside(from)?;
     rename_to(image, from.as_str(), to)
@@ -356,7 +378,7 @@ fn rename_to<R: Runtime>(image: &ImageFolder<R>, from: &str, to: &str) -> io::Re
     image.rt.rename(from, to.as_str())
 }
 
-// Which manifest an open file is, if that can be said.
+// The stamp of an open manifest, if it can be read.
 fn stamp_in<F: OpenFile>(file: &F) -> Option<Option<Stamp>> {
     match file.metadata() {
         Ok(found) => Some(Some(stamp_of(&found))),
@@ -379,7 +401,7 @@ fn owner_in(stood: Option<Standing>) -> Option<Owner> {
     }
 }
 
-// Gives a new file the owner of the one that stood in its place, if that can be done, and the mode that it has while it is written.
+// Gives a new file the owner of the file that it replaces, if possible, and the mode for the time while it is written.
 fn hand_over<F: OpenFile + HeldFile>(
     file: &F,
     stood: Option<Standing>,
@@ -392,7 +414,7 @@ fn hand_over<F: OpenFile + HeldFile>(
     file.set_permissions(Permissions::from_mode(mode_until_whole(mode)))
 }
 
-// Whether the file of a path has the bytes of this one.
+// Whether the file at a path has the bytes of this open file.
 fn has_bytes_of<R: Runtime>(rt: &R, path: &str, file: &R::File) -> io::Result<bool>
 where
     R::File: HeldFile,
@@ -407,7 +429,7 @@ where
     }
 }
 
-// The bytes that are read of a slot's file of this length.
+// The bytes to read of a slot's file of this length.
 fn read_slot<F: HeldFile + Read + Drop>(
     alloc: Global,
     slot: Slot,
@@ -424,7 +446,7 @@ fn read_slot<F: HeldFile + Read + Drop>(
     Ok(bytes)
 }
 
-// Whether a file of this length begins as a cache does.
+// Whether a file of this length begins like a cache.
 fn begins_cache<F: HeldFile>(file: &F, length: u64) -> io::Result<bool> {
     let mut head = [0u8; HEAD_SIZE];
     if length < HEAD_SIZE as u64 {
@@ -434,13 +456,13 @@ fn begins_cache<F: HeldFile>(file: &F, length: u64) -> io::Result<bool> {
     Ok(entries_in(&head).is_some())
 }
 
-// Why a slot's file isn't read.
+// Why a slot's file can't be read.
 fn too_large(alloc: Global, slot: Slot) -> Result<String, AllocError> {
     let most = largest(slot);
     format!(in alloc; "more than {most} bytes")
 }
 
-// How many entries the cache of a path has, if it says.
+// The entry count of the cache at a path, if its first bytes have one.
 fn head_entries<R: Runtime>(rt: &R, path: &str) -> Option<u32>
 where
     R::File: HeldFile,

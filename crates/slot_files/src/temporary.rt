@@ -1,6 +1,7 @@
-//! Temporary files that are one run's own.
+//! Temporary files that belong to one run.
 use device_rules::{
-    Identity, RunId, identity_of, is_missing, is_no_text, is_there, maker_of, temporary_path,
+    Identity, MOST_NAMES, RunId, identity_of, is_missing, is_no_text, is_there, maker_of,
+    temporary_path,
 };
 use image_folder::{HeldFile, ImageFolder, open_file};
 use std::fs::{self, DirEntry, OpenFile, OpenOptions, read_dir};
@@ -14,21 +15,18 @@ use tree_face::{Slot, Tag};
 pub struct Temporary<R: Runtime> {
     pub tag: Tag,
     pub slot: Slot,
-    /// Its name in the folder of the slot's file.
+    /// Its name in the directory of the slot's file.
     pub name: String<R::A>,
     pub file: R::File,
-    /// The mode that it has in the slot's place.
+    /// The mode that it gets when it is complete.
     pub mode: u32,
 }
 
-// So many names are tried, should one be taken.
-const MOST_NAMES: u64 = 100;
-
-// New files aren't writable for others, whatever mode they get in their slot's place.
+// While they are written, other users can't write new files, whatever mode they get at the end.
 const NEW_MODE: u32 = 0o644;
 
-/// Makes an empty temporary file for the slot's file of this name in the folder that was entered, with a lock by which other
-/// runs see that it is in use. Gives its name, too.
+/// Makes an empty temporary file for the slot's file of this name, in the directory that was entered. It has a lock, which shows other
+/// runs that it is in use. Returns its name, too.
 pub fn make_own<R: Runtime>(
     image: &ImageFolder<R>,
     slot_name: &str,
@@ -51,7 +49,7 @@ where
     Err(Error::new(ErrorKind::AlreadyExists, "its temporary files are taken"))
 }
 
-// Makes an empty file of this name with a lock, in the folder that was entered.
+// Makes an empty file of this name with a lock, in the directory that was entered.
 fn make_beside<R: Runtime>(image: &ImageFolder<R>, name: &str) -> io::Result<Option<R::File>>
 where
     R::File: HeldFile,
@@ -60,8 +58,7 @@ where
     make_locked(&image.rt, path.as_str())
 }
 
-// Makes an empty file with a lock. There is none if something has the path's name, or if a run has taken the file, before it
-// had its lock, for one that was left.
+// Makes an empty file with a lock. The result is None if the name is taken, or if another run took the unlocked file for a leftover.
 fn make_locked<R: Runtime>(rt: &R, path: &str) -> io::Result<Option<R::File>>
 where
     R::File: HeldFile,
@@ -84,13 +81,13 @@ where
     }
 }
 
-// Whether an open file stands at the path.
+// Whether the path still leads to this open file.
 fn stands_at<R: Runtime>(rt: &R, path: &str, file: &R::File) -> io::Result<bool> {
     let made = identity_of(&file.metadata()?);
     is_at(rt, path, made)
 }
 
-// Makes an empty file, which isn't there yet.
+// Creates an empty file. It is an error if it exists.
 fn make_file<R: Runtime>(rt: &R, path: &str) -> io::Result<R::File> {
     OpenOptions::new()
         .read(true)
@@ -100,7 +97,7 @@ fn make_file<R: Runtime>(rt: &R, path: &str) -> io::Result<R::File> {
         .open(rt, path)
 }
 
-// Whether this file stands at the path.
+// Whether the path leads to this file.
 fn is_at<R: Runtime>(rt: &R, path: &str, file: Identity) -> io::Result<bool> {
     match fs::symlink_metadata(rt, path) {
         Ok(found) => Ok(identity_of(&found) == file),
@@ -109,8 +106,8 @@ fn is_at<R: Runtime>(rt: &R, path: &str, file: Identity) -> io::Result<bool> {
     }
 }
 
-/// Removes the temporary files for the slot's file of this name which runs left that are gone, from the folder of this path.
-/// What can't be looked at or removed stays.
+/// Removes the temporary files for the slot's file of this name that runs left and that have no lock, from this directory. Files that
+/// can't be examined or removed stay.
 pub fn remove_left<R: Runtime>(rt: &R, folder: &str, slot_name: &str) -> io::Result<()>
 where
     R::File: HeldFile,
@@ -125,7 +122,7 @@ where
     Ok(())
 }
 
-// Removes what an entry of the folder names, if it is such a file.
+// Removes the file of a directory entry, if it is such a temporary file.
 fn remove_entry<R: Runtime>(rt: &R, entry: &DirEntry<R, R::A>, slot_name: &str)
 where
     R::File: HeldFile,
@@ -135,8 +132,8 @@ where
     }
 }
 
-// Removes a temporary file if no program has its lock. As long as this one has it, no other run removes the file, so that the
-// path can't become another file's.
+// Removes a temporary file if no program has its lock. While this program has the lock, no other run removes the file, so the path can't
+// become another file's.
 fn remove_if_left<R: Runtime>(rt: &R, path: &str) -> io::Result<()>
 where
     R::File: HeldFile,

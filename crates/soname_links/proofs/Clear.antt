@@ -96,7 +96,9 @@ module _ (first : Nodes) where
   clear_in_turn (planned ∷ plan) t room all =
       and_from _ _ (ap not all.0) (clear_in_turn plan (with_link t planned) room.1 (clear_later planned room.0 t plan room.1 all.1))
 
+-- the links for which a tree has room can be put one after another
+pub room_clear : (t : Nodes) → IsTree t → (plan : List Planned) → HaveRoom t plan → are_clear t plan ≡ true
+room_clear t tree plan room = clear_in_turn t plan t room (all_clear t tree plan room)
+
 pub links_clear : (what : Analyses) (t : Nodes) (places : List Place) → HaveNames what → IsTree t → are_dirs t places ≡ true → are_clear t (links what t places) ≡ true
-links_clear what t places named tree dirs =
-    let room = have_room what named t tree places dirs in
-    clear_in_turn t (links what t places) t room (all_clear t tree (links what t places) room)
+links_clear what t places named tree dirs = room_clear t tree (links what t places) (have_room what named t tree places dirs)

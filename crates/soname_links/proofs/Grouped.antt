@@ -25,7 +25,7 @@ all_groups es libraries s keys at =
     (λ k. ap (option_map (λ group. (k, group))) (at k)) (keys_of es)
     ∙ ap (filter_map (group_with libraries)) keys
 
--- what the libraries come to by their sonames
+-- the result of grouping the libraries by their sonames
 pub groups_gathered : (libraries : List Library) (items : List (List ℕ × Library)) (es : Grouped) → items ≡ keyed libraries → AreGathered with_library items es → es ≡ groups libraries
 groups_gathered libraries items es is gathered =
     let all : AreGathered with_library (keyed libraries) es = subst (λ xs. AreGathered with_library xs es) is gathered in

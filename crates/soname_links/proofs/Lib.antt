@@ -1,6 +1,6 @@
 mod Abis
-mod Clear
-mod Counted
+pub mod Clear
+pub mod Counted
 mod Grouped
 mod InStep
 mod Joined
@@ -10,12 +10,12 @@ pub mod Links
 pub mod Named
 mod NewPaths
 pub mod NoOtherFiles
-mod OneText
+pub mod OneText
 pub mod Put
 pub mod Rooms
 mod Settled
 mod Spots
-mod Stays
+pub mod Stays
 mod Summed
 pub mod Targets
 mod WantedRows

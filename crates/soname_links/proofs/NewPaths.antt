@@ -55,7 +55,7 @@ module _ (t : Nodes) where
       turned true = refl
       turned false = refl
 
-  -- the link at an index, and those behind it
+  -- the link at an index, and those after it
   count_at : (plan : List Planned) (i : ℕ) (planned : Planned) → i < length plan → planned ≡ get_or plan i planned
       → length (new_paths t (drop i plan)) ≡ one_if (is_last_new t planned (drop (i + 1) plan)) + length (new_paths t (drop (i + 1) plan))
   count_at plan i planned within is =

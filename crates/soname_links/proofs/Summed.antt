@@ -1,4 +1,4 @@
--- What the libraries of folders come to, for each place.
+-- The best libraries and the mixed sonames of each place, by its directory.
 use Rattle.std.proofs.Common.{◌≡◌, ℕ, List, [], ◌∷◌, map, refl, ap, ◌∙◌}
 use Rattle.hwcap_dirs.specs.declared.kinds.Place.{Place}
 use Rattle.image_tree.specs.Tree.{Nodes, IsTree}
@@ -18,7 +18,7 @@ made_twice : {X Y Z : Type 0} (f : Y → Z) (g : X → Y) (xs : List X) → map 
 made_twice f g [] = refl
 made_twice f g (x ∷ xs) = ap (λ zs. f (g x) ∷ zs) (made_twice f g xs)
 
--- as the table tells of the places' files and of no others
+-- if the table has the places' files and no others
 module _ (table : Rows) (places : List Place) (folders : List (List ℕ)) (rows : List ℕ) (have : HaveRows (reals places) folders rows)
     (libraries : List (List Library)) (found : libraries ≡ map (libraries_among table) folders)
     (t : Nodes) (tree : IsTree t) (are : AreOfPlaces t places table) where

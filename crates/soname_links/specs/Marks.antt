@@ -17,7 +17,7 @@ use Rattle.link_plan.specs.declared.kinds.Mark.{Mark}
 abbrev pub mark : ℕ → List ℕ → Mark
 mark number soname = record { place = number; soname = soname }
 
--- ---- blocked sonames: no link can be where one is wanted
+-- ---- blocked sonames: a link is wanted, but none can be created
 
 abbrev pub blocked_for : Nodes → ℕ → Place → Library → Option Mark
 blocked_for t number place best = if is_regarded best && is_blocked t (join place.real best.soname) then Some (mark number best.soname) else None
@@ -28,9 +28,9 @@ blocked_in what t number place = if has_no_cap place then filter_map (blocked_fo
 unfoldable pub blocked : Analyses → Nodes → List Place → List Mark
 blocked what t places = by_place (blocked_in what t) 0 places
 
--- ---- mixed sonames: libraries with this soname in one place have different ABIs
+-- ---- mixed sonames: libraries of one search directory have this soname, but different ABIs
 
--- it has another ABI than the best library of its soname
+-- its ABI differs from that of the best library with the same soname
 abbrev pub is_odd : Option Library → Library → Bool
 is_odd (Some best) library = not (nat_eq (flags_of best.abi) (flags_of library.abi))
 is_odd None library = false
@@ -38,7 +38,7 @@ is_odd None library = false
 abbrev pub odd_soname : Option Library → Library → Option (List ℕ)
 odd_soname best library = if is_odd best library then Some library.soname else None
 
--- the sonames of libraries with another ABI than the best ones of their sonames
+-- the sonames of the libraries whose ABI differs from that of the best library with the same soname
 abbrev pub mixed_among : List Library → List (List ℕ)
 mixed_among libraries = ascending (filter_map (λ library. odd_soname (best libraries library.soname) library) libraries)
 

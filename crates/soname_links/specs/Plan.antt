@@ -1,4 +1,4 @@
--- The links that are planned (ldconfig(8): a link of the soname's name to the library's file).
+-- The planned links. ldconfig(8) names a link by the soname and points it to the library's file.
 use Rattle.std.specs.Prelude.{ℕ, Bool, true, false, List, [], ◌&&◌, ◌||◌, not, nat_lt, if◌then◌else◌, length, fold, Option, Some, None}
 use Rattle.std.specs.List.{filter_map}
 use Rattle.hwcap_dirs.specs.declared.kinds.Place.{Place}
@@ -16,7 +16,7 @@ use Rattle.file_table.specs.Analyses.{Analyses}
 use Rattle.place_libraries.specs.Library.{Library}
 use Rattle.link_plan.specs.declared.kinds.Planned.{Planned}
 
--- the best library of its soname wants a link: the soname is a library name, and no file of that soname has it as its name
+-- the best library of a soname wants a link: the soname is a library name, and differs from the name of the library's file
 abbrev pub is_regarded : Library → Bool
 is_regarded best = is_library_name best.soname && not (is_own best)
 
@@ -27,11 +27,11 @@ is_taken kinds.Dir = true
 is_taken kinds.Absent = false
 is_taken kinds.Link = false
 
--- no link can be at this path
+-- no link can be created at this path
 abbrev pub is_blocked : Nodes → List ℕ → Bool
 is_blocked t path = nat_lt PATH_MAX (length path) || is_taken (kind_at t path)
 
--- the link for the best library of a soname, if it isn't there and isn't blocked
+-- the link for the best library with a soname, unless the link exists or its path is blocked
 abbrev pub link_for : Nodes → ℕ → Place → Library → Option Planned
 link_for t number place best =
     if is_regarded best && not (is_blocked t (join place.real best.soname) || links_to t (join place.real best.soname) best.name)
@@ -41,7 +41,7 @@ link_for t number place best =
 abbrev pub links_in : Analyses → Nodes → ℕ → Place → List Planned
 links_in what t number place = if has_no_cap place then filter_map (link_for t number place) (bests (libraries_in what t place)) else []
 
--- The links that are planned, by place and then by the bytes of the sonames.
+-- The planned links, ordered by search directory and then by the bytes of their sonames.
 unfoldable pub links : Analyses → Nodes → List Place → List Planned
 links what t places = by_place (links_in what t) 0 places
 

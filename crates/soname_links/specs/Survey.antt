@@ -1,4 +1,4 @@
--- What private functions say of a place's libraries by their sonames, and of what each soname gives.
+-- What private functions compute: the libraries of a search directory grouped by soname, and the links and marks of each soname.
 use Rattle.std.specs.Prelude.{ℕ, ◌+◌, false, List, [], ◌∷◌, ◌++◌, ◌||◌, if◌then◌else◌, filter, fold, map, Option, Some, None}
 use Rattle.std.specs.List.{filter_map}
 use Rattle.std.specs.Option.{option_map}
@@ -22,7 +22,7 @@ use Rattle.soname_links.specs.declared.surveying.Spot.TheVariants.{Blocked, Link
 
 -- ---- the libraries of one soname
 
--- with a library more, which is compared with the best one so far
+-- adds a library, which is compared with the best one so far
 abbrev pub grown : Group → Library → Group
 grown group library = record {
   best = if is_preferred library group.best then library else group.best;
@@ -43,23 +43,23 @@ group_at libraries soname = fold with_library None (filter (has_soname soname) l
 abbrev pub group_with : List Library → List ℕ → Option (List ℕ × Group)
 group_with libraries soname = option_map (λ group. (soname, group)) (group_at libraries soname)
 
--- the libraries of each soname, by the bytes of the sonames
+-- the libraries of each soname, ordered by the bytes of the sonames
 abbrev pub groups : List Library → List (List ℕ × Group)
 groups libraries = filter_map (group_with libraries) (sonames libraries)
 
--- ---- what a soname gives
+-- ---- the links and marks of a soname
 
--- what is at the path of a wanted link to this file
+-- what is at the path where a link to this file is wanted
 abbrev pub spot_at : Nodes → List ℕ → List ℕ → Spot
 spot_at t path file = if is_blocked t path then Blocked else (if links_to t path file then Linked else Free)
 
--- the same by the node that is there
+-- the same, given the node at the path
 abbrev pub spot_by : List ℕ → Node → Spot
 spot_by file (nodes.Link target) = if bytes_eq target file then Linked else Free
 spot_by file nodes.Dir = Blocked
 spot_by file (nodes.File key id) = Blocked
 
--- the links of a place, given the best libraries of its folder
+-- the links of a search directory, given the best libraries in it
 abbrev pub links_by : Nodes → ℕ → Place → List Library → List Planned
 links_by t number place bests = if has_no_cap place then filter_map (link_for t number place) bests else []
 
@@ -69,26 +69,26 @@ blocked_by t number place bests = if has_no_cap place then filter_map (blocked_f
 abbrev pub mixed_soname : List ℕ × Group → Option (List ℕ)
 mixed_soname e = if e.1.mixed then Some e.0 else None
 
--- ---- what folders give
+-- ---- the libraries of a directory
 
--- the best libraries of a folder, and the mixed sonames there
+-- the best libraries of a directory, and the sonames that have different ABIs there
 abbrev pub bests_at : Analyses → Nodes → List ℕ → List Library
 bests_at what t folder = bests (libraries_at what t folder)
 
 abbrev pub mixed_at : Analyses → Nodes → List ℕ → List (List ℕ)
 mixed_at what t folder = mixed_among (libraries_at what t folder)
 
--- the mixed sonames of a place
+-- the sonames that have different ABIs in a search directory
 abbrev pub mixed_sonames : Analyses → Nodes → Place → List (List ℕ)
 mixed_sonames what t place = mixed_at what t place.real
 
--- ---- what the places give
+-- ---- the marks of the search directories
 
--- the marks of a place, given its mixed sonames
+-- the marks of a search directory, given its sonames with different ABIs
 abbrev pub mixed_by : ℕ → Place → List (List ℕ) → List Mark
 mixed_by number place sonames = map (mark number) sonames
 
--- what each place gives by its number and its item, in their order
+-- the results for each search directory, computed from its number and its item, in order
 abbrev pub by_place_with : {X A : Type 0} → (ℕ → Place → X → List A) → ℕ → List Place → List X → List A
 by_place_with gives number [] items = []
 by_place_with gives number (place ∷ places) [] = []

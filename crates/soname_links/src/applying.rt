@@ -1,4 +1,4 @@
-//! The tree with the links that are planned.
+//! The tree with the planned links.
 ghost use Rattle.std.specs.Prelude.{◌≡◌, ◌≤◌, false, All, IfErr, IfOk, IsTrue, OnErr, OnOk, length};
 ghost use Rattle.std.specs.List.{filter_map, list_any};
 ghost use Rattle.std.specs.Option.{option_copied};
@@ -28,7 +28,7 @@ fn new_path<'a>(tree: &Tree, planned: &'a Planned) -> Option<&'a Text>
     Some(&planned.path)
 }
 
-// How many of the links are at such paths.
+// The number of links whose path isn't in the tree. Repeated paths count each time.
 fn count_new(tree: &Tree, plan: &[Planned]) -> usize
     ensures count { result ≡ length (filter_map (new_path tree.now) plan.now) }
     ensures few { result ≤ length plan.now }
@@ -42,7 +42,7 @@ fn count_new(tree: &Tree, plan: &[Planned]) -> usize
     count
 }
 
-// The paths at which the tree gets a node.
+// The paths at which the plan adds a node, each once.
 fn new_paths(alloc: Global, tree: &Tree, plan: &[Planned]) -> Result<Texts, NoMemory>
     ensures { IfOk result (λ paths. paths ≡ new_paths tree.now plan.now) }
 {
@@ -55,7 +55,7 @@ fn new_paths(alloc: Global, tree: &Tree, plan: &[Planned]) -> Result<Texts, NoMe
     ascending(paths)
 }
 
-// Whether one of the links has this path.
+// Whether one of the links is at this path.
 fn has_path(plan: &[Planned], path: &[u8]) -> bool
     ensures { result ≡ list_any (is_at_path path.now) plan.now }
 {
@@ -67,14 +67,14 @@ fn has_path(plan: &[Planned], path: &[u8]) -> bool
     false
 }
 
-// Whether the link is the last one at a path where the tree has no node.
+// Whether the tree has no node at the link's path and no later link has the same path.
 fn is_last_new(tree: &Tree, planned: &Planned, later: &[Planned]) -> bool
     ensures { result ≡ is_last_new tree.now planned.now later.now }
 {
     new_path(tree, planned).is_some() && !has_path(later, planned.path.as_bytes())
 }
 
-// How many paths those are, compared one with another. It takes no memory.
+// Counts the different new paths by comparing each with the later ones. It allocates no memory.
 fn count_compared(tree: &Tree, plan: &[Planned]) -> usize
     ensures { result ≡ length (new_paths tree.now plan.now) }
 {
@@ -87,7 +87,7 @@ fn count_compared(tree: &Tree, plan: &[Planned]) -> usize
     count
 }
 
-// The same, sorted if there is memory.
+// Counts the different new paths. It sorts them if memory allows, and compares them pairwise otherwise.
 fn count_paths(alloc: Global, tree: &Tree, plan: &[Planned]) -> usize
     ensures { result ≡ length (new_paths tree.now plan.now) }
 {
@@ -97,8 +97,8 @@ fn count_paths(alloc: Global, tree: &Tree, plan: &[Planned]) -> usize
     }
 }
 
-// The number of nodes of the tree with the links, if it is more than a tree may have. Links for which there is room at any rate need no
-// look at the tree, and few new paths no comparison with one another.
+// The number of nodes that the tree would have, if it exceeds the maximum. If the plan fits even when all its paths are new, the
+// tree isn't searched. If the new paths fit even when each link counts, they aren't compared.
 #[tactic(auto, using(crate::proofs::NewPaths::few_links, crate::proofs::NewPaths::few_paths))]
 fn too_many(alloc: Global, tree: &Tree, plan: &[Planned]) -> Option<u64>
     ensures { result ≡ too_many tree.now plan.now }
@@ -117,7 +117,7 @@ fn too_many(alloc: Global, tree: &Tree, plan: &[Planned]) -> Option<u64>
     Some(nodes as u64)
 }
 
-// Puts a link. One that would clash is answered with NoMemory as well.
+// Puts a link. If it would clash, the result is NoMemory too.
 #[tactic(auto, using(crate::proofs::Targets::name_is_target))]
 fn put_link(alloc: Global, tree: &mut Tree, planned: &Planned) -> Result<(), NoMemory>
     requires path { IsTrue (is_path planned.now.path) }
@@ -133,7 +133,7 @@ fn put_link(alloc: Global, tree: &mut Tree, planned: &Planned) -> Result<(), NoM
     }
 }
 
-// Puts the links one after another.
+// Puts the links in order.
 fn put_links(alloc: Global, tree: &mut Tree, plan: &[Planned]) -> Result<(), NoMemory>
     requires paths { All (λ planned. IsTrue (is_path planned.path)) plan.now }
     requires files { All (λ planned. IsTrue (is_name planned.file)) plan.now }
@@ -153,7 +153,7 @@ fn is_link(planned: &Planned) -> bool
     is_path(planned.path.as_bytes()) && is_name(planned.file.as_bytes())
 }
 
-/// Whether the links of a plan have paths, and names of files as their texts.
+/// Whether each link of a plan has a valid path, and the name of a file as its target.
 pub fn is_plan(plan: &Plan) -> bool
     ensures { result ≡ is_plan plan.now }
 {
@@ -167,9 +167,9 @@ pub fn is_plan(plan: &Plan) -> bool
 
 /// Puts the links of a plan into the tree.
 ///
-/// A plan that was made for this tree has links only where there is a link or nothing, in its directories. Once they are put,
-/// a plan for the same places and analyses has none. Where a link would clash it returns NoMemory as well; no link of a plan
-/// that was made for this tree does. Too many nodes are TooLarge even if memory is out.
+/// A plan that was made for this tree has links only in the tree's directories, where the tree has a link or nothing. After
+/// the links are put, a plan for the same search directories and analyses is empty. If a link would clash, the result is NoMemory
+/// too; links of a plan for this tree never clash. If the tree would have too many nodes, the result is TooLarge even if memory is out.
 #[tactic(auto, using(crate::proofs::Counted::nodes_counted, crate::proofs::Targets::paths_of, crate::proofs::Targets::files_of))]
 pub fn apply(alloc: Global, tree: &mut Tree, plan: &Plan) -> Result<(), ApplyFault>
     requires { IsTrue (is_plan plan.now) }

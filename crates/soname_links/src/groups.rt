@@ -1,4 +1,4 @@
-//! The libraries of a folder by their sonames.
+//! The libraries of a directory, grouped by soname.
 ghost use Rattle.std.specs.Prelude.{◌≡◌, Some, IfOk};
 ghost use Rattle.soname_links.specs.Marks.{is_odd};
 ghost use Rattle.soname_links.specs.Survey.{groups, keyed, with_library};
@@ -7,7 +7,7 @@ use lib_types::{NoMemory, Seq};
 use place_libraries::{BySoname, Gather, Library, gather_by_soname, is_preferred};
 use std::alloc::Global;
 
-/// The libraries of one soname.
+/// The libraries that have one soname.
 #[derive(Drop)]
 pub(crate) struct Group<'a> {
     pub(crate) best: Library<'a>,
@@ -15,17 +15,17 @@ pub(crate) struct Group<'a> {
     pub(crate) mixed: bool,
 }
 
-/// The libraries of each soname, by the bytes of the sonames.
+/// The libraries of each soname, ordered by the bytes of the sonames.
 pub(crate) type Groups<'a> = Vec<BySoname<'a, Group<'a>>>;
 
-// Whether a library has another ABI than the best one.
+// Whether a library's ABI differs from that of the best one.
 fn is_odd(best: &Library<'_>, library: &Library<'_>) -> bool
     ensures { result ≡ is_odd (Some best.now) library.now }
 {
     best.abi.flags() != library.abi.flags()
 }
 
-// All libraries of a soname have one ABI if each has that of the best one before it, so no other is kept.
+// Only the best library is kept. The ABIs are all equal exactly if each library has the ABI of the best one before it.
 impl<'a> Gather<Library<'a>> for Group<'a> {
     ghost step = { with_library };
 
@@ -60,7 +60,7 @@ fn by_sonames<'a>(
     Ok(items)
 }
 
-/// The libraries of a folder by their sonames.
+/// Groups the libraries of a directory by soname.
 pub(crate) fn groups_in<'a>(
     alloc: Global,
     libraries: Seq<Library<'a>>,

@@ -1,4 +1,4 @@
-//! What is planned for an image, and what is reported of its sonames.
+//! The links planned for an image, and the sonames to report.
 ghost use Rattle.std.specs.Prelude.{◌≡◌};
 
 pub use cache_entries::EntryFault;
@@ -6,22 +6,22 @@ use lib_types::NoMemory;
 use link_plan::{Marks, Plan};
 use place_libraries::PlaceBests;
 
-/// What is planned and what is reported of an image's places.
+/// The links planned for an image's search directories, and the sonames to report.
 #[derive(Drop)]
 pub struct Survey {
     pub plan: Plan,
-    /// The sonames for which a link is wanted where none can be.
+    /// The sonames for which a link is wanted, but can't be created.
     pub blocked: Marks,
-    /// The sonames of which a place has libraries with different ABIs.
+    /// The sonames that have different ABIs in one search directory.
     pub mixed: Marks,
-    /// The best library of each soname of each place.
+    /// The best library of each soname in each search directory.
     pub bests: PlaceBests,
 }
 
-/// Why links weren't all put into a tree.
+/// Why not all links were put into a tree.
 #[derive(Clone, Copy, Debug, PartialEq, Eq)]
 pub enum ApplyFault {
-    /// The tree would have more nodes than a tree may have.
+    /// The tree would have too many nodes.
     TooLarge { nodes: u64 },
     NoMemory,
 }

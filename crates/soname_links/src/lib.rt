@@ -1,4 +1,4 @@
-//! The links that are planned for an image, and what is reported of its sonames.
+//! The links planned for an image, and the sonames to report.
 #![tactic(auto)]
 
 mod applying;

@@ -1,4 +1,4 @@
-//! The links that are planned.
+//! The planned links.
 ghost use Rattle.std.specs.Prelude.{◌≡◌, IfOk, IsTrue};
 ghost use Rattle.hwcap_dirs.specs.Places.{are_dirs};
 ghost use Rattle.soname_links.specs.Apply.{are_clear, is_plan};
@@ -15,8 +15,8 @@ use link_plan::Plan;
 use std::alloc::Global;
 use tree_face::Tree;
 
-/// The links that are planned, by place and then by the bytes of the sonames. They can be put into the tree one
-/// after another if the places are directories of it: none of them clashes.
+/// The planned links, ordered by search directory and then by the bytes of their sonames. If the search directories are
+/// directories of the tree, no link clashes when they are put in this order.
 #[tactic(auto, using(crate::proofs::NoOtherFiles::links_agree))]
 pub fn plan(alloc: Global, tree: &Tree, dirs: &Dirs, table: &Table) -> Result<Plan, NoMemory>
     ensures links { IfOk result (λ plan. plan ≡ links (analysis_at table.now) tree.now dirs.now.places) }

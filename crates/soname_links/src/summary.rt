@@ -1,4 +1,4 @@
-//! What the libraries of folders come to.
+//! The best libraries of each directory, and its sonames with different ABIs.
 ghost use Rattle.std.specs.Prelude.{◌≡◌, ◌∷◌, [], ◌++◌, IfOk, OnOk, map};
 ghost use Rattle.std.specs.List.{filter_map};
 ghost use Rattle.place_libraries.specs.Best.{bests, bests_of};
@@ -17,7 +17,7 @@ use std::alloc::Global;
 use string_pool::Shared;
 use tree_face::Tree;
 
-// The libraries of a folder, by the bytes of their sonames.
+// A summary of one directory's libraries, ordered by the bytes of their sonames.
 #[derive(Drop)]
 struct Summary {
     /// The best library of each soname.
@@ -26,14 +26,14 @@ struct Summary {
     mixed: Texts,
 }
 
-// The libraries of each of some folders.
+// The summaries of several directories.
 #[derive(Drop)]
 struct Summaries {
     bests: Vec<BestLibraries>,
     mixed: Vec<Texts>,
 }
 
-/// The libraries of each of the places.
+/// The summaries of all search directories.
 #[derive(Drop)]
 pub(crate) struct PlaceSummaries {
     pub(crate) bests: PlaceBests,
@@ -54,7 +54,7 @@ fn add_mixed(
     Ok(())
 }
 
-// What the libraries of a folder come to.
+// Summarizes the libraries of one directory.
 #[tactic(auto, using(crate::proofs::Grouped::bests_given, crate::proofs::Abis::mixed_given))]
 fn summary_of(alloc: Global, libraries: Seq<Library<'_>>) -> Result<Summary, NoMemory>
     ensures bests { IfOk result (λ found. found.bests ≡ bests libraries.entry) }
@@ -70,7 +70,7 @@ fn summary_of(alloc: Global, libraries: Seq<Library<'_>>) -> Result<Summary, NoM
     Ok(Summary { bests, mixed })
 }
 
-// What the libraries of each of some folders come to.
+// Summarizes the libraries of each directory.
 fn summaries_of(alloc: Global, libraries: Vec<Seq<Library<'_>>>) -> Result<Summaries, NoMemory>
     ensures bests { IfOk result (λ found. found.bests.items ≡ map bests libraries.entry.items) }
     ensures mixed { IfOk result (λ found. found.mixed.items ≡ map mixed_among libraries.entry.items) }
@@ -87,7 +87,7 @@ fn summaries_of(alloc: Global, libraries: Vec<Seq<Library<'_>>>) -> Result<Summa
     Ok(found)
 }
 
-/// What the libraries of each of the places come to. The table is gone through once for the libraries of all folders.
+/// Summarizes the libraries of each search directory. It goes through the table once for all directories.
 pub(crate) fn place_summaries(
     alloc: Global,
     tree: &Tree,

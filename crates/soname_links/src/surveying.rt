@@ -1,4 +1,4 @@
-//! What is planned and what is reported of the places.
+//! The links planned for the search directories, and the sonames to report.
 ghost use Rattle.std.specs.Prelude.{◌≡◌, ◌∷◌, ◌++◌, [], IfOk, IsTrue, OnOk, length, map};
 ghost use Rattle.std.specs.List.{filter_map};
 ghost use Rattle.hwcap_dirs.specs.Places.{are_dirs};
@@ -25,18 +25,18 @@ use std::alloc::Global;
 use string_pool::Shared;
 use tree_face::{Kind, Node, PATH_MAX, Tree};
 
-// What is at the path of a link that is wanted.
+// What is at the path of a wanted link.
 #[derive(Clone, Copy)]
 enum Spot {
-    /// No link can be there.
+    /// No link can be created there.
     Blocked,
-    /// The link is there.
+    /// The wanted link is there.
     Linked,
-    /// Nothing is there, or a link with another text.
+    /// Nothing is there, or a link with another target.
     Free,
 }
 
-// What is planned for places, and what is reported of them.
+// The links planned for search directories, and the sonames to report.
 #[derive(Drop)]
 struct Marked {
     plan: Plan,
@@ -44,14 +44,14 @@ struct Marked {
     mixed: Marks,
 }
 
-// A place with its number.
+// A search directory with its number.
 #[derive(Drop)]
 struct Numbered<'a> {
     number: u32,
     place: &'a Place,
 }
 
-// Whether the best library of its soname wants a link.
+// Whether the best library with its soname wants a link.
 fn is_regarded(best: &Library<'_>) -> bool
     ensures { result ≡ is_regarded best.now }
 {
@@ -82,7 +82,7 @@ fn spot_by(node: &Node, file: &[u8]) -> Spot
     }
 }
 
-// What is at the path of a link to this file. Only a path without a node is looked up again: it may be a directory.
+// What is at the path of a link to this file. A path without a node is looked up again, because it may be a directory.
 #[tactic(auto, using(crate::proofs::Spots::spot_long, crate::proofs::Spots::spot_of_node, crate::proofs::Spots::spot_without))]
 fn spot_at(tree: &Tree, path: &[u8], file: &[u8]) -> Spot
     ensures { result ≡ spot_at tree.now path.now file.now }
@@ -125,7 +125,7 @@ fn planned(alloc: Global, number: u32, best: &Library<'_>, path: &[u8]) -> Resul
     })
 }
 
-// Adds the link or the mark for the best library of a soname, if it wants a link that isn't there. The path is room for the link's.
+// Adds the link or the mark for the best library with a soname, if it wants a link that is missing. `path` is a buffer for its path.
 fn add_wanted(
     alloc: Global,
     tree: &Tree,
@@ -150,7 +150,7 @@ fn add_wanted(
     Ok(())
 }
 
-// Adds the links and the marks for the best libraries of a place, by their sonames.
+// Adds the links and the marks for the best libraries of a search directory, in the order of their sonames.
 fn add_links(
     alloc: Global,
     tree: &Tree,
@@ -184,7 +184,7 @@ fn add_marks(
     Ok(())
 }
 
-// Adds what a place gives, by the best libraries of its folder and the mixed sonames there.
+// Adds the links and marks of a search directory, given its best libraries and its sonames with different ABIs.
 fn add_place(
     alloc: Global,
     tree: &Tree,
@@ -204,7 +204,7 @@ fn add_place(
     Ok(())
 }
 
-// What one place after the other gives, by the best libraries and the mixed sonames of each.
+// The links and marks of all search directories, given the best libraries and the sonames with different ABIs of each.
 fn marked_by(
     alloc: Global,
     tree: &Tree,
@@ -233,7 +233,7 @@ fn marked_by(
     Ok(found)
 }
 
-// What is planned and what is reported of the places, with their best libraries.
+// The planned links, the sonames to report and the best libraries of all search directories.
 #[tactic(auto, unfolding(place_libraries::specs::Best::bests_of))]
 fn surveyed(alloc: Global, tree: &Tree, dirs: &Dirs, table: &Table) -> Result<Survey, NoMemory>
     requires rows { AreOfPlaces tree.now dirs.now.places table.now }
@@ -252,9 +252,9 @@ fn surveyed(alloc: Global, tree: &Tree, dirs: &Dirs, table: &Table) -> Result<Su
     })
 }
 
-/// What is planned and what is reported of the places, by a table of the files with library names there and of no others. A folder
-/// that is many places is looked at once. The links can be put into the tree one after another if the places are directories of it:
-/// none of them clashes.
+/// The links planned for the search directories, the sonames to report and the best libraries. The table must have only files with
+/// library names in these directories. A directory that occurs several times is examined once. If the search directories are
+/// directories of the tree, no link clashes when the links are put in order.
 #[tactic(auto, using(crate::proofs::Named::links_named, crate::proofs::Clear::links_clear))]
 pub fn survey(alloc: Global, tree: &Tree, dirs: &Dirs, table: &Table) -> Result<Survey, NoMemory>
     requires rows { AreOfPlaces tree.now dirs.now.places table.now }

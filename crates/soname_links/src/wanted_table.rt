@@ -1,4 +1,4 @@
-//! What a table says of the files with library names in the places, and of no others.
+//! The rows of a table for the files with library names in the search directories, without all other rows.
 ghost use Rattle.std.specs.Prelude.{IfOk};
 ghost use Rattle.file_table.specs.Analyses.{AgreeOn};
 ghost use Rattle.place_libraries.specs.Rows.{AreOfPlaces};
@@ -12,7 +12,7 @@ use library_files::wanted;
 use std::alloc::Global;
 use tree_face::Tree;
 
-/// A copy of what a table says of these files: a survey goes through all of its table.
+/// Copies these rows of a table, because a survey goes through all rows of its table.
 #[tactic(auto, using(crate::proofs::WantedRows::in_order, crate::proofs::WantedRows::of_places))]
 pub(crate) fn wanted_table(
     alloc: Global,

@@ -1,4 +1,4 @@
-//! The entries of a cache, of a tree whose links weren't followed and whose libraries weren't compared yet.
+//! The cache entries of a tree, before its links are followed and its libraries compared.
 ghost use Rattle.std.specs.Prelude.{◌≤◌, All, IfErr, IfOk, IsTrue, length};
 ghost use Rattle.cache_entries.specs.Entries.{found, is_fit, AreEntriesOf, IsEntryFault, IsOnlyListOf};
 ghost use Rattle.cache_layout.specs.declared.limits.TheConstants.{ENTRIES_MAX};
@@ -15,7 +15,7 @@ use library_files::follow;
 use std::alloc::Global;
 use tree_face::Tree;
 
-/// The entries of a cache, one for each place and soname with a winner. The tree is one that has all planned links.
+/// The cache entries, one for each search directory and soname with a best library. The tree must have all planned links.
 #[tactic(auto, using(place_libraries::proofs::NoOtherFiles::bests_agree))]
 pub fn entries(
     alloc: Global,

@@ -1,18 +1,18 @@
-//! Why there is no image, or nothing is known of it.
+//! Why an image can't be built, or its results can't be computed.
 ghost use Rattle.std.specs.Prelude.{◌≡◌};
 ghost use Rattle.soname_links_tests.specs.declared.fault.ImageFault.TheVariants as faults;
 
 use lib_types::NoMemory;
 use soname_links::{ApplyFault, EntryFault};
 
-/// Why there is no image, or nothing is known of it.
+/// Why an image can't be built, or its results can't be computed.
 #[derive(Clone, Copy, Debug, PartialEq, Eq)]
 pub(crate) enum ImageFault {
-    /// A path, a node or a soname that no image has, or two nodes that clash.
+    /// It has an invalid path, node or soname, or two nodes that clash.
     NoImage,
-    /// Why its links aren't put.
+    /// Why its links can't be put.
     Apply(ApplyFault),
-    /// Why it has no entries.
+    /// Why its entries can't be computed.
     Entries(EntryFault),
     NoMemory,
 }

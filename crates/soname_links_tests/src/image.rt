@@ -6,10 +6,10 @@ use lib_types::{Abi, Analysis, NoMemory, Text, Texts, is_name};
 use std::alloc::Global;
 use tree_face::{Node, Tree, TreeFault, is_node, is_path};
 
-/// A link's path and its text.
+/// A link's path and its target.
 pub(crate) type Link<'a> = (&'a str, &'a str);
 
-/// A library's path and DT_SONAME; an empty one is none.
+/// A library's path and DT_SONAME. An empty DT_SONAME means none.
 pub(crate) type Library<'a> = (&'a str, &'a str);
 
 /// A tree with the analyses of its files, and its directories.
@@ -49,7 +49,7 @@ pub(crate) fn put_link(
     put(tree, path.as_bytes(), Node::Link { target })
 }
 
-// The DT_SONAME that a text stands for.
+// The DT_SONAME in a text, where the empty text means none.
 fn soname_of(alloc: Global, soname: &str) -> Result<Option<Text>, NoMemory> {
     if soname.is_empty() {
         return Ok(None);

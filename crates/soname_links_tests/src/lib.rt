@@ -1,5 +1,5 @@
-//! Tests of the calls for planned links, files, marks and entries, each once, over images in memory. What they give of other images
-//! are rows of `ldconfig_cli_image_tests`.
+//! Tests of the calls for planned links, files, marks and entries, each once, over images in memory. Results for other images are rows of
+//! `ldconfig_cli_image_tests`.
 #![tactic(auto)]
 
 #[cfg(test)]

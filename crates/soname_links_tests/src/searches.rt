@@ -1,4 +1,4 @@
-// The files that are looked at, mixed sonames and dangling links, from the rules of ldconfig(8).
+// The files that are examined, one soname in several ABIs, and dangling links, by the rules of ldconfig(8).
 use crate::fault::ImageFault;
 use crate::image::{Image, Library, Link, image_of, put_library, put_link};
 use crate::shown::{marks_in, plan_in, texts_in};

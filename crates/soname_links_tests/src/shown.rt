@@ -1,9 +1,9 @@
-//! Lists as texts of one line, each item with a bar behind it.
+//! Lists as texts of one line, each item followed by a bar.
 use lib_types::{Entries, NoMemory, Texts};
 use link_plan::{Marks, Plan};
 use std::alloc::Global;
 
-// The number of a place, of which the tests have fewer than ten.
+// The index of a search directory. The tests have fewer than ten.
 fn put_place(out: &mut Vec<u8>, place: u32) -> Result<(), NoMemory> {
     out.push(b'0' + (place % 10) as u8)?;
     out.push(b' ')?;
@@ -20,7 +20,7 @@ pub(crate) fn texts_in(alloc: Global, texts: &Texts) -> Result<Vec<u8>, NoMemory
     Ok(out)
 }
 
-/// The links with their places and texts.
+/// The links with their search directories and texts.
 pub(crate) fn plan_in(alloc: Global, plan: &Plan) -> Result<Vec<u8>, NoMemory> {
     let mut out = Vec::new(alloc);
     for planned in plan.as_slice() {
@@ -33,7 +33,7 @@ pub(crate) fn plan_in(alloc: Global, plan: &Plan) -> Result<Vec<u8>, NoMemory> {
     Ok(out)
 }
 
-/// The marks with their places.
+/// The marks with their search directories.
 pub(crate) fn marks_in(alloc: Global, marks: &Marks) -> Result<Vec<u8>, NoMemory> {
     let mut out = Vec::new(alloc);
     for mark in marks.as_slice() {
@@ -44,7 +44,7 @@ pub(crate) fn marks_in(alloc: Global, marks: &Marks) -> Result<Vec<u8>, NoMemory
     Ok(out)
 }
 
-/// The entries with their places and paths.
+/// The entries with their search directories and paths.
 pub(crate) fn entries_in(alloc: Global, entries: &Entries) -> Result<Vec<u8>, NoMemory> {
     let mut out = Vec::new(alloc);
     for entry in entries.as_slice() {

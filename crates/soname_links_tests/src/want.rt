@@ -1,4 +1,4 @@
-//! What an image has to give.
+//! The expected results for an image.
 use crate::fault::ImageFault;
 use crate::image::Image;
 use crate::shown::{entries_in, marks_in, plan_in, texts_in};
@@ -6,7 +6,7 @@ use library_files::dangling;
 use soname_links::{apply, blocked, entries, is_plan, plan};
 use std::alloc::Global;
 
-/// What an image has to give: planned links, blocked sonames, dangling links and entries of the tree with the links.
+/// The expected results for an image: planned links, blocked sonames, dangling links, and entries of the tree with the links.
 #[derive(Clone, Copy)]
 pub(crate) struct Want<'a> {
     pub(crate) plan: &'a str,
@@ -15,7 +15,7 @@ pub(crate) struct Want<'a> {
     pub(crate) entries: &'a str,
 }
 
-// Whether the planned links and the blocked sonames are those; puts the links.
+// Whether the planned links and the blocked sonames are the expected ones. Puts the links.
 fn plans(alloc: Global, image: &mut Image, want: &Want<'_>) -> Result<bool, ImageFault> {
     let links = plan(alloc, &image.tree, &image.dirs, &image.table)?;
     let marks = blocked(alloc, &image.tree, &image.dirs, &image.table)?;
@@ -29,7 +29,7 @@ fn plans(alloc: Global, image: &mut Image, want: &Want<'_>) -> Result<bool, Imag
     )
 }
 
-/// Whether an image gives what it has to give, once its planned links are put.
+/// Whether an image has the expected results, after its planned links are put.
 pub(crate) fn gives(alloc: Global, image: &mut Image, want: &Want<'_>) -> Result<bool, ImageFault> {
     let planned = plans(alloc, image, want)?;
     let links = dangling(alloc, &image.tree, &image.dirs)?;

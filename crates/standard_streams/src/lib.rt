@@ -1,4 +1,4 @@
-//! The standard streams, written without the signal of a file that is too long, and the lines that say on the error output what failed.
+//! The standard streams, written without raising SIGXFSZ, and the error lines that say what failed.
 #![tactic(auto)]
 
 mod error_line;

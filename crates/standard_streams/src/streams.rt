@@ -1,4 +1,4 @@
-//! Writing to the standard streams, which doesn't end the program by the signal of a file that is too long.
+//! Writing to the standard streams, without raising SIGXFSZ.
 ghost use Rattle.std.specs.Prelude.{◌≤◌, IfOk, length};
 
 use crate::limits::file_limit;
@@ -6,8 +6,8 @@ use device_rules::{has_room, is_for_now, too_long};
 use std::fs;
 use std::io::{self, Error, ErrorKind, Write};
 
-/// The standard output and the error output. A call fails if a file would become longer than this program may make one
-/// (FileTooLarge), which raises no signal. One that nobody reads any more is BrokenPipe where SIGPIPE is ignored.
+/// The standard output and the error output. If a file would become longer than the program may make one, the call fails with
+/// `FileTooLarge` and raises no signal. If SIGPIPE is ignored and nobody reads a pipe any more, the call fails with `BrokenPipe`.
 pub trait Streams {
     /// Writes some of the bytes to the standard output, and returns how many.
     fn write_output(&self, bytes: &[u8]) -> io::Result<usize>
@@ -30,7 +30,7 @@ impl Streams for HostRuntime {
     }
 }
 
-// A stream that is a file has no room past the limit of files.
+// If a stream is a file, it can't grow past the limit.
 fn require_room(rt: &HostRuntime, path: &str, bytes: &[u8]) -> io::Result<()> {
     match fs::metadata(rt, path) {
         Ok(found) if found.is_file() => {
@@ -44,7 +44,7 @@ fn require_room(rt: &HostRuntime, path: &str, bytes: &[u8]) -> io::Result<()> {
     }
 }
 
-// A text takes at most so many calls.
+// The most calls for one text.
 const MOST_CALLS: usize = 100;
 
 /// Writes a text to the error output.

@@ -1,4 +1,4 @@
-//! Calls of the standard streams that are made again, if they couldn't be done for now.
+//! Calls on the standard streams that are repeated if they couldn't be done yet.
 ghost use Rattle.std.specs.Prelude.{◌≤◌, IfOk, length};
 
 use crate::streams::Streams;
@@ -8,7 +8,7 @@ use std::rt::Runtime;
 use std::thread;
 use std::time::Duration;
 
-// A stream that doesn't wait is asked again so often, with these pauses: about an hour.
+// The most repetitions of a call on a non-blocking stream. With the pauses between them this is about an hour.
 const MOST_TURNS: u64 = 360_000;
 
 const PAUSE_MILLIS: u64 = 10;
@@ -17,7 +17,7 @@ fn pause<R: Runtime>(rt: &R) {
     thread::sleep(rt, Duration::from_millis(PAUSE_MILLIS))
 }
 
-/// Reads once; again if a signal came or nothing is there yet.
+/// Reads once. It tries again if a signal came or if nothing is there yet.
 pub fn read_some<R: Runtime>(rt: &R, reader: &mut R::Reader, buf: &mut [u8]) -> io::Result<usize>
     ensures { IfOk result (λ n. n ≤ length buf.new) }
 {
@@ -30,7 +30,7 @@ pub fn read_some<R: Runtime>(rt: &R, reader: &mut R::Reader, buf: &mut [u8]) -> 
     Err(Error::from(ErrorKind::TimedOut))
 }
 
-/// Writes once; again if a signal came or the reader is behind.
+/// Writes once. It tries again if a signal came or if the reader isn't ready.
 pub fn write_some<R: Runtime + Streams>(rt: &R, bytes: &[u8]) -> io::Result<usize>
     ensures { IfOk result (λ n. n ≤ length bytes.now) }
 {

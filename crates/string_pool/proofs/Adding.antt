@@ -1,4 +1,4 @@
--- A text that is added to texts that are laid out.
+-- Adding a text to a pool.
 use Rattle.std.proofs.Common.{◌≡◌, ℕ, ◌+◌, ◌-◌, ◌<◌, List, [], ◌∷◌, ◌++◌, length, take, get_or, ap, ◌∙◌, arith, bytes_eq}
 use Rattle.indexmap.specs.IndexSet.{insert_key}
 use Rattle.string_pool.specs.Texts.{number_of, with_nul, StandsAt}
@@ -8,7 +8,7 @@ use Rattle.string_pool.proofs.InOrder.{offset_there, length_offsets_from, laid_m
 use Rattle.string_pool.proofs.Numbers.{not_new, is_new, number_within}
 
 module _ (base : ℕ) (ts new : List (List ℕ)) (offsets bytes : List ℕ) (t : List ℕ) (laid : AreLaidOut base ts offsets bytes) (added : new ≡ insert_key bytes_eq ts t) where
-  -- one that is there has an offset
+  -- a text that is already there has an offset
   pub has_offset : (number : ℕ) → number ≡ number_of new t → length new ≡ length ts → number < length offsets
   has_offset number is same =
       let known = not_new ts new t added same in
@@ -16,7 +16,7 @@ module _ (base : ℕ) (ts new : List (List ℕ)) (offsets bytes : List ℕ) (t :
       let one : number ≡ number_of ts t = is ∙ ap (λ xs. number_of xs t) known.1 in
       omega (arith, within, one, ap length laid.places, length_offsets_from base ts)
 
-  -- at which it stands
+  -- a text that is already there is at its offset
   pub found : (number at : ℕ) → number ≡ number_of new t → length new ≡ length ts → at ≡ get_or offsets number at → (at ≡ base + offset_of new t) × StandsAt (table_of new) (at - base) t
   found number at is same kept =
       let known = not_new ts new t added same in
@@ -27,7 +27,7 @@ module _ (base : ℕ) (ts new : List (List ℕ)) (offsets bytes : List ℕ) (t :
       let spot : at - base ≡ offset_of ts t = omega (arith, place) in
       rw known.1 (place, rw spot (stands ts t known.0))
 
-  -- one that is new is laid out behind the others
+  -- a new text is laid out after the others
   pub laid_last : (new_offsets new_bytes : List ℕ) (at : ℕ) → (length new ≡ length ts → ⊥) → new_offsets ≡ offsets ++ (base + length bytes) ∷ [] → new_bytes ≡ bytes ++ with_nul t
       → at ≡ base + length bytes → AreLaidOut base new new_offsets new_bytes × (at ≡ base + offset_of new t)
   laid_last new_offsets new_bytes at other one two is =

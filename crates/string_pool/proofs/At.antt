@@ -1,4 +1,4 @@
--- Where a text stands in a list.
+-- The index of a text in a list.
 use Rattle.std.proofs.Common.{◌≡◌, ◌+◌, ℕ, suc, List, [], ◌∷◌, Option, Some, None, IfSome, sym, subst, arith}
 use Rattle.std.proofs.lemmas.Iterator.Adapters.{position_from-zero}
 use Rattle.std.proofs.lemmas.Slice.Eq.{bytes_eq-Decides}
@@ -25,7 +25,7 @@ from_front : (texts : List (List ℕ)) (text : List ℕ) (o : Option ℕ) → If
 from_front texts text None at = tt
 from_front texts text (Some i) at = let same : at.0 ≡ i = omega (arith, at.1.0) in subst (λ k. IsAt texts k text) same at.1.1
 
--- a text stands at its place
+-- a text that is found is at the index that is found
 pub at_position : (text : List ℕ) (texts : List (List ℕ)) → IfSome (position (bytes_eq text) texts) (λ i. IsAt texts i text)
 at_position text texts = from_front texts text (position (bytes_eq text) texts)
     (subst (λ o. IfSome o (IsFrom texts 0 text)) (sym (position_from-zero (bytes_eq text) texts)) (at_from text texts 0))

@@ -1,4 +1,4 @@
--- How many texts stand in order, each once, and how many with one more.
+-- The number of texts in a sorted list without repetitions, before and after adding a text.
 use Rattle.std.proofs.Common.{◌≡◌, ◌≤◌, ◌+◌, ℕ, Bool, true, false, not, ◌&&◌, ◌||◌, List, [], ◌∷◌, length, filter, refl, ap, sym, subst, ◌∙◌, arith}
 use Rattle.std.proofs.lemmas.Slice.Eq.{bytes_eq-Decides}
 use Rattle.std.specs.Str.{bytes_eq}
@@ -7,7 +7,7 @@ use Rattle.string_pool.proofs.InByteOrder.{ascending_sorted, count_more, in_asce
 use Rattle.string_pool.proofs.Members.{is_in, kept_in, same_members}
 use Rattle.string_pool.specs.Order.{ascending}
 
--- one more, unless it is there already
+-- the number of texts that are added: 1, or 0 if the text is there already
 abbrev pub unless_there : Bool → ℕ
 unless_there true = 0
 unless_there false = 1
@@ -16,7 +16,7 @@ module _ (x : List ℕ) (xs : List (List ℕ)) where
   abbrev differs : List ℕ → Bool
   differs y = not (bytes_eq y x)
 
-  -- a text that is there already
+  -- a text that is already there changes nothing
   known : is_in xs x ≡ true → ascending (x ∷ xs) ≡ ascending xs
   known there = same_members (ascending (x ∷ xs)) (ascending xs) (ascending_sorted (x ∷ xs)) (ascending_sorted xs)
       (λ z. in_ascending (x ∷ xs) z ∙ by_test (bytes_eq z x)
@@ -42,7 +42,7 @@ none_there : length (ascending []) ≡ 0
 unfolding ascending
 none_there = refl
 
--- no more than there are
+-- removing repetitions adds no texts
 pub count_few : (xs : List (List ℕ)) → length (ascending xs) ≤ length xs
 count_few [] = let none = none_there in omega (arith, none)
 count_few (x ∷ xs) = by_test (is_in xs x)

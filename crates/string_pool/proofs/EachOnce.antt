@@ -1,4 +1,4 @@
--- Lists that keep each of their items once.
+-- Lists that store each item once.
 use Rattle.std.proofs.Common.{◌≡◌, ◌||◌, ℕ, zero, suc, Bool, true, nat_eq, List, [], ◌∷◌, length, map, refl, ap, sym, subst, ◌∙◌, Some, None, arith}
 use Rattle.std.proofs.lemmas.Bool.{or_right}
 use Rattle.std.proofs.lemmas.Bool.Decides.{nat_tests}
@@ -71,7 +71,7 @@ module _ {X : Type 0} (test : X → Bool) where
 pub each_alike : {X : Type 0} (items : List X) (rows : List ℕ) → AreRows (length items) rows → HaveSame items (taken items rows)
 each_alike items rows are test = all_alike test items rows are
 
--- ---- what is made of each item
+-- ---- a function applied to each item
 
 module _ {X Y : Type 0} (f : X → Y) (xs : List X) where
   pub taken_made : (rows : List ℕ) → taken (map f xs) rows ≡ map f (taken xs rows)

@@ -1,4 +1,4 @@
--- One of several in another order.
+-- Laws of `||`: repetition and order.
 use Rattle.std.proofs.Common.{◌≡◌, Bool, true, false, ◌||◌, refl}
 
 pub twice : (a b : Bool) → (a || b) ≡ (a || (a || b))

@@ -1,4 +1,4 @@
--- Texts in the order of their bytes, each once: one text more.
+-- Sorted texts without repetitions: adding a text.
 use Rattle.std.proofs.Common.{◌≡◌, ◌+◌, ℕ, Bool, true, false, not, ◌&&◌, ◌||◌, List, [], ◌∷◌, length, refl, ap, sym, ◌∙◌, Ordering, arith, subst}
 use Rattle.std.proofs.lemmas.Cmp.{nat_list_cmp_total}
 use Rattle.std.proofs.lemmas.List.Filters.{dedup_is}
@@ -86,7 +86,7 @@ pub ascending_sorted : (xs : List (List ℕ)) → AreSorted (ascending xs)
 unfolding ascending IsStrictlySortedBy
 ascending_sorted xs = sorted_fold xs [] tt
 
--- the same texts, for each test
+-- each test finds the same texts after sorting
 pub any_ascending : (test : List ℕ → Bool) (xs : List (List ℕ)) → list_any test (ascending xs) ≡ list_any test xs
 unfolding ascending
 any_ascending test xs = any_fold test xs []
@@ -94,7 +94,7 @@ any_ascending test xs = any_fold test xs []
 pub in_ascending : (xs : List (List ℕ)) (z : List ℕ) → is_in (ascending xs) z ≡ is_in xs z
 in_ascending xs z = any_ascending (bytes_eq z) xs
 
--- a text more, and those that are others
+-- one more text, and the texts that differ from it
 module _ (x : List ℕ) (xs : List (List ℕ)) where
   abbrev differs : List ℕ → Bool
   differs y = not (bytes_eq y x)
@@ -115,7 +115,7 @@ module _ (x : List ℕ) (xs : List (List ℕ)) where
   pub count_more : length (ascending (x ∷ xs)) ≡ length (ascending (filter differs xs)) + 1
   count_more = ap length one_more ∙ length_with (ascending (filter differs xs)) x not_there
 
--- ---- sorted texts without those that stand twice
+-- ---- sorted texts without repetitions
 
 pub sorted_once : (xs sorted once : List (List ℕ)) → IsPermutation xs sorted → IsSorted (slice_cmp nat_cmp) sorted
     → IsFiltered (DiffersFromLast bytes_eq) [] sorted once → once ≡ ascending xs
@@ -125,7 +125,7 @@ sorted_once xs sorted once same ordered filtered =
     (IsStrictlySortedBy-dedup nat_list_cmp_total texts_ties sorted ordered) (ascending_sorted xs)
     (λ z. dedup_in (bytes_eq z) sorted ∙ sym (list_any-IsPermutation (bytes_eq z) xs sorted same) ∙ sym (in_ascending xs z)))
 
--- texts that are left out may be left out before
+-- texts may be left out before or after sorting
 pub ascending_left : (keep : List ℕ → Bool) (xs : List (List ℕ)) → ascending (filter keep xs) ≡ filter keep (ascending xs)
 ascending_left keep xs =
     same_members (ascending (filter keep xs)) (filter keep (ascending xs)) (ascending_sorted (filter keep xs))

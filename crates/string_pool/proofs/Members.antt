@@ -40,7 +40,7 @@ none_below z (y ∷ ys) a = by_test (bytes_eq z y)
     let z : Equal ≡ Less = sym (tied_itself nat_list_cmp_total z) ∙ tied in absurd (cc))
     (λ e. ap (λ b. b || is_in ys z) e ∙ none_below z ys a.1)
 
--- a text below the first of sorted ones is none of them
+-- a text that is less than the first of sorted texts is not among them
 not_in : (x y : List ℕ) (ys : List (List ℕ)) → AreSorted (y ∷ ys) → cmp x y ≡ Less → is_in (y ∷ ys) x ≡ false
 not_in x y ys s less = none_below x (y ∷ ys) (less, all_below nat_list_cmp_total x y ys less (sorted_head cmp y ys s))
 
@@ -69,7 +69,7 @@ same_members (x ∷ xs) (y ∷ ys) s r h = by_ordering (cmp x y)
     let less : cmp y x ≡ Less = flipped nat_list_cmp_total x y Greater a in
     let z : true ≡ false = sym (is_first y ys) ∙ sym (h y) ∙ not_in y x xs s less in absurd (cc))
 
--- ---- the members of what is left
+-- ---- the members after a filter
 
 once_in : (test : List ℕ → Bool) (name : List ℕ) (names : List (List ℕ)) → list_any test (dedup_from bytes_eq name names) ≡ (test name || list_any test names)
 once_in test name [] = refl
@@ -89,7 +89,7 @@ module _ (keep : List ℕ → Bool) where
   pub kept_in : (z : List ℕ) (xs : List (List ℕ)) → is_in (filter keep xs) z ≡ (keep z && is_in xs z)
   kept_in z xs = any-filter_same (bytes_eq z) keep (keep z) (λ k e. ap keep (sym ((bytes_eq-Decides z k).0 e))) xs
 
-  -- sorted names, each once, of which the same are left
+  -- two sorted lists without repetitions, of which the filter leaves the same names
   pub same_left : (names more : List (List ℕ)) → AreSorted (dedup bytes_eq names) → AreSorted (dedup bytes_eq more) → filter keep more ≡ filter keep names
       → filter keep (dedup bytes_eq more) ≡ filter keep (dedup bytes_eq names)
   same_left names more s r same =
@@ -99,14 +99,14 @@ module _ (keep : List ℕ → Bool) where
       kept_in z (dedup bytes_eq more) ∙ ap (λ b. keep z && b) (dedup_in (bytes_eq z) more) ∙ sym (kept_in z more) ∙ ap (λ xs. is_in xs z) same
       ∙ kept_in z names ∙ sym (ap (λ b. keep z && b) (dedup_in (bytes_eq z) names)) ∙ sym (kept_in z (dedup bytes_eq names)))
 
-  -- what gives nothing may be left out
+  -- items for which the function gives None may be left out
   pub left_out : {Y : Type 0} (f : List ℕ → Option Y) → ((x : List ℕ) → keep x ≡ false → f x ≡ None) → (xs : List (List ℕ)) → filter_map f (filter keep xs) ≡ filter_map f xs
   left_out f none [] = refl
   left_out f none (x ∷ xs) = by_test (keep x)
       (λ e. rw e (ap (cons_option (f x)) (left_out f none xs)))
       (λ e. rw (e, none x e) (left_out f none xs))
 
--- what all texts meet, each of them meets
+-- a test that holds for all texts holds for each of them
 pub each_meets : (p : List ℕ → Bool) (xs : List (List ℕ)) (z : List ℕ) → list_all p xs ≡ true → is_in xs z ≡ true → p z ≡ true
 each_meets p [] z all there = absurd (cc)
 each_meets p (x ∷ xs) z all there = by_test (bytes_eq z x)

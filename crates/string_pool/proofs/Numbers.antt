@@ -1,4 +1,4 @@
--- Texts that are added to different texts, and their numbers.
+-- Adding a text to different texts, and its number.
 use Rattle.std.proofs.Common.{◌≡◌, ℕ, ◌+◌, ◌<◌, ◌≤◌, Bool, true, false, cond, not, ◌||◌, List, [], ◌∷◌, ◌++◌, length, refl, sym, ap, ◌∙◌, true≢false, arith, bytes_eq, if◌then◌else◌}
 use Rattle.std.proofs.lemmas.List.{length-append}
 use Rattle.std.proofs.lemmas.Slice.Eq.{bytes_eq-Decides}
@@ -8,7 +8,7 @@ use Rattle.string_pool.specs.Texts.{number_of}
 use Rattle.string_pool.proofs.WithoutRepeats.{distinct_folded}
 use Rattle.string_pool.specs.Distinct.{distinct}
 
--- a string is among those that it was added to
+-- a string that was added is in the list
 pub among : (ts : List (List ℕ)) (t : List ℕ) → list_any (bytes_eq t) (insert_key bytes_eq ts t) ≡ true
 among ts t = by (list_any (bytes_eq t) ts) refl
   where
@@ -23,7 +23,7 @@ among ts t = by (list_any (bytes_eq t) ts) refl
     by true e = e
     by false e = last ts
 
--- a string is still among the strings
+-- a string stays in the list when others are added
 pub among_more : (ts : List (List ℕ)) (t u : List ℕ) → list_any (bytes_eq t) ts ≡ true → list_any (bytes_eq t) (insert_key bytes_eq ts u) ≡ true
 among_more ts t u h = elim (list_any (bytes_eq u) ts) as (λ b. list_any (bytes_eq t) (if b then ts else ts ++ u ∷ []) ≡ true) [ true ↦ h | false ↦ behind ts h ]
   where
@@ -42,7 +42,7 @@ among_all ts (u ∷ us) t h = among_all (insert_key bytes_eq ts u) us t (among_m
 
 -- ---- numbers
 
--- a text is before the end
+-- the number of a text in the list is below the length
 pub number_within : (ts : List (List ℕ)) (t : List ℕ) → list_any (bytes_eq t) ts ≡ true → number_of ts t < length ts
 number_within [] t h = absurd (true≢false (sym h))
 number_within (x ∷ xs) t h = by (bytes_eq t x) h (number_within xs t)
@@ -52,7 +52,7 @@ number_within (x ∷ xs) t h = by (bytes_eq t x) h (number_within xs t)
     by true e rest = omega arith
     by false e rest = omega (arith, rest e)
 
--- others that are added don't change a text's number
+-- adding other texts doesn't change a text's number
 pub number_more : (ts : List (List ℕ)) (t u : List ℕ) → list_any (bytes_eq t) ts ≡ true → number_of (insert_key bytes_eq ts u) t ≡ number_of ts t
 number_more ts t u h = elim (list_any (bytes_eq u) ts) as (λ b. number_of (if b then ts else ts ++ u ∷ []) t ≡ number_of ts t) [ true ↦ refl | false ↦ before ts h ]
   where
@@ -69,7 +69,7 @@ pub number_stays : (ts us : List (List ℕ)) (t : List ℕ) → list_any (bytes_
 number_stays ts [] t h = refl
 number_stays ts (u ∷ us) t h = number_stays (insert_key bytes_eq ts u) us t (among_more ts t u h) ∙ number_more ts t u h
 
--- a new text has the number of those before it
+-- the number of a new text is the number that the lookup gives before the text is added
 new_number : (ts : List (List ℕ)) (t : List ℕ) → list_any (bytes_eq t) ts ≡ false → number_of (ts ++ t ∷ []) t ≡ number_of ts t
 new_number [] t h = rw ((bytes_eq-Decides t t).1 refl) refl
 new_number (x ∷ xs) t h = by (bytes_eq t x) h (new_number xs t)
@@ -79,7 +79,7 @@ new_number (x ∷ xs) t h = by (bytes_eq t x) h (new_number xs t)
     by true e rest = refl
     by false e rest = ap (λ n. 1 + n) (rest e)
 
--- the number of a text that is added, before and after
+-- the number of a text is the same before and after it is added
 pub number_added : (ts : List (List ℕ)) (t : List ℕ) → number_of ts t ≡ number_of (insert_key bytes_eq ts t) t
 number_added ts t = by (list_any (bytes_eq t) ts) refl
   where
@@ -89,7 +89,7 @@ number_added ts t = by (list_any (bytes_eq t) ts) refl
 
 -- ---- whether a text is new
 
--- a text that leaves their number as it was is one of them
+-- a text that doesn't change the length was already in the list
 pub not_new : (ts new : List (List ℕ)) (t : List ℕ) → new ≡ insert_key bytes_eq ts t → length new ≡ length ts → (list_any (bytes_eq t) ts ≡ true) × (new ≡ ts)
 not_new ts new t is same = by (list_any (bytes_eq t) ts) refl
   where
@@ -97,7 +97,7 @@ not_new ts new t is same = by (list_any (bytes_eq t) ts) refl
     by true e = (refl, rw e at is)
     by false e = let longer : new ≡ ts ++ t ∷ [] = rw e at is in absurd (omega (arith, same, ap length longer, length-append ts (t ∷ [])))
 
--- and one that doesn't comes last
+-- a text that changes the length is new and comes last
 pub is_new : (ts new : List (List ℕ)) (t : List ℕ) → new ≡ insert_key bytes_eq ts t → (length new ≡ length ts → ⊥) → (list_any (bytes_eq t) ts ≡ false) × (new ≡ ts ++ t ∷ [])
 is_new ts new t is other = by (list_any (bytes_eq t) ts) refl
   where
@@ -105,7 +105,7 @@ is_new ts new t is other = by (list_any (bytes_eq t) ts) refl
     by true e = let same : new ≡ ts = rw e at is in absurd (other (ap length same))
     by false e = (refl, rw e at is)
 
--- ---- how many texts there are
+-- ---- the number of texts
 
 length_insert : (ts : List (List ℕ)) (t : List ℕ) → length (insert_key bytes_eq ts t) ≤ length ts + 1
 length_insert ts t = elim (list_any (bytes_eq t) ts) as (λ b. length (if b then ts else ts ++ t ∷ []) ≤ length ts + 1) [ true ↦ omega arith | false ↦ omega (arith, length-append ts (t ∷ [])) ]

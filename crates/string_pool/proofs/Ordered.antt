@@ -1,4 +1,4 @@
--- Ordered maps: their keys after an insertion, and their values by their keys.
+-- Ordered maps: the keys after an insertion, and the values by key.
 use Rattle.std.proofs.Common.{◌≡◌, true, false, List, [], ◌∷◌, refl, ap, ◌∙◌, Option, Ordering}
 use Rattle.std.proofs.lemmas.Map.Keys.{sorted_head, sorted_tail}
 use Rattle.std.specs.BTreeMap.{insert_entry, is_at}
@@ -32,12 +32,12 @@ module _ {K : Type 0} {cmp : K → K → Ordering} (o : IsTotalOrder cmp) where
   all_below k x (y ∷ ks) h a = (o.trans k x y h a.0, all_below k x ks h a.1)
 
 module _ {K : Type 0} {X : Type 0} {cmp : K → K → Ordering} (o : IsTotalOrder cmp) where
-  -- a key below all is not there
+  -- a key that is less than all keys is not in the map
   none_below : (k : K) (es : List (K × X)) → AllByRecursion (λ y. cmp k y ≡ Less) (keys_of es) → is_some (lookup (is_at (cmp k)) es) ≡ false
   none_below k [] a = refl
   none_below k (e ∷ es) a = rw a.0 (none_below k es a.1)
 
-  -- the keys stay if one that is there is put in again
+  -- inserting a key that is already there does not change the keys
   pub keys_stay : (k : K) (es : List (K × X)) → IsStrictlySortedBy cmp (keys_of es) → is_some (lookup (is_at (cmp k)) es) ≡ true → keys_of es ≡ insert_key cmp (keys_of es) k
   keys_stay k [] s h = cc
   keys_stay k (e ∷ es) s h = by_ordering (cmp k e.0)
@@ -48,7 +48,7 @@ module _ {K : Type 0} {X : Type 0} {cmp : K → K → Ordering} (o : IsTotalOrde
       (λ a. let there : is_some (lookup (is_at (cmp k)) es) ≡ true = (rw a at h) in
       rw a (ap (λ ks. e.0 ∷ ks) (keys_stay k es (sorted_tail cmp e.0 (keys_of es) s) there)))
 
-  -- a key behind the first is not the first
+  -- a key after the first key is not the first key
   passes : {Y : Type 0} (f : K → Option X → Option Y) (e : K × X) (es : List (K × X)) (ks : List K) → AllByRecursion (λ y. cmp e.0 y ≡ Less) ks
       → filter_map (λ k. f k (lookup (is_at (cmp k)) (e ∷ es))) ks ≡ filter_map (λ k. f k (lookup (is_at (cmp k)) es)) ks
   passes f e es [] a = refl
@@ -56,13 +56,13 @@ module _ {K : Type 0} {X : Type 0} {cmp : K → K → Ordering} (o : IsTotalOrde
       let behind : cmp k e.0 ≡ Greater = flipped o e.0 k Less a.0 in
       rw behind (ap (cons_option (f k (lookup (is_at (cmp k)) es))) (passes f e es ks a.1))
 
-  -- the values are those at the keys
+  -- looking up all keys gives the values
   pub by_keys : (es : List (K × X)) → IsStrictlySortedBy cmp (keys_of es) → filter_map (λ k. lookup (is_at (cmp k)) es) (keys_of es) ≡ values_of es
   by_keys [] s = refl
   by_keys (e ∷ es) s =
       rw (tied o e.0) (ap (λ vs. e.1 ∷ vs) (passes (λ k found. found) e es (keys_of es) (sorted_head cmp e.0 (keys_of es) s) ∙ by_keys es (sorted_tail cmp e.0 (keys_of es) s)))
 
-  -- the entries are the keys, each with its value
+  -- looking up all keys gives the entries
   pub by_entries : (es : List (K × X)) → IsStrictlySortedBy cmp (keys_of es) → filter_map (λ k. option_map (λ v. (k, v)) (lookup (is_at (cmp k)) es)) (keys_of es) ≡ es
   by_entries [] s = refl
   by_entries (e ∷ es) s =

@@ -1,4 +1,4 @@
--- Where a text stands in a list.
+-- The index of a text in a list.
 use Rattle.std.specs.Prelude.{◌≡◌, ◌<◌, ℕ, List, [], length, slice_index_or}
 
 -- the text at this index

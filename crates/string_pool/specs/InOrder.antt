@@ -1,4 +1,4 @@
--- A layout of texts: one after the other, each with a NUL behind it (the string tables of glibc's dl-cache.h).
+-- The layout of a string table: texts one after the other, each followed by a NUL (glibc's dl-cache.h).
 use Rattle.std.specs.Prelude.{ℕ, ◌+◌, List, length, flat_map}
 use Rattle.std.specs.List.{before_first}
 use Rattle.std.specs.Str.{bytes_eq}
@@ -13,7 +13,7 @@ pub record Strings : Type 0 where
 abbrev pub table_of : List (List ℕ) → List ℕ
 table_of texts = flat_map with_nul texts
 
--- the offset of a text from the first: the bytes of those before it
+-- the offset of a text from the first text: the number of bytes of the texts before it
 abbrev pub offset_of : List (List ℕ) → List ℕ → ℕ
 offset_of texts text = length (table_of (before_first (bytes_eq text) texts))
 

@@ -1,9 +1,9 @@
--- What a pool keeps of its texts: the offset of each, and the bytes of all.
+-- What a pool stores: the offset of each text, and the bytes of all texts.
 use Rattle.std.specs.Prelude.{◌≡◌, ℕ, ◌+◌, List, [], ◌∷◌, length}
 use Rattle.string_pool.specs.Texts.{with_nul}
 use Rattle.string_pool.specs.InOrder.{table_of}
 
--- the offsets of texts one after the other, from an offset on
+-- the offsets of texts that are one after the other, from this offset on
 abbrev pub offsets_from : ℕ → List (List ℕ) → List ℕ
 offsets_from place [] = []
 offsets_from place (text ∷ texts) = place ∷ offsets_from (place + length (with_nul text)) texts

@@ -5,7 +5,7 @@ use Rattle.std.specs.Cmp.Lexicographic.{slice_cmp}
 use Rattle.std.specs.List.{AllByRecursion}
 use Rattle.std.specs.Ordering.{is_lt, nat_cmp}
 
--- with a text more, at its place in the order, unless it is there
+-- inserts a text in order, unless it is there already
 abbrev pub with_text : List (List ℕ) → List ℕ → List (List ℕ)
 with_text texts text = insert_key (slice_cmp nat_cmp) texts text
 
@@ -13,7 +13,7 @@ with_text texts text = insert_key (slice_cmp nat_cmp) texts text
 unfoldable pub ascending : List (List ℕ) → List (List ℕ)
 ascending texts = fold with_text [] texts
 
--- none of these texts is below one before it
+-- each of these texts is at least as large as every text before it
 abbrev pub AreAscending : List (List ℕ) → Type 0
 AreAscending [] = ⊤
 AreAscending (text ∷ texts) = AllByRecursion (λ other. is_lt (slice_cmp nat_cmp other text) ≡ false) texts × AreAscending texts

@@ -1,4 +1,4 @@
--- Different texts of a file, and where one of them is (the string tables of glibc's dl-cache.h).
+-- Different texts of a file and their positions (the string tables of glibc's dl-cache.h).
 use Rattle.std.specs.Prelude.{◌≡◌, ℕ, ◌+◌, List, [], ◌∷◌, ◌++◌, length, take, drop}
 use Rattle.std.specs.List.{position_or_len}
 use Rattle.std.specs.Str.{bytes_eq}

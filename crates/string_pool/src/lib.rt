@@ -1,4 +1,4 @@
-//! Texts: sets of them, their order, the strings of a file and how they are laid out; and lists that keep an item once.
+//! Sets of texts, sorted texts, and the string table of a file. Also lists that store equal items once.
 #![tactic(auto)]
 
 mod order;

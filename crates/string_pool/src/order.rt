@@ -4,7 +4,7 @@ ghost use Rattle.string_pool.specs.Order.{ascending};
 
 use lib_types::{NoMemory, Seq, Text, Texts};
 
-/// The texts in the order of their bytes, each once. Lists that are made place by place come in a few sorted runs, which cost little.
+/// Sorts texts by their bytes, and removes repetitions. Sorting is cheap if the list consists of a few sorted runs.
 pub fn ascending(texts: Vec<Text>) -> Result<Texts, NoMemory>
     ensures { IfOk result (λ sorted. sorted ≡ ascending texts.items) }
 {

@@ -1,4 +1,4 @@
-//! Texts one after the other.
+//! A string table: texts one after the other.
 ghost use Rattle.std.specs.Prelude.{◌≡◌, ◌∷◌, ◌+◌, ◌-◌, ◌^◌, ◌++◌, ◌<◌, [], length, take, IfOk, OnOk, OnErr, bytes_eq};
 ghost use Rattle.indexmap.specs.IndexSet.{insert_key};
 ghost use Rattle.string_pool.specs.Texts.{with_nul, StandsAt};
@@ -9,8 +9,8 @@ use lib_types::NoMemory;
 use std::alloc::Global;
 use std::marker::Model;
 
-/// Different texts laid out one after the other with a NUL behind each, from an offset of the file on.
-/// Contracts see that offset and the list of the texts.
+/// Different texts one after the other, each followed by a NUL, from an offset of the file on.
+/// Contracts see this offset and the list of the texts.
 #[derive(Drop)]
 pub struct Pool<'a> {
     base: u32,
@@ -31,7 +31,7 @@ impl<'a> Model for Pool<'a> {
 }
 
 impl<'a> Pool<'a> {
-    /// No texts yet. The first will be at this offset.
+    /// An empty pool. The first text will be at this offset.
     pub fn new(alloc: Global, base: u32) -> Pool<'a>
         ensures { result ≡ record { base = base; texts = [] } }
     {
@@ -43,7 +43,7 @@ impl<'a> Pool<'a> {
         }
     }
 
-    /// These texts, the first of them at this offset.
+    /// A pool of these texts. The first text is at this offset.
     pub fn of(alloc: Global, texts: Texts<'a>, base: u32) -> Result<Pool<'a>, NoMemory>
         requires { base + length (table_of texts) < 2 ^ 32 }
         ensures { IfOk result (λ pool. pool ≡ record { base = base; texts = texts.entry }) }
@@ -61,7 +61,7 @@ impl<'a> Pool<'a> {
         })
     }
 
-    /// The offset of a text, which is added at the end if it is new.
+    /// Returns the offset of a text. Adds the text at the end if it is new.
     pub fn add(&mut self, text: &'a [u8]) -> Result<u32, NoMemory>
         requires { self.old.base + length (table_of self.old.texts) + length text.now + 1 < 2 ^ 32 }
         ensures strings { OnOk result (self.new ≡ record self.old { texts = insert_key bytes_eq self.old.texts text.now }) }
@@ -99,7 +99,7 @@ impl<'a> Pool<'a> {
     }
 }
 
-// Adds the bytes of a text and gives its offset, or adds nothing.
+// Appends the bytes of a text and returns its offset. After an error nothing has changed.
 fn append(
     base: u32,
     offsets: &mut Vec<u32>,
@@ -128,7 +128,7 @@ mod tests {
     use super::*;
     use std::test::Fail;
 
-    // Each string once, in the order of first use, with its NUL.
+    // Each string occurs once, with its NUL, in the order of first use.
     #[test]
     fn strings_in_order(rt: HostRuntime) -> Result<(), Fail> {
         let mut pool = Pool::new(rt.alloc(), 72);
@@ -140,7 +140,7 @@ mod tests {
         Ok(())
     }
 
-    // The same of a finished list, by the numbers of its texts.
+    // The same for a pool that is made from a list of texts.
     #[test]
     fn finished_list(rt: HostRuntime) -> Result<(), Fail> {
         let mut texts = Texts::new(rt.alloc());

@@ -1,12 +1,12 @@
-//! Lists that have one item at many of their indices, and keep it once.
+//! Lists that store an item once, even if it occurs at many indices.
 ghost use Rattle.std.specs.Prelude.{◌≡◌, length};
 ghost use Rattle.string_pool.specs.Shared.{taken, AreRows, HaveSame};
 
 use lib_types::Seq;
 use std::marker::Model;
 
-/// A list that keeps each of its items once, and for each index the row of the item there. Contracts see it as the list of the items
-/// at its indices.
+/// A list that stores each item once. For each index it has the row of the item at that index. Contracts see the list of the items
+/// at all indices.
 #[derive(Drop)]
 pub struct Shared<T> {
     items: Vec<T>,
@@ -25,7 +25,7 @@ impl<T> Model for Shared<T> {
 }
 
 impl<T> Shared<T> {
-    /// The list of the items in these rows, without taking memory.
+    /// The list of the items in these rows. Allocates no memory.
     pub fn new(items: Vec<T>, rows: Seq<usize>) -> Shared<T>
         requires { AreRows (length items.items) rows }
         ensures { result ≡ taken items.items rows }
@@ -33,7 +33,7 @@ impl<T> Shared<T> {
         Shared { items, rows }
     }
 
-    /// The items, each as often as it is kept.
+    /// The stored items, in the order in which they are stored.
     #[tactic(auto, using(crate::proofs::EachOnce::each_alike))]
     pub fn each_once(&self) -> &[T]
         ensures { HaveSame result.now self.now }
@@ -41,7 +41,7 @@ impl<T> Shared<T> {
         self.items.as_slice()
     }
 
-    /// The items at the indices, in their order.
+    /// Iterates over the items at all indices, in order.
     pub fn iter(&self) -> Items<'_, T>
         ensures { result ≡ self.now }
     {
@@ -52,7 +52,7 @@ impl<T> Shared<T> {
     }
 }
 
-/// Items in rows, one after another. Contracts see it as the list of the items that are left.
+/// An iterator over the items in rows. Contracts see the list of the items that are left.
 #[derive(Drop)]
 pub struct Items<'a, T> {
     items: &'a [T],

@@ -1,4 +1,4 @@
-//! A set of texts, for what was met before.
+//! A set of texts.
 ghost use Rattle.std.specs.Prelude.{◌≡◌, [], is_some, position, IfOk, IfSome, OnOk, OnErr};
 ghost use Rattle.std.specs.List.{list_any};
 ghost use Rattle.std.specs.Str.{bytes_eq};
@@ -11,9 +11,9 @@ use lib_types::{NoMemory, Text, TextRef, Texts};
 use std::alloc::Global;
 use std::marker::Model;
 
-/// Texts, each once. Contracts see a set as the list of its texts in the order in which they were put in.
+/// A set of texts. Contracts see the list of its texts, in the order of insertion.
 ///
-/// A look-up takes the time of one text, however many there are.
+/// The time of a look-up does not depend on the number of texts.
 #[derive(Drop)]
 pub struct TextSet {
     texts: IndexSet<Text>,
@@ -28,7 +28,7 @@ impl Model for TextSet {
 }
 
 impl TextSet {
-    /// No texts. It keeps the allocator and takes no memory.
+    /// An empty set. It keeps the allocator, and allocates no memory.
     pub fn new(alloc: Global) -> TextSet
         ensures { result ≡ [] }
     {
@@ -44,7 +44,7 @@ impl TextSet {
         self.texts.contains(TextRef { bytes: text })
     }
 
-    /// The place of the text in that order, if it is in the set.
+    /// The index of the text in the order of insertion, if the text is in the set.
     pub fn index_of(&self, text: &[u8]) -> Option<usize>
         ensures index { result ≡ position (bytes_eq text.now) self.now }
         ensures there { is_some result ≡ list_any (bytes_eq text.now) self.now }
@@ -53,7 +53,7 @@ impl TextSet {
         self.texts.get_index_of(TextRef { bytes: text })
     }
 
-    /// Puts the text in, if it isn't there.
+    /// Inserts the text, if it isn't in the set.
     pub fn insert(&mut self, text: Text) -> Result<(), NoMemory>
         ensures done { OnOk result (self.new ≡ insert_key bytes_eq self.old text) }
         ensures refused { OnErr result (self.new ≡ self.old) }
@@ -74,7 +74,7 @@ impl TextSet {
     }
 }
 
-/// These texts, each once: of equal ones the first stays.
+/// Removes repetitions from a list of texts. Of equal texts the first stays.
 #[tactic(auto, using(crate::proofs::WithoutRepeats::distinct_folded))]
 pub fn distinct(alloc: Global, texts: &Texts) -> Result<Texts, NoMemory>
     ensures { IfOk result (λ once. once ≡ distinct texts.now) }

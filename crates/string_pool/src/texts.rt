@@ -12,7 +12,7 @@ use std::alloc::Global;
 use std::hash::{Hash, Hasher};
 use std::marker::Model;
 
-/// A text as the key of a set, which contracts see as its bytes. It is hashed as a whole; a slice would be hashed byte by byte.
+/// A text as the key of a set. Contracts see its bytes. It is hashed with one write; a slice would be hashed byte by byte.
 #[derive(Drop)]
 pub(crate) struct Whole<'a> {
     pub(crate) bytes: &'a [u8],
@@ -50,7 +50,7 @@ impl<'a> Hash for Whole<'a> {
     }
 }
 
-/// Different texts in the order in which they were added. The number of a text is its index among them.
+/// Different texts in the order of insertion. The number of a text is its index in this order.
 /// Contracts see the list of the texts.
 #[derive(Drop)]
 pub struct Texts<'a> {
@@ -66,7 +66,7 @@ impl<'a> Model for Texts<'a> {
 }
 
 impl<'a> Texts<'a> {
-    /// No texts yet.
+    /// An empty list.
     pub fn new(alloc: Global) -> Texts<'a>
         ensures { result ≡ [] }
     {
@@ -75,7 +75,7 @@ impl<'a> Texts<'a> {
         }
     }
 
-    /// No texts yet, with room for so many.
+    /// An empty list with room for `count` texts.
     pub fn with_capacity(alloc: Global, count: usize) -> Result<Texts<'a>, NoMemory>
         ensures { IfOk result (λ texts. texts ≡ []) }
     {
@@ -84,7 +84,7 @@ impl<'a> Texts<'a> {
         Ok(texts)
     }
 
-    /// The number of a text, which is added at the end if it is new. It stays the same when others are added.
+    /// Returns the number of a text. Adds the text at the end if it is new. Adding other texts later does not change the number.
     #[tactic(auto, using(crate::proofs::Numbers::number_added))]
     pub fn add(&mut self, text: &'a [u8]) -> Result<u32, NoMemory>
         requires { length self.old < 2 ^ 32 }
@@ -110,7 +110,7 @@ impl<'a> Texts<'a> {
         self.texts.as_slice()
     }
 
-    // Keeps so many of the texts.
+    // Keeps the first `count` texts.
     pub(crate) fn truncate(&mut self, count: usize)
         ensures { self.new ≡ take count self.old }
     {

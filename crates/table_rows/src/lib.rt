@@ -1,5 +1,5 @@
-//! Tests whose rows are written in text files, so that another row costs no proof. A test program says by a `Trial` which words a row
-//! has, and tries its tables, which are the files of its data/. `docs/ROWS.md` says how a table is written.
+//! Tests whose rows are written in text files. A new row needs no new proof. A test program implements `Trial`, which lists the words of a
+//! row, and runs its tables, the files in its data/. `docs/ROWS.md` describes the format of a table.
 #![tactic(auto)]
 
 mod lines;

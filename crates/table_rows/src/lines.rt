@@ -1,17 +1,17 @@
-//! The lines of a table, and what they say.
+//! The lines of a table and their values.
 use lib_types::{NoMemory, Separator, Text, Texts, cut};
 use std::alloc::Global;
 
-/// The lines of a row behind its head, without their ends.
+/// The lines of a row after its head, without newlines.
 pub type Row<'a> = &'a [&'a [u8]];
 
-/// What is before the first such byte, and what follows it; all, and nothing, if there is none.
+/// The text before the first such byte and the text after it. If there is none, the whole text and an empty one.
 pub fn divide(byte: u8, text: &[u8]) -> (&[u8], &[u8]) {
     let (front, rest) = cut(Separator::Byte(byte), text);
     (front, rest.unwrap_or(b""))
 }
 
-/// The number of these digits.
+/// The number that these digits represent.
 pub fn number(digits: &[u8]) -> u64 {
     let mut number = 0u64;
     for digit in digits {
@@ -28,7 +28,7 @@ fn push_repeated(out: &mut Vec<u8>, times: u64, piece: &[u8]) -> Result<(), NoMe
     Ok(())
 }
 
-// What stands for the text in these brackets.
+// Appends the expansion of a bracket with this text inside.
 fn push_inside(out: &mut Vec<u8>, inside: &[u8]) -> Result<(), NoMemory> {
     let (front, piece) = divide(b' ', inside);
     if front.starts_with(b"#") {
@@ -38,7 +38,7 @@ fn push_inside(out: &mut Vec<u8>, inside: &[u8]) -> Result<(), NoMemory> {
     push_repeated(out, number(front), piece)
 }
 
-/// The text with so many times TEXT in place of each `<COUNT TEXT>`, and with one byte in place of its number in `<#NUMBER>`.
+/// The text with each `<COUNT TEXT>` replaced by COUNT copies of TEXT, and each `<#NUMBER>` by the byte with this number.
 pub(crate) fn expanded(alloc: Global, text: &[u8]) -> Result<Vec<u8>, NoMemory> {
     let mut out = Vec::new(alloc);
     let mut rest = text;
@@ -55,7 +55,7 @@ pub(crate) fn expanded(alloc: Global, text: &[u8]) -> Result<Vec<u8>, NoMemory> 
     Ok(out)
 }
 
-/// The lines, without their ends.
+/// The lines, without newlines.
 pub(crate) fn lines_of(alloc: Global, text: &[u8]) -> Result<Vec<&[u8]>, NoMemory> {
     let mut lines = Vec::new(alloc);
     let mut rest = text;
@@ -70,7 +70,8 @@ pub(crate) fn lines_of(alloc: Global, text: &[u8]) -> Result<Vec<&[u8]>, NoMemor
     Ok(lines)
 }
 
-/// What a line of a text says: `| ` stands before a line, `|` for an empty one, and `+ ` before one without its end.
+/// The content of a text line, or `None` if it isn't one. A line that begins with `| ` is a line of the text, `|` is an empty line, and
+/// a line that begins with `+ ` has no newline.
 pub(crate) fn of_text(line: &[u8]) -> Option<&[u8]> {
     if line.starts_with(b"| ") || line.starts_with(b"+ ") {
         Some(&line[2..])
@@ -81,7 +82,7 @@ pub(crate) fn of_text(line: &[u8]) -> Option<&[u8]> {
     }
 }
 
-/// The text of the first lines, up to one that is of no text.
+/// The text of the first lines, up to the first one that isn't a text line.
 pub fn text_below(alloc: Global, lines: Row<'_>) -> Result<Vec<u8>, NoMemory> {
     let mut text = Vec::new(alloc);
     for line in lines {
@@ -96,7 +97,7 @@ pub fn text_below(alloc: Global, lines: Row<'_>) -> Result<Vec<u8>, NoMemory> {
     Ok(text)
 }
 
-/// The text below the first line that is this word, empty if there is none.
+/// The text below the first line that is this word. The text is empty if there is none.
 pub fn text(alloc: Global, row: Row<'_>, word: &[u8]) -> Result<Vec<u8>, NoMemory> {
     for (index, line) in row.iter().enumerate() {
         if *line == word {
@@ -106,7 +107,7 @@ pub fn text(alloc: Global, row: Row<'_>, word: &[u8]) -> Result<Vec<u8>, NoMemor
     Ok(Vec::new(alloc))
 }
 
-/// What stands behind the first word of a line, of the first line that begins with this one.
+/// The rest of the first line whose first word is this one.
 pub fn value<'a>(row: Row<'a>, word: &[u8]) -> Option<&'a [u8]> {
     for line in row {
         let (first, rest) = divide(b' ', line);
@@ -117,7 +118,7 @@ pub fn value<'a>(row: Row<'a>, word: &[u8]) -> Option<&'a [u8]> {
     None
 }
 
-/// The number behind that word, 0 if there is none.
+/// The number after the word in the first such line, or 0 if there is none.
 pub fn count(row: Row<'_>, word: &[u8]) -> u64 {
     match value(row, word) {
         Some(digits) => number(digits),
@@ -125,12 +126,12 @@ pub fn count(row: Row<'_>, word: &[u8]) -> u64 {
     }
 }
 
-/// Whether a line begins with this word.
+/// Whether the first word of a line is this one.
 pub fn has_line(row: Row<'_>, word: &[u8]) -> bool {
     value(row, word).is_some()
 }
 
-/// The text below this word, if the row has the word.
+/// The text below this word, if the row has a line with the word.
 pub fn optional_text(
     alloc: Global,
     row: Row<'_>,
@@ -162,7 +163,7 @@ pub fn values(alloc: Global, row: Row<'_>, word: &[u8]) -> Result<Texts, NoMemor
     Ok(values)
 }
 
-/// The number of the call that fails, by the line with this word; none without the line.
+/// The number of the call that fails, from the line with this word. The list is empty if the row has no such line.
 pub fn calls(alloc: Global, row: Row<'_>, word: &[u8]) -> Result<Vec<u64>, NoMemory> {
     let mut calls = Vec::new(alloc);
     if let Some(digits) = value(row, word) {
@@ -171,7 +172,7 @@ pub fn calls(alloc: Global, row: Row<'_>, word: &[u8]) -> Result<Vec<u64>, NoMem
     Ok(calls)
 }
 
-/// The lines before the first that begins with one of these words.
+/// The lines before the first line whose first word is one of these words.
 pub fn lines_before<'a>(words: &[&[u8]], lines: Row<'a>) -> Row<'a> {
     for (index, line) in lines.iter().enumerate() {
         if begins_with(words, line) {
@@ -192,7 +193,7 @@ pub(crate) fn begins_with(words: &[&[u8]], line: &[u8]) -> bool {
     false
 }
 
-/// The parts of a text between such bytes, except empty ones.
+/// The parts of a text between separator bytes, except empty ones.
 pub fn list(alloc: Global, byte: u8, text: &[u8]) -> Result<Texts, NoMemory> {
     let mut list = Texts::new(alloc);
     let mut rest = text;
@@ -206,7 +207,7 @@ pub fn list(alloc: Global, byte: u8, text: &[u8]) -> Result<Texts, NoMemory> {
     Ok(list)
 }
 
-/// These texts, each as a line.
+/// The texts, one per line.
 pub fn lines_in(alloc: Global, texts: &Texts) -> Result<Vec<u8>, NoMemory> {
     let mut lines = Vec::new(alloc);
     for text in texts.as_slice() {

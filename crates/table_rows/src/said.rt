@@ -1,16 +1,16 @@
-//! What is said of rows that differ.
+//! The report of rows that differ.
 use crate::lines::{Row, text};
 use lib_types::NoMemory;
 use std::alloc::Global;
 
-/// What is said of rows that differ.
+/// The report of rows that differ, as text.
 #[derive(Drop)]
 pub struct Said {
     text: Vec<u8>,
 }
 
 impl Said {
-    /// Nothing so far.
+    /// An empty report.
     pub fn new(alloc: Global) -> Said {
         Said {
             text: Vec::new(alloc),
@@ -21,7 +21,7 @@ impl Said {
         &self.text
     }
 
-    /// Says a line of these two parts.
+    /// Adds a line to the report, made of these two parts.
     pub fn say(&mut self, front: &[u8], back: &[u8]) -> Result<(), NoMemory> {
         self.text.extend_from_slice(front)?;
         self.text.extend_from_slice(back)?;
@@ -29,7 +29,7 @@ impl Said {
         Ok(())
     }
 
-    /// Whether both texts are the same; if not, says what they are.
+    /// Whether both texts are equal. If not, reports both.
     pub fn is_same(&mut self, name: &[u8], want: &[u8], got: &[u8]) -> Result<bool, NoMemory> {
         if want == got {
             return Ok(true);
@@ -41,7 +41,7 @@ impl Said {
         Ok(false)
     }
 
-    /// Whether this is the row's text below the word; if not, says what both are.
+    /// Whether `got` equals the row's text below the word. If not, reports both.
     pub fn is_text(
         &mut self,
         alloc: Global,
@@ -53,7 +53,7 @@ impl Said {
         self.is_same(word, &want, got)
     }
 
-    /// The same of two numbers.
+    /// Whether two numbers are equal. If not, reports both.
     pub fn is_number(
         &mut self,
         alloc: Global,

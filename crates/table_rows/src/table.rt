@@ -1,4 +1,4 @@
-//! Tables, tried row by row.
+//! Runs the tests of a table, row by row.
 use crate::lines::{Row, begins_with, expanded, lines_before, lines_of, of_text};
 use crate::said::Said;
 use lib_types::NoMemory;
@@ -7,19 +7,19 @@ use std::io::ErrorKind;
 use std::process::ExitCode;
 use std::{fs, io};
 
-/// Words with which the lines of a row begin.
+/// The first words of the lines of a row.
 pub type Words = &'static [&'static [u8]];
 
-/// What a row says, and how it is tried.
+/// The format of a row, and how a row is tested.
 pub trait Trial {
-    /// The words with which a row's lines begin, except those of its texts, in one list or several.
+    /// The first words of a row's lines, in one or several lists. Text lines need no word.
     fn words() -> &'static [Words];
 
-    /// Whether a row's subject is as the row says; says what differs.
+    /// Whether the result equals what the row expects. If not, reports the difference.
     fn is_right(alloc: Global, row: Row<'_>, said: &mut Said) -> Result<bool, NoMemory>;
 }
 
-// How many rows a table has, and how many of them differ.
+// The number of rows of a table, and the number of rows that differ.
 #[derive(Clone, Copy)]
 struct Counts {
     rows: u64,
@@ -37,7 +37,7 @@ fn is_known(lists: &[Words], line: &[u8]) -> bool {
     line.is_empty() || of_text(line).is_some()
 }
 
-// Whether each line of a row is one that a row can have; says which isn't.
+// Whether each line of a row begins with a known word. If not, reports the first one that doesn't.
 fn are_known(lists: &[Words], row: Row<'_>, said: &mut Said) -> Result<bool, NoMemory> {
     for line in row {
         if !is_known(lists, line) {
@@ -48,7 +48,7 @@ fn are_known(lists: &[Words], row: Row<'_>, said: &mut Said) -> Result<bool, NoM
     Ok(true)
 }
 
-// Whether a row is right; says its head if it isn't.
+// Whether a row is right. If not, reports its head.
 fn is_right<T: Trial>(
     alloc: Global,
     head: &[u8],
@@ -76,14 +76,14 @@ fn try_rows<T: Trial>(alloc: Global, lines: &[&[u8]], said: &mut Said) -> Result
     Ok(Counts { rows, differ })
 }
 
-// Tries each row of a table, and says what differs.
+// Tests each row of a table, and reports the differences.
 fn try_table<T: Trial>(alloc: Global, text: &[u8], said: &mut Said) -> Result<Counts, NoMemory> {
     let text = expanded(alloc, text)?;
     let lines = lines_of(alloc, &text)?;
     try_rows::<T>(alloc, &lines, said)
 }
 
-// Tries the table in this file, and prints what differs.
+// Tests the table in this file, and prints the differences.
 fn try_file<T: Trial>(rt: &HostRuntime, name: &str) -> io::Result<Counts> {
     let alloc = rt.alloc();
     let text = fs::read(rt, name)?;
@@ -97,7 +97,7 @@ fn try_file<T: Trial>(rt: &HostRuntime, name: &str) -> io::Result<Counts> {
     Ok(counts)
 }
 
-/// Tries the tables in these files, prints what differs and how many rows each has, and returns whether all are right.
+/// Tests the tables in these files. Prints the differences and the number of rows of each table. Returns whether all rows are right.
 pub fn try_tables<T: Trial>(rt: &HostRuntime, names: &[&str]) -> io::Result<bool> {
     let mut are_right = true;
     for name in names {
@@ -108,7 +108,7 @@ pub fn try_tables<T: Trial>(rt: &HostRuntime, names: &[&str]) -> io::Result<bool
     Ok(are_right)
 }
 
-/// The exit status of a program of tests.
+/// The exit status of a test program.
 pub fn status(are_right: bool) -> ExitCode {
     if are_right {
         ExitCode::SUCCESS

@@ -8,7 +8,7 @@ use Rattle.tree_face.specs.Crash.{GoesOn, HasMoments, Leaves, LeavesAtMost, Leav
 use Rattle.tree_face.specs.Disk.{Content, DiskContent, DiskState, content_eq, slot_eq}
 use Rattle.tree_face.specs.Known.{IfKnown}
 
--- what passes for a slot's content is it
+-- contents that compare equal are equal
 pub content_is : (c x : Content) → content_eq c x ≡ true → c ≡ x
 content_is None None e = refl
 content_is None (Some y) e = absurd (false≢true e)
@@ -64,7 +64,7 @@ module _ (a b c : DiskState) where
     pub others_on : (slot : Slot) → LeavesOthers slot a b → LeavesOthers slot b c → LeavesOthers slot a c
     others_on slot first next = λ s h. same_on s (first s h) (next s h)
 
-    -- after calls that left the same
+    -- a call that does not change what a crash may leave, and then one that adds to it
     pub more_on : (test : Content → Bool) (slot : Slot) → LeavesSame slot a b → LeavesMore test slot b c → LeavesMore test slot a c
     more_on test slot first next = record {
       now = λ x. next.now x ∙ ap (λ y. y || test x) (first.now x);
@@ -78,7 +78,7 @@ module _ (a b c : DiskState) where
     }
 
 module _ (slot : Slot) (old new : DiskState) where
-  -- the same test by another name
+  -- the test may be replaced by one that gives the same results
   pub more_by : (test other : Content → Bool) → ((x : Content) → test x ≡ other x) → LeavesMore test slot old new → LeavesMore other slot old new
   more_by test other same more = record {
     now = λ x. more.now x ∙ ap (λ y. old.may slot x || y) (same x);
@@ -91,7 +91,7 @@ module _ (slot : Slot) (old new : DiskState) where
     during = λ t x le since. or_at (old.since t slot x) (test x) (other x) (most.during t x le since) (λ e. sym (same x) ∙ e);
   }
 
--- in one slot at most this content comes to what might have been left
+-- the call adds at most this content to what a crash may leave, in one slot
 module _ (slot : Slot) (bytes : Content) (P : Slot → Content → Type 0) (holds : P slot bytes) (old new : DiskState) (laws : HasMoments old) (later : old.time ≤ new.time)
     (others : LeavesOthers slot old new) (most : IfKnown old.contents (λ _. LeavesAtMost (content_eq bytes) slot old new)) where
   anything : old.contents ≡ None → (t : ℕ) (s : Slot) (b : Content) → t ≤ old.time → old.since t s b ≡ true

@@ -69,7 +69,7 @@ module _ (a b : SureDisk) where
   sure_keeps_past : KeepsPast a.past b.past → KeepsSlots (disk_state a) (disk_state b)
   sure_keeps_past keeps = still (disk_state a) (disk_state b) (has_moments a) (kept_time a.past b.past keeps) (kept_may a.past b.past keeps) (kept_since a.past b.past keeps)
 
--- ---- a call that adds one
+-- ---- a call that adds a change
 
 module _ (a b : SureDisk) (c : Change) (changed : IsChangedBy c a.past b.past) where
   abbrev after : Slot → Moment
@@ -78,7 +78,7 @@ module _ (a b : SureDisk) (c : Change) (changed : IsChangedBy c a.past b.past) w
   may_now : (s : Slot) (x : Content) → may_leave b.past s x ≡ (after s).may x
   may_now s x = ap (λ (m : Moment). m.may x) (moment_more a.past b.past c changed s)
 
-  -- what a crash may leave now, it might have left since
+  -- what a crash may leave now, it may have left since any earlier moment
   counted : (t : ℕ) (s : Slot) (x : Content) → t ≤ clock_of a.past → may_leave a.past s x ≡ true → might_leave a.past t s x ≡ true
   counted t s x le may = (has_moments a).earlier t (clock_of a.past) s x le (omega arith) ((has_moments a).now s x ∙ may)
 
@@ -91,7 +91,7 @@ module _ (a b : SureDisk) (c : Change) (changed : IsChangedBy c a.past b.past) w
         ∙ ap (λ y. might_leave a.past t s x || y) (sym (since_after a.past b.past c changed (clock_of a.past) s x (omega arith)));
   }
 
-  -- a slot in which a crash may leave what it might have left before
+  -- a slot for which the change does not alter what a crash may leave
   unchanged : (s : Slot) → ((x : Content) → (after s).may x ≡ may_leave a.past s x) → LeavesSame s (disk_state a) (disk_state b)
   unchanged s same = record {
     now = λ x. may_now s x ∙ same x;
@@ -130,7 +130,7 @@ module _ (a b : SureDisk) (slot : Slot) where
     settled_now x = may_now a b (Settled slot) changed slot x ∙ pick_first (slot_eq slot slot) _ _ (same_slot slot)
 
 module _ (a b : SureDisk) (slot : Slot) where
-  -- the result of a publishing whose change may be refused
+  -- the result of `publish`, where adding the change may fail
   pub publishes : (tag : ℕ) (result : Result (Unit {0}) Failed)
       → MatchResult result (λ _. IsChangedBy (Published slot (file_in (files_of a slot) tag)) a.past b.past) (λ _. KeepsPast a.past b.past)
       → AddsPublished tag slot (disk_state a) (disk_state b) result
@@ -147,7 +147,7 @@ module _ (a b : SureDisk) (slot : Slot) where
   now_of Cache = refl
   now_of Aux = refl
 
-  -- and of a flushing
+  -- the result of `settle`, where adding the change may fail
   pub settles : (result : Result (Unit {0}) Failed) → MatchResult result (λ _. IsChangedBy (Settled slot) a.past b.past) (λ _. KeepsPast a.past b.past)
       → Settles slot (disk_state a) (disk_state b) result
   settles (Ok x) change = record {
@@ -218,7 +218,7 @@ module _ (a b : SureDisk) where
       }
 
   module _ (slot : Slot) (result : Result (Unit {0}) Failed) (files : SameFiles a b) where
-    -- a flushing keeps the contents, refused or not
+    -- `settle` keeps the contents, whether or not adding the change fails
     pub settles_content : MatchResult result (λ _. IsChangedBy (Settled slot) a.past b.past) (λ _. KeepsPast a.past b.past) → Keeps (disk_content a) (disk_content b)
     settles_content change = by result change
       where
@@ -226,14 +226,14 @@ module _ (a b : SureDisk) where
         by (Ok x) change = keeps_files (settled_slots slot change) files
         by (Err x) change = keeps_files (same_slots change) files
 
--- ---- a publishing, call by call
+-- ---- `publish`, step by step
 
 pub behind : (p q r : Past) (c : Change) (result : Result (Unit {0}) Failed) → KeepsPast p q → MatchResult result (λ _. IsChangedBy c q r) (λ _. KeepsPast q r)
     → MatchResult result (λ _. IsChangedBy c p r) (λ _. KeepsPast p r)
 behind p q r c (Ok x) keeps next = record { first = λ s. next.first s ∙ keeps.first s; more = next.more ∙ ap (λ l. l ++ c ∷ []) keeps.same }
 behind p q r c (Err x) keeps next = record { first = λ s. next.first s ∙ keeps.first s; same = next.same ∙ keeps.same }
 
--- a publishing: room is made (m), the file is taken away (n), and the change is added (b)
+-- the steps of `publish`: reserve memory (m), remove the temporary file (n), add the change (b)
 module _ (a m n b : SureDisk) (tag : ℕ) (slot : Slot) (file : Option Temporary) (result : Result (Unit {0}) Failed)
     (here : SameFiles a m) (room : KeepsPast a.past m.past) (taken : n.past ≡ m.past) (is : file ≡ file_in (files_of m slot) tag)
     (ended : file_in (files_of n slot) tag ≡ None)

@@ -2,7 +2,7 @@
 use Rattle.std.proofs.Common.{Option, Some, None}
 use Rattle.tree_face.specs.Known.{IfKnown, Relates}
 
--- what follows for given contents follows if they are known
+-- if P implies Q for each content, then it does for a content that may be unknown
 pub known_then : {A : Type 0} (known : Option A) (P Q : A → Type 0) → ((a : A) → P a → Q a) → IfKnown known P → IfKnown known Q
 known_then None P Q f h = tt
 known_then (Some a) P Q f h = f a h

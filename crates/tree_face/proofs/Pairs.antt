@@ -34,7 +34,7 @@ find-passes p (y ∷ xs) x e =
       | false ↦ λ fails found. find-passes p xs x found
     ] refl e
 
--- the content at the first index of a key is what is held under it
+-- the content at the first index of a key is the content that the store holds for the key
 pub content_first : (pairs : List Pair) (key : List ℕ) → option_map (λ pair. pair.1) (pair_at pairs (position (is_under key) pairs)) ≡ held_in pairs key
 content_first pairs key = ap (option_map (λ (pair : Pair). pair.1)) (found_at (is_under key) pairs)
 

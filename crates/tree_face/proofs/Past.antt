@@ -36,7 +36,7 @@ module _ (old new : DiskState) (laws : HasMoments old) (time : new.time ≡ old.
     slots = λ slot. record { now = may slot; during = λ t b le. since t slot b };
   }
 
--- ---- one change more
+-- ---- one more change
 
 module _ (slot : Slot) where
   pub last_moment_more : (m : Moment) (cs : List Change) (c : Change) → last_moment slot m (cs ++ c ∷ []) ≡ moment_after slot (last_moment slot m cs) c

@@ -22,7 +22,7 @@ module _ (ks1 ks2 : List (List ℕ)) where
   keys_on DeviceFailed a b c = follow_part ks1 ks2 a b c
   keys_on GaveUp a b c = follow_part ks1 ks2 a b c
 
-  -- more faults before a call that fails, none before another
+  -- faults that a first call doesn't raise have their cause in the second call
   cause_on : (l1 l2 l : Type 0) (e : Ending) (a b c : ℕ) → (l2 → l) → b ≡ a → HasCause l2 e b c → HasCause l e a c
   cause_on l1 l2 l Complete a b c f none last = last ∙ none
   cause_on l1 l2 l DeviceFailed a b c f none (inl risen) = inl (rw (← none) risen)
@@ -61,7 +61,7 @@ module _ (ks1 ks2 : List (List ℕ)) where
   cause_part l1 l DeviceFailed a b f (inr lacks) = inr (f lacks)
   cause_part l1 l GaveUp a b f last = last
 
-  -- a call that doesn't read all of the first files reads none of those behind them
+  -- a call that doesn't read all of the first files reads none of the following files
   pub reads_part : (l1 l : Type 0) (m1 m2 : ℕ) (e : Ending) (a b : StoreState) → (l1 → l) → IsPartial e →
       ReadsFiles l1 (Some ks1) (Some m1) e a b → ReadsFiles l (Some (ks1 ++ ks2)) (Some (m1 + m2)) e a b
   reads_part l1 l m1 m2 e a b f partial first = record {
@@ -177,7 +177,7 @@ reads_none l m s = record {
     untaken (Some n) = omega arith
 
 module _ (k : Option (List (List ℕ))) (m : Option ℕ) (a b : StoreState) where
-  -- a file that isn't held, in other words
+  -- another condition for a file that the store doesn't hold
   pub reads_as : (l1 l : Type 0) (e : Ending) → (l1 → l) → ReadsFiles l1 k m e a b → ReadsFiles l k m e a b
   reads_as l1 l e f reads = record {
     held = reads.held;
@@ -207,7 +207,7 @@ module _ (k : Option (List (List ℕ))) (m : Option ℕ) (a b : StoreState) wher
     cause = reads.cause;
   }
 
--- ---- of keys that aren't known
+-- ---- keys that aren't known
 
 -- a call that reads nothing
 pub unread : (s : StoreState) → ReadsFiles ⊥ None None Complete s s
@@ -222,7 +222,7 @@ unread s = record {
   cause = refl;
 }
 
--- less is said of the keys
+-- the keys and the number of bytes may be treated as unknown
 pub reads_fewer : (l1 l : Type 0) (k : Option (List (List ℕ))) (m : Option ℕ) (e : Ending) (a b : StoreState) → (l1 → l) → ReadsFiles l1 k m e a b → ReadsFiles l None None e a b
 reads_fewer l1 l k m e a b f reads = record {
   held = reads.held;

@@ -1,4 +1,4 @@
--- Parts that are handed on one after another.
+-- Reading and writing in pieces, one after another.
 use Rattle.std.proofs.Common.{◌≡◌, ℕ, ◌+◌, ◌-◌, ◌≤◌, min, List, ◌++◌, length, take, drop, Option, Some, None, append_assoc, arith, ap, sym, ◌∙◌, length-drop}
 use Rattle.std.proofs.Math.ListN.{drop_of_length-le}
 use Rattle.std.proofs.Math.Seq.{take-add, take-append_seam}

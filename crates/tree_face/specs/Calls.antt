@@ -9,7 +9,7 @@ use Rattle.tree_face.specs.declared.disk.Tag.{Tag}
 abbrev pub made_call : Tag → Slot → Call → DoneCall
 made_call t s c = record { tag = t; slot = s; call = c }
 
--- the flushing of a slot, which has no tag of its own
+-- the call that flushes a slot; it has tag 0
 abbrev pub settling : Slot → DoneCall
 settling s = made_call (record { 0 = 0 }) s Settle
 

@@ -1,4 +1,4 @@
--- A disk of three slots. A slot is replaced by way of a temporary file: only its publishing makes it the slot's content (rename(2)).
+-- A disk with three slots. To replace a slot's content, a temporary file is written and then renamed into place (rename(2)).
 use Rattle.std.specs.Prelude.{◌≡◌, ◌⊎◌, ◌≤◌, ◌++◌, ◌==◌, ◌&&◌, ℕ, Bool, true, false, List, [], ◌∷◌, Option, Some, None, is_some, IsErrOf, Result, IfOk, OnOk, OnErr, Vec}
 use Rattle.std.specs.Option.{option_map, option_eq}
 use Rattle.std.specs.Str.{bytes_eq}
@@ -19,7 +19,7 @@ Content = Option (List ℕ)
 abbrev pub content_eq : Content → Content → Bool
 content_eq = option_eq bytes_eq
 
--- what a reading of each slot gives
+-- the content of each slot
 pub record Slots : Type 0 where
   pub manifest : Content
   pub cache : Content
@@ -60,37 +60,37 @@ pub record DiskState : Type 0 where
   pub time : ℕ
   -- whether a crash now may leave this content in a slot
   pub may : Slot → Content → Bool
-  -- whether a crash at some moment from this one on might have left it
+  -- whether a crash at some moment since this time may have left this content in a slot
   pub since : ℕ → Slot → Content → Bool
   -- the writing calls in their order, if known; one that failed may be missing
   pub calls : Option (List DoneCall)
   -- the slots that were read in their order, if known; a reading that failed may be missing
   pub reads : Option (List Slot)
   pub faults : ℕ
-  -- how many of the faults were of readings
+  -- the number of faults in reads
   pub read_faults : ℕ
 
--- Where contents are known, a temporary file is created and not published exactly if there is one.
+-- If the contents are known, `made` is true exactly for the temporary files that exist.
 abbrev pub IsMadeIfThere : DiskState → Type 0
 IsMadeIfThere s = IfKnown s.contents (λ c. (t : ℕ) (slot : Slot) → s.made t slot ≡ is_some (c.temporary t slot))
 
 -- ---- changes of the contents
 
--- no temporary file but this one is touched
+-- the other temporary files do not change
 pub record KeepsOthers (tag : ℕ) (slot : Slot) (a b : DiskContent) : Type 0 where
   pub bytes : (t : ℕ) (s : Slot) → (t == tag) && slot_eq s slot ≡ false → b.temporary t s ≡ a.temporary t s
   pub flushed : (t : ℕ) (s : Slot) → (t == tag) && slot_eq s slot ≡ false → b.synced t s ≡ a.synced t s
 
--- the slots stay, and only this temporary file may change
+-- the slots do not change, and only this temporary file may change
 pub record Touches (tag : ℕ) (slot : Slot) (a b : DiskContent) : Type 0 where
   pub slots : b.now ≡ a.now
   pub others : KeepsOthers tag slot a b
 
--- the temporary file isn't flushed, or it was so before and has the same bytes
+-- if the temporary file is flushed, it was flushed before and has the same bytes
 abbrev pub FlushesNothing : ℕ → Slot → DiskContent → DiskContent → Type 0
 FlushesNothing tag slot a b = b.synced tag slot ≡ true → (a.synced tag slot ≡ true) × (b.temporary tag slot ≡ a.temporary tag slot)
 
--- a call on a temporary file that failed: the file may have any bytes
+-- a failed call on a temporary file: the file may have any bytes
 pub record Spoils (tag : ℕ) (slot : Slot) (a b : DiskContent) : Type 0 where
   pub touches : Touches tag slot a b
   pub unflushed : FlushesNothing tag slot a b
@@ -101,31 +101,31 @@ pub record Creates (tag : ℕ) (slot : Slot) (a b : DiskContent) : Type 0 where
   pub empty : b.temporary tag slot ≡ Some []
   pub unflushed : b.synced tag slot ≡ false
 
--- the temporary file has these bytes more
+-- these bytes are appended to the temporary file
 pub record Appends (tag : ℕ) (slot : Slot) (bytes : List ℕ) (a b : DiskContent) : Type 0 where
   pub touches : Touches tag slot a b
   pub more : b.temporary tag slot ≡ option_map (λ c. c ++ bytes) (a.temporary tag slot)
   pub unflushed : b.synced tag slot ≡ false
 
--- the slots and all temporary files stay
+-- the slots and the temporary files do not change
 pub record Keeps (a b : DiskContent) : Type 0 where
   pub slots : b.now ≡ a.now
   pub temporary : (t : ℕ) (s : Slot) → b.temporary t s ≡ a.temporary t s
   pub flushed : (t : ℕ) (s : Slot) → b.synced t s ≡ a.synced t s
 
--- the temporary file is flushed, with the bytes that it has
+-- the temporary file is flushed, and its bytes do not change
 pub record Syncs (tag : ℕ) (slot : Slot) (a b : DiskContent) : Type 0 where
   pub touches : Touches tag slot a b
   pub same : b.temporary tag slot ≡ a.temporary tag slot
   pub flushed : b.synced tag slot ≡ true
 
--- the temporary file becomes the slot's content, and ends
+-- the temporary file is renamed into place: it becomes the slot's content
 pub record Publishes (tag : ℕ) (slot : Slot) (a b : DiskContent) : Type 0 where
   pub slots : b.now ≡ with_slot a.now slot (a.temporary tag slot)
   pub ended : b.temporary tag slot ≡ None
   pub others : KeepsOthers tag slot a b
 
--- a publishing that failed: the slot has the old content or the new one
+-- a failed `publish`: the slot has the old content or the new one
 pub record MayPublish (tag : ℕ) (slot : Slot) (a b : DiskContent) : Type 0 where
   pub slots : (b.now ≡ a.now) ⊎ (b.now ≡ with_slot a.now slot (a.temporary tag slot))
   pub others : KeepsOthers tag slot a b
@@ -145,15 +145,15 @@ pub record Does (call : DoneCall) (change left : DiskContent → DiskContent →
   pub read_faults : new.read_faults ≡ old.read_faults
   pub cause : OnErr result (HasRisen old.faults new.faults)
 
--- the same temporary files are made as before
+-- no temporary file is created or removed
 abbrev pub KeepsMade : DiskState → DiskState → Type 0
 KeepsMade old new = (t : ℕ) (s : Slot) → new.made t s ≡ old.made t s
 
--- the same temporary files but this one are made as before
+-- no other temporary file is created or removed
 abbrev pub KeepsOthersMade : ℕ → Slot → DiskState → DiskState → Type 0
 KeepsOthersMade tag slot old new = (t : ℕ) (s : Slot) → (t == tag) && slot_eq s slot ≡ false → new.made t s ≡ old.made t s
 
--- nothing is written: the contents, the calls, the temporary files that were made, and what a crash leaves stay
+-- nothing is written: the contents, the temporary files, the calls and what a crash may leave do not change
 pub record KeepsAll (old new : DiskState) : Type 0 where
   pub contents : new.contents ≡ old.contents
   pub made : KeepsMade old new
@@ -162,7 +162,7 @@ pub record KeepsAll (old new : DiskState) : Type 0 where
   pub may : new.may ≡ old.may
   pub since : new.since ≡ old.since
 
--- a reading of a slot
+-- the call that reads a slot
 pub record ReadsSlot (old new : DiskState) (slot : Slot) (result : Result (Option (Vec ℕ Global)) DiskRead) : Type 0 where
   pub content : IfOk result (λ found. IfKnown old.contents (λ known. option_map (λ v. v.items) found ≡ slot_of known.now slot))
   pub keeps : KeepsAll old new

@@ -6,13 +6,13 @@ use Rattle.tree_face.specs.Follows.{IsFollowedBy, IsFollowedByPart}
 use Rattle.tree_face.specs.Known.{Relates}
 use Rattle.tree_face.specs.StoreUse.{Ending, Complete, DeviceFailed, GaveUp, HasCause}
 
--- all of these slots are read, or a prefix of them if the call ends before
+-- all of these slots are read, or a prefix of them if the call fails
 abbrev pub ReadsSlots : Ending → List Slot → List Slot → List Slot → Type 0
 ReadsSlots Complete slots = IsFollowedBy slots
 ReadsSlots DeviceFailed slots = IsFollowedByPart slots
 ReadsSlots GaveUp slots = IsFollowedByPart slots
 
--- these slots are read in their order, each once, nothing is written, and the counts rise only if the disk fails
+-- the call reads these slots in order, each once, and writes nothing; the counts of faults rise only if the disk fails
 pub record ReadsOnly (slots : List Slot) (ending : Ending) (old new : DiskState) : Type 0 where
   pub keeps : KeepsAll old new
   pub reads : Relates (ReadsSlots ending slots) old.reads new.reads

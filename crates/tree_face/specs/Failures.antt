@@ -1,4 +1,4 @@
--- Which calls of a device in memory fail on demand.
+-- Which calls of an I/O interface in memory fail on demand.
 use Rattle.std.specs.Prelude.{◌≡◌, ◌==◌, ◌-◌, ◌||◌, ℕ, Bool, false, IsTrue, List, Option, Some, if◌then◌else◌}
 use Rattle.std.specs.List.{list_any}
 use Rattle.std.specs.Option.{option_map, option_map_or}
@@ -10,13 +10,13 @@ pub record Plan : Type 0 where
   pub fail : List ℕ
   -- the number of the next call
   pub next : ℕ
-  -- after how many further writing calls every call fails, if so
+  -- the number of further writing calls after which every call fails, if any
   pub left : Option ℕ
 
 abbrev pub plan_of : Failures → Plan
 plan_of f = record { fail = f.fail.items; next = f.calls; left = f.stop }
 
--- the next call is to fail
+-- the next call must fail
 abbrev pub is_due : Plan → Bool
 is_due p = option_map_or (λ left. left == 0) p.left false || list_any (λ call. call == p.next) p.fail
 
@@ -31,7 +31,7 @@ after_call writes p = record {
 abbrev pub stopping_after : ℕ → Plan → Plan
 stopping_after calls p = record p { left = Some calls }
 
--- a call that is due fails, and the plan goes on
+-- a call that must fail fails, and the plan advances by one call
 pub record FollowsPlan (writes : Bool) (old new : Plan) (failed : Bool) : Type 0 where
   pub due : IsTrue (is_due old) → IsTrue failed
   pub next : new ≡ after_call writes old

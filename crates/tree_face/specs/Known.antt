@@ -1,8 +1,8 @@
--- Contents that a device makes known to contracts. A device in memory makes its content known, a real one doesn't; each fact of a content is
--- stated for known content.
+-- Contents that contracts can see. An I/O interface in memory makes its content known; a real one doesn't. Each fact about a content is
+-- stated for known content only.
 use Rattle.std.specs.Prelude.{◌≡◌, Option, Some, None, IfSome}
 
--- a fact of a content, if it is known
+-- the fact holds of the content, if the content is known
 abbrev pub IfKnown : {A : Type 0} → Option A → (A → Type 0) → Type 0
 IfKnown content P = IfSome content P
 

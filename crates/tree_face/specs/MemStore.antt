@@ -1,4 +1,4 @@
--- The state of a store in memory that fails on demand, and keeps the keys that were begun.
+-- The state of a store in memory that fails on demand and records the keys of the files that were opened.
 use Rattle.std.specs.Prelude.{ℕ, List, Some}
 use Rattle.tree_face.specs.declared.memory.stores.MemStore.{MemStore}
 use Rattle.tree_face.specs.SureStore.{state_of}

@@ -1,4 +1,4 @@
--- What a store in memory holds: pairs of a key and a content, of which the first with a key counts.
+-- The contents of a store in memory: pairs of a key and a content. If a key occurs twice, the first pair counts.
 use Rattle.std.specs.Prelude.{ℕ, Bool, List, Option, find}
 use Rattle.std.specs.List.{slice_get}
 use Rattle.std.specs.Option.{option_map, option_and_then}

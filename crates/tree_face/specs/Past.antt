@@ -1,4 +1,4 @@
--- What the slots of a disk in memory have held: their first contents, and each publishing and each flushing since.
+-- The history of the slots of a disk in memory: their initial contents, and then each `publish` and `settle`.
 use Rattle.std.specs.Prelude.{◌≡◌, ◌||◌, ◌++◌, ℕ, Bool, List, [], ◌∷◌, length, drop, if◌then◌else◌}
 use Rattle.std.specs.List.{list_any}
 use Rattle.std.specs.Option.{option_map, option_copied}
@@ -12,7 +12,7 @@ use Rattle.tree_face.specs.Crash.{left_by}
 use Rattle.tree_face.specs.Disk.{Content, content_eq, slot_eq}
 use Rattle.tree_face.specs.Temporaries.{bytes_of, is_synced}
 
--- what a slot held at first
+-- the initial content of a slot
 abbrev pub first_of : Past → Slot → Content
 first_of p Manifest = option_map (λ v. v.items) p.manifest
 first_of p Cache = option_map (λ v. v.items) p.cache
@@ -23,7 +23,7 @@ changes_of p = p.changes.items
 
 -- ---- what a slot holds
 
--- what it holds, and what it held when it was settled
+-- the current content, and the content when the slot was last flushed
 pub record Holding : Type 0 where
   pub now : Content
   pub settled : Content
@@ -40,12 +40,12 @@ holding_of h = record { now = option_copied h.now; settled = option_copied h.set
 
 -- ---- what a crash may leave
 
--- a slot at a moment: what it holds, and what a crash may leave
+-- a slot at a moment: its contents, and what a crash may leave
 pub record Moment : Type 0 where
   pub holds : Holding
   pub may : Content → Bool
 
--- a publishing adds to what a crash may leave, and a flushing leaves what the slot holds alone
+-- `publish` adds to what a crash may leave; after `settle` a crash leaves only the slot's content
 abbrev pub may_after : Slot → Moment → Change → Content → Bool
 may_after slot m (Published s file) b = if slot_eq slot s then m.may b || left_by (bytes_of file) (is_synced file) b else m.may b
 may_after slot m (Settled s) b = if slot_eq slot s then content_eq m.holds.now b else m.may b
@@ -65,7 +65,7 @@ last_moment slot m (c ∷ cs) = last_moment slot (moment_after slot m c) cs
 abbrev pub first_moment : Past → Slot → Moment
 first_moment p slot = record { holds = first_holding p slot; may = content_eq (first_of p slot) }
 
--- a moment's number is how many changes were made before it
+-- the number of a moment is the number of changes before it
 abbrev pub clock_of : Past → ℕ
 clock_of p = length (changes_of p)
 
@@ -78,11 +78,11 @@ holding_in p slot = (moment_in p slot).holds
 abbrev pub may_leave : Past → Slot → Content → Bool
 may_leave p slot = (moment_in p slot).may
 
--- a crash at one of the moments from t on might have left it
+-- a crash at some moment from t on may have left this content
 abbrev pub might_leave : Past → ℕ → Slot → Content → Bool
 might_leave p t slot b = list_any (λ m. m.may b) (drop t (moments slot (first_moment p slot) (changes_of p)))
 
--- what a crash leaves in a slot if what was published since it was settled counts as done, or not
+-- what a crash leaves in a slot: the current content if `done`, otherwise the content when the slot was last flushed
 abbrev pub left_in : Past → Slot → Bool → Content
 left_in p slot done = if done then (holding_in p slot).now else (holding_in p slot).settled
 
@@ -93,7 +93,7 @@ pub record KeepsPast (old new : Past) : Type 0 where
   pub first : (slot : Slot) → first_of new slot ≡ first_of old slot
   pub same : changes_of new ≡ changes_of old
 
--- one change more
+-- one more change
 pub record IsChangedBy (change : Change) (old new : Past) : Type 0 where
   pub first : (slot : Slot) → first_of new slot ≡ first_of old slot
   pub more : changes_of new ≡ changes_of old ++ change ∷ []

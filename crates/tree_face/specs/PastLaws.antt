@@ -36,7 +36,7 @@ same_content c = (options_equiv nat_list_eq_equiv).refl c
 -- ---- moments
 
 module _ {A : Type 0} (test : A → Bool) where
-  -- the items behind a later place are among those behind an earlier one
+  -- the items from an index on are among the items from an earlier index on
   any_before : (u : ℕ) (l : List A) → list_any test (drop u l) ≡ true → list_any test l ≡ true
   any_before zero l any = any
   any_before (suc u) [] any = any
@@ -49,12 +49,12 @@ module _ {A : Type 0} (test : A → Bool) where
   any_earlier (suc t) (suc u) (x ∷ l) le any = any_earlier t u l (le_of_suc-le-suc le) any
 
 module _ (slot : Slot) where
-  -- behind all changes there is the last moment
+  -- after all changes only the last moment is left
   any_last : (b : Content) (m : Moment) (cs : List Change) → list_any (λ m. m.may b) (drop (length cs) (moments slot m cs)) ≡ (last_moment slot m cs).may b
   any_last b m [] = or_none (m.may b)
   any_last b m (c ∷ cs) = any_last b (moment_after slot m c) cs
 
-  -- a crash may leave what the slot holds, and what it held when it was settled
+  -- a crash may leave the slot's current content, and its content when it was last flushed
   pub record IsSound (m : Moment) : Type 0 where
     pub now : m.may m.holds.now ≡ true
     pub settled : m.may m.holds.settled ≡ true

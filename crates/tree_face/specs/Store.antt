@@ -1,36 +1,36 @@
--- A store: contents under keys, read in pieces, one key at a time.
+-- A store: files by key. One file is open at a time, and is read in pieces.
 use Rattle.std.specs.Prelude.{◌≡◌, ◌⊎◌, ◌≤◌, ◌-◌, ◌++◌, ℕ, min, List, [], ◌∷◌, length, take, drop, Option, Some, None, IfSome, Result, IfOk, OnOk, OnErr, MatchResult}
 use Rattle.lib_types.specs.declared.fault.Failed.{Failed}
 use Rattle.lib_types.specs.Counts.{raised, HasRisen}
 use Rattle.tree_face.specs.Known.{IfKnown, Relates}
 use Rattle.tree_face.specs.Follows.{IsFollowedBy, IsFollowedByPart}
 
--- the bytes under each key that is held
+-- the bytes of the file with each key, if the store holds it
 abbrev pub Contents : Type 0
 Contents = List ℕ → Option (List ℕ)
 
 pub record StoreState : Type 0 where
-  -- what is held, if known
+  -- the files that the store holds, if known
   pub held : Option Contents
-  -- the key that was begun and its content, if known
+  -- the key and the content of the open file, if known
   pub key : Option (List ℕ)
   pub content : Option (List ℕ)
-  -- the length of its content, always known; none if no key is begun
+  -- the length of the open file, always known; None if no file is open
   pub size : Option ℕ
   pub faults : ℕ
-  -- how many keys were begun
+  -- the number of files opened
   pub begun : ℕ
-  -- these keys in their order, if known; one that was refused may be missing
+  -- the keys of these files in order, if known; the key of a call that failed may be missing
   pub keys : Option (List (List ℕ))
-  -- how many bytes were read
+  -- the number of bytes read
   pub taken : ℕ
 
--- a store of known contents doesn't hold the key
+-- the contents of the store are known, and the key is not among them
 abbrev pub Lacks : Option Contents → List ℕ → Type 0
 Lacks None key = ⊥
 Lacks (Some held) key = held key ≡ None
 
--- this key is begun, with the bytes that are held under it
+-- the file with this key is open, with the bytes that the store holds for it
 pub record HasBegun (s : StoreState) (held : Contents) (key : List ℕ) (n : ℕ) : Type 0 where
   pub bytes : List ℕ
   pub under_key : held key ≡ Some bytes
@@ -38,7 +38,7 @@ pub record HasBegun (s : StoreState) (held : Contents) (key : List ℕ) (n : ℕ
   pub content : s.content ≡ Some bytes
   pub size : length bytes ≡ n
 
--- the call that begins a key
+-- the call that opens a file
 pub record Begins (old new : StoreState) (key : List ℕ) (result : Result ℕ Failed) : Type 0 where
   pub held : new.held ≡ old.held
   pub size : MatchResult result (λ n. new.size ≡ Some n) (λ _. new.size ≡ None)
@@ -55,7 +55,7 @@ pub record Begins (old new : StoreState) (key : List ℕ) (result : Result ℕ F
   pub no_fault : OnOk result (new.faults ≡ old.faults)
   pub cause : OnErr result (HasRisen old.faults new.faults ⊎ Lacks old.held key)
 
--- the call that reads from an offset of the begun content into the front of a buffer
+-- the call that reads from an offset of the open file into the front of a buffer
 pub record Reads (old new : StoreState) (at : ℕ) (before after : List ℕ) (result : Result ℕ Failed) : Type 0 where
   pub held : new.held ≡ old.held
   pub key : new.key ≡ old.key

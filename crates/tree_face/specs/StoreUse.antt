@@ -9,24 +9,24 @@ use Rattle.tree_face.specs.Store.{StoreState}
 pub data Ending : Type 0 where
   -- the files were read
   Complete : Ending
-  -- the device has failed, or the store doesn't hold a file
+  -- the store failed, or it doesn't hold a file
   DeviceFailed : Ending
   -- it is out of memory
   GaveUp : Ending
 
--- all of these keys are begun, or a prefix of them if the call doesn't read all
+-- the files with all of these keys are opened, or with a prefix of the keys if the call doesn't read all files
 abbrev pub BeginsKeys : Ending → List (List ℕ) → List (List ℕ) → List (List ℕ) → Type 0
 BeginsKeys Complete keys = IsFollowedBy keys
 BeginsKeys DeviceFailed keys = IsFollowedByPart keys
 BeginsKeys GaveUp keys = IsFollowedByPart keys
 
--- The count of faults rises only if the device fails, and the call ends so only then, or because a file isn't held.
+-- The count of faults rises only if the call ends with DeviceFailed. It ends so if the count rises, or if the store doesn't hold a file.
 abbrev pub HasCause : Type 0 → Ending → ℕ → ℕ → Type 0
 HasCause lacks Complete before after = after ≡ before
 HasCause lacks DeviceFailed before after = HasRisen before after ⊎ lacks
 HasCause lacks GaveUp before after = after ≡ before
 
--- the call begins these keys in their order and takes at most so many bytes, as far as they are known
+-- if `keys` is known, the call opens the files with these keys in order; if `most` is known, it reads at most that many bytes
 pub record ReadsFiles (lacks : Type 0) (keys : Option (List (List ℕ))) (most : Option ℕ) (ending : Ending) (old new : StoreState) : Type 0 where
   pub held : new.held ≡ old.held
   pub begins : IfSome keys (λ keys. Relates (BeginsKeys ending keys) old.keys new.keys)

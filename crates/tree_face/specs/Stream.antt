@@ -14,11 +14,11 @@ pub record SourceState : Type 0 where
   pub faults : ℕ
 
 pub record SinkState : Type 0 where
-  -- what was taken so far, if known
+  -- the bytes written so far, if known
   pub written : Option (List ℕ)
   pub faults : ℕ
 
--- the first n bytes of a buffer were taken from what was left; a buffer with room gets none exactly if nothing is left
+-- the first n bytes of the buffer are the first bytes of the input that was left; if the buffer has room, n is 0 exactly at the end
 pub record Gives (room n : ℕ) (bytes : List ℕ) (a b : List ℕ) : Type 0 where
   pub taken : a ≡ take n bytes ++ b
   pub end : 0 < room → (n ≡ 0) ↔ (a ≡ [])
@@ -32,7 +32,7 @@ pub record ReadsInput (old new : SourceState) (before after : List ℕ) (result 
   pub no_fault : OnOk result (new.faults ≡ old.faults)
   pub cause : OnErr result (HasRisen old.faults new.faults)
 
--- the call that writes bytes: a prefix of them is taken, or the call failed
+-- the call that writes bytes: a prefix of them is written, or the call fails
 pub record Takes (old new : SinkState) (bytes : List ℕ) (result : Result ℕ Failed) : Type 0 where
   pub within : IfOk result (λ n. n ≤ length bytes)
   pub some : IfOk result (λ n. 0 < length bytes → 0 < n)
@@ -42,7 +42,7 @@ pub record Takes (old new : SinkState) (bytes : List ℕ) (result : Result ℕ F
   pub no_fault : OnOk result (new.faults ≡ old.faults)
   pub cause : OnErr result (HasRisen old.faults new.faults)
 
--- all of the bytes are written, or a prefix of them and the sink has failed
+-- all of the bytes are written; if the sink fails, a prefix of them is written
 pub record TakesAll (old new : SinkState) (bytes : List ℕ) (result : Result (Unit {0}) Failed) : Type 0 where
   pub done : OnOk result (Relates (IsFollowedBy bytes) old.written new.written)
   pub failed : OnErr result (Relates (IsFollowedByPart bytes) old.written new.written)
@@ -50,22 +50,22 @@ pub record TakesAll (old new : SinkState) (bytes : List ℕ) (result : Result (U
   pub no_fault : OnOk result (new.faults ≡ old.faults)
   pub cause : OnErr result (HasRisen old.faults new.faults)
 
--- these bytes were read of what was left
+-- these bytes were read from the front of the input that was left
 abbrev pub AreRead : List ℕ → List ℕ → List ℕ → Type 0
 AreRead bytes a b = a ≡ bytes ++ b
 
--- all that was left was read: these bytes
+-- the input that was left was read to its end: these bytes
 pub record GivesAll (bytes a b : List ℕ) : Type 0 where
   pub all : a ≡ bytes
   pub end : b ≡ []
 
--- Some bytes were read of what was left. The fact holds of their number.
+-- some bytes were read from the front of the input that was left, and the fact holds of their number
 pub record GivesSome (P : ℕ → Type 0) (a b : List ℕ) : Type 0 where
   pub bytes : List ℕ
   pub count : P (length bytes)
   pub read : AreRead bytes a b
 
--- what was read of an input that may have so many bytes; one more than these tells that it is too long
+-- what was read of an input that may have at most `limit` bytes; the input is too long if it has one more
 abbrev pub ReadsTo : ℕ → Result (Vec ℕ Global) ReadFault → Option (List ℕ) → Option (List ℕ) → Type 0
 ReadsTo limit (Ok bytes) = Relates (GivesAll bytes.items)
 ReadsTo limit (Err (TooLong taken)) = Relates (GivesSome (λ n. n ≡ taken))

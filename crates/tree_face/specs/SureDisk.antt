@@ -16,7 +16,7 @@ files_of d Manifest = d.manifest
 files_of d Cache = d.cache
 files_of d Aux = d.aux
 
--- what a slot holds
+-- the current content of a slot
 abbrev pub now_in : SureDisk → Slot → Content
 now_in d slot = (holding_in d.past slot).now
 
@@ -63,7 +63,7 @@ failing_disk_state d = record (disk_state d.disk) { faults = d.failures.faults; 
 abbrev pub disk_plan : MemDisk → Plan
 disk_plan d = plan_of d.failures
 
--- whether a publishing that isn't settled counts as done, by a bit for each slot
+-- whether a rename that isn't flushed survives the crash, by a bit for each slot
 abbrev pub counts_as_done : ℕ → Slot → Bool
 counts_as_done choice Manifest = not (bit_and choice 1 == 0)
 counts_as_done choice Cache = not (bit_and choice 2 == 0)

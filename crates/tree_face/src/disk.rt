@@ -7,7 +7,7 @@ ghost use Rattle.tree_face.specs.Disk.{DiskState, Creates, Appends, Keeps, Spoil
 use lib_types::Failed;
 use std::alloc::Global;
 
-/// What a disk keeps.
+/// A file that a disk keeps.
 #[derive(Clone, Copy, Debug, PartialEq, Eq, PartialOrd, Ord)]
 pub enum Slot {
     /// The image's manifest.
@@ -18,7 +18,7 @@ pub enum Slot {
     Aux,
 }
 
-/// The number of an updater, whose temporary files are its own.
+/// The number of an updater. Each updater has its own temporary files.
 #[derive(Clone, Copy, Debug, PartialEq, Eq, PartialOrd, Ord)]
 pub struct Tag(pub u16);
 
@@ -40,30 +40,30 @@ pub struct DoneCall {
     pub call: Call,
 }
 
-/// Why a slot wasn't read.
+/// Why reading a slot failed.
 #[derive(Clone, Copy, Debug, PartialEq, Eq)]
 pub enum DiskRead {
     Failed,
     NoMemory,
 }
 
-/// A disk of three slots, with a temporary file for each tag and slot. Each call that returns Failed raises the count
-/// of faults, a reading also that of the readings' faults.
+/// Storage for three files, the slots, with a temporary file for each tag and slot. Each call that returns Failed
+/// raises the count of faults. A failed read also raises the count of read faults.
 pub trait Disk {
     ghost state: { Self → DiskState };
 
-    /// The slot's content, or None if the slot holds nothing.
+    /// Reads the slot's content. Returns None if the file doesn't exist.
     fn read(&mut self, alloc: Global, slot: Slot) -> Result<Option<Vec<u8>>, DiskRead>
         ensures { ReadsSlot (state self.old) (state self.new) slot result };
 
-    /// Makes the temporary file of this tag and slot empty.
+    /// Creates the temporary file of this tag and slot, or truncates it.
     fn create(&mut self, tag: Tag, slot: Slot) -> Result<(), Failed>
         ensures does { Does (made_call tag slot Call.Create) (Creates tag.0 slot) (Spoils tag.0 slot) (state self.old) (state self.new) result }
         ensures made { OnOk result ((state self.new).made tag.0 slot ≡ true) }
         ensures others { KeepsOthersMade tag.0 slot (state self.old) (state self.new) }
         ensures crash { KeepsSlots (state self.old) (state self.new) };
 
-    /// Adds bytes to the temporary file. After an error it has any bytes.
+    /// Appends bytes to the temporary file. After an error the file may have any bytes.
     fn append(&mut self, tag: Tag, slot: Slot, bytes: &[u8]) -> Result<(), Failed>
         requires { (state self.old).made tag.0 slot ≡ true }
         ensures does { Does (made_call tag slot Call.Append) (Appends tag.0 slot bytes.now) (Spoils tag.0 slot) (state self.old) (state self.new) result }
@@ -77,23 +77,23 @@ pub trait Disk {
         ensures made { KeepsMade (state self.old) (state self.new) }
         ensures crash { KeepsSlots (state self.old) (state self.new) };
 
-    /// Makes the temporary file the slot's content, and ends it. After an error the slot has the old content or the
-    /// new one. Until the slot is settled, a crash may leave either; if the file wasn't flushed, any bytes.
+    /// Renames the temporary file into place: it becomes the slot's content. After an error the slot has the old content
+    /// or the new one. Until `settle`, a crash may leave either one. If the file wasn't flushed, it may leave any bytes.
     fn publish(&mut self, tag: Tag, slot: Slot) -> Result<(), Failed>
         requires { (state self.old).made tag.0 slot ≡ true }
         ensures does { Does (made_call tag slot Call.Publish) (Publishes tag.0 slot) (MayPublish tag.0 slot) (state self.old) (state self.new) result }
         ensures others { KeepsOthersMade tag.0 slot (state self.old) (state self.new) }
         ensures crash { AddsPublished tag.0 slot (state self.old) (state self.new) result };
 
-    /// Flushes the slot's content and its name to stable storage. From then on a crash leaves that content.
+    /// Flushes the slot's content and its directory entry to stable storage. After that a crash leaves this content.
     fn settle(&mut self, slot: Slot) -> Result<(), Failed>
         ensures does { Does (settling slot) Keeps Keeps (state self.old) (state self.new) result }
         ensures made { KeepsMade (state self.old) (state self.new) }
         ensures crash { Settles slot (state self.old) (state self.new) result };
 
-    // No publishing can empty a slot by a temporary file that isn't there.
+    // If the contents are known, `made` is true exactly for the temporary files that exist. So `publish` can't empty a slot.
     ghost made_if_there: { (disk : Self) → IsMadeIfThere (state disk) };
 
-    // What a crash now may leave belongs to what it might have left since any earlier moment.
+    // What a crash may leave now is among what a crash may have left since any earlier moment.
     ghost moments: { (disk : Self) → HasMoments (state disk) };
 }

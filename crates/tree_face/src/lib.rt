@@ -1,4 +1,4 @@
-//! The devices that the product works on, as traits and in memory. The tree of an image stands here too, under the names of its crate.
+//! The I/O interfaces of the product: the traits, and implementations in memory. Also re-exports `image_tree`, the tree of an image.
 #![tactic(auto)]
 
 mod disk;

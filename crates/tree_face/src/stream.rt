@@ -39,7 +39,7 @@ pub fn put_all<O: Sink>(sink: &mut O, bytes: &[u8]) -> Result<(), Failed>
 /// Why an input wasn't read to its end.
 #[derive(Clone, Copy, Debug, PartialEq, Eq)]
 pub enum ReadFault {
-    /// It has more bytes than it may have, and so many were read.
+    /// The input has more bytes than the limit. `taken` is the number of bytes that were read.
     TooLong { taken: u64 },
     /// The source failed.
     InputFault,
@@ -72,7 +72,7 @@ impl<T: Drop> From<AllocFailed<T>> for ReadFault {
 
 const PIECE: usize = 4096;
 
-/// Reads an input to its end, if it has at most `limit` bytes, and one byte more if it has.
+/// Reads an input to its end if it has at most `limit` bytes. If it is longer, reads `limit + 1` bytes and fails.
 #[tactic(auto, using(crate::proofs::Streams::read_on))]
 pub fn read_all<I: Source>(
     alloc: Global,
@@ -84,7 +84,7 @@ pub fn read_all<I: Source>(
     let mut bytes = Vec::new(alloc);
     let mut piece = [0; PIECE];
     while bytes.len() <= limit {
-        // One byte past the limit tells that there are more.
+        // If there is a byte past the limit, the input is too long.
         let room = (limit - bytes.len()).min(PIECE - 1) + 1;
         let count = source.read(&mut piece[..room])?;
         if count == 0 {

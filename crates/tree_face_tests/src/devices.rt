@@ -1,4 +1,4 @@
-// Each device does its calls, and each call of those that fail on demand fails once.
+// Each device does its calls. On the devices that fail on demand, each call fails once.
 use lib_types::{Failed, Text};
 use std::alloc::Global;
 use std::process::Abort;
@@ -22,7 +22,7 @@ fn store_of(alloc: Global, fail: &[u64]) -> Result<MemStore, Fail> {
     Ok(MemStore::new(alloc, held(alloc)?, Vec::from_slice(alloc, fail)?))
 }
 
-// What is read of the key `a` at an offset into three bytes, and how many they are.
+// An offset in the file with the key `a`, the number of bytes that are read there, and the buffer of three bytes.
 const READINGS: &[(u64, usize, [u8; 3])] = &[
     (0, 3, *b"fir"),
     (2, 3, *b"rst"),
@@ -68,7 +68,7 @@ fn stores_give_what_they_hold(rt: HostRuntime) -> Result<(), Fail> {
     Ok(())
 }
 
-// Begins the key, and reads twice from the front.
+// Opens the file of the key, and reads twice from its start.
 fn read_twice<S: Store>(store: &mut S) -> Result<(bool, bool), Failed> {
     let mut buf = [0; 9];
     let _ = store.begin(b"a")?;
@@ -95,7 +95,7 @@ fn replace<D: Disk>(disk: &mut D, tag: Tag, slot: Slot, bytes: &[u8]) -> Result<
     disk.settle(slot)
 }
 
-// Whether the slot holds these bytes, or nothing if they are None.
+// Whether the slot's file has these bytes, or is missing if `want` is None.
 fn has<D: Disk>(alloc: Global, disk: &mut D, slot: Slot, want: Option<&[u8]>) -> bool {
     match (disk.read(alloc, slot), want) {
         (Ok(Some(found)), Some(want)) => found.as_slice() == want,
@@ -116,7 +116,7 @@ fn assert_disk<D: Disk>(rt: &impl Abort, alloc: Global, disk: &mut D) -> Result<
     Ok(())
 }
 
-// A disk with this in its Cache slot, whose calls of these numbers fail.
+// A disk with this cache file, whose calls with these numbers fail.
 fn disk_of(alloc: Global, cache: Option<&[u8]>, fail: &[u64]) -> Result<MemDisk, Fail> {
     let cache = match cache {
         Some(bytes) => Some(Vec::from_slice(alloc, bytes)?),
@@ -144,17 +144,17 @@ fn disks_keep_what_is_published(rt: HostRuntime) -> Result<(), Fail> {
     Ok(())
 }
 
-// How the reading of the Cache slot fails.
+// The fault of reading the cache file.
 fn reading_fault(alloc: Global, disk: &mut MemDisk) -> Option<DiskRead> {
     disk.read(alloc, Slot::Cache).err()
 }
 
-// Whether the replacing of the Cache slot fails.
+// Whether replacing the cache file fails.
 fn replacing_fails(disk: &mut MemDisk, tag: Tag, bytes: &[u8]) -> bool {
     replace(disk, tag, Slot::Cache, bytes).is_err()
 }
 
-// Call 0 reads, and the calls 1 to 5 replace.
+// Call 0 reads, and calls 1 to 5 replace.
 #[test]
 fn each_call_of_a_disk_fails_on_demand(rt: HostRuntime) -> Result<(), Fail> {
     let alloc = rt.alloc();
@@ -188,7 +188,7 @@ fn a_disk_stops(rt: HostRuntime) -> Result<(), Fail> {
     Ok(())
 }
 
-// Publishes these bytes in the Cache slot, without a settling.
+// Renames a cache file with these bytes into place, without flushing the directory.
 fn publish<D: Disk>(disk: &mut D, bytes: &[u8]) -> Result<(), Failed> {
     disk.create(Tag(1), Slot::Cache)?;
     disk.append(Tag(1), Slot::Cache, bytes)?;
@@ -196,7 +196,7 @@ fn publish<D: Disk>(disk: &mut D, bytes: &[u8]) -> Result<(), Failed> {
     disk.publish(Tag(1), Slot::Cache)
 }
 
-// Each image has these bytes in its Cache slot, by whether what isn't settled counts as done, and nothing else.
+// The cache file of each image, depending on whether unflushed changes count as done. The other files are missing.
 fn assert_images(
     rt: &impl Abort,
     alloc: Global,
@@ -246,7 +246,7 @@ fn an_image_is_written(rt: HostRuntime) -> Result<(), Fail> {
     assert_images(&rt, alloc, &image, b"new", b"new")
 }
 
-// What a source of `abcde` gives, three bytes at a time, and how many they are.
+// The results of reading `abcde` from a source, three bytes at a time: the count, and the buffer.
 const PARTS: &[(usize, [u8; 3])] = &[(3, *b"abc"), (2, *b"de-"), (0, *b"---"), (0, *b"---")];
 
 fn gives<I: Source>(source: &mut I, count: usize, want: [u8; 3]) -> bool {
@@ -281,7 +281,7 @@ fn sources_give_their_bytes(rt: HostRuntime) -> Result<(), Fail> {
     Ok(())
 }
 
-// So many bytes, each of which tells where it stands.
+// `size` bytes, each of which is its offset modulo 251.
 fn counted(alloc: Global, size: usize) -> Result<Vec<u8>, Fail> {
     let mut bytes = Vec::new(alloc);
     for i in 0..size {

@@ -1,1 +1,2 @@
+pub mod LinkerScript
 pub mod Unknown

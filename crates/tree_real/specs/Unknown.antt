@@ -1,4 +1,4 @@
--- The states of the devices over real folders and streams: unknown contents, and their counts.
+-- The states of the devices over real directories and streams: unknown contents, and their counts.
 use Rattle.std.specs.Prelude.{ℕ, true, None, refl}
 use Rattle.tree_face.specs.Crash.{HasMoments}
 use Rattle.tree_face.specs.Disk.{DiskState}

@@ -1,4 +1,4 @@
-//! The slots of an image that is unpacked in a folder, as a disk.
+//! The files of an image that is unpacked in a directory, as a `Disk`.
 ghost use Rattle.std.specs.Prelude.{◌≡◌, ◌≤◌, IfOk, OnErr, OnOk};
 ghost use Rattle.std.specs.Result.{is_err};
 ghost use Rattle.lib_types.specs.Counts.{HasRisen};
@@ -15,21 +15,27 @@ use std::io;
 use std::rt::Runtime;
 use tree_face::{Disk, DiskRead, Slot, Tag};
 
-/// The slots in a folder, with a count of the calls that failed.
+/// The slots in a directory, with a count of the calls that failed.
 #[derive(Drop)]
 pub struct FolderDisk<R: Runtime> {
     files: ImageSlots<R>,
     faults: u64,
-    // How many of the faults were of readings.
+    // The number of faults in reading calls.
     read_faults: u64,
 }
 
 impl<R: Runtime> FolderDisk<R> {
-    /// The slots of the image in the folder `root`, at these paths in it.
-    pub fn new(rt: R, root: &str, run: RunId, paths: SlotPaths) -> Result<FolderDisk<R>, NoMemory>
+    /// The slots of the image in the directory `root`, at these paths in it. The auxiliary cache is `aux` if it is given.
+    pub fn new(
+        rt: R,
+        root: &str,
+        run: RunId,
+        paths: SlotPaths,
+        aux: Option<SlotFiles<R>>,
+    ) -> Result<FolderDisk<R>, NoMemory>
         ensures { IfOk result (λ disk. unknown_disk disk.faults disk.read_faults ≡ unknown_disk 0 0) }
     {
-        let files = ImageSlots::new(rt, root, run, paths)?;
+        let files = ImageSlots::new(rt, root, run, paths, aux)?;
         Ok(FolderDisk {
             files,
             faults: 0,
@@ -37,19 +43,12 @@ impl<R: Runtime> FolderDisk<R> {
         })
     }
 
-    /// From here on the auxiliary cache is this one.
-    pub fn set_aux(&mut self, aux: SlotFiles<R>)
-        ensures { unknown_disk self.new.faults self.new.read_faults ≡ unknown_disk self.old.faults self.old.read_faults }
-    {
-        self.files.set_aux(aux);
-    }
-
     /// The cache's file, below the root.
     pub fn cache_file(&self) -> &str {
         self.files.cache_file()
     }
 
-    /// What was replaced, and how many entries caches have.
+    /// What was replaced, and the entry counts of the caches.
     pub fn written(&self) -> Written {
         self.files.written()
     }
@@ -59,8 +58,8 @@ impl<R: Runtime> FolderDisk<R>
 where
     R::File: HeldFile,
 {
-    /// A line of the manifest as it is now, counted from 1, without its newline. It is read anew, and counts as no call of the
-    /// disk.
+    /// A line of the manifest as it is now, counted from 1, without its newline. The manifest is read again. The reading doesn't count as
+    /// a call of the disk.
     pub fn manifest_line(&mut self, alloc: Global, number: u64) -> io::Result<Vec<u8>> {
         let text = self.files.read(alloc, Slot::Manifest)?;
         let text = text.unwrap_or(Vec::new(alloc));
@@ -72,7 +71,21 @@ impl<R: Runtime + Streams> FolderDisk<R>
 where
     R::File: HeldFile,
 {
-    // The result of a writing call, which counts a failure.
+    /// Whether the slot's file can be replaced, as far as this is known before writing. If not, a line on the error output says why. This
+    /// doesn't count as a call of the disk.
+    pub fn is_replaceable(&mut self, slot: Slot) -> bool
+        ensures { unknown_disk self.new.faults self.new.read_faults ≡ unknown_disk self.old.faults self.old.read_faults }
+    {
+        match self.files.require_place(slot) {
+            Ok(()) => true,
+            Err(error) => {
+                self.files.fail(slot, "", error);
+                false
+            }
+        }
+    }
+
+    // The result of a writing call. A failure is counted.
     fn result(&mut self, slot: Slot, call: &str, done: io::Result<()>) -> Result<(), Failed>
         ensures same { is_err result ≡ is_err done }
         ensures faults { self.old.faults ≤ self.new.faults }
@@ -140,7 +153,7 @@ where
     }
 }
 
-// A line of a text, counted from 1, without its newline. It is empty if there is none.
+// A line of a text, counted from 1, without its newline. It is empty if the text has no such line.
 fn line_of(text: &[u8], number: u64) -> &[u8] {
     let at = usize::try_from(number.saturating_sub(1)).unwrap_or(usize::MAX);
     text.split(|b| *b == b'\n').nth(at).unwrap_or(&[])

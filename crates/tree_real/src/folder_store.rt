@@ -1,10 +1,11 @@
-//! A store of the files below a folder.
-ghost use Rattle.std.specs.Prelude.{◌≡◌, ◌-◌, min, IfOk};
+//! A store of the files below a directory.
+ghost use Rattle.std.specs.Prelude.{◌≡◌, ◌↔◌, ◌≤◌, ◌-◌, Some, length, min, IfOk, IsTrue};
 ghost use Rattle.tree_real.specs.Unknown.{no_counts, unknown_store};
 
 use crate::counts::{StoreCounts, one_more};
+use crate::linker_script::{SCRIPT_HEAD, is_linker_script};
 use crate::machines::{FirstFile, Machines};
-use device_rules::foreign_machine;
+use device_rules::{Identity, foreign_machine};
 use image_folder::{HeldFile, ImageFolder, shorter};
 use lib_types::{Failed, NoMemory};
 use name_order::is_library_name;
@@ -14,14 +15,18 @@ use std::os::unix::fs::FileExt;
 use std::rt::Runtime;
 use tree_face::Store;
 
-/// The files below a folder. A key is a path below it, without `..`, and no part of it is followed through a link.
+/// The files below a directory. A key is a path below it, without `..`. Symbolic links in it are not followed.
 #[derive(Drop)]
 pub struct FolderStore<R: Runtime> {
     image: ImageFolder<R>,
+    // The auxiliary cache's file, if it exists.
+    aux: Option<Identity>,
+    // Whether a file to open was the auxiliary cache's.
+    has_met_aux: bool,
     file: Option<R::File>,
     counts: StoreCounts,
     machines: Machines<R>,
-    // Whether the first key that was begun is no library's: a conf file is read before them.
+    // Whether the first file that was opened is not a library: a conf file is read before the libraries.
     read_conf: bool,
 }
 
@@ -31,8 +36,18 @@ impl<R: Runtime> FolderStore<R> {
         ensures { IfOk result (λ store. store.counts ≡ no_counts) }
     {
         let image = ImageFolder::new(rt, root)?;
-        Ok(FolderStore {
+        Ok(FolderStore::without(image, None))
+    }
+
+    /// The store of the files in this directory. If one of them is the file `aux`, it can't be opened: an auxiliary cache is no file of an
+    /// image.
+    pub fn without(image: ImageFolder<R>, aux: Option<Identity>) -> FolderStore<R>
+        ensures { result.counts ≡ no_counts }
+    {
+        FolderStore {
             image,
+            aux,
+            has_met_aux: false,
             file: None,
             counts: StoreCounts {
                 size: None,
@@ -45,7 +60,7 @@ impl<R: Runtime> FolderStore<R> {
                 first: None,
             },
             read_conf: false,
-        })
+        }
     }
 
     /// The files for machines that no cache is built for.
@@ -53,12 +68,17 @@ impl<R: Runtime> FolderStore<R> {
         &self.machines
     }
 
-    /// Whether a conf file was read: it comes before the libraries.
+    /// Whether a conf file was read: it is read before the libraries.
     pub fn has_read_conf(&self) -> bool {
         self.read_conf
     }
 
-    /// How many files were begun.
+    /// Whether a file was not opened because it is the auxiliary cache's.
+    pub fn has_met_aux(&self) -> bool {
+        self.has_met_aux
+    }
+
+    /// The number of files that were opened.
     pub fn begun(&self) -> u64
         ensures { result ≡ self.now.counts.begun }
     {
@@ -79,10 +99,37 @@ where
             return Err(Error::new(ErrorKind::InvalidInput, message));
         };
         let (file, stamp) = self.image.open(path)?;
+        if is_file(self.aux, stamp.identity()) {
+            self.has_met_aux = true;
+            return Err(Error::new(ErrorKind::InvalidInput, "it is the auxiliary cache"));
+        }
         Ok((file, stamp.size))
     }
 
-    // Reads from an offset of the begun file. One system call, which needs no position of the file.
+    /// Whether the file of this path below the directory is a linker script, by its first bytes. The reading doesn't count as a call of the
+    /// store.
+    pub fn is_linker_script(&mut self, path: &str) -> bool
+        ensures { self.new.counts ≡ self.old.counts }
+    {
+        let mut head = [0u8; SCRIPT_HEAD];
+        match self.read_head(path, &mut head) {
+            Ok(count) => is_linker_script(&head[..count]),
+            Err(_) => false,
+        }
+    }
+
+    // Reads the first bytes of a file into the buffer, and returns their number.
+    fn read_head(&mut self, path: &str, buf: &mut [u8]) -> io::Result<usize>
+        ensures counts { self.new.counts ≡ self.old.counts }
+        ensures within { IfOk result (λ count. count ≤ length buf.old) }
+    {
+        let (file, stamp) = self.image.open(path)?;
+        let count = count_at(stamp.size, 0, buf.len());
+        file.read_exact_at(&mut buf[..count], 0)?;
+        Ok(count)
+    }
+
+    // Reads from an offset of the open file, with one pread call.
     fn fill(&self, at: u64, buf: &mut [u8]) -> io::Result<()> {
         match &self.file {
             Some(file) => file.read_exact_at(buf, at),
@@ -105,14 +152,30 @@ where
     }
 }
 
-// How many bytes are read into a buffer of this length.
+// Whether the file with this identity is `other`, if that exists.
+fn is_file(other: Option<Identity>, identity: Identity) -> bool
+    ensures { IsTrue result ↔ other ≡ Some identity }
+{
+    match other {
+        Some(other) => is_same(other, identity),
+        None => false,
+    }
+}
+
+fn is_same(one: Identity, other: Identity) -> bool
+    ensures { IsTrue result ↔ one ≡ other }
+{
+    one == other
+}
+
+// The number of bytes to read into a buffer of this length.
 fn count_at(size: u64, at: u64, room: usize) -> usize
     ensures { result ≡ min room (size - at) }
 {
     size.saturating_sub(at).min(room as u64) as usize
 }
 
-// Whether the last name of a path is a library's.
+// Whether the last name of a path is a library's name.
 fn is_library(key: &[u8]) -> bool {
     let name = match key.iter().rposition(|b| *b == b'/') {
         Some(at) => key.get(at + 1..).unwrap_or(key),

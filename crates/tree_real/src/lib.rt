@@ -1,9 +1,10 @@
-//! The devices over a real folder and real streams.
+//! The devices over a real directory and real streams.
 #![tactic(auto)]
 
 mod counts;
 mod folder_disk;
 mod folder_store;
+mod linker_script;
 mod machines;
 mod stdio;
 

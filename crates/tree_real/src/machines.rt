@@ -1,7 +1,7 @@
 //! The files for machines that no cache is built for.
 use std::rt::Runtime;
 
-/// How many files with a library's name are for other machines, and the first of them.
+/// The number of files that have a library's name and are for other machines, and the first of them.
 #[derive(Drop)]
 pub struct Machines<R: Runtime> {
     pub files: u64,
@@ -13,6 +13,6 @@ pub struct Machines<R: Runtime> {
 pub struct FirstFile<R: Runtime> {
     /// Its name below the image.
     pub path: String<R::A>,
-    /// The machine's number, as ELF has it.
+    /// The machine number in ELF.
     pub number: u16,
 }

@@ -9,7 +9,7 @@ use std::io::{Error, ErrorKind};
 use std::rt::Runtime;
 use tree_face::{Sink, Source};
 
-/// What comes on standard input.
+/// The standard input.
 #[derive(Drop)]
 pub struct StdinSource<R: Runtime> {
     rt: R,
@@ -17,7 +17,7 @@ pub struct StdinSource<R: Runtime> {
     faults: u64,
 }
 
-/// What goes to standard output.
+/// The standard output.
 #[derive(Drop)]
 pub struct StdoutSink<R: Runtime> {
     rt: R,

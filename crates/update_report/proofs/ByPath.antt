@@ -1,4 +1,4 @@
--- The defects of a table's rows, put in the order of the paths, are those of the files of the table in this order.
+-- Inserting the defects of a table's rows in path order gives the same list as reading the table at the sorted paths.
 use Rattle.std.proofs.Common.{◌≡◌, ◌∙◌, ℕ, true, false, List, [], ◌∷◌, Option, Some, None, map, refl, ap, sym, subst, Ordering}
 use Rattle.std.proofs.lemmas.Cmp.{nat_list_cmp_total}
 use Rattle.std.proofs.lemmas.Map.Keys.{sorted_head, sorted_tail}
@@ -51,14 +51,14 @@ module _ (defect_at : List ℕ → Option Defect) where
       → insert_entry cmp ((x, e) ∷ es) k d ≡ match_ordering r ((k, d) ∷ (x, e) ∷ es) ((x, d) ∷ es) ((x, e) ∷ insert_entry cmp es k d)
   row_put k x d e es r h = ap (λ o. match_ordering o ((k, d) ∷ (x, e) ∷ es) ((x, d) ∷ es) ((x, e) ∷ insert_entry cmp es k d)) h
 
-  -- a path below all is put first
+  -- a path below all others is inserted at the front
   first_put : (k : List ℕ) (d : Defect) (ks : List (List ℕ)) → AllByRecursion (λ y. cmp k y ≡ Less) ks → insert_entry cmp (picked ks) k d ≡ (k, d) ∷ picked ks
   first_put k d [] a = refl
   first_put k d (x ∷ ks) a =
       elim (defect_at x) as (λ o. insert_entry cmp (cons_option (paired x o) (picked ks)) k d ≡ (k, d) ∷ cons_option (paired x o) (picked ks))
       [ None ↦ first_put k d ks a.1 | Some e ↦ row_put k x d e (picked ks) Less a.0 ]
 
-  -- a path with a defect
+  -- the file at the path has a defect
   pub defect_put : (k : List ℕ) (d : Defect) (ks : List (List ℕ)) → defect_at k ≡ Some d → AreSorted ks → insert_entry cmp (picked ks) k d ≡ picked (with_text ks k)
   defect_put k d [] e s = sym (one k (Some d) [] e)
   defect_put k d (x ∷ ks) e s = by_ordering (cmp k x)
@@ -74,7 +74,7 @@ module _ (defect_at : List ℕ → Option Defect) where
       [ None ↦ rest | Some e ↦ row_put k x d e (picked ks) Greater a ∙ ap (λ es. (x, e) ∷ es) rest ] in
       behind ∙ ap picked (sym (text_put k x ks Greater a)))
 
-  -- a path with none
+  -- the file at the path has no defect
   pub none_put : (k : List ℕ) (ks : List (List ℕ)) → defect_at k ≡ None → picked ks ≡ picked (with_text ks k)
   none_put k [] e = sym (one k None [] e)
   none_put k (x ∷ ks) e = by_ordering (cmp k x)
@@ -84,7 +84,7 @@ module _ (defect_at : List ℕ → Option Defect) where
 
 -- ---- all rows
 
--- the row of each path is the first with this path
+-- looking up the path of each row finds this row
 abbrev AreFound : Analyses → Rows → Type 0
 AreFound what rows = AllByRecursion (λ row. what row.0 ≡ Some row.1) rows
 
@@ -97,7 +97,7 @@ module _ (what : Analyses) where
   row_put_in path (Not defect) paths e s = defect_put defect_at path defect paths (ap (option_and_then defect_of) e) s
   row_put_in path (Lib abi soname) paths e s = none_put defect_at path paths (ap (option_and_then defect_of) e)
 
-  -- what was put so far is that of the paths so far
+  -- the defects of the rows so far are those at the paths so far
   rows_put : (rows so_far : Rows) → AreSorted (keys_of so_far) → AreFound what rows
       → fold with_row (picked defect_at (keys_of so_far)) rows ≡ picked defect_at (fold with_text (keys_of so_far) (keys_of rows))
   rows_put [] so_far s are = refl
@@ -121,7 +121,7 @@ module _ (what : Analyses) where
 
 -- ---- rows of distinct paths
 
--- another row ahead of them changes nothing
+-- a row in front with another path changes no lookup
 found_behind : (path : List ℕ) (analysis : Analysis) (rows some : Rows) → AllByRecursion (λ y. bytes_eq path y ≡ false) (keys_of some) → AreFound (analysis_at rows) some
     → AreFound (analysis_at ((path, analysis) ∷ rows)) some
 found_behind path analysis rows [] others are = tt

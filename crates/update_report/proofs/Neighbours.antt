@@ -1,4 +1,4 @@
--- Sonames each with the one before it, and with the one behind it.
+-- Pairing each soname with its predecessor or with its successor gives the same lines.
 use Rattle.std.proofs.Common.{◌≡◌, ℕ, List, [], ◌∷◌, ◌++◌, refl, ap, Some, None}
 use Rattle.std.specs.List.{flat_map, zip}
 use Rattle.update_report.specs.Lines.{line_of_twins}

@@ -1,4 +1,4 @@
--- Lists that agree on the files that are no libraries give the same of them.
+-- Two lists of paths with the same skipped files give the same skip records.
 use Rattle.std.proofs.Common.{◌≡◌, ◌∙◌, ◌&&◌, ℕ, Bool, true, false, List, [], ◌∷◌, Option, Some, None, refl, ap, sym, is_some}
 use Rattle.std.proofs.lemmas.Bool.{or_left, or_right}
 use Rattle.std.proofs.lemmas.List.Kept.{IsStrictlySortedBy-filter}
@@ -38,7 +38,7 @@ same_picked what xs ys same =
     ∙ sym (kept_in keep z (ascending ys))))
     ∙ left (ascending ys)
 
--- a file of a table that is skipped is in it
+-- a skipped file's path is in the table
 pub in_table : (rows : Rows) (z : List ℕ) → is_skipped (analysis_at rows) z ≡ true → is_in (keys_of rows) z ≡ true
 in_table [] z h = absurd (cc)
 in_table (e ∷ rows) z h = by_test (bytes_eq z e.0)

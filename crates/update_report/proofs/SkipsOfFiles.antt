@@ -1,4 +1,4 @@
--- The files of a table that are no libraries, by what each file is.
+-- The skipped files depend only on the analyses of the given paths.
 use Rattle.std.proofs.Common.{◌≡◌, ℕ, List, [], ◌∷◌, refl, ap, ◌∙◌}
 use Rattle.std.proofs.lemmas.Bool.{or_left, or_right}
 use Rattle.std.specs.List.{cons_option, filter_map}
@@ -8,7 +8,7 @@ use Rattle.string_pool.proofs.Members.{is_in, itself}
 use Rattle.file_table.specs.Analyses.{Analyses, AgreeOn}
 use Rattle.update_report.specs.Skips.{skip_at, skip_by}
 
--- what agrees on some files says the same of them
+-- analyses that agree on the paths give the same skipped files
 pub skips_agree : (what new : Analyses) (paths : List (List ℕ)) → AgreeOn paths what new → filter_map (skip_at new) paths ≡ filter_map (skip_at what) paths
 skips_agree what new [] same = refl
 skips_agree what new (path ∷ paths) same =

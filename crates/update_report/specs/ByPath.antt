@@ -1,4 +1,4 @@
--- What private functions say of the files that are no libraries, by their paths.
+-- What private functions compute: the skipped files of a table, ordered by path.
 use Rattle.std.specs.Prelude.{ℕ, List}
 use Rattle.std.specs.BTreeMap.{insert_entry}
 use Rattle.std.specs.Cmp.Lexicographic.{slice_cmp}
@@ -8,11 +8,11 @@ use Rattle.lib_types.specs.declared.analysis.Analysis.TheVariants.{Lib, Not}
 use Rattle.lib_types.specs.declared.analysis.Defect.{Defect}
 use Rattle.update_report.specs.declared.kinds.Skipped.{Skipped}
 
--- paths in the order of their bytes, each with the defect of the file there
+-- paths in byte order, each with the defect of the file there
 abbrev pub Defects : Type 0
 Defects = List (List ℕ × Defect)
 
--- with the defect of the file at a path, if its analysis is one
+-- adds the defect of a row's file, if it has one
 abbrev pub with_row : Defects → List ℕ × Analysis → Defects
 with_row found (path, Not defect) = insert_entry (slice_cmp nat_cmp) found path defect
 with_row found (path, Lib abi soname) = found

@@ -19,7 +19,7 @@ line text = text ++ 10 ∷ []
 
 -- ---- the auxiliary cache
 
--- of the place at which it was damaged when it was loaded, if it was
+-- the offset at which the auxiliary cache was corrupt when it was loaded, or no line
 abbrev pub damaged_line : Option ℕ → List ℕ
 damaged_line None = []
 damaged_line (Some at) = line (codes "aux: Damaged " ++ decimal at)
@@ -42,13 +42,13 @@ conf_line report = line (codes "conf: " ++ report.place ++ codes ": " ++ conf_na
 abbrev pub absent_line : List ℕ → List ℕ
 absent_line dir = line (codes "conf: " ++ dir ++ codes ": Absent")
 
--- ---- sonames in places
+-- ---- sonames in search directories
 
 abbrev pub spelled_of : Option Place → List ℕ
 spelled_of (Some place) = place.spelled
 spelled_of None = []
 
--- the path of the place with this number as it is spelled, nothing if there is no such place
+-- the path of the search directory with this number, before links are resolved; empty if there is no such directory
 abbrev pub spelled_at : List Place → ℕ → List ℕ
 spelled_at places number = spelled_of (slice_get places number)
 
@@ -71,17 +71,17 @@ dangling_line path = line (codes "dangling: " ++ path)
 
 -- ---- entries
 
--- different sonames that the loader's order takes as one
+-- different sonames that compare equal in the loader's order
 abbrev pub are_twins : List ℕ → List ℕ → Bool
 are_twins a b = not (bytes_eq a b) && is_eq (token_order a b)
 
 abbrev pub twin_line : List ℕ → List ℕ → List ℕ
 twin_line a b = line (codes "twin: " ++ a ++ codes " " ++ b)
 
--- of a soname and the one behind it
+-- the line for two neighbouring sonames, if they compare equal
 abbrev pub line_of_twins : List ℕ × List ℕ → List ℕ
 line_of_twins pair = if are_twins pair.0 pair.1 then twin_line pair.0 pair.1 else []
 
--- entries, links and library files
+-- the numbers of cache entries, of planned links and of library files that were opened
 abbrev pub last_line : ℕ → ℕ → ℕ → List ℕ
 last_line entries links opened = line (decimal entries ++ codes " libs, " ++ decimal links ++ codes " links, " ++ decimal opened ++ codes " files opened")

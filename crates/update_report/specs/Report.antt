@@ -1,4 +1,4 @@
--- The report of an update: a line for each finding, kind by kind, and one of numbers.
+-- The report of an update: a line for each finding, grouped by kind, and a last line with numbers.
 use Rattle.std.specs.Prelude.{ℕ, List, Option, ◌++◌, drop, flat_map, length, map}
 use Rattle.std.specs.List.{zip}
 use Rattle.hwcap_dirs.specs.declared.kinds.Place.{Place}
@@ -10,13 +10,13 @@ use Rattle.update_report.specs.Lines.{absent_line, blocked_line, conf_line, dama
 use Rattle.update_report.specs.declared.kinds.Findings.{Findings}
 use Rattle.update_report.specs.declared.kinds.Skipped.{Skipped}
 
--- what is said of an image
+-- what a report says of an image
 pub record Said : Type 0 where
-  -- the place at which the auxiliary cache was damaged when it was loaded
+  -- the offset at which the auxiliary cache was corrupt when it was loaded
   pub damaged : Option ℕ
   pub conf : List ConfReport
   pub places : List Place
-  -- the conf file's directories that lead to none
+  -- the directories named in the conf file that don't exist
   pub absent : List (List ℕ)
   pub plan : List Planned
   pub blocked : List Mark
@@ -24,7 +24,7 @@ pub record Said : Type 0 where
   pub skips : List Skipped
   pub dangling : List (List ℕ)
   pub entries : List Entry
-  -- how many library files were begun
+  -- the number of library files that were opened
   pub opened : ℕ
 
 abbrev pub findings_of : Findings → Said
@@ -45,7 +45,7 @@ findings_of findings = record {
 abbrev pub sonames_of : List Entry → List (List ℕ)
 sonames_of entries = map (λ entry. entry.soname) entries
 
--- the sonames that stand next to each other, from the first
+-- the pairs of consecutive sonames
 abbrev pub neighbours : List (List ℕ) → List (List ℕ × List ℕ)
 neighbours sonames = zip sonames (drop 1 sonames)
 

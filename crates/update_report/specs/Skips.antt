@@ -1,4 +1,4 @@
--- The library files that are no libraries.
+-- The skipped files: they have library names, but their content isn't a usable shared library.
 use Rattle.std.specs.Prelude.{ℕ, Bool, List, Option, Some, None, is_some}
 use Rattle.std.specs.Option.{option_and_then}
 use Rattle.lib_types.specs.declared.analysis.Analysis.{Analysis}
@@ -10,7 +10,7 @@ abbrev pub skip_by : List ℕ → Analysis → Option Skipped
 skip_by path (Not defect) = Some (record { path = path; defect = defect })
 skip_by path (Lib abi soname) = None
 
--- the file at a path, if its analysis is a defect
+-- the skip record of the file at a path, if the file has a defect
 abbrev pub skip_at : Analyses → List ℕ → Option Skipped
 skip_at what path = option_and_then (skip_by path) (what path)
 

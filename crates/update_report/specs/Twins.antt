@@ -1,13 +1,13 @@
--- How the code goes over sonames: each with the one before it.
+-- The code compares each soname with its predecessor.
 use Rattle.std.specs.Prelude.{ℕ, List, [], ◌∷◌, ◌++◌, Option, Some, None}
 use Rattle.update_report.specs.Lines.{line_of_twins}
 
--- the line of a soname and the one before it, if there is one
+-- the line for a soname and its predecessor, if there is one and they compare equal
 abbrev pub twin_after : Option (List ℕ) → List ℕ → List ℕ
 twin_after (Some before) soname = line_of_twins (before, soname)
 twin_after None soname = []
 
--- the lines of these sonames behind that one
+-- the lines for these sonames, the first compared with the given predecessor
 abbrev pub twins_after : Option (List ℕ) → List (List ℕ) → List ℕ
 twins_after before [] = []
 twins_after before (soname ∷ rest) = twin_after before soname ++ twins_after (Some soname) rest

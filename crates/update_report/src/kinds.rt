@@ -1,27 +1,27 @@
-//! What an update has found of an image.
+//! The findings of an update.
 use hwcap_dirs::Dirs;
 use ldso_conf::ConfReports;
 use lib_types::{Defect, Entries, Seq, Text, Texts};
 use link_plan::{Marks, Plan};
 
-/// A library file that is no library, and why.
+/// A file with a library name that isn't a usable shared library, and why.
 #[derive(Drop)]
 pub struct Skipped {
     pub path: Text,
     pub defect: Defect,
 }
 
-/// Library files that are no libraries.
+/// Files with library names that aren't usable shared libraries.
 pub type Skips = Seq<Skipped>;
 
-/// What an update has found, of which its report speaks.
+/// The findings of an update that its report lists.
 #[derive(Drop)]
 pub struct Findings<'a> {
-    /// The place at which the auxiliary cache was damaged when it was loaded, if no report has said so yet.
+    /// The offset at which the auxiliary cache was corrupt when it was loaded, if no report has said so yet.
     pub damaged: Option<u64>,
-    /// What can't be used of the conf file.
+    /// The conf file's lines and files that can't be used.
     pub conf: &'a ConfReports,
-    /// The places, whose numbers the plan and the marks have, and the conf file's directories that lead to none.
+    /// The search directories, to which the numbers in the plan and the marks refer, and the conf file's directories that don't exist.
     pub dirs: &'a Dirs,
     pub plan: &'a Plan,
     pub blocked: &'a Marks,
@@ -30,6 +30,6 @@ pub struct Findings<'a> {
     pub dangling: &'a Texts,
     /// The entries of the cache, in their order.
     pub entries: &'a Entries,
-    /// How many library files were begun.
+    /// The number of library files that were opened.
     pub opened: usize,
 }

@@ -1,4 +1,4 @@
-//! One line of a report.
+//! Single lines of a report.
 ghost use Rattle.std.specs.Prelude.{◌≡◌, ◌++◌, OnOk, option_map};
 ghost use Rattle.image_tree.specs.Paths.{join};
 ghost use Rattle.lib_types.specs.Defects.{number_text};
@@ -16,7 +16,7 @@ use std::cmp::Ordering;
 
 // ---- the auxiliary cache
 
-/// Adds the line of the place at which the auxiliary cache was damaged, if it was.
+/// Adds the line for a corrupt auxiliary cache, with the offset, if it was corrupt.
 pub(crate) fn put_damaged_line(
     alloc: Global,
     out: &mut Vec<u8>,
@@ -48,7 +48,7 @@ fn conf_name(kind: ConfKind) -> &'static [u8]
     }
 }
 
-/// Adds the line of something that can't be used of a conf file.
+/// Adds the line for a conf file's entry that can't be used.
 pub(crate) fn put_conf_line(out: &mut Vec<u8>, report: &ConfReport) -> Result<(), NoMemory>
     ensures { OnOk result (out.new.items ≡ out.old.items ++ conf_line report.now) }
 {
@@ -60,7 +60,7 @@ pub(crate) fn put_conf_line(out: &mut Vec<u8>, report: &ConfReport) -> Result<()
     Ok(())
 }
 
-/// Adds the line of a conf file's directory that leads to none.
+/// Adds the line for a conf file's directory that doesn't exist.
 pub(crate) fn put_absent_line(out: &mut Vec<u8>, dir: &Text) -> Result<(), NoMemory>
     ensures { OnOk result (out.new.items ≡ out.old.items ++ absent_line dir.now) }
 {
@@ -70,9 +70,9 @@ pub(crate) fn put_absent_line(out: &mut Vec<u8>, dir: &Text) -> Result<(), NoMem
     Ok(())
 }
 
-// ---- sonames in places
+// ---- sonames in search directories
 
-// The path of a place as it is spelled.
+// The path of a search directory, before links are resolved.
 fn spelled_at(places: &Places, number: u32) -> &[u8]
     ensures { result.now ≡ spelled_at places.now number }
 {
@@ -82,7 +82,7 @@ fn spelled_at(places: &Places, number: u32) -> &[u8]
     }
 }
 
-// Adds the path of a name in a folder.
+// Adds the path of a name in a directory.
 fn put_joined(out: &mut Vec<u8>, folder: &[u8], name: &[u8]) -> Result<(), NoMemory>
     ensures { OnOk result (out.new.items ≡ out.old.items ++ join folder.now name.now) }
 {
@@ -94,7 +94,7 @@ fn put_joined(out: &mut Vec<u8>, folder: &[u8], name: &[u8]) -> Result<(), NoMem
     Ok(())
 }
 
-/// Adds the line of a link that is planned.
+/// Adds the line for a planned link.
 pub(crate) fn put_link_line(
     out: &mut Vec<u8>,
     places: &Places,
@@ -111,7 +111,7 @@ pub(crate) fn put_link_line(
     Ok(())
 }
 
-/// Adds the line of a soname for which no link can be.
+/// Adds the line for a soname whose link can't be created.
 pub(crate) fn put_blocked_line(
     out: &mut Vec<u8>,
     places: &Places,
@@ -126,7 +126,7 @@ pub(crate) fn put_blocked_line(
     Ok(())
 }
 
-/// Adds the line of a soname of libraries with different ABIs.
+/// Adds the line for a soname that has different ABIs in one search directory.
 pub(crate) fn put_mixed_line(
     out: &mut Vec<u8>,
     places: &Places,
@@ -144,7 +144,7 @@ pub(crate) fn put_mixed_line(
 
 // ---- files and links
 
-// Adds the number of a defect, if it has one.
+// Adds the number that belongs to a defect, if there is one.
 fn put_number(alloc: Global, out: &mut Vec<u8>, number: Option<u64>) -> Result<(), NoMemory>
     ensures { OnOk result (out.new.items ≡ out.old.items ++ number_text number) }
 {
@@ -155,7 +155,7 @@ fn put_number(alloc: Global, out: &mut Vec<u8>, number: Option<u64>) -> Result<(
     Ok(())
 }
 
-/// Adds the line of a library file that is no library.
+/// Adds the line for a file that isn't a usable shared library.
 pub(crate) fn put_skip_line(
     alloc: Global,
     out: &mut Vec<u8>,
@@ -172,7 +172,7 @@ pub(crate) fn put_skip_line(
     Ok(())
 }
 
-/// Adds the line of a link that leads to no file.
+/// Adds the line for a dangling link.
 pub(crate) fn put_dangling_line(out: &mut Vec<u8>, path: &Text) -> Result<(), NoMemory>
     ensures { OnOk result (out.new.items ≡ out.old.items ++ dangling_line path.now) }
 {
@@ -184,7 +184,7 @@ pub(crate) fn put_dangling_line(out: &mut Vec<u8>, path: &Text) -> Result<(), No
 
 // ---- entries
 
-// Adds the line of two sonames that the loader can't tell apart.
+// Adds the line for two sonames that the loader can't tell apart.
 fn put_twin_line(out: &mut Vec<u8>, before: &[u8], soname: &[u8]) -> Result<(), NoMemory>
     ensures { OnOk result (out.new.items ≡ out.old.items ++ twin_line before.now soname.now) }
 {
@@ -196,7 +196,7 @@ fn put_twin_line(out: &mut Vec<u8>, before: &[u8], soname: &[u8]) -> Result<(), 
     Ok(())
 }
 
-/// Adds the line of an entry's soname and the one before, if they are twins.
+/// Adds the line for an entry's soname and its predecessor, if they compare equal.
 pub(crate) fn put_twin(
     out: &mut Vec<u8>,
     before: Option<&[u8]>,
@@ -215,7 +215,7 @@ pub(crate) fn put_twin(
     }
 }
 
-/// Adds the line of numbers.
+/// Adds the last line, with the numbers.
 pub(crate) fn put_last_line(
     alloc: Global,
     out: &mut Vec<u8>,

@@ -1,4 +1,4 @@
-//! The whole report, kind by kind.
+//! The whole report, grouped by kind.
 ghost use Rattle.std.specs.Prelude.{◌≡◌, ◌++◌, flat_map, IfOk, OnOk};
 ghost use Rattle.update_report.specs.Lines.{absent_line, blocked_line, conf_line, dangling_line, link_line, mixed_line, skip_line};
 ghost use Rattle.update_report.specs.Report.{findings_of, report_text, sonames_of, twin_lines};
@@ -89,7 +89,7 @@ fn put_twin_lines(out: &mut Vec<u8>, entries: &[Entry]) -> Result<(), NoMemory>
     Ok(())
 }
 
-/// The report of an update that has found this.
+/// The report of an update with these findings.
 #[tactic(auto, unfolding(crate::specs::Report::report_text))]
 pub fn report(alloc: Global, findings: &Findings<'_>) -> Result<Text, NoMemory>
     ensures { IfOk result (λ text. text ≡ report_text (findings_of findings.now)) }

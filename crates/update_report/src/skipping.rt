@@ -1,4 +1,4 @@
-//! The library files that are no libraries.
+//! The files with library names that aren't usable shared libraries.
 ghost use Rattle.std.specs.Prelude.{◌≡◌, IfOk, OnOk, map};
 ghost use Rattle.std.specs.List.{filter_map};
 ghost use Rattle.std.specs.Map.{keys_of};
@@ -13,7 +13,7 @@ use lib_types::{Analysis, Defect, NoMemory, Seq, Text, Texts};
 use std::alloc::Global;
 use std::collections::BTreeMap;
 
-// The file at a path, if its analysis is a defect.
+// The skip record of the file at a path, if the file has a defect.
 fn skip_at(alloc: Global, table: &Table, path: &Text) -> Result<Option<Skipped>, NoMemory>
     ensures { IfOk result (λ skipped. skipped ≡ skip_at (analysis_at table.now) path.now) }
 {
@@ -26,7 +26,7 @@ fn skip_at(alloc: Global, table: &Table, path: &Text) -> Result<Option<Skipped>,
     }
 }
 
-/// Those of these files that are no libraries.
+/// Those of the files that aren't usable shared libraries.
 pub fn skips(alloc: Global, table: &Table, files: &Texts) -> Result<Skips, NoMemory>
     ensures { IfOk result (λ skips. skips ≡ filter_map (skip_at (analysis_at table.now)) files.now) }
 {
@@ -39,7 +39,7 @@ pub fn skips(alloc: Global, table: &Table, files: &Texts) -> Result<Skips, NoMem
     Ok(skips)
 }
 
-// Adds the defect of a file, if its analysis is one.
+// Adds the defect of a file, if it has one.
 fn add_defect(
     alloc: Global,
     path: &Text,
@@ -54,7 +54,7 @@ fn add_defect(
     Ok(())
 }
 
-// The files of a table that are no libraries, each with its defect. Most rows are of libraries, so few paths are copied.
+// The files of a table with defects, each with its defect. Most rows are libraries, so few paths are copied.
 #[tactic(auto, using(crate::proofs::ByPath::all_in_order))]
 fn by_path(alloc: Global, table: &Table) -> Result<BTreeMap<Text, Defect>, NoMemory>
     ensures { IfOk result (λ found. map skip_of found.entries ≡ filter_map (skip_at (analysis_at table.now)) (ascending (keys_of table.now))) }
@@ -66,7 +66,7 @@ fn by_path(alloc: Global, table: &Table) -> Result<BTreeMap<Text, Defect>, NoMem
     Ok(found)
 }
 
-// These files as a list, in the order of the bytes of their paths.
+// Turns the map into a list, in the byte order of the paths.
 fn listed(alloc: Global, found: BTreeMap<Text, Defect>) -> Result<Skips, NoMemory>
     ensures { IfOk result (λ skips. skips ≡ map skip_of found.entries) }
 {
@@ -77,7 +77,7 @@ fn listed(alloc: Global, found: BTreeMap<Text, Defect>) -> Result<Skips, NoMemor
     Ok(skips)
 }
 
-/// All files of a table that are no libraries, in the order of the bytes of their paths.
+/// All files of a table that aren't usable shared libraries, in the byte order of their paths.
 pub fn skips_in(alloc: Global, table: &Table) -> Result<Skips, NoMemory>
     ensures { IfOk result (λ skips. skips ≡ filter_map (skip_at (analysis_at table.now)) (ascending (keys_of table.now))) }
 {

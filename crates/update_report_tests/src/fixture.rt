@@ -12,9 +12,9 @@ use update_report::{Findings, Skipped, Skips, report};
 pub(crate) enum Found<'a> {
     Conf(&'a str, ConfKind),
     Absent(&'a str),
-    /// A place by its spelled path.
+    /// A search directory, by its path as written.
     Place(&'a str),
-    /// A link by its place's number, its soname and its file.
+    /// A link: the index of its search directory, its soname and its file.
     Link(u32, &'a str, &'a str),
     Blocked(u32, &'a str),
     Mixed(u32, &'a str),
@@ -24,7 +24,7 @@ pub(crate) enum Found<'a> {
     Entry(&'a str),
 }
 
-/// What was found, kind by kind.
+/// The findings of each kind.
 #[derive(Drop)]
 struct Kept {
     conf: ConfReports,
@@ -115,7 +115,8 @@ impl Kept {
     }
 }
 
-/// The report of these findings, after the auxiliary cache was damaged at a place and so many library files were begun.
+/// The report of these findings, with the offset at which the auxiliary cache is malformed, if it is, and the number of library files that
+/// were opened.
 pub(crate) fn report_of(
     alloc: Global,
     damaged: Option<u64>,

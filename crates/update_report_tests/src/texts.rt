@@ -1,4 +1,4 @@
-// What reports say.
+// The texts of reports.
 use crate::fixture::{Found, report_of};
 use file_table::Table;
 use ldso_conf::ConfKind;
@@ -40,7 +40,8 @@ const DEFECTS: &[Found<'_>] = &[
 const DEFECT_LINES: &str =
     "skip: /lib/a: NotElf\nskip: /lib/b: TooShort 10\nskip: /lib/c: BadClass 0\nskip: /lib/d: BadData 2\nskip: /lib/e: BadMachine 40\nskip: /lib/f: NotShared 2\nskip: /lib/g: BadPhdrs\nskip: /lib/h: NoDynamic\nskip: /lib/i: DynOutside\nskip: /lib/j: NoStrtab\nskip: /lib/k: OutsideLoad\nskip: /lib/l: BadString 29\nskip: /lib/m: BadSoname\n0 libs, 0 links, 13 files opened\n";
 
-// Each kind of line, found in another order than that of the report. The root is a place, and 9 is the number of none.
+// Each kind of line, found in another order than that of the report. The root is a search directory, and no search directory has the index
+// 9.
 const EACH_LINE: &[Found<'_>] = &[
     Found::Entry("libx.so.1"),
     Found::Entry("libx.so.01"),
@@ -65,7 +66,7 @@ const TWO_LINES: &[Found<'_>] = &[
     Found::Absent("/opt/lib"),
 ];
 
-// Several entries of one soname neither hide a twin nor repeat it, and three sonames in a row are two pairs.
+// Several entries with one soname don't hide a twin or repeat it. Three sonames in a row are two pairs.
 const TWINS: &[Found<'_>] = &[
     Found::Entry("libx.so.2"),
     Found::Entry("libx.so.1"),
@@ -86,7 +87,7 @@ const FIRST_DAMAGED: &str =
 
 const LAST_DAMAGED: &str = "aux: Damaged 18446744073709551615\n0 libs, 0 links, 0 files opened\n";
 
-// The place of the auxiliary cache's damage, findings, how many files were begun, and the report.
+// The offset at which the auxiliary cache is malformed, findings, the number of opened files, and the report.
 const REPORTS: &[(Option<u64>, &[Found<'_>], usize, &str)] = &[
     (None, &[], 0, "0 libs, 0 links, 0 files opened\n"),
     (None, CONF_KINDS, 1, CONF_LINES),
@@ -123,7 +124,7 @@ fn text(alloc: Global, text: &str) -> Result<Text, NoMemory> {
     Text::copy_of(alloc, text.as_bytes())
 }
 
-// Two files that are no libraries, and a library between them.
+// Two files that are not libraries, and a library between them.
 fn table(alloc: Global) -> Result<Table, Fail> {
     let mut table = Table::new(alloc);
     let library = Analysis::Lib {

@@ -6,14 +6,14 @@ use image_session::Session;
 use std::alloc::Global;
 use tree_face::{Disk, Sink, Store, Tag, put_all};
 
-/// Who makes an update: where its memory comes from, and the number of its temporary files.
+/// The resources of an update: its allocator, and the number of its temporary files.
 #[derive(Clone, Copy)]
 pub struct Updater {
     pub alloc: Global,
     pub tag: Tag,
 }
 
-/// Updates a session once, and writes its report but no fault line.
+/// Updates a session once and writes its report. It writes no fault line.
 pub fn update_once<S: Store, D: Disk, O: Sink>(
     by: Updater,
     session: Session,

@@ -1,4 +1,4 @@
--- Posts with different tags.
+-- Updaters with different tags.
 use Rattle.std.proofs.Common.{◌≡◌, ◌+◌, ◌<◌, ◌||◌, ℕ, zero, suc, Bool, true, false, List, [], ◌∷◌, ◌++◌, length, drop, get_or, not, drop-cons, Some, None, is_some, refl, sym, ap, ◌∙◌, eqb, slice_get, nat_lt, ◌⊎◌, inl, inr, arith, if◌then◌else◌, unwrap_or, le_of_suc-le-suc, not-suc-le-zero}
 use Rattle.std.specs.List.{list_any}
 use Rattle.std.proofs.lemmas.Bool.{false≢true}
@@ -18,7 +18,7 @@ right_false true b e = absurd (false≢true (sym e))
 same_post : (p q : Post) → Some p ≡ Some q → p ≡ q
 same_post p q e = ap (λ o. unwrap_or o p) e
 
--- no post has one of these tags
+-- no updater has one of these tags
 none_among : (tags : List ℕ) (posts : List Post) → repeated_among tags posts ≡ None → (j : ℕ) (q : Post) → slice_get posts j ≡ Some q → list_any (λ t. eqb q.tag.0 t) tags ≡ false
 none_among tags [] none j q e = absurd (false≢true (ap is_some e))
 none_among tags (x ∷ xs) none j q e = by (list_any (λ t. eqb x.tag.0 t) tags) refl none j e (λ none j e. none_among (tags ++ x.tag.0 ∷ []) xs none j q e)
@@ -43,7 +43,7 @@ later_apart tags (x ∷ xs) none i (suc j) p q less is e = by (list_any (λ t. e
         ∙ left_false _ _ (right_false _ _ (sym (list_any-append (λ t. eqb q.tag.0 t) tags (x.tag.0 ∷ [])) ∙ none_among (tags ++ x.tag.0 ∷ []) xs none j q e))
     by false none (suc i) less is rest = rest none i (le_of_suc-le-suc less) is
 
--- the first of the posts that are left has one of these tags, or not
+-- whether the first of the remaining updaters has one of these tags
 module _ (tags : List ℕ) (posts : List Post) (k : ℕ) (post : Post) (within : k < length posts) (is : post ≡ get_or posts k post) (added : Bool) (new : added ≡ not (list_any (λ t. eqb post.tag.0 t) tags)) where
   parted : repeated_among tags (drop k posts) ≡ (if list_any (λ t. eqb post.tag.0 t) tags then Some post.tag else repeated_among (tags ++ post.tag.0 ∷ []) (drop (suc k) posts))
   parted = ap (repeated_among tags) (drop-cons posts k post within ∙ ap (λ (p : Post). p ∷ drop (suc k) posts) (sym is))

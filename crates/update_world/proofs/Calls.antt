@@ -1,4 +1,4 @@
--- The calls of one turn more.
+-- The calls after one more turn.
 use Rattle.std.proofs.Common.{◌≡◌, ◌+◌, ℕ, zero, suc, Bool, true, false, not, List, [], ◌∷◌, ◌++◌, length, map, drop, Option, Some, None, refl, sym, ap, subst, ◌∙◌, arith, eqb, le_of_suc-le-suc, not-suc-le-zero, append_assoc, append-nil, cond, slice_get, if◌then◌else◌, nat_lt, is_some, ◌<◌}
 use Rattle.std.specs.Option.{option_map_or}
 use Rattle.std.proofs.lemmas.Bool.{eqb-true, false≢true}
@@ -37,7 +37,7 @@ module _ (i j : ℕ) (turns : List Turn) where
   pub own_steps : eqb i j ≡ true → steps_of j (turns ++ Step i ∷ []) ≡ suc (steps_of j turns)
   own_steps e = let is = steps_more j turns (Step i) ∙ ap (λ b. steps_of j turns + cond b 1 0) e in omega (arith, is)
 
--- ---- turns of a post that isn't there
+-- ---- turns of an updater that doesn't exist
 
 module _ (posts : List Post) (i : ℕ) where
   past : slice_get posts i ≡ None → i < length posts → ⊥
@@ -78,7 +78,7 @@ settled_now cs call e = until_it (λ (c : PostCall). not (is_settle c.1)) cs cal
 pub settled_before : (cs : List PostCall) (call : PostCall) → is_settle call.1 ≡ false → until_settled (cs ++ call ∷ []) ≡ until_settled cs
 settled_before cs call e = until_before (λ (c : PostCall). not (is_settle c.1)) cs call (not_true (is_settle call.1) e)
 
--- ---- the calls of one post
+-- ---- the calls of one updater
 
 abbrev pub place_of : Option Call → ℕ
 place_of None = 5
@@ -108,7 +108,7 @@ place_is (suc (suc (suc zero))) call e = ap place_of e
 place_is (suc (suc (suc (suc zero)))) call e = ap place_of e
 place_is (suc (suc (suc (suc (suc k))))) call e = absurd (false≢true (ap is_some e))
 
--- the call of a post's turn
+-- the call of an updater's turn
 pub call_is : (n : ℕ) (turns : List Turn) (i : ℕ) → i < n → call_of n turns (Step i) ≡ option_map_or (λ call. (i, call) ∷ []) (slice_get all_calls (steps_of i turns)) []
 call_is n turns i h = ap (λ b. if b then option_map_or (λ call. (i, call) ∷ []) (slice_get all_calls (steps_of i turns)) [] else []) (within h)
   where

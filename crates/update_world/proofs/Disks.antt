@@ -1,4 +1,4 @@
--- The calls of a world on a disk: how the disk stands after them.
+-- The calls of a world on a disk, and the state of the disk after them.
 use Rattle.std.proofs.Common.{◌≡◌, ◌<◌, ◌||◌, ◌&&◌, ℕ, zero, suc, Bool, true, false, List, [], ◌∷◌, ◌++◌, length, filter, Option, Some, None, IfSome, is_some, refl, sym, ap, subst, ◌∙◌, append_assoc, append-nil, eqb, slice_get, unwrap_or, Result, Ok, Err, IfOk}
 use Rattle.std.specs.Option.{option_map, option_map_or}
 use Rattle.std.proofs.lemmas.Bool.{eqb-true, false≢true}
@@ -23,7 +23,7 @@ use Rattle.update_world.proofs.Apart.{tags_apart}
 use Rattle.update_world.proofs.Calls.{absent_apart, absent_call, call_is, calls_more, last_more, load_steps, other_steps, own_steps, place_is, place_of, publishers_more}
 use Rattle.update_world.proofs.Left.{left_alone, left_more, left_same, none_more}
 
--- the temporary file of a post after so many of its calls: it is empty, it has the bytes, it is flushed
+-- the temporary file after n calls of its updater: after one call it is empty, after two it has the bytes, after three it is flushed
 abbrev HasFile : ℕ → List ℕ → Content → Bool → Type 0
 HasFile zero bytes file synced = Unit {0}
 HasFile (suc zero) bytes file synced = file ≡ Some []
@@ -103,7 +103,7 @@ module _ (first : Content) (posts : List Post) (different : repeated posts ≡ N
         place : steps_of i turns ≡ place_of (Some call)
         place = place_is (steps_of i turns) call at
 
-        -- the post's own file has changed so, and no other has
+        -- the updater's own temporary file has changed in this way, and no other file has
         on_call : (known : DiskContent) → new.contents ≡ Some known
             → known.now.cache ≡ (reading first posts (publishers (of_turns turns ++ (i, call) ∷ []))).bytes
             → KeepsOthers p.tag.0 Cache on.known known
@@ -153,7 +153,7 @@ module _ (first : Content) (posts : List Post) (different : repeated posts ≡ N
           changed : (R : DiskContent → DiskContent → Type 0) → Relates R s.contents new.contents → (known : DiskContent) × (new.contents ≡ Some known) × R on.known known
           changed R r = related R on.known new.contents (subst (λ o. Relates R o new.contents) on.contents r)
 
-          -- the slot stays
+          -- the slot is unchanged
           still_held : (call : Call) (known : DiskContent) → is_publish call ≡ false → known.now ≡ on.known.now → known.now.cache ≡ (reading first posts (publishers (of_turns turns ++ (i, call) ∷ []))).bytes
           still_held call known none same =
               ap (λ (s : Slots). s.cache) same ∙ on.held ∙ ap (λ ps. (reading first posts ps).bytes) (sym (none_more first posts (of_turns turns) i call none))
@@ -238,11 +238,11 @@ module _ (first : Content) (posts : List Post) (different : repeated posts ≡ N
   left_exactly turns (Ok rs) e = subst (LeavesExactly first posts (calls (length posts) turns)) (sym e) (leaves turns)
   left_exactly turns (Err fault) e = tt
 
-  -- what a load after these turns reads is what the slot holds
+  -- a load after these turns reads the content of the slot
   pub holds : (turns : List Turn) → HoldsExactly first posts (calls (length posts) turns) (reading_after first posts turns).bytes
   holds turns = λ old new alone made. let on = on_all [] turns old new (starts old alone) made in record { known = on.known; contents = on.contents; held = on.held }
 
-  -- the reading of the load after the earlier turns of a schedule
+  -- the reading of the load that follows the earlier turns of a schedule
   read_at : (before earlier later : List Turn) → slice_get (readings_behind first posts before (earlier ++ Load ∷ later)) (length (filter is_load earlier)) ≡ Some (reading_after first posts (before ++ earlier))
   read_at before [] later = ap (λ turns. Some (reading_after first posts turns)) (sym (append-nil before))
   read_at before (Step i ∷ earlier) later = read_at (before ++ Step i ∷ []) earlier later ∙ ap (λ turns. Some (reading_after first posts turns)) (append_assoc before (Step i ∷ []) earlier)

@@ -1,4 +1,4 @@
--- What a world keeps is so at the start and after each turn.
+-- A world's invariant holds at the start and after each turn.
 use Rattle.std.proofs.Common.{◌≡◌, ◌≢◌, ◌+◌, ◌-◌, ◌≤◌, ◌<◌, ◌^◌, ℕ, zero, suc, Bool, true, false, arith, List, [], ◌∷◌, ◌++◌, length, map, drop, set, get_or, Option, Some, None, IfSome, refl, sym, ap, subst, ◌∙◌, append-nil, cond, eqb, slice_get, nat_le, option_and_then, is_some, length-set, zero-le, le_of_suc-le-suc, not-suc-le-zero}
 use Rattle.std.specs.Option.{option_map, option_map_or}
 use Rattle.std.proofs.lemmas.Bool.{eq-eqb, eqb-true, false≢true}
@@ -26,7 +26,7 @@ each_same [] y i h = absurd (not-suc-le-zero h)
 each_same (x ∷ xs) y zero h = refl
 each_same (x ∷ xs) y (suc i) h = each_same xs y i (le_of_suc-le-suc h)
 
--- behind the last call nothing changes
+-- after the last call nothing changes
 spent_drop : (k : ℕ) → slice_get all_calls k ≡ None → drop (suc k) all_calls ≡ drop k all_calls
 spent_drop zero e = absurd (false≢true (sym (ap is_some e)))
 spent_drop (suc zero) e = absurd (false≢true (sym (ap is_some e)))

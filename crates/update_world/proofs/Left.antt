@@ -1,4 +1,4 @@
--- What a crash leaves after one call more.
+-- The contents that a crash can leave after one more call.
 use Rattle.std.proofs.Common.{◌≡◌, ◌+◌, ◌-◌, ◌≤◌, ℕ, zero, suc, false, arith, List, [], ◌∷◌, ◌++◌, length, map, take, drop, refl, sym, ap, ◌∙◌, append-nil, cond, length-append, take-append-drop}
 use Rattle.std.specs.List.{range_with_len}
 use Rattle.std.proofs.lemmas.List.{map-append, take-append-le}
@@ -28,12 +28,12 @@ part_most k cs =
     let whole = ap (λ l. length (publishers l)) (sym (take-append-drop k cs)) ∙ ap (λ (l : List ℕ). length l) (publishers_more (take k cs) (drop k cs)) ∙ length-append (publishers (take k cs)) (publishers (drop k cs)) in
     omega (arith, whole)
 
--- no more have published before the last settling than in all
+-- the number of renames before the last directory fsync is at most the number of all renames
 pub settled_most : (cs : List PostCall) → settled_of cs ≤ length (publishers cs)
 settled_most cs = part_most _ cs
 
 module _ (first : Content) (posts : List Post) where
-  -- the readings after the earlier publishings stay
+  -- one more rename doesn't change the readings after the earlier renames
   readings_stay : (all : List ℕ) (i s k : ℕ) → s + k ≤ length all + 1
       → map (λ n. reading first posts (take n (all ++ i ∷ []))) (range_with_len s k) ≡ map (λ n. reading first posts (take n all)) (range_with_len s k)
   readings_stay all i s zero h = refl
@@ -45,13 +45,13 @@ module _ (first : Content) (posts : List Post) where
     pub none_more : (call : Call) → is_publish call ≡ false → publishers (cs ++ (i, call) ∷ []) ≡ publishers cs
     none_more call e = publishers_more cs ((i, call) ∷ []) ∙ ap (λ b. publishers cs ++ map (λ (c : PostCall). c.0) (cond b ((i, call) ∷ []) [])) e ∙ append-nil _
 
-    -- a call that neither publishes nor settles
+    -- the call is not a rename (`Publish`) and not a directory fsync (`Settle`)
     pub left_same : (call : Call) → is_publish call ≡ false → is_settle call ≡ false → left_by first posts (cs ++ (i, call) ∷ []) ≡ left_by first posts cs
     left_same call none before =
         ap (λ (all : List ℕ). map (λ n. reading first posts (take n all)) (range_with_len (settled_of (cs ++ (i, call) ∷ [])) (length all + 1 - settled_of (cs ++ (i, call) ∷ [])))) (none_more call none)
         ∙ ap (λ (u : List PostCall). map (λ n. reading first posts (take n (publishers cs))) (range_with_len (length (publishers u)) (length (publishers cs) + 1 - length (publishers u)))) (settled_before cs (i, call) before)
 
-    -- a publishing
+    -- the call is a rename
     pub left_more : left_by first posts (cs ++ (i, Publish) ∷ []) ≡ left_by first posts cs ++ reading first posts (publishers cs ++ i ∷ []) ∷ []
     left_more =
         ap (λ (u : List PostCall). map (λ n. reading first posts (take n (publishers (cs ++ (i, Publish) ∷ [])))) (range_with_len (length (publishers u)) (length (publishers (cs ++ (i, Publish) ∷ [])) + 1 - length (publishers u)))) (settled_before cs (i, Publish) refl)
@@ -70,7 +70,7 @@ module _ (first : Content) (posts : List Post) where
             ∙ ap (λ l. l ++ reading first posts (take (s + (length all + 1 - s)) (all ++ i ∷ [])) ∷ []) (readings_stay all i s (length all + 1 - s) (omega (arith, h)))
             ∙ ap (λ ps. map (λ n. reading first posts (take n all)) (range_with_len s (length all + 1 - s)) ++ reading first posts ps ∷ []) (ap (λ k. take k (all ++ i ∷ [])) last ∙ take-length (all ++ i ∷ []))
 
-    -- a settling
+    -- the call is a directory fsync
     pub left_alone : left_by first posts (cs ++ (i, Settle) ∷ []) ≡ reading first posts (publishers cs) ∷ []
     left_alone =
         ap (λ (u : List PostCall). map (λ n. reading first posts (take n (publishers (cs ++ (i, Settle) ∷ [])))) (range_with_len (length (publishers u)) (length (publishers (cs ++ (i, Settle) ∷ [])) + 1 - length (publishers u)))) (settled_now cs (i, Settle) refl)

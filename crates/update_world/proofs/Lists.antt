@@ -1,4 +1,4 @@
--- Lists of which an item is replaced, or to which one is added.
+-- Lists after replacing or appending an item.
 use Rattle.std.proofs.Common.{◌≡◌, ◌≢◌, ◌+◌, ◌-◌, ◌≤◌, ◌<◌, ℕ, zero, suc, Bool, true, false, arith, List, [], ◌∷◌, ◌++◌, length, map, take, drop, set, refl, ap, ◌∙◌, le_of_suc-le-suc, not-suc-le-zero, slice_get, Some, length-append, cond, count_by, zero-add}
 use Rattle.std.specs.List.{suffix_len}
 use Rattle.std.proofs.lemmas.List.{reverse-append, take-append-le}
@@ -46,7 +46,7 @@ module _ {X : Type 0} where
     suffix_more : suffix_len p (l ++ x ∷ []) ≡ cond (p x) (1 + suffix_len p l) 0
     suffix_more = ap (λ r. Rattle.std.specs.List.prefix_len p r) (reverse-append l (x ∷ []))
 
-    -- the items up to the last that doesn't pass
+    -- the items up to the last one that fails the test
     pub until_it : p x ≡ false → take (length (l ++ x ∷ []) - suffix_len p (l ++ x ∷ [])) (l ++ x ∷ []) ≡ l ++ x ∷ []
     until_it e =
         let none : suffix_len p (l ++ x ∷ []) ≡ 0 = suffix_more ∙ ap (λ b. cond b (1 + suffix_len p l) 0) e in

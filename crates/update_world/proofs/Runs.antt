@@ -74,7 +74,7 @@ module _ (first : Content) (posts : List Post) where
   is_whole : (published : List ℕ) → IsWhole first posts (reading first posts published)
   is_whole published = whole_by (length published) (last_of posts published) (λ p e. among (slice_get published (length published - 1)) p e)
 
-  -- each of the readings is whole
+  -- each reading is a whole content
   pub all_whole : (before turns : List Turn) → All (IsWhole first posts) (readings_behind first posts before turns)
   all_whole before [] = All-nil (IsWhole first posts)
   all_whole before (Step i ∷ turns) = all_whole (before ++ Step i ∷ []) turns
@@ -97,7 +97,7 @@ module _ (first : Content) (posts : List Post) where
   all_from n before (Load ∷ turns) h =
       All-cons (λ (r : Reading). n ≤ r.published) (reading_after first posts before) _ h (all_from n (before ++ Load ∷ []) turns (let more = grows before Load in omega (arith, h, more)))
 
-  -- no reading has fewer publishings than one before it
+  -- a later reading never has fewer renames than an earlier one
   pub never_falls : (before turns : List Turn) → NeverFalls (readings_behind first posts before turns)
   never_falls before [] = λ i j d less within. absurd (not-suc-le-zero within)
   never_falls before (Step i ∷ turns) = never_falls (before ++ Step i ∷ []) turns

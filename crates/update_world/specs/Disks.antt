@@ -1,4 +1,4 @@
--- The calls of a world, made on a disk.
+-- The calls of a world on a disk.
 use Rattle.std.specs.Prelude.{◌≡◌, Bool, true, false, List, [], ◌∷◌, ◌++◌, length, filter, Some, IfSome, Result, Ok}
 use Rattle.std.specs.List.{list_any, slice_get}
 use Rattle.lib_types.specs.declared.fault.Failed.{Failed}
@@ -11,13 +11,13 @@ use Rattle.update_world.specs.declared.post.Reading.{Reading}
 use Rattle.update_world.specs.declared.post.Turn.{Turn}
 use Rattle.update_world.specs.declared.post.Turn.TheVariants.{Step, Load}
 
--- the cache slot of a disk of known contents holds this content
+-- the contents of the disk are known, and its cache slot has this content
 pub record Holds (content : Content) (s : DiskState) : Type 0 where
   pub known : DiskContent
   pub contents : s.contents ≡ Some known
   pub held : known.now.cache ≡ content
 
--- and a crash leaves no other
+-- and a crash leaves no other content
 pub record HoldsAlone (first : Content) (s : DiskState) : Type 0 where
   pub now : Holds first s
   pub left : (b : Content) → s.may Cache b ≡ content_eq first b
@@ -25,7 +25,7 @@ pub record HoldsAlone (first : Content) (s : DiskState) : Type 0 where
 abbrev pub done : Result (Unit {0}) Failed
 done = Ok tt
 
--- a call of a post on the cache slot, which returns Ok
+-- a call of an updater on the cache slot, which succeeds
 abbrev pub IsMade : List Post → PostCall → DiskState → DiskState → Type 0
 IsMade posts call old new = IfSome (slice_get posts call.0) (λ p. Makes p.tag (Cache, p.bytes) call.1 old new done)
 
@@ -34,16 +34,16 @@ abbrev pub AreMade : List Post → List PostCall → DiskState → DiskState →
 AreMade posts [] old new = new ≡ old
 AreMade posts (call ∷ calls) old new = (middle : DiskState) × IsMade posts call old middle × AreMade posts calls middle new
 
--- whether the content is that of one of these readings
+-- whether one of the readings has this content
 abbrev pub is_among : Content → List Reading → Bool
 is_among b readings = list_any (λ r. content_eq r.bytes b) readings
 
--- of a disk on which these calls were made a crash leaves exactly the contents of these readings
+-- if these calls were made on a disk, a crash leaves exactly the contents of these readings
 abbrev pub LeavesExactly : Content → List Post → List PostCall → List Reading → Type 0
 LeavesExactly first posts calls readings =
     (old new : DiskState) → HoldsAlone first old → AreMade posts calls old new → (b : Content) → new.may Cache b ≡ is_among b readings
 
--- on every disk on which these calls were made the cache slot holds this content
+-- if these calls were made on a disk, the cache slot has this content
 abbrev pub HoldsExactly : Content → List Post → List PostCall → Content → Type 0
 HoldsExactly first posts calls content = (old new : DiskState) → HoldsAlone first old → AreMade posts calls old new → Holds content new
 
@@ -51,8 +51,8 @@ abbrev pub is_load : Turn → Bool
 is_load (Step i) = false
 is_load Load = true
 
--- each load of this schedule, which is taken behind other turns, has read what the cache slot of every disk holds on which the calls of the
--- turns before it were made
+-- Each load of the schedule has read the content that the cache slot of a disk has after the calls of all turns before the load. The
+-- schedule follows the turns `before`.
 abbrev pub AreOnDisks : Content → List Post → List Turn → List Turn → List Reading → Type 0
 AreOnDisks first posts before schedule readings =
     (earlier later : List Turn) → schedule ≡ earlier ++ Load ∷ later

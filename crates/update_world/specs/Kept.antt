@@ -1,4 +1,4 @@
--- What a world keeps: what its devices hold, and how far its posts have come.
+-- The state of a world: the contents of the files, and the remaining calls of each updater.
 use Rattle.std.specs.Prelude.{◌≡◌, ◌<◌, ◌≤◌, ◌^◌, ℕ, List, [], ◌∷◌, ◌++◌, length, map, drop, Option, Some, None, IfSome, nat_le}
 use Rattle.std.specs.List.{count_by, slice_get, slice_index_or, slice_set}
 use Rattle.std.specs.Option.{option_and_then, option_map, option_map_or}
@@ -17,9 +17,9 @@ pub record Machines : Type 0 where
   pub cache : Content
   pub temporaries : List Content
   pub progress : List (List Call)
-  -- the posts that have published, in their order
+  -- the updaters that have renamed their file into place, in order
   pub published : List ℕ
-  -- how many had published when a post last settled
+  -- the number of renames before the last directory fsync
   pub settled : ℕ
 
 abbrev pub new_machine : Content → List Post → Machines
@@ -40,7 +40,7 @@ made i bytes Settle m = record m { settled = length m.published }
 abbrev pub advanced : ℕ → Machines → Machines
 advanced i m = record m { progress = slice_set m.progress i (drop 1 (slice_index_or m.progress i [])) }
 
--- after a step of this post
+-- after a step of this updater
 abbrev pub stepped : List Post → ℕ → Machines → Machines
 stepped posts i m = option_map_or (λ p. option_map_or (λ call. advanced i (made i p.bytes call m)) (next_in m i) m) (slice_get posts i) m
 
@@ -50,14 +50,14 @@ abbrev pub after_turn : List Post → Turn → Machines → Machines
 after_turn posts (Step i) m = stepped posts i m
 after_turn posts Load m = m
 
--- what is read in it
+-- the readings of a turn
 abbrev pub seen : List Post → Turn → Machines → List Reading
 seen posts (Step i) m = []
 seen posts Load m = record { published = length m.published; writer = option_map (λ p. p.tag) (last_of posts m.published); bytes = m.cache } ∷ []
 
 -- ---- the invariant
 
--- how many posts have at most one call left: each of them has published
+-- the number of updaters with at most one remaining call; each of them has renamed its file into place
 abbrev pub spent : List (List Call) → ℕ
 spent progress = count_by (λ calls. nat_le (length calls) 1) progress
 

@@ -1,5 +1,5 @@
--- Turns of updaters and loaders: the calls that they make (write to a temporary file, flush, rename(2), fsync(2)), and what is read. They
--- are counted; no temporary file is spoken of.
+-- Turns of updaters and loaders, with the calls that they make (write to a temporary file, fsync, rename(2), fsync of the directory) and
+-- the contents that they read. The definitions only count calls; they don't model temporary files.
 use Rattle.std.specs.Prelude.{ℕ, ◌+◌, ◌-◌, Bool, true, false, not, ◌==◌, nat_lt, List, [], ◌∷◌, ◌++◌, length, map, filter, take, Option, Some, None, if◌then◌else◌}
 use Rattle.std.specs.List.{count_by, list_any, range_with_len, slice_get, suffix_len}
 use Rattle.std.specs.Option.{option_map, option_map_or, option_and_then}
@@ -15,7 +15,7 @@ use Rattle.update_world.specs.declared.post.Turn.TheVariants.{Step, Load}
 
 -- ---- tags
 
--- the tag of the first post whose tag is one of these, or of a post before it
+-- the tag of the first updater whose tag is one of these or that of an earlier updater
 abbrev pub repeated_among : List ℕ → List Post → Option Tag
 repeated_among tags [] = None
 repeated_among tags (post ∷ posts) = if list_any (λ t. post.tag.0 == t) tags then Some post.tag else repeated_among (tags ++ post.tag.0 ∷ []) posts
@@ -29,25 +29,25 @@ abbrev pub is_step : ℕ → Turn → Bool
 is_step i (Step j) = j == i
 is_step i Load = false
 
--- the turns of a post
+-- the number of turns of an updater
 abbrev pub steps_of : ℕ → List Turn → ℕ
 steps_of i turns = count_by (is_step i) turns
 
--- a call, with the index of its post
+-- a call, with the index of its updater
 abbrev pub PostCall : Type 0
 PostCall = ℕ × Call
 
--- the call of a turn behind these: of the calls of a replacement the one behind those that the post's turns before have made
+-- the call of the turn after `before`: the next call of a replacement that the updater hasn't made yet
 abbrev pub call_of : ℕ → List Turn → Turn → List PostCall
 call_of posts before Load = []
 call_of posts before (Step i) = if nat_lt i posts then option_map_or (λ call. (i, call) ∷ []) (slice_get all_calls (steps_of i before)) [] else []
 
--- the calls of turns behind these
+-- the calls of the turns that follow `before`
 abbrev pub calls_behind : ℕ → List Turn → List Turn → List PostCall
 calls_behind posts before [] = []
 calls_behind posts before (turn ∷ turns) = call_of posts before turn ++ calls_behind posts (before ++ turn ∷ []) turns
 
--- the calls of turns, if there are so many posts
+-- the calls of these turns, if there are this many updaters
 abbrev pub calls : ℕ → List Turn → List PostCall
 calls posts turns = calls_behind posts [] turns
 
@@ -65,21 +65,21 @@ is_settle Append = false
 is_settle Sync = false
 is_settle Publish = false
 
--- the posts that publish, in their order
+-- the updaters that rename their file into place, in order
 abbrev pub publishers : List PostCall → List ℕ
 publishers cs = map (λ c. c.0) (filter (λ c. is_publish c.1) cs)
 
--- the calls up to the last settling
+-- the calls up to the last directory fsync
 abbrev pub until_settled : List PostCall → List PostCall
 until_settled cs = take (length cs - suffix_len (λ c. not (is_settle c.1)) cs) cs
 
 -- ---- readings
 
--- the last of these posts
+-- the last of these updaters
 abbrev pub last_of : List Post → List ℕ → Option Post
 last_of posts published = option_and_then (slice_get posts) (slice_get published (length published - 1))
 
--- what is read after these publishings
+-- the content that is read after these renames
 abbrev pub reading : Content → List Post → List ℕ → Reading
 reading first posts published = record {
   published = length published;
@@ -87,23 +87,23 @@ reading first posts published = record {
   bytes = option_map_or (λ p. Some p.bytes) (last_of posts published) first;
 }
 
--- what is read after these turns
+-- the content that is read after these turns
 abbrev pub reading_after : Content → List Post → List Turn → Reading
 reading_after first posts turns = reading first posts (publishers (calls (length posts) turns))
 
--- what is read in a turn behind these
+-- the reading of a turn after `before`
 abbrev pub read_in : Content → List Post → List Turn → Turn → List Reading
 read_in first posts before (Step i) = []
 read_in first posts before Load = reading_after first posts before ∷ []
 
--- the readings of turns behind these, one for each load
+-- the readings of the turns that follow `before`, one for each load
 abbrev pub readings_behind : Content → List Post → List Turn → List Turn → List Reading
 readings_behind first posts before [] = []
 readings_behind first posts before (turn ∷ turns) = read_in first posts before turn ++ readings_behind first posts (before ++ turn ∷ []) turns
 
--- ---- what a crash leaves
+-- ---- the contents that a crash can leave
 
--- the reading after the last settling, and that after each publishing since
+-- the reading at the last directory fsync, and the reading after each later rename
 abbrev pub left_by : Content → List Post → List PostCall → List Reading
 left_by first posts cs =
     let all = publishers cs in

@@ -1,4 +1,4 @@
--- What contracts see of a world.
+-- A world as contracts see it.
 use Rattle.std.specs.Prelude.{◌≡◌, ◌⊎◌, ℕ, zero, suc, ◌<◌, ◌≤◌, ◌++◌, List, [], length, map, take, drop, Some, None, IfSome}
 use Rattle.std.specs.List.{AllPairs, Contains, slice_get}
 use Rattle.atomic_replace.specs.Order.{all_calls}
@@ -15,13 +15,13 @@ pub record Worlds : Type 0 where
   -- the content of the cache slot at the start
   pub first : Content
   pub posts : List Post
-  -- the turns that were taken
+  -- the turns so far
   pub turns : List Turn
   -- the cache slot
   pub cache : Content
-  -- the temporary file of each post
+  -- the temporary file of each updater
   pub temporaries : List Content
-  -- the calls that each post has left
+  -- the remaining calls of each updater
   pub progress : List (List Call)
 
 abbrev pub new_world : Content → List Post → Worlds
@@ -34,22 +34,22 @@ new_world first posts = record {
   progress = map (λ _. all_calls) posts;
 }
 
--- when there is no world: two posts have this tag, and of such tags it is the first that is repeated
+-- Why there can't be a world: two updaters have this tag, and it is the first repeated tag.
 abbrev pub IsFaultOf : List Post → WorldFault → Type 0
 IsFaultOf posts (SameTag tag) = repeated posts ≡ Some tag
 IsFaultOf posts NoMemory = Unit {0}
 
--- these turns more were taken
+-- these further turns were taken
 pub record HasTaken (more : List Turn) (old new : Worlds) : Type 0 where
   pub first : new.first ≡ old.first
   pub posts : new.posts ≡ old.posts
   pub turns : new.turns ≡ old.turns ++ more
 
--- a prefix of these turns was taken
+-- the first n of these turns were taken
 abbrev pub HasTakenPart : List Turn → Worlds → Worlds → Type 0
 HasTakenPart more old new = (n : ℕ) × HasTaken (take n more) old new
 
--- the temporary file of a post after so many of its turns: it is made, written, flushed, and published
+-- the temporary file after n turns of its updater: created, written, flushed and renamed into place
 abbrev pub temporary_after : ℕ → List ℕ → Content
 temporary_after zero bytes = None
 temporary_after (suc zero) bytes = Some []
@@ -57,16 +57,16 @@ temporary_after (suc (suc zero)) bytes = Some bytes
 temporary_after (suc (suc (suc zero))) bytes = Some bytes
 temporary_after (suc (suc (suc (suc n)))) bytes = None
 
--- the slot, the temporary files and the calls that are left are those after these turns
+-- the slot, the temporary files and the remaining calls are those after these turns
 pub record Stands (w : Worlds) : Type 0 where
   pub cache : w.cache ≡ (reading_after w.first w.posts w.turns).bytes
   pub temporaries : (i : ℕ) → IfSome (slice_get w.posts i) (λ p. slice_get w.temporaries i ≡ Some (temporary_after (steps_of i w.turns) p.bytes))
   pub progress : (i : ℕ) → i < length w.posts → slice_get w.progress i ≡ Some (drop (steps_of i w.turns) all_calls)
 
--- the bytes are the first content, or all those of a post
+-- the bytes are the content at the start or all bytes of one updater
 abbrev pub IsWhole : Content → List Post → Reading → Type 0
 IsWhole first posts reading = ((reading.writer ≡ None) × (reading.bytes ≡ first)) ⊎ ((post : Post) × Contains posts post × (reading.writer ≡ Some post.tag) × (reading.bytes ≡ Some post.bytes))
 
--- no reading has fewer publishings than one before it
+-- a later reading never has fewer renames than an earlier one
 abbrev pub NeverFalls : List Reading → Type 0
 NeverFalls readings = AllPairs (λ (a b : Reading). a.published ≤ b.published) readings

@@ -1,14 +1,14 @@
-//! Why there is no world.
+//! Why a world can't be created.
 ghost use Rattle.std.specs.Prelude.{◌≡◌};
 
 use lib_types::NoMemory;
 use std::alloc::{AllocError, AllocFailed};
 use tree_face::Tag;
 
-/// Why no world was made.
+/// Why a world can't be created.
 #[derive(Clone, Copy, Debug, PartialEq, Eq)]
 pub enum WorldFault {
-    /// Two posts have this tag.
+    /// Two updaters have this tag.
     SameTag { tag: Tag },
     NoMemory,
 }

@@ -1,4 +1,4 @@
-//! Updaters and loaders at once, taken one call of a device at a time: what loaders read, and what a crash leaves.
+//! A model of concurrent updaters and loaders, one system call at a time: what loaders read, and what a crash can leave.
 #![tactic(auto)]
 
 mod fault;

@@ -1,4 +1,4 @@
-//! The cache slot and the posts' temporary files, and how far each post has come.
+//! The cache slot, the temporary files of the updaters, and the remaining calls of each updater.
 ghost use Rattle.std.specs.Prelude.{◌≡◌, ◌<◌, [], None, OnOk, OnErr, IfOk, length, map, drop, slice_index_or, slice_set};
 ghost use Rattle.std.specs.Option.{option_and_then, option_copied};
 ghost use Rattle.std.specs.List.{slice_get};
@@ -12,7 +12,7 @@ use std::alloc::Global;
 use std::marker::Model;
 use tree_face::Call;
 
-/// What the devices hold, and what the posts have done.
+/// The contents of the files, and the progress of the updaters.
 #[derive(Drop)]
 pub(crate) struct Machine {
     cache: Option<Text>,
@@ -73,7 +73,7 @@ fn advance(progress: &mut Vec<Progress>, index: usize)
 }
 
 impl Machine {
-    /// No post has made a call, and the cache slot holds this.
+    /// The state before the first call, with this content in the cache slot.
     pub(crate) fn new(
         alloc: Global,
         cache: Option<Text>,
@@ -90,35 +90,35 @@ impl Machine {
         })
     }
 
-    /// What the cache slot holds.
+    /// The content of the cache slot.
     pub(crate) fn cache(&self) -> &Option<Text>
         ensures { result.now ≡ self.now.cache }
     {
         &self.cache
     }
 
-    /// The posts that have published, in their order.
+    /// The updaters that have renamed their file into place, in order.
     pub(crate) fn published(&self) -> &[u32]
         ensures { result.now ≡ self.now.published }
     {
         &self.published
     }
 
-    /// How many had published when a post last settled.
+    /// The number of renames before the last directory fsync.
     pub(crate) fn settled(&self) -> usize
         ensures { result ≡ self.now.settled }
     {
         self.settled
     }
 
-    // The next call of this post, if there is one.
+    // The next call of this updater, if there is one.
     fn next(&self, index: usize) -> Option<Call>
         ensures { result ≡ next_in self.now index }
     {
         self.progress.get(index)?.next()
     }
 
-    // Makes this call of this post.
+    // Makes this call of this updater.
     fn make(&mut self, alloc: Global, index: u32, call: Call, bytes: &[u8]) -> Result<(), NoMemory>
         requires { index < length self.old.temporaries }
         ensures done { OnOk result (self.new ≡ made index bytes.now call self.old) }
@@ -131,7 +131,7 @@ impl Machine {
                 at,
                 Some(Text::from_vec(Vec::new(alloc))),
             ),
-            // A post writes once, to an empty file.
+            // An updater writes once, to an empty file.
             Call::Append => put_file(
                 &mut self.temporaries,
                 at,
@@ -147,7 +147,7 @@ impl Machine {
         Ok(())
     }
 
-    /// Makes the next call of this post, if there is one.
+    /// Makes the next call of this updater, if there is one.
     pub(crate) fn step(&mut self, alloc: Global, posts: &[Post], index: u32) -> Result<(), NoMemory>
         requires files { length self.old.temporaries ≡ length posts.now }
         requires each { length self.old.progress ≡ length posts.now }

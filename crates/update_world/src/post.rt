@@ -1,4 +1,4 @@
-//! Updaters, turns and what is read.
+//! Updaters, turns and readings.
 use lib_types::{Seq, Text};
 use tree_face::Tag;
 
@@ -6,30 +6,30 @@ use tree_face::Tag;
 #[derive(Drop)]
 pub struct Post {
     pub tag: Tag,
-    /// What the slot gets.
+    /// The new content of the slot.
     pub bytes: Text,
 }
 
-/// A list of posts.
+/// A list of updaters.
 pub type Posts = Seq<Post>;
 
 /// One atomic step.
 #[derive(Clone, Copy, Debug, PartialEq, Eq)]
 pub enum Turn {
-    /// The next device call of the post at this index, counted from 0. Nothing, if there is no such post or it has no call left.
+    /// The next system call of the updater with this index, counted from 0. If there is no such updater or no call, nothing happens.
     Step(u32),
-    /// A reading of the whole cache slot.
+    /// A read of the whole cache slot.
     Load,
 }
 
-/// What a loader reads.
+/// The result of a loader's read.
 #[derive(Drop)]
 pub struct Reading {
-    /// How many posts have published.
+    /// The number of renames so far.
     pub published: u32,
-    /// The tag of the last of them.
+    /// The tag of the updater that made the last rename.
     pub writer: Option<Tag>,
-    /// What the cache slot holds.
+    /// The content of the cache slot.
     pub bytes: Option<Text>,
 }
 

@@ -1,4 +1,4 @@
-//! What is read after publishings.
+//! The readings after renames.
 ghost use Rattle.std.specs.Prelude.{◌≡◌, ◌<◌, ◌^◌, ◌-◌, ◌≤◌, ◌+◌, length, map, take, ◌∷◌, [], IfOk, OnOk, OnErr};
 ghost use Rattle.std.specs.List.{range_with_len};
 ghost use Rattle.std.specs.Option.{option_copied, option_map, option_to_list};
@@ -12,14 +12,14 @@ use lib_types::{NoMemory, Text};
 use std::alloc::Global;
 use tree_face::Tag;
 
-// The last of these posts.
+// The last of these updaters.
 fn last_of<'a>(posts: &'a [Post], published: &[u32]) -> Option<&'a Post>
     ensures { option_copied result ≡ last_of posts.now published.now }
 {
     posts.get(*published.last()? as usize)
 }
 
-// The tag of the last of these posts.
+// The tag of the last of these updaters.
 fn writer_of(posts: &[Post], published: &[u32]) -> Option<Tag>
     ensures { result ≡ option_map (λ p. p.tag) (last_of posts.now published.now) }
 {
@@ -29,7 +29,7 @@ fn writer_of(posts: &[Post], published: &[u32]) -> Option<Tag>
     }
 }
 
-// What a loader reads.
+// The result of a loader's read.
 fn load(alloc: Global, machine: &Machine, posts: &[Post]) -> Result<Reading, NoMemory>
     requires { length machine.now.published < 2 ^ 32 }
     ensures { IfOk result (λ r. r ∷ [] ≡ seen posts.now Load machine.now) }
@@ -41,7 +41,7 @@ fn load(alloc: Global, machine: &Machine, posts: &[Post]) -> Result<Reading, NoM
     })
 }
 
-/// Takes a turn. Gives what is read, if it is a reading.
+/// Takes a turn. If the turn is a load, returns the reading.
 pub(crate) fn take_turn(
     alloc: Global,
     machine: &mut Machine,
@@ -64,7 +64,7 @@ pub(crate) fn take_turn(
     }
 }
 
-// What is read after these publishings.
+// The reading after these renames.
 fn reading(
     alloc: Global,
     first: &Option<Text>,
@@ -85,7 +85,7 @@ fn reading(
     })
 }
 
-/// What is read after so many of these publishings, and after each one more.
+/// The readings after the first `from` of these renames and after each further one.
 #[tactic(auto, using(crate::proofs::Left::mapped_more))]
 pub(crate) fn readings_from(
     alloc: Global,

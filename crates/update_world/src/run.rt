@@ -10,8 +10,8 @@ use crate::world::World;
 use lib_types::NoMemory;
 use std::alloc::Global;
 
-/// Takes these turns one after another, and returns what the loads among them read. If memory runs out, the turns up to
-/// there were taken.
+/// Takes these turns in order, and returns the readings of their loads. If memory runs out, the turns up to that point were
+/// taken.
 #[tactic(auto, using(crate::proofs::Runs::taken_none, crate::proofs::Runs::taken_all, crate::proofs::Runs::taken_part, crate::proofs::Runs::taken_on, crate::proofs::Runs::rest_on))]
 pub fn world_run(alloc: Global, world: &mut World, schedule: &[Turn]) -> Result<Readings, NoMemory>
     ensures readings { IfOk result (λ readings. readings ≡ readings_behind world.old.first world.old.posts world.old.turns schedule.now) }
@@ -22,7 +22,7 @@ pub fn world_run(alloc: Global, world: &mut World, schedule: &[Turn]) -> Result<
     ensures order { IfOk result NeverFalls }
     ensures disk { IfOk result (AreOnDisks world.old.first world.old.posts world.old.turns schedule.now) }
 {
-    // What stands before the first turn is so if none is taken.
+    // This call makes `Stands` known for an empty schedule.
     let _taken = world.turns();
     let mut readings = Readings::new(alloc);
     for turn in schedule {

@@ -1,4 +1,4 @@
-//! The tags of posts.
+//! The tags of updaters.
 ghost use Rattle.std.specs.Prelude.{◌≡◌, IfOk};
 ghost use Rattle.update_world.specs.Turns.{repeated};
 
@@ -8,7 +8,7 @@ use lib_types::NoMemory;
 use std::alloc::Global;
 use tree_face::Tag;
 
-/// The tag of the first post that has the tag of one before it.
+/// The tag of the first updater that has the same tag as an earlier one.
 pub(crate) fn repeated_tag(alloc: Global, posts: &[Post]) -> Result<Option<Tag>, NoMemory>
     ensures { IfOk result (λ tag. tag ≡ repeated posts.now) }
 {

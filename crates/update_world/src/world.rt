@@ -34,7 +34,7 @@ impl Model for World {
     ghost invariant = { λ w. IsKept w.first w.posts w.turns.items w.machine };
 }
 
-// A world in which no turn was taken.
+// A world before the first turn.
 fn begin(alloc: Global, first: Option<Text>, posts: Posts) -> Result<World, NoMemory>
     requires few { length posts < 2 ^ 32 }
     requires different { repeated posts ≡ None }
@@ -51,7 +51,7 @@ fn begin(alloc: Global, first: Option<Text>, posts: Posts) -> Result<World, NoMe
 }
 
 impl World {
-    /// A world in which no turn was taken, and whose cache slot holds this.
+    /// A world before the first turn, with this content in the cache slot.
     pub fn new(alloc: Global, first: Option<Text>, posts: Posts) -> Result<World, WorldFault>
         ensures made { IfOk result (λ world. world ≡ new_world first posts) }
         ensures stands { IfOk result Stands }
@@ -67,7 +67,7 @@ impl World {
         Ok(begin(alloc, first, posts)?)
     }
 
-    /// The turns that were taken.
+    /// The turns so far.
     #[tactic(auto, using(crate::proofs::Kept::stands))]
     pub fn turns(&self) -> &[Turn]
         ensures turns { result.now ≡ self.now.turns }
@@ -77,7 +77,7 @@ impl World {
         &self.turns
     }
 
-    // Takes a turn. Gives what was read, if it is a reading.
+    // Takes a turn. If the turn is a load, returns the reading.
     #[tactic(auto, using(crate::proofs::Kept::seen_is, crate::proofs::Kept::stands))]
     pub(crate) fn take(&mut self, alloc: Global, turn: Turn) -> Result<Option<Reading>, NoMemory>
         ensures read { IfOk result (λ r. option_to_list r ≡ read_in self.old.first self.old.posts self.old.turns turn) }
@@ -87,12 +87,12 @@ impl World {
     {
         self.turns.reserve(1)?;
         let read = take_turn(alloc, &mut self.machine, self.posts.as_slice(), turn)?;
-        // There is room for it.
+        // The space was reserved above.
         self.turns.push(turn)?;
         Ok(read)
     }
 
-    /// What a crash now may leave in the cache slot, in the order of publishing.
+    /// The contents that a crash at this moment may leave in the cache slot, in the order of the renames.
     #[tactic(auto, using(crate::proofs::Left::settled_most))]
     pub fn left(&self, alloc: Global) -> Result<Readings, NoMemory>
         ensures left { IfOk result (λ readings. readings ≡ left self.now.first self.now.posts self.now.turns) }

@@ -1,4 +1,4 @@
-//! Tests of updaters and loaders at once: a table of data/, and schedules that are counted up or drawn.
+//! Tests of updaters and loaders that run at once: a table of data/, and schedules that are enumerated or pseudo-random.
 #![tactic(auto)]
 
 mod plain;

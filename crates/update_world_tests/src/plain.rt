@@ -1,15 +1,15 @@
-//! What is read, and what a crash may leave, by counting the turns again for each of them.
+//! What is read, and what a crash may leave, computed independently by counting the turns.
 use crate::shown::push_line;
 use lib_types::NoMemory;
 use std::alloc::Global;
 use update_world::Turn;
 
-/// The tag and the bytes of each post of the schedules.
+/// The tag and the bytes of each updater in the schedules.
 pub(crate) const POSTS: &[(u16, &[u8])] = &[(7, b"A"), (3, b"B"), (5, b"C")];
 
 pub(crate) const FIRST: &[u8] = b"F";
 
-// The turn's post, if the turn is so manieth of its post.
+// The updater of this turn, if it is the updater's turn number `nth`.
 fn nth_turn_of(turns: &[Turn], at: usize, nth: usize) -> Option<u32> {
     let Some(Turn::Step(post)) = turns.get(at) else {
         return None;
@@ -27,7 +27,7 @@ fn nth_turn_of(turns: &[Turn], at: usize, nth: usize) -> Option<u32> {
     }
 }
 
-// The posts among the first ones that have published before this turn: each by its fourth turn.
+// The updaters, of the first `posts`, that have renamed their file into place before this turn: each does so in its fourth turn.
 fn publishers(
     alloc: Global,
     turns: &[Turn],
@@ -71,7 +71,7 @@ pub(crate) fn push_read(
     Ok(())
 }
 
-// Behind the last settling before this turn: each post settles by its fifth turn.
+// The last turn before `end` in which an updater flushes the directory, or 0. Each updater does so in its fifth turn.
 fn settled_end(turns: &[Turn], end: usize, posts: usize) -> usize {
     let mut settled = 0;
     for at in 0..end {

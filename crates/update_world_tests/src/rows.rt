@@ -1,4 +1,4 @@
-//! One row: a world, rounds of turns, what is read, and what a crash may leave after each round.
+//! One row: updaters, rounds of turns, what is read, and what a crash may leave after each round.
 use crate::shown::Seen;
 use lib_types::{NoMemory, Text};
 use std::alloc::Global;
@@ -6,8 +6,8 @@ use table_rows::{Row, Said, Trial, Words, divide, number, owned_value, value};
 use tree_face::Tag;
 use update_world::{Post, Posts, Turn, World, WorldFault};
 
-/// A row has the first content, if there is one, a line for each post with its tag and bytes, and rounds of turns, in which a digit is a
-/// step of the post with this index and any other character a load.
+/// A row has the first content, if there is one, and a line for each updater with its tag and bytes. In the rounds of turns, a digit is a
+/// step of the updater with this index, and any other character is a load.
 pub(crate) struct Rounds;
 
 fn posts_of(alloc: Global, row: Row<'_>) -> Result<Posts, NoMemory> {
@@ -81,7 +81,7 @@ impl Trial for Rounds {
         WORDS
     }
 
-    // A body that always returns NoMemory meets the contract; the rows refuse it.
+    // A body that always returns NoMemory meets the contract, but not the rows.
     fn is_right(alloc: Global, row: Row<'_>, said: &mut Said) -> Result<bool, NoMemory> {
         let want = value(row, b"same-tag").unwrap_or(b"");
         match World::new(

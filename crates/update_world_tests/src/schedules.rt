@@ -1,4 +1,4 @@
-//! Every schedule of two posts, and a sample of those of three.
+//! Every schedule of two updaters, and a sample of those of three.
 use crate::plain::{FIRST, POSTS, push_left, push_read};
 use crate::shown::{ROUND, Seen};
 use lib_types::{NoMemory, Text};
@@ -38,14 +38,14 @@ fn counted_again(alloc: Global, posts: usize, turns: &[Turn]) -> Result<Seen, No
     Ok(seen)
 }
 
-// Whether each reading, and what a crash leaves after each turn, is as the turns are counted.
+// Whether each reading, and what a crash leaves after each turn, is the independently computed one.
 fn is_right(alloc: Global, posts: usize, turns: &[Turn]) -> Result<bool, WorldFault> {
     let want = counted_again(alloc, posts, turns)?;
     let got = seen_by(alloc, posts, turns)?;
     Ok(got.read.as_slice() == want.read.as_slice() && got.left.as_slice() == want.left.as_slice())
 }
 
-// The turns of two posts: which one's turn it is says each bit. A load stands at each place.
+// The turns of two updaters: each bit of `order` selects the updater. There is a load before, between and after the turns.
 fn turns_of_two(alloc: Global, order: u32) -> Result<Vec<Turn>, NoMemory> {
     let mut turns = Vec::new(alloc);
     turns.push(Turn::Load)?;
@@ -60,7 +60,7 @@ fn next_draw(state: u32) -> u32 {
     state.wrapping_mul(1_103_515_245).wrapping_add(12_345) % (1 << 31)
 }
 
-// Turns that are drawn: of three posts, of one that isn't there, and loads.
+// Pseudo-random turns: steps of three updaters, steps of an updater that doesn't exist, and loads.
 fn turns_of_three(alloc: Global, seed: u32) -> Result<Vec<Turn>, NoMemory> {
     let mut turns = Vec::new(alloc);
     let mut state = seed;
@@ -76,7 +76,7 @@ fn turns_of_three(alloc: Global, seed: u32) -> Result<Vec<Turn>, NoMemory> {
     Ok(turns)
 }
 
-// How many schedules were tried, and how many of them differ.
+// The number of schedules that were tried, and the number that differ.
 #[derive(Clone, Copy)]
 struct Counts {
     tried: u32,
@@ -115,7 +115,7 @@ fn try_three(alloc: Global) -> Result<Counts, WorldFault> {
     Ok(counts)
 }
 
-/// Tries the schedules, prints how many differ, and returns whether none does.
+/// Tries the schedules, prints how many differ, and returns whether none differs.
 pub(crate) fn try_schedules(rt: &HostRuntime) -> io::Result<bool> {
     let alloc = rt.alloc();
     let Ok(two) = try_two(alloc) else {

@@ -3,7 +3,8 @@ use lib_types::NoMemory;
 use std::alloc::Global;
 use update_world::{Readings, Turn, World, world_run};
 
-/// A line of how many have published, the last one's tag, and what the slot holds; `-` if there is none.
+/// A line with the number of updaters that have renamed their file into place, the last one's tag, and the file's content; `-` if there is
+/// none.
 pub(crate) fn push_line(
     alloc: Global,
     out: &mut Vec<u8>,
@@ -59,7 +60,7 @@ impl Seen {
         }
     }
 
-    /// Takes a round of turns.
+    /// Does a round of turns.
     pub(crate) fn take(
         &mut self,
         alloc: Global,

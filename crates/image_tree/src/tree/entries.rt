@@ -1,4 +1,4 @@
-//! What a tree has at a path, and how that changes.
+//! Lookup and change of a tree's entries by path.
 ghost use Rattle.std.specs.Prelude.{◌≡◌, ◌≢◌, ◌<◌, ◌≤◌, ◌^◌, IfOk, IfErr, IfSome, OnOk, OnErr, ◌↔◌, ◌+◌, ◌&&◌, IsTrue, None, Some, false, true, MatchResult, MatchOption, length, slice_index_or};
 ghost use Rattle.std.specs.Str.{bytes_eq};
 ghost use Rattle.std.specs.Option.{option_copied, is_some};
@@ -26,7 +26,7 @@ fn node_of(runs: &Vec<Run>, place: Place) -> &Node
     entry_at(runs, place).node
 }
 
-/// The place of the path's entry, looked for first from a place on, or that of its gap.
+/// The place of the path's entry, or the place of its gap. The entries from `near` on are tried first.
 pub(super) fn find_at(runs: &Vec<Run>, near: Place, path: &[u8]) -> Result<Place, Place>
     requires runs { IsTrue (are_runs runs.now.items) }
     requires sorted { IsPathSorted (joined runs.now.items) }
@@ -38,7 +38,7 @@ pub(super) fn find_at(runs: &Vec<Run>, near: Place, path: &[u8]) -> Result<Place
     }
 }
 
-/// The place of the path's entry, if it has one, looked for first from a place on.
+/// The place of the path's entry, if it has one. The entries from `near` on are tried first.
 pub(super) fn place_of(runs: &Vec<Run>, near: Place, path: &[u8]) -> Option<Place>
     requires runs { IsTrue (are_runs runs.now.items) }
     requires sorted { IsPathSorted (joined runs.now.items) }
@@ -50,7 +50,7 @@ pub(super) fn place_of(runs: &Vec<Run>, near: Place, path: &[u8]) -> Option<Plac
     }
 }
 
-/// The node of the path, whose entry is at this place.
+/// The node of the path. Its entry must be at this place.
 pub(super) fn node<'a>(runs: &'a Vec<Run>, place: Place, path: &[u8]) -> &'a Node
     requires sorted { IsPathSorted (joined runs.now.items) }
     requires place { IsPlaceOf runs.now.items path.now place }
@@ -71,7 +71,7 @@ fn take_out(runs: &mut Vec<Run>, place: Place, path: &[u8])
     places::remove(runs, place);
 }
 
-/// Removes the entry of the path if there is one.
+/// Removes the entry of the path if there is one, and returns whether there was.
 pub(super) fn remove(runs: &mut Vec<Run>, path: &[u8]) -> bool
     requires runs { IsTrue (are_runs runs.old.items) }
     requires sorted { IsPathSorted (joined runs.old.items) }
@@ -90,8 +90,8 @@ pub(super) fn remove(runs: &mut Vec<Run>, path: &[u8]) -> bool
     }
 }
 
-// Whether something lies below the path, given that the entries from this place on are those behind it. A text above the path of an entry
-// is a path, so it isn't tested byte by byte whether it is one.
+// Whether the text is a path with something below it. The entries from the place `behind` on must be the ones after the path. If an entry
+// lies below the text, the text is a path. So its bytes need no test.
 fn has_below(runs: &Vec<Run>, path: &[u8], behind: Place) -> bool
     requires runs { AreRuns runs.now.items }
     requires path { bytes_eq path.now root ≡ false }
@@ -115,7 +115,7 @@ fn kind_of(node: &Node) -> Kind
     }
 }
 
-// What is at the path, which isn't the root. A text that is no path has no node, and nothing lies below it.
+// The kind of the path, which must not be the root. A text that isn't a path has no node, and nothing lies below it.
 fn kind_found(runs: &Vec<Run>, path: &[u8], found: Result<Place, Place>) -> Kind
     requires runs { AreRuns runs.now.items }
     requires path { bytes_eq path.now root ≡ false }
@@ -134,7 +134,7 @@ fn kind_found(runs: &Vec<Run>, path: &[u8], found: Result<Place, Place>) -> Kind
     }
 }
 
-/// What is at a path without a node, which is to be inserted at this place.
+/// The kind of a path without a node. `gap` is the place at which it would be inserted.
 pub(super) fn kind_in_gap(runs: &Vec<Run>, path: &[u8], gap: Place) -> Kind
     requires runs { AreRuns runs.now.items }
     requires gap { IsGapAt runs.now.items path.now gap }
@@ -147,7 +147,7 @@ pub(super) fn kind_in_gap(runs: &Vec<Run>, path: &[u8], gap: Place) -> Kind
     kind_found(runs, path, Err(gap))
 }
 
-/// What is at the path.
+/// The kind of the path.
 pub(super) fn kind(runs: &Vec<Run>, path: &[u8]) -> Kind
     requires { AreRuns runs.now.items }
     ensures { result ≡ kind_at (joined runs.now.items) path.now }
@@ -178,8 +178,8 @@ fn is_file_before(runs: &Vec<Run>, path: &[u8], place: Place) -> bool
     }
 }
 
-// Whether the path lies below a file or a link. Nothing else lies below one, so it is the entry directly before a path
-// that has no entry, and no path that has one lies below it.
+// Whether the path lies below a file or a link. In a tree nothing lies below a file or a link. So if the path has an entry, it doesn't.
+// Otherwise only the entry directly before its gap can be above it.
 fn has_file_above(runs: &Vec<Run>, path: &[u8], found: Result<Place, Place>) -> bool
     requires runs { AreRuns runs.now.items }
     requires found { MatchResult found (IsPlaceOf runs.now.items path.now) (IsGapAt runs.now.items path.now) }
@@ -191,7 +191,7 @@ fn has_file_above(runs: &Vec<Run>, path: &[u8], found: Result<Place, Place>) -> 
     }
 }
 
-// The place of the first entry behind the path.
+// The place of the first entry after the path.
 fn behind(runs: &Vec<Run>, path: &[u8], found: Result<Place, Place>) -> Place
     requires runs { IsTrue (are_runs runs.now.items) }
     requires sorted { IsPathSorted (joined runs.now.items) }
@@ -208,7 +208,7 @@ fn behind(runs: &Vec<Run>, path: &[u8], found: Result<Place, Place>) -> Place
     }
 }
 
-// Whether a file or link would have something below it.
+// Whether a file or link would have something below it after the node is put.
 fn clashes(runs: &Vec<Run>, path: &[u8], node: &Node, found: Result<Place, Place>) -> bool
     requires runs { AreRuns runs.now.items }
     requires path { IsTrue (is_path path.now) }
@@ -219,7 +219,7 @@ fn clashes(runs: &Vec<Run>, path: &[u8], node: &Node, found: Result<Place, Place
         || (!is_dir(node) && has_below(runs, path, behind(runs, path, found)))
 }
 
-// Whether the path is new and the tree has all the nodes that it may have.
+// Whether the path is new and the tree already has `NODES_MAX` nodes.
 fn has_no_room(runs: &Vec<Run>, count: usize, path: &[u8], found: Result<Place, Place>) -> bool
     requires runs { AreRuns runs.now.items }
     requires count { count ≡ length (joined runs.now.items) }
@@ -233,7 +233,7 @@ fn has_no_room(runs: &Vec<Run>, count: usize, path: &[u8], found: Result<Place, 
     }
 }
 
-/// The place of the path's entry or of its gap, looked for first in the run of a place, or why the node can't be put.
+/// The place of the path's entry or of its gap, or the reason why the node can't be put. The run of `near` is tried first.
 pub(super) fn find_for(
     runs: &Vec<Run>,
     near: Place,
@@ -292,7 +292,7 @@ fn insert(
     Ok(())
 }
 
-/// Puts the node at the place that was found, and returns how many nodes the tree has then.
+/// Puts the node at the place that was found, and returns the new number of nodes.
 pub(super) fn put_at(
     alloc: Global,
     runs: &mut Vec<Run>,
@@ -323,7 +323,7 @@ pub(super) fn put_at(
     }
 }
 
-/// Entries whose first are all that lie below the path, if it is a directory.
+/// If the path is a directory, the entries after it. They begin with all entries below the path.
 pub(super) fn from_dir<'a>(runs: &'a Vec<Run>, path: &[u8]) -> Option<Rest<'a>>
     requires { AreRuns runs.now.items }
     ensures entries { MatchOption result (kind_at (joined runs.now.items) path.now ≢ Kind.Dir) (AreFromDir (joined runs.now.items) path.now) }

@@ -1,4 +1,4 @@
-//! What stands directly below a directory of a tree.
+//! The children of a directory of a tree.
 ghost use Rattle.std.specs.Prelude.{◌≡◌, ◌≤◌, ◌∷◌, [], ◌&&◌, ℕ, List, true, IfSome, MatchOption, drop, length, nat_eq};
 ghost use Rattle.std.specs.List.{dedup_from, starts_with};
 ghost use Rattle.std.specs.Option.{option_copied};
@@ -14,11 +14,11 @@ use crate::node::Node;
 use crate::path::{begins_with, folder_in, is_below, name_from};
 use std::marker::Model;
 
-/// What stands directly below a directory and is still to come: each name with its node, if it has one.
+/// An iterator over the children of a directory: each name with its node, if it has one.
 #[derive(Drop)]
 pub struct Listing<'a> {
     rest: Rest<'a>,
-    // the prefix of each path of a child, which ends directly before the name
+    // the prefix of each child's path, up to the name
     folder: &'a [u8],
 }
 
@@ -39,7 +39,7 @@ impl<'a> Listing<'a> {
     ghost use Rattle.std.specs.Prelude.{◌<◌, ◌^◌};
     ghost use Rattle.image_tree.specs.Paths.{folder};
 
-    /// Nothing.
+    /// No children.
     pub(super) fn none() -> Listing<'a>
         ensures { result ≡ [] }
     {
@@ -49,7 +49,7 @@ impl<'a> Listing<'a> {
         }
     }
 
-    /// What stands directly below the path, given entries whose first are all that lie below it.
+    /// The children of the path. The entries in `rest` must begin with all entries below it.
     pub(super) fn of(rest: Rest<'a>, path: &[u8]) -> Listing<'a>
         requires short { length path.now < 2 ^ 32 }
         requires sorted { IsPathSorted rest }
@@ -81,7 +81,7 @@ impl<'a> Iterator for Listing<'a> {
     }
 }
 
-/// The names below a directory that are still to come.
+/// An iterator over the names of a directory's children.
 #[derive(Drop)]
 pub struct Children<'a> {
     listing: Listing<'a>,
@@ -121,7 +121,7 @@ impl<'a> Iterator for Children<'a> {
     }
 }
 
-// The name with which the entry's path goes on behind a folder of this length, and the node if the path ends there.
+// The name that begins at `start` in the entry's path, and the node if the path ends after this name.
 fn child_at<'a>(entry: PathEntry<'a>, start: usize) -> (&'a [u8], Option<&'a Node>)
     ensures { (result.0.now, option_copied result.1) ≡ child_at start (entry.entry.path.now, entry.entry.node.now) }
 {
@@ -134,7 +134,7 @@ fn child_at<'a>(entry: PathEntry<'a>, start: usize) -> (&'a [u8], Option<&'a Nod
     }
 }
 
-// Whether the path ends or goes on with a slash behind its first n bytes, given that it has as many.
+// Whether a name ends after the first n bytes of the path: the path ends there, or a slash follows.
 #[tactic(auto, using(crate::proofs::Names::ends_there, crate::proofs::Names::goes_on_there))]
 fn is_name_end(path: &[u8], n: usize) -> bool
     ensures { result ≡ is_name_end (drop n path.now) }
@@ -142,15 +142,14 @@ fn is_name_end(path: &[u8], n: usize) -> bool
     path.len() <= n || path[n] == b'/'
 }
 
-// Whether the path is that of a child of a folder, or lies below it, given the child's path. Most entries are those of other
-// children, which one byte shows.
+// Whether the path is the child's path or lies below it. Most entries belong to other children, and one byte rules them out.
 fn is_child(child: &[u8], path: &[u8]) -> bool
     ensures { (folder name : List ℕ) → IsPathOfChild folder name child.now → result ≡ (starts_with nat_eq path.now folder && bytes_eq (name_behind (length folder) path.now) name) }
 {
     is_name_end(path, child.len()) && begins_with(path, child)
 }
 
-// The path of the child to whose entries this path belongs.
+// The path of the child that this path belongs to.
 #[tactic(auto, using(crate::proofs::Names::child_within))]
 fn path_of_child<'a>(path: &'a [u8], folder: &[u8], name: &[u8]) -> &'a [u8]
     requires folder { starts_with nat_eq path.now folder.now ≡ true }
@@ -160,7 +159,7 @@ fn path_of_child<'a>(path: &'a [u8], folder: &[u8], name: &[u8]) -> &'a [u8]
     &path[..folder.len() + name.len()]
 }
 
-// The entries from the last run on that begins with one of the child. What is skipped comes before that one, so it is the child's too.
+// Skips to the last run that begins with an entry of the child. The skipped entries come before that entry, so they are the child's too.
 fn from_last_run<'a>(entries: Rest<'a>, child: &[u8]) -> Rest<'a>
     requires { AreSortedBehind child.now entries }
     ensures sorted { AreSortedBehind child.now result }
@@ -178,7 +177,7 @@ fn from_last_run<'a>(entries: Rest<'a>, child: &[u8]) -> Rest<'a>
     rest
 }
 
-// What follows the entries of one child, given its path. Below a directory there can be many.
+// The entries after those of one child, given its path. A child that is a directory can have many entries.
 #[tactic(auto, using(crate::proofs::AllOfChild::behind_sorted))]
 fn skip_child<'a>(entries: Rest<'a>, child: &[u8]) -> Rest<'a>
     requires { AreSortedBehind child.now entries }
@@ -196,7 +195,7 @@ fn skip_child<'a>(entries: Rest<'a>, child: &[u8]) -> Rest<'a>
     rest
 }
 
-// The first child of the folder, and what follows its entries.
+// The first child in the directory with this prefix, and the entries after those of the child.
 fn first_child<'a>(
     rest: &Rest<'a>,
     folder: &[u8],

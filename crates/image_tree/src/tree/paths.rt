@@ -1,4 +1,4 @@
-//! Paths whose bytes are kept in one text.
+//! Paths that are stored in one text.
 ghost use Rattle.std.specs.Prelude.{◌≡◌, ◌∷◌, ◌++◌, [], IfOk, OnOk, OnErr, length};
 ghost use Rattle.std.specs.Map.{keys_of};
 
@@ -7,7 +7,7 @@ use lib_types::{NoMemory, Part};
 use std::alloc::Global;
 use std::marker::Model;
 
-/// Paths in a text that has nothing else, which contracts see as their list.
+/// Paths in a text that contains nothing else. In contracts this is the list of paths.
 #[derive(Drop)]
 pub(super) struct Paths {
     pub(super) text: Vec<u8>,

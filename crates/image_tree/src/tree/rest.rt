@@ -8,12 +8,12 @@ use super::run::Run;
 use super::runs::{Place, run_of};
 use std::marker::Model;
 
-/// Entries that are still to come, borrowed from the runs of a tree.
+/// The entries from a place on, borrowed from the runs of a tree.
 #[derive(Drop)]
 pub(super) struct Rest<'a> {
-    // what is left of the first run
+    // the rest of the first run
     first: Rows<'a>,
-    // the runs behind it
+    // the runs after it
     others: &'a [Run],
 }
 
@@ -66,7 +66,7 @@ impl<'a> Rest<'a> {
         }
     }
 
-    /// The first entry and those behind it.
+    /// The first entry and the entries after it.
     pub(super) fn split_first(&self) -> Option<(PathEntry<'a>, Rest<'a>)>
         ensures { MatchOption result (self.now ≡ []) (λ r. self.now ≡ (r.0.path.now, r.0.node.now) ∷ r.1) }
     {
@@ -79,7 +79,7 @@ impl<'a> Rest<'a> {
         Some((entry, Rest { first, others }))
     }
 
-    /// The first entry of the next run, and the entries from it on, if something is left of the first run.
+    /// The first entry of the next run, and the entries from that one on. `None` if the rest of the first run is empty or no run follows.
     pub(super) fn next_run(&self) -> Option<(PathEntry<'a>, Rest<'a>)>
         ensures last { IfSome result (λ r. EndsWith self.now (r.0.path.now, r.0.node.now) r.1) }
         ensures fewer { IfSome result (λ r. length r.1 < length self.now) }
@@ -103,7 +103,7 @@ fn rest_of_run(runs: &Vec<Run>, place: Place) -> Rows<'_>
     run_of(runs, place.run).rows().from(place.at)
 }
 
-// The runs behind this one.
+// The runs after this one.
 fn runs_behind(runs: &Vec<Run>, run: usize) -> &[Run]
     requires { run < length runs.now.items }
     ensures { result.now ≡ drop (run + 1) runs.now.items }

@@ -1,4 +1,4 @@
-//! The rows of a run: where each path is in a text, and its node.
+//! The rows of a run. A row has the range of its path in a text, and its node.
 ghost use Rattle.std.specs.Prelude.{◌≡◌, ◌<◌, ◌≤◌, ◌==◌, ◌∷◌, [], IfOk, IfErr, IfSome, IsTrue, MatchOption, length, drop, take, slice_index_or};
 ghost use Rattle.std.specs.declared.cmp.Ordering.TheVariants.{Equal};
 ghost use Rattle.image_tree.specs.Paths.{path_cmp};
@@ -14,7 +14,7 @@ use lib_types::{Part, are_same};
 use std::cmp::Ordering;
 use std::marker::Model;
 
-/// Where the path of an entry is, and the node.
+/// The range of an entry's path in the text, and the node.
 #[derive(Drop)]
 pub(super) struct Row {
     pub(super) part: Part,
@@ -47,7 +47,7 @@ fn rows_from(rows: &[Row], index: usize) -> &[Row]
     &rows[index..]
 }
 
-/// Rows and the text in which their paths are, which contracts see as the list of the entries.
+/// Rows, and the text that contains their paths. In contracts this is the list of entries.
 #[derive(Drop)]
 pub(super) struct Rows<'a> {
     pub(super) text: &'a [u8],
@@ -77,21 +77,21 @@ impl<'a> Rows<'a> {
         }
     }
 
-    /// How many they are.
+    /// The number of rows.
     pub(super) fn len(&self) -> usize
         ensures { result ≡ length self.now }
     {
         self.rows.len()
     }
 
-    /// Whether there are none.
+    /// Whether the list of rows is empty.
     pub(super) fn is_empty(&self) -> bool
         ensures { result ≡ (length self.now == 0) }
     {
         self.rows.is_empty()
     }
 
-    /// How many bytes the text has. Not all of them need be those of a path.
+    /// The length of the text in bytes. It can have bytes that are not part of a path.
     pub(super) fn text_len(&self) -> usize {
         self.text.len()
     }
@@ -128,7 +128,7 @@ impl<'a> Rows<'a> {
         }
     }
 
-    /// The first entry and the rows behind it.
+    /// The first entry and the rows after it.
     pub(super) fn split_first(&self) -> Option<(PathEntry<'a>, Rows<'a>)>
         ensures { MatchOption result (self.now ≡ []) (λ r. self.now ≡ (r.0.path.now, r.0.node.now) ∷ r.1) }
     {
@@ -137,7 +137,7 @@ impl<'a> Rows<'a> {
         Some((entry_in(text, row), Rows { text, rows }))
     }
 
-    /// Whether the first entry's path is this one or before it, if there is one.
+    /// Whether the first entry's path is `path` or comes before it. True if the list is empty.
     pub(super) fn begin_by(&self, path: &[u8]) -> bool
         ensures { result ≡ begins_by path.now self.now }
     {
@@ -147,7 +147,7 @@ impl<'a> Rows<'a> {
         }
     }
 
-    /// The index of the path's entry, or that of its gap, by halves.
+    /// The index of the path's entry, or the index of its gap, found by a binary search.
     pub(super) fn search(&self, path: &[u8]) -> Result<usize, usize>
         requires { IsPathSorted self.now }
         ensures found { IfOk result (IsIndexOf self.now path.now) }
@@ -166,7 +166,7 @@ impl<'a> Rows<'a> {
         Err(low)
     }
 
-    /// The index of the path's entry, if it is one of the next few from this index on.
+    /// The index of the path's entry, if it is one of the next `NEAR` entries from this index on.
     pub(super) fn find_near(&self, from: usize, path: &[u8]) -> Option<usize>
         ensures { IfSome result (IsIndexOf self.now path.now) }
     {
@@ -196,10 +196,10 @@ impl<'a> Iterator for Rows<'a> {
     }
 }
 
-// How many entries are looked at in their order before all are searched.
+// The number of entries that are tried one after another before the binary search.
 const NEAR: usize = 8;
 
-// Whether the entry has the path. Most that don't have one of another length, so this takes less than to compare their order.
+// Whether the entry has the path. Most other paths differ in length, so this is cheaper than comparing their order.
 #[tactic(auto, using(crate::proofs::Order::same_paths))]
 fn has_path(entry: PathEntry<'_>, path: &[u8]) -> bool
     ensures { IsTrue result → path_cmp entry.entry.path.now path.now ≡ Equal }

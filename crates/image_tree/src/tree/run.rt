@@ -15,21 +15,21 @@ use lib_types::{NoMemory, Part};
 use std::alloc::Global;
 use std::marker::Model;
 
-/// The most entries of a run. What is put or removed moves no more entries than that: fewer would make more runs, whose
-/// list is moved where a run is divided.
+/// The maximum number of entries of a run. A put or a removal moves at most this many entries. A smaller limit would make more runs, and
+/// dividing a run moves all runs after it.
 pub(super) const RUN_MAX: usize = 64;
 
-// For so many entries more a run makes room at once. With more of it a tree in no order would have much memory that stands empty.
+// The number of entries for which a run reserves room when its rows are full. A larger number would waste memory if paths are put unsorted.
 const ROOM: usize = 16;
 
-// How many bytes a path takes, more or less: a run that is to be filled has room for so many from the start.
+// The typical length of a path in bytes. A new run reserves room for `RUN_MAX` paths of this length.
 const PATH_LEN: usize = 48;
 
-// A text of more bytes than the paths of a run can have is made anew of those that are there.
+// The maximum total length of the paths of a run. If the text is longer, it is rebuilt from the paths of the entries.
 const TEXT_MAX: usize = RUN_MAX * PATH_MAX;
 
-/// Entries that contracts see as their list. Their paths are parts of one text, so that each takes the memory of its bytes and of two
-/// numbers. What is removed leaves its path in the text.
+/// A run of entries. In contracts it is the list of its entries. Their paths are parts of one text. So a path takes the memory of its bytes
+/// and of two offsets. The path of a removed entry stays in the text.
 #[derive(Drop)]
 pub(super) struct Run {
     text: Vec<u8>,
@@ -49,7 +49,7 @@ impl Model for Run {
 }
 
 impl Run {
-    /// A run without entries, with room for as many as it may have.
+    /// An empty run, with room for `RUN_MAX` entries.
     pub(super) fn new(alloc: Global) -> Result<Run, NoMemory>
         ensures { IfOk result (λ run. run ≡ []) }
     {
@@ -76,14 +76,14 @@ impl Run {
         }
     }
 
-    /// Whether the run begins at the path or before it.
+    /// Whether the first entry of the run is at the path or before it.
     pub(super) fn begins_by(&self, path: &[u8]) -> bool
         ensures { result ≡ begins_by path.now self.now }
     {
         self.rows().begin_by(path)
     }
 
-    /// The index of the path's entry, or that of its gap.
+    /// The index of the path's entry, or the index of its gap.
     pub(super) fn search(&self, path: &[u8]) -> Result<usize, usize>
         requires { IsPathSorted self.now }
         ensures found { IfOk result (IsIndexOf self.now path.now) }
@@ -92,7 +92,7 @@ impl Run {
         self.rows().search(path)
     }
 
-    /// The index of the path's entry, if it is one of the next few from this index on.
+    /// The index of the path's entry, if it is one of the next few entries from this index on.
     pub(super) fn find_near(&self, from: usize, path: &[u8]) -> Option<usize>
         ensures { IfSome result (IsIndexOf self.now path.now) }
     {
@@ -134,7 +134,7 @@ impl Run {
         Ok(())
     }
 
-    // Inserts an entry, whose path comes to the end of the text.
+    // Inserts an entry. Its path is appended to the text.
     fn add(&mut self, index: usize, path: &[u8], node: Node) -> Result<(), NoMemory>
         requires { index ≤ length self.old }
         ensures done { OnOk result (self.new ≡ insert self.old index (path.now, node)) }
@@ -144,7 +144,7 @@ impl Run {
         insert_row(&mut self.rows, index, Row { part, node })
     }
 
-    // Gives back the room that the text has for more, once the run is full: it is divided before another path comes to it.
+    // Frees the unused room of the text when the run is full. A full run is divided before another path is added.
     fn shrink_if_full(&mut self)
         ensures { self.new ≡ self.old }
     {
@@ -153,7 +153,7 @@ impl Run {
         }
     }
 
-    // Makes the text anew if it has more bytes than the paths of a run can have: paths that were removed are still in it.
+    // Rebuilds the text if it is longer than the paths of a run can be. The text still contains the paths of removed entries.
     fn keep_short(&mut self, alloc: Global) -> Result<(), NoMemory>
         ensures { self.new ≡ self.old }
     {
@@ -164,7 +164,7 @@ impl Run {
         Ok(())
     }
 
-    // Takes the text of these paths, which are those of the entries.
+    // Replaces the text and the parts by these. `paths` must be the paths of the entries.
     fn settle(&mut self, paths: Paths)
         requires { paths ≡ keys_of self.old }
         ensures { self.new ≡ self.old }
@@ -174,7 +174,7 @@ impl Run {
         self.text = text;
     }
 
-    // The entries of these rows, whose paths are these.
+    // The run of these rows with these paths.
     fn of(paths: Paths, mut rows: Vec<Row>) -> Run
         requires { length paths ≡ length rows.items }
         ensures { result ≡ zip paths (nodes_of rows.items) }
@@ -184,8 +184,8 @@ impl Run {
         Run { text, rows }
     }
 
-    /// Keeps the entries before this index, and returns the others as a run of their own. Neither has room for more, and the text of
-    /// each has only the paths of its entries.
+    /// Keeps the entries before this index, and returns the others as a new run. Neither run has spare room, and the text of each contains
+    /// only the paths of its entries.
     pub(super) fn split_off(&mut self, alloc: Global, index: usize) -> Result<Run, NoMemory>
         requires { index ≤ length self.old }
         ensures front { OnOk result (self.new ≡ take index self.old) }
@@ -230,7 +230,7 @@ fn set_parts(rows: &mut Vec<Row>, parts: &Vec<Part>)
     }
 }
 
-// Has room for a row more.
+// Makes room for one more row.
 fn make_room(rows: &mut Vec<Row>) -> Result<(), NoMemory>
     ensures { rows.new.items ≡ rows.old.items }
 {
@@ -240,7 +240,7 @@ fn make_room(rows: &mut Vec<Row>) -> Result<(), NoMemory>
     Ok(())
 }
 
-// Inserts a row at this index. At the end, where the lines of a sorted manifest come, nothing moves.
+// Inserts a row at this index. The lines of a sorted manifest come at the end, where no row is moved.
 #[tactic(auto, using(crate::proofs::Runs::inserted_at_end))]
 fn insert_row(rows: &mut Vec<Row>, index: usize, row: Row) -> Result<(), NoMemory>
     requires { index ≤ length rows.old.items }

@@ -14,7 +14,7 @@ use crate::path::compare;
 use lib_types::NoMemory;
 use std::alloc::Global;
 
-/// An index in a run, and the run's index.
+/// The index of a run, and an index in the run.
 #[derive(Clone, Copy)]
 pub(super) struct Place {
     pub(super) run: usize,
@@ -94,7 +94,7 @@ pub(super) fn entry_before(runs: &Vec<Run>, place: Place) -> Option<PathEntry<'_
     Some(entry_at(runs, Place { run, at }))
 }
 
-// The place behind all entries, in a run of its own if the last one is full: so the entries of a sorted manifest fill their runs.
+// The place after all entries. If the last run is full, it is the start of a new run. So the entries of a sorted manifest fill their runs.
 #[tactic(auto, using(crate::proofs::Runs::start_end))]
 fn end(runs: &Vec<Run>) -> Place
     ensures place { IsPlace runs.now.items result }
@@ -123,7 +123,7 @@ fn is_after_all(runs: &Vec<Run>, path: &[u8], end: Place) -> bool
     }
 }
 
-// The number of runs that begin at the path or before it.
+// The number of runs whose first entry is at the path or before it.
 fn runs_by(runs: &Vec<Run>, path: &[u8]) -> usize
     requires runs { IsTrue (are_runs runs.now.items) }
     requires sorted { IsPathSorted (joined runs.now.items) }
@@ -138,7 +138,7 @@ fn runs_by(runs: &Vec<Run>, path: &[u8]) -> usize
     )
 }
 
-// Whether the run at this index begins at the path or before it, and the next one, if there is one, behind it.
+// Whether the run at this index begins at the path or before it, and the next run, if there is one, begins after it.
 fn is_run_for(runs: &Vec<Run>, index: usize, path: &[u8]) -> bool
     ensures within { IsTrue result → index < length runs.now.items }
     ensures before { IsTrue result → begins_by path.now (slice_index_or runs.now.items index []) ≡ true }
@@ -150,7 +150,7 @@ fn is_run_for(runs: &Vec<Run>, index: usize, path: &[u8]) -> bool
     index + 1 == runs.len() || !run_of(runs, index + 1).begins_by(path)
 }
 
-// The same as `search`, given the run.
+// The result of `search`, if the run of the path is known.
 fn search_in(runs: &Vec<Run>, run: usize, path: &[u8]) -> Result<Place, Place>
     requires runs { IsTrue (are_runs runs.now.items) }
     requires sorted { IsPathSorted (joined runs.now.items) }
@@ -166,7 +166,7 @@ fn search_in(runs: &Vec<Run>, run: usize, path: &[u8]) -> Result<Place, Place>
     }
 }
 
-/// The place of the path's entry, or that at which it would be inserted.
+/// The place of the path's entry, or the place at which it would be inserted.
 pub(super) fn search(runs: &Vec<Run>, path: &[u8]) -> Result<Place, Place>
     requires runs { IsTrue (are_runs runs.now.items) }
     requires sorted { IsPathSorted (joined runs.now.items) }
@@ -180,8 +180,8 @@ pub(super) fn search(runs: &Vec<Run>, path: &[u8]) -> Result<Place, Place>
     search_in(runs, count - 1, path)
 }
 
-/// The place of the path's entry, if it is one of the next few from this place on, in its run. Any place will do: paths that are
-/// looked up one after another mostly stand close together.
+/// The place of the path's entry, if it is one of the next few entries from this place on in the same run. Any place is allowed. Paths that
+/// are looked up one after another are mostly close together.
 pub(super) fn find_near(runs: &Vec<Run>, near: Place, path: &[u8]) -> Option<Place>
     ensures { IfSome result (IsPlaceOf runs.now.items path.now) }
 {
@@ -192,8 +192,8 @@ pub(super) fn find_near(runs: &Vec<Run>, near: Place, path: &[u8]) -> Option<Pla
     Some(Place { run: near.run, at })
 }
 
-/// The place at which a path is put: that of its entry, or that of its gap. The lines of a sorted manifest each come after
-/// all others, so that case takes no search. Of others many come into the run of the one before, which is tried first.
+/// The place at which a path is put: the place of its entry, or of its gap. Each line of a sorted manifest comes after all others, and that
+/// case needs no search. Many other paths belong to the run of the previous one, so that run is tried first.
 pub(super) fn find(runs: &Vec<Run>, near: Place, path: &[u8]) -> Result<Place, Place>
     requires runs { IsTrue (are_runs runs.now.items) }
     requires sorted { IsPathSorted (joined runs.now.items) }
@@ -276,7 +276,7 @@ fn insert_in_run(
     runs[run].insert(alloc, at, path, node)
 }
 
-// Moves the entries of a run from this index on into a run of their own, which the result is.
+// Moves the entries of a run from this index on into a new run, and returns that run.
 fn split_run(alloc: Global, runs: &mut Vec<Run>, run: usize, at: usize) -> Result<Run, NoMemory>
     requires run { run < length runs.old.items }
     requires at { at ≤ run_length runs.old.items run }
@@ -289,7 +289,7 @@ fn split_run(alloc: Global, runs: &mut Vec<Run>, run: usize, at: usize) -> Resul
     runs[run].split_off(alloc, at)
 }
 
-// Divides a run at this index into two. All memory is there before an entry moves.
+// Divides a run at this index into two. All memory is allocated before an entry is moved.
 fn divide(alloc: Global, runs: &mut Vec<Run>, run: usize, at: usize) -> Result<(), NoMemory>
     requires run { run < length runs.old.items }
     requires at { at ≤ run_length runs.old.items run }
@@ -302,7 +302,7 @@ fn divide(alloc: Global, runs: &mut Vec<Run>, run: usize, at: usize) -> Result<(
     Ok(())
 }
 
-// Divides the place's run in the middle, and returns the place of the same index.
+// Divides the place's run in the middle, and returns the place that then has the same index in the joined list.
 fn divide_at(alloc: Global, runs: &mut Vec<Run>, place: Place) -> Result<Place, NoMemory>
     requires runs { IsTrue (are_runs runs.old.items) }
     requires run { place.run < length runs.old.items }
@@ -324,7 +324,7 @@ fn divide_at(alloc: Global, runs: &mut Vec<Run>, place: Place) -> Result<Place, 
     })
 }
 
-// The place of the same index in a run that has room for one more entry.
+// The place with the same index in the joined list, in a run that has room for one more entry. A full run is divided.
 fn make_room(alloc: Global, runs: &mut Vec<Run>, place: Place) -> Result<Place, NoMemory>
     requires runs { IsTrue (are_runs runs.old.items) }
     requires run { place.run < length runs.old.items }
@@ -358,7 +358,7 @@ fn insert_in_room(
     Ok(())
 }
 
-// Puts a run of one entry behind all runs.
+// Adds a run of one entry after all runs.
 fn push_run(alloc: Global, runs: &mut Vec<Run>, path: &[u8], node: Node) -> Result<(), NoMemory>
     ensures done { OnOk result (runs.new.items ≡ runs.old.items ++ ((path.now, node) ∷ []) ∷ []) }
     ensures refused { OnErr result (runs.new.items ≡ runs.old.items) }

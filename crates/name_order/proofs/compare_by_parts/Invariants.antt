@@ -2,7 +2,7 @@ use Rattle.std.proofs.Common.{◌≡◌, length}
 use Rattle.name_order.specs.Order.{token_order}
 use Rattle.name_order.proofs.compare_by_parts.Given as goal
 
--- what is left compares as the whole does
+-- the rests of both names compare like the whole names
 abbrev pub invariant-loop-part : goal.invariant-loop-part
 invariant-loop-part l = token_order l.left l.right ≡ token_order l.fn.a l.fn.b
 

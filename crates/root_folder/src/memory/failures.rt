@@ -4,7 +4,7 @@ ghost use Rattle.lib_types.specs.Counts.{raised};
 ghost use Rattle.tree_face.specs.Failures.{is_due, after_call, stopping_after};
 ghost use Rattle.root_folder.specs.Failures.{plan_of};
 
-/// The plan of failures, with the counts of those that came.
+/// The plan of failures, and how many failures there were.
 #[derive(Drop)]
 pub struct Failures {
     fail: Vec<u64>,
@@ -29,7 +29,7 @@ impl Failures {
         }
     }
 
-    /// Lets so many further writing calls pass, and makes every call after them fail.
+    /// Lets the next `calls` writing calls pass, and makes every call after them fail.
     pub fn stop_after(&mut self, calls: u64)
         ensures plan { plan_of self.new ≡ stopping_after calls (plan_of self.old) }
         ensures faults { (self.new.faults ≡ self.old.faults) × (self.new.read_faults ≡ self.old.read_faults) }
@@ -45,7 +45,7 @@ impl Failures {
         self.faults = self.faults.saturating_add(1);
     }
 
-    /// Counts a fault of a reading.
+    /// Counts a fault of a call that reads.
     pub fn add_read_fault(&mut self)
         ensures plan { plan_of self.new ≡ plan_of self.old }
         ensures faults { (self.new.faults ≡ raised self.old.faults 1) × (self.new.read_faults ≡ raised self.old.read_faults 1) }

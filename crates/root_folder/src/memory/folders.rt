@@ -28,7 +28,7 @@ use lib_types::{Failed, NoMemory, Text, Texts};
 use std::alloc::Global;
 use tree_face::{Node, Tag, Tree};
 
-/// The directory of an image in memory, whose calls fail on demand.
+/// The directory of an image in memory. Its calls can be made to fail.
 #[derive(Drop)]
 pub struct MemFolder {
     alloc: Global,
@@ -91,7 +91,7 @@ fn remove_last(list: &mut Vec<Change>)
     let _ = list.pop();
 }
 
-// Makes a link, with the change that it is, or does nothing.
+// Makes a link and records the change, or does nothing.
 fn put_link(
     alloc: Global,
     tree: &mut WholeTree,
@@ -120,7 +120,7 @@ fn put_link(
     Ok(())
 }
 
-// The answer to a writing call.
+// The result of a writing call. An error is counted as a fault.
 fn answer(failures: &mut Failures, done: Result<(), NoMemory>) -> Result<(), Failed>
     ensures same { is_err result ≡ is_err done }
     ensures plan { plan_of failures.new ≡ plan_of failures.old }
@@ -139,8 +139,8 @@ fn answer(failures: &mut Failures, done: Result<(), NoMemory>) -> Result<(), Fai
 impl MemFolder {
     ghost use Rattle.root_folder.specs.MemFolder.{IsLinked, IsSettledIn, IsUnchanged, calls_of, content_of, folder_plan, folder_state, held_of};
 
-    /// A directory with this tree, all of it settled, or None if a node of the tree is in no directory that has a node. The
-    /// calls with the numbers of `fail` fail, counted from 0 over all calls.
+    /// A directory with this tree, fully settled. None if some node's parent directory has no node in the tree. The calls
+    /// whose numbers are in `fail` fail; all calls are numbered, starting at 0.
     pub fn new(alloc: Global, tree: Tree, fail: Vec<u64>) -> Option<MemFolder>
         ensures some { is_some result ≡ are_in_dirs tree }
         ensures tree { IfSome result (λ folder. (content_of folder).now ≡ tree) }
@@ -167,7 +167,7 @@ impl MemFolder {
         })
     }
 
-    /// Lets so many further writing calls pass, and makes every call after them fail.
+    /// Lets the next `calls` writing calls pass, and makes every call after them fail.
     pub fn stop_after(&mut self, calls: u64)
         ensures state { folder_state self.new ≡ folder_state self.old }
         ensures plan { folder_plan self.new ≡ stopping_after calls (folder_plan self.old) }
@@ -175,7 +175,7 @@ impl MemFolder {
         self.failures.stop_after(calls);
     }
 
-    /// The calls that were made, in their order. One that failed may be missing.
+    /// The calls that were made, in order. A call that failed may be missing.
     pub fn calls(&self) -> &[FolderCall]
         ensures { result.now ≡ calls_of self.now }
     {
@@ -196,7 +196,7 @@ impl MemFolder {
         self.failures.faults
     }
 
-    /// How many of them were readings.
+    /// How many of the failed calls were calls that read.
     pub fn read_faults(&self) -> u64
         ensures { result ≡ (folder_state self.now).read_faults }
     {
@@ -210,7 +210,7 @@ impl MemFolder {
         may_leave(path, self.tree.node(path), &self.changes, found)
     }
 
-    // The names in a directory, with the call that gave them.
+    // The names in a directory. Records the call.
     fn add_names(&mut self, alloc: Global, dir: &[u8]) -> Result<Texts, NoMemory>
         ensures rest { self.new ≡ record self.old { calls = self.new.calls } }
         ensures names { IfOk result (λ names. names ≡ children_of (content_of self.old).now dir.now) }
@@ -222,7 +222,7 @@ impl MemFolder {
         Ok(names)
     }
 
-    // The node at a path, with the call that gave it.
+    // The node at a path. Records the call.
     fn add_look(&mut self, alloc: Global, path: &[u8]) -> Result<Option<Node>, NoMemory>
         ensures rest { self.new ≡ record self.old { calls = self.new.calls } }
         ensures node { IfOk result (λ found. found ≡ node_at (content_of self.old).now path.now) }
@@ -234,7 +234,7 @@ impl MemFolder {
         Ok(found)
     }
 
-    // Makes a link, with its call, if it isn't due to fail.
+    // Makes a link and records the call, unless the call is due to fail.
     fn add_link(&mut self, due: bool, tag: Tag, path: &[u8], target: &[u8]) -> Result<(), NoMemory>
         requires path { IsTrue (is_path path.now) }
         requires target { IsTrue (is_target target.now) }
@@ -254,7 +254,7 @@ impl MemFolder {
         put_link(self.alloc, &mut self.tree, &mut self.changes, path, target)
     }
 
-    // Settles a directory, with its call, if it isn't due to fail.
+    // Records the fsync of a directory and the call, unless the call is due to fail.
     fn add_settling(&mut self, due: bool, dir: &[u8]) -> Result<(), NoMemory>
         ensures rest { self.new ≡ record self.old { changes = self.new.changes; calls = self.new.calls } }
         ensures due { IsTrue due → is_err result ≡ true }

@@ -1,4 +1,4 @@
-//! What changed a directory in memory, and what a crash leaves of it.
+//! The changes of an in-memory directory, and what a crash leaves of it.
 ghost use Rattle.std.specs.Prelude.{◌≡◌, ◌<◌, Some, length, reverse, slice_get};
 ghost use Rattle.std.specs.Option.{option_copied};
 ghost use Rattle.root_folder.specs.Past.{found_before, is_settled_by, left_in};
@@ -8,15 +8,15 @@ use lib_types::Text;
 use path_walk::parted;
 use tree_face::Node;
 
-/// What changes the tree, or what a crash leaves of it.
+/// A call that changed the tree, or changed what a crash leaves of it.
 #[derive(Drop)]
 pub enum Change {
-    /// A link was made at the path, where this was before.
+    /// A link was made at the path. `before` is what was there before.
     Linked { path: Text, before: Option<Node> },
     Settled { dir: Text },
 }
 
-// Whether the change settles what is at the path.
+// Whether the change is an fsync of the path's directory.
 fn is_settled_by(change: &Change, path: &[u8]) -> bool
     ensures { result ≡ is_settled_by path.now change.now }
 {
@@ -43,7 +43,7 @@ fn change_at(changes: &[Change], i: usize) -> &Change
     &changes[i]
 }
 
-/// Whether a crash may leave this at the path, given what is there and what changed, in the order of time.
+/// Whether a crash may leave this at the path, given what is there now and the changes, oldest first.
 #[tactic(auto, using(crate::proofs::Walk::settled_here, crate::proofs::Walk::goes_back, crate::proofs::Walk::left_at_once))]
 pub fn may_leave(path: &[u8], now: Option<&Node>, changes: &[Change], found: Option<&Node>) -> bool
     ensures { result ≡ left_in path.now (option_copied now.entry) (reverse changes.now) (option_copied found.entry) }

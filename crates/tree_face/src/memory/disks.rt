@@ -71,14 +71,14 @@ impl SureDisk {
         }
     }
 
-    /// The writing calls that were made. One that failed may be among them.
+    /// The writing calls that were made. Calls that failed may be among them.
     pub fn calls(&self) -> &[DoneCall]
         ensures { result.now ≡ calls_of self.now }
     {
         &self.calls
     }
 
-    /// The slots that were read, in their order.
+    /// The slots that were read, in order.
     pub fn reads(&self) -> &[Slot]
         ensures { result.now ≡ reads_of self.now }
     {
@@ -92,7 +92,7 @@ impl SureDisk {
         copy_of(alloc, self.past.held(slot).now)
     }
 
-    // What a crash leaves in a slot if what isn't settled counts as done, or not.
+    // What a crash leaves in a slot. If `done`, a rename that isn't flushed survives the crash; otherwise it is lost.
     fn left_in(&self, alloc: Global, slot: Slot, done: bool) -> Result<Option<Vec<u8>>, NoMemory>
         ensures { IfOk result (λ left. option_map (λ v. v.items) left ≡ left_in self.now.past slot done) }
     {
@@ -114,7 +114,7 @@ impl SureDisk {
         answer(&mut self.faults, added)
     }
 
-    // Makes room for one change more.
+    // Reserves memory for one more change.
     fn make_room(&mut self) -> Result<(), Failed>
         ensures rest { self.new ≡ record self.old { past = self.new.past; faults = self.new.faults } }
         ensures past { KeepsPast self.old.past self.new.past }
@@ -134,7 +134,7 @@ impl SureDisk {
         answer(&mut self.faults, added)
     }
 
-    // Takes a temporary file away.
+    // Removes a temporary file, and returns it.
     fn take(&mut self, tag: Tag, slot: Slot) -> Option<Temporary>
         ensures rest { self.new ≡ record self.old { manifest = self.new.manifest; cache = self.new.cache; aux = self.new.aux } }
         ensures file { result ≡ file_in (files_of self.old slot) tag.0 }
@@ -159,7 +159,7 @@ fn copy_of(alloc: Global, content: Option<&[u8]>) -> Result<Option<Vec<u8>>, NoM
     }
 }
 
-// The result of a writing call, which counts a refused growth.
+// The result of a writing call. Counts a fault if the call was out of memory.
 fn answer(faults: &mut u64, done: Result<(), NoMemory>) -> Result<(), Failed>
     ensures same { is_err result ≡ is_err done }
     ensures faults { faults.new ≡ (if is_err done then raised faults.old 1 else faults.old) }
@@ -246,7 +246,7 @@ impl Disk for SureDisk {
 impl MemDisk {
     ghost use Rattle.tree_face.specs.SureDisk.{failing_calls_of, failing_reads_of, failing_disk_content, failing_disk_state, left_by_choice, disk_plan};
 
-    /// A disk whose slots hold these contents. The calls with the numbers of `fail` fail, counted from 0 over all calls.
+    /// A disk whose slots hold these contents. The calls whose numbers are in `fail` fail. All calls are numbered together, from 0.
     #[tactic(auto, using(crate::proofs::Disks::failing_at_rest))]
     pub fn new(
         alloc: Global,
@@ -271,7 +271,7 @@ impl MemDisk {
         }
     }
 
-    /// Lets so many further writing calls pass, and makes every call after them fail.
+    /// Lets `calls` further writing calls pass, and makes every call after them fail.
     pub fn stop_after(&mut self, calls: u64)
         ensures state { failing_disk_state self.new ≡ failing_disk_state self.old }
         ensures plan { disk_plan self.new ≡ stopping_after calls (disk_plan self.old) }
@@ -279,22 +279,22 @@ impl MemDisk {
         self.failures.stop_after(calls);
     }
 
-    /// The writing calls that were made. One that failed may be among them.
+    /// The writing calls that were made. Calls that failed may be among them.
     pub fn calls(&self) -> &[DoneCall]
         ensures { result.now ≡ failing_calls_of self.now }
     {
         self.disk.calls()
     }
 
-    /// The slots that were read, in their order. One whose reading failed may be among them.
+    /// The slots that were read, in order. Reads that failed may be among them.
     pub fn reads(&self) -> &[Slot]
         ensures { result.now ≡ failing_reads_of self.now }
     {
         self.disk.reads()
     }
 
-    /// A disk as a crash now may leave it, with a plan and counts of its own. The bits 0, 1 and 2 of `choice` say whether what
-    /// was published in Manifest, Cache and Aux, and isn't settled, counts as done.
+    /// A disk as a crash may leave it now, with its own plan and counts. Bits 0, 1 and 2 of `choice` are for Manifest, Cache and
+    /// Aux. If the slot's bit is set, a rename that isn't flushed survives the crash; otherwise it is lost.
     #[tactic(auto, using(crate::proofs::Disks::image_by, crate::proofs::Disks::left_by_bits))]
     pub fn image(&self, alloc: Global, choice: u8) -> Result<MemDisk, NoMemory>
         ensures image { IfOk result (λ image. IsImage (failing_disk_state self.now) (failing_disk_state image)) }
@@ -323,7 +323,7 @@ impl MemDisk {
         Ok(())
     }
 
-    // The result of the disk below, whose error is a fault.
+    // The result of the inner disk. Counts a fault if it is an error.
     fn answer(&mut self, done: Result<(), Failed>) -> Result<(), Failed>
         ensures disk { self.new.disk ≡ self.old.disk }
         ensures same { is_err result ≡ is_err done }
@@ -337,7 +337,7 @@ impl MemDisk {
         done
     }
 
-    // Counts a failed reading.
+    // Counts a failed read.
     fn add_read_fault(&mut self)
         ensures disk { self.new.disk ≡ self.old.disk }
         ensures plan { disk_plan self.new ≡ disk_plan self.old }

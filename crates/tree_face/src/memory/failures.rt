@@ -1,9 +1,9 @@
-//! Which calls of a device in memory are to fail.
+//! Which calls of an I/O interface in memory fail on demand.
 ghost use Rattle.std.specs.Prelude.{◌≡◌, [], None};
 ghost use Rattle.lib_types.specs.Counts.{raised};
 ghost use Rattle.tree_face.specs.Failures.{plan_of, is_due, after_call, stopping_after};
 
-/// The plan of a device's failures, with the count of those that came.
+/// The plan of which calls fail, and the count of faults so far.
 #[derive(Drop)]
 pub struct Failures {
     fail: Vec<u64>,
@@ -26,7 +26,7 @@ impl Failures {
         }
     }
 
-    /// Lets so many further writing calls pass, and makes every call after them fail.
+    /// Lets `calls` further writing calls pass, and makes every call after them fail.
     pub fn stop_after(&mut self, calls: u64)
         ensures plan { plan_of self.new ≡ stopping_after calls (plan_of self.old) }
         ensures faults { self.new.faults ≡ self.old.faults }
@@ -42,7 +42,7 @@ impl Failures {
         self.faults = self.faults.saturating_add(1);
     }
 
-    /// Counts a call, and returns whether it is to fail.
+    /// Counts a call, and returns whether it must fail.
     pub fn is_due(&mut self, writes: bool) -> bool
         ensures due { result ≡ is_due (plan_of self.old) }
         ensures plan { plan_of self.new ≡ after_call writes (plan_of self.old) }

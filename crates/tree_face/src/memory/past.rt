@@ -1,4 +1,4 @@
-//! What the slots of a disk in memory have held.
+//! The history of the slots of a disk in memory.
 ghost use Rattle.std.specs.Prelude.{◌≡◌, ◌++◌, ◌∷◌, [], true, false, OnErr, MatchResult};
 ghost use Rattle.std.specs.Option.{option_map, option_copied};
 ghost use Rattle.tree_face.specs.Temporaries.{bytes_of};
@@ -8,15 +8,15 @@ use crate::Slot;
 use lib_types::NoMemory;
 use std::alloc::Global;
 
-/// What changes a slot, or what a crash leaves in it.
+/// A change of a slot's content, or of what a crash leaves in it.
 #[derive(Drop)]
 pub enum Change {
-    /// The slot got the content of this file.
+    /// This file was renamed into place.
     Published(Slot, Option<Temporary>),
     Settled(Slot),
 }
 
-/// The first contents of the slots, and each change since.
+/// The initial contents of the slots, and then each change.
 #[derive(Drop)]
 pub struct Past {
     manifest: Option<Vec<u8>>,
@@ -25,7 +25,7 @@ pub struct Past {
     changes: Vec<Change>,
 }
 
-/// What a slot holds, and what it held when it was settled.
+/// A slot's current content, and its content when it was last flushed.
 #[derive(Clone, Copy)]
 pub struct Held<'a> {
     pub now: Option<&'a [u8]>,
@@ -55,7 +55,7 @@ fn published_bytes(file: &Option<Temporary>) -> Option<&[u8]>
 impl<'a> Held<'a> {
     ghost use Rattle.tree_face.specs.Past.{holding_after, holding_of};
 
-    // What the slot holds after a change.
+    // The slot's contents after a change.
     fn after(self, slot: Slot, change: &'a Change) -> Held<'a>
         ensures { holding_of result ≡ holding_after slot (holding_of self.entry) change.now }
     {
@@ -76,7 +76,7 @@ impl<'a> Held<'a> {
 impl Past {
     ghost use Rattle.tree_face.specs.Past.{changes_of, first_of, holding_in, holding_of, IsChangedBy, KeepsPast};
 
-    /// Slots that hold these contents, settled.
+    /// Slots that hold these contents, all flushed.
     pub fn new(
         alloc: Global,
         manifest: Option<Vec<u8>>,
@@ -96,7 +96,7 @@ impl Past {
         }
     }
 
-    // What the slot held at first.
+    // The slot's initial content.
     fn first(&self, slot: Slot) -> Option<&[u8]>
         ensures { option_copied result ≡ first_of self.now slot }
     {
@@ -122,7 +122,7 @@ impl Past {
         held
     }
 
-    /// Makes room for one change more.
+    /// Reserves memory for one more change.
     pub fn reserve(&mut self) -> Result<(), NoMemory>
         ensures { KeepsPast self.old self.new }
     {

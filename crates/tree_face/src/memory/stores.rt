@@ -11,8 +11,8 @@ use crate::Store;
 use lib_types::{Failed, NoMemory, Text, Texts};
 use std::alloc::Global;
 
-/// A store that holds pairs of a key and a content, and fails only for a key that it doesn't hold. Of a key that
-/// occurs twice the first pair counts.
+/// A store of pairs of a key and a content. It fails only for a key that it doesn't hold. If a key occurs twice, the
+/// first pair counts.
 #[derive(Drop)]
 pub struct SureStore {
     pairs: Vec<(Text, Text)>,
@@ -21,7 +21,8 @@ pub struct SureStore {
     taken: u64,
 }
 
-/// A store in memory whose calls fail on demand. It keeps the keys that were begun, and a call fails if it is out of memory for that.
+/// A store in memory whose calls fail on demand. It records the keys of the files that were opened. A call also fails if it
+/// can't allocate memory for this record.
 #[derive(Drop)]
 pub struct MemStore {
     alloc: Global,
@@ -47,7 +48,7 @@ fn content_at(pairs: &[(Text, Text)], index: usize) -> Option<&[u8]>
     }
 }
 
-/// Copies what a content has from an offset on into the front of a buffer, and returns how much that is.
+/// Copies the content from an offset on into the front of a buffer, as far as it fits. Returns the number of bytes copied.
 pub fn copy_from(content: &[u8], at: u64, buf: &mut [u8]) -> usize
     ensures count { result ≡ min (length buf.old) (length content.now - at) }
     ensures bytes { buf.new ≡ take result (drop at content.now) ++ drop result buf.old }
@@ -77,14 +78,14 @@ impl SureStore {
         }
     }
 
-    /// How many keys were begun.
+    /// The number of files that were opened.
     pub fn begun(&self) -> u64
         ensures { result ≡ (state_of self.now).begun }
     {
         self.begun
     }
 
-    // Begins the first pair of a key, if there is one.
+    // Opens the first pair with this key, if there is one.
     #[tactic(auto, using(crate::proofs::Pairs::content_first, crate::proofs::Pairs::key_first))]
     fn open(&mut self, key: &[u8])
         ensures held { (state_of self.new).held ≡ (state_of self.old).held }
@@ -97,7 +98,7 @@ impl SureStore {
         self.begun_index = index_of(&self.pairs, key);
     }
 
-    // The content of the begun key.
+    // The content of the open file.
     fn content(&self) -> Option<&[u8]>
         ensures { option_copied result ≡ (state_of self.now).content }
     {
@@ -107,7 +108,7 @@ impl SureStore {
         }
     }
 
-    // No key is begun from here on.
+    // Closes the open file.
     fn close(&mut self)
         ensures { state_of self.new ≡ record (state_of self.old) { key = None; content = None; size = None } }
     {
@@ -149,7 +150,7 @@ fn copy_into(alloc: Global, texts: &mut Texts, text: &[u8]) -> Result<(), NoMemo
 impl MemStore {
     ghost use Rattle.tree_face.specs.MemStore.{failing_state_of, keys_of};
 
-    /// A store that holds these pairs. The calls with the numbers of `fail` fail, counted from 0 over all of its calls.
+    /// A store that holds these pairs. The calls whose numbers are in `fail` fail. All calls are numbered together, from 0.
     pub fn new(alloc: Global, held: Vec<(Text, Text)>, fail: Vec<u64>) -> MemStore
         ensures held { (failing_state_of result).held ≡ Some (held_in held.items) }
         ensures counts { ((failing_state_of result).begun ≡ 0) × ((failing_state_of result).taken ≡ 0) × ((failing_state_of result).faults ≡ 0) }
@@ -163,14 +164,14 @@ impl MemStore {
         }
     }
 
-    /// The keys that were begun, in their order, without those that were refused.
+    /// The keys of the files that were opened, in order. Calls that failed are not among them.
     pub fn keys(&self) -> &Texts
         ensures { (failing_state_of self.now).keys ≡ Some result.now }
     {
         &self.keys
     }
 
-    // Adds a key to the list, or counts a fault.
+    // Adds a key to the list. Counts a fault if it is out of memory.
     fn add_key(&mut self, key: &[u8]) -> Result<(), Failed>
         ensures store { self.new.store ≡ self.old.store }
         ensures keys { MatchResult result (λ _. keys_of self.new ≡ keys_of self.old ++ key.now ∷ []) (λ _. keys_of self.new ≡ keys_of self.old) }
@@ -185,7 +186,7 @@ impl MemStore {
         }
     }
 
-    /// How many keys were begun.
+    /// The number of files that were opened.
     pub fn begun(&self) -> u64
         ensures { result ≡ (failing_state_of self.now).begun }
     {

@@ -22,7 +22,7 @@ pub struct MemSource {
     failures: Failures,
 }
 
-/// A sink that keeps what it took, and fails only if it is out of memory.
+/// A sink that keeps the bytes written to it. It fails only if it is out of memory.
 #[derive(Drop)]
 pub struct SureSink {
     bytes: Vec<u8>,
@@ -63,7 +63,7 @@ impl Source for SureSource {
 impl MemSource {
     ghost use Rattle.tree_face.specs.SureStream.{failing_source_state};
 
-    /// A source of these bytes. The calls with the numbers of `fail` fail, counted from 0.
+    /// A source of these bytes. The calls whose numbers are in `fail` fail. Calls are numbered from 0.
     pub fn new(bytes: Vec<u8>, fail: Vec<u64>) -> MemSource
         ensures left { (failing_source_state result).left ≡ Some bytes.items }
         ensures faults { (failing_source_state result).faults ≡ 0 }
@@ -103,7 +103,7 @@ impl SureSink {
         }
     }
 
-    /// What the sink took.
+    /// The bytes that were written to the sink.
     pub fn written(&self) -> &[u8]
         ensures { Some result.now ≡ (sink_state self.now).written }
     {
@@ -130,7 +130,7 @@ impl Sink for SureSink {
 impl MemSink {
     ghost use Rattle.tree_face.specs.SureStream.{failing_sink_state};
 
-    /// An empty sink. The calls with the numbers of `fail` fail, counted from 0.
+    /// An empty sink. The calls whose numbers are in `fail` fail. Calls are numbered from 0.
     pub fn new(alloc: Global, fail: Vec<u64>) -> MemSink
         ensures written { (failing_sink_state result).written ≡ Some [] }
         ensures faults { (failing_sink_state result).faults ≡ 0 }
@@ -141,7 +141,7 @@ impl MemSink {
         }
     }
 
-    /// What the sink took.
+    /// The bytes that were written to the sink.
     pub fn written(&self) -> &[u8]
         ensures { Some result.now ≡ (failing_sink_state self.now).written }
     {

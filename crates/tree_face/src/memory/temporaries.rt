@@ -14,7 +14,7 @@ pub struct Temporary {
     pub synced: bool,
 }
 
-/// The temporary files that may replace what a slot holds, by their tags.
+/// The temporary files of a slot, by tag.
 #[derive(Drop)]
 pub struct Temporaries {
     files: BTreeMap<u16, Temporary>,
@@ -32,7 +32,7 @@ impl Temporaries {
         }
     }
 
-    /// Makes the temporary file empty.
+    /// Creates the temporary file, or truncates it.
     pub fn create(&mut self, alloc: Global, tag: u16) -> Result<(), NoMemory>
         ensures empty { OnOk result (temporary_in self.new tag ≡ Some []) }
         ensures unflushed { OnOk result (synced_in self.new tag ≡ false) }
@@ -47,7 +47,7 @@ impl Temporaries {
         Ok(())
     }
 
-    /// Adds bytes to the temporary file, if there is one.
+    /// Appends bytes to the temporary file, if there is one.
     pub fn append(&mut self, tag: u16, bytes: &[u8]) -> Result<(), NoMemory>
         ensures more { OnOk result (temporary_in self.new tag ≡ option_map (λ c. c ++ bytes.now) (temporary_in self.old tag)) }
         ensures unflushed { OnOk result (synced_in self.new tag ≡ false) }
@@ -72,7 +72,7 @@ impl Temporaries {
         }
     }
 
-    /// Takes the temporary file away, if there is one.
+    /// Removes the temporary file and returns it, if there is one.
     pub fn take(&mut self, tag: u16) -> Option<Temporary>
         ensures file { result ≡ file_in self.old tag }
         ensures ended { file_in self.new tag ≡ None }

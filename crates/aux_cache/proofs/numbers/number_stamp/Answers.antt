@@ -1,4 +1,4 @@
--- The number of a stamp's soname, once it is added.
+-- The index of a stamp's soname after it is added.
 use Rattle.aux_cache.proofs.Adding.{numbered}
 use Rattle.aux_cache.proofs.numbers.number_stamp.Goals as goal
 

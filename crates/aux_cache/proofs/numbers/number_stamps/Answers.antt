@@ -1,4 +1,4 @@
--- Another stamp, with its soname among the strings.
+-- One more stamp, with its soname among the strings.
 use Rattle.std.proofs.Common.{◌+◌, ap, arith, length, take}
 use Rattle.std.proofs.lemmas.List.{length-take-le}
 use Rattle.aux_cache.specs.AuxText.{soname_of}

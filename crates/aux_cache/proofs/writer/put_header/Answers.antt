@@ -1,4 +1,4 @@
--- The parts of the header, one after the other.
+-- The parts of the header, one after another.
 use Rattle.aux_cache.proofs.Joining.{header_parts}
 use Rattle.aux_cache.proofs.writer.put_header.Goals as goal
 

@@ -1,4 +1,4 @@
--- The fields of a record, one after the other, with the offset of its soname.
+-- The fields of a record, one after another, with the offset of its soname.
 use Rattle.std.proofs.Common.{◌≡◌, ◌+◌, ◌∙◌, ap, length, take}
 use Rattle.string_pool.specs.InOrder.{table_of, place_of}
 use Rattle.string_pool.proofs.Numbers.{number_within}

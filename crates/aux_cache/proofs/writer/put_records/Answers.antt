@@ -1,4 +1,4 @@
--- Another record.
+-- One more record.
 use Rattle.std.proofs.Common.{◌+◌, ◌++◌, ◌∷◌, [], ◌∙◌, ap, sym, take}
 use Rattle.std.proofs.lemmas.List.{take_more}
 use Rattle.aux_cache.proofs.Joining.{records_step, range_step}

@@ -1,4 +1,4 @@
--- The strings fit, and the file is that of the stamps.
+-- The strings fit, and the bytes are the file of the stamps.
 use Rattle.std.proofs.Common.{◌∙◌, ℕ, List, ap, arith, length}
 use Rattle.string_pool.specs.InOrder.{Strings, table_of}
 use Rattle.aux_cache.specs.AuxFile.{damage, stamps_in}

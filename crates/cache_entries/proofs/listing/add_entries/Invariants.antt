@@ -3,7 +3,7 @@ use Rattle.cache_layout.specs.declared.limits.TheConstants.{ENTRIES_MAX}
 use Rattle.cache_entries.specs.Entries.{entry_of}
 use Rattle.cache_entries.proofs.listing.add_entries.Given as goal
 
--- the winners that are left give the rest
+-- the entries so far and those of the winners that are left are all entries
 abbrev pub invariant-loop-winner : goal.invariant-loop-winner
 invariant-loop-winner l = record {
   count : l.found.count + length l.winner-iterator ≡ l.fn.found.count + length l.winners;

@@ -8,7 +8,7 @@ use Rattle.file_table.specs.Table.{analysis_at}
 use Rattle.cache_entries.specs.Entries.{entries_in, found}
 use Rattle.cache_entries.proofs.listing.found.Goals as goal
 
--- no place is left
+-- no search directory is left
 none_left : (c : goal.In-None) → c.loop-place.place-iterator.a.rest.now ≡ []
 none_left c =
     ended_together (bests_in (analysis_at c.args.table.now) c.args.tree.now) (folder_links c.args.tree.now) c.loop-place.place-iterator.a.rest.now c.loop-place.place-iterator.b.a

@@ -8,7 +8,8 @@ use Rattle.library_files.specs.Search.{folder_links}
 use Rattle.file_table.specs.Table.{analysis_at}
 use Rattle.cache_entries.proofs.listing.found.Given as goal
 
--- the places that are left give the rest, and their best libraries and links are left
+-- The entries so far and those of the search directories that are left are all entries. The best libraries and the links of these
+-- search directories are left too.
 abbrev pub invariant-loop-place : goal.invariant-loop-place
 invariant-loop-place l = record {
   counted : l.found.count + length (by_place (entries_in (analysis_at l.table) l.tree) l.number l.place-iterator.a.rest.now) ≡ length (by_place (entries_in (analysis_at l.table) l.tree) 0 l.dirs.places);

@@ -4,7 +4,7 @@ use Rattle.cache_lookup.specs.Probing.{rank_of}
 use Rattle.cache_lookup.specs.Searches.{AreEqual, IsLeast}
 use Rattle.cache_lookup.proofs.search.best_from.Given as goal
 
--- all names so far are equal, and the best candidate is among them
+-- all names so far are equal, and this is the best candidate among them
 abbrev pub invariant-loop-index : goal.invariant-loop-index
 invariant-loop-index g l = record {
   entries : (g.P.Probes.state l.probes).entries ≡ (g.P.Probes.state l.fn.probes).entries;

@@ -2,7 +2,7 @@ use Rattle.std.proofs.Common.{◌≡◌, ◌≤◌, ◌<◌, ◌-◌, ◌^◌, �
 use Rattle.cache_lookup.specs.Searches.{AreAbove, AreNotAbove, Halves}
 use Rattle.cache_lookup.proofs.search.first_not_above.Given as goal
 
--- the names before `low` are above, those from `high` on aren't
+-- The names before `low` are above. The names from `high` on are not.
 abbrev pub invariant-loop-low : goal.invariant-loop-low
 invariant-loop-low g l = record {
   within : l.low ≤ l.high;

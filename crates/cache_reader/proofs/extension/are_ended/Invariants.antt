@@ -5,7 +5,7 @@ use Rattle.cache_reader.specs.Cache.{is_ended}
 use Rattle.cache_reader.specs.Checks.{items_from}
 use Rattle.cache_reader.proofs.extension.are_ended.Given as goal
 
--- what is left gives the whole
+-- The test of the remaining offsets gives the result for all offsets.
 abbrev pub invariant-loop-index : goal.invariant-loop-index
 invariant-loop-index l =
     (l.count ≡ l.section.size / 4)

@@ -4,7 +4,7 @@ use Rattle.cache_reader.specs.Cache.{section_at, section_count, is_inside}
 use Rattle.cache_reader.specs.Checks.{items_from}
 use Rattle.cache_reader.proofs.extension.are_inside.Given as goal
 
--- what is left gives the whole
+-- The test of the remaining sections gives the result for all sections.
 abbrev pub invariant-loop-index : goal.invariant-loop-index
 invariant-loop-index l =
     (l.count ≡ section_count l.bytes l.at)

@@ -3,7 +3,7 @@ use Rattle.cache_reader.specs.Cache.{section_at, section_count}
 use Rattle.cache_reader.specs.Checks.{items_from}
 use Rattle.cache_reader.proofs.extension.with_tag.Given as goal
 
--- what is left gives the whole
+-- The search of the remaining sections gives the result for all sections.
 abbrev pub invariant-loop-index : goal.invariant-loop-index
 invariant-loop-index l =
     (l.count ≡ section_count l.bytes l.at)

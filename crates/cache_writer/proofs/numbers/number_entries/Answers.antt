@@ -1,4 +1,4 @@
--- Another entry, with its strings among the others.
+-- One more entry, with its strings in the list.
 use Rattle.std.proofs.Common.{◌+◌, ap, arith, length, take}
 use Rattle.std.proofs.lemmas.List.{length-take-le}
 use Rattle.cache_writer.specs.CacheText.{own_strings}

@@ -5,7 +5,7 @@ use Rattle.cache_writer.specs.CacheText.{own_strings}
 use Rattle.cache_writer.specs.Numbers.{HasNumbers}
 use Rattle.cache_writer.proofs.numbers.number_entries.Given as goal
 
--- the entries so far, with their numbers
+-- the entries so far, with the indexes of their strings
 abbrev pub invariant-loop-entry : goal.invariant-loop-entry
 invariant-loop-entry l = record {
   texts : l.texts ≡ distinct (flat_map own_strings (take l.entry-index l.entries));

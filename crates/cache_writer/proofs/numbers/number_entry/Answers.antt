@@ -1,4 +1,4 @@
--- The numbers of an entry's two strings, once both are added.
+-- The indexes of an entry's two strings, after both are added.
 use Rattle.cache_writer.proofs.Adding.{numbered}
 use Rattle.cache_writer.proofs.numbers.number_entry.Goals as goal
 

@@ -1,4 +1,4 @@
--- Another name among the strings, with its number.
+-- One more name in the list of strings, with its index.
 use Rattle.std.proofs.Common.{◌+◌, List, ℕ, Bor, [], length, map, ap, arith, take, slice_index_or}
 use Rattle.std.proofs.lemmas.List.{length-map, length-take-le}
 use Rattle.string_pool.proofs.Numbers.{length_all}

@@ -1,4 +1,4 @@
--- The parts of the file, one after the other.
+-- The parts of the file, one after another.
 use Rattle.std.proofs.Common.{◌∙◌, ap, refl, length, map}
 use Rattle.std.proofs.lemmas.List.{length-map}
 use Rattle.string_pool.specs.Texts.{number_of}

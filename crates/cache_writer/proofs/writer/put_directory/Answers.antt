@@ -1,4 +1,4 @@
--- The sections of the directory, one after the other.
+-- The sections of the directory, one after another.
 use Rattle.std.proofs.Common.{◌≡◌, ◌==◌, true, false, arith}
 use Rattle.std.proofs.lemmas.Bool.Decides.{nat_tests}
 use Rattle.cache_writer.proofs.Joining.{with_names, without_names}

@@ -1,4 +1,4 @@
--- The fields of an entry, one after the other, with the offsets of its strings.
+-- The fields of an entry, one after another, with the offsets of its strings.
 use Rattle.std.proofs.Common.{◌≡◌, ◌+◌, ◌∙◌, ap, length, take}
 use Rattle.string_pool.specs.InOrder.{table_of, place_of}
 use Rattle.string_pool.proofs.Numbers.{number_within}

@@ -1,4 +1,4 @@
--- The parts of the header, one after the other.
+-- The parts of the header, one after another.
 use Rattle.std.proofs.Common.{◌≡◌, ◌++◌, replicate}
 use Rattle.std.proofs.lemmas.List.{append_assoc}
 use Rattle.cache_writer.specs.CacheText.{header}

@@ -1,4 +1,4 @@
--- The strings fit, and the parts are those of the entries.
+-- The strings fit, and the parts are the parts of the entries' cache.
 use Rattle.std.proofs.Common.{map, None, ◌≡◌, length, ap, ◌∙◌, arith}
 use Rattle.std.proofs.lemmas.Result.{IfOk-weaker}
 use Rattle.string_pool.specs.InOrder.{table_of}

@@ -4,7 +4,7 @@ use Rattle.lib_types.specs.Name.{slash}
 use Rattle.conf_patterns.specs.Patterns.{chosen_in, is_chosen}
 use Rattle.conf_patterns.proofs.patterns.add_chosen.Given as goal
 
--- the names that are left give the rest
+-- the remaining names give the rest
 abbrev pub invariant-loop-name : goal.invariant-loop-name
 invariant-loop-name l =
     l.texts.items ++ map (λ name. l.text ++ slash ∷ name) (filter (is_chosen l.tree l.folder l.component) l.name-iterator)

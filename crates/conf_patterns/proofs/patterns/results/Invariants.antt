@@ -3,7 +3,7 @@ use Rattle.std.specs.List.{filter_map, fold}
 use Rattle.conf_patterns.specs.Patterns.{texts_by, base_of, components_of, found_at, with_found, in_byte_order}
 use Rattle.conf_patterns.proofs.patterns.results.Given as goal
 
--- the texts that are left give the whole
+-- adding the remaining texts gives the whole result
 abbrev pub invariant-loop-text : goal.invariant-loop-text
 invariant-loop-text l =
     fold with_found l.found.entries (filter_map (found_at l.tree) l.text-iterator.rest.items)

@@ -2,7 +2,7 @@ use Rattle.std.proofs.Common.{◌≡◌, length}
 use Rattle.conf_patterns.specs.Glob.{is_member}
 use Rattle.conf_patterns.proofs.set.is_member.Given as goal
 
--- the ranges that are left have the byte exactly if all have it
+-- the remaining ranges contain the byte exactly if the whole set does
 abbrev pub invariant-loop-low : goal.invariant-loop-low
 invariant-loop-low l = is_member l.rest l.b ≡ is_member l.fn.set l.b
 

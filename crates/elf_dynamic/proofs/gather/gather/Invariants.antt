@@ -12,7 +12,7 @@ use Rattle.elf_dynamic.specs.Values.{texts_in}
 use Rattle.elf_dynamic.proofs.Gathered.{Stays}
 use Rattle.elf_dynamic.proofs.gather.gather.Given as goal
 
--- what is gathered of the rest, after the texts so far, is what is gathered of all entries
+-- Gathering the rest after the texts so far gives the same as gathering all entries.
 abbrev pub invariant-loop-entry : goal.invariant-loop-entry
 invariant-loop-entry g l =
     let old = g.S.Store.state l.fn.file.store.now in

@@ -10,7 +10,7 @@ use Rattle.elf_dynamic.specs.Entries.{rest_of, IsReaderOf, unread_in}
 use Rattle.elf_dynamic.specs.Values.{joined, values_of}
 use Rattle.elf_dynamic.proofs.values.read_values.Given as goal
 
--- what the entries so far say, with what the rest says, is what all of them say
+-- The values of the entries so far, joined with those of the rest, are the values of all entries.
 abbrev pub invariant-loop-entry : goal.invariant-loop-entry
 invariant-loop-entry g l =
     let old = g.S.Store.state l.fn.file.store.now in

@@ -44,7 +44,7 @@ loop-file-preserved g c = record {
       (rw c.loop-file.invariant.read.reads.held at c.in_ok-read_file.ensures.reads);
 }
 
--- no file is left
+-- all files were read
 all_read : (g : _) (c : In-None g) → HasRead c.args.tree.now c.args.loaded.now (g.S.Store.state c.args.store.now).held (paths_of c.args.found.items) [] c.args.files.now c.loop-file.files
     (g.S.Store.state c.args.store.now) (g.S.Store.state c.loop-file.store)
 all_read g c =

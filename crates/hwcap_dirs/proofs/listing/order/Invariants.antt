@@ -5,7 +5,7 @@ use Rattle.hwcap_dirs.specs.Gathering.{all_places}
 use Rattle.hwcap_dirs.specs.Places.{builtin_dirs, dir_at}
 use Rattle.hwcap_dirs.proofs.listing.order.Given as goal
 
--- the directories that are left give the rest
+-- the remaining directories give the rest
 abbrev pub invariant-loop-dir : goal.invariant-loop-dir
 invariant-loop-dir l = record {
   places : all_places l.tree l.gathering.met l.gathering.places (drop l.dir-index l.conf ++ builtin_dirs l.scope) ≡ all_places l.tree [] [] (l.conf ++ builtin_dirs l.scope);

@@ -4,7 +4,7 @@ use Rattle.std.proofs.lemmas.Iterator.Splits.{YieldsList-from_slice_split}
 use Rattle.lib_types.specs.Name.{is_name}
 use Rattle.image_tree.proofs.path.are_names.Goals as goal
 
--- the parts that come are those of the list, and the test is that of names
+-- the iterator yields the parts of the list, and each part is tested as a name
 pub returns : goal.returns
 returns c =
     all_from_yields_List is_name _ _ _ c.all.ensures.ran

@@ -15,7 +15,7 @@ use Rattle.tree_face.specs.Known.{IfKnown}
 use Rattle.tree_face.specs.Store.{StoreState}
 use Rattle.ldconfig_core.proofs.preparing.prepare.Goals as goal
 
--- an image of these parts
+-- the image with these parts
 abbrev image_of : Nodes → List Stamp → Bool → Option ℕ → Loaded
 image_of tree stamps edited damaged = record { tree = tree; stamps = stamps; edited = edited; damaged = damaged }
 

@@ -14,6 +14,6 @@ invariant-loop-needed g l = record {
       (g.S.Store.state l.fn.store) (g.S.Store.state l.store);
 }
 
--- each object is another file of the tree
+-- each object is a different file of the tree, so their number is bounded
 abbrev pub decreases-loop-needed : goal.decreases-loop-needed
 decreases-loop-needed g l = length l.given.tree.now - l.number

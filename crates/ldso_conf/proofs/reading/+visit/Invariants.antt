@@ -4,7 +4,7 @@ use Rattle.ldso_conf.specs.Reading.{asked, included}
 use Rattle.ldso_conf.specs.Visits.{IsDoneIn}
 use Rattle.ldso_conf.proofs.reading.+visit.Given as goal
 
--- the steps that are left complete the visit
+-- the remaining steps complete the visit
 abbrev pub invariant-loop-step : goal.invariant-loop-step
 invariant-loop-step g l = record {
   deep : 0 < l.left;

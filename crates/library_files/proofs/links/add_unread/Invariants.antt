@@ -4,7 +4,7 @@ use Rattle.file_table.specs.Table.{analysis_at}
 use Rattle.library_files.specs.Unread.{unread_file, unread_of}
 use Rattle.library_files.proofs.links.add_unread.Given as goal
 
--- the links that are left give the rest
+-- the remaining links give the rest
 abbrev pub invariant-loop-link : goal.invariant-loop-link
 invariant-loop-link l =
     l.paths.items ++ filter_map (unread_file (analysis_at l.table)) l.link-iterator ≡ l.fn.paths.items ++ unread_of (analysis_at l.table) l.folder

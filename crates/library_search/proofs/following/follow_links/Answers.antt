@@ -11,7 +11,7 @@ use Rattle.library_search.proofs.FilesAgree.{reached_sorted}
 use Rattle.library_search.specs.declared.fault.FindFault.TheVariants as finding
 use Rattle.library_search.proofs.following.follow_links.Goals as goal
 
--- the files of these that have no analysis are those of all
+-- selecting the files without analysis twice is the same as selecting them once
 those : (what : Analyses) (paths files : List (List ℕ)) → paths ≡ unread what files → unread what paths ≡ unread what files
 those what paths files is = rw is (unread_twice what files)
 

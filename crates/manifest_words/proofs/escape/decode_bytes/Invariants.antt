@@ -3,7 +3,7 @@ use Rattle.manifest_words.specs.Escape.{decoded}
 use Rattle.manifest_words.proofs.Decoded.{behind}
 use Rattle.manifest_words.proofs.escape.decode_bytes.Given as goal
 
--- what is decoded, and then what is left, is the whole
+-- the bytes decoded so far, and then the decoded rest, are the decoded word
 abbrev pub invariant-loop-rest : goal.invariant-loop-rest
 invariant-loop-rest l = behind l.out.items (decoded l.rest) ≡ behind l.fn.out.items (decoded l.fn.word)
 

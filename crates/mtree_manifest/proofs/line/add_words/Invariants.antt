@@ -5,7 +5,7 @@ use Rattle.mtree_manifest.specs.Progress.{with_word}
 use Rattle.mtree_manifest.specs.Lining.{line_in}
 use Rattle.mtree_manifest.proofs.line.add_words.Given as goal
 
--- the words that are left complete the line
+-- adding the words that are left gives the result
 abbrev pub invariant-loop-word : goal.invariant-loop-word
 invariant-loop-word l =
     fold with_word (line_in l.line) (filter (λ word. not (eqb (length word) 0)) l.word-iterator)

@@ -8,7 +8,7 @@ use Rattle.mtree_manifest.specs.Reader.{state_in, progress_in}
 use Rattle.mtree_manifest.specs.declared.fault.TheConstants.{TEXT_MAX}
 use Rattle.mtree_manifest.proofs.reader.read_lines.Given as goal
 
--- the lines that are left give the whole
+-- reading the lines that are left gives the result of the whole text
 abbrev pub invariant-loop-physical : goal.invariant-loop-physical
 invariant-loop-physical l = record {
   whole : with_physicals (progress_in l.reader l.next l.line) l.physical-iterator ≡ with_lines no_lines (lines_in l.fn.text);

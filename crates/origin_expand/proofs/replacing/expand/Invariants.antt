@@ -5,7 +5,7 @@ use Rattle.lib_types.specs.Splits.{parts_of, size_of}
 use Rattle.origin_expand.specs.Tokens.{is_dollar, join_replaced, replaced, value_of}
 use Rattle.origin_expand.proofs.replacing.expand.Given as goal
 
--- the parts that are left give the rest
+-- the output so far and the remaining parts give the whole output
 abbrev pub invariant-loop-left : goal.invariant-loop-left
 invariant-loop-left l =
     l.out.items ++ flat_map (replaced (value_of l.values.origin.now l.values.lib.now l.values.platform.now)) (parts_of is_dollar (option_copied l.left))

@@ -4,7 +4,7 @@ use Rattle.path_walk.specs.Walk.{start_of, steps, walk}
 use Rattle.path_walk.specs.declared.walk.Mode.TheVariants.{Full}
 use Rattle.path_walk.proofs.files.file_beside.Given as goal
 
--- the walk by the target that is left, with the links that are left, is the whole walk
+-- the walk by the target that is left, with the links that are left, has the same result as the whole walk
 abbrev pub invariant-loop-left : goal.invariant-loop-left
 invariant-loop-left l =
     walk l.tree Full l.left (steps l.tree Full (components l.text) (start_of l.text l.folder))

@@ -4,7 +4,7 @@ use Rattle.path_walk.proofs.Linked.{from_link}
 use Rattle.path_walk.specs.Files.{file_by}
 use Rattle.path_walk.proofs.files.linked_file.Goals as goal
 
--- the walk by the whole path of the link goes on as the walk that begins at the link
+-- the walk by the whole path of the link has the same result as the walk that begins at the link
 pub returns : goal.returns
 returns c = record {
   file = λ name dir named link.

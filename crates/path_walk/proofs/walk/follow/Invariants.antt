@@ -4,7 +4,7 @@ use Rattle.path_walk.specs.Stops.{KeepsDir}
 use Rattle.path_walk.specs.Walk.{steps, walk}
 use Rattle.path_walk.proofs.walk.follow.Given as goal
 
--- the walk by what is left, with the links that are left, is the whole walk
+-- the walk by the text that is left, with the links that are left, has the same result as the whole walk
 abbrev pub invariant-loop-link : goal.invariant-loop-link
 invariant-loop-link l =
     (walk l.tree l.mode (l.links - l.link) (steps l.tree l.mode (components l.path.items) l.place.items)

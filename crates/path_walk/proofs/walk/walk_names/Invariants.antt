@@ -6,7 +6,7 @@ use Rattle.path_walk.specs.Stops.{KeepsDir}
 use Rattle.path_walk.specs.Walk.{steps}
 use Rattle.path_walk.proofs.walk.walk_names.Given as goal
 
--- the walk by what is left is the walk by the whole
+-- the walk by the text that is left has the same result as the walk by the whole text
 abbrev pub invariant-loop-name : goal.invariant-loop-name
 invariant-loop-name l =
     (steps l.tree l.mode (names_in (option_copied l.left)) l.place.items ≡ steps l.fn.tree l.fn.mode (names_in (option_copied l.fn.path)) l.fn.place.items)

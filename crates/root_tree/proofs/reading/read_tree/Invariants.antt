@@ -6,6 +6,6 @@ use Rattle.root_tree.proofs.reading.read_tree.Given as goal
 abbrev pub invariant-loop-dir : goal.invariant-loop-dir
 invariant-loop-dir g l = IsReading (so_far l.tree l.todo.items) (g.F.Folder.state l.fn.folder) (g.F.Folder.state l.folder)
 
--- each directory that is added takes room for a node
+-- each directory that is added uses up the room of a node
 abbrev pub decreases-loop-dir : goal.decreases-loop-dir
 decreases-loop-dir g l = NODES_MAX - length l.tree + length l.todo.items

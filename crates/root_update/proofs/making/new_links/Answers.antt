@@ -1,6 +1,6 @@
-use Rattle.std.proofs.Common.{◌≡◌, ◌++◌, ◌∙◌, [], drop, map, ap, arith, subst, sym}
+use Rattle.std.proofs.Common.{◌≡◌, ◌++◌, ◌∙◌, [], drop, map, ap, arith, sym}
 use Rattle.std.proofs.lemmas.List.{append-nil, drop_all}
-use Rattle.root_links.specs.Links.{are_valid, links_in}
+use Rattle.root_links.specs.Links.{links_in}
 use Rattle.root_update.proofs.Plans.{valid_links}
 use Rattle.root_update.specs.Update.{linking}
 use Rattle.root_update.proofs.making.new_links.Goals as goal

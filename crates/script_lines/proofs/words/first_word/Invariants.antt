@@ -5,7 +5,7 @@ use Rattle.lib_types.specs.Splits.{size_of}
 use Rattle.script_lines.specs.Words.{EndsAlike, words_left}
 use Rattle.script_lines.proofs.words.first_word.Given as goal
 
--- the words that are left are those of the line
+-- the words that are left are the words of the line
 abbrev pub invariant-loop-left : goal.invariant-loop-left
 invariant-loop-left l = (words_left (option_copied l.left) ≡ words_of l.fn.line) × EndsAlike l.fn.line (option_copied l.left)
 

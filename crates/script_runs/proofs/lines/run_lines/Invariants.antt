@@ -5,7 +5,7 @@ use Rattle.script_runs.specs.declared.fault.ScriptFault.{ScriptFault}
 use Rattle.script_runs.specs.Run.{RunsLines, lines_of}
 use Rattle.script_runs.proofs.lines.run_lines.Given as goal
 
--- a run of the lines that are left, from here on, is one of all lines
+-- running the remaining lines from here completes a run of all lines
 abbrev pub invariant-loop-line : goal.invariant-loop-line
 invariant-loop-line g l =
     (to : Result Loaded ScriptFault) (new : States)

@@ -8,5 +8,5 @@ pub returns : goal.returns
 unfolding listing_text
 returns c =
     c.from_vec.ensures
-    ∙ nothing_left c.args.conf.now c.args.links.now (option_copied c.loop-place.origin) c.loop-place.out.items _ c.loop-place.place-iterator.a.rest.now c.loop-place.place-iterator.b
+    ∙ nothing_left c.args.front.now c.args.conf.now c.args.links.now (option_copied c.loop-place.origin) c.loop-place.out.items _ c.loop-place.place-iterator.a.rest.now c.loop-place.place-iterator.b
     c.in-None.ensures.steps c.loop-place.invariant

@@ -4,8 +4,8 @@ use Rattle.std.specs.Option.{option_copied}
 use Rattle.search_listing.specs.Listing.{one_text, origins_after, origins_of}
 use Rattle.search_listing.proofs.printing.listing.Given as goal
 
--- the search directories that are left give the rest
+-- the remaining search directories give the rest
 abbrev pub invariant-loop-place : goal.invariant-loop-place
 invariant-loop-place l =
-    l.out.items ++ flat_map (one_text l.links) (zip l.place-iterator.a.rest.now (zip (origins_after l.conf (option_copied l.origin) l.place-iterator.a.rest.now) l.place-iterator.b))
-    ≡ flat_map (one_text l.links) (zip l.places (zip (origins_of l.conf l.places) l.bests))
+    l.out.items ++ flat_map (one_text l.front l.links) (zip l.place-iterator.a.rest.now (zip (origins_after l.conf (option_copied l.origin) l.place-iterator.a.rest.now) l.place-iterator.b))
+    ≡ flat_map (one_text l.front l.links) (zip l.places (zip (origins_of l.conf l.places) l.bests))

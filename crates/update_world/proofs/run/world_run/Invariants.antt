@@ -3,7 +3,7 @@ use Rattle.update_world.specs.Turns.{readings_behind}
 use Rattle.update_world.specs.Worlds.{HasTaken, Stands}
 use Rattle.update_world.proofs.run.world_run.Given as goal
 
--- the turns that are left give the rest
+-- the readings so far and those of the remaining turns are all readings
 abbrev pub invariant-loop-turn : goal.invariant-loop-turn
 invariant-loop-turn l =
     record {

@@ -1,4 +1,4 @@
--- The stamps after one is put, by their identities.
+-- The stamps after an insertion by identity.
 use Rattle.std.proofs.lemmas.Map.Views.{All-values-insert_entry}
 use Rattle.aux_cache.proofs.ByIds.{put_are}
 use Rattle.aux_cache.proofs.gathered.GatheredStamps.insert.Goals as goal

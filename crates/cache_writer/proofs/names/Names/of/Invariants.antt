@@ -4,7 +4,7 @@ use Rattle.cache_writer.specs.CacheText.{hwcaps_names}
 use Rattle.cache_writer.proofs.Sorted.{by_bytes}
 use Rattle.cache_writer.proofs.names.Names.of.Given as goal
 
--- the names so far and those that are left are all, in order
+-- The names so far and the names that are left are all names, sorted.
 abbrev pub invariant-loop-name : goal.invariant-loop-name
 invariant-loop-name l = record {
   sorted : IsStrictlySortedBy by_bytes (l.names.keys ++ l.name-iterator);

@@ -10,7 +10,7 @@ use Rattle.elf_dynamic.specs.Wanted.{is_wanted}
 use Rattle.elf_dynamic.specs.Windows.{unread_from}
 use Rattle.elf_dynamic.proofs.file.ElfFile.find_segment.Given as goal
 
--- no segment so far is wanted
+-- none of the segments so far is wanted
 abbrev pub invariant-loop-index : goal.invariant-loop-index
 invariant-loop-index g l =
     let old = g.S.Store.state l.fn.self.store.now in

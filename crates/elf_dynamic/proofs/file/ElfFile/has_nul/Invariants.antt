@@ -8,7 +8,7 @@ use Rattle.elf_dynamic.specs.Cursor.{ReadsOn}
 use Rattle.elf_dynamic.specs.Section.{bytes_of, is_nul}
 use Rattle.elf_dynamic.proofs.file.ElfFile.has_nul.Given as goal
 
--- there is a NUL in the place if there is one in the rest of it
+-- The place has a NUL exactly if the rest of it has one.
 abbrev pub invariant-loop-at : goal.invariant-loop-at
 invariant-loop-at g l =
     let old = g.S.Store.state l.fn.self.store.now in

@@ -8,7 +8,7 @@ use Rattle.elf_dynamic.specs.Section.{bytes_of}
 use Rattle.elf_dynamic.specs.Texts.{before_nul}
 use Rattle.elf_dynamic.proofs.file.ElfFile.read_text.Given as goal
 
--- the bytes so far, with those before the first NUL of the rest, are the text
+-- The text is the bytes so far, followed by the bytes of the rest before its first NUL.
 abbrev pub invariant-loop-left : goal.invariant-loop-left
 invariant-loop-left g l =
     let old = g.S.Store.state l.fn.self.store.now in

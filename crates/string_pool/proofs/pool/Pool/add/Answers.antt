@@ -1,4 +1,4 @@
--- A text that is there has its offset; a new one is laid out behind the others.
+-- A text that is already there has its offset. A new text is laid out after the others.
 use Rattle.std.proofs.Common.{ap, ◌≡◌, ◌∙◌, arith, length, sym}
 use Rattle.string_pool.proofs.Adding.{has_offset, found, laid_last}
 use Rattle.string_pool.proofs.InOrder.{length_le_table}

@@ -1,4 +1,4 @@
--- Each text is laid out behind those before it.
+-- Each text is laid out after the texts before it.
 use Rattle.std.proofs.Common.{◌∙◌, ◌∷◌, ◌++◌, [], ◌+◌, ap, arith, length, sym, take}
 use Rattle.std.proofs.lemmas.List.{take_more}
 use Rattle.string_pool.specs.Texts.{with_nul}

@@ -1,4 +1,4 @@
--- The offset that is kept of a text.
+-- The stored offset of a text.
 use Rattle.std.proofs.Common.{◌∙◌, ◌+◌, List, ℕ, ap, arith, length, take, get_or}
 use Rattle.string_pool.specs.InOrder.{table_of}
 use Rattle.string_pool.proofs.InOrder.{offset_there, length_offsets_from}

@@ -4,7 +4,7 @@ use Rattle.image_tree.specs.Paths.{path_cmp}
 use Rattle.image_tree.specs.declared.node.Node.{Node}
 use Rattle.image_tree.proofs.tree.row.Rows.search.Given as goal
 
--- the entry before the lowest index is before the path, and that at the highest is behind it
+-- the entry before `low` is below the path, and the entry at `high` is above it
 abbrev pub invariant-loop-low : goal.invariant-loop-low
 invariant-loop-low l = record {
   order : l.low ≤ l.high;

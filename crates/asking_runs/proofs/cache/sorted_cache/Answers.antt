@@ -1,7 +1,0 @@
-use Rattle.std.proofs.Common.{rules}
-use Rattle.asking_runs.proofs.FirstRise.{unsorted}
-use Rattle.asking_runs.proofs.cache.sorted_cache.Goals as goal
-
-pub returns-in-Err-clause-entries : goal.returns-in-Err-clause-entries
-returns-in-Err-clause-entries c =
-    unsorted c.args.bytes.now c.in-Err.unsorted.entry c.from.result c.in_ok-view.ensures.accepted (rw c.in_ok-view.ensures.view at c.in-Err.ensures.unsorted) (search rules)

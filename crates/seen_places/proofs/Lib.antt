@@ -1,0 +1,11 @@
+pub mod AfterLinks
+pub mod Each
+pub mod Entries
+pub mod Files
+pub mod Libraries
+pub mod Links
+pub mod Places
+pub mod Planned
+pub mod Said
+pub mod Sonames
+pub mod Stage
