@@ -3,7 +3,7 @@ _ldconfig_image() {
     local command=${1##*/} current=$2 previous=$3 words=
     COMPREPLY=()
     case $command:$previous in
-    ldconfig-image:--abi) words='i386 x86-64 x32 aarch64' ;;
+    ldconfig-image:--abi) words='i386 x86-64 x32 aarch64 arm-hf riscv64-d' ;;
     ldconfig-image:--caps) words='x86-64-v2 x86-64-v3 x86-64-v4' ;;
     *:--manifest | *:-o | *:--aux-cache) compopt -o filenames; mapfile -t COMPREPLY < <(compgen -f -- "$current"); return ;;
     ldconfig-image:-C) [ "${COMP_WORDS[1]}" != -p ] || mapfile -t COMPREPLY < <(compgen -f -- "$current"); return ;;

@@ -12,10 +12,10 @@ import stat
 
 import tool_modules  # noqa: F401
 from elf_parts import library_of
-from image_facts import MOST_LINKS, OLDER_CAPS, SYSTEM_DIRS, is_like_library
+from image_facts import LP64D_DIRS, MOST_LINKS, OLDER_CAPS, SYSTEM_DIRS, is_like_library
 
-# Debian's ldconfig has these too.
-DEBIAN_DIRS = ["/lib/*-linux-gnu*", "/usr/lib/*-linux-gnu*"]
+# Debian's ldconfig has the first two too, and that of RISC-V the others.
+OTHER_DIRS = ["/lib/*-linux-gnu*", "/usr/lib/*-linux-gnu*", *LP64D_DIRS]
 
 
 def mode_at(root, place):
@@ -137,15 +137,15 @@ def copy_root(root, folder):
     """Copies what ldconfig looks at in a root tree into a directory."""
     copy = Copy(root, folder)
     copy.conf("/etc/ld.so.conf", set())
-    for text in SYSTEM_DIRS + [text for pattern in DEBIAN_DIRS for text in copy.results(pattern)]:
+    for text in SYSTEM_DIRS + [text for pattern in OTHER_DIRS for text in copy.results(pattern)]:
         copy.directory(text)
 
 
 def library_in(path):
-    """The e_machine and the DT_SONAME (perhaps empty) of a shared object; None for another file."""
+    """The ABI and the DT_SONAME, as text, of a shared object; None for another file."""
     try:
         with open(path, "rb") as file:
             library = library_of(file.fileno())
     except OSError:
         return None
-    return library and (library[0], os.fsdecode(library[1]))
+    return library and library._replace(soname=os.fsdecode(library.soname))

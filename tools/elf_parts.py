@@ -2,6 +2,9 @@
 
 import os
 import struct
+from collections import namedtuple
+
+from image_facts import abi_in
 
 # The first part of each file, which is always taken.
 BEGIN = 4096
@@ -15,6 +18,9 @@ MOST_TABLES = 64
 LONGEST_SECTION = 2**24
 # By the class: the fields of the file header with the offset, size and number of program headers; a program header; its size; a dynamic entry.
 LAYOUTS = {1: ("<28xI10xHH", "<III4xI", 32, "<II"), 2: ("<32xQ14xHH", "<I4xQQ8xQ", 56, "<QQ")}
+
+# A shared object: its ABI (None if no cache is built for it), and its DT_SONAME, perhaps empty.
+Library = namedtuple("Library", "abi soname")
 
 
 def segments_of(opened, layout):
@@ -58,10 +64,10 @@ def looked_at(opened):
 
 
 def library_of(opened):
-    """The e_machine and the DT_SONAME (perhaps empty) of an open file that is a shared object; None for another file."""
+    """The ABI and the DT_SONAME of an open file that is a shared object; None for another file."""
     try:
         begin = os.pread(opened, BEGIN, 0)
-        kind, machine = struct.unpack_from("<HH", begin, 16)
+        (kind,) = struct.unpack_from("<H", begin, 16)
         layout = LAYOUTS.get(begin[4])
         if not begin.startswith(b"\x7fELF") or layout is None or begin[5] != 1 or kind != ET_DYN:
             return None
@@ -73,9 +79,9 @@ def library_of(opened):
                 break
             dynamic.setdefault(tag, value)
         if DT_SONAME not in dynamic:
-            return machine, b""
+            return Library(abi_in(begin), b"")
         place = dynamic[DT_STRTAB] + dynamic[DT_SONAME]
         start = next(place - address + at for kind, at, address, length in segments if kind == PT_LOAD and address <= place < address + length)
-        return machine, os.pread(opened, LONGEST_SONAME, start).partition(b"\0")[0]
+        return Library(abi_in(begin), os.pread(opened, LONGEST_SONAME, start).partition(b"\0")[0])
     except (OSError, LookupError, OverflowError, StopIteration, ValueError, struct.error):
         return None

@@ -8,7 +8,7 @@ import stat
 
 from elf_parts import library_of
 from image_cache import entries_of, generator_of
-from image_facts import ABIS, GENERATOR, OLDER_CAPS, SYSTEM_DIRS, is_unfinished
+from image_facts import ABIS, GENERATOR, LP64D_DIRS, OLDER_CAPS, SYSTEM_DIRS, is_unfinished
 from image_search import join, last, parent
 from mtree_model import is_utf8
 
@@ -16,10 +16,10 @@ from mtree_model import is_utf8
 ANY_GENERATOR, OUR_GENERATOR = re.compile(rb"ldconfig \(.*\) .*release version .*", re.DOTALL), GENERATOR.partition(b")")[0]
 # The bits of an entry's flags that say for which ABI it is. 0 is that of i386.
 ABI_BITS = 0xFF00
-# The ABIs that one ldconfig takes, by their bits: those of x86 and of Arm. ldconfig of another machine takes its own.
-FAMILIES = {0x0000: "x86", 0x0300: "x86", 0x0800: "x86", 0x0900: "Arm", 0x0A00: "Arm", 0x0B00: "Arm"}
+# The ABIs that one ldconfig takes, by their bits: those of x86, of Arm and of RISC-V. ldconfig of another machine takes its own.
+FAMILIES = {0x0000: "x86", 0x0300: "x86", 0x0800: "x86", 0x0900: "Arm", 0x0A00: "Arm", 0x0B00: "Arm", 0x0F00: "RISC-V", 0x1000: "RISC-V"}
 OUR_BITS = {abi.flags & ABI_BITS for abi in ABIS.values()}
-MACHINES = {abi.machine: FAMILIES[abi.flags & ABI_BITS] for abi in ABIS.values()}
+FAMILY_OF = {name: FAMILIES[abi.flags & ABI_BITS] for name, abi in ABIS.items()}
 # The system's own directories with the name of an ABI are Debian's.
 TRIPLET = re.compile(rb"[^-]+-linux-gnu[^/]*")
 
@@ -81,7 +81,7 @@ class Names:
         self.wanted, self.found = entries_of(plan.cache), entries_of(cache) if self.is_by_system else []
         self.families = {family(entry) for entry in self.found}
         below = [join(top, name) for top in (b"/lib", b"/usr/lib") for name in self.image.children(self.image.directory(top)) if TRIPLET.fullmatch(name)]
-        self.builtin = {self.image.directory(path) for path in [b"/lib", b"/usr/lib", *below]}
+        self.builtin = {self.image.directory(path) for path in [b"/lib", b"/usr/lib", *below, *map(str.encode, LP64D_DIRS)]}
         self.searched = {place.real for place in plan.places}
         named = {self.image.directory(path) for path in plan.conf_dirs}
         self.only_ours = {self.image.directory(path.encode()) for path in SYSTEM_DIRS} - self.builtin - named
@@ -94,7 +94,7 @@ class Names:
         return folder and join(folder, last(path))
 
     def library(self, path):
-        """The machine and the DT_SONAME (perhaps empty) of the library to which a path leads."""
+        """The ABI and the DT_SONAME of the library to which a path leads."""
         place = self.image.file(path)
         if place is None:
             return None
@@ -104,7 +104,7 @@ class Names:
     def soname(self, path):
         """The soname of the library to which a path leads: DT_SONAME, or the name of the file itself."""
         library = self.library(path)
-        return library and (library[1] or last(self.image.file(path)))
+        return library and (library.soname or last(self.image.file(path)))
 
     def is_there(self, path):
         """Whether a file, or a link to one beside it, is at a path whose last name the manifest may lack."""
@@ -149,7 +149,8 @@ class Names:
             return "nameless"
         if not is_utf8(entry.soname + entry.path):
             return "utf-8" if self.is_there(entry.path) else None
-        if entry.flags & ABI_BITS not in OUR_BITS:
+        library = self.library(entry.path)
+        if entry.flags & ABI_BITS not in OUR_BITS or library and library.abi is None:
             return "machines" if self.image.file(entry.path) else None
         return self.of_library(entry) or self.of_pair(entry, self.wanted)
 
@@ -158,9 +159,9 @@ class Names:
         file, library = self.image.file(entry.path), self.library(entry.path)
         if library is None:
             return None
-        if library[1] == b"" and last(file) != entry.soname == last(entry.path):
+        if library.soname == b"" and last(file) != entry.soname == last(entry.path):
             return "nameless"
-        if library[1] not in (b"", entry.soname):
+        if library.soname not in (b"", entry.soname):
             return None
         if last(parent(entry.path)).decode() in OLDER_CAPS:
             return "older"
@@ -195,7 +196,7 @@ class Names:
         if parent(path) in self.only_ours:
             return "folders"
         library, old = self.library(join(parent(path), target)), self.image.target(path)
-        if library and self.families and MACHINES.get(library[0]) not in self.families:
+        if library and self.families and FAMILY_OF.get(library.abi) not in self.families:
             return "machines"
         if old is None:
             return None

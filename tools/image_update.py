@@ -290,7 +290,8 @@ def private(work):
 
 @contextlib.contextmanager
 def private_directory():
-    """A directory of this run below TMPDIR, on which it holds a lock. Those of killed runs are removed first: no process locks them."""
+    """A directory in one of this run below TMPDIR, on which it holds a lock. Those of killed runs are removed first: no process locks them.
+    The directory itself isn't locked, since the program locks the directory in which it runs."""
     with private(tempfile.gettempdir()), contextlib.ExitStack() as stack:
         for name in os.listdir(tempfile.gettempdir()):
             if re.fullmatch(re.escape(BEFORE) + "[a-z0-9_]{8}" + re.escape(AFTER), name):
@@ -299,7 +300,9 @@ def private_directory():
         # A directory that isn't locked yet may be removed by another run.
         while work is None or not is_locked(work, stack):
             work = stack.enter_context(tempfile.TemporaryDirectory(prefix=BEFORE, suffix=AFTER, ignore_cleanup_errors=True))
-        yield work
+        inside = os.path.join(work, "image")
+        os.mkdir(inside)
+        yield inside
 
 
 def is_locked(work, stack):

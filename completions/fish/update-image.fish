@@ -6,5 +6,5 @@ complete -c update-image -l exclude -x -d 'Leave out what the shell pattern matc
 complete -c update-image -l one-file-system -d 'List directories of other file systems without content'
 complete -c update-image -l links-only -d 'Make the links and not the cache'
 complete -c update-image -l cache-only -d 'Make the cache and not the links'
-complete -c update-image -l verbose -d 'Write each search directory and each change'
+complete -c update-image -l verbose -d 'Write each link, each search directory and each change'
 complete -c update-image -l help -d 'Show the help text'

@@ -65,7 +65,7 @@ LeftBefore write (Some Publish) old new = LeavesSame write.0 old new
 LeftBefore write (Some Settle) old new = IfKnown old.contents (λ _. LeavesMore (content_eq (Some write.1)) write.0 old new)
 
 -- the state of the disk when this call is next
-pub record Stands (tag : Tag) (write : Write) (next : Option Call) (old new : DiskState) : Type 0 where
+pub record HasReached (tag : Tag) (write : Write) (next : Option Call) (old new : DiskState) : Type 0 where
   pub contents : Relates (Before tag.0 write next) old.contents new.contents
   pub calls : Relates (IsFollowedBy (calls_before tag write.0 next)) old.calls new.calls
   pub file : IfSome next (λ call. needs_file call ≡ true → new.made tag.0 write.0 ≡ true)
@@ -242,13 +242,13 @@ ended_most : (write : Write) (old new : DiskState) (a : Option DiskContent) → 
     → IfKnown a (λ _. LeavesAtMost (content_eq (Some write.1)) write.0 old new)
 ended_most write old new None ended = tt
 ended_most write old new (Some a) ended = record {
-  now = λ b may. or_behind _ _ (sym (ended.now b) ∙ may);
+  now = λ b may. or_after _ _ (sym (ended.now b) ∙ may);
   during = λ t b le since. sym (ended.during t b le) ∙ since;
 }
   where
-    or_behind : (x y : Bool) → y ≡ true → (x || y) ≡ true
-    or_behind true y e = refl
-    or_behind false y e = e
+    or_after : (x y : Bool) → y ≡ true → (x || y) ≡ true
+    or_after true y e = refl
+    or_after false y e = e
 
 ended_alone : (tag : ℕ) (write : Write) (old new : DiskState) (a b : Option DiskContent) → Relates (ReplacesSlot tag write) a b → IfKnown a (λ _. Ended write old new)
     → IfKnown b (λ _. (x : Content) → new.may write.0 x ≡ content_eq (Some write.1) x)
@@ -284,7 +284,7 @@ module _ (tag : Tag) (slot : Slot) where
 
 module _ (tag : Tag) (write : Write) (old : DiskState) (laws : HasMoments old) where
   module _ (new : DiskState) where
-    pub ends : Stands tag write None old new → WritesSlot tag write old new
+    pub ends : HasReached tag write None old new → WritesSlot tag write old new
     ends s = record {
       contents = s.contents;
       calls = s.calls;
@@ -305,7 +305,7 @@ module _ (tag : Tag) (write : Write) (old : DiskState) (laws : HasMoments old) w
     made_on Publish result first next = λ t s h. next t s h ∙ first t s h
     made_on Settle result first next = λ t s h. next t s ∙ first t s h
 
-    file_on : (call : Call) (result : Result Bool DiskFault) (x : Bool) → result ≡ Ok x → Stands tag write (Some call) old middle → MadeBy tag.0 write.0 call middle new result
+    file_on : (call : Call) (result : Result Bool DiskFault) (x : Bool) → result ≡ Ok x → HasReached tag write (Some call) old middle → MadeBy tag.0 write.0 call middle new result
         → IfSome (after call) (λ next. needs_file next ≡ true → new.made tag.0 write.0 ≡ true)
     file_on Create result x is s made = λ e. subst (λ (r : Result Bool DiskFault). OnOk r (new.made tag.0 write.0 ≡ true)) is made.0
     file_on Append result x is s made = λ e. made tag.0 write.0 ∙ s.file refl
@@ -313,7 +313,7 @@ module _ (tag : Tag) (write : Write) (old : DiskState) (laws : HasMoments old) w
     file_on Publish result x is s made = λ e. absurd (cc)
     file_on Settle result x is s made = tt
 
-    goes_on : (call : Call) (x : Bool) → Stands tag write (Some call) old middle → MakesNext tag write (Some call) middle new (Ok x) → Stands tag write (after call) old new
+    goes_on : (call : Call) (x : Bool) → HasReached tag write (Some call) old middle → MakesNext tag write (Some call) middle new (Ok x) → HasReached tag write (after call) old new
     goes_on call x s m = record {
       contents = relates_on _ _ _ (λ a b c first next. changes tag.0 write a b c call first next) _ _ _ s.contents m.does.done;
       calls = rw (← made_to tag write.0 call) (relates_on _ _ _ (follow (calls_before tag write.0 (Some call)) (call_by tag write.0 call ∷ [])) _ _ _ s.calls m.does.added);
@@ -327,7 +327,7 @@ module _ (tag : Tag) (write : Write) (old : DiskState) (laws : HasMoments old) w
       left = left_on tag.0 write old middle new s.goes_on.later call s.contents s.left m.crash;
     }
 
-    fails_at : (call : Call) (e : DiskFault) → Stands tag write (Some call) old middle → MakesNext tag write (Some call) middle new (Err e)
+    fails_at : (call : Call) (e : DiskFault) → HasReached tag write (Some call) old middle → MakesNext tag write (Some call) middle new (Err e)
         → FailsToWrite tag write (record { call = call; slot = write.0 }) old new
     fails_at call e s m =
         let time = goes_on_on old middle new s.goes_on (time_by tag.0 write old middle new s.goes_on.later call (Err (record {})) m.crash) in
@@ -359,19 +359,19 @@ suffix Publish = refl
 suffix Settle = refl
 
 -- r is the updater at the start, u is the updater before the step
-module _ (r u : Replacement) (old middle new : DiskState) (laws : HasMoments old) (same : u ≡ record r { left = u.left }) (stands : Stands r.tag r.write (next_of u.left) old middle) where
+module _ (r u : Replacement) (old middle new : DiskState) (laws : HasMoments old) (same : u ≡ record r { left = u.left }) (reached : HasReached r.tag r.write (next_of u.left) old middle) where
   -- a call was made
   pub step_on : (left : List Call) (x : Bool) → u.left ≡ calls_from (next_of u.left) → (u.left ≡ [] → ⊥) → left ≡ drop 1 u.left
       → MakesNext u.tag u.write (next_of u.left) middle new (Ok x)
-      → (left ≡ calls_from (next_of left)) × Stands r.tag r.write (next_of left) old new
-  step_on left x calls some rest makes = by (next_of u.left) calls (subst (λ (w : Replacement). MakesNext w.tag w.write (next_of u.left) middle new (Ok x)) same makes) stands
+      → (left ≡ calls_from (next_of left)) × HasReached r.tag r.write (next_of left) old new
+  step_on left x calls some rest makes = by (next_of u.left) calls (subst (λ (w : Replacement). MakesNext w.tag w.write (next_of u.left) middle new (Ok x)) same makes) reached
     where
-      by : (next : Option Call) → u.left ≡ calls_from next → MakesNext r.tag r.write next middle new (Ok x) → Stands r.tag r.write next old middle
-          → (left ≡ calls_from (next_of left)) × Stands r.tag r.write (next_of left) old new
+      by : (next : Option Call) → u.left ≡ calls_from next → MakesNext r.tag r.write next middle new (Ok x) → HasReached r.tag r.write next old middle
+          → (left ≡ calls_from (next_of left)) × HasReached r.tag r.write (next_of left) old new
       by None calls makes s = absurd (some calls)
       by (Some call) calls makes s =
           let is : left ≡ drop 1 (calls_from (Some call)) = rest ∙ ap (drop 1) calls in
-          subst (λ (l : List Call). (l ≡ calls_from (next_of l)) × Stands r.tag r.write (next_of l) old new) (sym is) (suffix call, goes_on r.tag r.write old laws middle new call x s makes)
+          subst (λ (l : List Call). (l ≡ calls_from (next_of l)) × HasReached r.tag r.write (next_of l) old new) (sym is) (suffix call, goes_on r.tag r.write old laws middle new call x s makes)
 
   -- a call failed
   pub step_fails : (fault : DiskFault) → next_of u.left ≡ Some fault.call → fault.slot ≡ u.write.0
@@ -379,7 +379,7 @@ module _ (r u : Replacement) (old middle new : DiskState) (laws : HasMoments old
   step_fails fault next slot makes =
       let there = subst (λ (w : Replacement). MakesNext w.tag w.write (next_of u.left) middle new (Err fault)) same makes in
       let call = subst (λ (n : Option Call). MakesNext r.tag r.write n middle new (Err fault)) next there in
-      let s = subst (λ (n : Option Call). Stands r.tag r.write n old middle) next stands in
+      let s = subst (λ (n : Option Call). HasReached r.tag r.write n old middle) next reached in
       subst (λ (s : Slot). FailsToWrite r.tag r.write (record { call = fault.call; slot = s }) old new) (sym (slot ∙ ap (λ (w : Replacement). w.write.0) same))
       (fails_at r.tag r.write old laws middle new fault.call fault s call)
 

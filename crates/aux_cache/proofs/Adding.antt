@@ -1,5 +1,5 @@
 -- The strings of stamps, while they are gathered.
-use Rattle.std.proofs.Common.{◌≡◌, ℕ, zero, suc, ◌+◌, ◌*◌, ◌<◌, ◌≤◌, true, ◌&&◌, not, nat_le, List, [], ◌∷◌, ◌++◌, length, map, fold, take, get_or, Option, Some, None, IfSome, unwrap_or, sym, ap, subst, ◌∙◌, bytes_eq, arith}
+use Rattle.std.proofs.Common.{◌≡◌, ℕ, zero, suc, ◌+◌, ◌*◌, ◌<◌, ◌≤◌, true, ◌&&◌, not, nat_le, List, [], ◌∷◌, ◌++◌, length, map, fold, take, get_or, Some, None, sym, ap, subst, ◌∙◌, bytes_eq, arith}
 use Rattle.std.proofs.lemmas.Bool.{and_parts}
 use Rattle.std.proofs.lemmas.Bool.Decides.{nat_tests}
 use Rattle.std.proofs.lemmas.List.{map-append, length-map, get_or-map, take_more}
@@ -9,15 +9,17 @@ use Rattle.std.specs.Str.{is_utf8}
 use Rattle.indexmap.specs.IndexSet.{insert_key}
 use Rattle.lib_types.specs.Name.{is_name, are_dots, have_no_slash}
 use Rattle.lib_types.specs.declared.name.TheConstants.{NAME_MAX}
+use Rattle.lib_types.specs.declared.analysis.Analysis.{Analysis}
+use Rattle.lib_types.specs.declared.analysis.Analysis.TheVariants.{Lib, Not}
 use Rattle.string_pool.specs.Texts.{number_of}
 use Rattle.string_pool.specs.InOrder.{table_of}
 use Rattle.string_pool.proofs.Numbers.{among, among_more, among_all, number_more, length_distinct}
 use Rattle.string_pool.proofs.InOrder.{length_table_insert}
 use Rattle.string_pool.proofs.WithoutRepeats.{distinct_folded, distinct_push}
 use Rattle.string_pool.specs.Distinct.{distinct}
-use Rattle.aux_cache.specs.AuxText.{soname_of, strings}
+use Rattle.aux_cache.specs.AuxText.{soname_in, soname_of, strings}
 use Rattle.aux_cache.specs.Numbers.{HasNumber}
-use Rattle.aux_cache.specs.Stamps.{HaveNames}
+use Rattle.aux_cache.specs.Stamps.{IsRecordable, AreRecordable}
 use Rattle.aux_cache.specs.declared.numbers.NumberedStamp.{NumberedStamp}
 use Rattle.aux_cache.specs.declared.stamps.Stamp.{Stamp}
 
@@ -52,12 +54,13 @@ short name h =
     let most = sizes.1 in
     grind (arith, nat_tests, most)
 
-short_soname : (soname : Option (List ℕ)) → IfSome soname (λ soname. is_name soname ≡ true) → length (unwrap_or soname []) ≤ 255
-short_soname None h = omega arith
-short_soname (Some soname) h = short soname h
+short_soname : (analysis : Analysis) → IsRecordable analysis → length (soname_in analysis) ≤ 255
+short_soname (Lib abi None) h = omega arith
+short_soname (Lib abi (Some soname)) h = short soname h
+short_soname (Not defect) h = omega arith
 
-pub soname_short : (xs : List Stamp) → HaveNames xs → All (λ x. length (soname_of x) ≤ 255) xs
-soname_short xs names = All-weaker (λ (x : Stamp). IfSome x.soname (λ soname. is_name soname ≡ true)) (λ x. length (soname_of x) ≤ 255) (λ x h. short_soname x.soname h) xs names
+pub soname_short : (xs : List Stamp) → AreRecordable xs → All (λ x. length (soname_of x) ≤ 255) xs
+soname_short xs all = All-weaker (λ (x : Stamp). IsRecordable x.analysis) (λ x. length (soname_of x) ≤ 255) (λ x h. short_soname x.analysis h) xs all
 
 table_small : (ss : List (List ℕ)) (xs : List Stamp) → All (λ x. length (soname_of x) ≤ 255) xs → length (table_of (fold (insert_key bytes_eq) ss (map soname_of xs))) ≤ length (table_of ss) + 256 * length xs
 table_small ss [] h = omega arith
@@ -68,9 +71,9 @@ table_small ss (x ∷ xs) h =
     let rest = table_small (insert_key bytes_eq ss (soname_of x)) xs (All-tail P x xs h) in
     omega (arith, here, more, rest)
 
-pub strings_small : (xs : List Stamp) → HaveNames xs → length (table_of (strings xs)) ≤ 256 * length xs + 1
-strings_small xs names =
-    let small : length (table_of (fold (insert_key bytes_eq) ([] ∷ []) (map soname_of xs))) ≤ 1 + 256 * length xs = table_small ([] ∷ []) xs (soname_short xs names) in
+pub strings_small : (xs : List Stamp) → AreRecordable xs → length (table_of (strings xs)) ≤ 256 * length xs + 1
+strings_small xs all =
+    let small : length (table_of (fold (insert_key bytes_eq) ([] ∷ []) (map soname_of xs))) ≤ 1 + 256 * length xs = table_small ([] ∷ []) xs (soname_short xs all) in
     let same : length (table_of (strings xs)) ≡ length (table_of (fold (insert_key bytes_eq) ([] ∷ []) (map soname_of xs))) = ap (λ ts. length (table_of ts)) (distinct_folded ([] ∷ map soname_of xs)) in
     subst (λ n. n ≤ 256 * length xs + 1) (sym same) (omega (arith, small))
 

@@ -1,8 +1,10 @@
+pub mod Accepted
 mod Adding
 mod Back
 mod ByIds
 mod Damage
+mod DefectCodes
 pub mod Found
 mod Joining
 pub mod Sorted
-mod Standing
+mod StringsAt

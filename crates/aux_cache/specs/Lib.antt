@@ -1,6 +1,7 @@
 pub mod AuxFile
 pub mod AuxLayout
 pub mod AuxText
+pub mod DefectCodes
 pub mod Ids
 pub mod Index
 pub mod Numbers

@@ -5,6 +5,9 @@ use Rattle.std.specs.List.{All}
 use Rattle.std.specs.List.Sorted.{IsStrictlySortedBy}
 use Rattle.std.specs.Map.{lookup, values_of}
 use Rattle.lib_types.specs.Name.{is_name}
+use Rattle.lib_types.specs.Ranges.{IsInRange}
+use Rattle.lib_types.specs.declared.analysis.Analysis.{Analysis}
+use Rattle.lib_types.specs.declared.analysis.Analysis.TheVariants.{Lib, Not}
 use Rattle.image_tree.specs.declared.node.Id.{Id}
 use Rattle.aux_cache.specs.Ids.{id_cmp}
 use Rattle.aux_cache.specs.declared.stamps.Stamp.{Stamp}
@@ -25,10 +28,10 @@ stamp_of stamps id = lookup (is_at (id_cmp id)) (by_id stamps)
 abbrev pub put : List Stamp → Stamp → List Stamp
 put stamps stamp = values_of (insert_entry id_cmp (by_id stamps) stamp.id stamp)
 
--- the soname, if there is one, is a name
-abbrev pub HasName : Stamp → Type 0
-HasName stamp = IfSome stamp.soname (λ soname. is_name soname ≡ true)
+-- an auxiliary cache can record a library whose soname, if there is one, is a name, and a defect whose number is in its range
+abbrev pub IsRecordable : Analysis → Type 0
+IsRecordable (Lib abi soname) = IfSome soname (λ soname. is_name soname ≡ true)
+IsRecordable (Not defect) = IsInRange defect
 
--- each soname is a name
-abbrev pub HaveNames : List Stamp → Type 0
-HaveNames stamps = All HasName stamps
+abbrev pub AreRecordable : List Stamp → Type 0
+AreRecordable stamps = All (λ stamp. IsRecordable stamp.analysis) stamps

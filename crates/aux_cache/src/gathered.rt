@@ -8,7 +8,7 @@ ghost use Rattle.std.specs.BTreeMap.{is_at};
 ghost use Rattle.std.specs.Map.{lookup};
 ghost use Rattle.std.specs.Prelude.{◌≡◌, [], IfOk, IfSome, None, OnErr, OnOk, true};
 ghost use Rattle.aux_cache.specs.Ids.{id_cmp, numbers_of};
-ghost use Rattle.aux_cache.specs.Stamps.{HasName, HaveNames, put, stamp_of};
+ghost use Rattle.aux_cache.specs.Stamps.{AreRecordable, IsRecordable, put, stamp_of};
 
 use crate::order::compare;
 use crate::{Stamp, Stamps};
@@ -73,7 +73,7 @@ impl Ord for Key {
 
 // Whether an identity is greater than all keys of the map. Then no search is needed. Files that were created one after another
 // usually have ascending inodes.
-fn is_behind(stamps: &BTreeMap<Key, Stamp>, key: &Key) -> bool
+fn is_after(stamps: &BTreeMap<Key, Stamp>, key: &Key) -> bool
     ensures { result ≡ true → lookup (is_at (id_cmp key.now)) stamps.now.entries ≡ None }
 {
     match stamps.last_key_value() {
@@ -82,7 +82,7 @@ fn is_behind(stamps: &BTreeMap<Key, Stamp>, key: &Key) -> bool
     }
 }
 
-/// Stamps with distinct identities, inserted in any order. Each soname is a name. Contracts see the list of the stamps, sorted by
+/// Stamps with distinct identities, inserted in any order. Each can be recorded. Contracts see the list of the stamps, sorted by
 /// identity.
 ///
 /// A look-up or an insertion takes a few comparisons, in whatever order the identities come.
@@ -94,14 +94,14 @@ pub struct GatheredStamps {
 impl Model for GatheredStamps {
     ghost use Rattle.std.specs.Prelude.{◌≡◌, List};
     ghost use Rattle.std.specs.Map.{values_of};
-    ghost use Rattle.aux_cache.specs.Stamps.{HaveNames, by_id};
+    ghost use Rattle.aux_cache.specs.Stamps.{AreRecordable, by_id};
     ghost use Rattle.aux_cache.specs.declared.stamps.Stamp.{Stamp};
 
     ghost Value = { List Stamp };
 
     ghost view = { λ s. values_of s.stamps.entries };
 
-    ghost invariant = { λ s. (s.stamps.entries ≡ by_id (values_of s.stamps.entries)) × HaveNames (values_of s.stamps.entries) };
+    ghost invariant = { λ s. (s.stamps.entries ≡ by_id (values_of s.stamps.entries)) × AreRecordable (values_of s.stamps.entries) };
 }
 
 impl GatheredStamps {
@@ -117,10 +117,10 @@ impl GatheredStamps {
     /// The stamp with this identity.
     pub fn find(&self, id: Id) -> Option<&Stamp>
         ensures stamp { option_copied result ≡ stamp_of self.now id }
-        ensures name { IfSome result (λ stamp. HasName stamp.now) }
+        ensures recordable { IfSome result (λ stamp. IsRecordable stamp.now.analysis) }
     {
         let key = Key { id };
-        if is_behind(&self.stamps, &key) {
+        if is_after(&self.stamps, &key) {
             return None;
         }
         self.stamps.get(&key)
@@ -128,7 +128,7 @@ impl GatheredStamps {
 
     /// Inserts the stamp. A stamp with the same identity is replaced.
     pub fn insert(&mut self, stamp: Stamp) -> Result<(), NoMemory>
-        requires { HasName stamp }
+        requires { IsRecordable stamp.analysis }
         ensures done { OnOk result (self.new ≡ put self.old stamp) }
         ensures refused { OnErr result (self.new ≡ self.old) }
     {
@@ -139,7 +139,7 @@ impl GatheredStamps {
     /// The stamps, sorted by identity.
     pub fn into_stamps(self, alloc: Global) -> Result<Stamps, NoMemory>
         ensures stamps { IfOk result (λ stamps. stamps ≡ self) }
-        ensures names { IfOk result HaveNames }
+        ensures recordable { IfOk result AreRecordable }
     {
         let mut stamps = Vec::with_capacity(alloc, self.stamps.len())?;
         for stamp in self.stamps.into_values() {

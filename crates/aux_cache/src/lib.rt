@@ -1,7 +1,9 @@
 //! The auxiliary cache: what earlier updates read from the libraries, by the identities of their files.
 #![tactic(auto)]
 
+mod defects;
 mod fault;
+mod fields;
 mod gathered;
 mod layout;
 mod numbers;

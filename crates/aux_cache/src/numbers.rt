@@ -6,7 +6,7 @@ ghost use Rattle.aux_cache.specs.Numbers.{HasNumber};
 ghost use Rattle.aux_cache.specs.declared.stamps.TheConstants.{STAMPS_MAX};
 
 use crate::{STAMPS_MAX, Stamp};
-use lib_types::NoMemory;
+use lib_types::{Analysis, NoMemory};
 use std::alloc::Global;
 use string_pool::Texts;
 
@@ -51,8 +51,11 @@ fn number_stamp<'a>(texts: &mut Texts<'a>, stamp: &'a Stamp) -> Result<NumberedS
 fn soname_of(stamp: &Stamp) -> &[u8]
     ensures { result.now ≡ soname_of stamp.now }
 {
-    match &stamp.soname {
-        Some(soname) => soname.as_bytes(),
-        None => b"",
+    match &stamp.analysis {
+        Analysis::Lib {
+            soname: Some(soname),
+            ..
+        } => soname.as_bytes(),
+        _ => b"",
     }
 }

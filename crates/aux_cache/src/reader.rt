@@ -1,36 +1,36 @@
 //! Reads stamps from a file.
 ghost use Rattle.std.specs.Prelude.{◌≡◌, ◌⊎◌, ◌^◌, ◌≤◌, None, Some, length, position, option_map, if◌then◌else◌, IfOk, IfErr, IfSome, ◌<◌};
-ghost use Rattle.std.specs.List.{before_first};
-ghost use Rattle.lib_types.specs.Bytes.{is_byte};
-ghost use Rattle.aux_cache.specs.AuxFile.{count, from_record, strings_length, string_at, strings_in, id_in, flags_in, offset_in, follows, is_record, stamp_in, are_strings, file_sentences, first_place, damage, stamps_in};
+ghost use Rattle.aux_cache.specs.AuxFile.{version_of, count, from_record, strings_length, id_in, fields_in, follows, is_record, stamp_in, are_strings, file_sentences, first_place, damage, stamps_in};
 ghost use Rattle.aux_cache.specs.AuxFile as spec;
 ghost use Rattle.aux_cache.specs.AuxLayout.{record_place};
-ghost use Rattle.aux_cache.specs.Stamps.{HaveNames};
+ghost use Rattle.aux_cache.specs.Stamps.{AreRecordable};
 ghost use Rattle.aux_cache.specs.declared.fault.AuxFault.TheVariants as faults;
 
-use crate::layout::{HEADER_SIZE, MAGIC, RECORD_SIZE};
+use crate::fields::{AnalysisFields, analysis_of};
+use crate::layout::{HEADER_SIZE, MAGIC_SIZE, RECORD_SIZE, Version};
 use crate::order::compare;
 use crate::{AuxFault, Stamp, Stamps};
 use cache_layout::{u32_at, u64_at};
-use lib_types::{Abi, NoMemory, Text, before_byte, is_name};
+use lib_types::NoMemory;
 use std::alloc::Global;
 use tree_face::Id;
 
 /// The stamps of a file, or the offset of its first corrupt part.
-#[tactic(auto, using(crate::proofs::Damage::none_damaged, crate::proofs::Damage::file_damaged, crate::proofs::Damage::sorted_stamps, crate::proofs::Damage::named_stamps))]
+#[tactic(auto, using(crate::proofs::Damage::none_damaged, crate::proofs::Damage::file_damaged, crate::proofs::Damage::sorted_stamps, crate::proofs::Damage::recordable_stamps))]
 pub fn read(alloc: Global, bytes: &[u8]) -> Result<Stamps, AuxFault>
     ensures stamps { IfOk result (λ stamps. stamps ≡ stamps_in bytes.now) }
     ensures undamaged { IfOk result (λ _. damage bytes.now ≡ None) }
-    ensures names { IfOk result HaveNames }
+    ensures recordable { IfOk result AreRecordable }
     ensures fault { IfErr result (λ fault. (fault ≡ faults.NoMemory) ⊎ (spec.fault bytes.now ≡ Some fault)) }
 {
     let count = check_file(bytes)?;
+    let version = version_of(bytes);
     let strings = from_record(bytes, count);
     let mut stamps = Vec::with_capacity(alloc, count)?;
     let mut before = None;
     for index in 0..count {
         let record = from_record(bytes, index);
-        let Some(stamp) = read_record(alloc, strings, before, record)? else {
+        let Some(stamp) = read_record(alloc, version, strings, before, record)? else {
             let at = record_place(index) as u64;
             return Err(AuxFault::Damaged { at });
         };
@@ -57,22 +57,33 @@ fn from_record(bytes: &[u8], index: usize) -> &[u8]
     &bytes[record_place(index)..]
 }
 
+// The version whose magic the file has. A file without a magic isn't version 1.1 either.
+fn version_of(bytes: &[u8]) -> Version
+    ensures { result ≡ version_of bytes.now }
+{
+    if bytes.starts_with(Version::V1_0.magic()) {
+        Version::V1_0
+    } else {
+        Version::V1_1
+    }
+}
+
 // Checks the header and the strings. Returns the number of records.
 fn check_file(bytes: &[u8]) -> Result<usize, AuxFault>
     ensures count { IfOk result (λ n. n ≡ count bytes.now) }
     ensures small { IfOk result (λ n. n < 2 ^ 32) }
     ensures records { IfOk result (λ n. record_place n ≤ length bytes.now) }
-    ensures undamaged { IfOk result (λ _. first_place (file_sentences bytes.now) ≡ None) }
-    ensures fault { IfErr result (λ fault. option_map faults.Damaged (first_place (file_sentences bytes.now)) ≡ Some fault) }
+    ensures undamaged { IfOk result (λ _. first_place (file_sentences (version_of bytes.now) bytes.now) ≡ None) }
+    ensures fault { IfErr result (λ fault. option_map faults.Damaged (first_place (file_sentences (version_of bytes.now) bytes.now)) ≡ Some fault) }
 {
-    if bytes.len() < HEADER_SIZE || !bytes.starts_with(MAGIC) {
+    if bytes.len() < HEADER_SIZE || !bytes.starts_with(version_of(bytes).magic()) {
         return Err(AuxFault::Damaged { at: 0 });
     }
     let count = count(bytes);
     let place = record_place(count);
     if bytes.len() != place + strings_length(bytes) {
         return Err(AuxFault::Damaged {
-            at: MAGIC.len() as u64,
+            at: MAGIC_SIZE as u64,
         });
     }
     if !are_strings(&bytes[place..]) {
@@ -86,7 +97,7 @@ fn count(bytes: &[u8]) -> usize
     ensures count { result ≡ count bytes.now }
     ensures small { result < 2 ^ 32 }
 {
-    u32_at(&bytes[MAGIC.len()..], 0) as usize
+    u32_at(&bytes[MAGIC_SIZE..], 0) as usize
 }
 
 fn strings_length(bytes: &[u8]) -> usize
@@ -94,7 +105,7 @@ fn strings_length(bytes: &[u8]) -> usize
     ensures length { result ≡ strings_length bytes.now }
     ensures small { result < 2 ^ 32 }
 {
-    u32_at(&bytes[MAGIC.len()..], 4) as usize
+    u32_at(&bytes[MAGIC_SIZE..], 4) as usize
 }
 
 // Whether strings start and end with a NUL.
@@ -108,44 +119,22 @@ fn are_strings(strings: &[u8]) -> bool
 #[tactic(auto, unfolding(crate::specs::AuxFile::stamp_in))]
 fn read_record(
     alloc: Global,
+    version: Version,
     strings: &[u8],
     before: Option<Id>,
     record: &[u8],
 ) -> Result<Option<Stamp>, NoMemory>
     requires { 48 ≤ length «record».now }
-    ensures { IfOk result (λ stamp. stamp ≡ (if is_record strings.now before «record».now then Some (stamp_in strings.now «record».now) else None)) }
+    ensures { IfOk result (λ stamp. stamp ≡ (if is_record version strings.now before «record».now then Some (stamp_in version strings.now «record».now) else None)) }
 {
     let id = id_in(record);
     if !follows(before, &id) {
         return Ok(None);
     }
-    let Some(abi) = Abi::of_flags(u32_at(record, 32).cast_signed()) else {
+    let Some(analysis) = analysis_of(alloc, version, strings, fields_in(record))? else {
         return Ok(None);
     };
-    if u32_at(record, 40) != 0 {
-        return Ok(None);
-    }
-    if u32_at(record, 44) != 0 {
-        return Ok(None);
-    }
-    let offset = u32_at(record, 36) as usize;
-    if offset == 0 {
-        return Ok(Some(Stamp {
-            id,
-            abi,
-            soname: None,
-        }));
-    }
-    let text = string_at(strings, offset);
-    if !is_name(text) {
-        return Ok(None);
-    }
-    let soname = Text::copy_of(alloc, text)?;
-    Ok(Some(Stamp {
-        id,
-        abi,
-        soname: Some(soname),
-    }))
+    Ok(Some(Stamp { id, analysis }))
 }
 
 fn id_in(record: &[u8]) -> Id
@@ -160,6 +149,18 @@ fn id_in(record: &[u8]) -> Id
     }
 }
 
+fn fields_in(record: &[u8]) -> AnalysisFields
+    requires { 48 ≤ length «record».now }
+    ensures { result ≡ fields_in «record».now }
+{
+    AnalysisFields {
+        flags: u32_at(record, 32),
+        offset: u32_at(record, 36),
+        code: u32_at(record, 40),
+        value: u32_at(record, 44),
+    }
+}
+
 // Whether an identity is greater than the one before, if there is one.
 fn follows(before: Option<Id>, id: &Id) -> bool
     ensures { result ≡ follows before id.now }
@@ -168,15 +169,4 @@ fn follows(before: Option<Id>, id: &Id) -> bool
         Some(last) => compare(&last, id).is_lt(),
         None => true,
     }
-}
-
-// The string at an offset.
-#[tactic(auto, using(std::proofs::lemmas::List::drop_all))]
-fn string_at(strings: &[u8], offset: usize) -> &[u8]
-    ensures { result.now ≡ string_at strings.now offset }
-{
-    if offset >= strings.len() {
-        return b"";
-    }
-    before_byte(0, &strings[offset..])
 }

@@ -7,7 +7,7 @@ ghost use Rattle.aux_cache.specs.Stamps.{IsSortedById, put, stamp_of};
 ghost use Rattle.aux_cache.specs.Index.{IsIndexOf, IsGapFor};
 
 use crate::order::compare;
-use lib_types::{Abi, NoMemory, Text};
+use lib_types::{Analysis, NoMemory};
 use std::alloc::Global;
 use std::cmp::Ordering;
 use std::marker::Model;
@@ -16,13 +16,11 @@ use tree_face::Id;
 /// The maximum number of stamps in a file: one for each node that a tree may have.
 pub const STAMPS_MAX: usize = 1 << 20;
 
-/// The cached ELF information of a library, with the identity of the library's file.
+/// The cached ELF information of a file, with the file's identity.
 #[derive(Drop)]
 pub struct Stamp {
     pub id: Id,
-    pub abi: Abi,
-    /// The library's DT_SONAME, if it has one.
-    pub soname: Option<Text>,
+    pub analysis: Analysis,
 }
 
 /// Stamps with distinct identities. Contracts see the list of the stamps, sorted by identity.

@@ -1,28 +1,28 @@
 //! Writes stamps into a file.
 ghost use Rattle.std.specs.Prelude.{◌≡◌, ◌∷◌, ◌++◌, ◌≤◌, [], length, map, flat_map, All, None, IfOk, OnOk};
 ghost use Rattle.cache_layout.specs.Layout.{laid_out};
-ghost use Rattle.lib_types.specs.Abi.{flags_of};
 ghost use Rattle.string_pool.specs.InOrder.{place_of};
 ghost use Rattle.aux_cache.specs.AuxFile.{damage, stamps_in};
 ghost use Rattle.aux_cache.specs.AuxLayout.{record_fields};
-ghost use Rattle.aux_cache.specs.AuxText.{aux_text, header, record_bytes};
+ghost use Rattle.aux_cache.specs.AuxText.{aux_text, header, numbers_of, record_bytes};
 ghost use Rattle.aux_cache.specs.Numbers.{HasNumber};
 ghost use Rattle.aux_cache.specs.Range.{AreNumbers, IsInRange, AreInRange};
-ghost use Rattle.aux_cache.specs.Stamps.{HaveNames};
+ghost use Rattle.aux_cache.specs.Stamps.{AreRecordable, IsRecordable};
 ghost use Rattle.aux_cache.specs.declared.stamps.TheConstants.{STAMPS_MAX};
 
-use crate::layout::{HEADER_SIZE, MAGIC, RECORD_SIZE};
+use crate::fields::{AnalysisFields, fields_of};
+use crate::layout::{HEADER_SIZE, RECORD_SIZE, Version};
 use crate::numbers::{NumberedStamp, number_stamps};
 use crate::{STAMPS_MAX, Stamps};
 use byteorder::{ByteOrder, LittleEndian};
-use lib_types::{Abi, NoMemory};
+use lib_types::NoMemory;
 use std::alloc::Global;
 use string_pool::{Pool, Texts};
 
 /// The bytes of an auxiliary cache file with these stamps.
 pub fn write(alloc: Global, stamps: &Stamps) -> Result<Vec<u8>, NoMemory>
     requires few { length stamps.now ≤ STAMPS_MAX }
-    requires names { HaveNames stamps.now }
+    requires recordable { AreRecordable stamps.now }
     ensures bytes { IfOk result (λ bytes. bytes.items ≡ aux_text stamps.now) }
     ensures undamaged { IfOk result (λ bytes. damage bytes.items ≡ None) }
     ensures read_back { IfOk result (λ bytes. stamps_in bytes.items ≡ stamps.now) }
@@ -44,7 +44,7 @@ pub fn write(alloc: Global, stamps: &Stamps) -> Result<Vec<u8>, NoMemory>
 fn put_header(out: &mut Vec<u8>, records: u32, strings: u32) -> Result<(), NoMemory>
     ensures { OnOk result (out.new.items ≡ out.old.items ++ header records strings) }
 {
-    out.extend_from_slice(MAGIC)?;
+    out.extend_from_slice(Version::V1_1.magic())?;
     out.extend_from_slice(&records.to_le_bytes())?;
     out.extend_from_slice(&strings.to_le_bytes())?;
     Ok(())
@@ -55,7 +55,8 @@ fn put_records(
     strings: &Pool<'_>,
     stamps: &[NumberedStamp<'_>],
 ) -> Result<(), NoMemory>
-    requires { All (HasNumber strings.now.texts) stamps.now }
+    requires numbers { All (HasNumber strings.now.texts) stamps.now }
+    requires recordable { AreRecordable (map (λ s. s.stamp.now) stamps.now) }
     ensures bytes { OnOk result (out.new.items ≡ out.old.items ++ flat_map (λ s. record_bytes (place_of strings.now) s.stamp.now) stamps.now) }
     ensures range { OnOk result (AreInRange (map (λ s. s.stamp.now) stamps.now)) }
 {
@@ -71,45 +72,34 @@ fn put_record(
     strings: &Pool<'_>,
     numbered: &NumberedStamp<'_>,
 ) -> Result<(), NoMemory>
-    requires { HasNumber strings.now.texts numbered.now }
+    requires number { HasNumber strings.now.texts numbered.now }
+    requires recordable { IsRecordable numbered.now.stamp.now.analysis }
     ensures bytes { OnOk result (out.new.items ≡ out.old.items ++ record_bytes (place_of strings.now) numbered.now.stamp.now) }
     ensures range { OnOk result (IsInRange numbered.now.stamp.now) }
 {
     let stamp = numbered.stamp;
     let offset = strings.offset(numbered.soname);
     let id = &stamp.id;
-    let fields = fields_of(
-        id.inode,
-        id.ctime,
-        id.size,
-        id.dev,
-        flags(stamp.abi),
-        offset,
-    );
-    out.extend_from_slice(&fields)?;
+    let fields = fields_of(&stamp.analysis, offset);
+    let bytes = bytes_of(id.inode, id.ctime, id.size, id.dev, fields);
+    out.extend_from_slice(&bytes)?;
     Ok(())
 }
 
-fn flags(abi: Abi) -> u32
-    ensures { result ≡ flags_of abi }
-{
-    abi.flags() as u32
-}
-
-// The fields of a record. The last two are unused.
-fn fields_of(
+// The bytes of a record.
+fn bytes_of(
     inode: u64,
     ctime: u64,
     size: u64,
     dev: u64,
-    flags: u32,
-    offset: u32,
+    fields: AnalysisFields,
 ) -> [u8; RECORD_SIZE]
-    ensures numbers { result ≡ laid_out record_fields (inode ∷ ctime ∷ size ∷ dev ∷ flags ∷ offset ∷ 0 ∷ 0 ∷ []) }
+    ensures numbers { result ≡ laid_out record_fields (inode ∷ ctime ∷ size ∷ dev ∷ numbers_of fields) }
     ensures range { AreNumbers inode ctime size dev }
 {
+    let numbers = [fields.flags, fields.offset, fields.code, fields.value];
     let mut bytes = [0; RECORD_SIZE];
     LittleEndian::write_u64_into(&[inode, ctime, size, dev], &mut bytes[..32]);
-    LittleEndian::write_u32_into(&[flags, offset, 0, 0], &mut bytes[32..]);
+    LittleEndian::write_u32_into(&numbers, &mut bytes[32..]);
     bytes
 }

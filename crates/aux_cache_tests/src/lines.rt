@@ -1,8 +1,8 @@
 //! Stamps in the notation of the rows.
 use aux_cache::{AuxFault, STAMPS_MAX, Stamp, Stamps, read, write};
-use lib_types::{Abi, NoMemory, Text};
+use lib_types::{Abi, Analysis, Defect, NoMemory, Text};
 use std::alloc::Global;
-use table_rows::{Row, Said, divide, number};
+use table_rows::{Differences, Row, divide, number};
 use tree_face::Id;
 
 /// The identity `DEV INODE CTIME SIZE`, and the rest of the line.
@@ -20,17 +20,53 @@ pub(crate) fn id_of(line: &[u8]) -> (Id, &[u8]) {
     (id, rest)
 }
 
-// `DEV INODE CTIME SIZE ABI SONAME`, where `-` means no soname.
-fn stamp_of(alloc: Global, line: &[u8]) -> Result<Stamp, NoMemory> {
-    let (id, rest) = id_of(line);
-    let (word, name) = divide(b' ', rest);
-    let soname = if name == b"-".as_slice() {
+// The defect with this name and this number, if it has one.
+fn defect_of(text: &[u8]) -> Defect {
+    let (name, digits) = divide(b' ', text);
+    let number = number(digits);
+    let defects = [
+        Defect::NotElf,
+        Defect::TooShort { length: number },
+        Defect::BadClass { value: number },
+        Defect::BadData { value: number },
+        Defect::BadMachine { number },
+        Defect::NotShared { etype: number },
+        Defect::BadPhdrs,
+        Defect::NoDynamic,
+        Defect::DynOutside,
+        Defect::NoStrtab,
+        Defect::OutsideLoad,
+        Defect::BadString { tag: number },
+        Defect::BadSoname,
+    ];
+    for defect in &defects {
+        if defect.name() == name {
+            return *defect;
+        }
+    }
+    Defect::Unsearchable
+}
+
+// `ABI SONAME`, where `-` means no soname, or `not DEFECT`.
+fn analysis_of(alloc: Global, text: &[u8]) -> Result<Analysis, NoMemory> {
+    let (word, rest) = divide(b' ', text);
+    if word == b"not".as_slice() {
+        return Ok(Analysis::Not(defect_of(rest)));
+    }
+    let soname = if rest == b"-".as_slice() {
         None
     } else {
-        Some(Text::copy_of(alloc, name)?)
+        Some(Text::copy_of(alloc, rest)?)
     };
     let abi = Abi::of_word(word).unwrap_or(Abi::X86_64);
-    Ok(Stamp { id, abi, soname })
+    Ok(Analysis::Lib { abi, soname })
+}
+
+// `DEV INODE CTIME SIZE` and an analysis
+fn stamp_of(alloc: Global, line: &[u8]) -> Result<Stamp, NoMemory> {
+    let (id, rest) = id_of(line);
+    let analysis = analysis_of(alloc, rest)?;
+    Ok(Stamp { id, analysis })
 }
 
 /// The stamps of the lines `stamp`, put in reverse order. Each replaces an earlier one with its identity.
@@ -41,8 +77,7 @@ pub(crate) fn stamps_of(alloc: Global, row: Row<'_>) -> Result<Stamps, NoMemory>
         if word == b"stamp".as_slice() {
             stamps.insert(Stamp {
                 id: id_of(rest).0,
-                abi: Abi::X32,
-                soname: None,
+                analysis: Analysis::Not(Defect::NotElf),
             })?;
             stamps.insert(stamp_of(alloc, rest)?)?;
         }
@@ -60,8 +95,24 @@ fn same_sonames(a: &Option<Text>, b: &Option<Text>) -> bool {
     }
 }
 
+fn same_analyses(a: &Analysis, b: &Analysis) -> bool {
+    match a {
+        Analysis::Lib { abi, soname } => match b {
+            Analysis::Lib {
+                abi: other_abi,
+                soname: other_soname,
+            } => abi == other_abi && same_sonames(soname, other_soname),
+            Analysis::Not(_) => false,
+        },
+        Analysis::Not(defect) => match b {
+            Analysis::Lib { .. } => false,
+            Analysis::Not(other) => defect == other,
+        },
+    }
+}
+
 fn is_same(a: &Stamp, b: &Stamp) -> bool {
-    a.id == b.id && a.abi == b.abi && same_sonames(&a.soname, &b.soname)
+    a.id == b.id && same_analyses(&a.analysis, &b.analysis)
 }
 
 // Whether both have the same stamp at this index, and for its identity.
@@ -85,9 +136,9 @@ pub(crate) fn have_same(
     alloc: Global,
     want: &Stamps,
     got: &Stamps,
-    said: &mut Said,
+    differences: &mut Differences,
 ) -> Result<bool, NoMemory> {
-    let mut same = said.is_number(alloc, b"stamps", want.len() as u64, got.len() as u64)?;
+    let mut same = differences.is_number(alloc, b"stamps", want.len() as u64, got.len() as u64)?;
     for index in 0..want.len() {
         same = same && same_at(want, got, index);
     }

@@ -1,9 +1,9 @@
 //! Many stamps.
 use crate::lines::{Outcome, have_same, read_back};
 use aux_cache::{Stamp, Stamps};
-use lib_types::{Abi, NoMemory, Text};
+use lib_types::{Abi, Analysis, NoMemory, Text};
 use std::alloc::Global;
-use table_rows::{Row, Said, Trial, Words, count};
+use table_rows::{Differences, Row, Trial, Words, count};
 use tree_face::Id;
 
 /// A row has the number of stamps, which are put in order, and the number of different sonames. The test builds their file by its format.
@@ -30,8 +30,10 @@ fn stamps_of(alloc: Global, stamps: u64, sonames: u64) -> Result<Stamps, NoMemor
                 ctime: 2,
                 size: 3,
             },
-            abi: Abi::Aarch64,
-            soname: Some(soname(alloc, soname_of(number, sonames))?),
+            analysis: Analysis::Lib {
+                abi: Abi::Aarch64,
+                soname: Some(soname(alloc, soname_of(number, sonames))?),
+            },
         })?;
     }
     Ok(made)
@@ -72,7 +74,7 @@ fn file_of(alloc: Global, stamps: u64, sonames: u64) -> Result<Vec<u8>, NoMemory
     let strings = strings_of(alloc, sonames)?;
     let len = u32::try_from(strings.bytes.len()).unwrap_or(0);
     let mut file = Vec::new(alloc);
-    file.extend_from_slice(b"glibc-ld.so.auxcache-1.0")?;
+    file.extend_from_slice(b"glibc-ld.so.auxcache-1.1")?;
     file.extend_from_slice(&u32::try_from(stamps).unwrap_or(0).to_le_bytes())?;
     file.extend_from_slice(&len.to_le_bytes())?;
     for number in 0..stamps {
@@ -94,16 +96,20 @@ impl Trial for Series {
         WORDS
     }
 
-    fn is_right(alloc: Global, row: Row<'_>, said: &mut Said) -> Result<bool, NoMemory> {
+    fn is_right(
+        alloc: Global,
+        row: Row<'_>,
+        differences: &mut Differences,
+    ) -> Result<bool, NoMemory> {
         let (stamps, sonames) = (count(row, b"stamps"), count(row, b"sonames"));
         let file = file_of(alloc, stamps, sonames)?;
         let made = stamps_of(alloc, stamps, sonames)?;
         match read_back(alloc, &file)? {
             Outcome::Read(got) => {
-                Ok(have_same(alloc, &made, &got.stamps, said)? && got.written == file)
+                Ok(have_same(alloc, &made, &got.stamps, differences)? && got.written == file)
             }
             Outcome::Damaged(at) => {
-                said.is_number(alloc, b"damaged", 0, at)?;
+                differences.is_number(alloc, b"damaged", 0, at)?;
                 Ok(false)
             }
         }

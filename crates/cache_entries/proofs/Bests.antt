@@ -55,14 +55,14 @@ one_best files soname = by_test (is_in (sonames files) soname)
 
 no_winner : (files links : List Library) (soname : List ℕ) → is_in (names_of (files ++ (named_links links ++ other_links links))) soname ≡ false → winner files links soname ≡ None
 no_winner files links soname h =
-    let both = apart (is_in (names_of files) soname) _ (sym (in_more files (named_links links ++ other_links links) soname) ∙ h) in
-    let each = apart (is_in (names_of (named_links links)) soname) _ (sym (in_more (named_links links) (other_links links) soname) ∙ both.1) in
+    let both = differ (is_in (names_of files) soname) _ (sym (in_more files (named_links links ++ other_links links) soname) ∙ h) in
+    let each = differ (is_in (names_of (named_links links)) soname) _ (sym (in_more (named_links links) (other_links links) soname) ∙ both.1) in
     ap (λ o. or_else o (or_else (best (named_links links) soname) (best (other_links links) soname))) (none_best files soname both.0)
     ∙ ap (λ o. or_else o (best (other_links links) soname)) (none_best (named_links links) soname each.0) ∙ none_best (other_links links) soname each.1
   where
-    apart : (a b : Bool) → (a || b) ≡ false → (a ≡ false) × (b ≡ false)
-    apart true b h = absurd (cc)
-    apart false b h = (refl, h)
+    differ : (a b : Bool) → (a || b) ≡ false → (a ≡ false) × (b ≡ false)
+    differ true b h = absurd (cc)
+    differ false b h = (refl, h)
 
 pub one_winner : (files links : List Library) (soname : List ℕ) → filter (has_soname soname) (winners_among files links) ≡ cons_option (winner files links soname) []
 one_winner files links soname =

@@ -41,7 +41,7 @@ use Rattle.path_walk.specs.Files.{file_at, is_file}
 use Rattle.library_files.specs.Search.{followed_by, followed_in, link_with}
 use Rattle.library_files.specs.Link.{FollowedLink}
 use Rattle.file_table.specs.Analyses.{Analyses, HaveNames}
-use Rattle.cache_entries.specs.Winner.{has_own_name, library_behind, linked, links_to_libraries, named, named_links, or_else, other_links, unnamed, winner, winners_in}
+use Rattle.cache_entries.specs.Winner.{has_own_name, library_after, linked, links_to_libraries, named, named_links, or_else, other_links, unnamed, winner, winners_in}
 use Rattle.place_libraries.specs.Library.{Library}
 
 -- ---- the libraries that links lead to
@@ -81,7 +81,7 @@ module _ (t : Nodes) where
 
   module _ (what : Analyses) (names : HaveNames what) where
     linked_named : (name : List ℕ) (library : Library) (file : Option (List ℕ)) → is_name name ≡ true → is_led file ≡ true
-        → library_behind what name file ≡ Some library → has_names library ≡ true
+        → library_after what name file ≡ Some library → has_names library ≡ true
     linked_named name library None n l e = absurd (cc)
     linked_named name library (Some file) n l e = at_named what names file name (last file) library (what file) n l refl e
 

@@ -118,10 +118,10 @@ module _ (soname : List ℕ) (file : Library) (files : List Library) (up : AreSo
   -- Looking up a soname gives the file if it has the soname, otherwise a later file or link.
   file_first : (links : List Library) → at (file ∷ merged files links) soname ≡ or_else (at (file ∷ files) soname) (at links soname)
   file_first links =
-      let behind = rest links in
+      let following = rest links in
       elim (bytes_eq file.soname soname) as (λ b. cond b (Some file) (at (merged files links) soname) ≡ or_else (cond b (Some file) (at files soname)) (at links soname)) [
         | true ↦ refl
-        | false ↦ behind
+        | false ↦ following
       ]
 
   placed_at : (links : List Library) → IsMergedAt soname (file ∷ files) links
@@ -167,7 +167,7 @@ module _ (file : Library) (files : List Library) (up : AreSorted (names_of (file
   -- the file comes before the merged rest, if it comes before these links
   file_then : (links : List Library) → Meet (λ y. cmp file.soname y ≡ Less) links → AreSorted (names_of links) → AreSorted (names_of (file ∷ merged files links))
   unfolding IsStrictlySortedBy
-  file_then links behind s = (merged_meet (λ y. cmp file.soname y ≡ Less) files links up.0 behind, rest links s)
+  file_then links following s = (merged_meet (λ y. cmp file.soname y ≡ Less) files links up.0 following, rest links s)
 
   placed_sorted : (links : List Library) → AreSorted (names_of links) → AreSorted (names_of (merged (file ∷ files) links))
   unfolding IsStrictlySortedBy

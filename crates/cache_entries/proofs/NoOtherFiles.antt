@@ -15,22 +15,22 @@ use Rattle.place_libraries.specs.Libraries.{libraries_in, library_by}
 use Rattle.library_files.specs.Search.{files_of, folder_links, followed, followed_in, reached, wanted}
 use Rattle.library_files.specs.Link.{FollowedLink}
 use Rattle.cache_entries.specs.Entries.{entry_of, found}
-use Rattle.cache_entries.specs.Winner.{library_behind, linked, links_to_libraries, winners_among, winners_in}
+use Rattle.cache_entries.specs.Winner.{library_after, linked, links_to_libraries, winners_among, winners_in}
 
 module _ (what new : Analyses) where
-  abbrev behind : List FollowedLink → List (List ℕ)
-  behind links = filter_map (λ link. link.file) links
+  abbrev following : List FollowedLink → List (List ℕ)
+  following links = filter_map (λ link. link.file) links
 
-  same_links : (links : List FollowedLink) → AgreeOn (behind links) what new → filter_map (linked new) links ≡ filter_map (linked what) links
+  same_links : (links : List FollowedLink) → AgreeOn (following links) what new → filter_map (linked new) links ≡ filter_map (linked what) links
   same_links [] same = refl
-  same_links (link ∷ links) same = elim link.file as (λ o. AgreeOn (cons_option o (behind links)) what new
-      → cons_option (library_behind new link.name o) (filter_map (linked new) links) ≡ cons_option (library_behind what link.name o) (filter_map (linked what) links)) [
+  same_links (link ∷ links) same = elim link.file as (λ o. AgreeOn (cons_option o (following links)) what new
+      → cons_option (library_after new link.name o) (filter_map (linked new) links) ≡ cons_option (library_after what link.name o) (filter_map (linked what) links)) [
         | None ↦ λ s. same_links links s
         | Some file ↦ λ s.
-            let here : library_behind new link.name (Some file) ≡ library_behind what link.name (Some file) =
-            ap (option_and_then (library_by link.name (last file))) (s file (or_left (bytes_eq file file) (is_in (behind links) file) (itself file))) in
-            let rest = same_links links (λ q h. s q (or_right (bytes_eq q file) (is_in (behind links) q) h)) in
-            ap (λ o. cons_option o (filter_map (linked new) links)) here ∙ ap (cons_option (library_behind what link.name (Some file))) rest
+            let here : library_after new link.name (Some file) ≡ library_after what link.name (Some file) =
+            ap (option_and_then (library_by link.name (last file))) (s file (or_left (bytes_eq file file) (is_in (following links) file) (itself file))) in
+            let rest = same_links links (λ q h. s q (or_right (bytes_eq q file) (is_in (following links) q) h)) in
+            ap (λ o. cons_option o (filter_map (linked new) links)) here ∙ ap (cons_option (library_after what link.name (Some file))) rest
       ] same
 
   module _ (t : Nodes) where

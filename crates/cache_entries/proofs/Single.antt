@@ -78,8 +78,8 @@ module _ (what : Analyses) (t : Nodes) where
         ] refl
 
     -- the entry of a later search directory
-    behind : (entry : Entry) → IsFoundAt (first + 1) places entry → IsFoundAt first (place ∷ places) entry
-    behind entry is =
+    following : (entry : Entry) → IsFoundAt (first + 1) places entry → IsFoundAt first (place ∷ places) entry
+    following entry is =
         let from = is.from in
         let other : nat_eq first entry.place ≡ false = grind (arith, nat_tests) in
         record { from = omega (arith, from); at = rw other is.at }
@@ -89,7 +89,7 @@ module _ (what : Analyses) (t : Nodes) where
   each_found (place ∷ places) first =
       All-append (IsFoundAt first (place ∷ places)) (entries_in what t first place) (by_place (entries_in what t) (first + 1) places)
       (each_here first place places _)
-      (λ k d within. behind first place places _ (each_found places (first + 1) k d within))
+      (λ k d within. following first place places _ (each_found places (first + 1) k d within))
 
   -- Entries that compare equal have one soname and one search directory, so they are equal.
   pub tied_same : (first : ℕ) (places : List Place) (x y : Entry) → IsFoundAt first places x → IsFoundAt first places y → entry_order x y ≡ Equal → x ≡ y

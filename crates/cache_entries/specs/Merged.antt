@@ -8,9 +8,9 @@ use Rattle.place_libraries.specs.Library.{Library}
 
 -- A file merged with links and later files. Links with a smaller soname come before the file. A link with the file's soname is dropped.
 abbrev pub placed : Library → (List Library → List Library) → List Library → List Library
-placed file behind [] = file ∷ behind []
-placed file behind (link ∷ links) =
-    match_ordering (slice_cmp nat_cmp link.soname file.soname) (link ∷ placed file behind links) (file ∷ behind links) (file ∷ behind (link ∷ links))
+placed file following [] = file ∷ following []
+placed file following (link ∷ links) =
+    match_ordering (slice_cmp nat_cmp link.soname file.soname) (link ∷ placed file following links) (file ∷ following links) (file ∷ following (link ∷ links))
 
 -- files and links merged by soname; if both have a soname, the file is taken
 abbrev pub merged : List Library → List Library → List Library

@@ -15,12 +15,12 @@ use Rattle.library_files.specs.Link.{FollowedLink}
 -- ---- links to libraries
 
 -- the library that a link leads to, with the link's name
-abbrev pub library_behind : Analyses → List ℕ → Option (List ℕ) → Option Library
-library_behind what name (Some file) = library_at what file name (last file)
-library_behind what name None = None
+abbrev pub library_after : Analyses → List ℕ → Option (List ℕ) → Option Library
+library_after what name (Some file) = library_at what file name (last file)
+library_after what name None = None
 
 abbrev pub linked : Analyses → FollowedLink → Option Library
-linked what link = library_behind what link.name link.file
+linked what link = library_after what link.name link.file
 
 -- the links of a search directory that have library names and lead to libraries
 abbrev pub links_to_libraries : Analyses → Nodes → Place → List Library

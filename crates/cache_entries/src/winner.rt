@@ -19,7 +19,7 @@ use std::alloc::Global;
 // ---- links to libraries
 
 // The soname in a file's analysis. If it has none, the file's own name, which is extracted only in this case.
-fn soname_behind<'a>(soname: &'a Option<Text>, file: &'a [u8]) -> &'a [u8]
+fn soname_after<'a>(soname: &'a Option<Text>, file: &'a [u8]) -> &'a [u8]
     ensures { result.now ≡ unwrap_or soname.now (last file.now) }
 {
     match soname {
@@ -29,13 +29,13 @@ fn soname_behind<'a>(soname: &'a Option<Text>, file: &'a [u8]) -> &'a [u8]
 }
 
 // The library that a name leads to, given the path of its file.
-fn library_behind<'a>(table: &'a Table, name: &'a [u8], file: &'a [u8]) -> Option<Library<'a>>
+fn library_after<'a>(table: &'a Table, name: &'a [u8], file: &'a [u8]) -> Option<Library<'a>>
     ensures { result ≡ library_at (analysis_at table.now) file.now name.now (last file.now) }
 {
     match table.get(file) {
         Some(Analysis::Lib { abi, soname }) => Some(Library {
             name,
-            soname: soname_behind(soname, file),
+            soname: soname_after(soname, file),
             abi: *abi,
         }),
         Some(Analysis::Not(_)) | None => None,
@@ -46,7 +46,7 @@ fn library_behind<'a>(table: &'a Table, name: &'a [u8], file: &'a [u8]) -> Optio
 pub(crate) fn linked<'a>(table: &'a Table, link: &FollowedLink<'a>) -> Option<Library<'a>>
     ensures { result ≡ linked (analysis_at table.now) link.now }
 {
-    library_behind(table, link.name, link.file?)
+    library_after(table, link.name, link.file?)
 }
 
 // ---- the classes

@@ -28,9 +28,9 @@ reads_back (size ∷ sizes) (n ∷ ns) rest (suc i) fit h =
     let place = sum (take i sizes) in
     let width = slice_index sizes i in
     let zero_add : 0 + size ≡ size = omega arith in
-    let behind : drop size (little_bytes size n ++ tail) ≡ tail = drop_at (little_bytes size n) tail size (length-bytes_low_first 0 size n) in
+    let following : drop size (little_bytes size n ++ tail) ≡ tail = drop_at (little_bytes size n) tail size (length-bytes_low_first 0 size n) in
     ap (λ k. field ((little_bytes size n ++ laid_out sizes ns) ++ rest) k width) (sum_from (0 + size) (take i sizes) ∙ ap (λ k. k + place) zero_add)
     ∙ ap (λ xs. field xs (size + place) width) (append_assoc (little_bytes size n) (laid_out sizes ns) rest)
     ∙ sym (drop_from place width size (little_bytes size n ++ tail))
-    ∙ ap (λ xs. field xs place width) behind
+    ∙ ap (λ xs. field xs place width) following
     ∙ reads_back sizes ns rest i fit.1 (omega arith)

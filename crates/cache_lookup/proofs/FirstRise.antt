@@ -6,7 +6,7 @@ use Rattle.name_order.specs.Order.{token_order}
 use Rattle.cache_lookup.specs.Scan.{AreDescending, IsFirstRise}
 use Rattle.cache_reader.specs.Cache.{CachedEntry, defect, read}
 use Rattle.cache_reader.specs.declared.defect.CacheDefect.TheVariants.{Unsorted}
-use Rattle.cache_lookup.specs.Sorted.{first_rise, rise_behind, sorted_in}
+use Rattle.cache_lookup.specs.Sorted.{first_rise, rise_after, sorted_in}
 
 -- the name at one index is below the name at another
 abbrev below : List CachedEntry → ℕ → ℕ → CachedEntry → Bool
@@ -17,11 +17,11 @@ next k = omega arith
 
 -- ---- names that don't rise
 
-never : (e : CachedEntry) (entries : List CachedEntry) → ((k : ℕ) (d : CachedEntry) → suc k < length (e ∷ entries) → below (e ∷ entries) k (suc k) d ≡ false) → rise_behind e.name entries ≡ None
+never : (e : CachedEntry) (entries : List CachedEntry) → ((k : ℕ) (d : CachedEntry) → suc k < length (e ∷ entries) → below (e ∷ entries) k (suc k) d ≡ false) → rise_after e.name entries ≡ None
 never e [] falls = refl
 never e (n ∷ entries) falls =
     let here : is_lt (token_order e.name n.name) ≡ false = falls zero n (omega arith) in
-    let rest : rise_behind n.name entries ≡ None = never n entries (λ k d within. falls (suc k) d (omega (arith, within))) in
+    let rest : rise_after n.name entries ≡ None = never n entries (λ k d within. falls (suc k) d (omega (arith, within))) in
     rw (here, rest) refl
 
 pub no_rise : (entries : List CachedEntry) → AreDescending entries → first_rise entries ≡ None
@@ -31,14 +31,14 @@ no_rise (e ∷ entries) falls = ap (option_map suc) (never e entries (λ k d wit
 -- ---- a first rise
 
 found : (i : ℕ) (e : CachedEntry) (entries : List CachedEntry) → i < length entries → ((k : ℕ) (d : CachedEntry) → k < i → below (e ∷ entries) k (suc k) d ≡ false)
-    → ((d : CachedEntry) → below (e ∷ entries) i (suc i) d ≡ true) → rise_behind e.name entries ≡ Some i
+    → ((d : CachedEntry) → below (e ∷ entries) i (suc i) d ≡ true) → rise_after e.name entries ≡ Some i
 found i e [] within before here = absurd (omega (arith, within))
 found zero e (n ∷ entries) within before here =
     let first : is_lt (token_order e.name n.name) ≡ true = here n in
     rw first refl
 found (suc i) e (n ∷ entries) within before here =
     let first : is_lt (token_order e.name n.name) ≡ false = before zero n (omega arith) in
-    let rest : rise_behind n.name entries ≡ Some i = found i n entries (omega (arith, within)) (λ k d less. before (suc k) d (omega (arith, less))) here in
+    let rest : rise_after n.name entries ≡ Some i = found i n entries (omega (arith, within)) (λ k d less. before (suc k) d (omega (arith, less))) here in
     rw (first, rest) refl
 
 falls_before : (entries : List CachedEntry) (index k : ℕ) (d : CachedEntry) → IsFirstRise entries index → k + 1 < index → below entries k (k + 1) d ≡ false
@@ -51,7 +51,7 @@ rises_at entries i d first = let same : suc i - 1 ≡ i = omega arith in subst (
 
 first_is : (entries : List CachedEntry) (index : ℕ) → IsFirstRise entries index → first_rise entries ≡ Some index
 first_is [] index first = absurd (omega (arith, first.within))
-first_is (e ∷ entries) zero first = absurd (omega (arith, first.behind))
+first_is (e ∷ entries) zero first = absurd (omega (arith, first.following))
 first_is (e ∷ entries) (suc i) first = ap (option_map suc) (found i e entries (omega (arith, first.within))
     (λ k d less. subst (λ n. below (e ∷ entries) k n d ≡ false) (next k) (falls_before (e ∷ entries) (suc i) k d first (omega (arith, less)))) (λ d. rises_at (e ∷ entries) i d first))
 

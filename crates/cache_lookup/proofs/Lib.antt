@@ -2,7 +2,7 @@ mod FirstRise
 mod Halving
 mod Indexed
 mod Least
+mod NameOrders
 mod Positions
 mod Rises
 mod Runs
-mod Standing

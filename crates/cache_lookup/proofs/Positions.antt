@@ -19,8 +19,8 @@ shifted m n = ap is_le (compare.suc-suc (suc m) n)
 pub position-cons : {X : Type 0} (p : X → Bool) (x : X) (xs : List X) → position p (x ∷ xs) ≡ cond (p x) (Some 0) (option_map suc (position p xs))
 position-cons {X} p x xs = by (p x) refl
   where
-    behind : (n : ℕ) → cond (nat_lt (1 + n) (suc (length xs))) (Some (1 + n)) None ≡ option_map suc (cond (nat_lt n (length xs)) (Some n) None)
-    behind n = rw (one-add n, shifted n (length xs)) (step (nat_lt n (length xs)))
+    following : (n : ℕ) → cond (nat_lt (1 + n) (suc (length xs))) (Some (1 + n)) None ≡ option_map suc (cond (nat_lt n (length xs)) (Some n) None)
+    following n = rw (one-add n, shifted n (length xs)) (step (nat_lt n (length xs)))
       where
         step : (b : Bool) → cond b (Some (suc n)) None ≡ option_map suc (cond b (Some n) None)
         step true = refl
@@ -28,7 +28,7 @@ position-cons {X} p x xs = by (p x) refl
 
     by : (b : Bool) → p x ≡ b → position p (x ∷ xs) ≡ cond b (Some 0) (option_map suc (position p xs))
     by true e = let first : nat_lt 0 (suc (length xs)) ≡ true = grind (arith, nat_tests) in rw (e, first) refl
-    by false e = rw e (behind (position_or_len p xs))
+    by false e = rw e (following (position_or_len p xs))
 
 -- the index of the first item that passes the test
 pub first_is : {X : Type 0} (p : X → Bool) (xs : List X) (i : ℕ) → i < length xs → ((d : X) → p (get_or xs i d) ≡ true) → ((k : ℕ) (d : X) → k < i → p (get_or xs k d) ≡ false) → position p xs ≡ Some i

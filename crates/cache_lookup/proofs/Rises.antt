@@ -8,7 +8,7 @@ use Rattle.cache_reader.specs.Cache.{CachedEntry}
 use Rattle.cache_lookup.specs.Scan.{IsFirstRise}
 use Rattle.cache_lookup.specs.Searches.{AreDescendingTo, IsNameAt}
 
-module _ (entries : List CachedEntry) (i : ℕ) (before name : List ℕ) (behind : 1 ≤ i) (within : i < length entries) (so_far : AreDescendingTo entries i)
+module _ (entries : List CachedEntry) (i : ℕ) (before name : List ℕ) (following : 1 ≤ i) (within : i < length entries) (so_far : AreDescendingTo entries i)
     (above : IsNameAt entries (i - 1) before) (here : IsNameAt entries i name) where
   same_before : (k : ℕ) (d : CachedEntry) → k + 1 ≡ i → (get_or entries k d).name ≡ before
   same_before k d e = let same : i - 1 ≡ k = omega (arith, e) in subst (λ n. (get_or entries n d).name ≡ before) same (above d)
@@ -26,7 +26,7 @@ module _ (entries : List CachedEntry) (i : ℕ) (before name : List ℕ) (behind
   -- the first entry whose name rises
   pub first : is_lt (token_order before name) ≡ true → IsFirstRise entries i
   first rises = record {
-    behind = omega arith;
+    following = omega arith;
     within = within;
     before = λ k d from to.
         let size = length-take i entries in

@@ -16,7 +16,7 @@ use Rattle.std.proofs.Math.Decide.{dec_lt}
 use Rattle.lib_types.specs.Counts.{raised}
 use Rattle.tree_face.proofs.StoreUse.{raised-add, raised-mono}
 use Rattle.cache_lookup.proofs.Least.{blank, least_rest, no_rank}
-use Rattle.cache_lookup.proofs.Standing.{unequal}
+use Rattle.cache_lookup.proofs.NameOrders.{unequal}
 
 -- ---- the number of these entries
 
@@ -57,9 +57,9 @@ module _ (name : List ℕ) (abi : Abi) (caps : List (List ℕ)) (entries : List 
   none_before start above = λ k d h. no_rank name abi caps (get_or entries k d) (above_unequal _ (above k d h))
 
   -- Starting with the first entry that is below the name, none of the entries is a candidate.
-  pub none_behind : AreDescending entries → (i : ℕ) (best : Option Choice) → i < length entries → IsLeast (rank_of name abi caps) entries i best
+  pub none_after : AreDescending entries → (i : ℕ) (best : Option Choice) → i < length entries → IsLeast (rank_of name abi caps) entries i best
       → ((d : CachedEntry) → is_lt (order_to name (get_or entries i d)) ≡ true) → IsLeast (rank_of name abi caps) entries (length entries) best
-  none_behind sorted i best within least below =
+  none_after sorted i best within least below =
       let e : i + (length entries - i) ≡ length entries = omega arith in
       subst (λ n. IsLeast (rank_of name abi caps) entries n best) e
       (least_rest (rank_of name abi caps) entries i (length entries - i) best least (λ k d from to. no_rank name abi caps (get_or entries k d) (unequal entries sorted name i k d from (omega arith) (below d))))

@@ -58,7 +58,7 @@ AreDescending entries = IsSorted (flip_args (on name_of token_order)) entries
 
 -- the first entry whose name is greater than the name before it has this index
 pub record IsFirstRise (entries : List CachedEntry) (index : ℕ) : Type 0 where
-  pub behind : 0 < index
+  pub following : 0 < index
   pub within : index < length entries
   pub before : AreDescending (take index entries)
   pub rises : (d : CachedEntry) → is_lt (token_order (slice_index_or entries (index - 1) d).name (slice_index_or entries index d).name) ≡ true

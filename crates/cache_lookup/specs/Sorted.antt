@@ -7,14 +7,14 @@ use Rattle.cache_reader.specs.declared.defect.CacheDefect.TheVariants.{Unsorted}
 use Rattle.name_order.specs.Order.{token_order}
 
 -- the index of the first entry whose name is above its predecessor's; the predecessor of the first entry has this name
-abbrev pub rise_behind : List ℕ → List CachedEntry → Option ℕ
-rise_behind name [] = None
-rise_behind name (e ∷ entries) = if is_lt (token_order name e.name) then Some 0 else option_map suc (rise_behind e.name entries)
+abbrev pub rise_after : List ℕ → List CachedEntry → Option ℕ
+rise_after name [] = None
+rise_after name (e ∷ entries) = if is_lt (token_order name e.name) then Some 0 else option_map suc (rise_after e.name entries)
 
 -- the index of the first entry whose name is above its predecessor's, in the loader's order
 abbrev pub first_rise : List CachedEntry → Option ℕ
 first_rise [] = None
-first_rise (e ∷ entries) = option_map suc (rise_behind e.name entries)
+first_rise (e ∷ entries) = option_map suc (rise_after e.name entries)
 
 abbrev pub sorted_by : List CachedEntry → Option CacheDefect → Option ℕ → Result (List CachedEntry) CacheDefect
 sorted_by entries (Some d) rise = Err d

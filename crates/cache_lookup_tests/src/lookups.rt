@@ -4,7 +4,7 @@ use cache_reader::CacheView;
 use cache_rows::{ENTRIES, cache_of};
 use lib_types::{Abi, NoMemory, Texts};
 use std::alloc::Global;
-use table_rows::{Row, Said, Trial, Words, count, divide, list, number, value};
+use table_rows::{Differences, Row, Trial, Words, count, divide, list, number, value};
 
 /// A row has the entries of a cache, in order. A line `find` has an ABI, hwcaps names between colons (`-` for none), a name, and the path
 /// (`-` for none). `steps` has the most steps that each of these look-ups may take. `rises` has the index of the first entry whose name is
@@ -35,21 +35,21 @@ fn is_found(
     cache: &Sorted<'_>,
     line: &[u8],
     most: u64,
-    said: &mut Said,
+    differences: &mut Differences,
 ) -> Result<bool, NoMemory> {
     let (word, rest) = divide(b' ', line);
     let (caps, rest) = divide(b' ', rest);
     let (name, want) = divide(b' ', rest);
     let Some(abi) = Abi::of_word(word) else {
-        said.say(b"no ABI: ", word)?;
+        differences.say(b"no ABI: ", word)?;
         return Ok(false);
     };
     let (path, steps) = find(cache, name, abi, &caps_of(alloc, caps)?);
     if steps > most {
-        said.say(b"too many steps: ", line)?;
+        differences.say(b"too many steps: ", line)?;
         return Ok(false);
     }
-    said.is_same(line, want, path.unwrap_or(b"-"))
+    differences.is_same(line, want, path.unwrap_or(b"-"))
 }
 
 // Whether each line `find` has its result.
@@ -57,14 +57,14 @@ fn are_found(
     alloc: Global,
     cache: &Sorted<'_>,
     row: Row<'_>,
-    said: &mut Said,
+    differences: &mut Differences,
 ) -> Result<bool, NoMemory> {
     let most = count(row, b"steps");
     let mut are_found = true;
     for line in row {
         let (word, rest) = divide(b' ', *line);
         if word == b"find".as_slice() {
-            are_found = is_found(alloc, cache, rest, most, said)? && are_found;
+            are_found = is_found(alloc, cache, rest, most, differences)? && are_found;
         }
     }
     Ok(are_found)
@@ -74,19 +74,19 @@ fn try_cache(
     alloc: Global,
     view: CacheView<'_>,
     row: Row<'_>,
-    said: &mut Said,
+    differences: &mut Differences,
 ) -> Result<bool, NoMemory> {
     match (sorted(view), value(row, b"rises")) {
-        (Ok(cache), None) => are_found(alloc, &cache, row, said),
+        (Ok(cache), None) => are_found(alloc, &cache, row, differences),
         (Err(unsorted), Some(index)) => {
-            said.is_number(alloc, b"rises", number(index), u64::from(unsorted.entry))
+            differences.is_number(alloc, b"rises", number(index), u64::from(unsorted.entry))
         }
         (Ok(_), Some(_)) => {
-            said.say(b"the names don't rise", b"")?;
+            differences.say(b"the names don't rise", b"")?;
             Ok(false)
         }
         (Err(_), None) => {
-            said.say(b"the names rise", b"")?;
+            differences.say(b"the names rise", b"")?;
             Ok(false)
         }
     }
@@ -99,12 +99,16 @@ impl Trial for Lookups {
         WORDS
     }
 
-    fn is_right(alloc: Global, row: Row<'_>, said: &mut Said) -> Result<bool, NoMemory> {
+    fn is_right(
+        alloc: Global,
+        row: Row<'_>,
+        differences: &mut Differences,
+    ) -> Result<bool, NoMemory> {
         let bytes = cache_of(alloc, row)?;
         let Ok(view) = CacheView::parse(&bytes) else {
-            said.say(b"no cache", b"")?;
+            differences.say(b"no cache", b"")?;
             return Ok(false);
         };
-        try_cache(alloc, view, row, said)
+        try_cache(alloc, view, row, differences)
     }
 }

@@ -7,20 +7,20 @@ use Rattle.cache_reader.specs.Cache.{is_nul, is_ended}
 use Rattle.cache_reader.specs.Checks.{EndsAt}
 
 -- If the bytes have no NUL, their suffixes have none.
-none_behind : (k : ℕ) (xs : List ℕ) → list_any is_nul xs ≡ false → list_any is_nul (drop k xs) ≡ false
-none_behind zero xs h = h
-none_behind (suc k) [] h = h
-none_behind (suc k) (x ∷ xs) h = none_behind k xs (without (is_nul x) (list_any is_nul xs) h)
+none_after : (k : ℕ) (xs : List ℕ) → list_any is_nul xs ≡ false → list_any is_nul (drop k xs) ≡ false
+none_after zero xs h = h
+none_after (suc k) [] h = h
+none_after (suc k) (x ∷ xs) h = none_after k xs (without (is_nul x) (list_any is_nul xs) h)
   where
     without : (a b : Bool) → (a || b) ≡ false → b ≡ false
     without true b h = absurd (true≢false h)
     without false b h = h
 
 -- If the byte at an index is a NUL, the bytes have a NUL.
-one_behind : (k : ℕ) (xs : List ℕ) → k < length xs → is_nul (slice_index xs k) ≡ true → list_any is_nul xs ≡ true
-one_behind k [] h e = absurd (omega arith)
-one_behind zero (x ∷ xs) h e = rw e refl
-one_behind (suc k) (x ∷ xs) h e = let rest = one_behind k xs (omega arith) e in elim (is_nul x) as (λ b. (b || list_any is_nul xs) ≡ true) [
+one_after : (k : ℕ) (xs : List ℕ) → k < length xs → is_nul (slice_index xs k) ≡ true → list_any is_nul xs ≡ true
+one_after k [] h e = absurd (omega arith)
+one_after zero (x ∷ xs) h e = rw e refl
+one_after (suc k) (x ∷ xs) h e = let rest = one_after k xs (omega arith) e in elim (is_nul x) as (λ b. (b || list_any is_nul xs) ≡ true) [
   | true ↦ refl
   | false ↦ rest
 ]
@@ -35,9 +35,9 @@ ends_at bytes end within none last = record { within = within; texts = λ at. by
         let nul = last (omega arith) in
         let there : get_or (drop at bytes) (end - 1 - at) 0 ≡ get_or bytes (end - 1) 0 =
         get_or-drop at bytes (end - 1 - at) 0 ∙ ap (λ k. get_or bytes k 0) (omega arith) in
-        one_behind (end - 1 - at) (drop at bytes) (omega (arith, length-drop at bytes)) (rw there nul)
+        one_after (end - 1 - at) (drop at bytes) (omega (arith, length-drop at bytes)) (rw there nul)
     by at false h =
-        let behind : end ≤ at = grind (arith, nat_tests, h) in
+        let following : end ≤ at = grind (arith, nat_tests, h) in
         let e : end + (at - end) ≡ at = omega arith in
-        let part = none_behind (at - end) (drop end bytes) none in
+        let part = none_after (at - end) (drop end bytes) none in
         rw (← e) (rw (← drop-drop {A = ℕ} (at - end) end bytes) part)

@@ -124,8 +124,8 @@ ended bytes s false e h found =
 fits : (bytes : List ℕ) → of_header bytes ≡ None → HasEntries bytes
 fits bytes h =
     let size : Bool = nat_lt (length bytes) (48 + 24 * nlibs bytes + strings_length bytes) in
-    let behind = head_false (flags bytes % 2 == 1) (BadEndian (flags bytes)) ((size, EntriesOutside (nlibs bytes)) ∷ []) h in
-    let enough = (head_false size (EntriesOutside (nlibs bytes)) [] behind.1).0 in
+    let following = head_false (flags bytes % 2 == 1) (BadEndian (flags bytes)) ((size, EntriesOutside (nlibs bytes)) ∷ []) h in
+    let enough = (head_false size (EntriesOutside (nlibs bytes)) [] following.1).0 in
     grind (arith, nat_tests, enough)
 
 -- If the strings of an entry have no defect, their offsets are in the file.

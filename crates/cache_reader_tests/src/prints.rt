@@ -59,7 +59,7 @@ fn whole_texts(rt: HostRuntime) -> Result<(), Fail> {
 fn line(alloc: Global, changes: &[Change]) -> Result<Vec<u8>, Fail> {
     let mut bytes = one_library(alloc)?;
     change(&mut bytes, changes);
-    // Without an extension there is no generator's line.
+    // Without an extension the line of the generator is missing.
     change(&mut bytes, &[(32, 0)]);
     printed(alloc, &bytes, b"x")
 }
@@ -82,6 +82,12 @@ const KINDS: &[(u32, &[u8])] = &[
     (0x0303, b"libc6,x86-64"),
     (0x0803, b"libc6,x32"),
     (0x0a03, b"libc6,AArch64"),
+    (0x0903, b"libc6,hard-float"),
+    (0x1003, b"libc6,double-float"),
+    (0x0901, b"unknown,hard-float"),
+    (0x1_1003, b"libc6,double-float"),
+    (0x0b03, b"libc6,2816"),
+    (0x1103, b"libc6,4352"),
     (0x0000, b"unknown"),
     (0x0001, b"unknown"),
     (0x0002, b"unknown"),

@@ -13,9 +13,9 @@ use Rattle.cache_reader.proofs.Ranges.{first-append}
 use Rattle.cache_reader.proofs.Sound.{last_part}
 use Rattle.cache_writer.specs.CacheText.{cache_text, header, directory, section_count, names_start, hwcap_of, hwcaps_names, strings_bytes, place, extension_start, name_bytes, generator}
 use Rattle.cache_writer.proofs.Bounds.{few_names}
-use Rattle.cache_writer.proofs.Standing.{text_ends, text_inside}
+use Rattle.cache_writer.proofs.TextsAt.{text_ends, text_inside}
 use Rattle.lib_types.proofs.OneSize.{length_parts}
-use Rattle.cache_writer.proofs.Back.{IsLaidOut, front, behind_header, text_is, header_back, nlibs_back, entry_back, string_back}
+use Rattle.cache_writer.proofs.Back.{IsLaidOut, front, after_header, text_is, header_back, nlibs_back, entry_back, string_back}
 use Rattle.cache_writer.proofs.Sections.{count, body, offsets, by_body, length_body, length_directory, length_generator, length_name, is_extended, extension_back, directory_back, sections_back, second_section, number_at, names_are, listed, offset_back, first_section}
 use Rattle.cache_writer.proofs.ReadBack.{with_bit, cap_known}
 use Rattle.cache_writer.proofs.Members.{index_there}
@@ -55,8 +55,8 @@ good_magic : (es : List Entry) → first_defect (read.magic_sentences (cache_tex
 good_magic es =
     let size = length_text es in
     let long : nat_lt (length (cache_text es)) 48 ≡ false = grind (arith, nat_tests, size) in
-    let old : starts_with nat_eq (cache_text es) old_magic ≡ false = ap (λ bytes. starts_with nat_eq bytes old_magic) (text_is es) ∙ (is_new es (behind_header es)).0 in
-    let new : starts_with nat_eq (cache_text es) magic ≡ true = ap (λ bytes. starts_with nat_eq bytes magic) (text_is es) ∙ (is_new es (behind_header es)).1 in
+    let old : starts_with nat_eq (cache_text es) old_magic ≡ false = ap (λ bytes. starts_with nat_eq bytes old_magic) (text_is es) ∙ (is_new es (after_header es)).0 in
+    let new : starts_with nat_eq (cache_text es) magic ≡ true = ap (λ bytes. starts_with nat_eq bytes magic) (text_is es) ∙ (is_new es (after_header es)).1 in
     rw (old, long, new) refl
 
 good_header : (es : List Entry) → IsLaidOut es → first_defect (read.header_sentences (cache_text es)) ≡ None

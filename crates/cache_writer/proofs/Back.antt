@@ -15,8 +15,8 @@ use Rattle.cache_reader.specs.Cache as read
 use Rattle.cache_writer.specs.CacheText.{cache_text, header, entry_bytes, hwcap_of, hwcaps_names, strings, strings_bytes, strings_end, place, padding, extension_start, directory, name_bytes, generator}
 use Rattle.cache_writer.specs.Numbers.{HasOwn, AreAmong}
 use Rattle.cache_writer.proofs.Bounds.{few_names}
-use Rattle.cache_writer.proofs.Standing.{HasText, string_there}
-use Rattle.lib_types.proofs.OneSize.{behind, part_there, length_parts}
+use Rattle.cache_writer.proofs.TextsAt.{HasText, string_there}
+use Rattle.lib_types.proofs.OneSize.{following, part_there, length_parts}
 
 -- the requirements of the writer on the entries and their strings
 pub record IsLaidOut (es : List Entry) : Type 0 where
@@ -31,25 +31,25 @@ header_fit : (n s x : ℕ) → n < 2 ^ 32 → s < 2 ^ 32 → x < 2 ^ 32 → Fit 
 header_fit n s x hn hs hx = (omega arith, (omega arith, (omega arith, (omega arith, (omega arith, (omega arith, (omega arith, (omega arith, tt))))))))
 
 -- the parts of the file after the strings, after the entries, and after the header
-abbrev pub behind_strings : List Entry → List ℕ
-behind_strings es =
+abbrev pub after_strings : List Entry → List ℕ
+after_strings es =
     padding (strings_end es)
     ++ (directory (extension_start es) (length (hwcaps_names es)) ++ (flat_map (name_bytes (place es)) (hwcaps_names es) ++ generator))
 
-abbrev pub behind_entries : List Entry → List ℕ
-behind_entries es = strings_bytes es ++ behind_strings es
+abbrev pub after_entries : List Entry → List ℕ
+after_entries es = strings_bytes es ++ after_strings es
 
 abbrev pub table : List Entry → List ℕ
 table es = flat_map (entry_bytes (place es) (hwcaps_names es)) es
 
-abbrev pub behind_header : List Entry → List ℕ
-behind_header es = table es ++ behind_entries es
+abbrev pub after_header : List Entry → List ℕ
+after_header es = table es ++ after_entries es
 
 abbrev pub front : List Entry → List ℕ
 front es = header (length es) (length (strings_bytes es)) (extension_start es)
 
 -- the file is its header and the parts after it
-pub text_is : (es : List Entry) → cache_text es ≡ front es ++ behind_header es
+pub text_is : (es : List Entry) → cache_text es ≡ front es ++ after_header es
 unfolding cache_text
 text_is es = simp append_assoc
 
@@ -65,7 +65,7 @@ start_small es l =
     let pad = length_padding (strings_end es) in
     omega (arith, pad, l.few, l.small)
 
-header_there : (es : List Entry) → drop 20 (front es ++ behind_header es) ≡ laid_out header_fields (length es ∷ length (strings_bytes es) ∷ 2 ∷ 0 ∷ extension_start es ∷ 0 ∷ 0 ∷ 0 ∷ []) ++ behind_header es
+header_there : (es : List Entry) → drop 20 (front es ++ after_header es) ≡ laid_out header_fields (length es ∷ length (strings_bytes es) ∷ 2 ∷ 0 ∷ extension_start es ∷ 0 ∷ 0 ∷ 0 ∷ []) ++ after_header es
 unfolding header
 header_there es = refl
 
@@ -74,7 +74,7 @@ pub header_back : (es : List Entry) → IsLaidOut es → (i : ℕ) → i < 8
 header_back es l i h =
     let start = start_small es l in
     ap (λ bytes. number header_fields i (drop 20 bytes)) (text_is es) ∙ ap (number header_fields i) (header_there es)
-    ∙ reads_back header_fields (length es ∷ length (strings_bytes es) ∷ 2 ∷ 0 ∷ extension_start es ∷ 0 ∷ 0 ∷ 0 ∷ []) (behind_header es) i
+    ∙ reads_back header_fields (length es ∷ length (strings_bytes es) ∷ 2 ∷ 0 ∷ extension_start es ∷ 0 ∷ 0 ∷ 0 ∷ []) (after_header es) i
     (header_fit (length es) (length (strings_bytes es)) (extension_start es) (omega (arith, l.few)) (omega (arith, l.small)) (omega (arith, start))) h
 
 pub nlibs_back : (es : List Entry) → IsLaidOut es → read.nlibs (cache_text es) ≡ length es
@@ -114,9 +114,9 @@ pub entry_back : (es : List Entry) → IsLaidOut es → (i : ℕ) (d : Entry) �
 entry_back es l i d h j inside =
     let write = entry_bytes (place es) (hwcaps_names es) in
     let e = get_or es i d in
-    let others = flat_map write (drop (suc i) es) ++ behind_entries es in
-    let there : drop (48 + 24 * i) (front es ++ behind_header es) ≡ write e ++ others =
-    behind (front es) (behind_header es) 48 (24 * i) (length_front es) ∙ part_there write 24 (size_of_entry (place es) (hwcaps_names es)) es (behind_entries es) i d h in
+    let others = flat_map write (drop (suc i) es) ++ after_entries es in
+    let there : drop (48 + 24 * i) (front es ++ after_header es) ≡ write e ++ others =
+    following (front es) (after_header es) 48 (24 * i) (length_front es) ∙ part_there write 24 (size_of_entry (place es) (hwcaps_names es)) es (after_entries es) i d h in
     ap (λ bytes. number entry_fields j (drop (48 + 24 * i) bytes)) (text_is es) ∙ ap (number entry_fields j) (there ∙ ap (λ xs. xs ++ others) (fields_there es e))
     ∙ reads_back entry_fields (fields_of es e) others j (entry_fit es l e) inside
 
@@ -126,5 +126,5 @@ pub string_back : (es : List Entry) (t : List ℕ) → list_any (bytes_eq t) (st
 string_back es t among =
     let size : length (front es ++ table es) ≡ 48 + 24 * length es =
     length-append (front es) (table es) ∙ ap (λ n. n + length (table es)) (length_front es) ∙ ap (λ n. 48 + n) (length_parts (entry_bytes (place es) (hwcaps_names es)) 24 (size_of_entry (place es) (hwcaps_names es)) es) in
-    let joined : (front es ++ table es) ++ (table_of (strings es) ++ behind_strings es) ≡ cache_text es = append_assoc (front es) (table es) (behind_entries es) ∙ sym (text_is es) in
-    rw (← joined) (string_there (front es ++ table es) (behind_strings es) (strings es) t (48 + 24 * length es) size among)
+    let joined : (front es ++ table es) ++ (table_of (strings es) ++ after_strings es) ≡ cache_text es = append_assoc (front es) (table es) (after_entries es) ∙ sym (text_is es) in
+    rw (← joined) (string_there (front es ++ table es) (after_strings es) (strings es) t (48 + 24 * length es) size among)

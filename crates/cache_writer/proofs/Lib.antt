@@ -8,4 +8,4 @@ mod Members
 mod ReadBack
 mod Sections
 mod Sorted
-mod Standing
+mod TextsAt

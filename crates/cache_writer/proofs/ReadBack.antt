@@ -13,7 +13,7 @@ use Rattle.cache_writer.specs.CacheText.{cache_text, hwcap_of, hwcaps_names, str
 use Rattle.image_tree.specs.Node.{has_no_nul}
 use Rattle.cache_writer.specs.ReadBack.{as_read}
 use Rattle.cache_writer.proofs.Bounds.{both_hold, few_names}
-use Rattle.cache_writer.proofs.Standing.{text_back}
+use Rattle.cache_writer.proofs.TextsAt.{text_back}
 use Rattle.cache_writer.proofs.Back.{IsLaidOut, nlibs_back, entry_back, string_back}
 use Rattle.cache_writer.proofs.Sections.{count, names_are, offset_back, number_at}
 use Rattle.cache_writer.proofs.Members.{cap_among, index_there}

@@ -15,7 +15,7 @@ use Rattle.cache_reader.specs.declared.extension.Section.{Section}
 use Rattle.cache_layout.specs.declared.limits.TheConstants.{ENTRIES_MAX}
 use Rattle.cache_writer.specs.CacheText.{cache_text, entry_bytes, hwcaps_names, strings_bytes, strings_end, place, padding, extension_start, directory, section, section_count, names_start, generator_start, name_bytes, generator}
 use Rattle.cache_writer.proofs.Bounds.{few_names}
-use Rattle.lib_types.proofs.OneSize.{behind, part_there, length_parts}
+use Rattle.lib_types.proofs.OneSize.{following, part_there, length_parts}
 use Rattle.cache_writer.proofs.Back.{IsLaidOut, front, table, text_is, length_front, size_of_entry, start_small, header_back, place_small}
 
 abbrev pub count : List Entry → ℕ
@@ -92,7 +92,7 @@ counted m = elim (m == 0) as (λ t. cond t 1 2 ≤ 2) [ true ↦ omega arith | f
 in_directory : (es : List Entry) (k : ℕ) → drop (extension_start es + k) (cache_text es)
     ≡ drop k (laid_out directory_fields (extension_magic ∷ section_count (count es) ∷ []) ++ (section generator_tag (generator_start (extension_start es) (count es)) 42 ++ (names_part (extension_start es) (count es) ++ (offsets es ++ generator))))
 in_directory es k =
-    ap (drop (extension_start es + k)) (by_body es) ∙ behind (body es) (directory (extension_start es) (count es) ++ (offsets es ++ generator)) (extension_start es) k (length_body es)
+    ap (drop (extension_start es + k)) (by_body es) ∙ following (body es) (directory (extension_start es) (count es) ++ (offsets es ++ generator)) (extension_start es) k (length_body es)
     ∙ ap (drop k) (by_sections (extension_start es) (count es) (offsets es ++ generator))
 
 pub directory_back : (es : List Entry) → (i : ℕ) → i < 2 → number directory_fields i (drop (extension_start es) (cache_text es)) ≡ slice_index (extension_magic ∷ section_count (count es) ∷ []) i
@@ -176,7 +176,7 @@ offset_back es l i d h =
     let size : length (body es ++ directory x m) ≡ names_start x m = length-append (body es) (directory x m) ∙ omega (arith, length_body es, length_directory x m) in
     let there : drop at (cache_text es) ≡ little_bytes 4 (place es name) ++ rest =
     ap (drop at) (by_body es ∙ sym (append_assoc (body es) (directory x m) (offsets es ++ generator)))
-    ∙ behind (body es ++ directory x m) (offsets es ++ generator) (names_start x m) (4 * i) size
+    ∙ following (body es ++ directory x m) (offsets es ++ generator) (names_start x m) (4 * i) size
     ∙ part_there (name_bytes (place es)) 4 (length_name (place es)) (hwcaps_names es) generator i d h
     ∙ ap (λ xs. xs ++ rest) (name_there (place es) name) in
     let small = place_small es l name in

@@ -42,8 +42,8 @@ tied x = by (slice_cmp nat_cmp x x) refl
     by Equal e = refl
     by Greater e = absurd (cc (e, turned, ap ordering_reverse e))
 
-apart : (a b : List ℕ) → slice_cmp nat_cmp a b ≡ Less → bytes_eq b a ≡ false
-apart a b h = by (bytes_eq b a) refl
+differ : (a b : List ℕ) → slice_cmp nat_cmp a b ≡ Less → bytes_eq b a ≡ false
+differ a b h = by (bytes_eq b a) refl
   where
     by : (t : Bool) → bytes_eq b a ≡ t → t ≡ false
     by true e =
@@ -62,7 +62,7 @@ pub next_is_new : (xs : List (Bor (List ℕ))) (k : Bor (List ℕ)) (rest : List
 next_is_new [] k rest s = refl
 next_is_new (x ∷ xs) k rest s =
     let less : by_bytes x k ≡ Less = at_end (λ y. by_bytes x y ≡ Less) xs k rest (sorted_head by_bytes x (xs ++ k ∷ rest) s) in
-    rw (apart x.now k.now less) (next_is_new xs k rest (sorted_tail by_bytes x (xs ++ k ∷ rest) s))
+    rw (differ x.now k.now less) (next_is_new xs k rest (sorted_tail by_bytes x (xs ++ k ∷ rest) s))
 
 -- so it is added at the end, and the names that are left stay the same
 pub gathered : (xs : List (Bor (List ℕ))) (k : Bor (List ℕ)) (rest : List (Bor (List ℕ))) → IsStrictlySortedBy by_bytes (xs ++ k ∷ rest)

@@ -73,7 +73,7 @@ padding place = replicate ((4 - place % 4) % 4) 0
 abbrev pub extension_start : List Entry → ℕ
 extension_start entries = strings_end entries + length (padding (strings_end entries))
 
--- the text of the generator section
+-- The text of the generator section. It is part of the file format: its number is not that of the program.
 unfoldable pub generator : List ℕ
 generator = codes "ldconfig (image profile) release version 1"
 

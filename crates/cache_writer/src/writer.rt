@@ -32,6 +32,7 @@ pub const STRING_MAX: usize = 4700;
 // The bit that marks a hwcap as the index of a hwcaps name.
 const NAMED: u64 = 1 << 62;
 
+// Part of the file format: a new version of the program that writes the same caches keeps it, so that an update changes none.
 const GENERATOR: &[u8] = b"ldconfig (image profile) release version 1";
 
 /// The bytes of a cache with these entries.

@@ -164,7 +164,7 @@ fn devices_of(
 }
 
 // Whether the slot's file has a possible content, if the call `publishing` renames it into place and the call `failing` fails. The content
-// None means that there is no file. If the renaming call itself fails, the file has the old content or the new one.
+// None means that the file is absent. If the renaming call itself fails, the file has the old content or the new one.
 fn is_old_or_new(
     alloc: Global,
     devices: &mut Devices,

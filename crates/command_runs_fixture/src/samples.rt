@@ -36,4 +36,4 @@ pub const THREE_CACHE: &[u8] = b"\
     ldconfig (image profile) release version 1";
 
 /// An auxiliary cache without stamps: 33 bytes.
-pub const NO_STAMPS: &[u8] = b"glibc-ld.so.auxcache-1.0\x00\x00\x00\x00\x01\x00\x00\x00\0";
+pub const NO_STAMPS: &[u8] = b"glibc-ld.so.auxcache-1.1\x00\x00\x00\x00\x01\x00\x00\x00\0";

@@ -18,7 +18,7 @@ const MOST_NODES: usize = 1048576;
 const REST: usize = 251;
 
 // A manifest of `count` lines, each with a number of seven digits between two texts.
-fn numbered(alloc: Global, before: &str, count: usize, behind: &str) -> Result<Vec<u8>, Fail> {
+fn numbered(alloc: Global, before: &str, count: usize, following: &str) -> Result<Vec<u8>, Fail> {
     let mut text = Vec::from_slice(alloc, b"#mtree\n")?;
     for n in 0..count {
         text.extend_from_slice(before.as_bytes())?;
@@ -34,7 +34,7 @@ fn numbered(alloc: Global, before: &str, count: usize, behind: &str) -> Result<V
         for digit in digits {
             text.push(b'0' + (digit % 10) as u8)?;
         }
-        text.extend_from_slice(behind.as_bytes())?;
+        text.extend_from_slice(following.as_bytes())?;
     }
     Ok(text)
 }

@@ -4,7 +4,7 @@ use command_words::{help_of, line_of};
 use lib_types::NoMemory;
 use std::alloc::Global;
 use std::str::from_utf8;
-use table_rows::{Row, Said, Trial, Words, divide, has_line, text};
+use table_rows::{Differences, Row, Trial, Words, divide, has_line, text};
 
 /// A row has a line for each argument. It has the command with its values, or `Usage`. Or it has the command whose usage the arguments ask
 /// for, or `none`.
@@ -18,9 +18,9 @@ fn words_of(alloc: Global, text: &[u8]) -> Result<Vec<String>, NoMemory> {
         if rest.is_empty() {
             break;
         }
-        let (word, behind) = divide(b'\n', rest);
+        let (word, following) = divide(b'\n', rest);
         words.push(String::from_str(alloc, from_utf8(word).unwrap_or("?"))?)?;
-        rest = behind;
+        rest = following;
     }
     Ok(words)
 }
@@ -33,13 +33,17 @@ impl Trial for Arguments {
     }
 
     // A body that always returns NoMemory meets the contract, but not the rows.
-    fn is_right(alloc: Global, row: Row<'_>, said: &mut Said) -> Result<bool, NoMemory> {
+    fn is_right(
+        alloc: Global,
+        row: Row<'_>,
+        differences: &mut Differences,
+    ) -> Result<bool, NoMemory> {
         let words = words_of(alloc, &text(alloc, row, b"arguments")?)?;
         if has_line(row, b"help") {
             let got = shown_help(alloc, help_of(&words))?;
-            return said.is_text(alloc, row, b"help", &got);
+            return differences.is_text(alloc, row, b"help", &got);
         }
         let got = shown(alloc, line_of(alloc, &words))?;
-        said.is_text(alloc, row, b"command", &got)
+        differences.is_text(alloc, row, b"command", &got)
     }
 }

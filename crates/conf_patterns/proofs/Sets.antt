@@ -21,7 +21,7 @@ range_of_one (low ∷ next ∷ high ∷ rest) some e =
     let long : ltb 2 (length (low ∷ next ∷ high ∷ rest)) ≡ true = lt-ltb _ _ (omega arith) in
     let dash : eqb next 45 ≡ false = rw long at e in rw dash refl
 
-pub no_set : (behind : List ℕ) (unclosed first : ℕ) → has_close unclosed behind ≡ false → first ≡ no_end behind → length behind - unclosed ≤ first → set_len behind ≡ None
-no_set behind unclosed first none e short =
-    let further : list_any is_close (drop (no_end behind) behind) ≡ false = none_further is_close behind (length behind - unclosed) (no_end behind) (omega (arith, short, e)) none in
-    ap (option_map (λ n. no_end behind + n)) (no_position is_close (drop (no_end behind) behind) further)
+pub no_set : (following : List ℕ) (unclosed first : ℕ) → has_close unclosed following ≡ false → first ≡ no_end following → length following - unclosed ≤ first → set_len following ≡ None
+no_set following unclosed first none e short =
+    let further : list_any is_close (drop (no_end following) following) ≡ false = none_further is_close following (length following - unclosed) (no_end following) (omega (arith, short, e)) none in
+    ap (option_map (λ n. no_end following + n)) (no_position is_close (drop (no_end following) following) further)

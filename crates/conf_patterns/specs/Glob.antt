@@ -24,14 +24,14 @@ is_negated (b ∷ rest) = b == byte "!" || b == byte "^"
 -- A `]` directly after the `[` or after the negation is a member of the set.
 -- This is the number of bytes after the `[` that can't close the set.
 abbrev pub no_end : List ℕ → ℕ
-no_end behind = if is_negated behind then 2 else 1
+no_end following = if is_negated following then 2 else 1
 
 abbrev pub is_close : ℕ → Bool
 is_close b = b == byte "]"
 
 -- the number of bytes between a `[` and the `]` that closes the set, if there is one
 abbrev pub set_len : List ℕ → Option ℕ
-set_len behind = option_map (λ n. no_end behind + n) (position is_close (drop (no_end behind) behind))
+set_len following = option_map (λ n. no_end following + n) (position is_close (drop (no_end following) following))
 
 -- the ranges of a set, as pairs of first and last byte: `a-z`, or a single byte
 abbrev pub ranges : List ℕ → List (ℕ × ℕ)
@@ -51,15 +51,15 @@ is_in_set set b = if is_negated set then not (is_member (drop 1 set) b) else is_
 
 -- a `[` without a closing `]` matches itself
 abbrev pub set_or : ℕ → List ℕ → Option ℕ → Part
-set_or b behind (Some n) = Set (take n behind)
-set_or b behind None = Byte b
+set_or b following (Some n) = Set (take n following)
+set_or b following None = Byte b
 
 -- the part that begins with this byte
 abbrev pub part_at : ℕ → List ℕ → Part
-part_at b behind =
+part_at b following =
     if b == byte "*" then Star else
     if b == byte "?" then One else
-    if b == byte "[" then set_or b behind (set_len behind) else Byte b
+    if b == byte "[" then set_or b following (set_len following) else Byte b
 
 -- the number of bytes of a part after its first byte: a set has its members and the closing bracket
 abbrev pub more_of : Part → ℕ
@@ -69,13 +69,13 @@ more_of (Byte b) = 0
 more_of (Set set) = length set + 1
 
 -- the parts of a pattern, except its first `n` bytes, which belong to an earlier part
-abbrev pub parts_behind : ℕ → List ℕ → List Part
-parts_behind n [] = []
-parts_behind zero (b ∷ behind) = part_at b behind ∷ parts_behind (more_of (part_at b behind)) behind
-parts_behind (suc n) (b ∷ behind) = parts_behind n behind
+abbrev pub parts_after : ℕ → List ℕ → List Part
+parts_after n [] = []
+parts_after zero (b ∷ following) = part_at b following ∷ parts_after (more_of (part_at b following)) following
+parts_after (suc n) (b ∷ following) = parts_after n following
 
 abbrev pub parts : List ℕ → List Part
-parts pattern = parts_behind 0 pattern
+parts pattern = parts_after 0 pattern
 
 abbrev pub is_star : Part → Bool
 is_star Star = true

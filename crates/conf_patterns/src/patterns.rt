@@ -169,7 +169,7 @@ fn add_texts(
 }
 
 // The paths, each extended by each name for the component.
-fn gone_on(
+fn extended_by(
     alloc: Global,
     tree: &Tree,
     component: &[u8],
@@ -191,7 +191,7 @@ fn texts_of(alloc: Global, tree: &Tree, file: &[u8], pattern: &[u8]) -> Result<V
     let mut texts = Vec::new(alloc);
     texts.push(Text::copy_of(alloc, base_of(file, pattern))?)?;
     for component in components_of(pattern) {
-        texts = gone_on(alloc, tree, component, &texts)?;
+        texts = extended_by(alloc, tree, component, &texts)?;
     }
     Ok(texts)
 }

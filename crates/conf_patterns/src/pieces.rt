@@ -38,16 +38,16 @@ impl<'p> Model for Pieces<'p> {
 }
 
 // The part that begins with this byte.
-fn piece_at<'p>(b: u8, behind: &'p [u8], unclosed: usize) -> Piece<'p>
-    requires { has_close unclosed behind.now ≡ false }
-    ensures part { part_in result ≡ part_at b behind.now }
-    ensures within { more_of (part_in result) ≤ length behind.now }
+fn piece_at<'p>(b: u8, following: &'p [u8], unclosed: usize) -> Piece<'p>
+    requires { has_close unclosed following.now ≡ false }
+    ensures part { part_in result ≡ part_at b following.now }
+    ensures within { more_of (part_in result) ≤ length following.now }
 {
     match b {
         b'*' => Piece::Star,
         b'?' => Piece::One,
-        b'[' => match set_len(behind, unclosed) {
-            Some(n) => Piece::Set(&behind[..n]),
+        b'[' => match set_len(following, unclosed) {
+            Some(n) => Piece::Set(&following[..n]),
             None => Piece::Byte(b),
         },
         _ => Piece::Byte(b),
@@ -116,7 +116,7 @@ impl<'p> Pieces<'p> {
     }
 
     /// The first part, and the parts after it.
-    #[tactic(auto, using(crate::proofs::Skips::first_part, crate::proofs::Skips::unclosed_behind))]
+    #[tactic(auto, using(crate::proofs::Skips::first_part, crate::proofs::Skips::unclosed_after))]
     pub(crate) fn split_first(self) -> Option<(Piece<'p>, Pieces<'p>)>
         ensures { MatchOption result (self.entry ≡ []) (λ r. self.entry ≡ part_in r.0 ∷ r.1) }
     {

@@ -35,11 +35,11 @@ fn is_member(set: &[u8], b: u8) -> bool
     ensures { result ≡ is_member set.now b }
 {
     let mut rest = set;
-    while let Some((low, high, behind)) = first_range(rest) {
+    while let Some((low, high, following)) = first_range(rest) {
         if low <= b && b <= high {
             return true;
         }
-        rest = behind;
+        rest = following;
     }
     false
 }
@@ -67,10 +67,10 @@ pub(crate) fn unclosed_len(bytes: &[u8]) -> usize
 }
 
 // The number of bytes after a `[` that can't close the set.
-fn no_end(behind: &[u8]) -> usize
-    ensures { result ≡ no_end behind.now }
+fn no_end(following: &[u8]) -> usize
+    ensures { result ≡ no_end following.now }
 {
-    if is_negated(behind) { 2 } else { 1 }
+    if is_negated(following) { 2 } else { 1 }
 }
 
 fn first_close(bytes: &[u8]) -> Option<usize>
@@ -82,15 +82,15 @@ fn first_close(bytes: &[u8]) -> Option<usize>
 
 /// The number of bytes between a `[` and the `]` that closes the set, if there is one.
 #[tactic(auto, using(crate::proofs::Sets::no_set))]
-pub(crate) fn set_len(behind: &[u8], unclosed: usize) -> Option<usize>
-    requires { has_close unclosed behind.now ≡ false }
-    ensures len { result ≡ set_len behind.now }
-    ensures within { IfSome result (λ n. n < length behind.now) }
+pub(crate) fn set_len(following: &[u8], unclosed: usize) -> Option<usize>
+    requires { has_close unclosed following.now ≡ false }
+    ensures len { result ≡ set_len following.now }
+    ensures within { IfSome result (λ n. n < length following.now) }
 {
-    let first = no_end(behind);
-    if behind.len().saturating_sub(unclosed) <= first {
+    let first = no_end(following);
+    if following.len().saturating_sub(unclosed) <= first {
         return None;
     }
-    let n = first_close(&behind[first..])?;
+    let n = first_close(&following[first..])?;
     Some(first + n)
 }

@@ -2,12 +2,12 @@
 use conf_patterns::glob_match;
 use lib_types::NoMemory;
 use std::alloc::Global;
-use table_rows::{Row, Said, Trial, Words, divide};
+use table_rows::{Differences, Row, Trial, Words, divide};
 
 /// Each line has a pattern and a name after `match`, or after `mismatch` if they don't match.
 pub(crate) struct Globs;
 
-fn is_as_said(line: &[u8]) -> bool {
+fn is_as_expected(line: &[u8]) -> bool {
     let (word, rest) = divide(b' ', line);
     let (pattern, name) = divide(b' ', rest);
     line.is_empty() || glob_match(pattern, name) == (word == b"match".as_slice())
@@ -20,10 +20,14 @@ impl Trial for Globs {
         WORDS
     }
 
-    fn is_right(_alloc: Global, row: Row<'_>, said: &mut Said) -> Result<bool, NoMemory> {
+    fn is_right(
+        _alloc: Global,
+        row: Row<'_>,
+        differences: &mut Differences,
+    ) -> Result<bool, NoMemory> {
         for line in row {
-            if !is_as_said(line) {
-                said.say(b"not so: ", line)?;
+            if !is_as_expected(line) {
+                differences.say(b"not so: ", line)?;
                 return Ok(false);
             }
         }

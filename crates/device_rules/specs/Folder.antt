@@ -2,9 +2,9 @@
 use Rattle.std.specs.Prelude.{◌≡◌, ⊤, ℕ, ◌+◌, ◌-◌, Bool, true, Option, Some, None, min, bit_and, nat_le, nat_lt, ◌==◌, if◌then◌else◌}
 use Rattle.tree_face.specs.declared.disk.Slot.{Slot}
 use Rattle.tree_face.specs.declared.disk.Slot.TheVariants.{Manifest, Cache, Aux}
-use Rattle.device_rules.specs.declared.standing.Stamp.{Stamp}
-use Rattle.device_rules.specs.declared.standing.Owner.{Owner}
-use Rattle.device_rules.specs.declared.standing.TheConstants.{CACHE_MAX, LENGTH_MAX, NO_CACHE}
+use Rattle.device_rules.specs.declared.existing.Stamp.{Stamp}
+use Rattle.device_rules.specs.declared.existing.Owner.{Owner}
+use Rattle.device_rules.specs.declared.existing.TheConstants.{CACHE_MAX, LENGTH_MAX, NO_CACHE}
 use Rattle.mtree_manifest.specs.declared.fault.TheConstants.{TEXT_MAX}
 
 -- a longer file isn't read
@@ -31,7 +31,7 @@ mode_of _ (Some mode) = bit_and mode 0o777
 -- root gives a new file the owner of the file that it replaces
 abbrev pub owner_to_give : Owner → Option Owner → Option Owner
 owner_to_give made None = None
-owner_to_give made (Some stood) = if made.user == 0 then Some stood else None
+owner_to_give made (Some existing) = if made.user == 0 then Some existing else None
 
 -- the file is still the one that was read, or it was not read at all
 abbrev pub IsAsRead : Option (Option Stamp) → Option Stamp → Type 0

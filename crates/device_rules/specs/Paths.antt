@@ -1,7 +1,8 @@
 -- Paths below the root of an image, whose own name is empty.
 use Rattle.std.specs.Prelude.{ℕ, Bool, true, ◌&&◌, ◌||◌, List, [], ◌∷◌, ◌==◌, nat_eq, length, drop, codes}
-use Rattle.std.specs.List.{starts_with}
+use Rattle.std.specs.List.{list_any, slice_split, starts_with}
 use Rattle.std.specs.Str.{bytes_eq}
+use Rattle.lib_types.specs.Bytes.{is_byte}
 
 -- nothing follows, or a slash
 abbrev pub ends_part : List ℕ → Bool
@@ -16,3 +17,7 @@ is_at_or_above folder other =
 -- the component is `..`
 abbrev pub leads_up : List ℕ → Bool
 leads_up component = bytes_eq component (codes "..")
+
+-- a component of the path is `..`
+abbrev pub has_up : List ℕ → Bool
+has_up path = list_any leads_up (slice_split (is_byte 47) path)

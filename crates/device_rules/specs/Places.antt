@@ -1,10 +1,9 @@
 -- The paths of an image's files, below its root. The cache is where ld.so(8) reads it ("FILES") or where option -C of ldconfig(8) puts it.
 -- The auxiliary cache is where ldconfig(8) keeps it.
 use Rattle.std.specs.Prelude.{◌≡◌, ◌⊎◌, ◌==◌, ◌&&◌, ℕ, Bool, not, List, [], ◌∷◌, ◌++◌, codes, length, nat_eq, Option, Some, None, if◌then◌else◌}
-use Rattle.std.specs.List.{ends_with, list_any, slice_split}
+use Rattle.std.specs.List.{ends_with}
 use Rattle.std.specs.Str.{bytes_eq}
-use Rattle.device_rules.specs.Paths.{leads_up}
-use Rattle.lib_types.specs.Bytes.{is_byte}
+use Rattle.device_rules.specs.Paths.{has_up}
 use Rattle.tree_face.specs.declared.disk.Slot.{Slot}
 use Rattle.tree_face.specs.declared.disk.Slot.TheVariants.{Manifest, Cache, Aux}
 
@@ -29,7 +28,7 @@ ends_in_name path = not (length path == 0) && not (ends_with nat_eq path (codes 
 
 -- the path can name a file below the root: no component of it is `..`
 abbrev pub is_file_path : List ℕ → Bool
-is_file_path path = ends_in_name path && not (list_any leads_up (slice_split (is_byte 47) path))
+is_file_path path = ends_in_name path && not (has_up path)
 
 -- a path in the image, relative to its root
 abbrev pub below_root : List ℕ → List ℕ

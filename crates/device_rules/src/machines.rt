@@ -1,6 +1,7 @@
 //! Libraries for machines that no cache is built for.
 ghost use Rattle.std.specs.Prelude.{◌≡◌};
-ghost use Rattle.device_rules.specs.Machines.{foreign_machine, machine_in};
+ghost use Rattle.std.specs.Prelude.{option_map};
+ghost use Rattle.device_rules.specs.Machines.{foreign_machine, machine_in, machine_name};
 
 use lib_types::Abi;
 
@@ -30,8 +31,10 @@ fn machine_in(head: &[u8]) -> Option<u16>
     }
 }
 
-/// The usual name of a machine.
-pub fn machine_name(number: u16) -> Option<&'static str> {
+/// The usual name of a machine that no cache is built for.
+pub fn machine_name(number: u16) -> Option<&'static str>
+    ensures { option_map (λ name. name.now) result ≡ machine_name number }
+{
     match number {
         2 | 43 => Some("SPARC"),
         4 => Some("m68k"),
@@ -40,10 +43,8 @@ pub fn machine_name(number: u16) -> Option<&'static str> {
         20 => Some("PowerPC"),
         21 => Some("PowerPC64"),
         22 => Some("S/390"),
-        40 => Some("ARM"),
         42 => Some("SuperH"),
         50 => Some("IA-64"),
-        243 => Some("RISC-V"),
         258 => Some("LoongArch"),
         0x9026 => Some("Alpha"),
         _ => None,

@@ -1,6 +1,10 @@
 //! What is decided about paths without a system call.
 ghost use Rattle.std.specs.Prelude.{◌≡◌, ◌↔◌, ◌++◌, ◌⊎◌, ◌≢◌, ◌∷◌, [], codes, IfSome, IsTrue};
-ghost use Rattle.device_rules.specs.Paths.{ends_part, is_at_or_above, leads_up};
+ghost use Rattle.std.specs.List.{list_any, slice_split};
+ghost use Rattle.lib_types.specs.Bytes.{is_byte};
+ghost use Rattle.device_rules.specs.Paths.{ends_part, has_up, is_at_or_above, leads_up};
+
+use lib_types::{Separator, split};
 
 /// Whether the first directory is the second one or an ancestor of it. The root's path is empty.
 pub fn is_at_or_above(folder: &[u8], other: &[u8]) -> bool
@@ -16,7 +20,7 @@ fn ends_part(rest: &[u8]) -> bool
 }
 
 /// The rest of a text after this prefix, if the text has it.
-pub fn behind<'a>(text: &'a str, front: &str) -> Option<&'a str>
+pub fn following<'a>(text: &'a str, front: &str) -> Option<&'a str>
     ensures { IfSome result (λ rest. text.now ≡ front.now ++ rest.now) }
 {
     text.strip_prefix(front)
@@ -34,6 +38,18 @@ pub fn leads_up(part: &[u8]) -> bool
     ensures { result ≡ leads_up part.now }
 {
     part == b"..".as_slice()
+}
+
+/// Whether a component of the path is `..`.
+pub fn has_up(path: &[u8]) -> bool
+    ensures { result ≡ has_up path.now }
+{
+    for part in split(Separator::Byte(b'/'), path) {
+        if leads_up(part) {
+            return true;
+        }
+    }
+    false
 }
 
 /// A path's directory, which is empty for the root, and its last name.

@@ -1,12 +1,9 @@
 //! The paths of an image's files.
 ghost use Rattle.std.specs.Prelude.{◌≡◌, IfOk};
-ghost use Rattle.std.specs.List.{list_any, slice_split};
-ghost use Rattle.lib_types.specs.Bytes.{is_byte};
-ghost use Rattle.device_rules.specs.Paths.{leads_up};
 ghost use Rattle.device_rules.specs.Places.{IsIn, below_root, cache_at, ends_in_name, file_of, is_file_path, usual_cache};
 
-use crate::paths::{divided, leads_up};
-use lib_types::{NoMemory, Separator, split};
+use crate::paths::{divided, has_up};
+use lib_types::NoMemory;
 use std::alloc::Global;
 use std::marker::Model;
 use tree_face::Slot;
@@ -90,18 +87,6 @@ fn ends_in_name(path: &[u8]) -> bool
     ensures { result ≡ ends_in_name path.now }
 {
     !path.is_empty() && !path.ends_with(b"/") && path != b".".as_slice() && !path.ends_with(b"/.")
-}
-
-// Whether a component of the path is `..`.
-fn has_up(path: &[u8]) -> bool
-    ensures { result ≡ list_any leads_up (slice_split (is_byte 47) path.now) }
-{
-    for part in split(Separator::Byte(b'/'), path) {
-        if leads_up(part) {
-            return true;
-        }
-    }
-    false
 }
 
 fn is_file_path(path: &[u8]) -> bool

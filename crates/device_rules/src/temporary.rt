@@ -1,11 +1,11 @@
 //! The names of temporary files.
-ghost use Rattle.std.specs.Prelude.{◌≡◌, ◌++◌, ◌∷◌, IfOk, IfSome, string_bytes};
+ghost use Rattle.std.specs.Prelude.{◌≡◌, ◌+◌, ◌%◌, ◌^◌, ◌++◌, ◌∷◌, IfOk, IfSome, string_bytes};
 ghost use Rattle.std.specs.Char.{is_ascii_digit};
 ghost use Rattle.std.specs.Fmt.{decimal};
 ghost use Rattle.std.specs.List.{list_all};
 ghost use Rattle.device_rules.specs.Temporary.{IsMadeBy, is_number, temporary_name};
 
-use crate::paths::behind;
+use crate::paths::following;
 use std::alloc::AllocError;
 use std::rt::Runtime;
 use tree_face::Tag;
@@ -20,6 +20,19 @@ pub struct RunId {
     pub process: u32,
     /// A random number, because programs that don't see each other's processes can have equal process numbers.
     pub random: u64,
+}
+
+impl RunId {
+    /// The numbers for another attempt, if the names with these are taken.
+    pub fn turned(self, turn: u64) -> RunId
+        ensures process { result.process ≡ self.process }
+        ensures random { result.random ≡ (self.random + turn) % 2 ^ 64 }
+    {
+        RunId {
+            process: self.process,
+            random: self.random.wrapping_add(turn),
+        }
+    }
 }
 
 /// The name of this run's temporary file for the slot's file of this name.
@@ -41,8 +54,8 @@ pub fn temporary_path<R: Runtime>(
 pub fn maker_of<'a>(name: &'a str, file: &str) -> Option<&'a str>
     ensures { IfSome result (λ process. IsMadeBy file.now process.now name.now) }
 {
-    let tail = behind(name, file)?;
-    let numbers = behind(tail, ".tmp")?;
+    let tail = following(name, file)?;
+    let numbers = following(tail, ".tmp")?;
     let (tag, rest) = at_dot(numbers)?;
     let (process, random) = at_dot(rest)?;
     if is_number(tag) && is_number(process) && is_number(random) {

@@ -15,18 +15,19 @@ use Rattle.elf_dynamic.specs.declared.kinds.Dynamic.{Dynamic}
 use Rattle.elf_dynamic.specs.Faults.{IfBad}
 use Rattle.elf_dynamic.specs.declared.gather.Keep.{Keep}
 use Rattle.elf_dynamic.specs.Kept.{kept, kept_of, kept_in_file}
-use Rattle.elf_dynamic.specs.Memory.{IsBehindTexts, SectionTakesMemory}
+use Rattle.elf_dynamic.specs.Memory.{IsAfterTexts, SectionTakesMemory}
 use Rattle.elf_dynamic.specs.Section.{dynamic_segment, is_outside}
 use Rattle.elf_dynamic.specs.Taken.{section_reading, readable_section}
 use Rattle.elf_dynamic.specs.Sections.{section_in, sections_in, counting_in}
 use Rattle.elf_dynamic.proofs.Known.{with, three, before, sized}
 use Rattle.elf_dynamic.proofs.Kept.{unkept}
 use Rattle.elf_dynamic.proofs.Sections.{some_of, without, outside_file, in_file}
+use Rattle.elf_dynamic.specs.declared.text.TheConstants.{TEXT_LIMIT}
 
 abbrev there_is : Dynamic → Result (Option Dynamic) Defect
 there_is d = Ok (Some d)
 
-some_takes : (r : Result Dynamic Defect) → IfErr r IsBehindTexts → SectionTakesMemory (some_of r)
+some_takes : (r : Result Dynamic Defect) → IfErr r IsAfterTexts → SectionTakesMemory (some_of r)
 some_takes (Ok d) takes = refl
 some_takes (Err x) takes = takes
 
@@ -71,10 +72,10 @@ module _ (s : StoreState) (h : Head) (o : Option Segment) (found : OfKnown s (λ
     file_fault faults.StoreFault bad = tt
     file_fault faults.NoMemory bad = tt
 
-    pub file_takes : OfKnown t (λ bytes. IfErr (section_in (word_size h.wide) bytes d) IsBehindTexts) → OfKnown s (λ bytes. SectionTakesMemory (sections_in (word_size h.wide) bytes))
+    pub file_takes : OfKnown t (λ bytes. IfErr (section_in (word_size h.wide) bytes d) IsAfterTexts) → OfKnown s (λ bytes. SectionTakesMemory (sections_in (word_size h.wide) bytes))
     file_takes takes =
         let w = word_size h.wide in
-        let P = λ (bytes : List ℕ). IfErr (section_in w bytes d) IsBehindTexts in
+        let P = λ (bytes : List ℕ). IfErr (section_in w bytes d) IsAfterTexts in
         here false P (λ bytes. SectionTakesMemory (sections_in w bytes)) e (before P s t reads takes)
         (λ bytes there inside takes. subst SectionTakesMemory (sym (in_file w bytes d (section_in w bytes d) there inside refl)) (some_takes (section_in w bytes d) takes))
 
@@ -82,17 +83,17 @@ module _ (s : StoreState) (h : Head) (o : Option Segment) (found : OfKnown s (λ
     unfolding counting_in
     reading w bytes there h = rw (there, h) refl
 
-    below : (p f m : ℕ) → 112 * p + (112 * p + 4 * f + 65536 * m) ≤ 448 * p + (8 * f + 131072 * m)
+    below : (p f m : ℕ) → 112 * p + (112 * p + 4 * f + TEXT_LIMIT * m) ≤ 448 * p + (8 * f + 2 * TEXT_LIMIT * m)
     below p f m = omega arith
 
-    pub file_taken : (u : StoreState) → TakesAtMost (112 * h.phnum) s t → OfKnown t (λ bytes. TakesAtMost (112 * h.phnum + 4 * d.filesz + 65536 * counting_in (word_size h.wide) bytes d) t u) →
+    pub file_taken : (u : StoreState) → TakesAtMost (112 * h.phnum) s t → OfKnown t (λ bytes. TakesAtMost (112 * h.phnum + 4 * d.filesz + TEXT_LIMIT * counting_in (word_size h.wide) bytes d) t u) →
         OfKnown s (λ bytes. TakesAtMost (448 * h.phnum + section_reading (word_size h.wide) bytes (readable_section (word_size h.wide) bytes)) s u)
     file_taken u first taken =
         let w = word_size h.wide in
-        let P = λ (bytes : List ℕ). TakesAtMost (112 * h.phnum + 4 * d.filesz + 65536 * counting_in w bytes d) t u in
+        let P = λ (bytes : List ℕ). TakesAtMost (112 * h.phnum + 4 * d.filesz + TEXT_LIMIT * counting_in w bytes d) t u in
         let Q = λ (bytes : List ℕ). TakesAtMost (448 * h.phnum + section_reading w bytes (readable_section w bytes)) s u in
         here false P Q e (before P s t reads taken)
         (λ bytes there inside taken.
         let all = reading w bytes there inside in
-        raised-mono s.taken u.taken (112 * h.phnum + (112 * h.phnum + 4 * d.filesz + 65536 * counting_in w bytes d)) (448 * h.phnum + section_reading w bytes (readable_section w bytes)) (rw all (below h.phnum d.filesz (counting_in w bytes d)))
-        (raised-add s.taken t.taken u.taken (112 * h.phnum) (112 * h.phnum + 4 * d.filesz + 65536 * counting_in w bytes d) first taken))
+        raised-mono s.taken u.taken (112 * h.phnum + (112 * h.phnum + 4 * d.filesz + TEXT_LIMIT * counting_in w bytes d)) (448 * h.phnum + section_reading w bytes (readable_section w bytes)) (rw all (below h.phnum d.filesz (counting_in w bytes d)))
+        (raised-add s.taken t.taken u.taken (112 * h.phnum) (112 * h.phnum + 4 * d.filesz + TEXT_LIMIT * counting_in w bytes d) first taken))

@@ -21,6 +21,7 @@ use Rattle.elf_dynamic.specs.Values.{texts_in}
 use Rattle.elf_dynamic.proofs.Joined.{texts_more}
 use Rattle.elf_dynamic.specs.Texts.{counts, with_text, no_texts, add_one, gathered, counted}
 use Rattle.elf_dynamic.proofs.Kept.{unkept, unkept_bad, gathered_alike, counted_alike}
+use Rattle.elf_dynamic.specs.declared.text.TheConstants.{TEXT_LIMIT}
 
 -- ---- one more entry
 
@@ -79,7 +80,7 @@ count_one t d e rest = by (counts d e.tag)
 
 pub record Stays (old new : StoreState) (most unread : ℕ) (t : List ℕ) (d : Dynamic) (rest : List DynamicEntry) (first : Dynamic) (all : List DynamicEntry) : Type 0 where
   pub fewer : counted t d rest ≤ counted t first all
-  pub taken : new.taken ≤ raised old.taken (most - unread + 65536 * (counted t first all - counted t d rest))
+  pub taken : new.taken ≤ raised old.taken (most - unread + TEXT_LIMIT * (counted t first all - counted t d rest))
 
 -- ---- the loop over the entries, if the content is known
 
@@ -103,18 +104,18 @@ rests_bad keep (Some bytes) table rest next all d x e on bad whole =
 raised_three : (a b c d n m k p : ℕ) → b ≤ raised a n → c ≤ raised b m → d ≤ raised c k → n + m + k ≤ p → d ≤ raised a p
 raised_three a b c d n m k p x y z h = raised-mono a d (n + m + k) p h (raised-add a c d (n + m) k (raised-add a b c n m x y) z)
 
-sum_on : (most u v all had left one size : ℕ) → had ≡ one + left → had ≤ all → u ≤ most → v ≤ u → size ≡ 65536 * one → most - u + 65536 * (all - had) + (u - v) + size ≤ most - v + 65536 * (all - left)
+sum_on : (most u v all had left one size : ℕ) → had ≡ one + left → had ≤ all → u ≤ most → v ≤ u → size ≡ TEXT_LIMIT * one → most - u + TEXT_LIMIT * (all - had) + (u - v) + size ≤ most - v + TEXT_LIMIT * (all - left)
 sum_on most u v all had left one size e h k l s = omega arith
 
-sum_fault : (most u v all had one size : ℕ) → one ≤ had → had ≤ all → u ≤ most → v ≤ u → size ≡ 65536 * one → most - u + 65536 * (all - had) + (u - v) + size ≤ most + 65536 * all
+sum_fault : (most u v all had one size : ℕ) → one ≤ had → had ≤ all → u ≤ most → v ≤ u → size ≡ TEXT_LIMIT * one → most - u + TEXT_LIMIT * (all - had) + (u - v) + size ≤ most + TEXT_LIMIT * all
 sum_fault most u v all had one size e h k l s = omega arith
 
-sum_end : (most u all had : ℕ) → u ≤ most → most - u + 65536 * (all - had) + u ≤ most + 65536 * all
+sum_end : (most u all had : ℕ) → u ≤ most → most - u + TEXT_LIMIT * (all - had) + u ≤ most + TEXT_LIMIT * all
 sum_end most u all had h = omega arith
 
 pub stays_on : (keep : Keep) (known : Option (List ℕ)) (old mid mid2 new : StoreState) (most u v : ℕ) (table : List ℕ → List ℕ) (rest next all : List ℕ → List DynamicEntry) (d found first : Dynamic) (e : DynamicEntry) →
     IfKnown known (λ bytes. Stays old mid most u (table bytes) d (rest bytes) first (all bytes)) → IfKnown known (λ bytes. rest bytes ≡ e ∷ next bytes) → IfKnown known (λ bytes. kept_of keep (add_one (table bytes) d e) ≡ Ok (kept keep found)) →
-    u ≤ most → v ≤ u → mid2.taken ≤ raised mid.taken (u - v) → new.taken ≤ raised mid2.taken (cond (counts d e.tag) 65536 0) →
+    u ≤ most → v ≤ u → mid2.taken ≤ raised mid.taken (u - v) → new.taken ≤ raised mid2.taken (cond (counts d e.tag) TEXT_LIMIT 0) →
     IfKnown known (λ bytes. Stays old new most v (table bytes) found (next bytes) first (all bytes))
 stays_on keep None old mid mid2 new most u v table rest next all d found first e stays on added h k a b = tt
 stays_on keep (Some bytes) old mid mid2 new most u v table rest next all d found first e stays on added h k a b =
@@ -122,41 +123,41 @@ stays_on keep (Some bytes) old mid mid2 new most u v table rest next all d found
     ap (counted (table bytes) d) on ∙ count_kept keep (table bytes) d found e (next bytes) added in
     by (counts d e.tag) count b
   where
-    by : (c : Bool) → counted (table bytes) d (rest bytes) ≡ one_if c + counted (table bytes) found (next bytes) → new.taken ≤ raised mid2.taken (cond c 65536 0) →
+    by : (c : Bool) → counted (table bytes) d (rest bytes) ≡ one_if c + counted (table bytes) found (next bytes) → new.taken ≤ raised mid2.taken (cond c TEXT_LIMIT 0) →
         Stays old new most v (table bytes) found (next bytes) first (all bytes)
     by true count b = record {
       fewer = let less = stays.fewer in omega (arith, count, less);
-      taken = raised_three old.taken mid.taken mid2.taken new.taken (most - u + 65536 * (counted (table bytes) first (all bytes) - counted (table bytes) d (rest bytes))) (u - v) 65536 (most - v + 65536 * (counted (table bytes) first (all bytes) - counted (table bytes) found (next bytes))) stays.taken a b
-          (sum_on most u v (counted (table bytes) first (all bytes)) (counted (table bytes) d (rest bytes)) (counted (table bytes) found (next bytes)) 1 65536 count stays.fewer h k refl);
+      taken = raised_three old.taken mid.taken mid2.taken new.taken (most - u + TEXT_LIMIT * (counted (table bytes) first (all bytes) - counted (table bytes) d (rest bytes))) (u - v) TEXT_LIMIT (most - v + TEXT_LIMIT * (counted (table bytes) first (all bytes) - counted (table bytes) found (next bytes))) stays.taken a b
+          (sum_on most u v (counted (table bytes) first (all bytes)) (counted (table bytes) d (rest bytes)) (counted (table bytes) found (next bytes)) 1 TEXT_LIMIT count stays.fewer h k refl);
     }
     by false count b = record {
       fewer = let less = stays.fewer in omega (arith, count, less);
-      taken = raised_three old.taken mid.taken mid2.taken new.taken (most - u + 65536 * (counted (table bytes) first (all bytes) - counted (table bytes) d (rest bytes))) (u - v) 0 (most - v + 65536 * (counted (table bytes) first (all bytes) - counted (table bytes) found (next bytes))) stays.taken a b
+      taken = raised_three old.taken mid.taken mid2.taken new.taken (most - u + TEXT_LIMIT * (counted (table bytes) first (all bytes) - counted (table bytes) d (rest bytes))) (u - v) 0 (most - v + TEXT_LIMIT * (counted (table bytes) first (all bytes) - counted (table bytes) found (next bytes))) stays.taken a b
           (sum_on most u v (counted (table bytes) first (all bytes)) (counted (table bytes) d (rest bytes)) (counted (table bytes) found (next bytes)) 0 0 count stays.fewer h k refl);
     }
 
 -- A call that fails has read at most the bytes that the whole loop may read.
 pub stays_fault : (known : Option (List ℕ)) (old mid mid2 new : StoreState) (most u v : ℕ) (table : List ℕ → List ℕ) (rest next all : List ℕ → List DynamicEntry) (d first : Dynamic) (e : DynamicEntry) →
     IfKnown known (λ bytes. Stays old mid most u (table bytes) d (rest bytes) first (all bytes)) → IfKnown known (λ bytes. rest bytes ≡ e ∷ next bytes) →
-    u ≤ most → v ≤ u → mid2.taken ≤ raised mid.taken (u - v) → new.taken ≤ raised mid2.taken (cond (counts d e.tag) 65536 0) →
-    IfKnown known (λ bytes. new.taken ≤ raised old.taken (most + 65536 * counted (table bytes) first (all bytes)))
+    u ≤ most → v ≤ u → mid2.taken ≤ raised mid.taken (u - v) → new.taken ≤ raised mid2.taken (cond (counts d e.tag) TEXT_LIMIT 0) →
+    IfKnown known (λ bytes. new.taken ≤ raised old.taken (most + TEXT_LIMIT * counted (table bytes) first (all bytes)))
 stays_fault None old mid mid2 new most u v table rest next all d first e stays on h k a b = tt
 stays_fault (Some bytes) old mid mid2 new most u v table rest next all d first e stays on h k a b =
     let one : one_if (counts d e.tag) ≤ counted (table bytes) d (rest bytes) = subst (λ xs. one_if (counts d e.tag) ≤ counted (table bytes) d xs) (sym on) (count_one (table bytes) d e (next bytes)) in
     by (counts d e.tag) one b
   where
-    by : (c : Bool) → one_if c ≤ counted (table bytes) d (rest bytes) → new.taken ≤ raised mid2.taken (cond c 65536 0) →
-        new.taken ≤ raised old.taken (most + 65536 * counted (table bytes) first (all bytes))
-    by true one b = raised_three old.taken mid.taken mid2.taken new.taken (most - u + 65536 * (counted (table bytes) first (all bytes) - counted (table bytes) d (rest bytes))) (u - v) 65536 (most + 65536 * counted (table bytes) first (all bytes)) stays.taken a b (sum_fault most u v (counted (table bytes) first (all bytes)) (counted (table bytes) d (rest bytes)) 1 65536 one stays.fewer h k refl)
-    by false one b = raised_three old.taken mid.taken mid2.taken new.taken (most - u + 65536 * (counted (table bytes) first (all bytes) - counted (table bytes) d (rest bytes))) (u - v) 0 (most + 65536 * counted (table bytes) first (all bytes)) stays.taken a b (sum_fault most u v (counted (table bytes) first (all bytes)) (counted (table bytes) d (rest bytes)) 0 0 one stays.fewer h k refl)
+    by : (c : Bool) → one_if c ≤ counted (table bytes) d (rest bytes) → new.taken ≤ raised mid2.taken (cond c TEXT_LIMIT 0) →
+        new.taken ≤ raised old.taken (most + TEXT_LIMIT * counted (table bytes) first (all bytes))
+    by true one b = raised_three old.taken mid.taken mid2.taken new.taken (most - u + TEXT_LIMIT * (counted (table bytes) first (all bytes) - counted (table bytes) d (rest bytes))) (u - v) TEXT_LIMIT (most + TEXT_LIMIT * counted (table bytes) first (all bytes)) stays.taken a b (sum_fault most u v (counted (table bytes) first (all bytes)) (counted (table bytes) d (rest bytes)) 1 TEXT_LIMIT one stays.fewer h k refl)
+    by false one b = raised_three old.taken mid.taken mid2.taken new.taken (most - u + TEXT_LIMIT * (counted (table bytes) first (all bytes) - counted (table bytes) d (rest bytes))) (u - v) 0 (most + TEXT_LIMIT * counted (table bytes) first (all bytes)) stays.taken a b (sum_fault most u v (counted (table bytes) first (all bytes)) (counted (table bytes) d (rest bytes)) 0 0 one stays.fewer h k refl)
 
 pub stays_end : (known : Option (List ℕ)) (old mid new : StoreState) (most u : ℕ) (table : List ℕ → List ℕ) (rest all : List ℕ → List DynamicEntry) (d first : Dynamic) →
     IfKnown known (λ bytes. Stays old mid most u (table bytes) d (rest bytes) first (all bytes)) → u ≤ most → new.taken ≤ raised mid.taken u →
-    IfKnown known (λ bytes. new.taken ≤ raised old.taken (most + 65536 * counted (table bytes) first (all bytes)))
+    IfKnown known (λ bytes. new.taken ≤ raised old.taken (most + TEXT_LIMIT * counted (table bytes) first (all bytes)))
 stays_end None old mid new most u table rest all d first stays h a = tt
 stays_end (Some bytes) old mid new most u table rest all d first stays h a =
-    raised-mono old.taken new.taken (most - u + 65536 * (counted (table bytes) first (all bytes) - counted (table bytes) d (rest bytes)) + u) (most + 65536 * counted (table bytes) first (all bytes)) (sum_end most u (counted (table bytes) first (all bytes)) (counted (table bytes) d (rest bytes)) h)
-    (raised-add old.taken mid.taken new.taken (most - u + 65536 * (counted (table bytes) first (all bytes) - counted (table bytes) d (rest bytes))) u stays.taken a)
+    raised-mono old.taken new.taken (most - u + TEXT_LIMIT * (counted (table bytes) first (all bytes) - counted (table bytes) d (rest bytes)) + u) (most + TEXT_LIMIT * counted (table bytes) first (all bytes)) (sum_end most u (counted (table bytes) first (all bytes)) (counted (table bytes) d (rest bytes)) h)
+    (raised-add old.taken mid.taken new.taken (most - u + TEXT_LIMIT * (counted (table bytes) first (all bytes) - counted (table bytes) d (rest bytes))) u stays.taken a)
 
 pub stays_first : (known : Option (List ℕ)) (old : StoreState) (most u : ℕ) (table : List ℕ → List ℕ) (rest all : List ℕ → List DynamicEntry) (d first : Dynamic) →
     d ≡ first → IfKnown known (λ bytes. rest bytes ≡ all bytes) → IfKnown known (λ bytes. Stays old old most u (table bytes) d (rest bytes) first (all bytes))

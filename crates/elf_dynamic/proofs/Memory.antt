@@ -22,7 +22,7 @@ use Rattle.elf_dynamic.specs.declared.kinds.DynamicEntry.{DynamicEntry}
 use Rattle.elf_dynamic.specs.declared.kinds.Object.{Object}
 use Rattle.elf_dynamic.specs.declared.values.Values.{Values}
 use Rattle.elf_dynamic.specs.Analysis.{analysis, library_of}
-use Rattle.elf_dynamic.specs.Memory.{IsBehindTexts, SectionTakesMemory, ObjectTakesMemory, AnalysisTakesMemory}
+use Rattle.elf_dynamic.specs.Memory.{IsAfterTexts, SectionTakesMemory, ObjectTakesMemory, AnalysisTakesMemory}
 use Rattle.elf_dynamic.specs.Object.{bad_entry, soname_of, dynamic_of, object}
 use Rattle.elf_dynamic.specs.Section.{strtab, strsz, value_of, has_text, dynamic_entries}
 use Rattle.elf_dynamic.specs.Sections.{section_of, section_in, sections_in, table_by}
@@ -37,25 +37,25 @@ fault_is X Y f g h = let same : f ≡ g = cc in ap Err same
 
 -- ---- a section that has a string table
 
-by_texts : (a b : Bool) (tag : ℕ) (d : Dynamic) → IfErr (cond a (Err (BadString tag)) (cond b (Err BadSoname) (Ok d))) IsBehindTexts
+by_texts : (a b : Bool) (tag : ℕ) (d : Dynamic) → IfErr (cond a (Err (BadString tag)) (cond b (Err BadSoname) (Ok d))) IsAfterTexts
 by_texts true b tag d = tt
 by_texts false true tag d = tt
 by_texts false false tag d = tt
 
-with_texts : (t : List ℕ) (es : List DynamicEntry) → list_any has_text es ≡ true → (is_none (value_of strtab es) || is_none (value_of strsz es)) ≡ false → IfErr (section_of (Some t) es) IsBehindTexts
+with_texts : (t : List ℕ) (es : List DynamicEntry) → list_any has_text es ≡ true → (is_none (value_of strtab es) || is_none (value_of strsz es)) ≡ false → IfErr (section_of (Some t) es) IsAfterTexts
 with_texts t es h k =
     let bad = bad_entry (Some t) es in
-    subst (λ r. IfErr r IsBehindTexts) (sym (with_table t es h k)) (by_texts (is_some bad) (not (option_map_or is_name (soname_of (Some t) es) true)) (option_map_or (λ e. e.tag) bad 0) (dynamic_of (Some t) es))
+    subst (λ r. IfErr r IsAfterTexts) (sym (with_table t es h k)) (by_texts (is_some bad) (not (option_map_or is_name (soname_of (Some t) es) true)) (option_map_or (λ e. e.tag) bad 0) (dynamic_of (Some t) es))
 
 pub texts_known : (known : Option (List ℕ)) (w : ℕ) (s : Segment) (v : Values) (t : List ℕ → List ℕ) → IfKnown known (λ bytes. v ≡ values_of (dynamic_entries w bytes s)) → 0 < v.texts →
-    IfKnown known (λ bytes. table_by w bytes v.strtab v.strsz ≡ Ok (t bytes)) → IfKnown known (λ bytes. IfErr (section_in w bytes s) IsBehindTexts)
+    IfKnown known (λ bytes. table_by w bytes v.strtab v.strsz ≡ Ok (t bytes)) → IfKnown known (λ bytes. IfErr (section_in w bytes s) IsAfterTexts)
 unfolding section_in
 texts_known known w s v t is h there =
-    both {P = λ bytes. v ≡ values_of (dynamic_entries w bytes s)} {Q = λ bytes. table_by w bytes v.strtab v.strsz ≡ Ok (t bytes)} {R = λ bytes. IfErr (section_in w bytes s) IsBehindTexts} known is there
+    both {P = λ bytes. v ≡ values_of (dynamic_entries w bytes s)} {Q = λ bytes. table_by w bytes v.strtab v.strsz ≡ Ok (t bytes)} {R = λ bytes. IfErr (section_in w bytes s) IsAfterTexts} known is there
     (λ bytes e there.
     let es = dynamic_entries w bytes s in
     let strings = strings_there w bytes v.strtab v.strsz (t bytes) es (sym (ap (λ v. v.strtab) e)) (sym (ap (λ v. v.strsz) e)) there in
-    subst (λ t. IfErr (section_of t es) IsBehindTexts) (sym strings.0) (with_texts (t bytes) es (some_with_text es (subst (λ n. 0 < n) (ap (λ v. v.texts) e) h)) strings.1))
+    subst (λ t. IfErr (section_of t es) IsAfterTexts) (sym strings.0) (with_texts (t bytes) es (some_with_text es (subst (λ n. 0 < n) (ap (λ v. v.texts) e) h)) strings.1))
 
 -- ---- an object
 

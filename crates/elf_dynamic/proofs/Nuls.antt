@@ -12,6 +12,7 @@ use Rattle.elf_dynamic.specs.Section.{bytes_of, is_nul, near, has_text_at}
 use Rattle.elf_dynamic.specs.Texts.{before_nul, text_found}
 use Rattle.elf_dynamic.proofs.Known.{with, both}
 use Rattle.elf_dynamic.proofs.Live.{while_true, while_false, part_on}
+use Rattle.elf_dynamic.specs.declared.text.TheConstants.{TEXT_LIMIT}
 
 -- ---- two pieces
 
@@ -46,8 +47,8 @@ some_if : (b : Bool) (xs ys : List ℕ) → cond b (Some (xs ++ ys)) None ≡ op
 some_if true xs ys = refl
 some_if false xs ys = refl
 
-nul_behind : (xs ys : List ℕ) → list_any is_nul xs ≡ false → before_nul (xs ++ ys) ≡ option_map (λ r. xs ++ r) (before_nul ys)
-nul_behind xs ys h = rw (list_any-append is_nul xs ys, h, while_on xs ys h) (some_if (list_any is_nul ys) xs (take_while live ys))
+nul_after : (xs ys : List ℕ) → list_any is_nul xs ≡ false → before_nul (xs ++ ys) ≡ option_map (λ r. xs ++ r) (before_nul ys)
+nul_after xs ys h = rw (list_any-append is_nul xs ys, h, while_on xs ys h) (some_if (list_any is_nul ys) xs (take_while live ys))
 
 -- ---- the pieces of a file
 
@@ -81,9 +82,9 @@ goes_on known found piece new at count left all h none more read whole =
     (λ bytes read whole.
     let rest = take (left - count) (drop (at + count) bytes) in
     let split : take left (drop at bytes) ≡ piece ++ rest = cut count left at bytes h ∙ ap (λ xs. xs ++ rest) (sym read) in
-    let behind : before_nul (take left (drop at bytes)) ≡ option_map (λ r. piece ++ r) (before_nul rest) = ap before_nul split ∙ nul_behind piece rest none in
+    let following : before_nul (take left (drop at bytes)) ≡ option_map (λ r. piece ++ r) (before_nul rest) = ap before_nul split ∙ nul_after piece rest none in
     let all_of_it : new ≡ found ++ piece = more ∙ ap (λ xs. found ++ xs) (while_none piece none) in
-    ap (λ xs. option_map (λ r. xs ++ r) (before_nul rest)) all_of_it ∙ map_map found piece (before_nul rest) ∙ sym (ap (option_map (λ r. found ++ r)) behind) ∙ whole)
+    ap (λ xs. option_map (λ r. xs ++ r) (before_nul rest)) all_of_it ∙ map_map found piece (before_nul rest) ∙ sym (ap (option_map (λ r. found ++ r)) following) ∙ whole)
 
 -- ---- whether there is a NUL, read in pieces
 
@@ -115,17 +116,17 @@ nul_on known piece at count end all h none read whole =
 
 -- ---- the text at an offset of a table
 
-near_is : (most offset at size : ℕ) (bytes : List ℕ) → offset < size → most ≡ min (size - offset) 65536 → take 65536 (drop offset (take size (drop at bytes))) ≡ take most (drop (at + offset) bytes)
+near_is : (most offset at size : ℕ) (bytes : List ℕ) → offset < size → most ≡ min (size - offset) TEXT_LIMIT → take TEXT_LIMIT (drop offset (take size (drop at bytes))) ≡ take most (drop (at + offset) bytes)
 near_is most offset at size bytes h e =
     let part = part_on offset size at bytes (omega arith) in
     let rest = drop (at + offset) bytes in
     let n = size - offset in
-    let by : (n < 65536) ⊎ (65536 ≤ n) → take 65536 (take n rest) ≡ take most rest =
-    λ c. elim c as (λ _. take 65536 (take n rest) ≡ take most rest) [
-      | inl less ↦ let same : n ≡ most = omega arith in take_all 65536 (take n rest) (omega (arith, length-take n rest)) ∙ ap (λ k. take k rest) same
-      | inr more ↦ let same : 65536 ≡ most = omega arith in take-take 65536 n rest more ∙ ap (λ k. take k rest) same
+    let by : (n < TEXT_LIMIT) ⊎ (TEXT_LIMIT ≤ n) → take TEXT_LIMIT (take n rest) ≡ take most rest =
+    λ c. elim c as (λ _. take TEXT_LIMIT (take n rest) ≡ take most rest) [
+      | inl less ↦ let same : n ≡ most = omega arith in take_all TEXT_LIMIT (take n rest) (omega (arith, length-take n rest)) ∙ ap (λ k. take k rest) same
+      | inr more ↦ let same : TEXT_LIMIT ≡ most = omega arith in take-take TEXT_LIMIT n rest more ∙ ap (λ k. take k rest) same
     ] in
-    ap (take 65536) part ∙ by (cases_lt n 65536)
+    ap (take TEXT_LIMIT) part ∙ by (cases_lt n TEXT_LIMIT)
 
 within_table : (offset : ℕ) (t : Place) (bytes : List ℕ) → offset < t.size → t.at + t.size ≤ length bytes → nat_lt offset (length (bytes_of t bytes)) ≡ true
 within_table offset t bytes h inside =
@@ -135,7 +136,7 @@ within_table offset t bytes h inside =
 text_by : (a : Bool) (b : Bool) (o : Option (List ℕ)) → a ≡ true → cond b o None ≡ cond (a && b) o None
 text_by a b o h = rw h refl
 
-text_is : (most offset : ℕ) (t : Place) (bytes : List ℕ) → offset < t.size → t.at + t.size ≤ length bytes → most ≡ min (t.size - offset) 65536 →
+text_is : (most offset : ℕ) (t : Place) (bytes : List ℕ) → offset < t.size → t.at + t.size ≤ length bytes → most ≡ min (t.size - offset) TEXT_LIMIT →
     before_nul (take most (drop (t.at + offset) bytes)) ≡ text_found (bytes_of t bytes) offset
 unfolding near
 text_is most offset t bytes h inside e =
@@ -144,13 +145,13 @@ text_is most offset t bytes h inside e =
 has_by : (a b : Bool) → a ≡ true → b ≡ (a && b)
 has_by a b h = rw h refl
 
-has_is : (most offset : ℕ) (t : Place) (bytes : List ℕ) → offset < t.size → t.at + t.size ≤ length bytes → most ≡ min (t.size - offset) 65536 →
+has_is : (most offset : ℕ) (t : Place) (bytes : List ℕ) → offset < t.size → t.at + t.size ≤ length bytes → most ≡ min (t.size - offset) TEXT_LIMIT →
     list_any is_nul (take most (drop (t.at + offset) bytes)) ≡ has_text_at (bytes_of t bytes) offset
 unfolding near
 has_is most offset t bytes h inside e =
     ap (list_any is_nul) (sym (near_is most offset t.at t.size bytes h e)) ∙ has_by (nat_lt offset (length (bytes_of t bytes))) _ (within_table offset t bytes h inside)
 
-pub text_known : {F : Type 0} (known : Option (List ℕ)) (most offset : ℕ) (t : Place) (size : ℕ) (r : Result (Option (List ℕ)) F) → offset < t.size → t.at + t.size ≤ size → most ≡ min (t.size - offset) 65536 →
+pub text_known : {F : Type 0} (known : Option (List ℕ)) (most offset : ℕ) (t : Place) (size : ℕ) (r : Result (Option (List ℕ)) F) → offset < t.size → t.at + t.size ≤ size → most ≡ min (t.size - offset) TEXT_LIMIT →
     IfKnown known (λ bytes. length bytes ≡ size) → IfOk r (λ o. IfKnown known (λ bytes. o ≡ before_nul (take most (drop (t.at + offset) bytes)))) →
     IfOk r (λ o. IfKnown known (λ bytes. o ≡ text_found (bytes_of t bytes) offset))
 text_known known most offset t size (Err f) h inside e same read = tt
@@ -158,7 +159,7 @@ text_known known most offset t size (Ok o) h inside e same read =
     both {P = λ bytes. length bytes ≡ size} {Q = λ bytes. o ≡ before_nul (take most (drop (t.at + offset) bytes))} {R = λ bytes. o ≡ text_found (bytes_of t bytes) offset} known same read
     (λ bytes same read. read ∙ text_is most offset t bytes h (omega arith) e)
 
-pub nul_known : {F : Type 0} (known : Option (List ℕ)) (most offset : ℕ) (t : Place) (size : ℕ) (r : Result Bool F) → offset < t.size → t.at + t.size ≤ size → most ≡ min (t.size - offset) 65536 →
+pub nul_known : {F : Type 0} (known : Option (List ℕ)) (most offset : ℕ) (t : Place) (size : ℕ) (r : Result Bool F) → offset < t.size → t.at + t.size ≤ size → most ≡ min (t.size - offset) TEXT_LIMIT →
     IfKnown known (λ bytes. length bytes ≡ size) → IfOk r (λ b. IfKnown known (λ bytes. b ≡ list_any is_nul (take most (drop (t.at + offset) bytes)))) →
     IfOk r (λ b. IfKnown known (λ bytes. b ≡ has_text_at (bytes_of t bytes) offset))
 nul_known known most offset t size (Err f) h inside e same read = tt

@@ -31,6 +31,7 @@ use Rattle.elf_dynamic.specs.Values.{texts_in, values_of}
 use Rattle.elf_dynamic.proofs.Known.{before, with, both, three}
 use Rattle.elf_dynamic.proofs.Kept.{unkept, soname_alike, name_alike}
 use Rattle.elf_dynamic.proofs.Gathered.{all_texts, picked, gathered_all, counted_all}
+use Rattle.elf_dynamic.specs.declared.text.TheConstants.{TEXT_LIMIT}
 
 -- ---- whether an entry has a text
 
@@ -190,21 +191,21 @@ strings_there w bytes (Some a) (Some n) t es ea en e = by (table_at bytes (segme
 -- ---- the bytes that were read
 
 pub known_taken : (known : Option (List ℕ)) (a b c n m w : ℕ) (s : Segment) (f : Bool) (first : Dynamic) (table : List ℕ → List ℕ) → first ≡ no_texts f → b ≤ raised a n →
-    IfKnown known (λ bytes. c ≤ raised b (m + 65536 * counted (table bytes) first (dynamic_entries w bytes s))) → IfKnown known (λ bytes. c ≤ raised a (n + m + 65536 * counting_in w bytes s))
+    IfKnown known (λ bytes. c ≤ raised b (m + TEXT_LIMIT * counted (table bytes) first (dynamic_entries w bytes s))) → IfKnown known (λ bytes. c ≤ raised a (n + m + TEXT_LIMIT * counting_in w bytes s))
 unfolding counting_in
 known_taken None a b c n m w s f first table new h k = tt
 known_taken (Some bytes) a b c n m w s f first table new h k =
     let count : counted (table bytes) first (dynamic_entries w bytes s) ≡ length (counting_entries (dynamic_entries w bytes s)) =
     ap (λ d. counted (table bytes) d (dynamic_entries w bytes s)) new ∙ counted_all (table bytes) f (dynamic_entries w bytes s) in
-    raised-mono a c (n + (m + 65536 * counted (table bytes) first (dynamic_entries w bytes s))) (n + m + 65536 * length (counting_entries (dynamic_entries w bytes s))) (omega (arith, count))
-    (raised-add a b c n (m + 65536 * counted (table bytes) first (dynamic_entries w bytes s)) h k)
+    raised-mono a c (n + (m + TEXT_LIMIT * counted (table bytes) first (dynamic_entries w bytes s))) (n + m + TEXT_LIMIT * length (counting_entries (dynamic_entries w bytes s))) (omega (arith, count))
+    (raised-add a b c n (m + TEXT_LIMIT * counted (table bytes) first (dynamic_entries w bytes s)) h k)
 
 -- the same over stores, with the table before the texts
 pub texts_taken_by : {e : Ending} (s t u : StoreState) (n m w : ℕ) (d : Segment) (f : Bool) (first : Dynamic) (table : Place) → first ≡ no_texts f → OnlyReads e s t → TakesAtMost n s t →
-    OfKnown t (λ bytes. TakesAtMost (m + 65536 * counted (bytes_of table bytes) first (dynamic_entries w bytes d)) t u) → OfKnown s (λ bytes. TakesAtMost (n + m + 65536 * counting_in w bytes d) s u)
+    OfKnown t (λ bytes. TakesAtMost (m + TEXT_LIMIT * counted (bytes_of table bytes) first (dynamic_entries w bytes d)) t u) → OfKnown s (λ bytes. TakesAtMost (n + m + TEXT_LIMIT * counting_in w bytes d) s u)
 texts_taken_by s t u n m w d f first table new reads before_texts taken =
     known_taken (known_content s) s.taken t.taken u.taken n m w d f first (bytes_of table) new before_texts
-    (before (λ bytes. TakesAtMost (m + 65536 * counted (bytes_of table bytes) first (dynamic_entries w bytes d)) t u) s t reads taken)
+    (before (λ bytes. TakesAtMost (m + TEXT_LIMIT * counted (bytes_of table bytes) first (dynamic_entries w bytes d)) t u) s t reads taken)
 
 -- ---- the section, if the content is known
 

@@ -11,7 +11,7 @@ use Rattle.lib_types.specs.declared.analysis.Defect.{Defect}
 use Rattle.lib_types.specs.declared.analysis.Defect.TheVariants.{BadMachine, NotShared, NoDynamic}
 use Rattle.elf_headers.specs.Layout.{is_wide, word_size, etype, machine}
 use Rattle.elf_headers.specs.Header.{Sentence, first_defect, header_sentences, abi}
-use Rattle.elf_headers.specs.Range.{IsInRange}
+use Rattle.lib_types.specs.Ranges.{IsInRange}
 use Rattle.elf_dynamic.specs.Section.{dynamic_segment}
 use Rattle.elf_dynamic.specs.Object.{entries, table, soname_of, dynamic_sentences}
 

@@ -4,7 +4,7 @@ use Rattle.lib_types.specs.Name.{is_name}
 use Rattle.lib_types.specs.declared.analysis.Defect.{Defect}
 use Rattle.lib_types.specs.declared.analysis.Defect.TheVariants.{BadString}
 use Rattle.tree_face.specs.StoreUse.{Ending, Complete, DeviceFailed, GaveUp}
-use Rattle.elf_headers.specs.Range.{IsTextTag}
+use Rattle.lib_types.specs.Ranges.{IsTextTag}
 use Rattle.elf_dynamic.specs.declared.kinds.Dynamic.{Dynamic}
 use Rattle.elf_dynamic.specs.declared.kinds.Object.{Object}
 use Rattle.elf_headers.specs.declared.fault.HeadFault.{HeadFault}

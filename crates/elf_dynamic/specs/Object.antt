@@ -14,7 +14,7 @@ use Rattle.elf_dynamic.specs.Section.{dynamic_segment, is_outside, dynamic_entri
 
 -- ---- the parts of the section
 
--- the entries of the file, or none if there is no PT_DYNAMIC
+-- the entries of the file; a file without PT_DYNAMIC has none
 unfoldable pub entries : ℕ → List ℕ → List DynamicEntry
 entries w bytes = option_map_or (dynamic_entries w bytes) (dynamic_segment w bytes) []
 

@@ -52,7 +52,7 @@ pub struct Dynamic {
 /// What a file says to the loader.
 #[derive(Drop)]
 pub struct Object {
-    /// From `e_machine` and the class.
+    /// From `e_machine`, the class and `e_flags`.
     pub abi: Abi,
     /// `e_type`: 2 for a program at fixed addresses, 3 for a shared object.
     pub etype: u16,

@@ -1,7 +1,7 @@
 //! Reads the files of a store.
 ghost use Rattle.std.specs.Prelude.{◌≡◌, ◌+◌, ◌*◌, Ok, Err, IfOk, IsErrOf};
 ghost use Rattle.elf_headers.specs.Layout.{word_size};
-ghost use Rattle.elf_headers.specs.Range.{IsInRange};
+ghost use Rattle.lib_types.specs.Ranges.{IsInRange};
 ghost use Rattle.elf_headers.specs.Reading.{IsHeadOf, OfContent, OfKnown, OnlyReads, ReadsFile};
 ghost use Rattle.elf_dynamic.specs.Analysis as analyses;
 ghost use Rattle.elf_dynamic.specs.Faults.{IfBad, HasName, object_ending, analyse_ending};

@@ -3,7 +3,7 @@ ghost use Rattle.std.specs.Prelude.{◌≡◌, ◌≤◌, ◌+◌, ◌*◌, true
 ghost use Rattle.std.specs.Option.{option_map_or};
 ghost use Rattle.lib_types.specs.Name.{is_name};
 ghost use Rattle.lib_types.specs.declared.analysis.Defect.TheVariants.{BadSoname};
-ghost use Rattle.elf_headers.specs.Range.{IsInRange};
+ghost use Rattle.lib_types.specs.Ranges.{IsInRange};
 ghost use Rattle.elf_headers.specs.Reading.{OfKnown, TakesAtMost, OnlyReads};
 ghost use Rattle.elf_dynamic.specs.Cursor.{IsCursorOf, ReadsOn, IsTableBy, width};
 ghost use Rattle.elf_dynamic.specs.Faults.{IfBad, HasSoname, object_ending};

@@ -54,7 +54,7 @@ fn most_at(table: Place, offset: u64) -> u64
 }
 
 impl<'s, S: Store> ElfFile<'s, S> {
-    // The bytes before the first NUL in a place. None if there is no NUL.
+    // The bytes before the first NUL in a place. None if the place has no NUL.
     fn read_text(&mut self, alloc: Global, place: Place) -> Result<Option<Text>, AnalyseFault>
         requires cursor { IsCursorOf (S.state self.old.store.now) self.old.cursor }
         requires within { IsInFile self.old.cursor.head place }

@@ -6,6 +6,8 @@ mod sparse;
 pub use sparse::Sparse;
 
 #[cfg(test)]
+mod abis;
+#[cfg(test)]
 mod headers;
 #[cfg(test)]
 mod objects;

@@ -4,7 +4,7 @@ use elf_dynamic::kinds::{Dynamic, Object};
 use elf_dynamic::object;
 use elf_maker::Spec;
 use elf_samples::{SampleFault, file_of, needing, texts};
-use lib_types::{Abi, Defect, NoMemory, Text, Texts};
+use lib_types::{ABIS, Abi, Defect, NoMemory, Text, Texts};
 use std::alloc::Global;
 use std::test::Fail;
 use tree_face::SureStore;
@@ -81,7 +81,7 @@ fn with_parts(alloc: Global, abi: Abi) -> Result<Vec<u8>, Fail> {
 #[test]
 fn each_part_of_an_object_is_read(rt: HostRuntime) -> Result<(), Fail> {
     let alloc = rt.alloc();
-    for abi in [Abi::I386, Abi::X86_64, Abi::X32, Abi::Aarch64] {
+    for abi in ABIS {
         let found = read(alloc, with_parts(alloc, abi)?)?;
         assert!(rt; has_parts(&found, abi));
     }

@@ -68,38 +68,6 @@ fn the_first_defect_of_a_short_file_counts(rt: HostRuntime) -> Result<(), Fail> 
     Ok(())
 }
 
-// The ABI of a library, the least byte of the machine that replaces its own, and the resulting ABI or defect.
-const MACHINES: &[(Abi, &[u8], Abi, Option<Defect>)] = &[
-    (Abi::X86_64, &[183], Abi::Aarch64, None),
-    (Abi::I386, &[62], Abi::X32, None),
-    (
-        Abi::X86_64,
-        &[3],
-        Abi::X86_64,
-        Some(Defect::BadMachine { number: 3 }),
-    ),
-    (
-        Abi::I386,
-        &[183],
-        Abi::X86_64,
-        Some(Defect::BadMachine { number: 183 }),
-    ),
-];
-
-fn with_machine(alloc: Global, abi: Abi, machine: &'static [u8]) -> Result<Vec<u8>, Fail> {
-    changed(alloc, &libz(alloc, abi)?, &[(18, machine)])
-}
-
-#[test]
-fn machine_and_class_give_the_abi(rt: HostRuntime) -> Result<(), Fail> {
-    let alloc = rt.alloc();
-    for (abi, machine, becomes, want) in MACHINES {
-        let bytes = with_machine(alloc, *abi, *machine)?;
-        assert!(rt; gives(alloc, bytes, *becomes, *want)?, "{machine:?}");
-    }
-    Ok(())
-}
-
 // The analysis of a library followed by zeros, the number of bytes that are read, and the number of readings.
 fn sparse(alloc: Global) -> Result<(Option<Analysis>, u64, u64), Fail> {
     let mut store = Sparse::new(libz(alloc, Abi::X86_64)?);

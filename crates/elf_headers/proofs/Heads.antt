@@ -30,8 +30,8 @@ unfolding head_of
 bad_data size bytes magic long kind h = rw (magic, long, kind, h) refl
 
 -- the rules after those on the identification
-abbrev behind : ℕ → ℕ → List ℕ → Result Head Defect
-behind w size bytes =
+abbrev following : ℕ → ℕ → List ℕ → Result Head Defect
+following w size bytes =
     cond (nat_lt size (header_length w)) (Err (TooShort size))
     (cond (is_none (abi_in w bytes)) (Err (BadMachine (machine bytes)))
     (cond (not (is_loadable bytes)) (Err (NotShared (etype bytes)))
@@ -47,7 +47,7 @@ by_rest a b c d false false true h x1 x2 x3 x4 x5 x6 x7 x8 r ha hb hc hd = rw (h
 by_rest a b c d false false false true x1 x2 x3 x4 x5 x6 x7 x8 r ha hb hc hd = rw (ha, hb, hc, hd) refl
 by_rest a b c d false false false false x1 x2 x3 x4 x5 x6 x7 x8 r ha hb hc hd = rw (ha, hb, hc, hd) refl
 
-pub identified : {w size : ℕ} {bytes : List ℕ} → IsIdentified w size bytes → head_of size bytes ≡ behind w size bytes
+pub identified : {w size : ℕ} {bytes : List ℕ} → IsIdentified w size bytes → head_of size bytes ≡ following w size bytes
 unfolding head_of
 identified {w = w} {size = size} {bytes = bytes} i =
     rw i.width (by_rest

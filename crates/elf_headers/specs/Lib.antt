@@ -2,5 +2,4 @@ pub mod Faults
 pub mod Header
 pub mod Identified
 pub mod Layout
-pub mod Range
 pub mod Reading

@@ -4,7 +4,7 @@ ghost use Rattle.lib_types.specs.Bytes.{field};
 ghost use Rattle.elf_headers.specs.Layout.{at_class, class, encoding, is_wide, word_size, segment_at, program_header_length};
 ghost use Rattle.elf_headers.specs.Header.{has_magic, has_bad_headers, head_of};
 ghost use Rattle.elf_headers.specs.Identified.{IsIdentified};
-ghost use Rattle.elf_headers.specs.Range.{IsInRange};
+ghost use Rattle.lib_types.specs.Ranges.{IsInRange};
 
 use crate::kinds::{Head, Segment};
 use byteorder::{ByteOrder, LittleEndian};

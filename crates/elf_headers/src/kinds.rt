@@ -4,7 +4,7 @@ use lib_types::Abi;
 /// The contents of a file's header.
 #[derive(Clone, Copy, Debug, PartialEq, Eq)]
 pub struct Head {
-    /// From `e_machine` and the class.
+    /// From `e_machine`, the class and `e_flags`.
     pub abi: Abi,
     /// `e_type`: 2 for a program at fixed addresses, 3 for a shared object.
     pub etype: u16,

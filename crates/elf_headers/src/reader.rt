@@ -6,7 +6,7 @@ ghost use Rattle.elf_headers.specs.Faults.{IfBad, head_ending};
 ghost use Rattle.elf_headers.specs.Header as spec;
 ghost use Rattle.elf_headers.specs.Layout.{word_size};
 ghost use Rattle.elf_headers.specs.Layout as layout;
-ghost use Rattle.elf_headers.specs.Range.{IsInRange};
+ghost use Rattle.lib_types.specs.Ranges.{IsInRange};
 ghost use Rattle.elf_headers.specs.Reading.{known_content, OfContent, OfKnown, TakesAtMost, reading_ending, ReadsFile, KeepsFile, OnlyReads, IsHeadOf};
 
 use crate::HeadFault;

@@ -4,5 +4,5 @@ pub mod Lengths
 pub mod Makeable
 pub mod Reading
 pub mod Named
-pub mod Said
+pub mod Info
 pub mod ReadBack

@@ -47,8 +47,8 @@ near_there : (t : Tagged) (texts : List Tagged) (front table : List ℕ) (at : �
 unfolding near
 near_there t texts front table at is here =
     let rest = t.1 ++ 0 ∷ ended_texts texts in
-    let behind : drop at table ≡ rest = ap (λ k. drop k table) here ∙ ap (drop (length front)) (is ∙ one_on t texts front) ∙ drop-append_seam front rest in
-    ap (take TEXT_LIMIT) behind
+    let following : drop at table ≡ rest = ap (λ k. drop k table) here ∙ ap (drop (length front)) (is ∙ one_on t texts front) ∙ drop-append_seam front rest in
+    ap (take TEXT_LIMIT) following
 
 within : (t : Tagged) (texts : List Tagged) (front table : List ℕ) (at : ℕ) → table ≡ front ++ ended_texts (t ∷ texts) → at ≡ length front → nat_lt at (length table) ≡ true
 within t texts front table at is here =
@@ -90,10 +90,10 @@ label_small : (a : ℕ) → is_label a ≡ true → a < 2 ^ 32
 label_small a h = grind (arith, nat_tests)
 
 -- the value of a tag without a text is its value in the other entries
-pub value_behind : (tag at : ℕ) (texts : List Tagged) (others : List DynamicEntry) → is_label tag ≡ false → AreLabelled texts → value_of tag (text_entries at texts ++ others) ≡ value_of tag others
-value_behind tag at [] others h are = refl
-value_behind tag at (t ∷ texts) others h are =
-    let ih = value_behind tag (at + length (ended t)) texts others h are.1 in
+pub value_after : (tag at : ℕ) (texts : List Tagged) (others : List DynamicEntry) → is_label tag ≡ false → AreLabelled texts → value_of tag (text_entries at texts ++ others) ≡ value_of tag others
+value_after tag at [] others h are = refl
+value_after tag at (t ∷ texts) others h are =
+    let ih = value_after tag (at + length (ended t)) texts others h are.1 in
     rw (other_tag t.0 tag are.0 h) ih
 
 unfoldable pub found : ℕ → List Tagged → Option (List ℕ)

@@ -24,7 +24,7 @@ use Rattle.elf_maker.specs.Parts.{IsWidth, entries_bytes}
 use Rattle.elf_maker.proofs.Makeable.{Fits, fits}
 use Rattle.elf_maker.proofs.Lengths.{has_width, made_length, length_header, length_program_header, length_entries}
 use Rattle.elf_maker.proofs.Reading.{offset_of, nth_field, below, header_there, entries_there}
-use Rattle.elf_maker.proofs.Said.{live_of, live_is, small_is, Says, says}
+use Rattle.elf_maker.proofs.Info.{live_of, live_is, small_is, Says, says}
 use Rattle.elf_maker.proofs.Steps.{strings_size}
 
 -- ---- the parts of the file
@@ -210,7 +210,7 @@ record Good (w address : ℕ) (bytes : List ℕ) (spec : Spec) (s : Segment) : T
   pub inside : is_outside bytes s ≡ false
   pub entries_is : read_entries w bytes ≡ live_of address spec.dynamic
   pub table_is : read_table w bytes ≡ Some (strings spec.dynamic)
-  pub said : Says address spec.dynamic
+  pub info : Says address spec.dynamic
 
 none_hold : (w address : ℕ) (bytes : List ℕ) (spec : Spec) (s : Segment) → Good w address bytes spec s → NoneHold (rows_of w bytes)
 none_hold w address bytes spec s g = (
@@ -232,12 +232,12 @@ none_hold w address bytes spec s g = (
                 (
                   ap (λ o. option_map_or (is_outside bytes) o false) g.segment_is ∙ g.inside,
                   (
-                    ap lacks_table g.entries_is ∙ g.said.no_lack,
+                    ap lacks_table g.entries_is ∙ g.info.no_lack,
                     (
-                      rw (g.entries_is, g.table_is) (g.said.not_outside),
+                      rw (g.entries_is, g.table_is) (g.info.not_outside),
                       (
-                        rw (g.entries_is, g.table_is) (ap is_some g.said.none_bad_there),
-                        (rw (g.entries_is, g.table_is) (ap not g.said.good_soname), tt),
+                        rw (g.entries_is, g.table_is) (ap is_some g.info.none_bad_there),
+                        (rw (g.entries_is, g.table_is) (ap not g.info.good_soname), tt),
                       ),
                     ),
                   ),
@@ -255,8 +255,8 @@ object_is : (w address : ℕ) (bytes : List ℕ) (spec : Spec) (s : Segment) →
 unfolding object
 object_is w address bytes spec s g =
     let none : first_defect (object_sentences bytes) ≡ None = ap (λ w. first_defect (rows_of w bytes)) g.width_is ∙ none_first (rows_of w bytes) (none_hold w address bytes spec s g) in
-    let said : dynamic w bytes ≡ Some spec.dynamic = rw (g.segment_is, g.entries_is, g.table_is) (ap Some g.said.all_there) in
-    let there : as_object bytes ≡ Ok (object_of spec) = rw (g.abi_is, g.etype_is, g.width_is, said) refl in
+    let info : dynamic w bytes ≡ Some spec.dynamic = rw (g.segment_is, g.entries_is, g.table_is) (ap Some g.info.all_there) in
+    let there : as_object bytes ≡ Ok (object_of spec) = rw (g.abi_is, g.etype_is, g.width_is, info) refl in
     ap (λ o. unless_defect o (as_object bytes)) none ∙ there
 
 -- ---- a generated file
@@ -303,7 +303,7 @@ good w spec of_abi width h length_is short =
       inside = not_less (section_at w + section_size w d) (length bytes) (omega (arith, length_is));
       entries_is = all_entries;
       table_is = rw (all_entries, say.strtab_there, say.strsz_there, sym the_load) in_load;
-      said = say;
+      info = say;
     }
 
 pub read_back : (spec : Spec) (bytes : List ℕ) → is_spec spec ≡ true → bytes ≡ made spec → length (made spec) ≤ FILE_MAX → object bytes ≡ Ok (object_of spec)

@@ -19,8 +19,8 @@ use Rattle.elf_maker.specs.Parts.{IsWidth, entries_bytes}
 pub field_there : (n x at : ℕ) (front rest : List ℕ) → x < 256 ^ n → at ≡ length front → field (front ++ (little_bytes n x ++ rest)) at n ≡ x
 field_there n x at front rest small here =
     let all = front ++ (little_bytes n x ++ rest) in
-    let behind : drop at all ≡ little_bytes n x ++ rest = ap (λ k. drop k all) here ∙ drop-append_seam front (little_bytes n x ++ rest) in
-    sym (field_drop n at all) ∙ ap (λ xs. field xs 0 n) behind ∙ little_number-reads_back n x rest small
+    let following : drop at all ≡ little_bytes n x ++ rest = ap (λ k. drop k all) here ∙ drop-append_seam front (little_bytes n x ++ rest) in
+    sym (field_drop n at all) ∙ ap (λ xs. field xs 0 n) following ∙ little_number-reads_back n x rest small
 
 pub below : (w x : ℕ) → IsWidth w → x < 2 ^ 32 → x < 256 ^ w
 below w x (inl four) h = rw four (omega arith)
@@ -49,8 +49,8 @@ nth_field (f ∷ fields) zero n x at front rest is small here =
     ap (λ bytes. field bytes at n) (one_on f fields front rest) ∙ (rw (size, value) there)
 nth_field (f ∷ fields) (suc i) n x at front rest is small here =
     let next = front ++ little_bytes f.0 f.1 in
-    let behind : length next ≡ length front + f.0 = length-append front (little_bytes f.0 f.1) ∙ ap (λ k. length front + k) (length-bytes_low_first 0 f.0 f.1) in
-    let ih = nth_field fields i n x at next rest is small (omega (arith, here, behind)) in
+    let following : length next ≡ length front + f.0 = length-append front (little_bytes f.0 f.1) ∙ ap (λ k. length front + k) (length-bytes_low_first 0 f.0 f.1) in
+    let ih = nth_field fields i n x at next rest is small (omega (arith, here, following)) in
     ap (λ bytes. field bytes at n) (one_on f fields front rest ∙ sym (append_assoc front (little_bytes f.0 f.1) (bytes_of fields ++ rest))) ∙ ih
 
 -- ---- a program header
@@ -97,9 +97,9 @@ entries_there w at index (e ∷ es) front rest width small here =
     let next = front ++ bytes_of (entry_fields w e) in
     let all = entry_on w e es front rest in
     let place = at + index * (2 * w) in
-    let behind = length-append front (bytes_of (entry_fields w e)) in
+    let following = length-append front (bytes_of (entry_fields w e)) in
     let more : at + (index + 1) * (2 * w) ≡ place + 2 * w = omega arith in
-    let ih = entries_there w at (index + 1) es next rest width small.2 (omega (arith, behind, length_entry w e)) in
+    let ih = entries_there w at (index + 1) es next rest width small.2 (omega (arith, following, length_entry w e)) in
     let same : front ++ (bytes_of (entry_fields w e) ++ (entries_bytes w es ++ rest)) ≡ next ++ (entries_bytes w es ++ rest) = sym (append_assoc front (bytes_of (entry_fields w e)) (entries_bytes w es ++ rest)) in
     let tag = nth_field (entry_fields w e) 0 w e.tag place front (entries_bytes w es ++ rest) refl (below w e.tag width small.0) (omega arith) in
     let value = nth_field (entry_fields w e) 1 w e.value (place + w) front (entries_bytes w es ++ rest) refl (below w e.value width small.1) (omega arith) in

@@ -130,9 +130,9 @@ pub entry_step : (w next i : ℕ) (texts : List (List ℕ)) (text out total : Li
 entry_step w next i texts text out total h is e =
     let rest = needed_texts (drop (i + 1) texts) in
     let first : DynamicEntry = record { tag = 1; value = next } in
-    let behind : length (text ++ 0 ∷ []) ≡ length text + 1 = length-append text (0 ∷ []) in
+    let following : length (text ++ 0 ∷ []) ≡ length text + 1 = length-append text (0 ∷ []) in
     let split : entries_bytes w (text_entries next (needed_texts (drop i texts))) ≡ entries_bytes w (first ∷ text_entries (next + (length text + 1)) rest) =
-    ap (λ ts. entries_bytes w (text_entries next (needed_texts ts))) (one_more i texts text h is) ∙ ap (λ n. entries_bytes w (first ∷ text_entries (next + n) rest)) behind in
+    ap (λ ts. entries_bytes w (text_entries next (needed_texts ts))) (one_more i texts text h is) ∙ ap (λ n. entries_bytes w (first ∷ text_entries (next + n) rest)) following in
     let parts = entries_append w (first ∷ []) (text_entries (next + (length text + 1)) rest) in
     append_assoc out (entries_bytes w (first ∷ [])) (entries_bytes w (text_entries (next + (length text + 1)) rest)) ∙ ap (λ r. out ++ r) (sym (split ∙ parts)) ∙ e
 

@@ -43,7 +43,7 @@ fn put_needed(out: &mut Vec<u8>, w: usize, at: u64, texts: &[Text]) -> Result<u6
     requires width { IsWidth w }
     requires short { at + length (ended_texts (needed_texts texts.now)) ≤ FILE_MAX }
     ensures put { OnOk result (out.new.items ≡ out.old.items ++ entries_bytes w (text_entries at (needed_texts texts.now))) }
-    ensures behind { IfOk result (λ n. n ≡ at + length (ended_texts (needed_texts texts.now))) }
+    ensures following { IfOk result (λ n. n ≡ at + length (ended_texts (needed_texts texts.now))) }
 {
     let mut next = at;
     for text in texts {
@@ -72,7 +72,7 @@ fn put_optional(
     requires width { IsWidth w }
     requires short { at + length (ended_texts (tagged_if tag text.now)) ≤ FILE_MAX }
     ensures put { OnOk result (out.new.items ≡ out.old.items ++ entries_bytes w (text_entries at (tagged_if tag text.now))) }
-    ensures behind { IfOk result (λ n. n ≡ at + length (ended_texts (tagged_if tag text.now))) }
+    ensures following { IfOk result (λ n. n ≡ at + length (ended_texts (tagged_if tag text.now))) }
 {
     let Some(text) = text else {
         return Ok(at);

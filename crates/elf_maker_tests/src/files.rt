@@ -42,10 +42,10 @@ fn has_numbers(bytes: &[u8], at: usize, size: usize, want: &[u64]) -> bool {
         if number(bytes, next, size) != Some(value) {
             return false;
         }
-        let Some(behind) = next.checked_add(size) else {
+        let Some(following) = next.checked_add(size) else {
             return false;
         };
-        next = behind;
+        next = following;
     }
     true
 }
@@ -75,6 +75,7 @@ const ABIS: &[(Abi, u16, &[Fields<'_>])] = &[
         &[
             (4, 1, &[1, 1, 1, 0, 0, 0, 0, 0, 0, 0, 0, 0]),
             (16, 2, &[2, 3]),
+            (36, 4, &[0]),
         ],
     ),
     (
@@ -83,6 +84,7 @@ const ABIS: &[(Abi, u16, &[Fields<'_>])] = &[
         &[
             (4, 1, &[2, 1, 1, 0, 0, 0, 0, 0, 0, 0, 0, 0]),
             (16, 2, &[3, 62]),
+            (48, 4, &[0]),
         ],
     ),
     (
@@ -91,6 +93,7 @@ const ABIS: &[(Abi, u16, &[Fields<'_>])] = &[
         &[
             (4, 1, &[1, 1, 1, 0, 0, 0, 0, 0, 0, 0, 0, 0]),
             (16, 2, &[3, 62]),
+            (36, 4, &[0]),
         ],
     ),
     (
@@ -99,12 +102,31 @@ const ABIS: &[(Abi, u16, &[Fields<'_>])] = &[
         &[
             (4, 1, &[2, 1, 1, 0, 0, 0, 0, 0, 0, 0, 0, 0]),
             (16, 2, &[2, 183]),
+            (48, 4, &[0]),
+        ],
+    ),
+    (
+        Abi::ArmHf,
+        2,
+        &[
+            (4, 1, &[1, 1, 1, 0, 0, 0, 0, 0, 0, 0, 0, 0]),
+            (16, 2, &[2, 40]),
+            (36, 4, &[0x400]),
+        ],
+    ),
+    (
+        Abi::Riscv64D,
+        3,
+        &[
+            (4, 1, &[2, 1, 1, 0, 0, 0, 0, 0, 0, 0, 0, 0]),
+            (16, 2, &[3, 243]),
+            (48, 4, &[4]),
         ],
     ),
 ];
 
 #[test]
-fn each_abi_has_its_class_and_machine(rt: HostRuntime) -> Result<(), Fail> {
+fn each_abi_has_its_class_machine_and_flags(rt: HostRuntime) -> Result<(), Fail> {
     for (abi, etype, fields) in ABIS {
         let bytes = full_file(rt.alloc(), *abi, *etype)?;
         assert!(rt; bytes.starts_with(b"\x7fELF"));

@@ -82,7 +82,7 @@ const NO_NAMES: &[&str] = &["", ".", "..", "a/b", "a\0b"];
 const NO_TYPES: &[u16] = &[0, 1, 4, 258];
 
 #[test]
-fn what_cannot_be_made_is_told(rt: HostRuntime) -> Result<(), Fail> {
+fn what_cannot_be_made_is_named(rt: HostRuntime) -> Result<(), Fail> {
     let alloc = rt.alloc();
     for soname in NO_NAMES {
         assert!(rt; is_no_name(alloc, soname)?, "{soname}");

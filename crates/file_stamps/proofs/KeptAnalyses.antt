@@ -98,9 +98,9 @@ unread_others what new path (q ∷ paths) same out = by_test (bytes_eq path q)
     rw (same q (turned path q h)) (ap (λ l. cond (is_none (what q)) (q ∷ l) l) rest))
 
 -- in a strictly sorted list the first path doesn't occur again
-pub not_behind : (path : List ℕ) (paths : List (List ℕ)) → IsStrictlySortedBy (slice_cmp nat_cmp) (path ∷ paths) → is_in paths path ≡ false
+pub not_after : (path : List ℕ) (paths : List (List ℕ)) → IsStrictlySortedBy (slice_cmp nat_cmp) (path ∷ paths) → is_in paths path ≡ false
 unfolding IsStrictlySortedBy
-not_behind path paths sorted = later paths sorted.0
+not_after path paths sorted = later paths sorted.0
   where
     later : (xs : List (List ℕ)) → AllByRecursion (λ y. slice_cmp nat_cmp path y ≡ Less) xs → is_in xs path ≡ false
     later [] all = refl

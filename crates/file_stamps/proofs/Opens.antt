@@ -1,15 +1,16 @@
--- The number of files that are opened, assuming that equal identities imply equal contents.
-use Rattle.std.proofs.Common.{◌≡◌, ◌+◌, ◌++◌, ◌||◌, ℕ, Bool, true, false, cond, not, List, [], ◌∷◌, filter, length, refl, ap, sym, ◌∙◌, arith, Option, Some, None}
+-- The number of files that are opened: each file without an identity, and one file of each identity that has no stamp.
+use Rattle.std.proofs.Common.{◌≡◌, ◌+◌, ◌++◌, ◌||◌, if◌then◌else◌, ℕ, Bool, true, false, cond, not, List, [], ◌∷◌, filter, length, refl, ap, sym, subst, ◌∙◌, arith, Option, Some, None}
+use Rattle.std.proofs.lemmas.Cmp.{tied_itself}
 use Rattle.std.proofs.lemmas.List.{append-nil}
+use Rattle.std.proofs.lemmas.List.Folds.{list_any-append}
 use Rattle.std.specs.List.{cons_option}
-use Rattle.std.specs.List.Sorted.{IsStrictlySortedBy}
-use Rattle.std.specs.Option.{is_none, is_some, option_and_then, option_map}
-use Rattle.std.specs.Prelude.{IfSome}
-use Rattle.aux_cache.proofs.Found.{is_same, more_put, same_is, same_put}
-use Rattle.aux_cache.proofs.Sorted.{sorted_put}
-use Rattle.aux_cache.specs.Stamps.{IsSortedById, put, stamp_of}
+use Rattle.std.specs.Option.{is_none, is_some, option_map_or}
+use Rattle.std.specs.Ordering.{is_eq}
+use Rattle.std.specs.Set.{distinct_count, unique_keys}
+use Rattle.aux_cache.proofs.Found.{same_is}
+use Rattle.aux_cache.proofs.Sorted.{id_total}
+use Rattle.aux_cache.specs.Stamps.{stamp_of}
 use Rattle.aux_cache.specs.declared.stamps.Stamp.{Stamp}
-use Rattle.elf_dynamic.specs.Analysis.{analysis}
 use Rattle.elf_dynamic.specs.Begun.{file_keys, key_in}
 use Rattle.string_pool.proofs.Members.{AreSorted}
 use Rattle.image_tree.specs.Tree.{Nodes, node_at}
@@ -17,234 +18,187 @@ use Rattle.image_tree.specs.declared.node.Id.{Id}
 use Rattle.image_tree.specs.declared.node.Node.{Node}
 use Rattle.image_tree.specs.declared.node.Node.TheVariants as node
 use Rattle.lib_types.proofs.SortedPairs.{by_test}
-use Rattle.lib_types.specs.declared.analysis.Analysis.{Analysis}
-use Rattle.lib_types.specs.declared.analysis.Analysis.TheVariants.{Lib, Not}
-use Rattle.tree_face.specs.Store.{Contents}
 use Rattle.file_stamps.proofs.Opened.{opened_are}
-use Rattle.file_stamps.proofs.Stamps.{stamped_both, stamped_put, stamped_twice}
-use Rattle.file_stamps.specs.Files.{what_is}
-use Rattle.file_stamps.specs.Stamped.{AreSame, content_of, id_at, id_in, stamp_at, stamp_by, stamp_for, stamps_at, with_stamps}
-use Rattle.file_stamps.specs.Opened.{opened_keys, opens, unstamped}
-use Rattle.file_stamps.specs.Reading.{is_stamped, opened_by}
+use Rattle.file_stamps.proofs.Stamps.{ids_stamped}
+use Rattle.file_stamps.specs.Stamped.{id_at, id_in}
+use Rattle.file_stamps.specs.Opened.{has_id, ids_at, ids_of, keys_without_id, opened_keys, opens, same_id}
+use Rattle.file_stamps.specs.Reading.{opened_by}
 
--- ---- a file with a stamp
+-- ---- identities
 
-stamp_id : (i : Option Id) (w : Option Analysis) (s : Stamp) → stamp_by i w ≡ Some s → i ≡ Some s.id
-stamp_id None w s e = absurd (cc)
-stamp_id (Some i) None s e = absurd (cc)
-stamp_id (Some i) (Some (Lib abi soname)) s e = ap (λ o. option_map (λ (x : Stamp). x.id) o) e
-stamp_id (Some i) (Some (Not defect)) s e = absurd (cc)
+same_itself : (id : Id) → same_id id id ≡ true
+same_itself id = ap is_eq (tied_itself id_total id)
 
-library_too : (i : Option Id) (j : Id) (w : Option Analysis) (s : Stamp) → stamp_by i w ≡ Some s → is_some (stamp_by (Some j) w) ≡ true
-library_too None j w s e = absurd (cc)
-library_too (Some i) j None s e = absurd (cc)
-library_too (Some i) j (Some (Lib abi soname)) s e = refl
-library_too (Some i) j (Some (Not defect)) s e = absurd (cc)
+-- these identities without one of them
+abbrev without : Id → List Id → List Id
+without id ids = filter (λ other. not (same_id id other)) ids
 
-has_key : (n : Option Node) (i : Id) → id_in n ≡ Some i → is_some (key_in n) ≡ true
+-- those that differ from an identity are all there without it
+others_there : (id other : Id) (ids : List Id) → same_id id other ≡ false → has_id (without id ids) other ≡ has_id ids other
+others_there id other [] differs = refl
+others_there id other (x ∷ ids) differs = by (same_id id x) (same_id other x) refl refl (others_there id other ids differs)
+  where
+    by : (here there : Bool) → same_id id x ≡ here → same_id other x ≡ there → has_id (without id ids) other ≡ has_id ids other
+        → has_id (cond (not here) (x ∷ without id ids) (without id ids)) other ≡ (there || has_id ids other)
+    by true true e f rest =
+        let both : same_id id other ≡ true = subst (λ (k : Id). same_id id k ≡ true) (sym (same_is other x f)) e in
+        let z : true ≡ false = sym both ∙ differs in absurd (cc)
+    by true false e f rest = rest
+    by false there e f rest = ap (λ b. b || has_id (without id ids) other) f ∙ ap (λ b. there || b) rest
+
+abbrev one_if : Bool → ℕ
+one_if true = 1
+one_if false = 0
+
+-- an identity counts once
+counted_once : (id : Id) (ids : List Id) → distinct_count same_id ids ≡ distinct_count same_id (without id ids) + one_if (has_id ids id)
+counted_once id [] = refl
+counted_once id (x ∷ ids) = by_test (same_id id x)
+    (λ e. found (same_is id x e) (has_id ids x) refl e (counted_once id ids))
+    (λ e. other e (counted_once id ids))
+  where
+    found : id ≡ x → (there : Bool) → has_id ids x ≡ there → same_id id x ≡ true → distinct_count same_id ids ≡ distinct_count same_id (without id ids) + one_if (has_id ids id)
+        → distinct_count same_id (x ∷ ids) ≡ distinct_count same_id (without id (x ∷ ids)) + one_if (has_id (x ∷ ids) id)
+    found is there e same count =
+        let of_it : has_id ids id ≡ there = ap (has_id ids) is ∙ e in
+        rw (same, e) (by there (count ∙ ap (λ b. distinct_count same_id (without id ids) + one_if b) of_it))
+      where
+        by : (b : Bool) → distinct_count same_id ids ≡ distinct_count same_id (without id ids) + one_if b
+            → length (cond b (unique_keys same_id ids) (x ∷ unique_keys same_id ids)) ≡ distinct_count same_id (without id ids) + 1
+        by true c = c
+        by false c = omega (arith, c)
+
+    other : same_id id x ≡ false → distinct_count same_id ids ≡ distinct_count same_id (without id ids) + one_if (has_id ids id)
+        → distinct_count same_id (x ∷ ids) ≡ distinct_count same_id (without id (x ∷ ids)) + one_if (has_id (x ∷ ids) id)
+    other differs count = rw (differs, others_there id x ids differs) (by (has_id ids x) count)
+      where
+        by : (b : Bool) → distinct_count same_id ids ≡ distinct_count same_id (without id ids) + one_if (has_id ids id)
+            → length (cond b (unique_keys same_id ids) (x ∷ unique_keys same_id ids))
+            ≡ length (cond b (unique_keys same_id (without id ids)) (x ∷ unique_keys same_id (without id ids))) + one_if (has_id ids id)
+        by true c = c
+        by false c = omega (arith, c)
+
+-- the first of these identities, and those that differ from it
+first_counted : (id : Id) (ids : List Id) → distinct_count same_id (id ∷ ids) ≡ distinct_count same_id (without id ids) + 1
+first_counted id ids =
+    counted_once id (id ∷ ids)
+    ∙ ap (λ b. distinct_count same_id (cond (not b) (id ∷ without id ids) (without id ids)) + one_if (b || has_id ids id)) (same_itself id)
+
+-- ---- the identities that aren't among others
+
+abbrev pub new_ids : List Id → List Id → List Id
+new_ids ids more = filter (λ id. not (has_id ids id)) more
+
+has_more : (ids : List Id) (id other : Id) → has_id (ids ++ id ∷ []) other ≡ (has_id ids other || (same_id other id || false))
+has_more ids id other = list_any-append (same_id other) ids (id ∷ [])
+
+turned : (a b : Id) → same_id a b ≡ same_id b a
+turned a b = by (same_id a b) (same_id b a) refl refl
+  where
+    by : (x y : Bool) → same_id a b ≡ x → same_id b a ≡ y → x ≡ y
+    by true true e f = refl
+    by false false e f = refl
+    by true false e f = let z : true ≡ false = sym (subst (λ (k : Id). same_id b k ≡ true) (sym (same_is a b e)) (same_itself b)) ∙ f in absurd (cc)
+    by false true e f = let z : true ≡ false = sym (subst (λ (k : Id). same_id a k ≡ true) (sym (same_is b a f)) (same_itself a)) ∙ e in absurd (cc)
+
+-- with one more, those that differ from it are left
+one_more : (ids : List Id) (id : Id) (more : List Id) → new_ids (ids ++ id ∷ []) more ≡ without id (new_ids ids more)
+one_more ids id [] = refl
+one_more ids id (x ∷ more) =
+    ap (λ b. cond (not b) (x ∷ new_ids (ids ++ id ∷ []) more) (new_ids (ids ++ id ∷ []) more)) (has_more ids id x)
+    ∙ ap (λ b. cond (not (has_id ids x || (b || false))) (x ∷ new_ids (ids ++ id ∷ []) more) (new_ids (ids ++ id ∷ []) more)) (turned x id)
+    ∙ by (has_id ids x) (same_id id x) refl (one_more ids id more)
+  where
+    by : (there same : Bool) → same_id id x ≡ same → new_ids (ids ++ id ∷ []) more ≡ without id (new_ids ids more)
+        → cond (not (there || (same || false))) (x ∷ new_ids (ids ++ id ∷ []) more) (new_ids (ids ++ id ∷ []) more)
+        ≡ without id (cond (not there) (x ∷ new_ids ids more) (new_ids ids more))
+    by true same e rest = rest
+    by false true e rest = rest ∙ sym (ap (λ b. cond (not b) (x ∷ without id (new_ids ids more)) (without id (new_ids ids more))) e)
+    by false false e rest = ap (λ l. x ∷ l) rest ∙ sym (ap (λ b. cond (not b) (x ∷ without id (new_ids ids more)) (without id (new_ids ids more))) e)
+
+-- one that is there already makes no difference
+none_more : (ids : List Id) (id : Id) (more : List Id) → has_id ids id ≡ true → new_ids (ids ++ id ∷ []) more ≡ new_ids ids more
+none_more ids id [] there = refl
+none_more ids id (x ∷ more) there =
+    ap (λ b. cond (not b) (x ∷ new_ids (ids ++ id ∷ []) more) (new_ids (ids ++ id ∷ []) more)) (has_more ids id x ∙ by (same_id x id) refl)
+    ∙ ap (λ l. cond (not (has_id ids x)) (x ∷ l) l) (none_more ids id more there)
+  where
+    by : (same : Bool) → same_id x id ≡ same → (has_id ids x || (same || false)) ≡ has_id ids x
+    by true e = let here : has_id ids x ≡ true = ap (has_id ids) (same_is x id e) ∙ there in ap (λ b. b || true) here ∙ sym here
+    by false e = or_false (has_id ids x)
+      where
+        or_false : (b : Bool) → (b || false) ≡ b
+        or_false true = refl
+        or_false false = refl
+
+-- ---- the count
+
+pub has_key : (n : Option Node) (i : Id) → id_in n ≡ Some i → is_some (key_in n) ≡ true
 has_key None i e = absurd (cc)
 has_key (Some node.Dir) i e = absurd (cc)
 has_key (Some (node.Link target)) i e = absurd (cc)
 has_key (Some (node.File key id)) i e = refl
 
-abbrev number_of : {X : Type 0} → Option X → ℕ
-number_of None = 0
-number_of (Some x) = 1
+length_one : {X : Type 0} (o : Option X) (xs : List X) → is_some o ≡ true → length (cons_option o xs) ≡ length xs + 1
+length_one None xs e = absurd (cc)
+length_one (Some x) xs e = omega arith
 
-length_cons : {X : Type 0} (o : Option X) (xs : List X) → length (cons_option o xs) ≡ length xs + number_of o
-length_cons None xs = omega arith
-length_cons (Some x) xs = omega arith
+length_both : {X : Type 0} (o : Option X) (xs ys : List X) (n : ℕ) → length xs ≡ length ys + n → length (cons_option o xs) ≡ length (cons_option o ys) + n
+length_both None xs ys n e = e
+length_both (Some x) xs ys n e = omega (arith, e)
 
-one : {X : Type 0} (o : Option X) → is_some o ≡ true → number_of o ≡ 1
-one None e = absurd (cc)
-one (Some x) e = refl
+module _ (t : Nodes) where
+  abbrev others : List (List ℕ) → List (List ℕ)
+  others paths = filter (λ path. is_none (id_at t path)) paths
 
-module _ (held : Contents) (t : Nodes) (same : AreSame held t t) (stamps : List Stamp) where
-  -- a file with the same identity as a library is a library
-  alike : (p q : List ℕ) (s : Stamp) → stamp_at held t p ≡ Some s → id_at t q ≡ Some s.id → is_some (stamp_at held t q) ≡ true
-  alike p q s is at =
-      let id : id_at t p ≡ Some s.id = stamp_id (id_at t p) (what_is held t p) s is in
-      let content : content_of held t q ≡ content_of held t p = same p q (ap is_some id) (at ∙ sym id) in
-      ap (λ i. is_some (stamp_by i (what_is held t q))) at
-      ∙ ap (λ o. is_some (stamp_by (Some s.id) (option_map analysis o))) content
-      ∙ library_too (id_at t p) s.id (what_is held t p) s is
+  module _ (path : List ℕ) (paths : List (List ℕ)) (ids : List Id) where
+    abbrev key : Option (List ℕ)
+    key = key_in (node_at t path)
 
-  -- `all` are the stamps when the file's turn comes, `made` those that were made before
-  record Made (all made : List Stamp) : Type 0 where
-    stamped : (id : Id) → is_stamped all id ≡ (is_stamped stamps id || is_stamped made id)
-    libraries : (id : Id) → is_stamped made id ≡ true → (q : List ℕ) → id_at t q ≡ Some id → is_some (stamp_at held t q) ≡ true
-    sorted : IsSortedById made
+    -- the count, if this is the identity of the first file
+    abbrev Counts : Option Id → Type 0
+    Counts o =
+        length (cons_option (if option_map_or (has_id ids) o false then None else key) (opened_by t (ids ++ cons_option o []) paths))
+        ≡ length (file_keys t (if is_none o then path ∷ others paths else others paths)) + distinct_count same_id (new_ids ids (cons_option o (ids_at t paths)))
 
-  module _ (p : List ℕ) (paths : List (List ℕ)) (all made : List Stamp) (m : Made all made) where
-    abbrev rest : List (List ℕ)
-    rest = unstamped stamps t paths
+    module _ (counted : (ids : List Id) → length (opened_by t ids paths) ≡ length (keys_without_id t paths) + distinct_count same_id (new_ids ids (ids_at t paths))) where
+      no_identity : Counts None
+      no_identity = rw (append-nil ids) (length_both key (opened_by t ids paths) (keys_without_id t paths) _ (counted ids))
 
-    abbrev others : List (List ℕ) → List (List ℕ)
-    others paths = filter (λ path. is_none (stamp_at held t path)) paths
-
-    abbrev next : List Stamp
-    next = all ++ stamps_at held t (p ∷ [])
-
-    -- a file without a stamp of its own adds no stamp
-    none_more : stamp_at held t p ≡ None → Made next made
-    none_more e = record {
-      stamped = λ id. ap (λ o. is_stamped (all ++ cons_option o []) id) e ∙ ap (λ l. is_stamped l id) (append-nil all) ∙ m.stamped id;
-      libraries = m.libraries;
-      sorted = m.sorted;
-    }
-
-    abbrev IsCounted : List Stamp → Type 0
-    IsCounted made = length (opened_by held t next paths) + length made ≡ length (file_keys t (others rest)) + length (with_stamps made (stamps_at held t rest))
-
-    abbrev Counts : Type 0
-    Counts = length (opened_by held t all (p ∷ paths)) + length made
-        ≡ length (file_keys t (others (unstamped stamps t (p ∷ paths)))) + length (with_stamps made (stamps_at held t (unstamped stamps t (p ∷ paths))))
-
-    abbrev file_count : ℕ
-    file_count = length (file_keys t (others (unstamped stamps t (p ∷ paths))))
-
-    abbrev stamp_count : ℕ
-    stamp_count = length (with_stamps made (stamps_at held t (unstamped stamps t (p ∷ paths))))
-
-    files_stamped : is_none (stamp_for stamps t p) ≡ false → file_count ≡ length (file_keys t (others rest))
-    files_stamped u = ap (λ b. length (file_keys t (others (cond b (p ∷ rest) rest)))) u
-
-    stamps_stamped : is_none (stamp_for stamps t p) ≡ false → stamp_count ≡ length (with_stamps made (stamps_at held t rest))
-    stamps_stamped u = ap (λ b. length (with_stamps made (stamps_at held t (cond b (p ∷ rest) rest)))) u
-
-    files_with : (o : Option Stamp) → is_none (stamp_for stamps t p) ≡ true → stamp_at held t p ≡ o → file_count ≡ length (file_keys t (cond (is_none o) (p ∷ others rest) (others rest)))
-    files_with o u e = ap (λ b. length (file_keys t (others (cond b (p ∷ rest) rest)))) u ∙ ap (λ o. length (file_keys t (cond (is_none o) (p ∷ others rest) (others rest)))) e
-
-    stamps_with : (o : Option Stamp) → is_none (stamp_for stamps t p) ≡ true → stamp_at held t p ≡ o → stamp_count ≡ length (with_stamps made (cons_option o (stamps_at held t rest)))
-    stamps_with o u e = ap (λ b. length (with_stamps made (stamps_at held t (cond b (p ∷ rest) rest)))) u ∙ ap (λ o. length (with_stamps made (cons_option o (stamps_at held t rest)))) e
-
-    keyed : (b : Bool) → is_none (stamp_for all t p) ≡ b → length (opened_by held t all (p ∷ paths)) ≡ length (opened_by held t next paths) + number_of (cond b (key_in (node_at t p)) None)
-    keyed b e = ap (λ b. length (cons_option (cond b (key_in (node_at t p)) None) (opened_by held t next paths))) e ∙ length_cons (cond b (key_in (node_at t p)) None) (opened_by held t next paths)
-
-    -- a stamp of its identity was there at the start
-    stamped_before : is_none (stamp_for stamps t p) ≡ false → is_none (stamp_for all t p) ≡ false → IsCounted made → Counts
-    stamped_before u z counted =
-        let key : length (opened_by held t all (p ∷ paths)) ≡ length (opened_by held t next paths) + 0 = keyed false z in
-        omega (arith, key, files_stamped u, stamps_stamped u, counted)
-
-    -- the file is opened and makes no stamp
-    opened_one : is_none (stamp_for stamps t p) ≡ true → is_none (stamp_for all t p) ≡ true → stamp_at held t p ≡ None → IsCounted made → Counts
-    opened_one u z e counted =
-        let key : length (opened_by held t all (p ∷ paths)) ≡ length (opened_by held t next paths) + number_of (key_in (node_at t p)) = keyed true z in
-        let files : file_count ≡ length (file_keys t (others rest)) + number_of (key_in (node_at t p)) =
-        files_with None u e ∙ length_cons (key_in (node_at t p)) (file_keys t (others rest)) in
-        let none : stamp_count ≡ length (with_stamps made (stamps_at held t rest)) = stamps_with None u e in
-        omega (arith, key, files, none, counted)
-
-    -- the file is a library; its identity has a stamp, or gets one now
-    library : (s : Stamp) (z : Bool) (n : ℕ) → is_none (stamp_for stamps t p) ≡ true → is_none (stamp_for all t p) ≡ z → stamp_at held t p ≡ Some s
-        → number_of (cond z (key_in (node_at t p)) None) ≡ n → length (put made s) ≡ length made + n → IsCounted (put made s) → Counts
-    library s z n u e is keys more counted =
-        let key : length (opened_by held t all (p ∷ paths)) ≡ length (opened_by held t next paths) + n = keyed z e ∙ ap (λ k. length (opened_by held t next paths) + k) keys in
-        let files : file_count ≡ length (file_keys t (others rest)) = files_with (Some s) u is in
-        let one_more : stamp_count ≡ length (with_stamps (put made s) (stamps_at held t rest)) = stamps_with (Some s) u is in
-        omega (arith, key, files, one_more, more, counted)
-
-    -- ---- the stamps after the file's turn
-
-    moved : (s : Stamp) (a b c : Bool) → ((a || b) || is_some (cond c (Some s) None)) ≡ (a || (c || b))
-    moved s true b c = refl
-    moved s false true true = refl
-    moved s false true false = refl
-    moved s false false true = refl
-    moved s false false false = refl
-
-    made_more : (s : Stamp) → stamp_at held t p ≡ Some s → Made next (put made s)
-    made_more s is = record {
-      stamped = λ id.
-          ap (λ o. is_stamped (all ++ cons_option o []) id) is
-          ∙ stamped_both all (s ∷ []) id
-          ∙ ap (λ b. b || is_stamped (s ∷ []) id) (m.stamped id)
-          ∙ moved s (is_stamped stamps id) (is_stamped made id) (is_same id s.id)
-          ∙ sym (ap (λ b. is_stamped stamps id || b) (stamped_put made s id));
-      libraries = λ id there q at. by_test (is_same id s.id)
-          (λ e. alike p q s is (at ∙ ap Some (same_is id s.id e)))
-          (λ e. m.libraries id (sym (ap (λ b. b || is_stamped made id) e) ∙ sym (stamped_put made s id) ∙ there) q at);
-      sorted = sorted_put made s m.sorted;
-    }
-
-    before_more : (i : Id) → id_at t p ≡ Some i → is_stamped stamps i ≡ true → Made next made
-    before_more i at there = record {
-      stamped = λ id. stamped_twice all i (stamp_at held t p) id (m.stamped i ∙ ap (λ b. b || is_stamped made i) there) (of_it (stamp_at held t p) refl) ∙ m.stamped id;
-      libraries = m.libraries;
-      sorted = m.sorted;
-    }
-      where
-        of_it : (o : Option Stamp) → stamp_at held t p ≡ o → IfSome o (λ s. s.id ≡ i)
-        of_it None e = tt
-        of_it (Some s) e = let both : Some s.id ≡ Some i = sym (stamp_id (id_at t p) (what_is held t p) s e) ∙ at in cc
-
-    -- ---- the count
-
-    none_is : (o : Option Stamp) → is_none o ≡ not (is_some o)
-    none_is None = refl
-    none_is (Some s) = refl
-
-    none_if : (o : Option Stamp) → is_some o ≡ false → o ≡ None
-    none_if None e = refl
-    none_if (Some s) e = absurd (cc)
-
-    none_for : (xs : List Stamp) (i : Id) (b : Bool) → id_at t p ≡ Some i → is_stamped xs i ≡ b → is_none (stamp_for xs t p) ≡ not b
-    none_for xs i b at e = ap (λ o. is_none (option_and_then (stamp_of xs) o)) at ∙ none_is (stamp_of xs i) ∙ ap not e
-
-    module _ (counted : (made : List Stamp) → Made next made → IsCounted made) where
-      no_identity : id_at t p ≡ None → Counts
-      no_identity e =
-          let no_stamp : stamp_at held t p ≡ None = ap (λ i. stamp_by i (what_is held t p)) e in
-          opened_one (ap (λ i. is_none (option_and_then (stamp_of stamps) i)) e) (ap (λ i. is_none (option_and_then (stamp_of all) i)) e) no_stamp (counted made (none_more no_stamp))
-
-      -- its identity had no stamp at the start
-      new_identity : (i : Id) → id_at t p ≡ Some i → is_stamped stamps i ≡ false → (o : Option Stamp) → stamp_at held t p ≡ o → Counts
-      new_identity i at new None is = by_test (is_stamped made i)
-          (λ there. let z : true ≡ false = sym (m.libraries i there p at) ∙ ap is_some is in absurd (cc))
+      with_identity : (id : Id) → is_some key ≡ true → Counts (Some id)
+      with_identity id is_file = by_test (has_id ids id)
+          (λ there. rw there (counted (ids ++ id ∷ []) ∙ ap (λ l. length (keys_without_id t paths) + distinct_count same_id l) (none_more ids id (ids_at t paths) there)))
           (λ none.
-          opened_one (none_for stamps i false at new) (none_for all i false at (m.stamped i ∙ ap (λ b. b || is_stamped made i) new ∙ none)) is (counted made (none_more is)))
-      new_identity i at new (Some s) is =
-          let id : i ≡ s.id = let both : Some i ≡ Some s.id = sym at ∙ stamp_id (id_at t p) (what_is held t p) s is in cc in
-          by_test (is_stamped made i)
-          (λ there.
-          let n = same_put s made m.sorted (sym (ap (λ k. is_stamped made k) id) ∙ there) in
-          library s false 0 (none_for stamps i false at new) (none_for all i true at (m.stamped i ∙ ap (λ b. b || is_stamped made i) new ∙ there)) is refl (omega (arith, n))
-          (counted (put made s) (made_more s is)))
-          (λ none.
-          let n = more_put s made (none_if (stamp_of made s.id) (sym (ap (λ k. is_stamped made k) id) ∙ none)) in
-          library s true 1 (none_for stamps i false at new) (none_for all i false at (m.stamped i ∙ ap (λ b. b || is_stamped made i) new ∙ none)) is (one (key_in (node_at t p)) (has_key (node_at t p) i at)) n
-          (counted (put made s) (made_more s is)))
+          let rest = counted (ids ++ id ∷ []) in
+          let one = length_one key (opened_by t (ids ++ id ∷ []) paths) is_file in
+          let more = first_counted id (new_ids ids (ids_at t paths)) in
+          let same = ap (distinct_count same_id) (one_more ids id (ids_at t paths)) in
+          rw none (omega (arith, rest, one, more, same)))
 
-      counts : Counts
-      counts = by (id_at t p) refl
+      counts : Counts (id_at t path)
+      counts = by (id_at t path) refl
         where
-          by : (o : Option Id) → id_at t p ≡ o → Counts
-          by None e = no_identity e
-          by (Some i) e = by_test (is_stamped stamps i)
-              (λ there.
-              stamped_before (none_for stamps i true e there) (none_for all i true e (m.stamped i ∙ ap (λ b. b || is_stamped made i) there)) (counted made (before_more i e there)))
-              (λ new. new_identity i e new (stamp_at held t p) refl)
+          by : (o : Option Id) → id_at t path ≡ o → Counts o
+          by None at = no_identity
+          by (Some id) at = with_identity id (has_key (node_at t path) id at)
 
-  count : (paths : List (List ℕ)) (all made : List Stamp) → Made all made → length (opened_by held t all paths) + length made
-      ≡ length (file_keys t (filter (λ path. is_none (stamp_at held t path)) (unstamped stamps t paths))) + length (with_stamps made (stamps_at held t (unstamped stamps t paths)))
-  count [] all made m = refl
-  count (p ∷ paths) all made m = counts p paths all made m (λ new more. count paths (all ++ stamps_at held t (p ∷ [])) new more)
+  count : (paths : List (List ℕ)) (ids : List Id) → length (opened_by t ids paths) ≡ length (keys_without_id t paths) + distinct_count same_id (new_ids ids (ids_at t paths))
+  count [] ids = refl
+  count (path ∷ paths) ids = counts path paths ids (count paths)
 
-  none_made : Made stamps []
-  unfolding IsStrictlySortedBy
-  none_made = record {
-    stamped = λ id. or_false (is_stamped stamps id);
-    libraries = λ id there q at. absurd (cc);
-    sorted = tt;
-  }
+  unstamped_are : (stamps : List Stamp) (ids : List Id) → new_ids (ids_of stamps) ids ≡ filter (λ id. is_none (stamp_of stamps id)) ids
+  unstamped_are stamps [] = refl
+  unstamped_are stamps (id ∷ ids) =
+      ap (λ b. cond b (id ∷ new_ids (ids_of stamps) ids) (new_ids (ids_of stamps) ids)) (ap not (ids_stamped stamps id) ∙ not_some (stamp_of stamps id))
+      ∙ ap (λ l. cond (is_none (stamp_of stamps id)) (id ∷ l) l) (unstamped_are stamps ids)
     where
-      or_false : (b : Bool) → b ≡ (b || false)
-      or_false true = refl
-      or_false false = refl
+      not_some : (o : Option Stamp) → not (is_some o) ≡ is_none o
+      not_some None = refl
+      not_some (Some s) = refl
 
-  pub opened_by_count : (paths : List (List ℕ)) → length (opened_by held t stamps paths) ≡ opens held t stamps paths
-  opened_by_count paths = let n = count paths stamps [] none_made in omega (arith, n)
+  pub opened_by_count : (stamps : List Stamp) (paths : List (List ℕ)) → length (opened_by t (ids_of stamps) paths) ≡ opens t stamps paths
+  opened_by_count stamps paths =
+      count paths (ids_of stamps) ∙ ap (λ l. length (keys_without_id t paths) + distinct_count same_id l) (unstamped_are stamps (ids_at t paths))
 
-  pub opened_count : (paths : List (List ℕ)) → AreSorted paths → length (opened_keys held t stamps paths) ≡ opens held t stamps paths
-  opened_count paths sorted = ap length (opened_are held t stamps paths sorted) ∙ opened_by_count paths
+  pub opened_count : (stamps : List Stamp) (paths : List (List ℕ)) → AreSorted paths → length (opened_keys t (ids_of stamps) paths) ≡ opens t stamps paths
+  opened_count stamps paths sorted = ap length (opened_are t (ids_of stamps) paths sorted) ∙ opened_by_count stamps paths

@@ -1,12 +1,11 @@
 -- The step from one read file to the next.
 use Rattle.std.proofs.Common.{◌≡◌, ◌≤◌, ◌+◌, ◌++◌, ◌||◌, ℕ, Bool, true, false, cond, List, [], ◌∷◌, length, refl, ap, sym, subst, ◌∙◌, arith, append_assoc, Option, Some, None}
-use Rattle.std.proofs.lemmas.List.{append-nil, length-append}
-use Rattle.std.proofs.lemmas.List.Elements.{filter-append, filter_map-append}
+use Rattle.std.proofs.lemmas.List.{append-nil}
+use Rattle.std.proofs.lemmas.List.Elements.{filter-append}
 use Rattle.std.proofs.lemmas.List.Kept.{IsStrictlySortedBy-filter}
 use Rattle.std.proofs.lemmas.Map.Keys.{sorted_tail}
 use Rattle.std.proofs.lemmas.Slice.Eq.{bytes_eq-Decides}
 use Rattle.std.specs.Cmp.Lexicographic.{slice_cmp}
-use Rattle.std.specs.List.{cons_option}
 use Rattle.std.specs.List.Sorted.{IsStrictlySortedBy}
 use Rattle.std.specs.Map.{keys_of}
 use Rattle.std.specs.Option.{is_none, is_some}
@@ -17,23 +16,25 @@ use Rattle.lib_types.specs.Counts.{raised}
 use Rattle.aux_cache.specs.Stamps.{stamp_of}
 use Rattle.aux_cache.specs.declared.stamps.Stamp.{Stamp}
 use Rattle.elf_dynamic.proofs.BegunKeys.{keys_early, keys_then, none_lacks}
-use Rattle.elf_dynamic.specs.Begun.{ReadsBy, file_keys, is_lacking, key_in, lacks_one, until_lacking}
+use Rattle.elf_dynamic.specs.Begun.{ReadsBy, file_keys, is_lacking, lacks_one, until_lacking}
 use Rattle.string_pool.proofs.Members.{AreSorted}
-use Rattle.file_table.specs.Analyses.{AgreeOn, Analyses, KeepsAnalyses, unread}
+use Rattle.file_table.specs.Analyses.{AgreeOn, KeepsAnalyses, unread}
 use Rattle.file_table.specs.Table.{analysis_at}
-use Rattle.image_tree.specs.Tree.{Nodes, node_at}
-use Rattle.tree_face.proofs.StoreUse.{IsPartial, raised-mono, reads_fewer, reads_none}
+use Rattle.image_tree.specs.Tree.{Nodes}
+use Rattle.image_tree.specs.declared.node.Id.{Id}
+use Rattle.tree_face.proofs.StoreUse.{IsPartial, raised-mono, reads_none}
 use Rattle.tree_face.specs.Known.{IfKnown}
 use Rattle.tree_face.specs.Store.{Contents, StoreState}
 use Rattle.tree_face.specs.StoreUse.{Ending, Complete}
-use Rattle.file_stamps.proofs.KeptAnalyses.{not_behind, still_read, unread_others}
-use Rattle.file_stamps.proofs.Opened.{made_are, one_opened, opened_alike, opened_append, opened_are, opened_then, said_are}
+use Rattle.file_stamps.proofs.KeptAnalyses.{not_after, still_read, unread_others}
+use Rattle.file_stamps.proofs.Opened.{info_are, info_then, made_are, one_opened, opened_alike, opened_append, opened_are, opened_few, opened_then}
 use Rattle.file_stamps.proofs.Opens.{opened_count}
 use Rattle.file_stamps.specs.Files.{unread_key}
-use Rattle.file_stamps.specs.Opened.{ReadsOpenedBy, opened_keys, opens}
-use Rattle.file_stamps.specs.Reading.{HasOpened, HasRead, ReadsOne, is_in, keys_opened, opened_by}
-use Rattle.file_stamps.specs.Said.{said_in, stamps_said}
-use Rattle.file_stamps.specs.Stamped.{AreSame, StampTheSame, stamp_for, stamps_at, with_stamps}
+use Rattle.file_stamps.specs.Opened.{HaveSameIds, has_id, ids_at, opened_keys, opens}
+use Rattle.file_stamps.specs.Reading.{HasInfo, HasOpened, HasRead, ReadsOne, is_in, keys_opened, opened_by}
+use Rattle.file_stamps.specs.Info.{info_in, info_stamps}
+use Rattle.file_stamps.specs.Stamped.{StampTheSame, stamps_at, with_stamps}
+use Rattle.file_stamps.specs.State.{ids_there}
 use Rattle.file_stamps.specs.declared.files.Files.{Files}
 
 keeps_on : (table now new : List ℕ → Option _) → KeepsAnalyses table now → KeepsAnalyses now new → KeepsAnalyses table new
@@ -53,46 +54,33 @@ most_begun : (known : Option Contents) (ks : List (List ℕ)) (n : ℕ) (e : End
 most_begun None ks n e old new reads less = raised-mono _ _ _ _ less reads.begun
 most_begun (Some held) ks n e old new reads less = let short = until_short held ks in raised-mono _ _ _ _ (omega (arith, short, less)) reads.begun
 
+few_keys : (t : Nodes) (ids : List Id) (paths : List (List ℕ)) → AreSorted paths → length (opened_keys t ids paths) ≤ length (file_keys t paths)
+few_keys t ids paths sorted = let few = opened_few t ids paths in let same = ap length (opened_are t ids paths sorted) in omega (arith, few, same)
+
 module _ (t : Nodes) (loaded : List Stamp) (known : Option Contents) (all : List (List ℕ)) where
-  -- at most one key for one file
-  few_one : (stamps : List Stamp) (what : Analyses) (path : List ℕ) → length (keys_opened t stamps what path) ≤ length (file_keys t (unread what (path ∷ [])))
-  few_one stamps what path = by (is_none (what path)) (is_none (stamp_for stamps t path)) (key_in (node_at t path)) refl
-    where
-      by : (b c : Bool) (k : Option (List ℕ)) → key_in (node_at t path) ≡ k → length (cons_option (cond b (cond c (key_in (node_at t path)) None) None) []) ≤ length (file_keys t (cond b (path ∷ []) []))
-      by true true k e = let same : length (file_keys t (path ∷ [])) ≡ length (cons_option (key_in (node_at t path)) []) = refl in omega (arith, same)
-      by true false k e = omega arith
-      by false c k e = omega arith
-
-  few_on : (ks ls xs ys : List (List ℕ)) → length ks ≤ length (file_keys t xs) → length ls ≤ length (file_keys t ys) → length (ks ++ ls) ≤ length (file_keys t (xs ++ ys))
-  few_on ks ls xs ys first next =
-      let keys : length (ks ++ ls) ≡ length ks + length ls = length-append ks ls in
-      let files : length (file_keys t (xs ++ ys)) ≡ length (file_keys t xs) + length (file_keys t ys) =
-      ap length (filter_map-append (λ path. key_in (node_at t path)) xs ys) ∙ length-append (file_keys t xs) (file_keys t ys) in
-      omega (arith, keys, files, first, next)
-
   none_on : (ks more : List (List ℕ)) → IfKnown known (λ held. lacks_one held ks ≡ false) → IfKnown known (λ held. lacks_one held more ≡ false)
       → IfKnown known (λ held. lacks_one held (ks ++ more) ≡ false)
   none_on ks more first next = elim known as (λ k. IfKnown k (λ held. lacks_one held ks ≡ false) → IfKnown k (λ held. lacks_one held more ≡ false)
       → IfKnown k (λ held. lacks_one held (ks ++ more) ≡ false)) [ None ↦ λ f g. tt | Some held ↦ λ f g. none_lacks held ks more f g ] first next
 
-  opened_on : (xs ys ks ls : List (List ℕ)) (a b c : Files) → KeepsAnalyses (analysis_at b.table) (analysis_at c.table) → IfKnown known (λ held. HasOpened held t loaded xs ks a b) → IfKnown known (λ held. HasOpened held t loaded ys ls b c)
-      → IfKnown known (λ held. HasOpened held t loaded (xs ++ ys) (ks ++ ls) a c)
-  opened_on xs ys ks ls a b c keeps first next = elim known as (λ k. IfKnown k (λ held. HasOpened held t loaded xs ks a b) → IfKnown k (λ held. HasOpened held t loaded ys ls b c)
-      → IfKnown k (λ held. HasOpened held t loaded (xs ++ ys) (ks ++ ls) a c)) [ None ↦ λ f g. tt | Some held ↦ λ f g. opened_then held t loaded xs ys ks ls a b c keeps f g ] first next
+  info_on : (xs ys : List (List ℕ)) (a b c : Files) → KeepsAnalyses (analysis_at b.table) (analysis_at c.table) → IfKnown known (λ held. HasInfo held t loaded xs a b) → IfKnown known (λ held. HasInfo held t loaded ys b c)
+      → IfKnown known (λ held. HasInfo held t loaded (xs ++ ys) a c)
+  info_on xs ys a b c keeps first next = elim known as (λ k. IfKnown k (λ held. HasInfo held t loaded xs a b) → IfKnown k (λ held. HasInfo held t loaded ys b c)
+      → IfKnown k (λ held. HasInfo held t loaded (xs ++ ys) a c)) [ None ↦ λ f g. tt | Some held ↦ λ f g. info_then held t loaded xs ys a b c keeps f g ] first next
 
   module _ (old now : Files) (before here : StoreState) (path : List ℕ) (rest : List (List ℕ)) (so_far : HasRead t loaded known all (path ∷ rest) old now before here) where
     abbrev at_turn : List (List ℕ)
     at_turn = unread (analysis_at now.table) (path ∷ [])
 
     abbrev one : List (List ℕ)
-    one = keys_opened t (loaded ++ now.stamps) (analysis_at now.table) path
+    one = keys_opened t (ids_there loaded now) (analysis_at now.table) path
 
     divided : unread (analysis_at now.table) (path ∷ rest) ≡ at_turn ++ unread (analysis_at now.table) rest
     divided = filter-append (λ p. is_none (analysis_at now.table p)) (path ∷ []) rest
 
     whole_with : (new : Files) → ReadsOne t loaded path known now new → unread (analysis_at old.table) all ≡ (so_far.ahead ++ at_turn) ++ unread (analysis_at new.table) rest
     whole_with new read =
-        let later = unread_others (analysis_at now.table) (analysis_at new.table) path rest read.others (not_behind path rest so_far.sorted) in
+        let later = unread_others (analysis_at now.table) (analysis_at new.table) path rest read.others (not_after path rest so_far.sorted) in
         so_far.whole
         ∙ ap (λ l. so_far.ahead ++ l) (divided ∙ ap (λ l. at_turn ++ l) (sym later))
         ∙ sym (append_assoc so_far.ahead at_turn (unread (analysis_at new.table) rest))
@@ -102,67 +90,49 @@ module _ (t : Nodes) (loaded : List Stamp) (known : Option Contents) (all : List
       ahead = so_far.ahead ++ at_turn;
       keys = so_far.keys ++ one;
       whole = whole_with new read;
-      opened = opened_on so_far.ahead at_turn so_far.keys one old now new read.kept so_far.opened read.opened;
+      opened = opened_then t loaded so_far.ahead at_turn so_far.keys one old now new so_far.opened read.opened;
+      info = info_on so_far.ahead at_turn old now new read.kept so_far.info read.info;
       reads = keys_then known so_far.keys one Complete before here after so_far.none_lacks so_far.reads reads;
       none_lacks = none_on so_far.keys one so_far.none_lacks read.none_lacks;
-      begun = omega (arith, so_far.begun, read.begun, length-append so_far.keys one);
-      few = few_on so_far.keys one so_far.ahead at_turn so_far.few (few_one (loaded ++ now.stamps) (analysis_at now.table) path);
       kept = keeps_on _ _ _ so_far.kept read.kept;
-      read = λ q there behind. by_test (bytes_eq q path)
+      read = λ q there following. by_test (bytes_eq q path)
           (λ h. subst (λ (p : List ℕ). unread_key t (analysis_at new.table) p ≡ None) (sym ((bytes_eq-Decides q path).0 h)) read.here)
-          (λ h. still_read t (analysis_at now.table) (analysis_at new.table) q read.kept (so_far.read q there (ap (λ b. b || is_in rest q) h ∙ behind)));
+          (λ h. still_read t (analysis_at now.table) (analysis_at new.table) q read.kept (so_far.read q there (ap (λ b. b || is_in rest q) h ∙ following)));
       rows = read.rows ∙ ap (λ l. l ++ at_turn) so_far.rows ∙ append_assoc (keys_of old.table) so_far.ahead at_turn;
       sorted = sorted_tail _ path rest so_far.sorted;
     }
 
     -- ---- the reading fails at this file
 
-    abbrev those_left : List (List ℕ)
-    those_left = unread (analysis_at now.table) rest
-
-    pub most_last : (e : Ending) (after : StoreState) → ReadsBy known one e here after → after.begun ≤ raised before.begun (length (file_keys t (unread (analysis_at old.table) all)))
-    most_last e after reads =
-        let both = keys_then known so_far.keys one e before here after so_far.none_lacks so_far.reads reads in
-        let few = few_on so_far.keys one so_far.ahead at_turn so_far.few (few_one (loaded ++ now.stamps) (analysis_at now.table) path) in
-        let paths : unread (analysis_at old.table) all ≡ (so_far.ahead ++ at_turn) ++ those_left =
-        so_far.whole ∙ ap (λ l. so_far.ahead ++ l) divided ∙ sym (append_assoc so_far.ahead at_turn those_left) in
-        let files : length (file_keys t (unread (analysis_at old.table) all)) ≡ length (file_keys t (so_far.ahead ++ at_turn)) + length (file_keys t those_left) =
-        ap (λ l. length (file_keys t l)) paths
-        ∙ ap length (filter_map-append (λ path. key_in (node_at t path)) (so_far.ahead ++ at_turn) those_left)
-        ∙ length-append (file_keys t (so_far.ahead ++ at_turn)) (file_keys t those_left) in
-        most_begun known (so_far.keys ++ one) _ e before after both (omega (arith, few, files))
-
     module _ (sorted : IsStrictlySortedBy (slice_cmp nat_cmp) all) where
-      abbrev behind : Contents → List (List ℕ)
-      behind held = opened_by held t ((loaded ++ now.stamps) ++ stamps_at held t at_turn) (unread (analysis_at now.table) rest)
+      abbrev following : List (List ℕ)
+      following = opened_by t (ids_there loaded now ++ ids_at t at_turn) (unread (analysis_at now.table) rest)
 
-      keys_are : (held : Contents) → HasOpened held t loaded so_far.ahead so_far.keys old now
-          → opened_keys held t (loaded ++ old.stamps) (unread (analysis_at old.table) all) ≡ (so_far.keys ++ one) ++ behind held
-      keys_are held opened =
-          let first = loaded ++ old.stamps in
-          let next = loaded ++ now.stamps in
+      keys_are : opened_keys t (ids_there loaded old) (unread (analysis_at old.table) all) ≡ (so_far.keys ++ one) ++ following
+      keys_are =
+          let first : List Id = ids_there loaded old in
+          let next : List Id = ids_there loaded now in
           let left = unread (analysis_at now.table) (path ∷ rest) in
-          opened_are held t first (unread (analysis_at old.table) all) (IsStrictlySortedBy-filter (slice_cmp nat_cmp) _ all sorted)
-          ∙ ap (λ l. opened_by held t first l) so_far.whole
-          ∙ opened_append held t first so_far.ahead left
-          ∙ ap (λ l. l ++ opened_by held t (first ++ stamps_at held t so_far.ahead) left) (sym opened.keys_are)
+          opened_are t first (unread (analysis_at old.table) all) (IsStrictlySortedBy-filter (slice_cmp nat_cmp) _ all sorted)
+          ∙ ap (λ l. opened_by t first l) so_far.whole
+          ∙ opened_append t first so_far.ahead left
+          ∙ ap (λ l. l ++ opened_by t (first ++ ids_at t so_far.ahead) left) (sym so_far.opened.keys_are)
           ∙ ap (λ l. so_far.keys ++ l)
-          (sym (opened_alike held t next (first ++ stamps_at held t so_far.ahead) left opened.stamped)
-          ∙ ap (λ l. opened_by held t next l) divided
-          ∙ opened_append held t next at_turn (unread (analysis_at now.table) rest)
-          ∙ ap (λ l. l ++ behind held) (sym (one_opened held t next (analysis_at now.table) path)))
-          ∙ sym (append_assoc so_far.keys one (behind held))
-
-      last_by : (k : Option Contents) (e : Ending) (after : StoreState) → IsPartial e → IfKnown k (λ held. HasOpened held t loaded so_far.ahead so_far.keys old now)
-          → ReadsBy k (so_far.keys ++ one) e before after → ReadsOpenedBy k (λ held. opened_keys held t (loaded ++ old.stamps) (unread (analysis_at old.table) all)) e before after
-      last_by None e after partial opened reads = reads_fewer ⊥ ⊥ _ None e before after (λ l. l) reads
-      last_by (Some held) e after partial opened reads =
-          subst (λ keys. ReadsBy (Some held) keys e before after) (sym (keys_are held opened)) (keys_early (Some held) (so_far.keys ++ one) (behind held) e before after partial reads)
+          (sym (opened_alike t next (first ++ ids_at t so_far.ahead) left so_far.opened.ids)
+          ∙ ap (λ l. opened_by t next l) divided
+          ∙ opened_append t next at_turn (unread (analysis_at now.table) rest)
+          ∙ ap (λ l. l ++ following) (sym (one_opened t next (analysis_at now.table) path)))
+          ∙ sym (append_assoc so_far.keys one following)
 
       pub read_last : (e : Ending) (after : StoreState) → IsPartial e → ReadsBy known one e here after
-          → ReadsOpenedBy known (λ held. opened_keys held t (loaded ++ old.stamps) (unread (analysis_at old.table) all)) e before after
+          → ReadsBy known (opened_keys t (ids_there loaded old) (unread (analysis_at old.table) all)) e before after
       read_last e after partial reads =
-          last_by known e after partial so_far.opened (keys_then known so_far.keys one e before here after so_far.none_lacks so_far.reads reads)
+          subst (λ keys. ReadsBy known keys e before after) (sym keys_are)
+          (keys_early known (so_far.keys ++ one) following e before after partial (keys_then known so_far.keys one e before here after so_far.none_lacks so_far.reads reads))
+
+      pub most_last : (e : Ending) (after : StoreState) → IsPartial e → ReadsBy known one e here after → after.begun ≤ raised before.begun (length (file_keys t (unread (analysis_at old.table) all)))
+      most_last e after partial reads =
+          most_begun known _ _ e before after (read_last e after partial reads) (few_keys t (ids_there loaded old) (unread (analysis_at old.table) all) (IsStrictlySortedBy-filter (slice_cmp nat_cmp) _ all sorted))
 
   -- ---- all files were read
 
@@ -176,63 +146,55 @@ module _ (t : Nodes) (loaded : List Stamp) (known : Option Contents) (all : List
     paths_are : so_far.ahead ≡ todo
     paths_are = sym (so_far.whole ∙ append-nil so_far.ahead)
 
-    opened_all : (held : Contents) → HasOpened held t loaded so_far.ahead so_far.keys old new → HasOpened held t loaded todo so_far.keys old new
-    opened_all held opened = subst (λ (paths : List (List ℕ)). HasOpened held t loaded paths so_far.keys old new) paths_are opened
-
     pub all_rows : keys_of new.table ≡ keys_of old.table ++ todo
     all_rows = so_far.rows ∙ ap (λ l. keys_of old.table ++ l) paths_are
 
     todo_sorted : AreSorted todo
     todo_sorted = IsStrictlySortedBy-filter (slice_cmp nat_cmp) _ all sorted
 
-    keys_all : (held : Contents) → HasOpened held t loaded so_far.ahead so_far.keys old new → so_far.keys ≡ opened_keys held t first todo
-    keys_all held opened =
-        (opened_all held opened).keys_are ∙ sym (opened_are held t first todo todo_sorted)
+    opened_all : HasOpened t loaded todo so_far.keys old new
+    opened_all = subst (λ (paths : List (List ℕ)). HasOpened t loaded paths so_far.keys old new) paths_are so_far.opened
 
-    few_all : length so_far.keys ≤ length (file_keys t todo)
-    few_all = rw (← paths_are) so_far.few
+    keys_all : so_far.keys ≡ opened_keys t (ids_there loaded old) todo
+    keys_all = opened_all.keys_are ∙ sym (opened_are t (ids_there loaded old) todo todo_sorted)
+
+    pub all_ids : HaveSameIds (ids_there loaded new) (ids_there loaded old ++ ids_at t todo)
+    all_ids = opened_all.ids
+
+    pub all_begun : new.begun ≡ old.begun + length (opened_keys t (ids_there loaded old) todo)
+    all_begun = opened_all.begun ∙ ap (λ keys. old.begun + length keys) keys_all
+
+    pub all_opens : new.begun ≡ old.begun + opens t first todo
+    all_opens = all_begun ∙ ap (λ n. old.begun + n) (opened_count t first todo todo_sorted)
 
     pub all_few : new.begun ≤ old.begun + length (file_keys t todo)
-    all_few = omega (arith, so_far.begun, few_all)
+    all_few = let few = few_keys t (ids_there loaded old) todo todo_sorted in omega (arith, all_begun, few)
+
+    pub all_reads : ReadsBy known (opened_keys t (ids_there loaded old) todo) Complete before after
+    all_reads = subst (λ keys. ReadsBy known keys Complete before after) keys_all so_far.reads
 
     pub all_most : after.begun ≤ raised before.begun (length (file_keys t todo))
-    all_most = most_begun known so_far.keys _ Complete before after so_far.reads few_all
+    all_most = most_begun known _ _ Complete before after all_reads (few_keys t (ids_there loaded old) todo todo_sorted)
+
+    pub none_lacking : IfKnown known (λ held. lacks_one held (opened_keys t (ids_there loaded old) todo) ≡ false)
+    none_lacking = subst (λ (keys : List (List ℕ)). IfKnown known (λ held. lacks_one held keys ≡ false)) keys_all so_far.none_lacks
 
     -- the facts that hold if contents are known
-    with_known : (P : Contents → Type 0) → ((held : Contents) → HasOpened held t loaded so_far.ahead so_far.keys old new → lacks_one held so_far.keys ≡ false → P held) → IfKnown known P
-    with_known P f = by known so_far.opened so_far.none_lacks
+    with_known : (P : Contents → Type 0) → ((held : Contents) → HasInfo held t loaded todo old new → P held) → IfKnown known P
+    with_known P f = by known so_far.info
       where
-        by : (k : Option Contents) → IfKnown k (λ held. HasOpened held t loaded so_far.ahead so_far.keys old new) → IfKnown k (λ held. lacks_one held so_far.keys ≡ false) → IfKnown k P
-        by None opened lacks = tt
-        by (Some held) opened lacks = f held opened lacks
+        by : (k : Option Contents) → IfKnown k (λ held. HasInfo held t loaded so_far.ahead old new) → IfKnown k P
+        by None info = tt
+        by (Some held) info = f held (subst (λ (paths : List (List ℕ)). HasInfo held t loaded paths old new) paths_are info)
 
-    pub all_said : IfKnown known (λ held. AgreeOn todo (said_in held t first todo) (analysis_at new.table))
-    all_said = with_known _ (λ held opened lacks. said_are held t (analysis_at new.table) first todo todo_sorted (opened_all held opened).said)
+    pub all_info : IfKnown known (λ held. AgreeOn todo (info_in held t first todo) (analysis_at new.table))
+    all_info = with_known _ (λ held info. info_are held t (analysis_at new.table) first todo todo_sorted info.info)
 
-    pub all_stamps : IfKnown known (λ held. new.stamps ≡ with_stamps old.stamps (stamps_said t (said_in held t first todo) todo))
-    all_stamps = with_known _ (λ held opened lacks. (opened_all held opened).stamps ∙ ap (λ l. with_stamps old.stamps l) (sym (made_are held t first todo todo_sorted)))
+    pub all_stamps : IfKnown known (λ held. new.stamps ≡ with_stamps old.stamps (info_stamps t (info_in held t first todo) todo))
+    all_stamps = with_known _ (λ held info. info.stamps ∙ ap (λ l. with_stamps old.stamps l) (sym (made_are held t first todo todo_sorted)))
 
     pub all_stamped : IfKnown known (λ held. StampTheSame (loaded ++ new.stamps) (first ++ stamps_at held t todo))
-    all_stamped = with_known _ (λ held opened lacks. (opened_all held opened).stamped)
-
-    pub all_begun : IfKnown known (λ held. new.begun ≡ old.begun + length (opened_keys held t first todo))
-    all_begun = with_known _ (λ held opened lacks. so_far.begun ∙ ap (λ keys. old.begun + length keys) (keys_all held opened))
-
-    pub all_opens : IfKnown known (λ held. AreSame held t t → new.begun ≡ old.begun + opens held t first todo)
-    all_opens = with_known _ (λ held opened lacks same.
-        so_far.begun ∙ ap (λ keys. old.begun + length keys) (keys_all held opened)
-        ∙ ap (λ n. old.begun + n) (opened_count held t same first todo todo_sorted))
-
-    pub none_lacking : IfKnown known (λ held. lacks_one held (opened_keys held t first todo) ≡ false)
-    none_lacking = with_known _ (λ held opened lacks. ap (lacks_one held) (sym (keys_all held opened)) ∙ lacks)
-
-    pub all_reads : ReadsOpenedBy known (λ held. opened_keys held t first todo) Complete before after
-    all_reads = by known so_far.opened so_far.reads
-      where
-        by : (k : Option Contents) → IfKnown k (λ held. HasOpened held t loaded so_far.ahead so_far.keys old new) → ReadsBy k so_far.keys Complete before after
-            → ReadsOpenedBy k (λ held. opened_keys held t first todo) Complete before after
-        by None opened reads = reads_fewer ⊥ ⊥ (Some so_far.keys) None Complete before after (λ l. l) reads
-        by (Some held) opened reads = subst (λ keys. ReadsBy (Some held) keys Complete before after) (keys_all held opened) reads
+    all_stamped = with_known _ (λ held info. info.stamped)
 
   -- before the first file
   pub none_read : (old : Files) (s : StoreState) → IsStrictlySortedBy (slice_cmp nat_cmp) all → HasRead t loaded known all all old old s s
@@ -240,13 +202,16 @@ module _ (t : Nodes) (loaded : List Stamp) (known : Option Contents) (all : List
     ahead = [];
     keys = [];
     whole = refl;
-    opened = unopened known;
+    opened = record {
+      keys_are = refl;
+      ids = λ id. ap (λ l. has_id l id) (sym (append-nil (ids_there loaded old)));
+      begun = omega arith;
+    };
+    info = unopened known;
     reads = nothing known;
     none_lacks = none known;
-    begun = omega arith;
-    few = omega arith;
     kept = λ q there. refl;
-    read = λ q there behind. absurd (cc);
+    read = λ q there following. absurd (cc);
     rows = sym (append-nil (keys_of old.table));
     sorted = sorted;
   }
@@ -259,11 +224,10 @@ module _ (t : Nodes) (loaded : List Stamp) (known : Option Contents) (all : List
       none None = tt
       none (Some held) = refl
 
-      unopened : (k : Option Contents) → IfKnown k (λ held. HasOpened held t loaded [] [] old old)
+      unopened : (k : Option Contents) → IfKnown k (λ held. HasInfo held t loaded [] old old)
       unopened None = tt
       unopened (Some held) = record {
-        keys_are = refl;
         stamped = λ id. ap (λ l. stamp_of l id) (sym (append-nil (loaded ++ old.stamps)));
         stamps = refl;
-        said = tt;
+        info = tt;
       }

@@ -5,14 +5,17 @@ use Rattle.std.specs.List.{cons_option}
 use Rattle.std.specs.Option.{is_some, option_map}
 use Rattle.std.specs.Prelude.{IfSome}
 use Rattle.aux_cache.proofs.Found.{first_of, found_holds, is_same, same_is, some_of_both, stamp_of_both, stamp_of_put}
-use Rattle.aux_cache.specs.Stamps.{HasName, HaveNames, put, stamp_of}
+use Rattle.aux_cache.specs.Stamps.{AreRecordable, IsRecordable, put, stamp_of}
 use Rattle.aux_cache.specs.declared.stamps.Stamp.{Stamp}
+use Rattle.elf_dynamic.specs.Analysis.{HasName, IsDefectInRange}
+use Rattle.file_table.specs.Analyses.{has_name}
 use Rattle.image_tree.specs.declared.node.Id.{Id}
 use Rattle.lib_types.proofs.SortedPairs.{by_test}
 use Rattle.lib_types.specs.declared.analysis.Analysis.{Analysis}
 use Rattle.lib_types.specs.declared.analysis.Analysis.TheVariants.{Lib, Not}
+use Rattle.file_stamps.specs.Opened.{has_id, ids_of}
 use Rattle.file_stamps.specs.Reading.{is_stamped}
-use Rattle.file_stamps.specs.Stamped.{StampTheSame, of_stamp, stamp_by, with_stamps}
+use Rattle.file_stamps.specs.Stamped.{StampTheSame, of_stamp, stamp_by}
 
 -- ---- lookup of a stamp
 
@@ -22,8 +25,21 @@ found_first xs ys id s e = sym (stamp_of_both xs ys id ∙ ap (λ o. first_of o 
 pub found_second : (xs ys : List Stamp) (id : Id) → None ≡ stamp_of xs id → stamp_of ys id ≡ stamp_of (xs ++ ys) id
 found_second xs ys id e = sym (stamp_of_both xs ys id ∙ ap (λ o. first_of o (stamp_of ys id)) (sym e))
 
-pub name_found : (xs : List Stamp) (id : Id) (s : Stamp) → HaveNames xs → Some s ≡ stamp_of xs id → HasName s
-name_found xs id s names e = subst (λ o. IfSome o HasName) (sym e) (found_holds HasName xs id names)
+pub recordable_found : (xs : List Stamp) (id : Id) (s : Stamp) → AreRecordable xs → Some s ≡ stamp_of xs id → IsRecordable s.analysis
+recordable_found xs id s are e =
+    subst (λ o. IfSome o (λ s. IsRecordable s.analysis)) (sym e) (found_holds (λ s. IsRecordable s.analysis) xs id are)
+
+-- ---- analyses that can be recorded
+
+-- what a reading returns can be recorded
+pub recordable_read : (a : Analysis) → HasName a → IsDefectInRange a → IsRecordable a
+recordable_read (Lib abi soname) name range = name
+recordable_read (Not defect) name range = range
+
+pub recordable_named : (a : Analysis) → IsRecordable a → has_name a ≡ true
+recordable_named (Lib abi (Some soname)) name = name
+recordable_named (Lib abi None) name = refl
+recordable_named (Not defect) range = refl
 
 -- ---- the stamp of a file
 
@@ -34,13 +50,11 @@ given s (Some x) = x
 -- the stamp of a file has the file's identity and its analysis
 pub stamp_by_id : (id : Option Id) (what : Analysis) (s : Stamp) → stamp_by id (Some what) ≡ Some s → id ≡ Some s.id
 stamp_by_id None what s e = absurd (cc)
-stamp_by_id (Some id) (Lib abi soname) s e = ap (λ o. option_map (λ (x : Stamp). x.id) o) e
-stamp_by_id (Some id) (Not defect) s e = absurd (cc)
+stamp_by_id (Some id) what s e = ap (λ o. option_map (λ (x : Stamp). x.id) o) e
 
 pub stamp_by_says : (id : Option Id) (what : Analysis) (s : Stamp) → stamp_by id (Some what) ≡ Some s → what ≡ of_stamp s
 stamp_by_says None what s e = absurd (cc)
-stamp_by_says (Some id) (Lib abi soname) s e = ap (λ o. of_stamp (given s o)) e
-stamp_by_says (Some id) (Not defect) s e = absurd (cc)
+stamp_by_says (Some id) what s e = ap (λ o. of_stamp (given s o)) e
 
 -- ---- the identities that have stamps
 
@@ -54,6 +68,15 @@ stamped_put xs s id = ap is_some (stamp_of_put xs s id) ∙ by (is_same id s.id)
     by true o = refl
     by false o = refl
 
+-- an identity has a stamp exactly if it is the identity of one of the stamps
+pub ids_stamped : (xs : List Stamp) (id : Id) → has_id (ids_of xs) id ≡ is_stamped xs id
+ids_stamped [] id = refl
+ids_stamped (x ∷ xs) id = by (is_same id x.id) (ids_stamped xs id)
+  where
+    by : (b : Bool) → has_id (ids_of xs) id ≡ is_stamped xs id → (b || has_id (ids_of xs) id) ≡ is_some (cond b (Some x) (stamp_of xs id))
+    by true e = refl
+    by false e = e
+
 -- the lookup of an identity finds a stamp with this identity
 pub found_id : (xs : List Stamp) (id : Id) (s : Stamp) → stamp_of xs id ≡ Some s → id ≡ s.id
 found_id [] id s e = absurd (cc)
@@ -64,10 +87,8 @@ found_id (x ∷ xs) id s e = by_test (is_same id x.id)
     (λ other. found_id xs id s (sym (ap (λ b. cond b (Some x) (stamp_of xs id)) other) ∙ e))
 
 -- inserting a stamp of a new identity into the made stamps has the same lookups as appending it to all stamps
-pub stamped_more : (loaded made : List Stamp) (o : Option Stamp) → IfSome o (λ s. stamp_of (loaded ++ made) s.id ≡ None)
-    → StampTheSame (loaded ++ with_stamps made (cons_option o [])) ((loaded ++ made) ++ cons_option o [])
-stamped_more loaded made None new id = ap (λ l. stamp_of l id) (sym (append-nil (loaded ++ made)))
-stamped_more loaded made (Some s) new id =
+pub stamped_more : (loaded made : List Stamp) (s : Stamp) → stamp_of (loaded ++ made) s.id ≡ None → StampTheSame (loaded ++ put made s) ((loaded ++ made) ++ s ∷ [])
+stamped_more loaded made s new id =
     stamp_of_both loaded (put made s) id
     ∙ ap (λ o. first_of (stamp_of loaded id) o) (stamp_of_put made s id)
     ∙ by (stamp_of loaded id) (stamp_of made id) (is_same id s.id) (λ same. sym (stamp_of_both loaded made id) ∙ ap (λ i. stamp_of (loaded ++ made) i) (same_is id s.id same) ∙ new)
@@ -104,7 +125,3 @@ stamped_late stamps i (Some s) there of_it id =
     by (Some u) c is = refl
     by None true is = let z : false ≡ true = is refl in absurd (cc)
     by None false is = refl
-
--- the same identities have stamps after appending such a stamp
-pub stamped_twice : (stamps : List Stamp) (i : Id) (o : Option Stamp) (id : Id) → is_stamped stamps i ≡ true → IfSome o (λ s. s.id ≡ i) → is_stamped (stamps ++ cons_option o []) id ≡ is_stamped stamps id
-stamped_twice stamps i o id there of_it = ap is_some (stamped_late stamps i o there of_it id)

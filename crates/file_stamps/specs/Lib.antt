@@ -1,6 +1,6 @@
 pub mod Files
 pub mod Opened
 pub mod Reading
-pub mod Said
+pub mod Info
 pub mod Stamped
 pub mod State

@@ -1,40 +1,58 @@
--- The files that are opened: their identity has no stamp.
-use Rattle.std.specs.Prelude.{◌≡◌, ℕ, ◌+◌, true, List, length, filter, if◌then◌else◌, Option, None, IsSomeAnd, option_map}
-use Rattle.std.specs.List.{filter_map}
-use Rattle.std.specs.Option.{is_none}
+-- The files that are opened: each file without an identity, and one file of each identity that has no stamp.
+use Rattle.std.specs.Prelude.{ℕ, ◌+◌, ◌≡◌, Bool, false, List, ◌++◌, map, length, filter, if◌then◌else◌, Option, None}
+use Rattle.std.specs.List.{before_first, filter_map}
+use Rattle.std.specs.Option.{is_none, option_map_or}
+use Rattle.std.specs.Ordering.{eq_by_cmp}
+use Rattle.std.specs.Set.{distinct_count, is_member}
+use Rattle.std.specs.Str.{bytes_eq}
+use Rattle.aux_cache.specs.Ids.{id_cmp}
+use Rattle.aux_cache.specs.Stamps.{stamp_of}
 use Rattle.aux_cache.specs.declared.stamps.Stamp.{Stamp}
-use Rattle.elf_dynamic.specs.Begun.{file_keys, key_in, lacks_one, most_of, until_lacking}
+use Rattle.elf_dynamic.specs.Begun.{file_keys, key_in}
+use Rattle.image_tree.specs.declared.node.Id.{Id}
 use Rattle.image_tree.specs.Tree.{Nodes, node_at}
-use Rattle.tree_face.specs.Store.{Contents, StoreState}
-use Rattle.tree_face.specs.StoreUse.{Ending, ReadsFiles}
-use Rattle.file_stamps.specs.Said.{stamps_before}
-use Rattle.file_stamps.specs.Stamped.{stamp_at, stamp_for, stamps_of}
+use Rattle.file_stamps.specs.Stamped.{id_at}
 
--- the key of the file at a path, if the file has no identity or its identity has no stamp
-abbrev pub unstamped_key : List Stamp → Nodes → List ℕ → Option (List ℕ)
-unstamped_key stamps t path = if is_none (stamp_for stamps t path) then key_in (node_at t path) else None
+-- ---- identities
 
--- The keys of the opened files among these paths, in order. When a file's turn comes, it is opened if its identity has no stamp.
-abbrev pub opened_keys : Contents → Nodes → List Stamp → List (List ℕ) → List (List ℕ)
-opened_keys held t stamps paths = filter_map (λ path. unstamped_key (stamps_before held t stamps paths path) t path) paths
+abbrev pub same_id : Id → Id → Bool
+same_id = eq_by_cmp id_cmp
 
--- These keys depend on the held contents. They are opened in order, up to the first whose content isn't held, if contents are known.
-abbrev pub ReadsOpenedBy : Option Contents → (Contents → List (List ℕ)) → Ending → StoreState → StoreState → Type 0
-ReadsOpenedBy known keys ending old new =
-    ReadsFiles (IsSomeAnd known (λ held. lacks_one held (keys held) ≡ true)) (option_map (λ held. until_lacking held (keys held)) known)
-    (option_map (λ held. most_of held (until_lacking held (keys held))) known) ending old new
+abbrev pub has_id : List Id → Id → Bool
+has_id ids id = is_member same_id ids id
 
-abbrev pub ReadsOpened : (Contents → List (List ℕ)) → Ending → StoreState → StoreState → Type 0
-ReadsOpened keys ending old new = ReadsOpenedBy old.held keys ending old new
+-- both lists have the same identities
+abbrev pub HaveSameIds : List Id → List Id → Type 0
+HaveSameIds ids others = (id : Id) → has_id ids id ≡ has_id others id
 
--- ---- the number of opened files, assuming that equal identities imply equal contents
+-- the identities that have stamps
+abbrev pub ids_of : List Stamp → List Id
+ids_of stamps = map (λ s. s.id) stamps
 
--- the paths of the files that have no identity or whose identity has no stamp
-abbrev pub unstamped : List Stamp → Nodes → List (List ℕ) → List (List ℕ)
-unstamped stamps t paths = filter (λ path. is_none (stamp_for stamps t path)) paths
+-- the identities of the files at these paths, in order
+abbrev pub ids_at : Nodes → List (List ℕ) → List Id
+ids_at t paths = filter_map (id_at t) paths
 
--- counts each of these files that isn't a library or has no identity, and one library for each identity
-abbrev pub opens : Contents → Nodes → List Stamp → List (List ℕ) → ℕ
-opens held t stamps paths =
-    length (file_keys t (filter (λ path. is_none (stamp_at held t path)) (unstamped stamps t paths)))
-    + length (stamps_of held t (unstamped stamps t paths))
+-- ---- the files that are opened
+
+-- the key of the file at a path, unless the file has one of these identities
+abbrev pub new_key : Nodes → List Id → List ℕ → Option (List ℕ)
+new_key t ids path = if option_map_or (has_id ids) (id_at t path) false then None else key_in (node_at t path)
+
+-- The keys of the opened files among these paths, in order: the files that have none of these identities, and not that of an earlier path.
+abbrev pub opened_keys : Nodes → List Id → List (List ℕ) → List (List ℕ)
+opened_keys t ids paths = filter_map (λ path. new_key t (ids ++ ids_at t (before_first (bytes_eq path) paths)) path) paths
+
+-- ---- their number
+
+-- the keys of the files that have no identity
+abbrev pub keys_without_id : Nodes → List (List ℕ) → List (List ℕ)
+keys_without_id t paths = file_keys t (filter (λ path. is_none (id_at t path)) paths)
+
+-- the identities of these files that have no stamp
+abbrev pub unstamped_ids : Nodes → List Stamp → List (List ℕ) → List Id
+unstamped_ids t stamps paths = filter (λ id. is_none (stamp_of stamps id)) (ids_at t paths)
+
+-- counts each file without an identity, and each identity without a stamp once
+abbrev pub opens : Nodes → List Stamp → List (List ℕ) → ℕ
+opens t stamps paths = length (keys_without_id t paths) + distinct_count same_id (unstamped_ids t stamps paths)

@@ -1,4 +1,4 @@
--- The stamps of an image's libraries. A stamp is a cached record for a file identity: ABI and soname (ldconfig(8): the auxiliary cache).
+-- The stamps of an image's files. A stamp is a cached record for a file identity: what the file is (ldconfig(8): the auxiliary cache).
 use Rattle.std.specs.Prelude.{◌≡◌, ℕ, true, List, [], fold, Option, Some, None, is_some, IfSome}
 use Rattle.std.specs.List.{filter_map}
 use Rattle.std.specs.Option.{option_and_then}
@@ -10,7 +10,6 @@ use Rattle.image_tree.specs.declared.node.Node.TheVariants as node
 use Rattle.image_tree.specs.Tree.{Nodes, node_at}
 use Rattle.elf_dynamic.specs.Begun.{key_in}
 use Rattle.lib_types.specs.declared.analysis.Analysis.{Analysis}
-use Rattle.lib_types.specs.declared.analysis.Analysis.TheVariants.{Lib, Not}
 use Rattle.tree_face.specs.Known.{IfKnown}
 use Rattle.tree_face.specs.Store.{Contents}
 use Rattle.file_stamps.specs.Files.{what_is}
@@ -33,14 +32,9 @@ id_at t path = id_in (node_at t path)
 
 -- ---- the stamps of files
 
--- the stamp of a library with this identity; a file with a defect has none
-abbrev pub stamp_with : Id → Analysis → Option Stamp
-stamp_with id (Lib abi soname) = Some (record { id = id; abi = abi; soname = soname })
-stamp_with id (Not defect) = None
-
--- the stamp of a file, if it has an identity and is a library
+-- the stamp of a file with this analysis, if the file has an identity
 abbrev pub stamp_by : Option Id → Option Analysis → Option Stamp
-stamp_by (Some id) (Some analysis) = stamp_with id analysis
+stamp_by (Some id) (Some analysis) = Some (record { id = id; analysis = analysis })
 stamp_by (Some id) None = None
 stamp_by None analysis = None
 
@@ -63,7 +57,7 @@ stamps_of held t paths = with_stamps [] (stamps_at held t paths)
 
 -- the analysis that a stamp records
 abbrev pub of_stamp : Stamp → Analysis
-of_stamp stamp = Lib stamp.abi stamp.soname
+of_stamp stamp = stamp.analysis
 
 -- the stamp of the identity of the file at a path
 abbrev pub stamp_for : List Stamp → Nodes → List ℕ → Option Stamp

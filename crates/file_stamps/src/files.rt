@@ -1,26 +1,26 @@
 //! Files that are read.
-ghost use Rattle.std.specs.Prelude.{◌≡◌, ◌≤◌, ◌+◌, ◌++◌, [], Some, false, length, IfOk, IsTrue, OnOk};
+ghost use Rattle.std.specs.Prelude.{◌≡◌, ◌≤◌, ◌+◌, ◌++◌, [], Some, false, length, IfOk, OnOk};
 ghost use Rattle.std.specs.Cmp.Lexicographic.{slice_cmp};
 ghost use Rattle.std.specs.List.{cons_option};
 ghost use Rattle.std.specs.List.Sorted.{IsStrictlySortedBy};
 ghost use Rattle.std.specs.Map.{keys_of};
 ghost use Rattle.std.specs.Option.{option_and_then};
 ghost use Rattle.std.specs.Ordering.{nat_cmp};
-ghost use Rattle.aux_cache.specs.Stamps.{HaveNames, stamp_of};
+ghost use Rattle.aux_cache.specs.Stamps.{AreRecordable, IsRecordable, stamp_of};
 ghost use Rattle.elf_dynamic.specs.Begun.{ReadsKeys, file_keys, lacks_one};
 ghost use Rattle.elf_dynamic.specs.Faults.{analyse_ending};
-ghost use Rattle.file_table.specs.Analyses.{AgreeOn, KeepsAnalyses, has_name};
+ghost use Rattle.file_table.specs.Analyses.{AgreeOn, KeepsAnalyses};
 ghost use Rattle.library_files.specs.FoundFile.{AreFilesOf, IsFileOf, paths_of};
 ghost use Rattle.file_table.specs.Table.{analysis_at, with_analysis};
 ghost use Rattle.lib_types.specs.Counts.{raised};
 ghost use Rattle.tree_face.specs.Known.{IfKnown};
 ghost use Rattle.file_stamps.specs.Files.{AreRead};
-ghost use Rattle.file_stamps.specs.Opened.{ReadsOpened, opened_keys, opens};
+ghost use Rattle.file_stamps.specs.Opened.{HaveSameIds, ids_at, opened_keys, opens};
 ghost use Rattle.file_stamps.specs.Reading.{IsFoundBy, ReadsOne, key_opened, keys_opened};
-ghost use Rattle.file_stamps.specs.State.{made_there, said_there, stamps_there, unread_in};
-ghost use Rattle.file_stamps.specs.Stamped.{AreSame, StampTheSame, stamp_by, stamps_at, with_stamps};
+ghost use Rattle.file_stamps.specs.State.{ids_there, info_there, made_there, stamps_there, unread_in};
+ghost use Rattle.file_stamps.specs.Stamped.{StampTheSame, stamp_by, stamps_at, with_stamps};
 
-use crate::stamped::{keep, said};
+use crate::stamped::{info, keep};
 use aux_cache::{GatheredStamps, Stamps};
 use elf_dynamic::{AnalyseFault, analyse};
 use file_table::Table;
@@ -34,7 +34,7 @@ use tree_face::{Id, Store, Tree};
 pub struct Files {
     /// The analysis of each file, by its path without links.
     pub table: Table,
-    /// The stamps of the files that have an identity and are libraries.
+    /// The stamps of the files that have an identity.
     pub stamps: GatheredStamps,
     /// The number of files that were opened.
     pub begun: usize,
@@ -57,7 +57,8 @@ impl Files {
     }
 }
 
-// The analysis of a file from the stamp of its identity. If there is no such stamp, the file is opened.
+// The analysis of a file from the stamp of its identity. A file whose identity has no stamp is opened.
+#[tactic(auto, using(crate::proofs::Stamps::recordable_read))]
 fn analysis_of<S: Store>(
     alloc: Global,
     store: &mut S,
@@ -66,14 +67,14 @@ fn analysis_of<S: Store>(
     file: &FoundFile<'_>,
     begun: &mut usize,
 ) -> Result<Analysis, AnalyseFault>
-    requires { HaveNames loaded.now }
+    requires { AreRecordable loaded.now }
     ensures found { IfOk result (λ analysis. IsFoundBy (S.state store.old).held file.now.key (option_and_then (stamp_of (loaded.now ++ made.now)) file.now.id)
         analysis begun.old begun.new) }
-    ensures name { IfOk result (λ analysis. IsTrue (has_name analysis)) }
+    ensures recordable { IfOk result IsRecordable }
     ensures reads { ReadsKeys (key_opened (option_and_then (stamp_of (loaded.now ++ made.now)) file.now.id) file.now.key) (analyse_ending result)
         (S.state store.old) (S.state store.new) }
 {
-    match said(alloc, loaded, made, file.id.copied()) {
+    match info(alloc, loaded, made, file.id.copied()) {
         Ok(Some(analysis)) => return Ok(analysis),
         Ok(None) => {}
         Err(NoMemory) => return Err(AnalyseFault::NoMemory),
@@ -87,6 +88,7 @@ fn analysis_of<S: Store>(
 }
 
 // Adds a file's analysis and its stamp.
+#[tactic(auto, using(crate::proofs::Stamps::recordable_named))]
 fn add(
     alloc: Global,
     files: &mut Files,
@@ -94,7 +96,7 @@ fn add(
     id: Option<Id>,
     analysis: Analysis,
 ) -> Result<(), NoMemory>
-    requires { IsTrue (has_name analysis) }
+    requires { IsRecordable analysis }
     ensures table { OnOk result (files.new.table ≡ with_analysis files.old.table path analysis) }
     ensures stamps { OnOk result (files.new.stamps ≡ with_stamps files.old.stamps (cons_option (stamp_by id (Some analysis)) [])) }
     ensures begun { files.new.begun ≡ files.old.begun }
@@ -114,9 +116,9 @@ fn read_file<S: Store>(
     files: &mut Files,
 ) -> Result<(), AnalyseFault>
     requires file { IsFileOf _tree.now file }
-    requires names { HaveNames loaded.now }
+    requires recordable { AreRecordable loaded.now }
     ensures one { OnOk result (ReadsOne _tree.now loaded.now file.entry.path (S.state store.old).held files.old files.new) }
-    ensures reads { ReadsKeys (keys_opened _tree.now (loaded.now ++ files.old.stamps) (analysis_at files.old.table) file.entry.path) (analyse_ending result)
+    ensures reads { ReadsKeys (keys_opened _tree.now (ids_there loaded.now files.old) (analysis_at files.old.table) file.entry.path) (analyse_ending result)
         (S.state store.old) (S.state store.new) }
 {
     if files.table.get(file.path.as_bytes()).is_some() {
@@ -130,7 +132,7 @@ fn read_file<S: Store>(
 }
 
 /// Reads those of these files that have no analysis yet, in path order. A file is opened if it has no identity. It is also opened if its
-/// identity has no stamp: no loaded one, and none from a library that was read before. The paths must be strictly ascending by bytes.
+/// identity has no stamp: no loaded one, and none from a file that was read before. The paths must be strictly ascending by bytes.
 /// The new rows follow the old rows of the table, in this order. Only the contract uses the tree; the code needs only the found files.
 pub fn read_files<S: Store>(
     alloc: Global,
@@ -142,9 +144,9 @@ pub fn read_files<S: Store>(
 ) -> Result<(), AnalyseFault>
     requires sorted { IsStrictlySortedBy (slice_cmp nat_cmp) (paths_of found.items) }
     requires files { AreFilesOf tree.now found.items }
-    requires names { HaveNames loaded.now }
-    ensures said { OnOk result (IfKnown (S.state store.old).held (λ held. AgreeOn (unread_in files.old found.entry.items)
-        (said_there held tree.now loaded.now files.old (unread_in files.old found.entry.items)) (analysis_at files.new.table))) }
+    requires recordable { AreRecordable loaded.now }
+    ensures info { OnOk result (IfKnown (S.state store.old).held (λ held. AgreeOn (unread_in files.old found.entry.items)
+        (info_there held tree.now loaded.now files.old (unread_in files.old found.entry.items)) (analysis_at files.new.table))) }
     ensures kept { OnOk result (KeepsAnalyses (analysis_at files.old.table) (analysis_at files.new.table)) }
     ensures all { OnOk result (AreRead tree.now (analysis_at files.new.table) (paths_of found.entry.items)) }
     ensures rows { OnOk result (keys_of files.new.table ≡ keys_of files.old.table ++ unread_in files.old found.entry.items) }
@@ -152,14 +154,16 @@ pub fn read_files<S: Store>(
         (made_there held tree.now loaded.now files.old (unread_in files.old found.entry.items)))) }
     ensures stamped { OnOk result (IfKnown (S.state store.old).held (λ held. StampTheSame (stamps_there loaded.now files.new)
         (stamps_there loaded.now files.old ++ stamps_at held tree.now (unread_in files.old found.entry.items)))) }
-    ensures begun { OnOk result (IfKnown (S.state store.old).held (λ held. files.new.begun ≡ files.old.begun
-        + length (opened_keys held tree.now (stamps_there loaded.now files.old) (unread_in files.old found.entry.items)))) }
-    ensures opens { OnOk result (IfKnown (S.state store.old).held (λ held. AreSame held tree.now tree.now → files.new.begun ≡ files.old.begun
-        + opens held tree.now (stamps_there loaded.now files.old) (unread_in files.old found.entry.items))) }
+    ensures ids { OnOk result (HaveSameIds (ids_there loaded.now files.new)
+        (ids_there loaded.now files.old ++ ids_at tree.now (unread_in files.old found.entry.items))) }
+    ensures begun { OnOk result (files.new.begun ≡ files.old.begun
+        + length (opened_keys tree.now (ids_there loaded.now files.old) (unread_in files.old found.entry.items))) }
+    ensures opens { OnOk result (files.new.begun ≡ files.old.begun
+        + opens tree.now (stamps_there loaded.now files.old) (unread_in files.old found.entry.items)) }
     ensures few { OnOk result (files.new.begun ≤ files.old.begun + length (file_keys tree.now (unread_in files.old found.entry.items))) }
     ensures none_lacks { OnOk result (IfKnown (S.state store.old).held
-        (λ held. lacks_one held (opened_keys held tree.now (stamps_there loaded.now files.old) (unread_in files.old found.entry.items)) ≡ false)) }
-    ensures reads { ReadsOpened (λ held. opened_keys held tree.now (stamps_there loaded.now files.old) (unread_in files.old found.entry.items))
+        (λ held. lacks_one held (opened_keys tree.now (ids_there loaded.now files.old) (unread_in files.old found.entry.items)) ≡ false)) }
+    ensures reads { ReadsKeys (opened_keys tree.now (ids_there loaded.now files.old) (unread_in files.old found.entry.items))
         (analyse_ending result) (S.state store.old) (S.state store.new) }
     ensures most { (S.state store.new).begun ≤ raised (S.state store.old).begun (length (file_keys tree.now (unread_in files.old found.entry.items))) }
 {

@@ -1,10 +1,9 @@
 //! Analyses from stamps.
-ghost use Rattle.std.specs.Prelude.{◌≡◌, ◌++◌, [], IfOk, IfSome, IsTrue, OnOk, Some};
+ghost use Rattle.std.specs.Prelude.{◌≡◌, ◌++◌, [], IfOk, IfSome, OnOk, Some};
 ghost use Rattle.std.specs.List.{cons_option};
 ghost use Rattle.std.specs.Option.{option_and_then, option_copied, option_map};
-ghost use Rattle.aux_cache.specs.Stamps.{HasName, HaveNames, stamp_of};
-ghost use Rattle.file_table.specs.Analyses.{has_name};
-ghost use Rattle.file_stamps.specs.Stamped.{of_stamp, stamp_by, stamp_with, with_stamps};
+ghost use Rattle.aux_cache.specs.Stamps.{AreRecordable, IsRecordable, stamp_of};
+ghost use Rattle.file_stamps.specs.Stamped.{of_stamp, stamp_by, with_stamps};
 
 use aux_cache::{GatheredStamps, Stamp, Stamps};
 use lib_types::{Analysis, NoMemory, Text};
@@ -12,11 +11,11 @@ use std::alloc::Global;
 use tree_face::Id;
 
 // The stamp with this identity. A loaded stamp has priority over one that was made.
-#[tactic(auto, using(crate::proofs::Stamps::found_first, crate::proofs::Stamps::found_second, crate::proofs::Stamps::name_found))]
+#[tactic(auto, using(crate::proofs::Stamps::found_first, crate::proofs::Stamps::found_second, crate::proofs::Stamps::recordable_found))]
 fn find<'a>(loaded: &'a Stamps, made: &'a GatheredStamps, id: Id) -> Option<&'a Stamp>
-    requires { HaveNames loaded.now }
+    requires { AreRecordable loaded.now }
     ensures stamp { option_copied result ≡ stamp_of (loaded.now ++ made.now) id }
-    ensures name { IfSome result (λ stamp. HasName stamp.now) }
+    ensures recordable { IfSome result (λ stamp. IsRecordable stamp.now.analysis) }
 {
     match loaded.find(&id) {
         Some(stamp) => Some(stamp),
@@ -24,67 +23,52 @@ fn find<'a>(loaded: &'a Stamps, made: &'a GatheredStamps, id: Id) -> Option<&'a 
     }
 }
 
-// The analysis that a stamp records.
-fn analysis_of(alloc: Global, stamp: &Stamp) -> Result<Analysis, NoMemory>
-    ensures { IfOk result (λ analysis. analysis ≡ of_stamp stamp.now) }
+fn copy_of(alloc: Global, analysis: &Analysis) -> Result<Analysis, NoMemory>
+    ensures { IfOk result (λ copy. copy ≡ analysis.now) }
 {
-    Ok(Analysis::Lib {
-        abi: stamp.abi,
-        soname: Text::copy_if_some(alloc, &stamp.soname)?,
-    })
+    match analysis {
+        Analysis::Lib { abi, soname } => Ok(Analysis::Lib {
+            abi: *abi,
+            soname: Text::copy_if_some(alloc, soname)?,
+        }),
+        Analysis::Not(defect) => Ok(Analysis::Not(*defect)),
+    }
 }
 
 /// The analysis from the stamp of a file's identity, if the file has an identity and the identity has a stamp.
-pub(crate) fn said(
+pub(crate) fn info(
     alloc: Global,
     loaded: &Stamps,
     made: &GatheredStamps,
     id: Option<Id>,
 ) -> Result<Option<Analysis>, NoMemory>
-    requires { HaveNames loaded.now }
-    ensures said { IfOk result (λ said. said ≡ option_map of_stamp (option_and_then (stamp_of (loaded.now ++ made.now)) id)) }
-    ensures name { IfOk result (λ said. IfSome said (λ analysis. IsTrue (has_name analysis))) }
+    requires { AreRecordable loaded.now }
+    ensures info { IfOk result (λ info. info ≡ option_map of_stamp (option_and_then (stamp_of (loaded.now ++ made.now)) id)) }
+    ensures recordable { IfOk result (λ info. IfSome info IsRecordable) }
 {
     let Some(id) = id else {
         return Ok(None);
     };
     match find(loaded, made, id) {
-        Some(stamp) => Ok(Some(analysis_of(alloc, stamp)?)),
+        Some(stamp) => Ok(Some(copy_of(alloc, &stamp.analysis)?)),
         None => Ok(None),
     }
 }
 
-// The stamp of a file with this identity, if the file is a library.
-fn stamp_with(alloc: Global, id: Id, analysis: &Analysis) -> Result<Option<Stamp>, NoMemory>
-    requires { IsTrue (has_name analysis.now) }
-    ensures stamp { IfOk result (λ stamp. stamp ≡ stamp_with id analysis.now) }
-    ensures name { IfOk result (λ stamp. IfSome stamp HasName) }
-{
-    match analysis {
-        Analysis::Lib { abi, soname } => Ok(Some(Stamp {
-            id,
-            abi: *abi,
-            soname: Text::copy_if_some(alloc, soname)?,
-        })),
-        Analysis::Not(_) => Ok(None),
-    }
-}
-
-/// Adds the stamp of a file to those that were made, if the file has an identity and is a library.
+/// Adds the stamp of a file to those that were made, if the file has an identity.
 pub(crate) fn keep(
     alloc: Global,
     made: &mut GatheredStamps,
     id: Option<Id>,
     analysis: &Analysis,
 ) -> Result<(), NoMemory>
-    requires { IsTrue (has_name analysis.now) }
+    requires { IsRecordable analysis.now }
     ensures { OnOk result (made.new ≡ with_stamps made.old (cons_option (stamp_by id (Some analysis.now)) [])) }
 {
     let Some(id) = id else {
         return Ok(());
     };
-    if let Some(stamp) = stamp_with(alloc, id, analysis)? {
-        made.insert(stamp)?;
-    }
+    let analysis = copy_of(alloc, analysis)?;
+    made.insert(Stamp { id, analysis })?;
     Ok(())
 }

@@ -5,14 +5,14 @@ use Rattle.std.proofs.lemmas.List.Folds.{list_all-append}
 use Rattle.std.specs.List.{before_first, dedup, dedup_from, list_all, position, slice_split}
 use Rattle.std.specs.Option.{IfSome}
 use Rattle.std.specs.Str.{bytes_eq}
-use Rattle.lib_types.proofs.Parting.{cut_at, cut_nowhere}
+use Rattle.lib_types.proofs.Parting.{cut_at, cut_not_found}
 use Rattle.lib_types.proofs.SortedPairs.{by_test}
 use Rattle.lib_types.specs.Name.{is_name, slash}
 use Rattle.image_tree.proofs.Prefixes.{parts_joined}
 use Rattle.lib_types.proofs.Ends.{before_none, before_position}
 use Rattle.tree_face.proofs.Pairs.{position_within}
 use Rattle.image_tree.proofs.Rising.{below_rest}
-use Rattle.image_tree.specs.Paths.{are_names, folder, is_below, is_path, is_slash, name_behind, root, stem}
+use Rattle.image_tree.specs.Paths.{are_names, folder, is_below, is_path, is_slash, name_after, root, stem}
 use Rattle.image_tree.specs.Tree.{Nodes, children_of, is_entry, kind_at, names_below, of_dir}
 use Rattle.image_tree.specs.declared.tree.Kind.{Kind}
 use Rattle.image_tree.specs.declared.tree.Kind.TheVariants.{Absent, Dir, File, Link}
@@ -22,7 +22,7 @@ use Rattle.image_tree.specs.declared.tree.Kind.TheVariants.{Absent, Dir, File, L
 first_name : (bytes : List ℕ) → are_names bytes ≡ true → is_name (before_first is_slash bytes) ≡ true
 first_name bytes all = elim (position is_slash bytes) as (λ o. position is_slash bytes ≡ o → is_name (before_first is_slash bytes) ≡ true) [
   | None ↦ λ e.
-      let one : are_names bytes ≡ list_all is_name (bytes ∷ []) = ap (list_all is_name) (cut_nowhere is_slash bytes e) in
+      let one : are_names bytes ≡ list_all is_name (bytes ∷ []) = ap (list_all is_name) (cut_not_found is_slash bytes e) in
       subst (λ (z : List ℕ). is_name z ≡ true) (before_none is_slash bytes e) (and_parts _ _ (sym one ∙ all)).0
   | Some n ↦ λ e.
       let within : n < length bytes = subst (λ o. IfSome o (λ i. i < length bytes)) e (position_within is_slash bytes) in
@@ -34,7 +34,7 @@ rest_named [] rest h = h
 rest_named (x ∷ front) rest h =
     (and_parts _ _ (sym (list_all-append is_name (slice_split is_slash front) (slice_split is_slash rest)) ∙ sym (ap (list_all is_name) (parts_joined front rest)) ∙ h)).1
 
-name_of_entry : (p q : List ℕ) → is_path q ≡ true → is_below p q ≡ true → is_name (name_behind (length (folder p)) q) ≡ true
+name_of_entry : (p q : List ℕ) → is_path q ≡ true → is_below p q ≡ true → is_name (name_after (length (folder p)) q) ≡ true
 name_of_entry p q proper below =
     let rest = drop (length (folder p)) q in
     let whole : q ≡ stem p ++ slash ∷ rest = below_rest p q below ∙ append_assoc (stem p) root rest in

@@ -24,11 +24,11 @@ module _ {A : Type 0} (p q r : A → Bool) (same : (x : A) → (q x && p x) ≡ 
 abbrev fresh : List (List ℕ) → Led → Bool
 fresh met led = not (was_met met led)
 
-apart : (a b : Bool) → (not a && not b) ≡ not (b || (a || false))
-apart true true = refl
-apart true false = refl
-apart false true = refl
-apart false false = refl
+differ : (a b : Bool) → (not a && not b) ≡ not (b || (a || false))
+differ true true = refl
+differ true false = refl
+differ false true = refl
+differ false false = refl
 
 module _ (met : List (List ℕ)) (led : Led) where
   known : was_met met led ≡ true → (x : Led) → (leads_elsewhere led x && fresh met x) ≡ fresh met x
@@ -40,7 +40,7 @@ module _ (met : List (List ℕ)) (led : Led) where
       (λ other. rw other refl)
 
   unknown : (x : Led) → (leads_elsewhere led x && fresh met x) ≡ fresh (met ++ led.1 ∷ []) x
-  unknown x = apart (bytes_eq x.1 led.1) (was_met met x) ∙ ap not (sym (list_any-append (bytes_eq x.1) met (led.1 ∷ [])))
+  unknown x = differ (bytes_eq x.1 led.1) (was_met met x) ∙ ap not (sym (list_any-append (bytes_eq x.1) met (led.1 ∷ [])))
 
 module _ (t : Nodes) where
   pub new_here : (met : List (List ℕ)) (places : List Place) (led : Led) → was_met met led ≡ false → places ++ places_of t led ≡ places ++ new_places t met led

@@ -50,7 +50,7 @@ is_short text = nat_le (length text) PATH_MAX
 each_short : (texts : List (List ℕ)) → All (λ text. length text ≤ PATH_MAX) texts → list_all is_short texts ≡ true
 each_short [] all = refl
 each_short (text ∷ texts) all =
-    let few : length text ≤ 4095 = All-head (λ text. length text ≤ PATH_MAX) text texts all in
+    let few : length text ≤ PATH_MAX = All-head (λ text. length text ≤ PATH_MAX) text texts all in
     let short : is_short text ≡ true = grind (arith, nat_tests) in
     and_from _ _ short (each_short texts (All-tail (λ text. length text ≤ PATH_MAX) text texts all))
 
@@ -83,7 +83,7 @@ module _ (t : Nodes) where
 
   below_short : (text name : List ℕ) → is_short text ≡ true → is_name name ≡ true → nat_le (length (join (join text hwcaps) name)) SPELLED_MAX ≡ true
   below_short text name h n =
-      let few : length text ≤ 4095 = grind (arith, nat_tests) in
+      let few : length text ≤ PATH_MAX = grind (arith, nat_tests) in
       let size : length (join (join text hwcaps) name) ≤ 4364 = omega (arith, few, name_short name n, joined_size text hwcaps, joined_size (join text hwcaps) name) in
       grind (arith, nat_tests)
 
@@ -111,7 +111,7 @@ module _ (t : Nodes) where
     place_well : (led : Led) → is_led led ≡ true → are_spelled (places_of t led) ≡ true
     place_well led h =
         let parts = and_parts (is_short led.0) (has_no_nul led.0) h in
-        let few : length led.0 ≤ 4095 = grind (arith, nat_tests) in
+        let few : length led.0 ≤ PATH_MAX = grind (arith, nat_tests) in
         let short : nat_le (length led.0) SPELLED_MAX ≡ true = grind (arith, nat_tests) in
         and_from _ _ (and_from _ _ (and_from _ _ short parts.1) refl) (below_well led.0 (dir_at t (join led.0 hwcaps)) parts.0)
 

@@ -47,8 +47,12 @@ debian_dirs_of abi = (codes "/lib/" ++ (row_of abi).triplet) ∷ (codes "/usr/li
 abbrev pub debian_dirs : List (List ℕ)
 debian_dirs = flat_map debian_dirs_of abis
 
+-- the directories that RISC-V's loader searches by default for the ABI lp64d (glibc's sysdeps/unix/sysv/linux/riscv)
+abbrev pub lp64d_dirs : List (List ℕ)
+lp64d_dirs = codes "/lib64/lp64d" ∷ codes "/usr/lib64/lp64d" ∷ []
+
 abbrev pub all_builtin_dirs : List (List ℕ)
-all_builtin_dirs = system_dirs ++ debian_dirs
+all_builtin_dirs = system_dirs ++ (debian_dirs ++ lp64d_dirs)
 
 -- the directories that are searched after those of the conf file
 abbrev pub builtin_dirs : Scope → List (List ℕ)

@@ -11,7 +11,7 @@ pub enum Scope {
     /// The directories of `/etc/ld.so.conf`, then those that the loader searches by default.
     Image,
     /// The directories of this conf file (`/etc/ld.so.conf` if None), then those that the loader searches by default, then
-    /// Debian's directories for each ABI.
+    /// Debian's directories for each ABI, then those of RISC-V's loader.
     Root { conf: Option<Text> },
     /// Those of the command line alone.
     Only { dirs: Texts },

@@ -32,7 +32,7 @@ pub fn next_builtin_dir(scope: &Scope, done: usize) -> Option<(&'static [u8], us
     }
 }
 
-// The same for the directory of an image: the loader's directories, followed by Debian's.
+// The same for the directory of an image: the loader's directories, followed by Debian's and those of RISC-V's loader.
 fn next_dir_of_root(done: usize) -> Option<(&'static [u8], usize)>
     ensures { MatchOption result (drop done all_builtin_dirs ≡ []) (λ r. drop done all_builtin_dirs ≡ r.0.now ∷ drop r.1 all_builtin_dirs) }
 {
@@ -49,6 +49,12 @@ fn next_dir_of_root(done: usize) -> Option<(&'static [u8], usize)>
         9 => Some((b"/usr/lib/x86_64-linux-gnux32", 10)),
         10 => Some((b"/lib/aarch64-linux-gnu", 11)),
         11 => Some((b"/usr/lib/aarch64-linux-gnu", 12)),
+        12 => Some((b"/lib/arm-linux-gnueabihf", 13)),
+        13 => Some((b"/usr/lib/arm-linux-gnueabihf", 14)),
+        14 => Some((b"/lib/riscv64-linux-gnu", 15)),
+        15 => Some((b"/usr/lib/riscv64-linux-gnu", 16)),
+        16 => Some((b"/lib64/lp64d", 17)),
+        17 => Some((b"/usr/lib64/lp64d", 18)),
         _ => None,
     }
 }

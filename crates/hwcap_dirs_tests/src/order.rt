@@ -3,7 +3,7 @@ use hwcap_dirs::{Dirs, Places, Scope, order};
 use image_rows::{MANIFEST, tree_of};
 use lib_types::NoMemory;
 use std::alloc::Global;
-use table_rows::{Row, Said, Trial, Words, has_line, lines_in, list, text};
+use table_rows::{Differences, Row, Trial, Words, has_line, lines_in, list, text};
 
 /// A row has a manifest, the directories of the conf file, and the mark of a tree that is a system's root, if it is one. It has the search
 /// directories, each with its written path, its real path and the name of the subdirectory if it is one. It has the directories that are
@@ -25,12 +25,17 @@ fn places_in(alloc: Global, places: &Places) -> Result<Vec<u8>, NoMemory> {
     Ok(lines)
 }
 
-fn are_found(alloc: Global, row: Row<'_>, found: &Dirs, said: &mut Said) -> Result<bool, NoMemory> {
+fn are_found(
+    alloc: Global,
+    row: Row<'_>,
+    found: &Dirs,
+    differences: &mut Differences,
+) -> Result<bool, NoMemory> {
     let places = places_in(alloc, &found.places)?;
     let absent = lines_in(alloc, &found.absent)?;
     Ok(
-        said.is_text(alloc, row, b"places", &places)?
-            && said.is_text(alloc, row, b"absent", &absent)?,
+        differences.is_text(alloc, row, b"places", &places)?
+            && differences.is_text(alloc, row, b"absent", &absent)?,
     )
 }
 
@@ -49,12 +54,16 @@ impl Trial for Order {
         WORDS
     }
 
-    fn is_right(alloc: Global, row: Row<'_>, said: &mut Said) -> Result<bool, NoMemory> {
-        let Some(tree) = tree_of(alloc, row, said)? else {
+    fn is_right(
+        alloc: Global,
+        row: Row<'_>,
+        differences: &mut Differences,
+    ) -> Result<bool, NoMemory> {
+        let Some(tree) = tree_of(alloc, row, differences)? else {
             return Ok(false);
         };
         let dirs = list(alloc, b'\n', &text(alloc, row, b"conf-dirs")?)?;
         let found = order(alloc, &scope_of(row), &tree, &dirs)?;
-        are_found(alloc, row, &found, said)
+        are_found(alloc, row, &found, differences)
     }
 }

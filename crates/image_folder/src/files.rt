@@ -1,6 +1,8 @@
 //! Files that are opened after they were looked at.
-use device_rules::{Identity, Stamp, identity_of, is_cut, stamp_of};
-use std::fs::{self, FileType, OpenFile};
+ghost use Rattle.std.specs.Prelude.{◌≡◌, IfOk, IfSome};
+
+use device_rules::{Identity, Opened, Stamp, identity_of, is_cut, opened_as, owner_of, stamp_of};
+use std::fs::{self, FileType, Metadata, OpenFile};
 use std::io::{self, Error, ErrorKind, Read};
 use std::os::unix::fs::FileTypeExt;
 use std::rt::Runtime;
@@ -35,14 +37,25 @@ pub fn open_file<R: Runtime>(rt: &R, path: &str) -> io::Result<(R::File, Stamp)>
 // Opens what was found to be a regular file. The result is None if another regular file replaced it in between.
 fn look_and_open<R: Runtime>(rt: &R, path: &str) -> io::Result<Option<(R::File, Stamp)>> {
     let found = look_for_file(rt, path)?;
+    open_found(rt, path, found)
+}
+
+// Opens the file that was looked at. The result is None if another regular file replaced it in between.
+fn open_found<R: Runtime>(
+    rt: &R,
+    path: &str,
+    found: Identity,
+) -> io::Result<Option<(R::File, Stamp)>>
+    ensures device { IfOk result (λ opened. IfSome opened (λ file. file.1.device ≡ found.device)) }
+    ensures inode { IfOk result (λ opened. IfSome opened (λ file. file.1.inode ≡ found.inode)) }
+{
     let file = fs::open(rt, path)?;
     let opened = file.metadata()?;
-    if found == identity_of(&opened) {
-        Ok(Some((file, stamp_of(&opened))))
-    } else if opened.is_file() {
-        Ok(None)
-    } else {
-        Err(changed())
+    let stamp = stamp_of(&opened);
+    match opened_as(found, stamp.identity(), opened.is_file()) {
+        Opened::Same => Ok(Some((file, stamp))),
+        Opened::OtherFile => Ok(None),
+        Opened::Other => Err(changed()),
     }
 }
 
@@ -60,6 +73,19 @@ fn look_for_file<R: Runtime>(rt: &R, path: &str) -> io::Result<Identity> {
 /// The error of a file that was replaced meanwhile.
 pub fn changed() -> Error {
     Error::new(ErrorKind::ResourceBusy, "changed meanwhile")
+}
+
+/// Whether the user of this run owns the file.
+pub fn is_own<R: Runtime>(rt: &R, file: &Metadata) -> io::Result<bool> {
+    Ok(owner_of(&fs::metadata(rt, "/proc/self")?).user == owner_of(file).user)
+}
+
+/// The error of a temporary file that can't be removed.
+pub fn left_behind() -> Error {
+    Error::new(
+        ErrorKind::PermissionDenied,
+        "a temporary file of an earlier run can't be removed",
+    )
 }
 
 // The kind of file that was found instead of a regular file.

@@ -1,16 +1,17 @@
 //! Directories that are opened after they were looked at, and created where they are missing.
+ghost use Rattle.std.specs.Prelude.{◌≡◌, ◌↔◌, ◌⊎◌, IsTrue};
+
 use crate::files::changed;
 use crate::held_file::HeldFile;
-use device_rules::{identity_of, is_forbidden, is_missing, is_there};
+use device_rules::{
+    FOLDER_MODE, identity_of, is_closed, is_forbidden, is_missing, is_there, lacks_mode,
+};
 use std::alloc::AllocError;
 use std::fs::{self, DirBuilder, FileType, Metadata, OpenFile, Permissions, read_dir};
 use std::io::{self, Error, ErrorKind};
 use std::os::fd::AsRawFd;
 use std::os::unix::fs::{DirBuilderExt, MetadataExt, PermissionsExt};
 use std::rt::Runtime;
-
-/// The mode of directories that are created for a slot, whatever the umask is.
-const FOLDER_MODE: u32 = 0o755;
 
 /// What to do if a directory of the path is missing.
 #[derive(Clone, Copy, PartialEq, Eq)]
@@ -55,12 +56,19 @@ pub fn open_or_make<R: Runtime>(
 fn find_folder<R: Runtime>(rt: &R, path: &str, missing: Missing) -> io::Result<(Metadata, bool)> {
     match fs::symlink_metadata(rt, path) {
         Ok(found) => Ok((found, false)),
-        Err(error) if is_missing(error.kind()) && missing == Missing::IsMade => {
+        Err(error) if is_to_make(error.kind(), missing) => {
             let made = make_folder(rt, path)?;
             Ok((fs::symlink_metadata(rt, path)?, made))
         }
         Err(error) => Err(error),
     }
+}
+
+// Whether to create a directory that couldn't be looked at because of this kind of error.
+fn is_to_make(kind: ErrorKind, missing: Missing) -> bool
+    ensures { IsTrue result ↔ ((kind ≡ ErrorKind.NotFound) × (missing ≡ Missing.IsMade)) }
+{
+    is_missing(kind) && missing == Missing::IsMade
 }
 
 // Whether the directory at the path is empty and closed to others: then a run created it and was stopped before it set the mode.
@@ -93,7 +101,7 @@ fn open_inside<R: Runtime>(rt: &R, path: &str) -> io::Result<R::File> {
 // The opened file must be the one that was looked at. Otherwise a link or another file replaced it meanwhile.
 fn require_same<F: OpenFile + Drop>(file: F, found: &Metadata) -> io::Result<F> {
     let opened = identity_of(&file.metadata()?);
-    if identity_of(found) == opened {
+    if identity_of(found).is(opened) {
         Ok(file)
     } else {
         Err(changed())
@@ -109,17 +117,24 @@ where
     format!(in rt.alloc(); "/proc/self/fd/{number}/")
 }
 
-// Whether /proc/self/fd has this open directory. A system without /proc has none.
-fn is_shown<R: Runtime>(rt: &R, file: &R::File, found: &Metadata) -> io::Result<bool>
+/// Whether /proc/self/fd has this open directory. A system without /proc has none.
+pub fn is_shown<R: Runtime>(rt: &R, file: &R::File, found: &Metadata) -> io::Result<bool>
 where
     R::File: HeldFile,
 {
     let path = path_of(rt, file)?;
     match fs::metadata(rt, path.as_str()) {
-        Ok(shown) => Ok(identity_of(&shown) == identity_of(found)),
-        Err(error) if is_missing(error.kind()) || is_forbidden(error.kind()) => Ok(false),
+        Ok(shown) => Ok(identity_of(&shown).is(identity_of(found))),
+        Err(error) if is_not_shown(error.kind()) => Ok(false),
         Err(error) => Err(error),
     }
+}
+
+// Whether this kind of error says that the system doesn't show open files.
+fn is_not_shown(kind: ErrorKind) -> bool
+    ensures { IsTrue result ↔ (kind ≡ ErrorKind.NotFound ⊎ kind ≡ ErrorKind.PermissionDenied) }
+{
+    is_missing(kind) || is_forbidden(kind)
 }
 
 // Creates a directory, and says whether it did: another run may have created it at the same time.
@@ -135,15 +150,11 @@ fn make_folder<R: Runtime>(rt: &R, path: &str) -> io::Result<bool> {
 
 // Sets the full mode, because the umask may have removed some of it.
 fn set_mode<F: OpenFile>(file: &F, found: &Metadata) -> io::Result<()> {
-    if found.mode() & 0o777 == FOLDER_MODE {
-        return Ok(());
+    if lacks_mode(found.mode()) {
+        file.set_permissions(Permissions::from_mode(FOLDER_MODE))
+    } else {
+        Ok(())
     }
-    file.set_permissions(Permissions::from_mode(FOLDER_MODE))
-}
-
-// Whether this mode closes a directory to others.
-fn is_closed(mode: u32) -> bool {
-    mode & 0o055 != 0o055
 }
 
 fn require_folder(kind: FileType) -> io::Result<()> {

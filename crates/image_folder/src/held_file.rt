@@ -1,5 +1,6 @@
 //! What the devices ask of an open file.
-ghost use Rattle.std.specs.Prelude.{◌≡◌, ◌↔◌, ◌≢◌, IsTrue};
+ghost use Rattle.std.specs.Prelude.{◌≡◌, ◌↔◌, ◌≢◌, Err, IsTrue, false};
+ghost use Rattle.std.specs.Result.{is_err};
 
 use std::fs::{File, OpenFile, TryLockError};
 use std::io;
@@ -44,14 +45,22 @@ pub trait HeldFile: FileExt + AsRawFd {
 
 impl HeldFile for File {
     fn take_lock(&self) -> Lock {
-        match self.try_lock() {
-            Ok(()) => Lock::Own,
-            Err(TryLockError::WouldBlock) => Lock::Other,
-            Err(TryLockError::Error(_)) => Lock::Unknown,
-        }
+        lock_of(self.try_lock())
     }
 
     fn give_to(&self, user: u32, group: u32) -> io::Result<()> {
         fchown(self.as_fd(), Some(user), Some(group))
+    }
+}
+
+// Who has the lock after this attempt to take it.
+fn lock_of(taken: Result<(), TryLockError>) -> Lock
+    ensures own { result ≡ Lock.Own ↔ is_err taken ≡ false }
+    ensures other { result ≡ Lock.Other ↔ taken ≡ Err TryLockError.WouldBlock }
+{
+    match taken {
+        Ok(()) => Lock::Own,
+        Err(TryLockError::WouldBlock) => Lock::Other,
+        Err(TryLockError::Error(_)) => Lock::Unknown,
     }
 }

@@ -1,8 +1,11 @@
 //! The files of an image that is unpacked in a directory.
+ghost use Rattle.std.specs.Prelude.{◌≡◌, false, IfOk};
+ghost use Rattle.device_rules.specs.Paths.{has_up};
+
 use crate::files::open_file;
 use crate::folders::{Missing, open_first, open_or_make, path_of};
 use crate::held_file::HeldFile;
-use device_rules::{Stamp, behind, divided, is_at_or_above, is_missing, leads_on, leads_up};
+use device_rules::{Stamp, divided, following, has_up, is_at_or_above, is_missing, leads_on};
 use lib_types::NoMemory;
 use standard_streams::{Streams, write_error_line};
 use std::alloc::{AllocError, Allocator};
@@ -28,12 +31,12 @@ pub struct ImageFolder<R: Runtime> {
     by_number: bool,
     // The open directories, from the root to that of the last file.
     levels: Vec<Level<R>, R::A>,
-    // The path of the last call, as passed to the system. It is empty if the call was about the directory `said` itself.
+    // The path of the last call, as passed to the system. It is empty if the call was about the directory itself that `last_level` names.
     path: String<R::A>,
     // The offset of the last name in `path`.
     name_at: usize,
     // The index of the level that the last call was about.
-    said: usize,
+    last_level: usize,
 }
 
 /// A directory on the way to a file.
@@ -70,7 +73,7 @@ impl<R: Runtime> ImageFolder<R> {
             levels,
             path,
             name_at: 0,
-            said: 0,
+            last_level: 0,
         })
     }
 
@@ -91,7 +94,7 @@ impl<R: Runtime> ImageFolder<R> {
 
     // The path below the image's directory of the file of the last call.
     fn name_below(&self) -> Result<String<R::A>, AllocError> {
-        let folder = match self.levels.get(self.said) {
+        let folder = match self.levels.get(self.last_level) {
             Some(level) => level.name.as_str(),
             None => "",
         };
@@ -111,7 +114,7 @@ impl<R: Runtime> ImageFolder<R> {
 
     /// From here on, faults are about the file of this name in the directory that was entered.
     pub fn go_to(&mut self, name: &str) -> Result<(), AllocError> {
-        self.said = self.levels.len().saturating_sub(1);
+        self.last_level = self.levels.len().saturating_sub(1);
         let prefix = prefix_in(&self.levels);
         self.name_at = prefix.len();
         put_joined(&mut self.path, prefix, name)
@@ -119,7 +122,7 @@ impl<R: Runtime> ImageFolder<R> {
 
     // From here on, faults are about the image's own directory.
     fn go_to_root(&mut self) -> Result<(), AllocError> {
-        self.said = 0;
+        self.last_level = 0;
         self.name_at = 0;
         put_joined(&mut self.path, "", self.root.as_str())
     }
@@ -130,7 +133,7 @@ impl<R: Runtime> ImageFolder<R> {
     }
 
     /// The path of another name in the directory that was entered, as passed to the system.
-    pub fn path_beside(&self, name: &str) -> Result<String<R::A>, AllocError> {
+    pub fn path_next_to(&self, name: &str) -> Result<String<R::A>, AllocError> {
         let prefix = prefix_in(&self.levels);
         format!(in self.rt.alloc(); "{prefix}{name}")
     }
@@ -177,12 +180,15 @@ where
     R::File: HeldFile,
 {
     /// Opens a regular file, and returns its stamp. A symbolic link on the way, or anything but a regular file at the end, is an error
-    /// before it is opened: a link may lead out of the image, and opening a pipe would wait.
-    pub fn open(&mut self, path: &str) -> io::Result<(R::File, Stamp)> {
+    /// before it is opened: a link may lead out of the image, and opening a pipe would wait. A component `..` is an error, too.
+    pub fn open(&mut self, path: &str) -> io::Result<(R::File, Stamp)>
+        ensures inside { IfOk result (λ _. has_up path.now ≡ false) }
+    {
+        self.require_inside(path)?;
         let (folder, name) = divided(path);
-        self.enter(folder, Missing::IsFault)?;
+        self.enter_inside(folder, Missing::IsFault)?;
         self.go_to(name)?;
-        if !leads_on(name.as_bytes()) || leads_up(name.as_bytes()) {
+        if !leads_on(name.as_bytes()) {
             return Err(Error::new(ErrorKind::InvalidInput, "the path has no file's name"));
         }
         open_file(&self.rt, self.path.as_str())
@@ -194,15 +200,37 @@ where
         look_at(&self.rt, self.path.as_str())
     }
 
-    /// Goes to a directory, component by component, from the deepest directory on the way to it that is already open.
-    pub fn enter(&mut self, folder: &str, missing: Missing) -> io::Result<()> {
+    /// Goes to a directory, component by component, from the deepest directory on the way to it that is already open. A component `..` is
+    /// an error, because it may lead out of the image.
+    pub fn enter(&mut self, folder: &str, missing: Missing) -> io::Result<()>
+        ensures inside { IfOk result (λ _. has_up folder.now ≡ false) }
+    {
+        self.require_inside(folder)?;
+        self.enter_inside(folder, missing)
+    }
+
+    // Returns an error about this path if a component of it is `..`.
+    fn require_inside(&mut self, path: &str) -> io::Result<()>
+        ensures { IfOk result (λ _. has_up path.now ≡ false) }
+    {
+        if !has_up(path.as_bytes()) {
+            return Ok(());
+        }
+        self.last_level = 0;
+        self.name_at = 0;
+        put_joined(&mut self.path, "", path)?;
+        Err(Error::new(ErrorKind::InvalidInput, "the path has \"..\""))
+    }
+
+    // Goes to a directory whose path has no component `..`.
+    fn enter_inside(&mut self, folder: &str, missing: Missing) -> io::Result<()> {
         if self.is_in(folder) {
             return Ok(());
         }
         self.open_root()?;
         let kept = on_the_way(&self.levels, folder);
         self.levels.truncate(kept);
-        match behind(folder, name_in(&self.levels)) {
+        match following(folder, name_in(&self.levels)) {
             Some(rest) => self.go_on(rest, missing),
             None => Err(Error::new(ErrorKind::InvalidInput, "another folder is open")),
         }
@@ -237,9 +265,6 @@ where
     // Goes one component further, which must be a directory.
     fn step(&mut self, part: &str, missing: Missing) -> io::Result<()> {
         self.go_to(part)?;
-        if leads_up(part.as_bytes()) {
-            return Err(Error::new(ErrorKind::InvalidInput, "the path has \"..\""));
-        }
         let open = open_or_make(&self.rt, self.path.as_str(), missing)?;
         self.push(part, open)
     }
@@ -285,7 +310,7 @@ where
     pub fn sync_folders(&mut self) -> io::Result<()> {
         self.path.clear();
         self.name_at = 0;
-        sync_all_of(&self.rt, &self.levels, &mut self.said)
+        sync_all_of(&self.rt, &self.levels, &mut self.last_level)
     }
 }
 

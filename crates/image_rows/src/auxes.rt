@@ -8,7 +8,8 @@ use table_rows::{Row, Words, divide, has_line, number, text, text_below};
 /// strings as text. `changed` and `cut` follow below `records`.
 pub const AUX: Words = &[b"aux", b"records", b"changed", b"cut"];
 
-const MAGIC: &[u8] = b"glibc-ld.so.auxcache-1.0";
+// the magic of version 1.1
+const MAGIC: &[u8] = b"glibc-ld.so.auxcache-1.1";
 
 fn push_four(file: &mut Vec<u8>, number: u64) -> Result<(), NoMemory> {
     file.extend_from_slice(&number.to_le_bytes()[..4])?;

@@ -6,7 +6,7 @@ use elf_samples::{SampleFault, file_of};
 use lib_types::{Abi, NoMemory, Text};
 use std::alloc::Global;
 use table_rows::{
-    Row, Said, Words, calls, divide, has_line, owned_value, text_below, value, values,
+    Differences, Row, Words, calls, divide, has_line, owned_value, text_below, value, values,
 };
 use tree_face::MemStore;
 
@@ -139,12 +139,15 @@ pub fn store_of(alloc: Global, row: Row<'_>) -> Result<MemStore, SampleFault> {
 }
 
 /// If a row's trial failed because a file can't be generated, says so.
-pub fn is_made(tried: Result<bool, SampleFault>, said: &mut Said) -> Result<bool, NoMemory> {
+pub fn is_made(
+    tried: Result<bool, SampleFault>,
+    differences: &mut Differences,
+) -> Result<bool, NoMemory> {
     match tried {
         Ok(is_right) => Ok(is_right),
         Err(SampleFault::NoMemory) => Err(NoMemory),
         Err(_) => {
-            said.say(b"no such file can be made", b"")?;
+            differences.say(b"no such file can be made", b"")?;
             Ok(false)
         }
     }

@@ -5,7 +5,7 @@ use std::alloc::Global;
 use table_rows::{Row, Words, has_line, list, value};
 
 /// The words of the loader's environment: `env-abi` with its ABI (x86-64 without the line), `caps` with hwcaps names between colons,
-/// `library-path`, `platform`, `secure` for secure execution, and `root` if Debian's directories are searched too.
+/// `library-path`, `platform`, `secure` for secure execution, and `root` if all built-in directories are searched.
 pub const LOADER: Words = &[
     b"env-abi",
     b"caps",

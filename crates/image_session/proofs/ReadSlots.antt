@@ -81,18 +81,18 @@ module _ (xs ys : List Slot) (a b : DiskState) where
 
 -- the only slot
 pub fails_alone : (slot : Slot) (a b : DiskState) → ReadsOnly (slot ∷ []) DeviceFailed a b → FailsAt (slot ∷ []) a b slot
-fails_alone slot a b reads = record { before = []; behind = []; is_next = refl; between = a; read = reads_none a; fails = reads }
+fails_alone slot a b reads = record { before = []; following = []; is_next = refl; between = a; read = reads_none a; fails = reads }
 
 -- the slot after those that were read
 pub fails_next : (xs : List Slot) (slot : Slot) (a b c : DiskState) → ReadsOnly xs Complete a b → ReadsOnly (slot ∷ []) DeviceFailed b c → FailsAt (xs ++ slot ∷ []) a c slot
-fails_next xs slot a b c first next = record { before = xs; behind = []; is_next = refl; between = b; read = first; fails = next }
+fails_next xs slot a b c first next = record { before = xs; following = []; is_next = refl; between = b; read = first; fails = next }
 
 -- a slot of the first part of the list
 pub fails_before : (xs ys : List Slot) (slot : Slot) (a b : DiskState) → FailsAt xs a b slot → FailsAt (xs ++ ys) a b slot
 fails_before xs ys slot a b first = record {
   before = first.before;
-  behind = first.behind ++ ys;
-  is_next = ap (λ l. l ++ ys) first.is_next ∙ append_assoc first.before (slot ∷ first.behind) ys;
+  following = first.following ++ ys;
+  is_next = ap (λ l. l ++ ys) first.is_next ∙ append_assoc first.before (slot ∷ first.following) ys;
   between = first.between;
   read = first.read;
   fails = first.fails;

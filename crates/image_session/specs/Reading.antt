@@ -45,8 +45,8 @@ IfDiskFailed _ P = ⊤
 -- The slots are read in order. The slots before this one were read, and reading this one failed.
 pub record FailsAt (order : List Slot) (old new : DiskState) (slot : Slot) : Type 0 where
   pub before : List Slot
-  pub behind : List Slot
-  pub is_next : order ≡ before ++ slot ∷ behind
+  pub following : List Slot
+  pub is_next : order ≡ before ++ slot ∷ following
   pub between : DiskState
   pub read : ReadsOnly before Complete old between
   pub fails : ReadsOnly (slot ∷ []) DeviceFailed between new
@@ -97,7 +97,7 @@ pub record ReadsTree (source : TreeSource) (result : Result Nodes LoadFault) (ol
 abbrev pub tree_in : Result ReadImage LoadFault → Result Nodes LoadFault
 tree_in result = result_map_both (λ image. image.tree) (λ fault. fault) result
 
--- If there is no tree, the Cache slot isn't read.
+-- Without a tree the Cache slot isn't read.
 abbrev pub slots_read : {A : Type 0} → TreeSource → Result A LoadFault → List Slot
 slots_read source (Err faults.NoManifest) = slots_of source
 slots_read source (Err (faults.BadManifest fault)) = slots_of source

@@ -80,7 +80,7 @@ pub fn read_tree<D: Disk>(
     tree_of(alloc, stored)
 }
 
-/// Reads the tree of an image and then its cache. If there is no tree, the cache isn't read.
+/// Reads the tree of an image and then its cache. Without a tree the cache isn't read.
 pub fn read_image<D: Disk>(
     alloc: Global,
     disk: &mut D,

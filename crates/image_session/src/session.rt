@@ -1,6 +1,6 @@
 //! A loaded image.
 ghost use Rattle.std.specs.Prelude.{◌≡◌, IfErr, IfOk};
-ghost use Rattle.aux_cache.specs.Stamps.{HaveNames};
+ghost use Rattle.aux_cache.specs.Stamps.{AreRecordable};
 ghost use Rattle.image_session.specs.Aux.{damage_of_slot, stamps_of_slot};
 ghost use Rattle.image_session.specs.Reading.{says};
 ghost use Rattle.image_session.specs.Session.{IsImageOf, Loads, LoadsFrom, ReadsBoth};
@@ -13,7 +13,7 @@ use std::alloc::Global;
 use std::marker::Model;
 use tree_face::{Disk, Slot, Tree};
 
-/// A loaded image. The soname in each stamp is a valid name.
+/// A loaded image. Its stamps can be recorded in an auxiliary cache.
 #[derive(Drop)]
 pub struct Session {
     pub tree: Tree,
@@ -26,14 +26,14 @@ pub struct Session {
 }
 
 impl Model for Session {
-    ghost use Rattle.aux_cache.specs.Stamps.{HaveNames};
+    ghost use Rattle.aux_cache.specs.Stamps.{AreRecordable};
     ghost use Rattle.image_session.specs.Session.{Loaded};
 
     ghost Value = { Loaded };
 
     ghost view = { λ session. record { tree = session.tree; stamps = session.stamps; edited = session.edited; damaged = session.damaged } };
 
-    ghost invariant = { λ session. HaveNames session.stamps };
+    ghost invariant = { λ session. AreRecordable session.stamps };
 }
 
 // The contents that were read for an image.
@@ -66,7 +66,7 @@ fn read_both<D: Disk>(
 fn stamps_of(alloc: Global, aux: Option<Text>) -> Result<AuxStamps, LoadFault>
     ensures stamps { IfOk result (λ read. read.stamps ≡ stamps_of_slot aux) }
     ensures damaged { IfOk result (λ read. read.damaged ≡ damage_of_slot aux) }
-    ensures names { IfOk result (λ read. HaveNames read.stamps) }
+    ensures recordable { IfOk result (λ read. AreRecordable read.stamps) }
     ensures fault { IfErr result (λ fault. fault ≡ LoadFault.NoMemory) }
 {
     let Some(text) = aux else {

@@ -4,7 +4,7 @@ use image_rows::{AUX, MANIFEST, disk_of};
 use image_session::{EditFault, Session};
 use lib_types::NoMemory;
 use std::alloc::Global;
-use table_rows::{Row, Said, Trial, Words, divide, text};
+use table_rows::{Differences, Row, Trial, Words, divide, text};
 
 /// A row has the texts of an image, the lines that edit it in order, the result of each line, and the image after all of them.
 pub(crate) struct Edits;
@@ -34,9 +34,9 @@ fn edit_all(alloc: Global, image: &mut Session, lines: &[u8]) -> Result<Vec<u8>,
         if rest.is_empty() {
             break;
         }
-        let (line, behind) = divide(b'\n', rest);
+        let (line, following) = divide(b'\n', rest);
         put_result(alloc, &mut results, image.edit(alloc, line))?;
-        rest = behind;
+        rest = following;
     }
     Ok(results)
 }
@@ -49,14 +49,18 @@ impl Trial for Edits {
     }
 
     // A body that always returns NoMemory meets the contract, but not the rows.
-    fn is_right(alloc: Global, row: Row<'_>, said: &mut Said) -> Result<bool, NoMemory> {
+    fn is_right(
+        alloc: Global,
+        row: Row<'_>,
+        differences: &mut Differences,
+    ) -> Result<bool, NoMemory> {
         let mut disk = disk_of(alloc, row)?;
         let Ok(mut image) = Session::load(alloc, &mut disk) else {
-            said.say(b"not loaded", b"")?;
+            differences.say(b"not loaded", b"")?;
             return Ok(false);
         };
         let results = edit_all(alloc, &mut image, &text(alloc, row, b"edits")?)?;
-        let same = said.is_text(alloc, row, b"results", &results)?;
-        Ok(said.is_text(alloc, row, b"image", &shown(alloc, &image)?)? && same)
+        let same = differences.is_text(alloc, row, b"results", &results)?;
+        Ok(differences.is_text(alloc, row, b"image", &shown(alloc, &image)?)? && same)
     }
 }

@@ -4,7 +4,7 @@ use image_rows::{AUX, CACHE, DISK_FAILS, MANIFEST, disk_of, slots_in};
 use image_session::{LoadFault, Session};
 use lib_types::NoMemory;
 use std::alloc::Global;
-use table_rows::{Row, Said, Trial, Words, has_line};
+use table_rows::{Differences, Row, Trial, Words, has_line};
 
 /// A row has the files of a disk, if there are any, and the image that is loaded, or the fault. It has the files that are read, unless a
 /// reading fails. The file of a failed reading may be among them or not.
@@ -30,14 +30,18 @@ impl Trial for Loads {
     }
 
     // A body that always returns NoMemory meets the contract, but not the rows.
-    fn is_right(alloc: Global, row: Row<'_>, said: &mut Said) -> Result<bool, NoMemory> {
+    fn is_right(
+        alloc: Global,
+        row: Row<'_>,
+        differences: &mut Differences,
+    ) -> Result<bool, NoMemory> {
         let mut disk = disk_of(alloc, row)?;
         let image = outcome(alloc, Session::load(alloc, &mut disk))?;
         let reads = slots_in(alloc, disk.reads())?;
-        let same = said.is_text(alloc, row, b"image", &image)?;
+        let same = differences.is_text(alloc, row, b"image", &image)?;
         if !has_line(row, b"reads") {
             return Ok(same);
         }
-        Ok(said.is_text(alloc, row, b"reads", &reads)? && same)
+        Ok(differences.is_text(alloc, row, b"reads", &reads)? && same)
     }
 }

@@ -1,21 +1,34 @@
 //! An image that is loaded, as text.
 use aux_cache::Stamp;
 use image_session::Session;
-use lib_types::NoMemory;
+use lib_types::{Analysis, NoMemory};
 use std::alloc::Global;
 
-// Adds the line of a stamp: device, inode, ctime, size, ABI and soname (`-` for none).
-fn put_stamp(alloc: Global, text: &mut Vec<u8>, stamp: &Stamp) -> Result<(), NoMemory> {
-    let Stamp { id, abi, soname } = stamp;
-    let shown = format!(in alloc;
-        "stamp {} {} {} {} {abi:?} ",
-        id.dev, id.inode, id.ctime, id.size
-    )?;
-    text.extend_from_slice(shown.as_bytes())?;
-    match soname {
-        Some(soname) => text.extend_from_slice(soname.as_bytes())?,
-        None => text.push(b'-')?,
+// Adds a library's ABI and soname (`-` for none), or the defect of a file that isn't a library.
+fn put_analysis(alloc: Global, text: &mut Vec<u8>, analysis: &Analysis) -> Result<(), NoMemory> {
+    match analysis {
+        Analysis::Lib { abi, soname } => {
+            let shown = format!(in alloc; "{abi:?} ")?;
+            text.extend_from_slice(shown.as_bytes())?;
+            match soname {
+                Some(soname) => text.extend_from_slice(soname.as_bytes())?,
+                None => text.push(b'-')?,
+            }
+        }
+        Analysis::Not(defect) => {
+            let shown = format!(in alloc; "{defect:?}")?;
+            text.extend_from_slice(shown.as_bytes())?;
+        }
     }
+    Ok(())
+}
+
+// Adds the line of a stamp: device, inode, ctime, size and analysis.
+fn put_stamp(alloc: Global, text: &mut Vec<u8>, stamp: &Stamp) -> Result<(), NoMemory> {
+    let id = &stamp.id;
+    let shown = format!(in alloc; "stamp {} {} {} {} ", id.dev, id.inode, id.ctime, id.size)?;
+    text.extend_from_slice(shown.as_bytes())?;
+    put_analysis(alloc, text, &stamp.analysis)?;
     text.push(b'\n')?;
     Ok(())
 }

@@ -62,14 +62,14 @@ regroup false false true x y = refl
 regroup false true true true y = refl
 regroup false true true false y = refl
 
-apart : (path : List ℕ) (node : Node) (t : Nodes) → clashes t path node ≡ (has_file_above t path || (not (is_dir node) && has_below t path))
-apart path node [] = grind arith
-apart path node (e ∷ t) =
-    ap (λ z. clash_with path node e || z) (apart path node t)
+differ : (path : List ℕ) (node : Node) (t : Nodes) → clashes t path node ≡ (has_file_above t path || (not (is_dir node) && has_below t path))
+differ path node [] = grind arith
+differ path node (e ∷ t) =
+    ap (λ z. clash_with path node e || z) (differ path node t)
     ∙ regroup (is_below e.0 path && not (is_dir e.1)) (is_below path e.0) (not (is_dir node)) (has_file_above t path) (has_below t path)
 
 above_free : (t : Nodes) (path : List ℕ) (node : Node) → clashes t path node ≡ false → has_file_above t path ≡ false
-above_free t path node free = (or_parts (has_file_above t path) (not (is_dir node) && has_below t path) (sym (apart path node t) ∙ free)).0
+above_free t path node free = (or_parts (has_file_above t path) (not (is_dir node) && has_below t path) (sym (differ path node t) ∙ free)).0
 
 module _ (t : Nodes) (tree : IsTree t) where
   none_above_entry : (k : ℕ) (d : List ℕ × Node) → k < length t → has_file_above t (get_or t k d).0 ≡ false
@@ -131,7 +131,7 @@ module _ (t : Nodes) (tree : IsTree t) where
 
 module _ (t : Nodes) (path : List ℕ) (node : Node) where
   pub clash_above : has_file_above t path ≡ true → clashes t path node ≡ true
-  clash_above h = apart path node t ∙ ap (λ z. z || (not (is_dir node) && has_below t path)) h
+  clash_above h = differ path node t ∙ ap (λ z. z || (not (is_dir node) && has_below t path)) h
 
   pub clash_below : has_file_above t path ≡ false → not (is_dir node) ≡ true → clashes t path node ≡ has_below t path
-  clash_below h k = apart path node t ∙ ap (λ z. z || (not (is_dir node) && has_below t path)) h ∙ ap (λ z. z && has_below t path) k
+  clash_below h k = differ path node t ∙ ap (λ z. z || (not (is_dir node) && has_below t path)) h ∙ ap (λ z. z && has_below t path) k

@@ -14,7 +14,7 @@ use Rattle.image_tree.proofs.Order.{path_total}
 use Rattle.lib_types.proofs.SortedPairs.{by_ordering, by_test, flipped, below_later, before_index}
 use Rattle.image_tree.specs.Paths.{path_cmp, path_rank, is_path, root, folder, is_below}
 use Rattle.image_tree.specs.declared.node.Node.{Node}
-use Rattle.image_tree.specs.Index.{IsIndexOf, IsGapFor, IsBehind}
+use Rattle.image_tree.specs.Index.{IsIndexOf, IsGapFor, IsAfter}
 use Rattle.image_tree.specs.Tree.{Nodes, IsPathSorted, has_below}
 
 -- equal numbers compare as Equal, and bytes with equal ranks are equal
@@ -73,21 +73,21 @@ pub below_from : (p q s : List ℕ) → is_path p ≡ true → q ≡ p ++ 47 ∷
 below_from p q s h e =
     (starts_is Decides-eqb q (p ++ root) (is_below p q) (ap (λ f. starts_with nat_eq q f) (folder_is p h))).1 s (e ∙ sym (append_assoc p root s))
 
-module _ (t : Nodes) (path : List ℕ) (at : ℕ) (proper : is_path path ≡ true) (behind : IsBehind t path at) where
+module _ (t : Nodes) (path : List ℕ) (at : ℕ) (proper : is_path path ≡ true) (following : IsAfter t path at) where
   pub none_before : (k : ℕ) (d : List ℕ × Node) → k < at → is_below path (get_or t k d).0 ≡ false
   none_before k d h = by_test (is_below path (get_or t k d).0)
       (λ e.
       let s = below_is path (get_or t k d).0 proper e in
       let less : path_cmp path (get_or t k d).0 ≡ Less = subst (λ (q : List ℕ). path_cmp path q ≡ Less) (sym s.1) (comes_before path s.0) in
       let g : is_gt (path_cmp (get_or t k d).0 path) ≡ true = ap is_gt (flipped path_total path (get_or t k d).0 Less less) in
-      let n = behind.before k d (omega arith) h in absurd (cc))
+      let n = following.before k d (omega arith) h in absurd (cc))
       (λ e. e)
 
   -- an entry between the path and an entry below it lies below it too
   pub below_as_later : IsPathSorted t → (i j : ℕ) (d : List ℕ × Node) → at ≤ i → i < j → j < length t → is_below path (get_or t j d).0 ≡ true → is_below path (get_or t i d).0 ≡ true
   below_as_later sorted i j d h k l e =
       let s = below_is path (get_or t j d).0 proper e in
-      let first : path_cmp path (get_or t i d).0 ≡ Less = flipped path_total (get_or t i d).0 path Greater (behind.after i d h (omega arith)) in
+      let first : path_cmp path (get_or t i d).0 ≡ Less = flipped path_total (get_or t i d).0 path Greater (following.after i d h (omega arith)) in
       let later : path_cmp (get_or t i d).0 (path ++ 47 ∷ s.0) ≡ Less = subst (λ (q : List ℕ). path_cmp (get_or t i d).0 q ≡ Less) s.1 (below_later path_total t i j d sorted k l) in
       let r = between path (get_or t i d).0 s.0 first later in
       below_from path (get_or t i d).0 r.0 proper r.1
@@ -110,8 +110,8 @@ module _ (t : Nodes) (path : List ℕ) (at : ℕ) (proper : is_path path ≡ tru
   some_below_next d l e = list_any_at (λ (e : List ℕ × Node). is_below path e.0) t at d l e
 
 -- the entries after the path's own entry are the ones after the path
-pub behind_index : (t : Nodes) (path : List ℕ) (at : ℕ) → IsPathSorted t → IsIndexOf t path at → IsBehind t path (at + 1)
-behind_index t path at s p = record {
+pub after_index : (t : Nodes) (path : List ℕ) (at : ℕ) → IsPathSorted t → IsIndexOf t path at → IsAfter t path (at + 1)
+after_index t path at s p = record {
   within = omega (arith, p.within);
   before = λ k d low high. ⊎_elim
       (λ lt. ap is_gt (before_index path_total t path at s p.within p.same k d (omega arith) lt))
@@ -122,8 +122,8 @@ behind_index t path at s p = record {
       flipped path_total path (get_or t k d).0 Less (sym (path_total.congr (get_or t at d).0 path (get_or t k d).0 (p.same d)) ∙ less);
 }
 
-pub behind_gap : (t : Nodes) (path : List ℕ) (at : ℕ) → IsGapFor t path at → IsBehind t path at
-behind_gap t path at p = record { within = p.within; before = λ k d low high. ap is_gt (p.before k d low high); after = p.after }
+pub after_gap : (t : Nodes) (path : List ℕ) (at : ℕ) → IsGapFor t path at → IsAfter t path at
+after_gap t path at p = record { within = p.within; before = λ k d low high. ap is_gt (p.before k d low high); after = p.after }
 
 -- paths that compare as Equal are equal
 pub exact : (p q : List ℕ) → path_cmp p q ≡ Equal → p ≡ q

@@ -22,21 +22,21 @@ begins_by : (front q rest : List ℕ) → q ≡ front ++ rest → starts_with na
 begins_by front q rest e = (starts_is Decides-eqb q front (starts_with nat_eq q front) refl).1 rest e
 
 -- a path that begins with the front and a slash
-behind_front : (front q : List ℕ) → starts_with nat_eq q (front ++ root) ≡ true → (rest : List ℕ) × (q ≡ front ++ 47 ∷ rest)
-behind_front front q e = (drop (length (front ++ root)) q, begins (front ++ root) q e ∙ append_assoc front root _)
+after_front : (front q : List ℕ) → starts_with nat_eq q (front ++ root) ≡ true → (rest : List ℕ) × (q ≡ front ++ 47 ∷ rest)
+after_front front q e = (drop (length (front ++ root)) q, begins (front ++ root) q e ∙ append_assoc front root _)
 
-byte_behind : (front rest : List ℕ) → get_or (front ++ 47 ∷ rest) (length front) 0 ≡ 47
-byte_behind [] rest = refl
-byte_behind (x ∷ front) rest = byte_behind front rest
+byte_after : (front rest : List ℕ) → get_or (front ++ 47 ∷ rest) (length front) 0 ≡ 47
+byte_after [] rest = refl
+byte_after (x ∷ front) rest = byte_after front rest
 
 pub below_short : (front q : List ℕ) → length q ≤ length front → false ≡ starts_with nat_eq q (front ++ root)
 below_short front q short = by_test (starts_with nat_eq q (front ++ root))
-    (λ e. let r = behind_front front q e in absurd (omega (arith, short, ap length r.1 ∙ length-append front (47 ∷ r.0))))
+    (λ e. let r = after_front front q e in absurd (omega (arith, short, ap length r.1 ∙ length-append front (47 ∷ r.0))))
     sym
 
 pub below_other : (front q : List ℕ) → (get_or q (length front) 0 ≡ 47 → ⊥) → false ≡ starts_with nat_eq q (front ++ root)
 below_other front q other = by_test (starts_with nat_eq q (front ++ root))
-    (λ e. let r = behind_front front q e in absurd (other (ap (λ z. get_or z (length front) 0) r.1 ∙ byte_behind front r.0)))
+    (λ e. let r = after_front front q e in absurd (other (ap (λ z. get_or z (length front) 0) r.1 ∙ byte_after front r.0)))
     sym
 
 split_at : (q : List ℕ) (n : ℕ) → n < length q → drop n q ≡ get_or q n 0 ∷ drop (suc n) q
@@ -51,7 +51,7 @@ below_begins front q more slash = by_test (starts_with nat_eq q front)
     let whole : q ≡ front ++ 47 ∷ drop (suc n) q = begins front q e ∙ ap (λ z. front ++ z) (split_at q n more ∙ ap (λ z. z ∷ drop (suc n) q) slash) in
     e ∙ sym (begins_by (front ++ root) q (drop (suc n) q) (whole ∙ sym (append_assoc front root _))))
     (λ e. by_test (starts_with nat_eq q (front ++ root))
-    (λ f. let r = behind_front front q f in let z : true ≡ false = sym (begins_by front q (47 ∷ r.0) r.1) ∙ e in absurd (cc))
+    (λ f. let r = after_front front q f in let z : true ≡ false = sym (begins_by front q (47 ∷ r.0) r.1) ∙ e in absurd (cc))
     (λ f. e ∙ sym f))
 
 pub ruleset below_laws = (below_short, below_other, below_begins)

@@ -8,7 +8,7 @@ use Rattle.image_tree.proofs.Above.{found_entry, path_of_entry}
 use Rattle.image_tree.proofs.Below.{none_below_end, none_below_next, some_below_next}
 use Rattle.image_tree.proofs.Index.{found_node, absent_node}
 use Rattle.image_tree.proofs.Prefixes.{above_is_path}
-use Rattle.image_tree.specs.Index.{IsBehind, IsIndexOf, IsGapFor}
+use Rattle.image_tree.specs.Index.{IsAfter, IsIndexOf, IsGapFor}
 use Rattle.image_tree.specs.Paths.{is_above, is_below, is_path, root}
 use Rattle.image_tree.specs.Tree.{Nodes, IsTree, has_below, kind_at, kind_of, kind_there, node_at}
 use Rattle.image_tree.specs.declared.node.Node.{Node}
@@ -35,7 +35,7 @@ module _ (t : Nodes) (path : List ℕ) (proper : bytes_eq path root ≡ false) w
   pub dir_has_path : kind_at t path ≡ Dir → is_path path ≡ true
   dir_has_path dir = by_test (is_path path) (λ e. e) (λ e. let z : Dir ≡ Absent = sym dir ∙ kind_of_none e in absurd (cc))
 
-module _ (t : Nodes) (path : List ℕ) (proper : bytes_eq path root ≡ false) (at : ℕ) (behind : IsBehind t path at) where
+module _ (t : Nodes) (path : List ℕ) (proper : bytes_eq path root ≡ false) (at : ℕ) (following : IsAfter t path at) where
   not_empty : is_path path ≡ true → not (length path == 0) ≡ true
   not_empty p = by path p
     where
@@ -49,17 +49,17 @@ module _ (t : Nodes) (path : List ℕ) (proper : bytes_eq path root ≡ false) (
       (λ p. ap (λ b. b && has_below t path) p)
 
   pub nothing_at_end : at ≡ length t → false ≡ (is_path path && has_below t path)
-  nothing_at_end end = sym (none_if (λ p. sym (none_below_end t path at p behind end)))
+  nothing_at_end end = sym (none_if (λ p. sym (none_below_end t path at p following end)))
 
   pub nothing_above : IsTree t → at < length t → ((d : List ℕ × Node) → is_above path (get_or t at d).0 ≡ false) → (is_path path && has_below t path) ≡ false
-  nothing_above tree within none = none_if (λ p. none_below_next t path at p behind tree.sorted within (λ d.
+  nothing_above tree within none = none_if (λ p. none_below_next t path at p following tree.sorted within (λ d.
       sym (ap (λ b. b && is_below path (get_or t at d).0) (not_empty p)) ∙ none d))
 
   pub something_above : IsTree t → (d : List ℕ × Node) → at < length t → is_above path (get_or t at d).0 ≡ true → (is_path path && has_below t path) ≡ true
   something_above tree d within above =
       let parts = and_parts (not (length path == 0)) _ above in
       let p : is_path path ≡ true = above_is_path path (get_or t at d).0 (λ e. some e parts.0) proper (path_of_entry t at d tree.entries within) parts.1 in
-      and_from _ _ p (some_below_next t path at p behind d within parts.1)
+      and_from _ _ p (some_below_next t path at p following d within parts.1)
     where
       some : path ≡ [] → not (length path == 0) ≡ true → ⊥
       some e h = let z : false ≡ true = sym (ap (λ (q : List ℕ). not (length q == 0)) e) ∙ h in absurd (cc)

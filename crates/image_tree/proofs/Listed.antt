@@ -19,7 +19,7 @@ use Rattle.image_tree.proofs.Order.{path_total}
 use Rattle.image_tree.proofs.Rising.{below_rest, first_name, name_ended, name_goes_on, sorted_filtered}
 use Rattle.image_tree.proofs.Runs.{gap_between}
 use Rattle.image_tree.specs.Index.{IsIndexOf, IsGapFor}
-use Rattle.image_tree.specs.Paths.{folder, is_below, join, name_behind, path_cmp}
+use Rattle.image_tree.specs.Paths.{folder, is_below, join, name_after, path_cmp}
 use Rattle.image_tree.specs.Runs.{child_at, ends_by, is_same_child}
 use Rattle.image_tree.specs.Tree.{Nodes, IsPathSorted, children_of, kind_at, listing_of, names_below, node_at, of_dir}
 use Rattle.image_tree.specs.declared.node.Node.{Node}
@@ -112,7 +112,7 @@ module _ (p : List ℕ) where
   start = length (folder p)
 
   abbrev name_of : List ℕ → List ℕ
-  name_of q = name_behind start q
+  name_of q = name_after start q
 
   -- the path of the child that an entry belongs to
   abbrev child_of : List ℕ → List ℕ

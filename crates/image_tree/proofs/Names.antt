@@ -11,9 +11,9 @@ use Rattle.std.specs.List.Sorted.{IsPartitionedBy}
 use Rattle.image_tree.proofs.Below.{below_as_later, none_before}
 use Rattle.lib_types.proofs.Bools.{not_true}
 use Rattle.lib_types.proofs.SortedPairs.{by_test}
-use Rattle.image_tree.specs.Paths.{is_path, is_below, is_slash, root, name_behind}
-use Rattle.image_tree.specs.Runs.{IsPathOfChild, child_at, children_behind, is_name_end, is_same_child}
-use Rattle.image_tree.specs.Index.{IsBehind}
+use Rattle.image_tree.specs.Paths.{is_path, is_below, is_slash, root, name_after}
+use Rattle.image_tree.specs.Runs.{IsPathOfChild, child_at, children_after, is_name_end, is_same_child}
+use Rattle.image_tree.specs.Index.{IsAfter}
 use Rattle.image_tree.specs.Tree.{Nodes, IsPathSorted, is_entry}
 use Rattle.image_tree.specs.declared.node.Node.{Node}
 
@@ -50,18 +50,18 @@ module _ {X : Type 0} (p : X → Bool) where
 
 -- ---- the entries below a path
 
-module _ (t : Nodes) (path : List ℕ) (at : ℕ) (proper : is_path path ≡ true) (behind : IsBehind t path at) where
+module _ (t : Nodes) (path : List ℕ) (at : ℕ) (proper : is_path path ≡ true) (following : IsAfter t path at) where
   pub below_first : IsPathSorted t → IsPartitionedBy (λ e. is_below path e.0) (drop at t)
   below_first sorted i j d h k e =
       ⊎_elim
-      (λ lt. rw get_or-drop (below_as_later t path at proper behind sorted (at + i) (at + j) d (omega arith) (omega arith) (omega (arith, length-drop at t)) (rw get_or-drop at e)))
+      (λ lt. rw get_or-drop (below_as_later t path at proper following sorted (at + i) (at + j) d (omega arith) (omega arith) (omega (arith, length-drop at t)) (rw get_or-drop at e)))
       (λ ge. let same : j ≡ i = omega arith in subst (λ (n : ℕ). is_below path (get_or (drop at t) n d).0 ≡ true) same e)
       (cases_lt i j)
 
   pub below_taken : IsPathSorted t → take_while (λ e. is_below path e.0) (drop at t) ≡ filter (λ e. is_below path e.0) t
   below_taken sorted =
       taken_first (λ (e : List ℕ × Node). is_below path e.0) (drop at t) (below_first sorted)
-      ∙ filter_none_before (λ (e : List ℕ × Node). is_below path e.0) t at behind.within (λ k d low high. none_before t path at proper behind k d high)
+      ∙ filter_none_before (λ (e : List ℕ × Node). is_below path e.0) t at following.within (λ k d low high. none_before t path at proper following k d high)
 
 all_below_root : (t : Nodes) → list_all is_entry t ≡ true → list_all (λ e. is_below root e.0) t ≡ true
 all_below_root [] all = refl
@@ -73,25 +73,25 @@ below_root t all = taken_first (λ (e : List ℕ × Node). is_below root e.0) t
 
 -- ---- the entries of one child
 
-child_first : (folder : List ℕ) (e : List ℕ × Node) (t : Nodes) → starts_with nat_eq e.0 folder ≡ true → children_behind folder (e ∷ t) ≡ child_at (length folder) e ∷ children_behind folder t
+child_first : (folder : List ℕ) (e : List ℕ × Node) (t : Nodes) → starts_with nat_eq e.0 folder ≡ true → children_after folder (e ∷ t) ≡ child_at (length folder) e ∷ children_after folder t
 child_first folder e t starts =
     let test = λ (x : List ℕ × Node). starts_with nat_eq x.0 folder in
     ap (map (child_at (length folder))) (take_while-cons test e t ∙ ap (λ b. cond b (e ∷ take_while test t) []) starts)
 
 -- a child is the first of the children, followed by the children of the entries after it
 pub child_taken : (folder : List ℕ) (e : List ℕ × Node) (t rest : Nodes) (child : List ℕ × Option Node) → starts_with nat_eq e.0 folder ≡ true → child ≡ child_at (length folder) e
-    → dedup_from is_same_child child (children_behind folder t) ≡ child ∷ dedup is_same_child (children_behind folder rest)
-    → dedup is_same_child (children_behind folder (e ∷ t)) ≡ child ∷ dedup is_same_child (children_behind folder rest)
+    → dedup_from is_same_child child (children_after folder t) ≡ child ∷ dedup is_same_child (children_after folder rest)
+    → dedup is_same_child (children_after folder (e ∷ t)) ≡ child ∷ dedup is_same_child (children_after folder rest)
 child_taken folder e t rest child starts same skipped =
-    ap (dedup is_same_child) (child_first folder e t starts) ∙ ap (λ c. dedup_from is_same_child c (children_behind folder t)) (sym same) ∙ skipped
+    ap (dedup is_same_child) (child_first folder e t starts) ∙ ap (λ c. dedup_from is_same_child c (children_after folder t)) (sym same) ∙ skipped
 
 -- another entry of the same child adds no child
-pub child_skipped : (folder name : List ℕ) (node : Option Node) (e : List ℕ × Node) (t : Nodes) → (starts_with nat_eq e.0 folder && bytes_eq (name_behind (length folder) e.0) name) ≡ true
-    → dedup_from is_same_child (name, node) (children_behind folder (e ∷ t)) ≡ dedup_from is_same_child (name, node) (children_behind folder t)
+pub child_skipped : (folder name : List ℕ) (node : Option Node) (e : List ℕ × Node) (t : Nodes) → (starts_with nat_eq e.0 folder && bytes_eq (name_after (length folder) e.0) name) ≡ true
+    → dedup_from is_same_child (name, node) (children_after folder (e ∷ t)) ≡ dedup_from is_same_child (name, node) (children_after folder t)
 child_skipped folder name node e t same =
-    let both = and_parts (starts_with nat_eq e.0 folder) (bytes_eq (name_behind (length folder) e.0) name) same in
+    let both = and_parts (starts_with nat_eq e.0 folder) (bytes_eq (name_after (length folder) e.0) name) same in
     ap (dedup_from is_same_child (name, node)) (child_first folder e t both.0)
-    ∙ ap (λ b. cond b (dedup_from is_same_child (name, node) (children_behind folder t)) ((name, node) ∷ dedup_from is_same_child (child_at (length folder) e) (children_behind folder t))) both.1
+    ∙ ap (λ b. cond b (dedup_from is_same_child (name, node) (children_after folder t)) ((name, node) ∷ dedup_from is_same_child (child_at (length folder) e) (children_after folder t))) both.1
 
 -- ---- the path of a child
 
@@ -148,7 +148,7 @@ first_name (x ∷ name) (b ∷ bytes) alone =
     (λ s. sym (ap (λ l. bytes_eq l (x ∷ name)) (first_more b bytes s) ∙ ap (λ c. c && bytes_eq (before_first is_slash bytes) name) other)))
 
 begins_alike : (folder name path : List ℕ) → list_all (λ b. not (is_slash b)) name ≡ true
-    → (is_name_end (drop (length (folder ++ name)) path) && starts_with nat_eq path (folder ++ name)) ≡ (starts_with nat_eq path folder && bytes_eq (name_behind (length folder) path) name)
+    → (is_name_end (drop (length (folder ++ name)) path) && starts_with nat_eq path (folder ++ name)) ≡ (starts_with nat_eq path folder && bytes_eq (name_after (length folder) path) name)
 begins_alike [] name path alone = first_name name path alone
 begins_alike (x ∷ folder) name [] alone = refl
 begins_alike (x ∷ folder) name (b ∷ path) alone =
@@ -156,14 +156,14 @@ begins_alike (x ∷ folder) name (b ∷ path) alone =
     by_test (nat_eq x b)
     (λ e.
     ap (λ c. end && (c && starts_with nat_eq path (folder ++ name))) e ∙ begins_alike folder name path alone
-    ∙ sym (ap (λ c. (c && starts_with nat_eq path folder) && bytes_eq (name_behind (length folder) path) name) e))
+    ∙ sym (ap (λ c. (c && starts_with nat_eq path folder) && bytes_eq (name_after (length folder) path) name) e))
     (λ e.
     ap (λ c. end && (c && starts_with nat_eq path (folder ++ name))) e ∙ and_false end
-    ∙ sym (ap (λ c. (c && starts_with nat_eq path folder) && bytes_eq (name_behind (length folder) path) name) e))
+    ∙ sym (ap (λ c. (c && starts_with nat_eq path folder) && bytes_eq (name_after (length folder) path) name) e))
 
 -- an entry belongs to a child exactly if its path begins with the child's path and a name ends there
 pub same_child : (folder name child path : List ℕ) → IsPathOfChild folder name child
-    → (is_name_end (drop (length child) path) && starts_with nat_eq path child) ≡ (starts_with nat_eq path folder && bytes_eq (name_behind (length folder) path) name)
+    → (is_name_end (drop (length child) path) && starts_with nat_eq path child) ≡ (starts_with nat_eq path folder && bytes_eq (name_after (length folder) path) name)
 same_child folder name child path h =
     ap (λ z. is_name_end (drop (length z) path) && starts_with nat_eq path z) h.whole ∙ begins_alike folder name path h.alone
 
@@ -177,7 +177,7 @@ first_alone (b ∷ bytes) = by_test (is_slash b)
 first_short : (bytes : List ℕ) → length (before_first is_slash bytes) ≤ length bytes
 first_short bytes = omega (arith, length-take-le (position_or_len is_slash bytes) bytes (prefix_len-le-length _ bytes), prefix_len-le-length (λ b. not (is_slash b)) bytes)
 
-pub child_within : (folder name path : List ℕ) → starts_with nat_eq path folder ≡ true → name ≡ name_behind (length folder) path → length folder + length name ≤ length path
+pub child_within : (folder name path : List ℕ) → starts_with nat_eq path folder ≡ true → name ≡ name_after (length folder) path → length folder + length name ≤ length path
 child_within folder name path starts same =
     let rest = drop (length folder) path in
     let whole : path ≡ folder ++ rest = (starts_is Decides-eqb path folder (starts_with nat_eq path folder) refl).0 starts in
@@ -186,7 +186,7 @@ child_within folder name path starts same =
     let here : length name ≡ length (before_first is_slash rest) = ap length same in
     omega arith
 
-pub child_path : (folder name path : List ℕ) → starts_with nat_eq path folder ≡ true → name ≡ name_behind (length folder) path → IsPathOfChild folder name (take (length folder + length name) path)
+pub child_path : (folder name path : List ℕ) → starts_with nat_eq path folder ≡ true → name ≡ name_after (length folder) path → IsPathOfChild folder name (take (length folder + length name) path)
 child_path folder name path starts same =
     let rest = drop (length folder) path in
     let whole : path ≡ folder ++ rest = (starts_is Decides-eqb path folder (starts_with nat_eq path folder) refl).0 starts in

@@ -48,14 +48,14 @@ others_alike a b first second = rw (rank_other a first, rank_other b second) (on
 
 -- ---- equal bytes don't decide
 
-ranks_apart : (x y : ℕ) → nat_cmp (path_rank x) (path_rank y) ≡ Equal → x ≡ y
-ranks_apart x y e = grind (arith, nat_tests)
+ranks_differ : (x y : ℕ) → nat_cmp (path_rank x) (path_rank y) ≡ Equal → x ≡ y
+ranks_differ x y e = grind (arith, nat_tests)
 
 -- the first bytes that differ decide
 pub byte_decides : (a b : List ℕ) (n : ℕ) → n < length a → n < length b → take n a ≡ take n b → (get_or a n 0 ≡ get_or b n 0 → ⊥)
     → nat_cmp (path_rank (get_or a n 0)) (path_rank (get_or b n 0)) ≡ path_cmp a b
-byte_decides = ranks.byte_decides path_rank ranks_apart
+byte_decides = ranks.byte_decides path_rank ranks_differ
 
 -- if one path is a prefix of the other, the lengths decide
 pub lengths_decide : (a b : List ℕ) (n : ℕ) → n ≤ length a → n ≤ length b → take n a ≡ take n b → (n < length a → n < length b → ⊥) → nat_cmp (length a) (length b) ≡ path_cmp a b
-lengths_decide = ranks.lengths_decide path_rank ranks_apart
+lengths_decide = ranks.lengths_decide path_rank ranks_differ

@@ -18,7 +18,7 @@ use Rattle.std.specs.declared.cmp.Ordering.TheVariants.{Less, Equal, Greater}
 use Rattle.image_tree.proofs.Below.{cmp_step, after_slash, rank_equal, nat_cmp_equal, nat_cmp_itself}
 use Rattle.image_tree.proofs.Order.{path_total}
 use Rattle.lib_types.proofs.SortedPairs.{by_ordering, by_test, below_later}
-use Rattle.image_tree.specs.Paths.{path_cmp, path_rank, folder, is_below, name_behind}
+use Rattle.image_tree.specs.Paths.{path_cmp, path_rank, folder, is_below, name_after}
 use Rattle.image_tree.specs.Tree.{Nodes, IsPathSorted, of_dir, kind_at, names_below, children_of}
 use Rattle.image_tree.specs.declared.node.Node.{Node}
 use Rattle.image_tree.specs.declared.node.Node.TheVariants as node
@@ -75,7 +75,7 @@ without_front (x ∷ f) s u = cmp_step x x (f ++ s) (f ++ u) Equal (nat_cmp_itse
 pub below_rest : (p q : List ℕ) → is_below p q ≡ true → q ≡ folder p ++ drop (length (folder p)) q
 below_rest p q h = (starts_is Decides-eqb q (folder p) (is_below p q) refl).0 h
 
-names_of_later : (p q r : List ℕ) → is_below p q ≡ true → is_below p r ≡ true → path_cmp q r ≡ Less → IsNotBelow (name_behind (length (folder p)) r) (name_behind (length (folder p)) q)
+names_of_later : (p q r : List ℕ) → is_below p q ≡ true → is_below p r ≡ true → path_cmp q r ≡ Less → IsNotBelow (name_after (length (folder p)) r) (name_after (length (folder p)) q)
 names_of_later p q r h k less =
     let n = length (folder p) in
     let P : List ℕ → Type 0 = λ z. path_cmp z r ≡ Less in
@@ -97,7 +97,7 @@ module _ (test : List ℕ → Bool) where
 names_sorted : (t : Nodes) (p : List ℕ) → IsPathSorted t → IsSorted (slice_cmp nat_cmp) (names_below t p)
 names_sorted t p sorted k d low high =
     let es = filter (λ (e : List ℕ × Node). is_below p e.0) t in
-    let name = λ (e : List ℕ × Node). name_behind (length (folder p)) e.0 in
+    let name = λ (e : List ℕ × Node). name_after (length (folder p)) e.0 in
     let some : List ℕ × Node = ([], node.Dir) in
     let h : k + 1 < length es = rw length-map at high in
     let passes = filter_passes (λ (e : List ℕ × Node). is_below p e.0) t in

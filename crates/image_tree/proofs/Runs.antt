@@ -147,7 +147,7 @@ module _ (runs : List Nodes) (path : List ℕ) (all : are_runs runs ≡ true) (s
 pub gap_between : (t : Nodes) (path : List ℕ) (at : ℕ) → IsPathSorted t → at ≤ length t
     → ((i : ℕ) (d : List ℕ × Node) → at ≡ i + 1 → path_cmp (get_or t i d).0 path ≡ Less)
     → ((d : List ℕ × Node) → at < length t → path_cmp (get_or t at d).0 path ≡ Greater) → IsGapFor t path at
-gap_between t path at s h before behind = record {
+gap_between t path at s h before following = record {
   within = h;
   before = λ k d low high.
       let i = at - 1 in
@@ -157,7 +157,7 @@ gap_between t path at s h before behind = record {
       (λ ge. let same : i ≡ k = omega arith in subst (λ n. path_cmp (get_or t n d).0 path ≡ Less) same last)
       (cases_lt k i);
   after = λ k d low high.
-      let first = behind d (omega arith) in
+      let first = following d (omega arith) in
       ⊎_elim
       (λ lt. flipped path_total path (get_or t k d).0 Less (path_total.trans path (get_or t at d).0 (get_or t k d).0 (flipped path_total (get_or t at d).0 path Greater first) (below_later path_total t at k d s lt high)))
       (λ ge. let same : at ≡ k = omega arith in subst (λ n. path_cmp (get_or t n d).0 path ≡ Greater) same first)
@@ -219,7 +219,7 @@ module _ (runs : List Nodes) (place : Place) where
           → IsGapFor (get_or runs place.run []) path place.at → IsGapAt runs path place
       gap_in_run next en h begins none p = record {
         here = record { run = omega arith; at = p.within };
-        gap = gap_between (joined runs) path (index_of runs place) sorted (place_within (record { run = omega arith; at = p.within })) before_it behind_it;
+        gap = gap_between (joined runs) path (index_of runs place) sorted (place_within (record { run = omega arith; at = p.within })) before_it after_it;
       }
         where
           run : Nodes
@@ -241,8 +241,8 @@ module _ (runs : List Nodes) (place : Place) where
               absurd (not_after _ (sym (begins_is path run d (omega arith)) ∙ begins) (p.after 0 d ge (omega arith))))
               (cases_lt 0 place.at)
 
-          behind_it : (d : List ℕ × Node) → index_of runs place < length (joined runs) → path_cmp (get_or (joined runs) (index_of runs place) d).0 path ≡ Greater
-          behind_it d l = ⊎_elim
+          after_it : (d : List ℕ × Node) → index_of runs place < length (joined runs) → path_cmp (get_or (joined runs) (index_of runs place) d).0 path ≡ Greater
+          after_it d l = ⊎_elim
               (λ lt. subst (λ (e : List ℕ × Node). path_cmp e.0 path ≡ Greater) (sym (entry_is runs place.run place.at h lt d)) (p.after place.at d (omega arith) lt))
               (λ ge.
               let w = p.within in

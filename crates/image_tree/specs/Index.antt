@@ -20,7 +20,7 @@ pub record IsGapFor (t : Nodes) (path : List ℕ) (index : ℕ) : Type 0 where
   pub after : AllWithin (λ e. path_cmp e.0 path ≡ Greater) t index (length t)
 
 -- the entries from this index on are the ones after the path
-pub record IsBehind (t : Nodes) (path : List ℕ) (index : ℕ) : Type 0 where
+pub record IsAfter (t : Nodes) (path : List ℕ) (index : ℕ) : Type 0 where
   pub within : index ≤ length t
   pub before : AllWithin (λ e. is_gt (path_cmp e.0 path) ≡ false) t 0 index
   pub after : AllWithin (λ e. path_cmp e.0 path ≡ Greater) t index (length t)

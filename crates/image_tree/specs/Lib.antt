@@ -1,4 +1,4 @@
-pub mod Behind
+pub mod After
 pub mod Index
 pub mod Node
 pub mod OneText

@@ -59,5 +59,5 @@ abbrev pub is_above : List ℕ → List ℕ → Bool
 is_above text path = not (length text == 0) && is_below text path
 
 -- the name at the offset n of a path
-abbrev pub name_behind : ℕ → List ℕ → List ℕ
-name_behind n path = before_first is_slash (drop n path)
+abbrev pub name_after : ℕ → List ℕ → List ℕ
+name_after n path = before_first is_slash (drop n path)

@@ -3,7 +3,7 @@ use Rattle.std.specs.Prelude.{◌≡◌, ℕ, ◌+◌, ◌-◌, ◌<◌, ◌≤�
 use Rattle.std.specs.List.{dedup, flat_map, filter, insert, list_all, HoldsAt, take_while, starts_with}
 use Rattle.std.specs.Ordering.{is_gt}
 use Rattle.std.specs.Str.{bytes_eq}
-use Rattle.image_tree.specs.Paths.{path_cmp, folder, is_below, is_slash, name_behind}
+use Rattle.image_tree.specs.Paths.{path_cmp, folder, is_below, is_slash, name_after}
 use Rattle.image_tree.specs.Index.{IsIndexOf, IsGapFor}
 use Rattle.image_tree.specs.Tree.{Nodes, IsTree, kind_at}
 use Rattle.image_tree.specs.declared.node.Node.{Node}
@@ -96,11 +96,11 @@ pub record AreRuns (runs : List Nodes) : Type 0 where
 
 -- the path ends with the name at the offset n
 abbrev pub ends_by : ℕ → List ℕ → Bool
-ends_by n path = length (name_behind n path) == length path - n
+ends_by n path = length (name_after n path) == length path - n
 
 -- the name that follows a directory prefix of n bytes in the entry's path, and the node if the path ends after that name
 abbrev pub child_at : ℕ → List ℕ × Node → List ℕ × Option Node
-child_at n e = (name_behind n e.0, if ends_by n e.0 then Some e.1 else None)
+child_at n e = (name_after n e.0, if ends_by n e.0 then Some e.1 else None)
 
 -- a name ends before these bytes: the list is empty, or its first byte is a slash
 abbrev pub is_name_end : List ℕ → Bool
@@ -120,12 +120,12 @@ abbrev pub in_folder : List ℕ → Nodes → Nodes
 in_folder folder t = take_while (λ e. starts_with nat_eq e.0 folder) t
 
 -- The child of each entry. A child's own path comes before the paths below it, so the first entry of each name has the child's node.
-abbrev pub children_behind : List ℕ → Nodes → List (List ℕ × Option Node)
-children_behind folder t = map (child_at (length folder)) (in_folder folder t)
+abbrev pub children_after : List ℕ → Nodes → List (List ℕ × Option Node)
+children_after folder t = map (child_at (length folder)) (in_folder folder t)
 
 -- the same list, with each child once
 abbrev pub children_in : List ℕ → Nodes → List (List ℕ × Option Node)
-children_in folder t = dedup is_same_child (children_behind folder t)
+children_in folder t = dedup is_same_child (children_after folder t)
 
 -- the path is a directory, and the entries begin with all entries below it
 pub record AreFromDir (t : Nodes) (path : List ℕ) (entries : Nodes) : Type 0 where

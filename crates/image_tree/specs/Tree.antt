@@ -7,7 +7,7 @@ use Rattle.std.specs.Str.{bytes_eq}
 use Rattle.std.specs.BTreeMap.{insert_entry, is_at}
 use Rattle.std.specs.Map.{keys_of, lookup, remove_entry}
 use Rattle.image_tree.specs.Node.{is_node, is_dir}
-use Rattle.image_tree.specs.Paths.{root, is_path, path_cmp, folder, join, is_below, name_behind}
+use Rattle.image_tree.specs.Paths.{root, is_path, path_cmp, folder, join, is_below, name_after}
 use Rattle.image_tree.specs.declared.node.Node.{Node}
 use Rattle.image_tree.specs.declared.tree.TheConstants.{NODES_MAX}
 use Rattle.image_tree.specs.declared.node.Node.TheVariants as node
@@ -78,7 +78,7 @@ of_dir kind.Link names = []
 
 -- the name that follows the directory in each path below it
 abbrev pub names_below : Nodes → List ℕ → List (List ℕ)
-names_below t path = map (λ e. name_behind (length (folder path)) e.0) (filter (λ e. is_below path e.0) t)
+names_below t path = map (λ e. name_after (length (folder path)) e.0) (filter (λ e. is_below path e.0) t)
 
 -- The names directly below a directory, each once. The paths with the same name are adjacent.
 abbrev pub children_of : Nodes → List ℕ → List (List ℕ)

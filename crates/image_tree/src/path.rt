@@ -1,6 +1,6 @@
 //! Paths of a tree and their order.
 ghost use Rattle.std.specs.Prelude.{◌≡◌, ◌≢◌, ℕ, ◌+◌, ◌==◌, ◌^◌, ◌<◌, ◌≤◌, IsTrue, length, drop, nat_eq};
-ghost use Rattle.image_tree.specs.Paths.{is_path, is_kept, are_names, path_cmp, path_rank, stem, folder, is_below, is_above, name_behind};
+ghost use Rattle.image_tree.specs.Paths.{is_path, is_kept, are_names, path_cmp, path_rank, stem, folder, is_below, is_above, name_after};
 ghost use Rattle.std.specs.List.{starts_with};
 ghost use Rattle.std.specs.Ordering.{nat_cmp};
 
@@ -114,7 +114,7 @@ pub(crate) fn folder_in<'a>(path: &[u8], other: &'a [u8]) -> &'a [u8]
 
 /// The name that begins at this offset of a path.
 pub(crate) fn name_from(path: &[u8], start: usize) -> &[u8]
-    ensures { result.now ≡ name_behind start path.now }
+    ensures { result.now ≡ name_after start path.now }
 {
     match path.get(start..) {
         Some(rest) => before_byte(b'/', rest),

@@ -93,7 +93,7 @@ fn are_children(alloc: Global, tree: &Tree, path: &str, want: &str) -> Result<bo
 }
 
 #[test]
-fn what_lies_below_comes_directly_behind(rt: HostRuntime) -> Result<(), Fail> {
+fn what_lies_below_comes_directly_after(rt: HostRuntime) -> Result<(), Fail> {
     let nodes = &[
         ("/a-b", Kind::Dir, ""),
         ("/a/x", Kind::Dir, ""),
@@ -106,7 +106,7 @@ fn what_lies_below_comes_directly_behind(rt: HostRuntime) -> Result<(), Fail> {
 }
 
 #[test]
-fn nothing_stands_below_a_file(rt: HostRuntime) -> Result<(), Fail> {
+fn nothing_is_below_a_file(rt: HostRuntime) -> Result<(), Fail> {
     let alloc = rt.alloc();
     let mut tree = tree_of(&rt, alloc, &[("/a", Kind::File, "k")])?;
     let below = ("/a/b/c", Kind::Dir, "");

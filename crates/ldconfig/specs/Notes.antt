@@ -1,4 +1,4 @@
--- What is said about a finished update.
+-- The notes on the error output about a finished update.
 use Rattle.std.specs.Prelude.{◌≡◌, ◌<◌, ℕ, Option, Some}
 
 -- both caches have an entry count, and the new one is lower

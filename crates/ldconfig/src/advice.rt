@@ -5,6 +5,7 @@ ghost use Rattle.ldconfig.specs.Notes.{IsFewer};
 use command_runs::Status;
 use command_words::Verb;
 use mtree_manifest::LineKind;
+use standard_streams::OUT_OF_MEMORY;
 use std::str::from_utf8;
 
 /// The version of the program, and of the kit that built it.
@@ -73,8 +74,6 @@ pub fn usage_of(verb: Verb) -> &'static str {
 
 const NO_MANIFEST: &str =
     "ldconfig: image.mtree: No such file or directory\nldconfig: image-manifest (tools/manifest) makes one: image-manifest FOLDER >manifest && mv manifest FOLDER/image.mtree\n";
-
-pub const OUT_OF_MEMORY: &str = "ldconfig: out of memory\n";
 
 const NO_CACHE: &str =
     "ldconfig: etc/ld.so.cache: No such file or directory\nldconfig: ldconfig update makes it\n";

@@ -155,14 +155,14 @@ fn is_in<R: Runtime>(rt: &R, real: &str, root: &str, file: &str) -> Result<bool,
     }
 }
 
-// The first bytes of an auxiliary cache, as in glibc's format.
-const BEGINNING: &[u8] = b"glibc-ld.so.auxcache-1.0";
+// The first bytes of an auxiliary cache of any version that is read. That of glibc 2.36 has the version 2.0.
+const BEGINNING: &[u8] = b"glibc-ld.so.auxcache-1.";
 
-const BEGINNING_SIZE: usize = 24;
+const BEGINNING_SIZE: usize = 23;
 
 // What is at the path of an auxiliary cache.
 enum Existing {
-    // Nothing is lost if it is replaced: it is an auxiliary cache, or empty, or can't be read. If it can't be read, there is no identity, and
+    // Nothing is lost if it is replaced: it is an auxiliary cache, or empty, or can't be read. If it can't be read, its identity is unknown, and
     // the update says why.
     Replaceable(Option<Identity>),
     // A file of another use.

@@ -57,7 +57,7 @@ pub fn job_of<'r, 'x>(
     let parts = RootParts {
         scope,
         links: !options.no_links,
-        // With `-n` there is no cache, as in ldconfig(8).
+        // With `-n` no cache is built, as in ldconfig(8).
         cache: !options.no_cache && options.dirs.is_none(),
         aux: aux.usage(options.ignore_aux),
     };

@@ -5,6 +5,7 @@ mod advice;
 mod asking;
 mod aux;
 mod job;
+mod name_notes;
 mod notes;
 mod paths;
 mod print;
@@ -15,20 +16,21 @@ mod update;
 ghost use Rattle.std.specs.Prelude.{◌≡◌};
 ghost use Rattle.ldconfig.specs.Start.{code_of};
 
-use advice::{OUT_OF_MEMORY, USAGE, advice, usage_of, written_before};
+use advice::{USAGE, advice, usage_of, written_before};
 use asking::run_asking;
 use command_runs::Status;
 use command_words::help_of;
-use commands::Devices;
+use commands::{Command, Devices};
 use device_rules::{RunId, SlotPaths};
 use image_folder::HeldFile;
 use ldconfig_cli::{Arguments, run_on};
 use lib_types::NoMemory;
+use name_notes::note_names;
 use notes::{note_manifest, note_size, note_update};
 use print::{print_text, word_of};
 use root::run_root;
 use root_words::is_root_command;
-use standard_streams::{Streams, write_error_line, write_text};
+use standard_streams::{OUT_OF_MEMORY, Streams, or_out_of_memory, write_error_line, write_text};
 use std::alloc::{AllocError, AllocFailed};
 use std::io::{Error, ErrorKind};
 use std::process::ExitCode;
@@ -140,6 +142,10 @@ where
     R::File: HeldFile,
 {
     let written = disk.written();
+    if written.cache {
+        // If a line can't be written, the others still say how the command ended.
+        let _ = note_names(rt, disk);
+    }
     match status {
         Status::Done if written.cache => note_update(rt, store, written),
         Status::BadManifest(fault) => {
@@ -230,7 +236,7 @@ where
     R::File: HeldFile,
 {
     let mut store = FolderStore::new(rt.clone()?, ".")?;
-    let mut disk = FolderDisk::new(rt.clone()?, ".", id, SlotPaths::usual(), None)?;
+    let mut disk = disk_of(rt, id, arguments.command())?;
     let mut input = StdinSource::new(rt.clone()?);
     let mut output = StdoutSink::new(rt.clone()?);
     let devices = Devices {
@@ -241,8 +247,23 @@ where
     };
     let status = run_on(rt.alloc(), arguments, devices);
     // If a line can't be written, nothing changes.
-    let _ = explain(rt, status, &store, &mut disk);
+    let _ = or_out_of_memory(rt, explain(rt, status, &store, &mut disk));
     Ok(status.code())
+}
+
+// The files of the image in the working directory. A command that writes them works under the lock on that directory.
+fn disk_of<R: Runtime>(
+    rt: &R,
+    id: RunId,
+    command: Option<&Command>,
+) -> Result<FolderDisk<R>, StartFault> {
+    let (own, paths) = (rt.clone()?, SlotPaths::usual());
+    match command {
+        Some(Command::Update { .. } | Command::Batch { .. }) => {
+            Ok(FolderDisk::locking(own, ".", id, paths)?)
+        }
+        _ => Ok(FolderDisk::new(own, ".", id, paths, None)?),
+    }
 }
 
 fn main(rt: HostRuntime) -> ExitCode {

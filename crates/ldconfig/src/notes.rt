@@ -71,7 +71,7 @@ fn why_none(length: Option<u64>, begun: u64) -> &'static str {
     match length {
         Some(length) if length <= HEAD_LENGTH => "image.mtree is empty",
         _ if begun == 0 => {
-            "image.mtree has no file with a library's name in the directories that are searched"
+            "image.mtree has no library for the cache in the directories that are searched"
         }
         _ => "no file that was read is one for the cache; the lines skip: on the output say why",
     }

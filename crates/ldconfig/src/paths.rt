@@ -8,11 +8,11 @@ use std::rt::Runtime;
 pub fn real_path<R: Runtime>(rt: &R, path: &str) -> Result<Option<String<R::A>>, AllocError> {
     match rt.canonicalize(rt.alloc(), path) {
         Ok(real) => Ok(Some(real.into_string())),
-        Err(_) => real_beside(rt, path),
+        Err(_) => real_next_to(rt, path),
     }
 }
 
-fn real_beside<R: Runtime>(rt: &R, path: &str) -> Result<Option<String<R::A>>, AllocError> {
+fn real_next_to<R: Runtime>(rt: &R, path: &str) -> Result<Option<String<R::A>>, AllocError> {
     let (directory, name) = divided(path);
     match rt.canonicalize(rt.alloc(), directory_of(path, directory)) {
         Ok(real) => {

@@ -1,12 +1,12 @@
 //! Commands that only print: the usage text, the version, and a cache.
 use crate::StartFault;
-use crate::advice::{OUT_OF_MEMORY, USAGE};
+use crate::advice::USAGE;
 use crate::paths::{directory_of, real_path};
 use asking_runs::run_print_named;
 use command_runs::Status;
 use device_rules::{RunId, SlotPaths, divided};
 use image_folder::HeldFile;
-use standard_streams::{Streams, printable, write_text};
+use standard_streams::{OUT_OF_MEMORY, Streams, printable, write_text};
 use std::io;
 use std::rt::Runtime;
 use std::str::from_utf8;

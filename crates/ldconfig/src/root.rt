@@ -1,4 +1,6 @@
 //! `ldconfig -r ROOT` and `ldconfig -n DIR..`: updates of directories that have no manifest.
+ghost use Rattle.std.specs.Prelude.{◌≡◌, ◌↔◌, ◌⊎◌, IsTrue, true};
+
 use crate::StartFault;
 use crate::advice::VERSION;
 use crate::aux::{Aux, Kept, note_no_aux};
@@ -12,8 +14,8 @@ use command_runs::Status;
 use device_rules::{RunId, SlotPaths};
 use image_folder::HeldFile;
 use lib_types::Texts;
-use root_words::{RootCommand, RootOptions, command_of};
-use standard_streams::Streams;
+use root_words::{RootCommand, RootOptions, RootWordsFault, command_of};
+use standard_streams::{Streams, or_out_of_memory};
 use std::rt::Runtime;
 use tree_face::Slot;
 
@@ -36,8 +38,9 @@ where
             text_of(&cache),
         ),
         Ok(RootCommand::Run(options)) => run_options(rt, id, &options),
+        Err(RootWordsFault::NoMemory) => Err(StartFault::NoMemory),
         Err(fault) => {
-            let _ = note_rejection(rt, &fault);
+            let _ = or_out_of_memory(rt, note_rejection(rt, &fault));
             Ok(Status::Usage.code())
         }
     }
@@ -123,7 +126,9 @@ where
 }
 
 // Whether the next directory is updated after one that ended with this status. A check lists the changes of each directory.
-fn goes_on(options: &RootOptions, status: u8) -> bool {
+fn goes_on(options: &RootOptions, status: u8) -> bool
+    ensures { IsTrue result ↔ (status ≡ 0 ⊎ ((options.now.check ≡ true) × (status ≡ 1))) }
+{
     status == Status::Done.code() || (options.check && status == Status::Missing.code())
 }
 

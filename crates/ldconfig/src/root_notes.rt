@@ -6,7 +6,7 @@ use command_runs::Status;
 use image_folder::HeldFile;
 use ldconfig_core::Report;
 use root_words::RootWordsFault;
-use standard_streams::{Streams, printable, write_text};
+use standard_streams::{ErrorLines, Streams, printable, printable_bytes, write_text};
 use std::io;
 use std::rt::Runtime;
 use std::str::from_utf8;
@@ -42,22 +42,52 @@ pub fn note_report<R: Runtime + Streams>(
 where
     R::File: HeldFile,
 {
-    for line in from_utf8(report.text.as_bytes()).unwrap_or("").lines() {
+    let mut lines = ErrorLines::new(rt);
+    let added = add_report(&mut lines, job, report, store);
+    lines.write()?;
+    added
+}
+
+fn add_report<R: Runtime + Streams>(
+    lines: &mut ErrorLines<'_, R>,
+    job: &Job<'_, '_>,
+    report: &Report,
+    store: &mut FolderStore<R>,
+) -> io::Result<()>
+where
+    R::File: HeldFile,
+{
+    for bytes in report.text.as_bytes().split(|b| *b == b'\n') {
+        let line = text_of(lines.rt(), bytes)?;
+        let line = line.as_str();
         if let Some(damage) = line.strip_prefix("aux: ") {
-            note_damage(rt, job.aux.path.unwrap_or(""), damage)?;
+            add_damage(lines, job.aux.path.unwrap_or(""), damage)?;
         } else if is_shown(job, line) && (job.verbose || !is_script(store, line)) {
-            note_line(rt, job.target.front(), line)?;
+            add_line(lines, job.target.front(), line)?;
         }
     }
     Ok(())
 }
 
-fn note_damage<R: Runtime + Streams>(rt: &R, file: &str, damage: &str) -> io::Result<()> {
+// A line of a report as text. The texts of conf files may not be UTF-8.
+fn text_of<R: Runtime>(rt: &R, line: &[u8]) -> io::Result<String<R::A>> {
+    match from_utf8(line) {
+        Ok(text) => Ok(String::from_str(rt.alloc(), text)?),
+        Err(_) => printable_bytes(rt, line),
+    }
+}
+
+fn add_damage<R: Runtime + Streams>(
+    lines: &mut ErrorLines<'_, R>,
+    file: &str,
+    damage: &str,
+) -> io::Result<()> {
+    let rt = lines.rt();
     let file = printable(rt, file)?;
     let line = format!(in rt.alloc();
         "ldconfig: {file}: {damage}: the auxiliary cache isn't used, and each library was read\n"
     )?;
-    write_text(rt, line.as_str())
+    lines.add(line.as_str())
 }
 
 // Whether a line is shown. If a directory of the conf file is missing, that isn't a problem. In a directory of this machine, a link that
@@ -74,7 +104,7 @@ fn is_absent(line: &str) -> bool {
     line.starts_with("conf: ") && line.ends_with(": Absent")
 }
 
-// Whether a line is about a linker script, which has a library's name and is no ELF file.
+// Whether a line is about a linker script, a text file with a library's name.
 fn is_script<R: Runtime>(store: &mut FolderStore<R>, line: &str) -> bool
 where
     R::File: HeldFile,
@@ -85,7 +115,7 @@ where
     }
 }
 
-// The file that a line is about, below the root, if it is no ELF file.
+// The file that a line is about, below the root, if it isn't an ELF file.
 fn no_elf_file(line: &str) -> Option<&str> {
     line.strip_prefix("skip: /")?.strip_suffix(": NotElf")
 }
@@ -113,21 +143,30 @@ fn reason_of<'a>(line: &str, reason: &'a str) -> &'a str {
     }
 }
 
-// Writes a line on a problem. Its path begins with `front`.
-fn note_line<R: Runtime + Streams>(rt: &R, front: &str, line: &str) -> io::Result<()> {
+// Adds a line on a problem. Its path begins with `front`.
+fn add_line<R: Runtime + Streams>(
+    lines: &mut ErrorLines<'_, R>,
+    front: &str,
+    line: &str,
+) -> io::Result<()> {
     for (beginning, reason) in PROBLEMS {
         if let Some(rest) = line.strip_prefix(beginning) {
-            let text = format!(in rt.alloc(); "{front}{rest}")?;
-            return note_problem(rt, text.as_str(), reason_of(line, reason));
+            let text = format!(in lines.rt().alloc(); "{front}{rest}")?;
+            return add_problem(lines, text.as_str(), reason_of(line, reason));
         }
     }
     Ok(())
 }
 
-fn note_problem<R: Runtime + Streams>(rt: &R, text: &str, reason: &str) -> io::Result<()> {
+fn add_problem<R: Runtime + Streams>(
+    lines: &mut ErrorLines<'_, R>,
+    text: &str,
+    reason: &str,
+) -> io::Result<()> {
+    let rt = lines.rt();
     let shown = printable(rt, text)?;
     let line = format!(in rt.alloc(); "ldconfig: {shown}{reason}\n")?;
-    write_text(rt, line.as_str())
+    lines.add(line.as_str())
 }
 
 /// Says by how much a directory is too large. The devices have already said what failed in them.

@@ -1,19 +1,18 @@
 //! One update of a directory, or a check of what it would change.
 use crate::StartFault;
-use crate::advice::OUT_OF_MEMORY;
 use crate::aux::note_no_aux;
 use crate::job::Job;
 use crate::root_notes::{note_fault, note_report, note_root};
 use command_runs::Status;
 use device_rules::{RunId, SlotPaths};
-use image_folder::{HeldFile, ImageFolder};
+use image_folder::{DirLock, HeldFile, ImageFolder, LockFault};
 use ldconfig_core::Looked;
 use lib_types::NoMemory;
 use link_plan::Plan;
-use root_real::{LockFault, RootFolder, RootLock};
-use root_update::{RootChanges, RootFault, check_root, status_of, update_root};
+use root_real::RootFolder;
+use root_update::{RootChanges, RootFault, check_root, status_of, status_of_changes, update_root};
 use search_listing::{listing, planned_lines};
-use standard_streams::{Streams, write_text};
+use standard_streams::{OUT_OF_MEMORY, Streams, write_text};
 use std::alloc::Global;
 use std::rt::Runtime;
 use tree_face::{Sink, Slot, Tag, put_all};
@@ -32,7 +31,7 @@ where
     if job.is_check {
         return run_devices(rt, id, job, paths);
     }
-    let _lock = match RootLock::take(rt, job.target.dir) {
+    let _lock = match DirLock::take(rt, job.target.dir) {
         Ok(lock) => lock,
         Err(LockFault::NoRoot) => return Ok(Status::StoreFault.code()),
         Err(LockFault::NotTaken) => return Ok(Status::DiskFault.code()),
@@ -151,10 +150,7 @@ fn put_changes<O: Sink>(
     {
         return Ok(Status::OutputFault);
     }
-    if changes.cache || !links.is_empty() {
-        return Ok(Status::Missing);
-    }
-    Ok(Status::Done)
+    Ok(status_of_changes(changes))
 }
 
 // Writes the directories that were searched with their libraries, if `-v` is given. Returns whether it could.

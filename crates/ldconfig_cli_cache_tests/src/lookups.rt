@@ -17,6 +17,8 @@ fn names_are_looked_up(rt: HostRuntime) -> Result<(), Fail> {
     for arguments in [
         ["lookup", "libz.so.2", "--abi", "x86-64"],
         ["lookup", "libz.so.1", "--abi", "aarch64"],
+        ["lookup", "libz.so.1", "--abi", "arm-hf"],
+        ["lookup", "libz.so.1", "--abi", "riscv64-d"],
     ] {
         assert_run(
             &rt,

@@ -5,7 +5,7 @@ use elf_samples::SampleFault;
 use image_rows::{aux_of, held_of};
 use lib_types::NoMemory;
 use std::alloc::Global;
-use table_rows::{Row, Said, optional_text, text};
+use table_rows::{Differences, Row, optional_text, text};
 use tree_face::{MemSink, MemSource};
 
 /// Devices with the files of a row's store, its manifest, its auxiliary cache, and its script as the input, if it has these. The setting
@@ -43,15 +43,15 @@ pub fn ends_so(
     line: &[u8],
     want: Ending<'_>,
     devices: &mut Devices,
-    said: &mut Said,
+    differences: &mut Differences,
 ) -> Result<bool, NoMemory> {
     devices.out = MemSink::new(alloc, Vec::new(alloc));
     let got = run_line(alloc, command, line, devices)?;
-    let is_so = said.is_same(b"output", want.output, devices.out.written())?
-        && said.is_number(alloc, b"status", want.status, u64::from(got.code()))?;
+    let is_so = differences.is_same(b"output", want.output, devices.out.written())?
+        && differences.is_number(alloc, b"status", want.status, u64::from(got.code()))?;
     if !is_so {
-        said.say(b"of the command ", command.as_bytes())?;
-        said.say(b"with ", line)?;
+        differences.say(b"of the command ", command.as_bytes())?;
+        differences.say(b"with ", line)?;
     }
     Ok(is_so)
 }

@@ -5,7 +5,7 @@ use image_rows::{aux_of, records_in};
 use ldconfig_cli_fixture::{Ending, ends_so};
 use lib_types::NoMemory;
 use std::alloc::Global;
-use table_rows::{Row, Said, count, has_line, text};
+use table_rows::{Differences, Row, count, has_line, text};
 use tree_face::{Disk, Slot};
 
 /// The content of a file. It is empty if the file can't be read.
@@ -21,12 +21,12 @@ pub(crate) fn has_replaced(
     alloc: Global,
     devices: &Devices,
     slots: &[Slot],
-    said: &mut Said,
+    differences: &mut Differences,
 ) -> Result<bool, NoMemory> {
     let calls = replacing_calls(alloc, slots)?;
     let is_so = devices.disk.calls() == calls.as_slice();
     if !is_so {
-        said.say(b"other writing calls", b"")?;
+        differences.say(b"other writing calls", b"")?;
     }
     Ok(is_so)
 }
@@ -36,13 +36,13 @@ pub(crate) fn has_manifest(
     alloc: Global,
     row: Row<'_>,
     devices: &mut Devices,
-    said: &mut Said,
+    differences: &mut Differences,
 ) -> Result<bool, NoMemory> {
     let manifest = content(alloc, devices, Slot::Manifest);
     if has_line(row, b"new-manifest") {
-        said.is_text(alloc, row, b"new-manifest", &manifest)
+        differences.is_text(alloc, row, b"new-manifest", &manifest)
     } else {
-        said.is_text(alloc, row, b"manifest", &manifest)
+        differences.is_text(alloc, row, b"manifest", &manifest)
     }
 }
 
@@ -51,12 +51,12 @@ pub(crate) fn has_records(
     alloc: Global,
     row: Row<'_>,
     devices: &mut Devices,
-    said: &mut Said,
+    differences: &mut Differences,
 ) -> Result<bool, NoMemory> {
     let got = content(alloc, devices, Slot::Aux);
     match records_in(alloc, row, b"new-records")? {
-        Some(want) => said.is_same(b"new-records", &want, &got),
-        None => said.is_same(b"new-records", NO_STAMPS, &got),
+        Some(want) => differences.is_same(b"new-records", &want, &got),
+        None => differences.is_same(b"new-records", NO_STAMPS, &got),
     }
 }
 
@@ -65,22 +65,28 @@ pub(crate) fn are_untouched(
     alloc: Global,
     row: Row<'_>,
     devices: &mut Devices,
-    said: &mut Said,
+    differences: &mut Differences,
 ) -> Result<bool, NoMemory> {
     let cache = content(alloc, devices, Slot::Cache);
     let aux = aux_of(alloc, row)?;
     Ok(
-        said.is_same(b"cache", OLD, &cache)?
+        differences.is_same(b"cache", OLD, &cache)?
             && has(alloc, &mut devices.disk, Slot::Aux, aux.as_deref()),
     )
 }
 
 // Whether the cache has the length and the bytes of the row, if the row has these.
-fn has_bytes(alloc: Global, row: Row<'_>, cache: &[u8], said: &mut Said) -> Result<bool, NoMemory> {
+fn has_bytes(
+    alloc: Global,
+    row: Row<'_>,
+    cache: &[u8],
+    differences: &mut Differences,
+) -> Result<bool, NoMemory> {
     let size = count(row, b"size");
     Ok(
-        (size == 0 || said.is_number(alloc, b"size", size, cache.len() as u64)?)
-            && (!has_line(row, b"new-cache") || said.is_text(alloc, row, b"new-cache", cache)?),
+        (size == 0 || differences.is_number(alloc, b"size", size, cache.len() as u64)?)
+            && (!has_line(row, b"new-cache")
+                || differences.is_text(alloc, row, b"new-cache", cache)?),
     )
 }
 
@@ -88,14 +94,14 @@ fn is_printed(
     alloc: Global,
     row: Row<'_>,
     devices: &mut Devices,
-    said: &mut Said,
+    differences: &mut Differences,
 ) -> Result<bool, NoMemory> {
     let print = text(alloc, row, b"print")?;
     let want = Ending {
         status: 0,
         output: &print,
     };
-    ends_so(alloc, "print", b"", want, devices, said)
+    ends_so(alloc, "print", b"", want, devices, differences)
 }
 
 /// Whether both caches are those of an update: the records, the bytes, the printed cache, and the results of look-ups.
@@ -103,13 +109,13 @@ pub(crate) fn are_updated(
     alloc: Global,
     row: Row<'_>,
     devices: &mut Devices,
-    said: &mut Said,
+    differences: &mut Differences,
 ) -> Result<bool, NoMemory> {
     let cache = content(alloc, devices, Slot::Cache);
     Ok(
-        has_records(alloc, row, devices, said)?
-            && has_bytes(alloc, row, &cache, said)?
-            && is_printed(alloc, row, devices, said)?
-            && are_answered(alloc, row, devices, said)?,
+        has_records(alloc, row, devices, differences)?
+            && has_bytes(alloc, row, &cache, differences)?
+            && is_printed(alloc, row, devices, differences)?
+            && are_answered(alloc, row, devices, differences)?,
     )
 }

@@ -6,7 +6,7 @@ use image_rows::{AUX, FILES, MANIFEST, is_made};
 use ldconfig_cli_fixture::{Ending, devices_of, ends_so};
 use lib_types::NoMemory;
 use std::alloc::Global;
-use table_rows::{Row, Said, Trial, Words, count, has_line, text, value};
+use table_rows::{Differences, Row, Trial, Words, count, has_line, text, value};
 use tree_face::Slot;
 
 /// A row has a manifest, the store's files and an auxiliary cache, if there are any, and the script if `batch` is run instead of `update`.
@@ -84,7 +84,7 @@ fn is_first(
     row: Row<'_>,
     slots: &[Slot],
     devices: &mut Devices,
-    said: &mut Said,
+    differences: &mut Differences,
 ) -> Result<bool, NoMemory> {
     let command = if has_line(row, b"script") {
         "batch"
@@ -97,15 +97,15 @@ fn is_first(
         output: &output,
     };
     Ok(
-        ends_so(alloc, command, b"", want, devices, said)?
-            && said.is_number(
+        ends_so(alloc, command, b"", want, devices, differences)?
+            && differences.is_number(
                 alloc,
                 b"opened",
                 count(row, b"opened"),
                 devices.store.begun(),
             )?
-            && has_replaced(alloc, devices, slots, said)?
-            && has_manifest(alloc, row, devices, said)?,
+            && has_replaced(alloc, devices, slots, differences)?
+            && has_manifest(alloc, row, devices, differences)?,
     )
 }
 
@@ -124,7 +124,7 @@ fn is_second(
     row: Row<'_>,
     slots: &[Slot],
     devices: &mut Devices,
-    said: &mut Said,
+    differences: &mut Differences,
 ) -> Result<bool, NoMemory> {
     let cache = content(alloc, devices, Slot::Cache);
     let output = text(alloc, row, second_output(row))?;
@@ -133,11 +133,11 @@ fn is_second(
         output: &output,
     };
     Ok(
-        ends_so(alloc, "update", b"", want, devices, said)?
-            && has_replaced(alloc, devices, slots, said)?
-            && has_manifest(alloc, row, devices, said)?
-            && said.is_same(b"cache", &cache, &content(alloc, devices, Slot::Cache))?
-            && has_records(alloc, row, devices, said)?,
+        ends_so(alloc, "update", b"", want, devices, differences)?
+            && has_replaced(alloc, devices, slots, differences)?
+            && has_manifest(alloc, row, devices, differences)?
+            && differences.is_same(b"cache", &cache, &content(alloc, devices, Slot::Cache))?
+            && has_records(alloc, row, devices, differences)?,
     )
 }
 
@@ -146,27 +146,31 @@ fn is_as_written(
     alloc: Global,
     row: Row<'_>,
     devices: &mut Devices,
-    said: &mut Said,
+    differences: &mut Differences,
 ) -> Result<bool, NoMemory> {
     let mut slots = Vec::new(alloc);
     push_slots(&mut slots, replaced(row))?;
-    if !is_first(alloc, row, &slots, devices, said)? {
+    if !is_first(alloc, row, &slots, devices, differences)? {
         return Ok(false);
     }
     if slots.is_empty() {
-        return are_untouched(alloc, row, devices, said);
+        return are_untouched(alloc, row, devices, differences);
     }
-    let are_updated = are_updated(alloc, row, devices, said)?;
+    let are_updated = are_updated(alloc, row, devices, differences)?;
     if has_line(row, b"script") {
         return Ok(are_updated);
     }
     push_slots(&mut slots, b"CA")?;
-    Ok(are_updated && is_second(alloc, row, &slots, devices, said)?)
+    Ok(are_updated && is_second(alloc, row, &slots, devices, differences)?)
 }
 
-fn try_row(alloc: Global, row: Row<'_>, said: &mut Said) -> Result<bool, SampleFault> {
+fn try_row(
+    alloc: Global,
+    row: Row<'_>,
+    differences: &mut Differences,
+) -> Result<bool, SampleFault> {
     let mut devices = devices_of(alloc, row, image(b""))?;
-    Ok(is_as_written(alloc, row, &mut devices, said)?)
+    Ok(is_as_written(alloc, row, &mut devices, differences)?)
 }
 
 impl Trial for Image {
@@ -175,8 +179,12 @@ impl Trial for Image {
     }
 
     // A `run` that always returns NoMemory meets its contract, but not the rows.
-    fn is_right(alloc: Global, row: Row<'_>, said: &mut Said) -> Result<bool, NoMemory> {
-        let tried = try_row(alloc, row, said);
-        is_made(tried, said)
+    fn is_right(
+        alloc: Global,
+        row: Row<'_>,
+        differences: &mut Differences,
+    ) -> Result<bool, NoMemory> {
+        let tried = try_row(alloc, row, differences);
+        is_made(tried, differences)
     }
 }

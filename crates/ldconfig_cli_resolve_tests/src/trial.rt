@@ -6,7 +6,7 @@ use image_rows::{CACHE, FILES, MANIFEST, is_made, slots_in};
 use ldconfig_cli_fixture::{Ending, devices_of, ends_so, run_line};
 use lib_types::NoMemory;
 use std::alloc::Global;
-use table_rows::{Row, Said, Trial, Words, count, has_line, lines_in, text, value};
+use table_rows::{Differences, Row, Trial, Words, count, has_line, lines_in, text, value};
 use tree_face::Slot;
 
 /// A row has a manifest, if there is one, the store's files, the cache (with `updated` the one that an update makes), and the arguments of
@@ -19,12 +19,12 @@ fn is_unwritten(
     alloc: Global,
     devices: &mut Devices,
     cache: Option<&[u8]>,
-    said: &mut Said,
+    differences: &mut Differences,
 ) -> Result<bool, NoMemory> {
     let is_so = devices.disk.calls().is_empty()
         && has(alloc, &mut devices.disk, Slot::Cache, cache);
     if !is_so {
-        said.say(b"a file of the disk was written", b"")?;
+        differences.say(b"a file of the disk was written", b"")?;
     }
     Ok(is_so)
 }
@@ -38,7 +38,7 @@ fn is_as_written(
     alloc: Global,
     row: Row<'_>,
     cache: Option<&[u8]>,
-    said: &mut Said,
+    differences: &mut Differences,
 ) -> Result<bool, SampleFault> {
     let mut devices = devices_of(alloc, row, disk_with(cache))?;
     let output = text(alloc, row, b"output")?;
@@ -46,14 +46,21 @@ fn is_as_written(
         status: count(row, b"status"),
         output: &output,
     };
-    let ended = ends_so(alloc, "resolve", arguments(row), want, &mut devices, said)?;
+    let ended = ends_so(
+        alloc,
+        "resolve",
+        arguments(row),
+        want,
+        &mut devices,
+        differences,
+    )?;
     let keys = lines_in(alloc, devices.store.keys())?;
     let reads = slots_in(alloc, devices.disk.reads())?;
     Ok(
         ended
-            && said.is_text(alloc, row, b"keys", &keys)?
-            && said.is_text(alloc, row, b"reads", &reads)?
-            && is_unwritten(alloc, &mut devices, cache, said)?,
+            && differences.is_text(alloc, row, b"keys", &keys)?
+            && differences.is_text(alloc, row, b"reads", &reads)?
+            && is_unwritten(alloc, &mut devices, cache, differences)?,
     )
 }
 
@@ -105,7 +112,7 @@ fn fails_in_turn(
     row: Row<'_>,
     cache: Option<&[u8]>,
     device: Device,
-    said: &mut Said,
+    differences: &mut Differences,
 ) -> Result<bool, SampleFault> {
     for call in 0..CALLS {
         match end_of(alloc, row, cache, device, call)? {
@@ -114,7 +121,7 @@ fn fails_in_turn(
             End::Otherwise => break,
         }
     }
-    said.say(b"a device that fails", fault_of(device).1)?;
+    differences.say(b"a device that fails", fault_of(device).1)?;
     Ok(false)
 }
 
@@ -122,20 +129,27 @@ fn fail_in_turn(
     alloc: Global,
     row: Row<'_>,
     cache: Option<&[u8]>,
-    said: &mut Said,
+    differences: &mut Differences,
 ) -> Result<bool, SampleFault> {
     Ok(
         !has_line(row, b"in-turn")
-            || (fails_in_turn(alloc, row, cache, Device::Store, said)?
-                && fails_in_turn(alloc, row, cache, Device::Disk, said)?
-                && fails_in_turn(alloc, row, cache, Device::Sink, said)?),
+            || (fails_in_turn(alloc, row, cache, Device::Store, differences)?
+                && fails_in_turn(alloc, row, cache, Device::Disk, differences)?
+                && fails_in_turn(alloc, row, cache, Device::Sink, differences)?),
     )
 }
 
-fn try_row(alloc: Global, row: Row<'_>, said: &mut Said) -> Result<bool, SampleFault> {
+fn try_row(
+    alloc: Global,
+    row: Row<'_>,
+    differences: &mut Differences,
+) -> Result<bool, SampleFault> {
     let cache = cache_of(alloc, row)?;
     let cache = cache.as_deref();
-    Ok(is_as_written(alloc, row, cache, said)? && fail_in_turn(alloc, row, cache, said)?)
+    Ok(
+        is_as_written(alloc, row, cache, differences)?
+            && fail_in_turn(alloc, row, cache, differences)?,
+    )
 }
 
 const WORDS: &[Words] = &[
@@ -153,8 +167,12 @@ impl Trial for Listed {
     }
 
     // A `run` that always returns NoMemory meets its contract, but not the rows.
-    fn is_right(alloc: Global, row: Row<'_>, said: &mut Said) -> Result<bool, NoMemory> {
-        let tried = try_row(alloc, row, said);
-        is_made(tried, said)
+    fn is_right(
+        alloc: Global,
+        row: Row<'_>,
+        differences: &mut Differences,
+    ) -> Result<bool, NoMemory> {
+        let tried = try_row(alloc, row, differences);
+        is_made(tried, differences)
     }
 }

@@ -33,7 +33,7 @@ use Rattle.name_order.specs.Order.{token_order}
 use Rattle.tree_face.specs.Store.{Contents}
 use Rattle.image_tree.specs.Tree.{Nodes}
 use Rattle.library_search.specs.Judged.{judged}
-use Rattle.library_search.specs.Ldconfig.{entries_in, places_in, planned_in, said_files, walk_in}
+use Rattle.library_search.specs.Ldconfig.{entries_in, places_in, planned_in, info_files, walk_in}
 use Rattle.ldconfig_core.specs.Lookup.{FindsAsSearched}
 
 -- ---- an item and its index
@@ -188,11 +188,11 @@ module _ (scope : Scope) (held : Contents) (t : Nodes) (loaded : List Stamp) whe
       let names : List (List ℕ) = hwcaps_names entries in
       let marked = all_marked names entries (subst (λ (es : List CachedEntry). All (λ (e : CachedEntry). is_named e.hwcap ≡ is_some e.cap) es) back (each_named cache)) in
       ap (λ (es : List CachedEntry). scan es name abi caps) back ∙ scanned names name abi entries marked caps
-      ∙ sym (walk_by name abi caps (judged scope (said_files scope held t loaded)) (planned_in scope held t loaded) (places_in scope held t) entries are)
+      ∙ sym (walk_by name abi caps (judged scope (info_files scope held t loaded)) (planned_in scope held t loaded) (places_in scope held t) entries are)
 
   -- the search finds the same in an image with the same entries
   pub searched_too : (u : Nodes) (others : List Stamp) (cache : List ℕ) → entries_in scope held u others ≡ entries_in scope held t loaded → FindsAsSearched scope held t loaded cache → FindsAsSearched scope held u others cache
   unfolding entries_in walk_in
   searched_too u others cache same finds name abi caps =
       finds name abi caps
-      ∙ sym (walk_same name abi caps (judged scope (said_files scope held t loaded)) (judged scope (said_files scope held u others)) (planned_in scope held t loaded) (planned_in scope held u others) (places_in scope held t) (places_in scope held u) same)
+      ∙ sym (walk_same name abi caps (judged scope (info_files scope held t loaded)) (judged scope (info_files scope held u others)) (planned_in scope held t loaded) (planned_in scope held u others) (places_in scope held t) (places_in scope held u) same)

@@ -14,14 +14,14 @@ use Rattle.image_tree.specs.Tree.{Nodes, IsTree}
 use Rattle.update_report.specs.Report.{report_text}
 use Rattle.ldconfig_core.proofs.LookedUp.{names_descend, searched}
 use Rattle.ldconfig_core.proofs.OutcomeRows as rows
-use Rattle.library_search.proofs.Honest.{said_law}
+use Rattle.library_search.proofs.Honest.{info_law}
 use Rattle.library_search.proofs.Limits.{over, within}
 use Rattle.ldconfig_core.specs.declared.fault.UpdateFault.{UpdateFault}
 use Rattle.ldconfig_core.specs.declared.fault.UpdateFault.TheVariants as faults
 use Rattle.library_search.specs.Begun.{lacks_file, opened_in, update_bytes, update_keys}
 use Rattle.library_search.specs.Faults.{find_ending}
 use Rattle.library_search.specs.Found.{HasTooManyNodes, IsFound, ReadsFinding}
-use Rattle.library_search.specs.Laws.{IsSaidRight}
+use Rattle.library_search.specs.Laws.{IsInfoRight}
 use Rattle.ldso_conf.specs.Reading.{conf_keys}
 use Rattle.library_search.specs.declared.fault.FindFault.{FindFault}
 use Rattle.library_search.specs.declared.fault.FindFault.TheVariants as finding
@@ -29,7 +29,7 @@ use Rattle.library_search.specs.declared.finding.Found.{Found}
 use Rattle.ldconfig_core.specs.declared.preparing.Prepared.{Prepared}
 use Rattle.ldconfig_core.specs.Faults.{is_of_making, of_finding}
 use Rattle.library_search.specs.Judged.{judged}
-use Rattle.library_search.specs.Ldconfig.{conf_in, conf_of, entries_in, links_in, places_in, planned_in, said_wanted, stamps_in}
+use Rattle.library_search.specs.Ldconfig.{conf_in, conf_of, entries_in, links_in, places_in, planned_in, info_wanted, stamps_in}
 use Rattle.image_session.specs.Aux.{stamps_of_slot}
 use Rattle.image_session.specs.Session.{Loaded}
 use Rattle.file_table.specs.Table.{analysis_at}
@@ -41,8 +41,8 @@ use Rattle.ldconfig_core.specs.Looked.{HasLooked}
 use Rattle.ldconfig_core.specs.Lookup.{FindsAsSearched}
 use Rattle.ldconfig_core.specs.Outcome.{TooLarge, TooMany, Writes, is_too_long, manifest_with, new_manifest, size_of, update_outcome}
 use Rattle.ldconfig_core.specs.Settled.{AreSettled, IfReads, planned_image}
-use Rattle.ldconfig_core.specs.Stages.{HasTooMany, IsMadeOf, IsTooLarge, entries_of, said_of, stored_image, texts_of}
-use Rattle.ldconfig_core.specs.Texts.{AreTexts, AreTextsOf, said_with}
+use Rattle.ldconfig_core.specs.Stages.{HasTooMany, IsMadeOf, IsTooLarge, entries_of, report_input_of, stored_image, texts_of}
+use Rattle.ldconfig_core.specs.Texts.{AreTexts, AreTextsOf, report_input_with}
 use Rattle.ldconfig_core.specs.Update.{AreUpdateTexts, IfHonestIn, IfHonestly, IsAnswer, IsUpdated, update_ending}
 use Rattle.tree_face.proofs.Known.{known_then}
 
@@ -64,7 +64,7 @@ module _ (scope : Scope) (s : Loaded) (found : Found) (tree : Nodes) (alike : Is
         let long : is_too_long (new_manifest scope held s) ≡ true = ap is_too_long (sym manifest_is) ∙ large.1.1 in
         let size : length (planned_in scope held s.tree s.stamps) ≡ nodes = sym (large.0 ∙ ap length is.tree_is) in
         let bytes_are : size_of (new_manifest scope held s) ≡ bytes = sym (large.1.0 ∙ ap size_of manifest_is) in
-        rows.too_long scope held s is.none_lacks is.few is.none_behind long
+        rows.too_long scope held s is.none_lacks is.few is.none_after long
         ∙ ap (λ n. TooLarge n (size_of (new_manifest scope held s))) size ∙ ap (TooLarge nodes) bytes_are
 
     module _ (short : is_too_long (manifest_with scope s.edited tree found.links.plan) ≡ false) where
@@ -75,17 +75,17 @@ module _ (scope : Scope) (s : Loaded) (found : Found) (tree : Nodes) (alike : Is
       too_many count e more =
           let size : count ≡ length (entries_in scope held s.tree s.stamps) = e ∙ ap length is.entries_are in
           let many : nat_lt ENTRIES_MAX (length (entries_in scope held s.tree s.stamps)) ≡ true = over ENTRIES_MAX (length (entries_in scope held s.tree s.stamps)) (omega (arith, more, size)) in
-          rows.too_many scope held s is.none_lacks is.few is.none_behind short_new many ∙ ap TooMany (sym size)
+          rows.too_many scope held s is.none_lacks is.few is.none_after short_new many ∙ ap TooMany (sym size)
 
       writes : length (entries_of found tree) ≤ ENTRIES_MAX → update_outcome scope held s ≡ Writes
       writes few =
           let size : length (entries_of found tree) ≡ length (entries_in scope held s.tree s.stamps) = ap length is.entries_are in
-          rows.writes scope held s is.none_lacks is.few is.none_behind short_new (within ENTRIES_MAX (length (entries_in scope held s.tree s.stamps)) (omega (arith, few, size)))
+          rows.writes scope held s is.none_lacks is.few is.none_after short_new (within ENTRIES_MAX (length (entries_in scope held s.tree s.stamps)) (omega (arith, few, size)))
 
     -- the findings in the report are those of the image
-    said_is : (entries : List Entry) → said_of s.damaged found entries ≡ said_with scope held s entries
+    info_is : (entries : List Entry) → report_input_of s.damaged found entries ≡ report_input_with scope held s entries
     unfolding conf_in
-    said_is entries = ap (λ skips. record {
+    info_is entries = ap (λ skips. record {
       damaged = s.damaged;
       conf = found.search.conf.reports;
       places = found.search.dirs.places;
@@ -100,7 +100,7 @@ module _ (scope : Scope) (s : Loaded) (found : Found) (tree : Nodes) (alike : Is
     }) is.skips_are ∙ rw (is.conf.reports, is.places, is.absent_is, is.plan, is.blocked_is, is.mixed_is, is.dangling_is, is.opened) refl
 
     -- the image is settled: another update of it plans no link
-    settled_is : IsTree tree → IsSettled (judged scope (said_wanted scope held s.tree s.stamps)) s.tree (places_in scope held s.tree) tree → IfHonestIn held s (AreSettled scope held s (planned_image scope held s))
+    settled_is : IsTree tree → IsSettled (judged scope (info_wanted scope held s.tree s.stamps)) s.tree (places_in scope held s.tree) tree → IfHonestIn held s (AreSettled scope held s (planned_image scope held s))
     settled_is is_tree still are same =
         subst (λ (n : Nodes). AreSettled scope held s (stored_image n (stamps_in scope held s.tree s.stamps))) is.tree_is (are_settled scope held s tree alike is.tree_is still is_tree are same)
 
@@ -115,7 +115,7 @@ module _ (scope : Scope) (s : Loaded) (found : Found) (tree : Nodes) (alike : Is
         manifest_is = made.manifest ∙ manifest_is;
         cache_is = made.cache;
         aux_is = made.aux ∙ ap aux_text is.stamps;
-        report_is = made.text ∙ ap report_text (said_is made.entries);
+        report_is = made.text ∙ ap report_text (info_is made.entries);
       }
 
       image_is : stored_image tree prepared.stamps ≡ planned_image scope held s
@@ -137,11 +137,11 @@ module _ (scope : Scope) (s : Loaded) (found : Found) (tree : Nodes) (alike : Is
 
   module _ (known : Option Contents) (is : IfKnown known (λ held. IsFound scope held s.tree s.stamps found tree)) where
     -- the image with the planned links is settled
-    pub settled_by : IsTree tree → IfKnown known (λ held. IsSettled (judged scope (said_wanted scope held s.tree s.stamps)) s.tree (places_in scope held s.tree) tree)
+    pub settled_by : IsTree tree → IfKnown known (λ held. IsSettled (judged scope (info_wanted scope held s.tree s.stamps)) s.tree (places_in scope held s.tree) tree)
         → IfHonestly known s (λ held. AreSettled scope held s (planned_image scope held s))
     settled_by is_tree still = by known is still
       where
-        by : (k : Option Contents) → IfKnown k (λ held. IsFound scope held s.tree s.stamps found tree) → IfKnown k (λ held. IsSettled (judged scope (said_wanted scope held s.tree s.stamps)) s.tree (places_in scope held s.tree) tree)
+        by : (k : Option Contents) → IfKnown k (λ held. IsFound scope held s.tree s.stamps found tree) → IfKnown k (λ held. IsSettled (judged scope (info_wanted scope held s.tree s.stamps)) s.tree (places_in scope held s.tree) tree)
             → IfHonestly k s (λ held. AreSettled scope held s (planned_image scope held s))
         by None is still = tt
         by (Some held) is still = settled_is held is is_tree still
@@ -155,7 +155,7 @@ module _ (scope : Scope) (s : Loaded) (found : Found) (tree : Nodes) (alike : Is
     module _ (prepared : Prepared) (made : IsMadeOf scope s.edited s.damaged found tree prepared) (settled : IfHonestly known s (λ held. AreSettled scope held s (planned_image scope held s))) where
       texts_alone : AreTexts (texts_of prepared)
       texts_alone = record {
-        said = said_of s.damaged found made.entries;
+        info = report_input_of s.damaged found made.entries;
         report_is = made.text;
         cache_is = made.cache;
         accepted = made.accepted;
@@ -175,7 +175,7 @@ module _ (scope : Scope) (s : Loaded) (found : Found) (tree : Nodes) (alike : Is
         finds = follows (λ held. FindsAsSearched scope held s.tree s.stamps prepared.cache.items)
             (λ held is. searched scope held s.tree s.stamps made.entries prepared.cache.items (ordered held is prepared made) made.read_back);
         counted = follows (λ held. length (update_keys scope held s.tree s.stamps) ≡ length (conf_keys (conf_of scope) held s.tree) + opened_in scope held s.tree s.stamps) (λ held is. is.counted);
-        right = follows (λ held. IfHonestIn held s (IsSaidRight scope held s.tree s.stamps)) (λ held is are same. said_law scope held s.tree same s.stamps are);
+        right = follows (λ held. IfHonestIn held s (IsInfoRight scope held s.tree s.stamps)) (λ held is are same. info_law scope held s.tree same s.stamps are);
         settles = settled;
         reads = follows (λ held. IfReads (texts_of prepared).manifest (planned_image scope held s))
             (λ held is. subst (λ (n : Nodes). IfReads (texts_of prepared).manifest (stored_image n (stamps_in scope held s.tree s.stamps))) is.tree_is made.reads);

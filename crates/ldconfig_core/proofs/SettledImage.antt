@@ -8,7 +8,7 @@ use Rattle.cache_entries.specs.Entries.{AreEntriesOf, found}
 use Rattle.cache_writer.specs.CacheText.{cache_text}
 use Rattle.cache_layout.specs.declared.limits.TheConstants.{ENTRIES_MAX}
 use Rattle.file_stamps.specs.Files.{what_is}
-use Rattle.elf_dynamic.specs.Begun.{file_keys, key_in, lacks_one}
+use Rattle.elf_dynamic.specs.Begun.{key_in, lacks_one}
 use Rattle.hwcap_dirs.specs.Places.{places}
 use Rattle.hwcap_dirs.specs.declared.kinds.Scope.{Scope}
 use Rattle.hwcap_dirs.specs.declared.kinds.Scope.TheVariants.{Image, Only, Root}
@@ -24,18 +24,21 @@ use Rattle.link_plan.specs.declared.kinds.Planned.{Planned}
 use Rattle.soname_links.specs.Plan.{links, with_links}
 use Rattle.soname_links.specs.Settled.{IsSettled}
 use Rattle.file_stamps.proofs.Truth.{same_in, same_over, true_in}
-use Rattle.file_stamps.specs.Said.{stamps_said}
+use Rattle.file_stamps.specs.Info.{info_stamps}
+use Rattle.file_stamps.specs.Opened.{ids_at, opened_keys}
 use Rattle.file_stamps.specs.Stamped.{AreSame, AreTrue, content_of, id_at, stamp_by, with_stamps}
+use Rattle.image_tree.specs.declared.node.Id.{Id}
 use Rattle.image_tree.specs.declared.tree.TheConstants.{NODES_MAX}
 use Rattle.tree_face.specs.Store.{Contents}
 use Rattle.image_tree.specs.Tree.{Nodes, IsTree, node_at}
 use Rattle.library_search.proofs.FilesAgree.{content_same, id_same, key_same, what_same}
-use Rattle.library_search.proofs.Honest.{behind_lack, said_is, stamps_true, wanted_is, wanted_lack}
+use Rattle.library_search.proofs.Honest.{after_in_order, after_lack, info_is, stamps_true, wanted_in_order, wanted_is, wanted_lack}
+use Rattle.library_search.proofs.StampsAgree.{ids_there_same, keys_same}
 use Rattle.ldconfig_core.proofs.OneText.{one_entries}
 use Rattle.library_search.proofs.Limits.{within}
-use Rattle.library_search.specs.Begun.{behind_keys, has_too_many_nodes, wanted_keys}
+use Rattle.library_search.specs.Begun.{after_keys, has_too_many_nodes, wanted_keys}
 use Rattle.library_search.specs.Judged.{judged}
-use Rattle.library_search.specs.Ldconfig.{behind_in, conf_in, conf_of, entries_in, library_paths, links_in, places_in, planned_in, reached_in, said_files, said_wanted, stamps_in, wanted_in}
+use Rattle.library_search.specs.Ldconfig.{after_in, conf_in, conf_of, entries_in, library_paths, links_in, places_in, planned_in, reached_in, info_files, info_wanted, stamps_in, wanted_in}
 use Rattle.ldconfig_core.specs.Outcome.{Lacking, TooLarge, TooMany, Writes, first_refusal, is_too_long, manifest_with, new_manifest, size_of, update_outcome}
 use Rattle.image_session.specs.Session.{Loaded}
 use Rattle.ldconfig_core.specs.Settled.{AreCachesAgain, AreSettled}
@@ -72,7 +75,7 @@ none_with (Root conf) t = refl
 none_with (Only dirs) t = refl
 
 module _ (scope : Scope) (held : Contents) (s : Loaded) (new : Nodes) (alike : IsSearchedAlike s.tree new) (put : new ≡ planned_in scope held s.tree s.stamps)
-    (still : IsSettled (judged scope (said_wanted scope held s.tree s.stamps)) s.tree (places_in scope held s.tree) new) (tree : IsTree new) where
+    (still : IsSettled (judged scope (info_wanted scope held s.tree s.stamps)) s.tree (places_in scope held s.tree) new) (tree : IsTree new) where
   abbrev t : Nodes
   t = s.tree
 
@@ -95,8 +98,8 @@ module _ (scope : Scope) (held : Contents) (s : Loaded) (new : Nodes) (alike : I
   unfolding places_in
   same_places = ap (λ r. places scope new r.dirs) same_conf ∙ alike.places scope (conf_in scope held t).dirs
 
-  same_keys : (paths : List (List ℕ)) → file_keys new paths ≡ file_keys t paths
-  same_keys paths = ap (λ f. filter_map f paths) (agree (λ path. key_in (node_at new path)) (λ path. key_in (node_at t path)) (key_same held t new alike))
+  same_key : (path : List ℕ) → key_in (node_at new path) ≡ key_in (node_at t path)
+  same_key path = key_same held t new alike path
 
   same_wanted : wanted_in scope held new ≡ wanted_in scope held t
   unfolding wanted_in
@@ -128,17 +131,17 @@ module _ (scope : Scope) (held : Contents) (s : Loaded) (new : Nodes) (alike : I
     same_what : what_is held new ≡ what_is held t
     same_what = agree (what_is held new) (what_is held t) (what_same held t new alike)
 
-    wanted_said : said_wanted scope held new made ≡ said_wanted scope held t loaded
-    wanted_said = wanted_is scope held new same_there made made_true ∙ same_what ∙ sym (wanted_is scope held t same loaded are)
+    wanted_info : info_wanted scope held new made ≡ info_wanted scope held t loaded
+    wanted_info = wanted_is scope held new same_there made made_true ∙ same_what ∙ sym (wanted_is scope held t same loaded are)
 
-    all_said : said_files scope held new made ≡ said_files scope held t loaded
-    all_said = said_is scope held new same_there made made_true ∙ same_what ∙ sym (said_is scope held t same loaded are)
+    all_info : info_files scope held new made ≡ info_files scope held t loaded
+    all_info = info_is scope held new same_there made made_true ∙ same_what ∙ sym (info_is scope held t same loaded are)
 
     no_links : links_in scope held new made ≡ []
     unfolding links_in
     no_links =
-        ap (λ (w : Analyses). links (judged scope w) new (places_in scope held new)) wanted_said
-        ∙ ap (links (judged scope (said_wanted scope held t loaded)) new) same_places ∙ still.none
+        ap (λ (w : Analyses). links (judged scope w) new (places_in scope held new)) wanted_info
+        ∙ ap (links (judged scope (info_wanted scope held t loaded)) new) same_places ∙ still.none
 
     stays : planned_in scope held new made ≡ new
     unfolding planned_in
@@ -154,37 +157,42 @@ module _ (scope : Scope) (held : Contents) (s : Loaded) (new : Nodes) (alike : I
     same_entries : entries_in scope held new made ≡ entries_in scope held t loaded
     unfolding entries_in
     same_entries =
-        ap (λ (w : Analyses). found (judged scope w) (planned_in scope held new made) (places_in scope held new)) all_said
-        ∙ ap (λ n. found (judged scope (said_files scope held t loaded)) n (places_in scope held new)) same_tree
-        ∙ ap (found (judged scope (said_files scope held t loaded)) (planned_in scope held t loaded)) same_places
+        ap (λ (w : Analyses). found (judged scope w) (planned_in scope held new made) (places_in scope held new)) all_info
+        ∙ ap (λ n. found (judged scope (info_files scope held t loaded)) n (places_in scope held new)) same_tree
+        ∙ ap (found (judged scope (info_files scope held t loaded)) (planned_in scope held t loaded)) same_places
 
-    same_behind : behind_in scope held new made ≡ behind_in scope held t loaded
-    same_behind =
+    same_after : after_in scope held new made ≡ after_in scope held t loaded
+    same_after =
         ap (λ paths. filter (λ path. not (list_any (bytes_eq path) paths)) (reached_in scope held new made)) same_wanted
         ∙ ap (λ paths. filter (λ path. not (list_any (bytes_eq path) (wanted_in scope held t))) paths) same_reached
 
     same_stamps : stamps_in scope held new made ≡ stamps_in scope held t loaded
     unfolding stamps_in
     same_stamps =
-        ap (λ (w : Analyses). with_stamps [] (stamps_said new w (library_paths scope held new made))) all_said
+        ap (λ (w : Analyses). with_stamps [] (info_stamps new w (library_paths scope held new made))) all_info
         ∙ ap (λ f. with_stamps [] (filter_map f (library_paths scope held new made)))
-        (agree (λ path. stamp_by (id_at new path) (said_files scope held t loaded path)) (λ path. stamp_by (id_at t path) (said_files scope held t loaded path))
-        (λ path. ap (λ i. stamp_by i (said_files scope held t loaded path)) (ids path)))
-        ∙ ap (λ paths. with_stamps [] (stamps_said t (said_files scope held t loaded) (paths ++ behind_in scope held new made))) same_wanted
-        ∙ ap (λ paths. with_stamps [] (stamps_said t (said_files scope held t loaded) (wanted_in scope held t ++ paths))) same_behind
+        (agree (λ path. stamp_by (id_at new path) (info_files scope held t loaded path)) (λ path. stamp_by (id_at t path) (info_files scope held t loaded path))
+        (λ path. ap (λ i. stamp_by i (info_files scope held t loaded path)) (ids path)))
+        ∙ ap (λ paths. with_stamps [] (info_stamps t (info_files scope held t loaded) (paths ++ after_in scope held new made))) same_wanted
+        ∙ ap (λ paths. with_stamps [] (info_stamps t (info_files scope held t loaded) (wanted_in scope held t ++ paths))) same_after
 
     -- one update misses a content exactly if the other does
     wanted_again : lacks_one held (wanted_keys scope held new made) ≡ lacks_one held (wanted_keys scope held t loaded)
     wanted_again =
         wanted_lack scope held new same_there made made_true
-        ∙ ap (lacks_one held) (ap (file_keys new) same_wanted ∙ same_keys (wanted_in scope held t))
+        ∙ ap (λ paths. lacks_one held (opened_keys new [] paths)) same_wanted
+        ∙ ap (lacks_one held) (keys_same t new ids same_key [] (wanted_in scope held t) (wanted_in_order scope held t))
         ∙ sym (wanted_lack scope held t same loaded are)
 
-    behind_again : lacks_one held (behind_keys scope held new made) ≡ lacks_one held (behind_keys scope held t loaded)
-    behind_again =
-        behind_lack scope held new same_there made made_true
-        ∙ ap (lacks_one held) (ap (file_keys new) same_behind ∙ same_keys (behind_in scope held t loaded))
-        ∙ sym (behind_lack scope held t same loaded are)
+    after_again : lacks_one held (after_keys scope held new made) ≡ lacks_one held (after_keys scope held t loaded)
+    after_again =
+        let first : List Id = ids_at t (wanted_in scope held t) in
+        after_lack scope held new same_there made made_true
+        ∙ ap (λ paths. lacks_one held (opened_keys new (ids_at new paths) (after_in scope held new made))) same_wanted
+        ∙ ap (λ paths. lacks_one held (opened_keys new (ids_at new (wanted_in scope held t)) paths)) same_after
+        ∙ ap (λ seen. lacks_one held (opened_keys new seen (after_in scope held t loaded))) (ids_there_same t new ids same_key (wanted_in scope held t))
+        ∙ ap (lacks_one held) (keys_same t new ids same_key first (after_in scope held t loaded) (after_in_order scope held t loaded))
+        ∙ sym (after_lack scope held t same loaded are)
 
     no_manifest : new_manifest scope held image ≡ None
     unfolding new_manifest
@@ -197,12 +205,12 @@ module _ (scope : Scope) (held : Contents) (s : Loaded) (new : Nodes) (alike : I
     still_writes : update_outcome scope held s ≡ Writes → update_outcome scope held image ≡ Writes
     unfolding update_outcome
     still_writes h =
-        let none = none_holds (conf_lacks (conf_of scope) held t) (lacks_one held (wanted_keys scope held t loaded)) (has_too_many_nodes scope held t loaded) (lacks_one held (behind_keys scope held t loaded))
+        let none = none_holds (conf_lacks (conf_of scope) held t) (lacks_one held (wanted_keys scope held t loaded)) (has_too_many_nodes scope held t loaded) (lacks_one held (after_keys scope held t loaded))
         (is_too_long (new_manifest scope held s)) (nat_lt ENTRIES_MAX (length (entries_in scope held t loaded))) (nodes_with t (links_in scope held t loaded)) (length (planned_in scope held t loaded))
         (size_of (new_manifest scope held s)) (length (entries_in scope held t loaded)) h in
         let conf_held : conf_lacks (conf_of scope) held new ≡ false = same_lacks ∙ none.0 in
         let wanted_held : lacks_one held (wanted_keys scope held new made) ≡ false = wanted_again ∙ none.1.0 in
-        let files_held : lacks_one held (behind_keys scope held new made) ≡ false = behind_again ∙ none.1.1.0 in
+        let files_held : lacks_one held (after_keys scope held new made) ≡ false = after_again ∙ none.1.1.0 in
         let entries_few : nat_lt ENTRIES_MAX (length (entries_in scope held new made)) ≡ false = ap (λ found. nat_lt ENTRIES_MAX (length found)) same_entries ∙ none.1.1.1 in
         rw (conf_held, wanted_held, enough, files_held, no_manifest, entries_few) refl
 

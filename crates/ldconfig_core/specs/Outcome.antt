@@ -12,7 +12,7 @@ use Rattle.link_plan.specs.declared.kinds.Planned.{Planned}
 use Rattle.tree_face.specs.Store.{Contents}
 use Rattle.image_tree.specs.Tree.{Nodes}
 use Rattle.image_session.specs.Session.{Loaded}
-use Rattle.library_search.specs.Begun.{behind_keys, has_too_many_nodes, wanted_keys}
+use Rattle.library_search.specs.Begun.{after_keys, has_too_many_nodes, wanted_keys}
 use Rattle.library_search.specs.Ldconfig.{conf_of, entries_in, links_in, planned_in}
 
 pub data Outcome : Type 0 where
@@ -53,7 +53,7 @@ refusals scope held s =
     (conf_lacks (conf_of scope) held s.tree, Lacking)
     ∷ (lacks_one held (wanted_keys scope held s.tree s.stamps), Lacking)
     ∷ (has_too_many_nodes scope held s.tree s.stamps, TooLarge (nodes_with s.tree (links_in scope held s.tree s.stamps)) 0)
-    ∷ (lacks_one held (behind_keys scope held s.tree s.stamps), Lacking)
+    ∷ (lacks_one held (after_keys scope held s.tree s.stamps), Lacking)
     ∷ (is_too_long (new_manifest scope held s), TooLarge (length (planned_in scope held s.tree s.stamps)) (size_of (new_manifest scope held s)))
     ∷ (nat_lt ENTRIES_MAX (length (entries_in scope held s.tree s.stamps)), TooMany (length (entries_in scope held s.tree s.stamps)))
     ∷ []

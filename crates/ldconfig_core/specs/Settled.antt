@@ -11,7 +11,7 @@ use Rattle.tree_face.specs.Store.{Contents}
 use Rattle.ldconfig_core.specs.Outcome.{Writes, new_manifest, update_outcome}
 use Rattle.ldconfig_core.specs.Texts.{AreTextsOf, UpdateTexts}
 
--- the image with the planned links and the stamps of its libraries
+-- the image with the planned links and the stamps of its library files
 abbrev pub planned_image : Scope → Contents → Loaded → Loaded
 planned_image scope held s = record { tree = planned_in scope held s.tree s.stamps; stamps = stamps_in scope held s.tree s.stamps; edited = false; damaged = None }
 

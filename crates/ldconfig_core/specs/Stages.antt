@@ -14,7 +14,7 @@ use Rattle.string_pool.specs.Order.{ascending}
 use Rattle.file_table.specs.Table.{analysis_at}
 use Rattle.link_plan.specs.declared.kinds.Planned.{Planned}
 use Rattle.image_tree.specs.Tree.{Nodes}
-use Rattle.update_report.specs.Report.{Said, report_text}
+use Rattle.update_report.specs.Report.{ReportInput, report_text}
 use Rattle.update_report.specs.Skips.{skip_at}
 use Rattle.library_search.specs.declared.finding.Found.{Found}
 use Rattle.ldconfig_core.specs.declared.preparing.Looked.{Looked}
@@ -39,8 +39,8 @@ abbrev pub entries_of : Found → Nodes → List Entry
 entries_of found tree = entries.found (analysis_at found.search.files.table) tree found.search.dirs.places
 
 -- the findings in the report
-abbrev pub said_of : Option ℕ → Found → List Entry → Said
-said_of damaged found entries = record {
+abbrev pub report_input_of : Option ℕ → Found → List Entry → ReportInput
+report_input_of damaged found entries = record {
   damaged = damaged;
   conf = found.search.conf.reports;
   places = found.search.dirs.places;
@@ -89,7 +89,7 @@ pub record IsMadeOf (scope : Scope) (edited : Bool) (damaged : Option ℕ) (foun
   pub aux_read : stamps_of_slot (Some prepared.aux.items) ≡ found.search.files.stamps
   pub stamps : prepared.stamps ≡ found.search.files.stamps
   pub looked : prepared.looked ≡ looked_of found
-  pub text : prepared.report.text ≡ report_text (said_of damaged found entries)
+  pub text : prepared.report.text ≡ report_text (report_input_of damaged found entries)
   pub libs : prepared.report.libs ≡ length entries
   pub links : prepared.report.links ≡ length found.links.plan
   pub opened : prepared.report.opened ≡ found.search.files.begun

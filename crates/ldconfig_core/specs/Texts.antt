@@ -16,10 +16,10 @@ use Rattle.soname_links.specs.Marks.{blocked, mixed}
 use Rattle.tree_face.specs.declared.disk.Slot.{Slot}
 use Rattle.tree_face.specs.declared.disk.Slot.TheVariants.{Manifest, Cache, Aux}
 use Rattle.tree_face.specs.Store.{Contents}
-use Rattle.update_report.specs.Report.{Said, report_text}
+use Rattle.update_report.specs.Report.{ReportInput, report_text}
 use Rattle.update_report.specs.Skips.{skip_at}
 use Rattle.library_search.specs.Begun.{opened_in}
-use Rattle.library_search.specs.Ldconfig.{conf_in, entries_in, library_files, links_in, places_in, planned_in, said_files, said_wanted, stamps_in}
+use Rattle.library_search.specs.Ldconfig.{conf_in, entries_in, library_files, links_in, places_in, planned_in, info_files, info_wanted, stamps_in}
 use Rattle.library_search.specs.Judged.{judged}
 use Rattle.ldconfig_core.specs.Outcome.{new_manifest}
 use Rattle.image_session.specs.Aux.{stamps_of_slot}
@@ -29,16 +29,16 @@ use Rattle.aux_cache.specs.AuxText.{aux_text}
 use Rattle.aux_cache.specs.declared.stamps.Stamp.{Stamp}
 
 -- the findings in the report, with the entries in order
-abbrev pub said_with : Scope → Contents → Loaded → List Entry → Said
-said_with scope held s entries = record {
+abbrev pub report_input_with : Scope → Contents → Loaded → List Entry → ReportInput
+report_input_with scope held s entries = record {
   damaged = s.damaged;
   conf = (conf_in scope held s.tree).reports;
   places = places_in scope held s.tree;
   absent = absent s.tree (conf_in scope held s.tree).dirs;
   plan = links_in scope held s.tree s.stamps;
-  blocked = blocked (judged scope (said_wanted scope held s.tree s.stamps)) s.tree (places_in scope held s.tree);
-  mixed = mixed (judged scope (said_wanted scope held s.tree s.stamps)) s.tree (places_in scope held s.tree);
-  skips = filter_map (skip_at (judged scope (said_files scope held s.tree s.stamps))) (library_files scope held s.tree s.stamps);
+  blocked = blocked (judged scope (info_wanted scope held s.tree s.stamps)) s.tree (places_in scope held s.tree);
+  mixed = mixed (judged scope (info_wanted scope held s.tree s.stamps)) s.tree (places_in scope held s.tree);
+  skips = filter_map (skip_at (judged scope (info_files scope held s.tree s.stamps))) (library_files scope held s.tree s.stamps);
   dangling = dangling (planned_in scope held s.tree s.stamps) (places_in scope held s.tree);
   entries = entries;
   opened = opened_in scope held s.tree s.stamps;
@@ -58,7 +58,7 @@ pub record AreTextsOf (scope : Scope) (held : Contents) (s : Loaded) (texts : Up
   pub manifest_is : texts.manifest ≡ new_manifest scope held s
   pub cache_is : texts.cache ≡ cache_text entries
   pub aux_is : texts.aux ≡ aux_text (stamps_in scope held s.tree s.stamps)
-  pub report_is : texts.report ≡ report_text (said_with scope held s entries)
+  pub report_is : texts.report ≡ report_text (report_input_with scope held s entries)
 
 -- the same manifest, cache and auxiliary cache
 pub record AreAlike (texts others : UpdateTexts) : Type 0 where
@@ -69,11 +69,11 @@ pub record AreAlike (texts others : UpdateTexts) : Type 0 where
 -- This holds even if contents are unknown. A reader accepts the cache and reads it back as some entries in the loader's order of names.
 -- The auxiliary cache is read back as some stamps, and the report lists some findings.
 pub record AreTexts (texts : UpdateTexts) : Type 0 where
-  pub said : Said
-  pub report_is : texts.report ≡ report_text said
-  pub cache_is : texts.cache ≡ cache_text said.entries
+  pub info : ReportInput
+  pub report_is : texts.report ≡ report_text info
+  pub cache_is : texts.cache ≡ cache_text info.entries
   pub accepted : defect texts.cache ≡ None
-  pub read_back : read texts.cache ≡ map (as_read (hwcaps_names said.entries)) said.entries
+  pub read_back : read texts.cache ≡ map (as_read (hwcaps_names info.entries)) info.entries
   pub descending : AreDescending (read texts.cache)
   pub stamps : List Stamp
   pub aux_is : texts.aux ≡ aux_text stamps

@@ -9,7 +9,7 @@ use Rattle.tree_face.specs.Known.{IfKnown}
 use Rattle.tree_face.specs.Store.{Contents, StoreState}
 use Rattle.tree_face.specs.StoreUse.{Ending, Complete, DeviceFailed, GaveUp}
 use Rattle.library_search.specs.Begun.{opened_in, update_keys}
-use Rattle.library_search.specs.Laws.{IsSaidRight}
+use Rattle.library_search.specs.Laws.{IsInfoRight}
 use Rattle.library_search.specs.Found.{ReadsFinding}
 use Rattle.ldso_conf.specs.Reading.{conf_keys}
 use Rattle.ldconfig_core.specs.declared.fault.UpdateFault.{UpdateFault}
@@ -67,7 +67,7 @@ pub record AreUpdateTexts (scope : Scope) (s : Loaded) (known : Option Contents)
   pub counted : IfKnown known (λ held. length (update_keys scope held s.tree s.stamps) ≡ length (conf_keys (conf_of scope) held s.tree) + opened_in scope held s.tree s.stamps)
   -- Assuming that stamps are true and equal identities imply equal contents, all analyses are right. An update without stamps then gives
   -- the same, and the image is settled.
-  pub right : IfHonestly known s (λ held. IsSaidRight scope held s.tree s.stamps)
+  pub right : IfHonestly known s (λ held. IsInfoRight scope held s.tree s.stamps)
   pub settles : IfHonestly known s (λ held. AreSettled scope held s (planned_image scope held s))
   pub reads : IfKnown known (λ held. IfReads texts.manifest (planned_image scope held s))
 

@@ -1,6 +1,6 @@
 //! The update of an image.
 ghost use Rattle.std.specs.Prelude.{◌≡◌, ◌≤◌, OnOk, IfErr};
-ghost use Rattle.aux_cache.specs.Stamps.{HaveNames};
+ghost use Rattle.aux_cache.specs.Stamps.{AreRecordable};
 ghost use Rattle.atomic_replace.specs.OneByOne.{KeepsRestMade, WritesAll, WritesPart};
 ghost use Rattle.ldconfig_core.specs.Stages.{stored_image, texts_of};
 ghost use Rattle.ldconfig_core.specs.Texts.{update_slots, writes_of};
@@ -46,7 +46,7 @@ fn write_texts<D: Disk>(disk: &mut D, tag: Tag, prepared: &Prepared) -> Result<(
 
 // The image with this tree and these stamps, all of it stored.
 fn updated(tree: Tree, stamps: Stamps) -> Session
-    requires names { HaveNames stamps }
+    requires recordable { AreRecordable stamps }
     ensures { result ≡ stored_image tree stamps }
 {
     Session {

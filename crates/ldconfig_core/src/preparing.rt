@@ -2,7 +2,7 @@
 ghost use Rattle.std.specs.Prelude.{◌≡◌, ℕ, false, true, length, IfErr, IfOk, IsErrOf, IsTrue, None, Some};
 ghost use Rattle.aux_cache.specs.AuxFile.{damage};
 ghost use Rattle.aux_cache.specs.AuxText.{aux_text};
-ghost use Rattle.aux_cache.specs.Stamps.{HaveNames};
+ghost use Rattle.aux_cache.specs.Stamps.{AreRecordable};
 ghost use Rattle.image_session.specs.Aux.{stamps_of_slot};
 ghost use Rattle.place_libraries.specs.Best.{bests_of};
 ghost use Rattle.library_files.specs.Search.{followed};
@@ -11,7 +11,7 @@ ghost use Rattle.hwcap_dirs.specs.Places.{are_spelled};
 ghost use Rattle.ldconfig_core.specs.Looked.{HasLooked};
 ghost use Rattle.ldconfig_core.specs.Faults.{is_of_making, is_of_preparing, is_size_fault};
 ghost use Rattle.ldconfig_core.specs.Outcome.{is_too_long, manifest_with, update_outcome};
-ghost use Rattle.ldconfig_core.specs.Stages.{looked_of, said_of, stored_image, texts_of, HasTooMany, IfTree, IsMadeOf, IsTooLarge};
+ghost use Rattle.ldconfig_core.specs.Stages.{looked_of, report_input_of, stored_image, texts_of, HasTooMany, IfTree, IsMadeOf, IsTooLarge};
 ghost use Rattle.ldconfig_core.specs.Texts.{manifest_bytes};
 ghost use Rattle.library_search.specs.Ldconfig.{links_in};
 ghost use Rattle.soname_links.specs.Apply.{is_plan};
@@ -113,7 +113,7 @@ fn report_of(
     found: &Found,
     entries: &Entries,
 ) -> Result<Report, NoMemory>
-    ensures text { IfOk result (λ report. report.text ≡ report_text (said_of damaged found.now entries.now)) }
+    ensures text { IfOk result (λ report. report.text ≡ report_text (report_input_of damaged found.now entries.now)) }
     ensures libs { IfOk result (λ report. report.libs ≡ length entries.now) }
     ensures links { IfOk result (λ report. report.links ≡ length found.now.links.plan) }
     ensures opened { IfOk result (λ report. report.opened ≡ found.now.search.files.begun) }
@@ -163,7 +163,7 @@ struct Kept {
 fn kept_of(alloc: Global, found: Found) -> Result<Kept, NoMemory>
     ensures plan { IfOk result (λ kept. kept.plan ≡ found.links.plan) }
     ensures stamps { IfOk result (λ kept. kept.stamps ≡ found.search.files.stamps) }
-    ensures names { IfOk result (λ kept. HaveNames kept.stamps) }
+    ensures recordable { IfOk result (λ kept. AreRecordable kept.stamps) }
     ensures looked { IfOk result (λ kept. kept.looked ≡ looked_of found) }
 {
     let links = found.links;
@@ -184,7 +184,7 @@ fn kept_of(alloc: Global, found: Found) -> Result<Kept, NoMemory>
 
 // The auxiliary cache with these stamps. A tree has fewer files than the maximum number of stamps.
 fn aux_of(alloc: Global, stamps: &Stamps) -> Result<Vec<u8>, NoMemory>
-    requires names { HaveNames stamps.now }
+    requires recordable { AreRecordable stamps.now }
     ensures text { IfOk result (λ aux. aux.items ≡ aux_text stamps.now) }
     ensures undamaged { IfOk result (λ aux. damage aux.items ≡ None) }
     ensures read { IfOk result (λ aux. stamps_of_slot (Some aux.items) ≡ stamps.now) }
@@ -208,7 +208,7 @@ fn make(
     requires bests { found.links.bests ≡ bests_of (analysis_at found.search.files.table) tree.now found.search.dirs.places }
     requires links { found.followed.links ≡ followed tree.now found.search.dirs.places }
     ensures made { IfOk result (IsMadeOf scope.now edited damaged found tree.now) }
-    ensures names { IfOk result (λ prepared. HaveNames prepared.stamps) }
+    ensures recordable { IfOk result (λ prepared. AreRecordable prepared.stamps) }
     ensures too_large { (nodes bytes : ℕ) → IsErrOf result (UpdateFault.TooLarge nodes bytes) → IsTooLarge scope.now edited tree.now found.links.plan nodes bytes }
     ensures too_many { (count : ℕ) → IsErrOf result (UpdateFault.TooMany count) → HasTooMany scope.now edited found tree.now count }
     ensures others { IfErr result (λ fault. is_of_making fault ≡ true) }
@@ -237,7 +237,7 @@ fn make(
     })
 }
 
-/// Builds the texts of an update, and puts the planned links into the tree. If there is no manifest, the caller must create the links.
+/// Builds the texts of an update, and puts the planned links into the tree. Without a manifest, the caller must create the links.
 pub fn prepare<S: Store>(
     alloc: Global,
     scope: &Scope,
@@ -248,7 +248,7 @@ pub fn prepare<S: Store>(
     ensures valid { IfOk result (λ prepared. IsTrue (is_plan prepared.plan)) }
     ensures updated { IfOk result (λ prepared. IfKnown (S.state store.old).held
         (λ held. IsUpdated scope.now held image.old (stored_image image.new.tree prepared.stamps, prepared.report))) }
-    ensures names { IfOk result (λ prepared. HaveNames prepared.stamps) }
+    ensures recordable { IfOk result (λ prepared. AreRecordable prepared.stamps) }
     ensures looked { IfOk result (λ prepared. IfKnown (S.state store.old).held (λ held. HasLooked scope.now held image.old prepared.looked)) }
     ensures texts { IfOk result (λ prepared. AreUpdateTexts scope.now image.old (S.state store.old).held (texts_of prepared)) }
     ensures answers { IfKnown (S.state store.old).held

@@ -14,28 +14,28 @@ use Rattle.ldd_resolve.specs.declared.kinds.Item.{Item}
 use Rattle.ldd_resolve.specs.declared.kinds.Member.{Member}
 use Rattle.rpath_search.specs.declared.kinds.Env.{Env}
 use Rattle.ldd_resolve.specs.declared.loading.Loading.{Loading}
-use Rattle.ldd_resolve.specs.Links.{behind, reach_in}
+use Rattle.ldd_resolve.specs.Links.{following, reach_in}
 use Rattle.rpath_search.specs.Searching.{is_among}
 use Rattle.ldd_resolve.specs.Listing.{Loaded, Record, Request, is_called, is_missing, item, loaded, named, names_by, needed_in, owner_of, places_of, requests, requests_of, soname_in, with_missing}
-use Rattle.ldd_resolve.specs.Loading.{AddsFound, AddsName, IsFoundIn, Stands, with_last_name}
+use Rattle.ldd_resolve.specs.Loading.{AddsFound, AddsName, IsFoundIn, Matches, with_last_name}
 use Rattle.ldd_resolve.specs.Resolving.{member_of, members_of}
-use Rattle.ldd_resolve.proofs.Standing.{among_at, and_false, and_true, called_there, drop_next, drop_one, linked_on, named_at, or_false, same_by, same_chain, same_needed, same_path, same_real, same_requests}
+use Rattle.ldd_resolve.proofs.MatchesKept.{among_at, and_false, and_true, called_there, drop_next, drop_one, linked_on, named_at, or_false, same_by, same_chain, same_needed, same_path, same_real, same_requests}
 
-module _ (env : Env) (r r2 : Record) (s new : Loading) (n : ℕ) (q : Request) (rest : List Request) (stands : Stands env r s n (q ∷ rest)) (next : r2.answered ≡ suc r.answered) where
+module _ (env : Env) (r r2 : Record) (s new : Loading) (n : ℕ) (q : Request) (rest : List Request) (matching : Matches env r s n (q ∷ rest)) (next : r2.answered ≡ suc r.answered) where
   -- the name isn't found
-  pub missing_stands : r2.objects ≡ r.objects → r2.items ≡ with_missing q.name r.items → new.loaders ≡ s.loaders → new.places ≡ s.places → new.names ≡ s.names →
+  pub missing_matches : r2.objects ≡ r.objects → r2.items ≡ with_missing q.name r.items → new.loaders ≡ s.loaders → new.places ≡ s.places → new.names ≡ s.names →
       new.members.items ≡ s.members.items → new.pending.items ≡ s.pending.items → ((x : List ℕ) → is_among new.missing x ≡ (is_among s.missing x || bytes_eq x q.name)) →
-      new.items ≡ cond (is_among s.missing q.name) s.items (s.items ++ item q.name None ∷ []) → Stands env r2 new n rest
-  missing_stands objects items links places names members pending missing listed = record {
-    linked = rw (links, objects) stands.linked;
-    places = rw (places, objects) stands.places;
-    names = λ x. rw (names, objects) (stands.names x);
-    missing = λ x. missing x ∙ ap (λ b. b || bytes_eq x q.name) (stands.missing x) ∙ sym (ap (list_any (is_missing x)) items ∙ missing_more x);
-    items = listed ∙ ap (λ b. cond b s.items (s.items ++ item q.name None ∷ [])) (stands.missing q.name) ∙ rw stands.items (sym items);
-    members = members ∙ stands.members ∙ sym (ap members_of objects);
-    loaded = ap (λ l. map (λ (o : Loaded). o.path) (drop 1 l)) objects ∙ stands.loaded ∙ sym (ap (filter_map (λ i. i.path)) items ∙ paths_same (list_any (is_missing q.name) r.items));
-    pending = pending ∙ rw objects stands.pending;
-    left = rw (objects, next) (drop_one r.answered (requests r.objects) q (rest ++ requests (drop n r.objects)) stands.left);
+      new.items ≡ cond (is_among s.missing q.name) s.items (s.items ++ item q.name None ∷ []) → Matches env r2 new n rest
+  missing_matches objects items links places names members pending missing listed = record {
+    linked = rw (links, objects) matching.linked;
+    places = rw (places, objects) matching.places;
+    names = λ x. rw (names, objects) (matching.names x);
+    missing = λ x. missing x ∙ ap (λ b. b || bytes_eq x q.name) (matching.missing x) ∙ sym (ap (list_any (is_missing x)) items ∙ missing_more x);
+    items = listed ∙ ap (λ b. cond b s.items (s.items ++ item q.name None ∷ [])) (matching.missing q.name) ∙ rw matching.items (sym items);
+    members = members ∙ matching.members ∙ sym (ap members_of objects);
+    loaded = ap (λ l. map (λ (o : Loaded). o.path) (drop 1 l)) objects ∙ matching.loaded ∙ sym (ap (filter_map (λ i. i.path)) items ∙ paths_same (list_any (is_missing q.name) r.items));
+    pending = pending ∙ rw objects matching.pending;
+    left = rw (objects, next) (drop_one r.answered (requests r.objects) q (rest ++ requests (drop n r.objects)) matching.left);
   }
     where
       paths_same : (b : Bool) → filter_map (λ (i : Item). i.path) (cond b r.items (r.items ++ item q.name None ∷ [])) ≡ filter_map (λ (i : Item). i.path) r.items
@@ -56,28 +56,28 @@ module _ (env : Env) (r r2 : Record) (s new : Loading) (n : ℕ) (q : Request) (
           ∙ ap (λ b. list_any (is_missing x) r.items || b) (or_false (bytes_eq x q.name && true) ∙ and_true (bytes_eq x q.name)))
 
   -- the file is already loaded
-  pub loaded_stands : (number : ℕ) → IsFoundIn r q number r2 → IsDistinct bytes_eq s.places.loaded → is_among s.names q.name ≡ false → AddsName s new q.name number → Stands env r2 new n rest
-  loaded_stands number found distinct unknown adds =
+  pub loaded_matches : (number : ℕ) → IsFoundIn r q number r2 → IsDistinct bytes_eq s.places.loaded → is_among s.names q.name ≡ false → AddsName s new q.name number → Matches env r2 new n rest
+  loaded_matches number found distinct unknown adds =
       let real = get_or (places_of r.objects) number [] in
       let also = named real q.name in
       let len : length (places_of r.objects) ≡ length r.objects = length-map r.objects (λ (o : Loaded). o.real) in
       let within : number < length r.objects = omega (arith, found.within, len) in
       record {
-        linked = rw (adds.loaders, found.objects) (stands.linked ∙ sym (same_by real q.name (λ o. reach_in env o.chain) (λ o. ap (reach_in env) (same_chain real q.name o)) r.objects));
-        places = rw (adds.places, found.objects, same_by real q.name (λ o. o.real) (same_real real q.name) r.objects) stands.places;
-        names = λ x. adds.names x ∙ ap (λ b. b || bytes_eq x q.name) (stands.names x) ∙ sym (ap (list_any (is_called x)) found.objects ∙ called_there real q.name r.objects x (among_at (places_of r.objects) number found.within));
-        missing = λ x. rw (adds.missing, found.items) (stands.missing x);
-        items = adds.items ∙ stands.items ∙ sym found.items;
+        linked = rw (adds.loaders, found.objects) (matching.linked ∙ sym (same_by real q.name (λ o. reach_in env o.chain) (λ o. ap (reach_in env) (same_chain real q.name o)) r.objects));
+        places = rw (adds.places, found.objects, same_by real q.name (λ o. o.real) (same_real real q.name) r.objects) matching.places;
+        names = λ x. adds.names x ∙ ap (λ b. b || bytes_eq x q.name) (matching.names x) ∙ sym (ap (list_any (is_called x)) found.objects ∙ called_there real q.name r.objects x (among_at (places_of r.objects) number found.within));
+        missing = λ x. rw (adds.missing, found.items) (matching.missing x);
+        items = adds.items ∙ matching.items ∙ sym found.items;
         members = (let d : Member = record { path = []; real = []; names = [] } in
             adds.members d
-            ∙ ap (λ l. set l number (with_last_name (get_or l number d) q.name)) stands.members
-            ∙ named_at q.name r.objects number d (subst (IsDistinct bytes_eq) stands.places distinct) within (sym (stands.names q.name) ∙ unknown)
+            ∙ ap (λ l. set l number (with_last_name (get_or l number d) q.name)) matching.members
+            ∙ named_at q.name r.objects number d (subst (IsDistinct bytes_eq) matching.places distinct) within (sym (matching.names q.name) ∙ unknown)
             ∙ sym (ap members_of found.objects));
         loaded = ap (λ l. map (λ (o : Loaded). o.path) (drop 1 l)) found.objects ∙ ap (map (λ (o : Loaded). o.path)) (drop-map also 1 r.objects) ∙ same_by real q.name (λ o. o.path) (same_path real q.name) (drop 1 r.objects)
-            ∙ stands.loaded ∙ sym (ap (filter_map (λ (i : Item). i.path)) found.items);
-        pending = adds.pending ∙ stands.pending ∙ sym (ap (λ l. map (λ (o : Loaded). o.needed) (drop n l)) found.objects ∙ ap (map (λ (o : Loaded). o.needed)) (drop-map also n r.objects) ∙ same_by real q.name (λ o. o.needed) (same_needed real q.name) (drop n r.objects));
+            ∙ matching.loaded ∙ sym (ap (filter_map (λ (i : Item). i.path)) found.items);
+        pending = adds.pending ∙ matching.pending ∙ sym (ap (λ l. map (λ (o : Loaded). o.needed) (drop n l)) found.objects ∙ ap (map (λ (o : Loaded). o.needed)) (drop-map also n r.objects) ∙ same_by real q.name (λ o. o.needed) (same_needed real q.name) (drop n r.objects));
         left = rw (next, found.objects, same_requests real q.name r.objects, drop-map also n r.objects, same_requests real q.name (drop n r.objects))
-            (drop_one r.answered (requests r.objects) q (rest ++ requests (drop n r.objects)) stands.left);
+            (drop_one r.answered (requests r.objects) q (rest ++ requests (drop n r.objects)) matching.left);
       }
 
   -- a new library is found
@@ -91,27 +91,27 @@ module _ (env : Env) (r r2 : Record) (s new : Loading) (n : ℕ) (q : Request) (
     abbrev o : Loaded
     o = loaded path f.real d (Some q.name) q.chain
 
-    pub found_stands : r2.objects ≡ r.objects ++ o ∷ [] → r2.items ≡ r.items ++ item q.name (Some path) ∷ [] → q.chain ≡ behind (map (λ o. o.chain) r.objects) (Some k) → k < length s.loaders →
-        n ≤ length r.objects → 1 ≤ length r.objects → AddsFound env s new q.name f k → Stands env r2 new n rest
-    found_stands objects items chain within few one adds =
+    pub found_matches : r2.objects ≡ r.objects ++ o ∷ [] → r2.items ≡ r.items ++ item q.name (Some path) ∷ [] → q.chain ≡ following (map (λ o. o.chain) r.objects) (Some k) → k < length s.loaders →
+        n ≤ length r.objects → 1 ≤ length r.objects → AddsFound env s new q.name f k → Matches env r2 new n rest
+    found_matches objects items chain within few one adds =
         let names_more = names_by (soname_in d) (Some q.name) in
         record {
-          linked = rw (adds.loaders, objects) (linked_on env s.loaders r.objects o (owner_of path d) k stands.linked within (ap (λ c. owner_of path d ∷ c) chain));
-          places = ap (λ p. p.loaded) adds.places ∙ ap (λ l. l ++ f.real ∷ []) stands.places ∙ sym (ap places_of objects ∙ map-append (λ (o : Loaded). o.real) r.objects (o ∷ []));
-          names = λ x. adds.names x ∙ ap (λ b. b || is_among names_more x) (stands.names x)
+          linked = rw (adds.loaders, objects) (linked_on env s.loaders r.objects o (owner_of path d) k matching.linked within (ap (λ c. owner_of path d ∷ c) chain));
+          places = ap (λ p. p.loaded) adds.places ∙ ap (λ l. l ++ f.real ∷ []) matching.places ∙ sym (ap places_of objects ∙ map-append (λ (o : Loaded). o.real) r.objects (o ∷ []));
+          names = λ x. adds.names x ∙ ap (λ b. b || is_among names_more x) (matching.names x)
               ∙ sym (ap (list_any (is_called x)) objects ∙ list_any-append (is_called x) r.objects (o ∷ []) ∙ ap (λ b. list_any (is_called x) r.objects || b) (or_false (is_called x o)));
-          missing = λ x. ap (λ l. is_among l x) adds.missing ∙ stands.missing x
+          missing = λ x. ap (λ l. is_among l x) adds.missing ∙ matching.missing x
               ∙ sym (ap (list_any (is_missing x)) items ∙ list_any-append (is_missing x) r.items (item q.name (Some path) ∷ [])
               ∙ ap (λ b. list_any (is_missing x) r.items || b) (or_false (bytes_eq x q.name && false) ∙ and_false (bytes_eq x q.name)) ∙ or_false (list_any (is_missing x) r.items));
-          items = adds.listed ∙ ap (λ l. l ++ item q.name (Some path) ∷ []) stands.items ∙ sym items;
-          members = adds.members ∙ ap (λ l. l ++ member_of o ∷ []) stands.members ∙ sym (ap members_of objects ∙ map-append member_of r.objects (o ∷ []));
+          items = adds.listed ∙ ap (λ l. l ++ item q.name (Some path) ∷ []) matching.items ∙ sym items;
+          members = adds.members ∙ ap (λ l. l ++ member_of o ∷ []) matching.members ∙ sym (ap members_of objects ∙ map-append member_of r.objects (o ∷ []));
           loaded = ap (λ l. map (λ (o : Loaded). o.path) (drop 1 l)) objects ∙ ap (map (λ (o : Loaded). o.path)) (drop-append-le 1 r.objects (o ∷ []) one) ∙ map-append (λ (o : Loaded). o.path) (drop 1 r.objects) (o ∷ [])
-              ∙ ap (λ l. l ++ path ∷ []) stands.loaded ∙ sym (ap (filter_map (λ (i : Item). i.path)) items ∙ filter_map-append (λ (i : Item). i.path) r.items (item q.name (Some path) ∷ []));
-          pending = adds.pending ∙ ap (λ l. l ++ needed_in d ∷ []) stands.pending
+              ∙ ap (λ l. l ++ path ∷ []) matching.loaded ∙ sym (ap (filter_map (λ (i : Item). i.path)) items ∙ filter_map-append (λ (i : Item). i.path) r.items (item q.name (Some path) ∷ []));
+          pending = adds.pending ∙ ap (λ l. l ++ needed_in d ∷ []) matching.pending
               ∙ sym (ap (λ l. map (λ (o : Loaded). o.needed) (drop n l)) objects ∙ ap (map (λ (o : Loaded). o.needed)) (drop-append-le n r.objects (o ∷ []) few) ∙ map-append (λ (o : Loaded). o.needed) (drop n r.objects) (o ∷ []));
           left = rw (next, objects)
               (ap (drop (suc r.answered)) (flat_map-append requests_of r.objects (o ∷ []))
-              ∙ drop_next r.answered (requests r.objects) (requests (o ∷ [])) q (rest ++ requests (drop n r.objects)) stands.left
+              ∙ drop_next r.answered (requests r.objects) (requests (o ∷ [])) q (rest ++ requests (drop n r.objects)) matching.left
               ∙ append_assoc rest (requests (drop n r.objects)) (requests (o ∷ []))
               ∙ ap (λ l. rest ++ l) (sym (ap requests (drop-append-le n r.objects (o ∷ []) few) ∙ flat_map-append requests_of (drop n r.objects) (o ∷ []))));
         }

@@ -1,11 +1,11 @@
 pub mod Advances
 pub mod Answered
+pub mod MatchesKept
 pub mod Objects
 pub mod OneRequest
 pub mod Outcomes
 pub mod Programs
 pub mod Records
 pub mod Sound
-pub mod Standing
 pub mod Started
 pub mod Texts

@@ -29,9 +29,9 @@ use Rattle.ldd_resolve.specs.Requests.{BeginsPaths, FindsBy, IsAt, inputs_by, pa
 use Rattle.ldd_resolve.specs.Resolving.{IfComplete, cached_in}
 use Rattle.tree_face.proofs.StoreUse.{unread}
 use Rattle.ldd_resolve.proofs.Advances.{unread_held}
-use Rattle.ldd_resolve.proofs.Outcomes.{chain_kept, known_stands, outcome}
+use Rattle.ldd_resolve.proofs.Outcomes.{chain_kept, known_matches, outcome}
 use Rattle.ldd_resolve.proofs.Objects.{failing}
-use Rattle.ldd_resolve.proofs.Standing.{reach_there, same_count}
+use Rattle.ldd_resolve.proofs.MatchesKept.{reach_there, same_count}
 use Rattle.rpath_search.proofs.Libraries.{is_one}
 use Rattle.ldd_resolve.proofs.Records.{record_known, record_searched}
 
@@ -107,22 +107,22 @@ module _ (g : Given) (r : Record) (s : Loading) (number : ℕ) (chain : List Own
 
   -- the remaining requests begin with this one
   next : (more : List Request) × (left r ≡ q ∷ more)
-  next = (requests_by chain rest ++ requests (drop (suc number) r.objects), here.stands.left)
+  next = (requests_by chain rest ++ requests (drop (suc number) r.objects), here.matching.left)
 
   -- the paths at which the name is searched
   pub same_paths : number < length s.loaders → paths_at g name (reach_at s.loaders number) ≡ paths_by g name chain
   same_paths within = paths_same g.env.now name chain (cached_in (option_copied g.cache) g.env.now name) (reach_at s.loaders number)
-      (ap (reach_in g.env.now) (sym here.chain_is) ∙ reach_there g.env.now s.loaders r.objects number here.stands.linked within)
+      (ap (reach_in g.env.now) (sym here.chain_is) ∙ reach_there g.env.now s.loaders r.objects number here.matching.linked within)
 
   -- an object has this name
   known_at : IsAt g.env.now counted s number chain rest
-  known_at = record { stands = known_stands g.env.now r counted s (suc number) q (requests_by chain rest) here.stands refl; chain_is = here.chain_is }
+  known_at = record { matching = known_matches g.env.now r counted s (suc number) q (requests_by chain rest) here.matching refl; chain_is = here.chain_is }
 
   pub known_name : (known : Option Contents) (st : StoreState) → is_among s.names name ≡ true →
       Advances known (inputs_by g) r Complete (λ r2. IsAt g.env.now r2 s number chain rest) st st
   known_name None st there = record { reads = unread st; some = counted; holds = known_at }
   known_name (Some held) st there =
-      let called : list_any (is_called name) r.objects ≡ true = sym (here.stands.names name) ∙ there in
+      let called : list_any (is_called name) r.objects ≡ true = sym (here.matching.names name) ∙ there in
       let one = record_known (inputs_by g held) r q next.0 next.1 called in
       record {
         requests = 1;
@@ -136,7 +136,7 @@ module _ (g : Given) (r : Record) (s : Loading) (number : ℕ) (chain : List Own
 
   searched_is : (held : Contents) (all : List (List ℕ)) → all ≡ paths_by g name chain → is_among s.names name ≡ false → record_after (inputs_by g held) r 1 ≡ with_search (inputs_by g held) counted q all
   searched_is held all is new =
-      let uncalled : list_any (is_called name) r.objects ≡ false = sym (here.stands.names name) ∙ new in
+      let uncalled : list_any (is_called name) r.objects ≡ false = sym (here.matching.names name) ∙ new in
       record_searched (inputs_by g held) r q next.0 next.1 uncalled ∙ ap (with_search (inputs_by g held) counted q) (sym is)
 
   module _ (a b : StoreState) (new : is_among s.names name ≡ false) (all : List (List ℕ)) (is : all ≡ paths_by g name chain) where
@@ -148,7 +148,7 @@ module _ (g : Given) (r : Record) (s : Loading) (number : ℕ) (chain : List Own
         let one = searched_is held all is new in
         let w = inputs_by g held in
         let keys = keys_searched held g.tree.now g.env.now.abi s.places.loaded all in
-        let same : keys ≡ keys_searched held g.tree.now g.env.now.abi (places_of r.objects) all = ap (λ l. keys_searched held g.tree.now g.env.now.abi l all) here.stands.places in
+        let same : keys ≡ keys_searched held g.tree.now g.env.now.abi (places_of r.objects) all = ap (λ l. keys_searched held g.tree.now g.env.now.abi l all) here.matching.places in
         record {
           requests = 1;
           keys = keys;
@@ -171,20 +171,20 @@ module _ (g : Given) (r : Record) (s : Loading) (number : ℕ) (chain : List Own
     module _ (s2 : Loading) (found : Option Answer) (within : number < length s.loaders) (takes : TakesAnswer g.env.now s s2 name found number) where
       answered_at : (r2 : Record) → HasOutcome r q found r2 → r2.answered ≡ suc r.answered → IsAt g.env.now r2 s2 number chain rest
       answered_at r2 out count =
-          let count_is = same_count g.env.now s.loaders r.objects here.stands.linked in
+          let count_is = same_count g.env.now s.loaders r.objects here.matching.linked in
           let few : number < length r.objects = omega (arith, within, count_is) in
           record {
-            stands = takes r r2 q (requests_by chain rest) here.stands out count refl (sym here.chain_is);
+            matching = takes r r2 q (requests_by chain rest) here.matching out count refl (sym here.chain_is);
             chain_is = chain_kept r r2 q found number few out ∙ here.chain_is;
           }
 
       pub searched_name : (known : Option Contents) → FindsBy known g s.places.loaded all found → IsNew known g.tree.now g.env.now.abi s.places.loaded found → Begun known Complete →
           Advances known (inputs_by g) r Complete (λ r2. IsAt g.env.now r2 s2 number chain rest) a b
       searched_name None finds there begins =
-          let one = some_outcome r q None g.tree.now g.env.now.abi found (rw here.stands.places at there) in
+          let one = some_outcome r q None g.tree.now g.env.now.abi found (rw here.matching.places at there) in
           record { reads = begins; some = one.0; holds = answered_at one.0 one.1.0 one.1.1 }
       searched_name (Some held) finds there begins =
           let w = inputs_by g held in
-          let out = outcome w counted q all (first_good held g.tree.now g.env.now.abi all) found refl (rw here.stands.places at finds) (rw here.stands.places at there) in
+          let out = outcome w counted q all (first_good held g.tree.now g.env.now.abi all) found refl (rw here.matching.places at finds) (rw here.matching.places at there) in
           held_begun held Complete (λ r2. IsAt g.env.now r2 s2 number chain rest) begins
           (answered_at (with_search w counted q all) (counted_outcome r (with_search w counted q all) (r.answered + 1) q found out) (let plus : r.answered + 1 ≡ suc r.answered = omega arith in search_count w counted q all ∙ plus))

@@ -5,12 +5,12 @@ use Rattle.rpath_search.specs.Search.{first_good}
 use Rattle.rpath_search.specs.declared.kinds.Env.{Env}
 use Rattle.rpath_search.specs.declared.search.Answer.{Answer}
 use Rattle.rpath_search.specs.declared.search.Answer.TheVariants as answer
-use Rattle.ldd_resolve.specs.Links.{behind}
+use Rattle.ldd_resolve.specs.Links.{following}
 use Rattle.ldd_resolve.specs.Listing.{Inputs, Loaded, Record, Request, found_by, loaded, places_of, requests, with_search}
 use Rattle.ldd_resolve.specs.declared.loading.Loading.{Loading}
-use Rattle.ldd_resolve.proofs.Standing.{among_at, drop_one, same_by, same_chain}
+use Rattle.ldd_resolve.proofs.MatchesKept.{among_at, drop_one, same_by, same_chain}
 use Rattle.std.proofs.lemmas.List.{get_or_append_left, length-map, map-append}
-use Rattle.ldd_resolve.specs.Loading.{HasOutcome, Stands}
+use Rattle.ldd_resolve.specs.Loading.{HasOutcome, Matches}
 use Rattle.rpath_search.specs.Searching.{Finds, IsNew}
 
 module _ (w : Inputs) (r : Record) (q : Request) (all : List (List ℕ)) where
@@ -40,7 +40,7 @@ module _ (w : Inputs) (r : Record) (q : Request) (all : List (List ℕ)) where
 
 -- an existing object keeps its chain
 pub chain_kept : (r r2 : Record) (q : Request) (a : Option Answer) (n : ℕ) → n < length r.objects → HasOutcome r q a r2 →
-    behind (map (λ o. o.chain) r2.objects) (Some n) ≡ behind (map (λ o. o.chain) r.objects) (Some n)
+    following (map (λ o. o.chain) r2.objects) (Some n) ≡ following (map (λ o. o.chain) r.objects) (Some n)
 chain_kept r r2 q None n within outcome = rw outcome.0 refl
 chain_kept r r2 q (Some (answer.Loaded i)) n within outcome =
     let real = get_or (places_of r.objects) i [] in
@@ -52,17 +52,17 @@ chain_kept r r2 q (Some (answer.New f)) n within outcome =
     rw (outcome.0, map-append (λ (o : Loaded). o.chain) r.objects (o ∷ [])) (get_or_append_left (map (λ (o : Loaded). o.chain) r.objects) (o.chain ∷ []) [] n here)
 
 -- a request for the name of an existing object only changes the number of answered requests
-pub known_stands : (env : Env) (r r2 : Record) (s : Loading) (n : ℕ) (q : Request) (rest : List Request) → Stands env r s n (q ∷ rest) → r2 ≡ record r { answered = r.answered + 1 } → Stands env r2 s n rest
-known_stands env r r2 s n q rest stands same =
+pub known_matches : (env : Env) (r r2 : Record) (s : Loading) (n : ℕ) (q : Request) (rest : List Request) → Matches env r s n (q ∷ rest) → r2 ≡ record r { answered = r.answered + 1 } → Matches env r2 s n rest
+known_matches env r r2 s n q rest matching same =
     let next : r.answered + 1 ≡ suc r.answered = omega arith in
     rw (same, next) (record {
-      linked = stands.linked;
-      places = stands.places;
-      names = stands.names;
-      missing = stands.missing;
-      items = stands.items;
-      members = stands.members;
-      loaded = stands.loaded;
-      pending = stands.pending;
-      left = drop_one r.answered (requests r.objects) q (rest ++ requests (drop n r.objects)) stands.left;
+      linked = matching.linked;
+      places = matching.places;
+      names = matching.names;
+      missing = matching.missing;
+      items = matching.items;
+      members = matching.members;
+      loaded = matching.loaded;
+      pending = matching.pending;
+      left = drop_one r.answered (requests r.objects) q (rest ++ requests (drop n r.objects)) matching.left;
     })

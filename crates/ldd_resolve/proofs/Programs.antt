@@ -37,7 +37,7 @@ use Rattle.ldd_resolve.specs.Loading.{Advances}
 use Rattle.ldd_resolve.specs.Requests.{IsListed, record_with}
 use Rattle.ldd_resolve.specs.Resolving.{AreAllHeld, AreLoaded, BeginsBy, BeginsFor, BeginsNoneLacking, BeginsRecord, IfBadProgram, IfComplete, IsBadProgram, IsNoProgram, IsScope, IsScopeOf, ReadsListing, first_record, inputs_of, object_at, program_at, record_of, resolve_ending}
 use Rattle.ldd_resolve.proofs.Records.{record_none}
-use Rattle.ldd_resolve.proofs.Standing.{or_first, or_second}
+use Rattle.ldd_resolve.proofs.MatchesKept.{or_first, or_second}
 
 -- ---- the file of the program
 

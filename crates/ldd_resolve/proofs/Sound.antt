@@ -25,7 +25,7 @@ use Rattle.rpath_search.specs.declared.search.LoadedFiles.{LoadedFiles}
 use Rattle.rpath_search.specs.Searching.{AreKnown, is_among, is_outsider}
 use Rattle.ldd_resolve.specs.Loading.{Grows, IsSound}
 use Rattle.ldd_resolve.specs.Requests.{IsEven}
-use Rattle.ldd_resolve.proofs.Standing.{among_one}
+use Rattle.ldd_resolve.proofs.MatchesKept.{among_one}
 
 -- ---- the number of loaded files
 

@@ -17,7 +17,7 @@ use Rattle.ldd_resolve.specs.declared.loading.Loading.{Loading}
 use Rattle.rpath_search.specs.Searching.{AreKnown, is_among, is_outsider}
 use Rattle.ldd_resolve.specs.Requests.{StartsSound, outsider_of}
 use Rattle.ldd_resolve.specs.Resolving.{object_at}
-use Rattle.ldd_resolve.proofs.Standing.{or_false}
+use Rattle.ldd_resolve.proofs.MatchesKept.{or_false}
 
 module _ (p : Found) (s : Loading) (alone : s.places.loaded ≡ p.real ∷ []) (member : length s.members.items ≡ 1) where
   itself : bytes_eq p.real p.real ≡ true

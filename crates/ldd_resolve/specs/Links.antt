@@ -5,9 +5,9 @@ use Rattle.rpath_search.specs.declared.kinds.Env.{Env}
 use Rattle.rpath_search.specs.declared.kinds.Owner.{Owner}
 
 -- the chain of the object with this number; empty above the program
-abbrev pub behind : List (List Owner) → Option ℕ → List Owner
-behind chains None = []
-behind chains (Some n) = slice_index_or chains n []
+abbrev pub following : List (List Owner) → Option ℕ → List Owner
+following chains None = []
+following chains (Some n) = slice_index_or chains n []
 
 abbrev pub reach_in : Env → List Owner → Option Reach
 reach_in env [] = None

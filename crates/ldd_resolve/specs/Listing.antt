@@ -10,7 +10,7 @@ use Rattle.path_walk.specs.Files.{file_at}
 use Rattle.elf_dynamic.specs.declared.kinds.Dynamic.{Dynamic}
 use Rattle.rpath_search.specs.Places.{folder_of, paths}
 use Rattle.rpath_search.specs.Search.{first_good, library_at, looked_at}
-use Rattle.rpath_search.specs.Searching.{is_among, keys_beside}
+use Rattle.rpath_search.specs.Searching.{is_among, keys_next_to}
 use Rattle.rpath_search.specs.declared.kinds.Env.{Env}
 use Rattle.rpath_search.specs.declared.kinds.Owner.{Owner}
 use Rattle.ldd_resolve.specs.declared.kinds.Item.{Item}
@@ -124,7 +124,7 @@ paths_of w q = paths q.name q.chain w.env (w.cached q.name)
 -- The keys that a search opens: those of the files to which the paths lead, up to the first good path, without loaded files.
 abbrev pub keys_searched : Contents → Nodes → Abi → List (List ℕ) → List (List ℕ) → List (List ℕ)
 keys_searched held t abi places all =
-    keys_beside t places (take (looked_at held t abi all) all)
+    keys_next_to t places (take (looked_at held t abi all) all)
 
 -- the dynamic section of the library at a path without links
 abbrev pub dynamic_at : Inputs → List ℕ → Option Dynamic

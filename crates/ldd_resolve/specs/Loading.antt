@@ -14,7 +14,7 @@ use Rattle.rpath_search.specs.declared.kinds.Found.{Found}
 use Rattle.ldd_resolve.specs.declared.loading.Loading.{Loading}
 use Rattle.rpath_search.specs.declared.search.Answer.{Answer}
 use Rattle.rpath_search.specs.declared.search.Answer.TheVariants as answer
-use Rattle.ldd_resolve.specs.Links.{behind, reach_in}
+use Rattle.ldd_resolve.specs.Links.{following, reach_in}
 use Rattle.rpath_search.specs.Searching.{AreKnown, is_among}
 use Rattle.ldd_resolve.specs.Listing.{Inputs, Record, Request, is_called, is_missing, item, left, loaded, named, names_by, needed_in, owner_of, places_of, record_after, requests, soname_in, with_missing}
 use Rattle.ldd_resolve.specs.Resolving.{members_of}
@@ -25,7 +25,7 @@ use Rattle.ldd_resolve.specs.Searching.{BeginsHeld}
 
 -- The state matches this record. The needed names of the first `taken` objects were taken from the queue, and of their requests `rest`
 -- remains.
-pub record Stands (env : Env) (r : Record) (s : Loading) (taken : ℕ) (rest : List Request) : Type 0 where
+pub record Matches (env : Env) (r : Record) (s : Loading) (taken : ℕ) (rest : List Request) : Type 0 where
   pub linked : map (λ reach. Some reach) s.loaders ≡ map (λ o. reach_in env o.chain) r.objects
   pub places : s.places.loaded ≡ places_of r.objects
   pub names : (x : List ℕ) → is_among s.names x ≡ list_any (is_called x) r.objects
@@ -126,8 +126,8 @@ HasOutcome r q (Some (answer.New f)) r2 =
 -- object with this number makes for this name.
 abbrev pub TakesAnswer : Env → Loading → Loading → List ℕ → Option Answer → ℕ → Type 0
 TakesAnswer env old new name answer loader =
-    (r r2 : Record) (q : Request) (rest : List Request) → Stands env r old (suc loader) (q ∷ rest) → HasOutcome r q answer r2
-    → r2.answered ≡ suc r.answered → q.name ≡ name → q.chain ≡ behind (map (λ o. o.chain) r.objects) (Some loader) → Stands env r2 new (suc loader) rest
+    (r r2 : Record) (q : Request) (rest : List Request) → Matches env r old (suc loader) (q ∷ rest) → HasOutcome r q answer r2
+    → r2.answered ≡ suc r.answered → q.name ≡ name → q.chain ≡ following (map (λ o. o.chain) r.objects) (Some loader) → Matches env r2 new (suc loader) rest
 
 -- ---- progress of a listing
 

@@ -22,9 +22,9 @@ use Rattle.ldd_resolve.specs.declared.loading.Loading.{Loading}
 use Rattle.ldd_resolve.specs.declared.requests.Given.{Given}
 use Rattle.rpath_search.specs.declared.search.Answer.{Answer}
 use Rattle.rpath_search.specs.declared.search.LoadedFiles.{LoadedFiles}
-use Rattle.ldd_resolve.specs.Links.{behind}
+use Rattle.ldd_resolve.specs.Links.{following}
 use Rattle.ldd_resolve.specs.Listing.{Inputs, Record, Request, keys_searched, left, loaded}
-use Rattle.ldd_resolve.specs.Loading.{Advances, IsSound, Stands}
+use Rattle.ldd_resolve.specs.Loading.{Advances, IsSound, Matches}
 use Rattle.ldd_resolve.specs.Resolving.{IfComplete, cached_in, inputs_of, members_of, object_at}
 use Rattle.rpath_search.specs.Searching.{AreKnown, Finds}
 use Rattle.ldd_resolve.specs.Searching.{Begins}
@@ -61,8 +61,8 @@ requests_by chain names = map (λ name. record { name = name; chain = chain }) n
 
 -- the requests of the object with this number and chain are being answered; these names remain
 pub record IsAt (env : Env) (r : Record) (s : Loading) (number : ℕ) (chain : List Owner) (names : List (List ℕ)) : Type 0 where
-  pub stands : Stands env r s (suc number) (requests_by chain names)
-  pub chain_is : behind (map (λ o. o.chain) r.objects) (Some number) ≡ chain
+  pub matching : Matches env r s (suc number) (requests_by chain names)
+  pub chain_is : following (map (λ o. o.chain) r.objects) (Some number) ≡ chain
 
 -- If `names` remain before the call, `rest` remains after it. The state matches the record before and after.
 abbrev pub Answers : Option Contents → Given → ℕ → List Owner → List (List ℕ) → List (List ℕ) → Ending → Loading → Loading → StoreState → StoreState → Type 0
@@ -74,7 +74,7 @@ Answers known g number chain names rest ending s s2 old new =
 -- The call answers the requests of the objects before `next`. The state matches the record before and after.
 abbrev pub AnswersObjects : Option Contents → Given → ℕ → ℕ → Ending → Loading → Loading → StoreState → StoreState → Type 0
 AnswersObjects known g number next ending s s2 old new =
-    (r : Record) → Stands g.env.now r s number [] → Advances known (inputs_by g) r ending (λ r2. IfComplete ending (Stands g.env.now r2 s2 next [])) old new
+    (r : Record) → Matches g.env.now r s number [] → Advances known (inputs_by g) r ending (λ r2. IfComplete ending (Matches g.env.now r2 s2 next [])) old new
 
 -- no request remains in the record, and these are its members and items
 pub record IsListed (r : Record) (ms : List Member) (items : List Item) : Type 0 where
@@ -85,7 +85,7 @@ pub record IsListed (r : Record) (ms : List Member) (items : List Item) : Type 0
 
 abbrev pub AnswersAll : Option Contents → Given → Ending → Loading → Loading → StoreState → StoreState → Type 0
 AnswersAll known g ending s s2 old new =
-    (r : Record) → Stands g.env.now r s 0 [] → Advances known (inputs_by g) r ending (λ r2. IfComplete ending (IsListed r2 s2.members.items s2.items)) old new
+    (r : Record) → Matches g.env.now r s 0 [] → Advances known (inputs_by g) r ending (λ r2. IfComplete ending (IsListed r2 s2.members.items s2.items)) old new
 
 -- ---- growth of the state
 
@@ -104,8 +104,8 @@ record_with p keys = record { objects = loaded p.path p.real p.object.dynamic No
 abbrev pub outsider_of : Found → Option (List ℕ)
 outsider_of p = if is_library p.object.abi p.object then None else Some p.real
 
-abbrev pub StandsFirst : Env → Found → Loading → Type 0
-StandsFirst env p s = (keys : List (List ℕ)) → Stands env (record_with p keys) s 0 []
+abbrev pub MatchesFirst : Env → Found → Loading → Type 0
+MatchesFirst env p s = (keys : List (List ℕ)) → Matches env (record_with p keys) s 0 []
 
 abbrev pub StartsSound : Found → Loading → Type 0
 StartsSound p s = (known : Option Contents) (t : Nodes) → is_some (node_at t p.real) ≡ true

@@ -9,7 +9,7 @@ ghost use Rattle.image_tree.specs.Tree.{Nodes};
 ghost use Rattle.rpath_search.specs.Searching.{is_among};
 ghost use Rattle.ldd_resolve.specs.Listing.{needed_in, owner_of, soname_in};
 ghost use Rattle.ldd_resolve.specs.Loading.{AddsFound, AddsMember, AddsMissing, AddsName, Grows, IsSound, IsSoundAnswer, TakesAnswer};
-ghost use Rattle.ldd_resolve.specs.Requests.{IsEven, StandsFirst, StartsSound, outsider_of};
+ghost use Rattle.ldd_resolve.specs.Requests.{IsEven, MatchesFirst, StartsSound, outsider_of};
 ghost use Rattle.ldd_resolve.specs.Searching.{IsUnloaded};
 
 use crate::kinds::{Item, Listing, Member};
@@ -113,7 +113,7 @@ impl Loading {
 
     /// Only the program.
     pub(crate) fn new(alloc: Global, env: &Env, program: Found) -> Result<Loading, NoMemory>
-        ensures stands { IfOk result (StandsFirst env.now program) }
+        ensures matching { IfOk result (MatchesFirst env.now program) }
         ensures sound { IfOk result (StartsSound program) }
         ensures even { IfOk result (λ loading. IsEven loading 0) }
     {
@@ -207,7 +207,7 @@ impl Loading {
         requires unknown { is_among self.old.names name ≡ false }
         requires members { length self.old.members.items ≡ length self.old.places.loaded }
         requires distinct { IsDistinct bytes_eq self.old.places.loaded }
-        ensures stands { OnOk result (TakesAnswer env.now self.old self.new name answer loader) }
+        ensures matching { OnOk result (TakesAnswer env.now self.old self.new name answer loader) }
         ensures sound { (known : Option Contents) (t : Nodes) (abi : Abi) → IsSound known t abi self.old → IsSoundAnswer known t abi answer
             → OnOk result (IsSound known t abi self.new) }
         ensures grows { OnOk result (Grows self.old self.new) }

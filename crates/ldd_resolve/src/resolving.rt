@@ -2,7 +2,7 @@
 ghost use Rattle.std.specs.Prelude.{◌≡◌, ◌∷◌, [], false, true, Ok, Err, Some, None, is_some, IfOk};
 ghost use Rattle.std.specs.Option.{option_copied};
 ghost use Rattle.elf_dynamic.specs.Begun.{ReadsBy, file_keys, key_in, lacks_one};
-ghost use Rattle.elf_headers.specs.Range.{IsInRange};
+ghost use Rattle.lib_types.specs.Ranges.{IsInRange};
 ghost use Rattle.rpath_search.specs.Faults.{search_ending};
 ghost use Rattle.tree_face.specs.Known.{IfKnown};
 ghost use Rattle.tree_face.specs.Store.{Contents};
@@ -71,7 +71,7 @@ fn load<S: Store>(
 }
 
 /// The members that a program loads, with their paths and names, and the listing of the requests. The program's ABI replaces that of
-/// `env`. If there is no cache, the search skips it.
+/// `env`. The search skips a cache that doesn't exist.
 ///
 /// A loaded file isn't read again, and each file is loaded once, so the call terminates for every image. A name that isn't found is
 /// searched again for each later object that needs it, because that object's own directories may have it.

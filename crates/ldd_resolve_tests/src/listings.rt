@@ -8,7 +8,7 @@ use image_rows::{
 use ldd_resolve::{Listing, ResolveFault, listing_text, resolve};
 use lib_types::{Defect, NoMemory};
 use std::alloc::Global;
-use table_rows::{Row, Said, Trial, Words, lines_in, value};
+use table_rows::{Differences, Row, Trial, Words, lines_in, value};
 use tree_face::Tree;
 
 /// A row has an image, its cache and the loader's environment, the path of the program (`at`), the text of the listing or the fault, and
@@ -29,13 +29,13 @@ fn is_listed(
     alloc: Global,
     row: Row<'_>,
     listed: Result<Listing, ResolveFault>,
-    said: &mut Said,
+    differences: &mut Differences,
 ) -> Result<bool, NoMemory> {
     match listed {
-        Ok(listing) => said.is_text(alloc, row, b"listing", &listing_text(alloc, &listing)?),
+        Ok(listing) => differences.is_text(alloc, row, b"listing", &listing_text(alloc, &listing)?),
         Err(fault) => {
             let want = value(row, b"fault").unwrap_or(b"");
-            said.is_same(b"fault", want, fault_text(fault))
+            differences.is_same(b"fault", want, fault_text(fault))
         }
     }
 }
@@ -45,14 +45,17 @@ fn try_row(
     row: Row<'_>,
     tree: &Tree,
     cache: Option<&Sorted<'_>>,
-    said: &mut Said,
+    differences: &mut Differences,
 ) -> Result<bool, SampleFault> {
     let env = env_of(alloc, row)?;
     let mut store = store_of(alloc, row)?;
     let program = value(row, b"main-program").unwrap_or(b"");
     let listed = resolve(alloc, tree, &mut store, cache, program, &env);
     let keys = lines_in(alloc, store.keys())?;
-    Ok(is_listed(alloc, row, listed, said)? && said.is_text(alloc, row, b"keys", &keys)?)
+    Ok(
+        is_listed(alloc, row, listed, differences)?
+            && differences.is_text(alloc, row, b"keys", &keys)?,
+    )
 }
 
 // With the cache of the row, if it has one.
@@ -60,19 +63,19 @@ fn try_cached(
     alloc: Global,
     row: Row<'_>,
     tree: &Tree,
-    said: &mut Said,
+    differences: &mut Differences,
 ) -> Result<bool, SampleFault> {
     let Some(bytes) = cache_in(alloc, row)? else {
-        return try_row(alloc, row, tree, None, said);
+        return try_row(alloc, row, tree, None, differences);
     };
     let Ok(view) = CacheView::parse(&bytes) else {
-        said.say(b"no cache", b"")?;
+        differences.say(b"no cache", b"")?;
         return Ok(false);
     };
     match sorted(view) {
-        Ok(cache) => try_row(alloc, row, tree, Some(&cache), said),
+        Ok(cache) => try_row(alloc, row, tree, Some(&cache), differences),
         Err(_) => {
-            said.say(b"the names rise", b"")?;
+            differences.say(b"the names rise", b"")?;
             Ok(false)
         }
     }
@@ -92,11 +95,15 @@ impl Trial for Listings {
         WORDS
     }
 
-    fn is_right(alloc: Global, row: Row<'_>, said: &mut Said) -> Result<bool, NoMemory> {
-        let Some(tree) = tree_of(alloc, row, said)? else {
+    fn is_right(
+        alloc: Global,
+        row: Row<'_>,
+        differences: &mut Differences,
+    ) -> Result<bool, NoMemory> {
+        let Some(tree) = tree_of(alloc, row, differences)? else {
             return Ok(false);
         };
-        let tried = try_cached(alloc, row, &tree, said);
-        is_made(tried, said)
+        let tried = try_cached(alloc, row, &tree, differences);
+        is_made(tried, differences)
     }
 }

@@ -27,13 +27,13 @@ taken_more r s u xs ys first next = record {
 -- ---- up to the first file that is missing
 
 -- the items that follow others; none if a file of those others is missing
-abbrev pub behind : Bool → List Item → List Item
-behind missing items = cond missing [] items
+abbrev pub following : Bool → List Item → List Item
+following missing items = cond missing [] items
 
-pub until_parts : (xs ys : List Item) → until_missing (xs ++ ys) ≡ until_missing xs ++ behind (list_any is_missing xs) (until_missing ys)
+pub until_parts : (xs ys : List Item) → until_missing (xs ++ ys) ≡ until_missing xs ++ following (list_any is_missing xs) (until_missing ys)
 until_parts [] ys = refl
 until_parts (x ∷ xs) ys =
-    by_test {P = until_missing ((x ∷ xs) ++ ys) ≡ until_missing (x ∷ xs) ++ behind (list_any is_missing (x ∷ xs)) (until_missing ys)} (is_missing x)
+    by_test {P = until_missing ((x ∷ xs) ++ ys) ≡ until_missing (x ∷ xs) ++ following (list_any is_missing (x ∷ xs)) (until_missing ys)} (is_missing x)
     (λ e. rw e refl)
     (λ e. rw e (ap (λ l. x ∷ l) (until_parts xs ys)))
 
@@ -45,5 +45,5 @@ until_whole (x ∷ xs) held =
     (λ e. rw e (ap (λ l. x ∷ l) (until_whole xs (rw e at held))))
 
 -- items without a missing file, followed by others
-pub until_behind : (xs ys : List Item) → list_any is_missing xs ≡ false → until_missing (xs ++ ys) ≡ xs ++ until_missing ys
-until_behind xs ys held = until_parts xs ys ∙ rw (held, until_whole xs held) refl
+pub until_after : (xs ys : List Item) → list_any is_missing xs ≡ false → until_missing (xs ++ ys) ≡ xs ++ until_missing ys
+until_after xs ys held = until_parts xs ys ∙ rw (held, until_whole xs held) refl

@@ -26,7 +26,7 @@ use Rattle.ldso_conf.specs.declared.reading.TheConstants.{CONF_MAX}
 use Rattle.ldso_conf.specs.declared.steps.Step.{Step}
 use Rattle.image_tree.specs.declared.path.TheConstants.{PATH_MAX}
 use Rattle.ldso_conf.proofs.Visiting.{take_dir, take_report}
-use Rattle.ldso_conf.proofs.Items.{behind, taken_more, until_behind, until_parts, until_whole}
+use Rattle.ldso_conf.proofs.Items.{following, taken_more, until_after, until_parts, until_whole}
 
 pub partial : (fault : ConfFault) → IsPartial (ending_by fault)
 partial StoreFault = tt
@@ -135,7 +135,7 @@ module _ (start now : Progress) (a b c : StoreState) where
   done_stops whole part rest e d is_partial reads =
       rw (
         d.parts,
-        until_behind d.done (part ++ rest) d.taken.held,
+        until_after d.done (part ++ rest) d.taken.held,
         until_parts part rest,
         flat_map-append key_begun d.done (until_missing part ++ left),
         flat_map-append key_begun (until_missing part) left,
@@ -147,7 +147,7 @@ module _ (start now : Progress) (a b c : StoreState) where
       (reads_part (keys_in part) (flat_map key_begun left) (lacks_in part) (lacks_in part) (bytes_in part) (sum_by bytes_taken left) e b c (λ l. l) is_partial reads))
     where
       left : List Item
-      left = behind (list_any is_missing part) (until_missing rest)
+      left = following (list_any is_missing part) (until_missing rest)
 
       lacking : Type 0
       lacking = list_any is_missing (d.done ++ (until_missing part ++ left)) ≡ true

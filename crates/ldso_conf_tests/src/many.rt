@@ -49,9 +49,9 @@ fn are_read(alloc: Global, tree: &Tree, conf: &str, files: u32, dirs: usize) -> 
     }
 }
 
-// Whether `files` conf files and `dirs` directories are found, if the conf file has this content and the directory has `beside` files.
-fn is_so(alloc: Global, beside: u32, conf: &str, files: u32, dirs: usize) -> bool {
-    let Ok(manifest) = manifest(alloc, beside) else {
+// Whether `files` conf files and `dirs` directories are found, if the conf file has this content, with `next_to` files in its directory.
+fn is_so(alloc: Global, next_to: u32, conf: &str, files: u32, dirs: usize) -> bool {
+    let Ok(manifest) = manifest(alloc, next_to) else {
         return false;
     };
     match read(alloc, manifest.as_bytes()) {

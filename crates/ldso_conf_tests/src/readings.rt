@@ -4,7 +4,7 @@ use image_rows::{FILES, MANIFEST, STORE_FAILS, is_made, store_of, tree_of};
 use ldso_conf::{CONF_PATH, Conf, ConfFault, ConfKind, ConfReports, read_conf};
 use lib_types::NoMemory;
 use std::alloc::Global;
-use table_rows::{Row, Said, Trial, Words, count, has_line, lines_in, value};
+use table_rows::{Differences, Row, Trial, Words, count, has_line, lines_in, value};
 use tree_face::{MemStore, Tree};
 
 /// A row has a manifest and the store's files. It has the directories, the reports and the number of conf files that are read, or the
@@ -38,16 +38,16 @@ fn is_read(
     row: Row<'_>,
     conf: &Conf,
     opened: u64,
-    said: &mut Said,
+    differences: &mut Differences,
 ) -> Result<bool, NoMemory> {
     let files = count(row, b"files");
     let dirs = lines_in(alloc, &conf.dirs)?;
     let reports = reports_in(alloc, &conf.reports)?;
     Ok(
-        said.is_number(alloc, b"files", files, u64::from(conf.files))?
-            && said.is_number(alloc, b"opened", files, opened)?
-            && said.is_text(alloc, row, b"dirs", &dirs)?
-            && said.is_text(alloc, row, b"reports", &reports)?,
+        differences.is_number(alloc, b"files", files, u64::from(conf.files))?
+            && differences.is_number(alloc, b"opened", files, opened)?
+            && differences.is_text(alloc, row, b"dirs", &dirs)?
+            && differences.is_text(alloc, row, b"reports", &reports)?,
     )
 }
 
@@ -56,14 +56,15 @@ fn is_answer(
     row: Row<'_>,
     read: Result<Conf, ConfFault>,
     opened: u64,
-    said: &mut Said,
+    differences: &mut Differences,
 ) -> Result<bool, NoMemory> {
     let fault = value(row, b"fault").unwrap_or(b"");
     match read {
         Ok(conf) => Ok(
-            said.is_same(b"fault", fault, b"")? && is_read(alloc, row, &conf, opened, said)?,
+            differences.is_same(b"fault", fault, b"")?
+                && is_read(alloc, row, &conf, opened, differences)?,
         ),
-        Err(ConfFault::StoreFault) => said.is_same(b"fault", fault, b"StoreFault"),
+        Err(ConfFault::StoreFault) => differences.is_same(b"fault", fault, b"StoreFault"),
         Err(ConfFault::NoMemory) => Err(NoMemory),
     }
 }
@@ -73,18 +74,26 @@ fn are_opened(
     alloc: Global,
     row: Row<'_>,
     store: &MemStore,
-    said: &mut Said,
+    differences: &mut Differences,
 ) -> Result<bool, NoMemory> {
     if !has_line(row, b"keys") {
         return Ok(true);
     }
-    said.is_text(alloc, row, b"keys", &lines_in(alloc, store.keys())?)
+    differences.is_text(alloc, row, b"keys", &lines_in(alloc, store.keys())?)
 }
 
-fn try_row(alloc: Global, row: Row<'_>, tree: &Tree, said: &mut Said) -> Result<bool, SampleFault> {
+fn try_row(
+    alloc: Global,
+    row: Row<'_>,
+    tree: &Tree,
+    differences: &mut Differences,
+) -> Result<bool, SampleFault> {
     let mut store = store_of(alloc, row)?;
     let read = read_conf(alloc, CONF_PATH, tree, &mut store);
-    Ok(is_answer(alloc, row, read, store.begun(), said)? && are_opened(alloc, row, &store, said)?)
+    Ok(
+        is_answer(alloc, row, read, store.begun(), differences)?
+            && are_opened(alloc, row, &store, differences)?,
+    )
 }
 
 const WORDS: &[Words] = &[
@@ -99,11 +108,15 @@ impl Trial for Readings {
         WORDS
     }
 
-    fn is_right(alloc: Global, row: Row<'_>, said: &mut Said) -> Result<bool, NoMemory> {
-        let Some(tree) = tree_of(alloc, row, said)? else {
+    fn is_right(
+        alloc: Global,
+        row: Row<'_>,
+        differences: &mut Differences,
+    ) -> Result<bool, NoMemory> {
+        let Some(tree) = tree_of(alloc, row, differences)? else {
             return Ok(false);
         };
-        let tried = try_row(alloc, row, &tree, said);
-        is_made(tried, said)
+        let tried = try_row(alloc, row, &tree, differences);
+        is_made(tried, differences)
     }
 }

@@ -7,7 +7,7 @@ use Rattle.std.specs.Ordering.{MatchOrdering, nat_cmp, ordering_then}
 use Rattle.std.specs.Cmp.{nat_cmp_is}
 use Rattle.std.specs.Cmp.Lexicographic.{slice_cmp}
 
-module _ (rank : ℕ → ℕ) (apart : (x y : ℕ) → nat_cmp (rank x) (rank y) ≡ Equal → x ≡ y) where
+module _ (rank : ℕ → ℕ) (differ : (x y : ℕ) → nat_cmp (rank x) (rank y) ≡ Equal → x ≡ y) where
   abbrev pub ranked_cmp : List ℕ → List ℕ → Ordering
   ranked_cmp a b = slice_cmp nat_cmp (map rank a) (map rank b)
 
@@ -19,7 +19,7 @@ module _ (rank : ℕ → ℕ) (apart : (x y : ℕ) → nat_cmp (rank x) (rank y)
     where
       by : (r : Ordering) → nat_cmp (rank x) (rank y) ≡ r → nat_cmp (rank x) (rank y) ≡ ordering_then (nat_cmp (rank x) (rank y)) (ranked_cmp a b)
       by Less e = rw e refl
-      by Equal e = absurd (other (apart x y e))
+      by Equal e = absurd (other (differ x y e))
       by Greater e = rw e refl
   byte_decides (x ∷ a) (y ∷ b) (suc n) h k same other =
       let first : x ≡ y = cc in

@@ -5,8 +5,8 @@ use Rattle.std.proofs.Math.Seq.{drop-append-add}
 use Rattle.std.specs.List.{before_first, list_all, position_or_len}
 use Rattle.lib_types.specs.Bytes.{is_byte}
 
-pub behind : (front ys : List ℕ) (n k : ℕ) → length front ≡ n → drop (n + k) (front ++ ys) ≡ drop k ys
-behind front ys n k h = rw (← h) (drop-append-add front ys k)
+pub following : (front ys : List ℕ) (n k : ℕ) → length front ≡ n → drop (n + k) (front ++ ys) ≡ drop k ys
+following front ys n k h = rw (← h) (drop-append-add front ys k)
 
 -- ---- parts of one size
 
@@ -16,7 +16,7 @@ module _ {X : Type 0} (f : X → List ℕ) (k : ℕ) (size : (x : X) → length 
   part_there (x ∷ xs) rest zero d h = rw mul-zero (append_assoc (f x) (flat_map f xs) rest)
   part_there (x ∷ xs) rest (suc i) d h =
       let first : k * suc i ≡ k + k * i = mul-suc k i ∙ add_comm (k * i) k in
-      rw (first, append_assoc (f x) (flat_map f xs) rest) (behind (f x) (flat_map f xs ++ rest) k (k * i) (size x) ∙ part_there xs rest i d (omega arith))
+      rw (first, append_assoc (f x) (flat_map f xs) rest) (following (f x) (flat_map f xs ++ rest) k (k * i) (size x) ∙ part_there xs rest i d (omega arith))
 
   pub length_parts : (xs : List X) → length (flat_map f xs) ≡ k * length xs
   length_parts [] = sym (mul-zero k)

@@ -12,9 +12,9 @@ module _ (p : ℕ → Bool) where
   unpassed b bytes false e all rest = slice_split-cons_no p b bytes e ∙ ap (onto_first b) (rest (omega arith))
 
   -- no byte passes
-  nowhere : (bytes : List ℕ) → length bytes ≤ position_or_len p bytes → slice_split p bytes ≡ bytes ∷ []
-  nowhere [] all = refl
-  nowhere (b ∷ bytes) all = unpassed b bytes (p b) refl all (nowhere bytes)
+  not_found : (bytes : List ℕ) → length bytes ≤ position_or_len p bytes → slice_split p bytes ≡ bytes ∷ []
+  not_found [] all = refl
+  not_found (b ∷ bytes) all = unpassed b bytes (p b) refl all (not_found bytes)
 
   by_position : (bytes : List ℕ) (t : Bool) → ltb (position_or_len p bytes) (length bytes) ≡ t → (n : ℕ) → cond t (Some (position_or_len p bytes)) None ≡ Some n → slice_split p bytes ≡ take n bytes ∷ slice_split p (drop (n + 1) bytes)
   by_position bytes true e n h =
@@ -31,8 +31,8 @@ module _ (p : ℕ → Bool) where
   at_end bytes true e h = absurd (cc)
   at_end bytes false e h = ltb-false _ _ e
 
-  pub cut_nowhere : (bytes : List ℕ) → position p bytes ≡ None → slice_split p bytes ≡ bytes ∷ []
-  cut_nowhere bytes e = nowhere bytes (at_end bytes (ltb (position_or_len p bytes) (length bytes)) refl e)
+  pub cut_not_found : (bytes : List ℕ) → position p bytes ≡ None → slice_split p bytes ≡ bytes ∷ []
+  cut_not_found bytes e = not_found bytes (at_end bytes (ltb (position_or_len p bytes) (length bytes)) refl e)
 
 -- the bytes after index n, as a slice and as a drop
 pub rest_is : (bytes : List ℕ) (n : ℕ) → n < length bytes → take (length bytes - (n + 1)) (drop (n + 1) bytes) ≡ drop (length (take n bytes) + 1) bytes

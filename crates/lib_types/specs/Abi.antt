@@ -6,7 +6,7 @@ use Rattle.std.specs.Ordering.{int_eq}
 use Rattle.std.specs.Str.{bytes_eq}
 use Rattle.lib_types.specs.declared.abi.Abi.{Abi}
 use Rattle.lib_types.specs.declared.abi.Row.{Row}
-use Rattle.lib_types.specs.declared.abi.Abi.TheVariants.{I386, X86_64, X32, Aarch64}
+use Rattle.lib_types.specs.declared.abi.Abi.TheVariants.{I386, X86_64, X32, Aarch64, ArmHf, Riscv64D}
 
 -- word: the name in arguments. class: 1 for 32 bits, 2 for 64 bits. mask: the bits of e_flags that are tested. bits: the value they must
 -- have. flags: the flags of a cache entry. printed: the text after `libc6` in a printed cache. lib: the value of $LIB. triplet: Debian's
@@ -67,6 +67,28 @@ row_of Aarch64 = record {
   lib = codes "lib64";
   triplet = codes "aarch64-linux-gnu";
 }
+row_of ArmHf = record {
+  word = codes "arm-hf";
+  machine = 40;
+  class = 1;
+  mask = 0x400;
+  bits = 0x400;
+  flags = 0x0903;
+  printed = codes ",hard-float";
+  lib = codes "lib";
+  triplet = codes "arm-linux-gnueabihf";
+}
+row_of Riscv64D = record {
+  word = codes "riscv64-d";
+  machine = 243;
+  class = 2;
+  mask = 0x6;
+  bits = 0x4;
+  flags = 0x1003;
+  printed = codes ",double-float";
+  lib = codes "lib";
+  triplet = codes "riscv64-linux-gnu";
+}
 
 -- the row in the code equals the row of the specification
 pub record IsRow (r : Row) (row : AbiRow) : Type 0 where
@@ -81,7 +103,7 @@ pub record IsRow (r : Row) (row : AbiRow) : Type 0 where
   pub triplet : r.triplet.now ≡ row.triplet
 
 abbrev pub abis : List Abi
-abis = I386 ∷ X86_64 ∷ X32 ∷ Aarch64 ∷ []
+abis = I386 ∷ X86_64 ∷ X32 ∷ Aarch64 ∷ ArmHf ∷ Riscv64D ∷ []
 
 abbrev pub machine_of : Abi → ℕ
 machine_of abi = (row_of abi).machine

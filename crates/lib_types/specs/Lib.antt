@@ -4,6 +4,7 @@ pub mod Counts
 pub mod Defects
 pub mod Name
 pub mod Part
+pub mod Ranges
 pub mod Sets
 pub mod Splits
 pub mod Text

@@ -9,6 +9,8 @@ pub enum Abi {
     X86_64,
     X32,
     Aarch64,
+    ArmHf,
+    Riscv64D,
 }
 
 /// The row of an ABI in the table of ABIs.
@@ -34,7 +36,14 @@ pub struct Row {
 }
 
 /// All ABIs, in the order in which they are looked up.
-pub const ABIS: [Abi; 4] = [Abi::I386, Abi::X86_64, Abi::X32, Abi::Aarch64];
+pub const ABIS: [Abi; 6] = [
+    Abi::I386,
+    Abi::X86_64,
+    Abi::X32,
+    Abi::Aarch64,
+    Abi::ArmHf,
+    Abi::Riscv64D,
+];
 
 impl Abi {
     /// The row of this ABI.
@@ -85,6 +94,28 @@ impl Abi {
                 printed: b",AArch64",
                 lib: b"lib64",
                 triplet: b"aarch64-linux-gnu",
+            },
+            Abi::ArmHf => Row {
+                word: b"arm-hf",
+                machine: 40,
+                class: 1,
+                mask: 0x400,
+                bits: 0x400,
+                flags: 0x0903,
+                printed: b",hard-float",
+                lib: b"lib",
+                triplet: b"arm-linux-gnueabihf",
+            },
+            Abi::Riscv64D => Row {
+                word: b"riscv64-d",
+                machine: 243,
+                class: 2,
+                mask: 0x6,
+                bits: 0x4,
+                flags: 0x1003,
+                printed: b",double-float",
+                lib: b"lib",
+                triplet: b"riscv64-linux-gnu",
             },
         }
     }

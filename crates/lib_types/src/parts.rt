@@ -33,7 +33,7 @@ fn first_separator(separator: Separator<'_>, bytes: &[u8]) -> Option<usize>
 
 /// The first part, and the bytes after the separator that ends it, if there is one.
 #[inline(always)]
-#[tactic(auto, using(crate::proofs::Parting::cut_at, crate::proofs::Parting::cut_nowhere, crate::proofs::Parting::rest_is))]
+#[tactic(auto, using(crate::proofs::Parting::cut_at, crate::proofs::Parting::cut_not_found, crate::proofs::Parting::rest_is))]
 pub fn cut<'a>(separator: Separator<'_>, bytes: &'a [u8]) -> (&'a [u8], Option<&'a [u8]>)
     ensures parts { slice_split (separates separator.entry) bytes.now ≡ result.0.now ∷ parts_of (separates separator.entry) (option_copied result.1) }
     ensures after { IfSome result.1 (λ rest. rest.now ≡ drop (length result.0.now + 1) bytes.now) }
@@ -86,8 +86,8 @@ impl<'a> Iterator for Parts<'a> {
     #[inline(always)]
     fn next(&mut self) -> Option<&'a [u8]> {
         let rest = self.rest?;
-        let (part, behind) = cut(self.separator, rest);
-        self.rest = behind;
+        let (part, following) = cut(self.separator, rest);
+        self.rest = following;
         Some(part)
     }
 }

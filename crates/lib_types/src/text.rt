@@ -24,7 +24,7 @@ enum Storage {
     // Inline: the first `len` of these bytes.
     Here { len: u8, bytes: [u8; SHORT_MAX] },
     // In a heap block.
-    Apart { bytes: Vec<u8> },
+    Differ { bytes: Vec<u8> },
     // In a heap block that is shared with other texts.
     Shared { bytes: Rc<Vec<u8>> },
 }
@@ -78,7 +78,7 @@ impl Text {
         }
         let bytes = Vec::from_slice(alloc, bytes)?;
         Ok(Text {
-            storage: Storage::Apart { bytes },
+            storage: Storage::Differ { bytes },
         })
     }
 
@@ -90,7 +90,7 @@ impl Text {
             return here(bytes.as_slice());
         }
         Text {
-            storage: Storage::Apart { bytes },
+            storage: Storage::Differ { bytes },
         }
     }
 
@@ -100,7 +100,7 @@ impl Text {
     {
         match &self.storage {
             Storage::Here { len, bytes } => &bytes[..*len as usize],
-            Storage::Apart { bytes } => bytes.as_slice(),
+            Storage::Differ { bytes } => bytes.as_slice(),
             Storage::Shared { bytes } => bytes.as_ref().as_slice(),
         }
     }
@@ -111,7 +111,7 @@ impl Text {
     {
         let Text { storage } = self;
         let storage = match storage {
-            Storage::Apart { bytes } => Storage::Shared {
+            Storage::Differ { bytes } => Storage::Shared {
                 bytes: Rc::new(alloc, bytes)?,
             },
             storage => storage,

@@ -61,12 +61,12 @@ followed t places = map (folder_links t) places
 abbrev pub files_of : FolderLinks → List (List ℕ)
 files_of folder = filter_map (λ link. link.file) folder.links
 
-abbrev pub files_behind : List FolderLinks → List (List ℕ)
-files_behind followed = ascending (flat_map files_of followed)
+abbrev pub files_after : List FolderLinks → List (List ℕ)
+files_after followed = ascending (flat_map files_of followed)
 
 -- The files that the links with library names in these search directories resolve to, sorted by their paths.
 unfoldable pub reached : Nodes → List Place → List (List ℕ)
-reached t places = files_behind (followed t places)
+reached t places = files_after (followed t places)
 
 -- ---- dangling links
 

@@ -158,7 +158,7 @@ fn unread_in(alloc: Global, folders: &[FolderLinks], table: &Table) -> Result<Te
 
 /// The resolved paths of the files that the links resolve to and that have no ELF information. They are sorted by their
 /// bytes, each once. Most links resolve to files that were read before, so few paths are copied and sorted.
-fn unread_behind(alloc: Global, links: &PlaceLinks, table: &Table) -> Result<Texts, NoMemory>
+fn unread_after(alloc: Global, links: &PlaceLinks, table: &Table) -> Result<Texts, NoMemory>
     ensures { (t : Nodes) (places : List Place) → links.now ≡ followed t places → IfOk result (λ paths. paths ≡ unread (analysis_at table.now) (reached t places)) }
 {
     let paths = unread_in(alloc, links.each_once(), table)?;
@@ -179,7 +179,7 @@ pub fn unread_files<'a>(
     ensures files { IfOk result (λ files. AreFilesOf tree.now files.items) }
 {
     tree.know();
-    let paths = unread_behind(alloc, links, table)?;
+    let paths = unread_after(alloc, links, table)?;
     let files = files_there(alloc, tree, paths)?;
     Ok(files)
 }
@@ -191,7 +191,7 @@ pub fn reached(alloc: Global, tree: &Tree, dirs: &Dirs) -> Result<Texts, NoMemor
     ensures { IfOk result (λ paths. paths ≡ reached tree.now dirs.now.places) }
 {
     let links = follow(alloc, tree, dirs)?;
-    unread_behind(alloc, &links, &Table::new(alloc))
+    unread_after(alloc, &links, &Table::new(alloc))
 }
 
 // The paths of the dangling links of a directory: links that don't resolve to a file.

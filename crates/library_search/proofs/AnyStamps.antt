@@ -1,21 +1,22 @@
 -- Reading files, without assumptions on stamps. It ends early only if the store fails or a file's content isn't held.
-use Rattle.std.proofs.Common.{◌≡◌, ◌||◌, ℕ, Bool, true, false, cond, List, [], ◌∷◌, Option, Some, None, refl, ap, sym, ◌∙◌}
+use Rattle.std.proofs.Common.{◌≡◌, ◌++◌, ◌||◌, if◌then◌else◌, ℕ, Bool, true, false, List, [], ◌∷◌, Option, Some, None, refl, ap, sym, ◌∙◌}
 use Rattle.std.proofs.lemmas.Bool.{or_left, or_right}
-use Rattle.std.specs.List.{cons_option, filter_map, list_any}
+use Rattle.std.specs.List.{before_first, cons_option, filter_map, list_any}
 use Rattle.std.specs.Map.{lookup}
-use Rattle.std.specs.Option.{is_none, option_map_or}
+use Rattle.std.specs.Option.{option_map_or}
 use Rattle.std.specs.Prelude.{IsSomeAnd}
+use Rattle.std.specs.Str.{bytes_eq}
 use Rattle.aux_cache.specs.declared.stamps.Stamp.{Stamp}
-use Rattle.elf_dynamic.specs.Begun.{is_lacking, key_in, lacks_one}
+use Rattle.elf_dynamic.specs.Begun.{ReadsBy, is_lacking, key_in, lacks_one}
 use Rattle.hwcap_dirs.specs.declared.kinds.Scope.{Scope}
+use Rattle.image_tree.specs.declared.node.Id.{Id}
 use Rattle.image_tree.specs.declared.node.Node.{Node}
 use Rattle.image_tree.specs.Tree.{Nodes, node_at}
 use Rattle.ldso_conf.specs.Reading.{conf_lacks}
 use Rattle.lib_types.proofs.SortedPairs.{by_test}
 use Rattle.planned_tree.specs.Search.{IsSearchedAlike}
-use Rattle.file_stamps.specs.Opened.{ReadsOpenedBy, opened_keys, unstamped_key}
-use Rattle.file_stamps.specs.Said.{stamps_before}
-use Rattle.file_stamps.specs.Stamped.{stamp_for}
+use Rattle.file_stamps.specs.Opened.{has_id, ids_at, ids_of, new_key, opened_keys}
+use Rattle.file_stamps.specs.Stamped.{id_at}
 use Rattle.tree_face.proofs.StoreUse.{reads_fewer, reads_then}
 use Rattle.tree_face.specs.Store.{Contents, StoreState}
 use Rattle.tree_face.specs.StoreUse.{Ending, Complete, ReadsFiles}
@@ -51,9 +52,9 @@ module _ (held : Contents) where
             (λ f. node_missing _ t key (of_file path key e) f)
             (λ f. later (sym (ap (λ b. b || lacks_one held (filter_map key_at paths)) f) ∙ lacks))
 
-of_test : (b : Bool) (k : Option (List ℕ)) (key : List ℕ) → cond b k None ≡ Some key → k ≡ Some key
-of_test true k key e = e
-of_test false k key e = absurd (cc)
+of_test : (b : Bool) (k : Option (List ℕ)) (key : List ℕ) → (if b then None else k) ≡ Some key → k ≡ Some key
+of_test true k key e = absurd (cc)
+of_test false k key e = e
 
 module _ (scope : Scope) (held : Contents) (t : Nodes) where
   missing_some : list_any (is_missing held) t ≡ true → lacks_some scope held t ≡ true
@@ -65,17 +66,18 @@ module _ (scope : Scope) (held : Contents) (t : Nodes) where
   conf_some = or_left (conf_lacks (conf_of scope) held t) (list_any (is_missing held) t)
 
   -- a file that is opened in a tree with the same files
-  opened_some : (new : Nodes) (stamps : List Stamp) (paths : List (List ℕ)) → ((path : List ℕ) → key_in (node_at new path) ≡ key_in (node_at t path))
-      → lacks_one held (opened_keys held new stamps paths) ≡ true → lacks_some scope held t ≡ true
-  opened_some new stamps paths same lacks =
-      missing_some (keys_missing held t (λ path. unstamped_key (stamps_before held new stamps paths path) new path)
-      (λ path key e. sym (same path) ∙ of_test (is_none (stamp_for (stamps_before held new stamps paths path) new path)) (key_in (node_at new path)) key e) paths lacks)
+  opened_some : (new : Nodes) (ids : List Id) (paths : List (List ℕ)) → ((path : List ℕ) → key_in (node_at new path) ≡ key_in (node_at t path))
+      → lacks_one held (opened_keys new ids paths) ≡ true → lacks_some scope held t ≡ true
+  opened_some new ids paths same lacks =
+      missing_some (keys_missing held t (λ path. new_key new (ids ++ ids_at new (before_first (bytes_eq path) paths)) path)
+      (λ path key e. sym (same path)
+      ∙ of_test (option_map_or (has_id (ids ++ ids_at new (before_first (bytes_eq path) paths))) (id_at new path) false) (key_in (node_at new path)) key e) paths lacks)
 
 wanted_some : (scope : Scope) (held : Contents) (t : Nodes) (loaded : List Stamp) → lacks_wanted scope held t loaded ≡ true → lacks_some scope held t ≡ true
 unfolding wanted_keys
 wanted_some scope held t loaded lacks = by_test (conf_lacks (conf_of scope) held t)
     (λ e. conf_some scope held t e)
-    (λ e. opened_some scope held t t loaded (wanted_in scope held t) (λ path. refl) (sym (ap (λ b. b || lacks_one held (wanted_keys scope held t loaded)) e) ∙ lacks))
+    (λ e. opened_some scope held t t (ids_of loaded) (wanted_in scope held t) (λ path. refl) (sym (ap (λ b. b || lacks_one held (wanted_keys scope held t loaded)) e) ∙ lacks))
 
 -- ---- the reading
 
@@ -88,13 +90,13 @@ search_any scope t loaded e None a b reads = reads
 search_any scope t loaded e (Some held) a b reads = reads_fewer _ _ _ _ e a b (wanted_some scope held t loaded) reads
 
 module _ (scope : Scope) (t : Nodes) (e : Ending) where
-  behind_any : (known : Option Contents) (new : Nodes) (stamps : List Stamp) (paths : List (List ℕ)) (b c : StoreState) → IsSearchedAlike t new
-      → ReadsOpenedBy known (λ held. opened_keys held new stamps paths) e b c → AnyBy scope t known e b c
-  behind_any None new stamps paths b c alike reads = reads
-  behind_any (Some held) new stamps paths b c alike reads = reads_fewer _ _ _ _ e b c (opened_some scope held t new stamps paths (key_same held t new alike)) reads
+  after_any : (known : Option Contents) (new : Nodes) (ids : List Id) (paths : List (List ℕ)) (b c : StoreState) → IsSearchedAlike t new
+      → ReadsBy known (opened_keys new ids paths) e b c → AnyBy scope t known e b c
+  after_any None new ids paths b c alike reads = reads_fewer _ _ _ _ e b c (λ lacks. lacks) reads
+  after_any (Some held) new ids paths b c alike reads = reads_fewer _ _ _ _ e b c (opened_some scope held t new ids paths (key_same held t new alike)) reads
 
-pub update_any : (scope : Scope) (t : Nodes) (loaded : List Stamp) (e : Ending) (known : Option Contents) (new : Nodes) (stamps : List Stamp) (paths : List (List ℕ)) (a b c : StoreState) → IsSearchedAlike t new
-    → SearchBy scope t loaded known Complete a b → ReadsOpenedBy known (λ held. opened_keys held new stamps paths) e b c → AnyBy scope t known e a c
-update_any scope t loaded e known new stamps paths a b c alike first next =
+pub update_any : (scope : Scope) (t : Nodes) (loaded : List Stamp) (e : Ending) (known : Option Contents) (new : Nodes) (ids : List Id) (paths : List (List ℕ)) (a b c : StoreState) → IsSearchedAlike t new
+    → SearchBy scope t loaded known Complete a b → ReadsBy known (opened_keys new ids paths) e b c → AnyBy scope t known e a c
+update_any scope t loaded e known new ids paths a b c alike first next =
     let some : Type 0 = IsSomeAnd known (λ held. lacks_some scope held t ≡ true) in
-    reads_then e a b c some some some None None None None (λ lacks. lacks) (search_any scope t loaded Complete known a b first) (behind_any scope t e known new stamps paths b c alike next)
+    reads_then e a b c some some some None None None None (λ lacks. lacks) (search_any scope t loaded Complete known a b first) (after_any scope t e known new ids paths b c alike next)

@@ -68,8 +68,8 @@ module _ (scope : Scope) (what new : Analyses) (is : (path : List ℕ) → new p
   pub judged_keep : (first : Analyses) → AreJudged scope first → KeepsAnalyses first what → KeepsAnalyses first new
   judged_keep first before keeps path there = is path ∙ judged_same scope first what path (keeps path there) ∙ before path
 
-  pub judged_agrees : (said : Analyses) (paths : List (List ℕ)) → AgreeOn paths said what → AgreeOn paths (judged scope said) new
-  judged_agrees said paths agree path there = is path ∙ judged_same scope said what path (agree path there)
+  pub judged_agrees : (info : Analyses) (paths : List (List ℕ)) → AgreeOn paths info what → AgreeOn paths (judged scope info) new
+  judged_agrees info paths agree path there = is path ∙ judged_same scope info what path (agree path there)
 
   -- a file that was read has an analysis
   pub still_read : (t : Nodes) (paths : List (List ℕ)) → AreRead t what paths → AreRead t new paths

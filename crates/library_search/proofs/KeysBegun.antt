@@ -5,26 +5,25 @@ use Rattle.std.proofs.lemmas.List.{append-nil, length-append}
 use Rattle.std.specs.Option.{option_map}
 use Rattle.std.specs.Prelude.{IsSomeAnd}
 use Rattle.aux_cache.specs.declared.stamps.Stamp.{Stamp}
-use Rattle.elf_dynamic.specs.Begun.{is_lacking, lacks_one, most_of, until_lacking}
+use Rattle.elf_dynamic.specs.Begun.{ReadsBy, is_lacking, lacks_one, most_of, until_lacking}
 use Rattle.hwcap_dirs.specs.declared.kinds.Scope.{Scope}
 use Rattle.ldso_conf.specs.Reading.{conf_bytes, conf_keys, conf_lacks}
-use Rattle.file_stamps.specs.Opened.{ReadsOpenedBy}
-use Rattle.tree_face.proofs.StoreUse.{IsPartial, reads_as, reads_early, reads_then}
+use Rattle.tree_face.proofs.StoreUse.{IsPartial, reads_as, reads_early, reads_fewer, reads_then}
 use Rattle.tree_face.specs.Known.{IfKnown}
 use Rattle.tree_face.specs.Store.{Contents, StoreState}
 use Rattle.tree_face.specs.StoreUse.{Ending, Complete, ReadsFiles}
 use Rattle.image_tree.specs.Tree.{Nodes}
-use Rattle.library_search.specs.Begun.{behind_keys, ends_early, has_too_many_nodes, lacks_file, lacks_wanted, opened_in, search_bytes, search_keys, update_bytes, update_keys, wanted_keys}
+use Rattle.library_search.specs.Begun.{after_keys, ends_early, has_too_many_nodes, lacks_file, lacks_wanted, opened_in, search_bytes, search_keys, update_bytes, update_keys, wanted_keys}
 use Rattle.library_search.specs.Ldconfig.{conf_of}
 
 lacking_wanted : (scope : Scope) (held : Contents) (t : Nodes) (loaded : List Stamp) → lacks_wanted scope held t loaded ≡ true → lacks_file scope held t loaded ≡ true
 unfolding lacks_file
-lacking_wanted scope held t loaded = or_left (lacks_wanted scope held t loaded) (not (has_too_many_nodes scope held t loaded) && lacks_one held (behind_keys scope held t loaded))
+lacking_wanted scope held t loaded = or_left (lacks_wanted scope held t loaded) (not (has_too_many_nodes scope held t loaded) && lacks_one held (after_keys scope held t loaded))
 
-lacking_behind : (scope : Scope) (held : Contents) (t : Nodes) (loaded : List Stamp) → lacks_wanted scope held t loaded ≡ false → has_too_many_nodes scope held t loaded ≡ false → lacks_one held (behind_keys scope held t loaded) ≡ true
+lacking_after : (scope : Scope) (held : Contents) (t : Nodes) (loaded : List Stamp) → lacks_wanted scope held t loaded ≡ false → has_too_many_nodes scope held t loaded ≡ false → lacks_one held (after_keys scope held t loaded) ≡ true
     → lacks_file scope held t loaded ≡ true
 unfolding lacks_file
-lacking_behind scope held t loaded none few lacks = rw (none, few) lacks
+lacking_after scope held t loaded none few lacks = rw (none, few) lacks
 
 -- the reading of the conf files in a store with these contents
 abbrev pub ConfBy : Scope → Nodes → Option Contents → Ending → StoreState → StoreState → Type 0
@@ -49,13 +48,13 @@ module _ (scope : Scope) (t : Nodes) (loaded : List Stamp) (e : Ending) where
       (or_left (conf_lacks (conf_of scope) held t) (lacks_one held (wanted_keys scope held t loaded))) reads
 
   -- all conf files, and then those files with library names that are opened
-  pub search_all : (known : Option Contents) (keys : Contents → List (List ℕ)) (a b c : StoreState) → IfKnown known (λ held. conf_lacks (conf_of scope) held t ≡ false)
-      → IfKnown known (λ held. keys held ≡ wanted_keys scope held t loaded) → ConfBy scope t known Complete a b → ReadsOpenedBy known keys e b c → SearchBy scope t loaded known e a c
+  pub search_all : (known : Option Contents) (keys : List (List ℕ)) (a b c : StoreState) → IfKnown known (λ held. conf_lacks (conf_of scope) held t ≡ false)
+      → IfKnown known (λ held. keys ≡ wanted_keys scope held t loaded) → ConfBy scope t known Complete a b → ReadsBy known keys e b c → SearchBy scope t loaded known e a c
   unfolding search_keys search_bytes
-  search_all None keys a b c all are first next = reads_then e a b c ⊥ ⊥ ⊥ None None None None (λ lacks. lacks) first next
+  search_all None keys a b c all are first next = reads_then e a b c ⊥ ⊥ ⊥ None None None None (λ lacks. lacks) first (reads_fewer _ _ _ _ e b c (λ lacks. lacks) next)
   search_all (Some held) keys a b c all are first next =
-      let both = reads_then e a b c (conf_lacks (conf_of scope) held t ≡ true) (lacks_one held (keys held) ≡ true) (lacks_wanted scope held t loaded ≡ true) (Some (conf_keys (conf_of scope) held t)) (Some (until_lacking held (keys held)))
-      (Some (conf_bytes (conf_of scope) held t)) (Some (most_of held (until_lacking held (keys held))))
+      let both = reads_then e a b c (conf_lacks (conf_of scope) held t ≡ true) (lacks_one held keys ≡ true) (lacks_wanted scope held t loaded ≡ true) (Some (conf_keys (conf_of scope) held t)) (Some (until_lacking held keys))
+      (Some (conf_bytes (conf_of scope) held t)) (Some (most_of held (until_lacking held keys)))
       (λ lacks. or_right (conf_lacks (conf_of scope) held t) (lacks_one held (wanted_keys scope held t loaded)) (ap (lacks_one held) (sym are) ∙ lacks)) first next in
       rw all (rw (are, all) at both)
 
@@ -69,21 +68,21 @@ module _ (scope : Scope) (t : Nodes) (loaded : List Stamp) (e : Ending) where
       (lacking_wanted scope held t loaded) reads
 
   -- the whole search, and then those link targets that are opened
-  all_held : (held : Contents) (keys : List (List ℕ)) (a b c : StoreState) → lacks_wanted scope held t loaded ≡ false → has_too_many_nodes scope held t loaded ≡ false → keys ≡ behind_keys scope held t loaded
+  all_held : (held : Contents) (keys : List (List ℕ)) (a b c : StoreState) → lacks_wanted scope held t loaded ≡ false → has_too_many_nodes scope held t loaded ≡ false → keys ≡ after_keys scope held t loaded
       → SearchBy scope t loaded (Some held) Complete a b → ReadsFiles (lacks_one held keys ≡ true) (Some (until_lacking held keys)) (Some (most_of held (until_lacking held keys))) e b c
       → ReadsFiles (lacks_file scope held t loaded ≡ true) (Some (update_keys scope held t loaded)) (Some (update_bytes scope held t loaded)) e a c
   unfolding update_keys update_bytes
   all_held held keys a b c none few are first next =
       let both = reads_then e a b c (lacks_wanted scope held t loaded ≡ true) (lacks_one held keys ≡ true) (lacks_file scope held t loaded ≡ true) (Some (search_keys scope held t loaded)) (Some (until_lacking held keys))
       (Some (search_bytes scope held t loaded)) (Some (most_of held (until_lacking held keys)))
-      (λ lacks. lacking_behind scope held t loaded none few (ap (lacks_one held) (sym are) ∙ lacks)) first next in
+      (λ lacks. lacking_after scope held t loaded none few (ap (lacks_one held) (sym are) ∙ lacks)) first next in
       rw (none, few) (rw are at both)
 
-  pub update_all : (known : Option Contents) (keys : Contents → List (List ℕ)) (a b c : StoreState) → IfKnown known (λ held. lacks_wanted scope held t loaded ≡ false)
-      → IfKnown known (λ held. has_too_many_nodes scope held t loaded ≡ false) → IfKnown known (λ held. keys held ≡ behind_keys scope held t loaded)
-      → SearchBy scope t loaded known Complete a b → ReadsOpenedBy known keys e b c → UpdateBy scope t loaded known e a c
+  pub update_all : (known : Option Contents) (keys : List (List ℕ)) (a b c : StoreState) → IfKnown known (λ held. lacks_wanted scope held t loaded ≡ false)
+      → IfKnown known (λ held. has_too_many_nodes scope held t loaded ≡ false) → IfKnown known (λ held. keys ≡ after_keys scope held t loaded)
+      → SearchBy scope t loaded known Complete a b → ReadsBy known keys e b c → UpdateBy scope t loaded known e a c
   update_all None keys a b c none few are first next = tt
-  update_all (Some held) keys a b c none few are first next = all_held held (keys held) a b c none few are first next
+  update_all (Some held) keys a b c none few are first next = all_held held keys a b c none few are first next
 
 -- the planned links don't fit, so no link is followed
 small_held : (scope : Scope) (t : Nodes) (loaded : List Stamp) (held : Contents) (a b : StoreState) → has_too_many_nodes scope held t loaded ≡ true → SearchBy scope t loaded (Some held) Complete a b
@@ -115,15 +114,15 @@ all_begun held (key ∷ keys) none =
     rw (parts.0, all_begun held keys parts.1) refl
 
 -- if the contents of all these files are held and the links fit
-pub keys_counted : (scope : Scope) (held : Contents) (t : Nodes) (loaded : List Stamp) → lacks_wanted scope held t loaded ≡ false → has_too_many_nodes scope held t loaded ≡ false → lacks_one held (behind_keys scope held t loaded) ≡ false
+pub keys_counted : (scope : Scope) (held : Contents) (t : Nodes) (loaded : List Stamp) → lacks_wanted scope held t loaded ≡ false → has_too_many_nodes scope held t loaded ≡ false → lacks_one held (after_keys scope held t loaded) ≡ false
     → length (update_keys scope held t loaded) ≡ length (conf_keys (conf_of scope) held t) + opened_in scope held t loaded
 unfolding update_keys search_keys
-keys_counted scope held t loaded none few behind =
+keys_counted scope held t loaded none few following =
     let parts = neither (conf_lacks (conf_of scope) held t) (lacks_one held (wanted_keys scope held t loaded)) none in
     let wanted = all_begun held (wanted_keys scope held t loaded) parts.1 in
-    let others = all_begun held (behind_keys scope held t loaded) behind in
-    let both : update_keys scope held t loaded ≡ (conf_keys (conf_of scope) held t ++ wanted_keys scope held t loaded) ++ behind_keys scope held t loaded = rw (none, few, parts.0, wanted, others) refl in
+    let others = all_begun held (after_keys scope held t loaded) following in
+    let both : update_keys scope held t loaded ≡ (conf_keys (conf_of scope) held t ++ wanted_keys scope held t loaded) ++ after_keys scope held t loaded = rw (none, few, parts.0, wanted, others) refl in
     let size = ap length both in
-    let first = length-append (conf_keys (conf_of scope) held t ++ wanted_keys scope held t loaded) (behind_keys scope held t loaded) in
+    let first = length-append (conf_keys (conf_of scope) held t ++ wanted_keys scope held t loaded) (after_keys scope held t loaded) in
     let last = length-append (conf_keys (conf_of scope) held t) (wanted_keys scope held t loaded) in
     omega (arith, size, first, last)

@@ -17,9 +17,9 @@ use Rattle.soname_links.specs.Marks.{blocked, mixed}
 use Rattle.soname_links.specs.Plan.{links, with_links}
 use Rattle.soname_links.specs.Settled.{IsSettled}
 use Rattle.file_stamps.specs.Opened.{opened_keys}
-use Rattle.file_stamps.specs.Said.{said_in, stamps_said}
+use Rattle.file_stamps.specs.Info.{info_in, info_stamps}
 use Rattle.file_stamps.specs.Stamped.{with_stamps}
-use Rattle.file_stamps.specs.State.{stamps_there, unread_paths}
+use Rattle.file_stamps.specs.State.{ids_there, stamps_there, unread_paths}
 use Rattle.file_stamps.specs.declared.files.Files.{Files}
 use Rattle.image_tree.specs.declared.tree.TheConstants.{NODES_MAX}
 use Rattle.tree_face.specs.Known.{IfKnown}
@@ -27,12 +27,12 @@ use Rattle.tree_face.specs.Store.{Contents}
 use Rattle.image_tree.specs.Tree.{Nodes}
 use Rattle.library_search.proofs.FoundParts as parts
 use Rattle.library_search.proofs.Judged.{judged_agrees}
-use Rattle.library_search.specs.Begun.{behind_keys, has_too_many_nodes, lacks_wanted}
+use Rattle.library_search.specs.Begun.{after_keys, has_too_many_nodes, lacks_wanted}
 use Rattle.library_search.specs.declared.following.Followed.{Followed}
 use Rattle.library_search.specs.declared.search.Search.{Search}
 use Rattle.library_search.specs.Found.{HasTooManyNodes, IsFound, IsSearched}
 use Rattle.library_search.specs.Judged.{judged}
-use Rattle.library_search.specs.Ldconfig.{places_in, said_wanted}
+use Rattle.library_search.specs.Ldconfig.{places_in, info_wanted}
 use Rattle.tree_face.proofs.Known.{known_then}
 
 module _ (scope : Scope) (t : Nodes) (loaded : List Stamp) (search : Search) where
@@ -52,10 +52,10 @@ module _ (scope : Scope) (t : Nodes) (loaded : List Stamp) (search : Search) whe
     pub too_large : (nodes : ℕ) → (nodes ≡ nodes_then) × (NODES_MAX < nodes) → IfKnown known (λ held. HasTooManyNodes scope held t loaded nodes)
     too_large nodes many = known_then known _ _ (λ held s. parts.too_large scope held t loaded search s nodes many.0 many.1) s
 
-    pub settled : (new : Nodes) → IsSettled (analysis_at search.files.table) t search.dirs.places new → IfKnown known (λ held. IsSettled (judged scope (said_wanted scope held t loaded)) t (places_in scope held t) new)
+    pub settled : (new : Nodes) → IsSettled (analysis_at search.files.table) t search.dirs.places new → IfKnown known (λ held. IsSettled (judged scope (info_wanted scope held t loaded)) t (places_in scope held t) new)
     settled new still = known_then known _ _ (λ held (s : IsSearched scope held t loaded search).
-        subst (λ (p : List Place). IsSettled (judged scope (said_wanted scope held t loaded)) t p new) s.places
-        (settled_agrees t (analysis_at search.files.table) (judged scope (said_wanted scope held t loaded)) search.dirs.places new (λ path there. sym (parts.agree_wanted scope held t loaded search s path there)) still)) s
+        subst (λ (p : List Place). IsSettled (judged scope (info_wanted scope held t loaded)) t p new) s.places
+        (settled_agrees t (analysis_at search.files.table) (judged scope (info_wanted scope held t loaded)) search.dirs.places new (λ path there. sym (parts.agree_wanted scope held t loaded search s path there)) still)) s
 
   module _ (all : HaveAnalyses (analysis_at search.files.table) (wanted t search.dirs.places))
       (only : (path : List ℕ) → is_in (keys_of search.files.table) path ≡ true → is_in (wanted t search.dirs.places) path ≡ true) (new : Nodes) (alike : IsSearchedAlike t new)
@@ -64,12 +64,12 @@ module _ (scope : Scope) (t : Nodes) (loaded : List Stamp) (search : Search) whe
     here = stamps_there loaded search.files
 
     -- the link targets that weren't read
-    abbrev behind : List (List ℕ)
-    behind = unread_paths search.files (reached new search.dirs.places)
+    abbrev following : List (List ℕ)
+    following = unread_paths search.files (reached new search.dirs.places)
 
-    pub behind_are : (known : Option Contents) → IfKnown known (λ held. IsSearched scope held t loaded search)
-        → IfKnown known (λ held. opened_keys held new here behind ≡ behind_keys scope held t loaded)
-    behind_are known s = known_then known _ _ (λ held s. parts.behind_are scope held t loaded search s all only new alike new_is) s
+    pub after_are : (known : Option Contents) → IfKnown known (λ held. IsSearched scope held t loaded search)
+        → IfKnown known (λ held. opened_keys new (ids_there loaded search.files) following ≡ after_keys scope held t loaded)
+    after_are known s = known_then known _ _ (λ held s. parts.after_are scope held t loaded search s all only new alike new_is) s
 
     module _ (still : IsSettled (analysis_at search.files.table) t search.dirs.places new) (made : Survey) (followed : Followed) (files : Files)
         (plan : made.plan ≡ links (analysis_at search.files.table) t search.dirs.places) (few : nodes_then ≤ NODES_MAX)
@@ -77,17 +77,17 @@ module _ (scope : Scope) (t : Nodes) (loaded : List Stamp) (search : Search) whe
         (d : followed.dangling ≡ dangling new search.dirs.places) (keeps : KeepsAnalyses (analysis_at search.files.table) (analysis_at files.table))
         (more : (path : List ℕ) → is_in (keys_of files.table) path ≡ true → (is_in (keys_of search.files.table) path || is_in (reached new search.dirs.places) path) ≡ true) where
       pub is_found : (known : Option Contents) → IfKnown known (λ held. IsSearched scope held t loaded search)
-          → IfKnown known (λ held. AgreeOn behind (judged scope (said_in held new here behind)) (analysis_at files.table))
-          → IfKnown known (λ held. files.stamps ≡ with_stamps search.files.stamps (stamps_said new (said_in held new here behind) behind))
-          → IfKnown known (λ held. files.begun ≡ search.files.begun + length (opened_keys held new here behind))
-          → IfKnown known (λ held. lacks_one held (opened_keys held new here behind) ≡ false)
+          → IfKnown known (λ held. AgreeOn following (judged scope (info_in held new here following)) (analysis_at files.table))
+          → IfKnown known (λ held. files.stamps ≡ with_stamps search.files.stamps (info_stamps new (info_in held new here following) following))
+          → files.begun ≡ search.files.begun + length (opened_keys new (ids_there loaded search.files) following)
+          → IfKnown known (λ held. lacks_one held (opened_keys new (ids_there loaded search.files) following) ≡ false)
           → IfKnown known (λ held. IsFound scope held t loaded (record { search = record search { files = files }; links = made; followed = followed }) new)
-      is_found None s said stamps begun none = tt
-      is_found (Some held) s said stamps begun none = parts.is_found scope held t loaded search s all only new alike new_is made followed files still plan few b m d said keeps more stamps begun none
+      is_found None s info stamps begun none = tt
+      is_found (Some held) s info stamps begun none = parts.is_found scope held t loaded search s all only new alike new_is made followed files still plan few b m d info keeps more stamps begun none
 
 -- judged analyses agree if the analyses do
 module _ (scope : Scope) (what new : Analyses) (judges : (path : List ℕ) → new path ≡ judged scope what path) where
-  pub known_judged : (known : Option Contents) (said : Contents → Analyses) (paths : List (List ℕ)) → IfKnown known (λ held. AgreeOn paths (said held) what)
-      → IfKnown known (λ held. AgreeOn paths (judged scope (said held)) new)
-  known_judged None said paths agree = tt
-  known_judged (Some held) said paths agree = judged_agrees scope what new judges (said held) paths agree
+  pub known_judged : (known : Option Contents) (info : Contents → Analyses) (paths : List (List ℕ)) → IfKnown known (λ held. AgreeOn paths (info held) what)
+      → IfKnown known (λ held. AgreeOn paths (judged scope (info held)) new)
+  known_judged None info paths agree = tt
+  known_judged (Some held) info paths agree = judged_agrees scope what new judges (info held) paths agree

@@ -10,6 +10,6 @@ mod KnownParts
 pub mod Limits
 mod Replaced
 mod Rows
-mod SaidBoth
+mod InfoBoth
 mod SearchParts
 pub mod StampsAgree

@@ -81,9 +81,9 @@ module _ (e : List ℕ × Analysis) (rows : Rows) (path : List ℕ) where
 
   -- the path of the first row
   first_marked : AllByRecursion (λ key. bytes_eq e.0 key ≡ false) (keys_of rows) → bytes_eq path e.0 ≡ true → marked (unsearchable whole) (analysis_at whole) path ≡ Some (judged_by path e.1)
-  first_marked apart h =
+  first_marked differ h =
       let same : path ≡ e.0 = (bytes_eq-Decides path e.0).0 h in
-      let others : is_in (unsearchable rows) path ≡ false = not_there rows path (subst (λ (q : List ℕ). AllByRecursion (λ key. bytes_eq q key ≡ false) (keys_of rows)) (sym same) apart) in
+      let others : is_in (unsearchable rows) path ≡ false = not_there rows path (subst (λ (q : List ℕ). AllByRecursion (λ key. bytes_eq q key ≡ false) (keys_of rows)) (sym same) differ) in
       ap (λ o. cond (is_in (unsearchable whole) path) (Some (Not Unsearchable)) o) found
       ∙ by_test (is_unsearchable e.0 e.1)
       (λ u. rw (u, h) refl)

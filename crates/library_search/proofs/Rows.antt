@@ -16,11 +16,11 @@ all_analysed what [] have = refl
 all_analysed what (path ∷ paths) have =
     let first : is_some (what path) ≡ true = have path (ap (λ b. b || list_any (bytes_eq path) paths) ((bytes_eq-Decides path path).1 refl)) in
     ap (λ b. cond b (path ∷ analysed what paths) (analysed what paths)) first
-    ∙ ap (λ l. path ∷ l) (all_analysed what paths (λ q there. have q (behind (bytes_eq q path) (list_any (bytes_eq q) paths) there)))
+    ∙ ap (λ l. path ∷ l) (all_analysed what paths (λ q there. have q (following (bytes_eq q path) (list_any (bytes_eq q) paths) there)))
   where
-    behind : (a b : Bool) → b ≡ true → (a || b) ≡ true
-    behind true b h = refl
-    behind false b h = h
+    following : (a b : Bool) → b ≡ true → (a || b) ≡ true
+    following true b h = refl
+    following false b h = h
 
 -- if files are read into an empty table and each has an analysis then, they are the rows of the table
 pub rows_read : (first rows : Rows) (paths : List (List ℕ)) → first ≡ [] → HaveAnalyses (analysis_at rows) paths → keys_of rows ≡ keys_of first ++ unread (analysis_at first) paths

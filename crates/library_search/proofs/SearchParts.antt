@@ -12,18 +12,18 @@ use Rattle.file_table.proofs.Unread.{none_read}
 use Rattle.file_table.specs.Analyses.{AgreeOn, Analyses, unread}
 use Rattle.library_files.specs.Search.{wanted}
 use Rattle.file_table.specs.Table.{analysis_at}
-use Rattle.file_stamps.specs.Opened.{opened_keys}
-use Rattle.file_stamps.specs.Said.{said_in, stamps_said}
+use Rattle.file_stamps.specs.Opened.{HaveSameIds, ids_at, ids_of, opened_keys}
+use Rattle.file_stamps.specs.Info.{info_in, info_stamps}
 use Rattle.file_stamps.specs.Stamped.{StampTheSame, stamps_at, with_stamps}
-use Rattle.file_stamps.specs.State.{stamps_there, unread_paths}
+use Rattle.file_stamps.specs.State.{ids_there, stamps_there, unread_paths}
 use Rattle.file_stamps.specs.declared.files.Files.{Files}
 use Rattle.tree_face.specs.Known.{IfKnown}
 use Rattle.tree_face.specs.Store.{Contents}
 use Rattle.image_tree.specs.Tree.{Nodes}
 use Rattle.library_search.proofs.Judged.{judged_agrees}
-use Rattle.library_search.specs.Begun.{stamps_wanted, wanted_keys}
+use Rattle.library_search.specs.Begun.{ids_wanted, stamps_wanted, wanted_keys}
 use Rattle.library_search.specs.Judged.{judged}
-use Rattle.library_search.specs.Ldconfig.{conf_in, conf_of, places_in, said_wanted, wanted_in}
+use Rattle.library_search.specs.Ldconfig.{conf_in, conf_of, places_in, info_wanted, wanted_in}
 use Rattle.library_search.specs.Found.{IsSearched}
 use Rattle.library_search.specs.declared.search.Search.{Search}
 
@@ -46,30 +46,33 @@ module _ (scope : Scope) (t : Nodes) (loaded : List Stamp) (conf : Conf) (found 
     unfolding wanted_in
     paths_are = ap (λ rows. unread (analysis_at rows) (wanted t found)) empty.table ∙ none_read (wanted t found) ∙ ap (wanted t) places_are
 
-    keys_are : opened_keys held t (stamps_there loaded first) (unread_paths first (wanted t found)) ≡ wanted_keys scope held t loaded
+    keys_are : opened_keys t (ids_there loaded first) (unread_paths first (wanted t found)) ≡ wanted_keys scope held t loaded
     unfolding wanted_keys
-    keys_are = ap (λ l. opened_keys held t l (unread_paths first (wanted t found))) stamps_first ∙ ap (λ paths. opened_keys held t loaded paths) paths_are
+    keys_are = ap (λ l. opened_keys t (ids_of l) (unread_paths first (wanted t found))) stamps_first ∙ ap (opened_keys t (ids_of loaded)) paths_are
 
     module _ (search : Search) (read : search.conf ≡ conf) (there : search.dirs.places ≡ found) (absent_are : search.dirs.absent ≡ absent t conf.dirs) where
-      is_searched : AgreeOn (unread_paths first (wanted t found)) (judged scope (said_in held t (stamps_there loaded first) (unread_paths first (wanted t found)))) (analysis_at search.files.table)
-          → search.files.stamps ≡ with_stamps first.stamps (stamps_said t (said_in held t (stamps_there loaded first) (unread_paths first (wanted t found))) (unread_paths first (wanted t found)))
+      is_searched : AgreeOn (unread_paths first (wanted t found)) (judged scope (info_in held t (stamps_there loaded first) (unread_paths first (wanted t found)))) (analysis_at search.files.table)
+          → search.files.stamps ≡ with_stamps first.stamps (info_stamps t (info_in held t (stamps_there loaded first) (unread_paths first (wanted t found))) (unread_paths first (wanted t found)))
           → StampTheSame (stamps_there loaded search.files) (stamps_there loaded first ++ stamps_at held t (unread_paths first (wanted t found)))
-          → search.files.begun ≡ first.begun + length (opened_keys held t (stamps_there loaded first) (unread_paths first (wanted t found)))
-          → lacks_one held (opened_keys held t (stamps_there loaded first) (unread_paths first (wanted t found))) ≡ false → IsSearched scope held t loaded search
-      unfolding conf_in stamps_wanted said_wanted
-      is_searched said stamps stamped begun lacks =
+          → HaveSameIds (ids_there loaded search.files) (ids_there loaded first ++ ids_at t (unread_paths first (wanted t found)))
+          → search.files.begun ≡ first.begun + length (opened_keys t (ids_there loaded first) (unread_paths first (wanted t found)))
+          → lacks_one held (opened_keys t (ids_there loaded first) (unread_paths first (wanted t found))) ≡ false → IsSearched scope held t loaded search
+      unfolding conf_in ids_wanted stamps_wanted info_wanted
+      is_searched info stamps stamped ids begun lacks =
           let count = ap length keys_are in
           record {
             conf = subst (λ (x : Conf). IsConfOf (conf_of scope) x held t) (sym read) is;
             places = there ∙ places_are;
             absent_is = absent_are ∙ ap (absent t) is.dirs;
-            said = rw (stamps_first, paths_are) at said;
+            info = rw (stamps_first, paths_are) at info;
             stamps = stamps
-                ∙ ap (λ l. with_stamps l (stamps_said t (said_in held t (stamps_there loaded first) (unread_paths first (wanted t found))) (unread_paths first (wanted t found)))) empty.stamps
-                ∙ ap (λ l. with_stamps [] (stamps_said t (said_in held t l (unread_paths first (wanted t found))) (unread_paths first (wanted t found)))) stamps_first
-                ∙ ap (λ paths. with_stamps [] (stamps_said t (said_in held t loaded paths) paths)) paths_are;
+                ∙ ap (λ l. with_stamps l (info_stamps t (info_in held t (stamps_there loaded first) (unread_paths first (wanted t found))) (unread_paths first (wanted t found)))) empty.stamps
+                ∙ ap (λ l. with_stamps [] (info_stamps t (info_in held t l (unread_paths first (wanted t found))) (unread_paths first (wanted t found)))) stamps_first
+                ∙ ap (λ paths. with_stamps [] (info_stamps t (info_in held t loaded paths) paths)) paths_are;
             stamped = subst (λ l. StampTheSame (stamps_there loaded search.files) l)
                 (ap (λ l. l ++ stamps_at held t (unread_paths first (wanted t found))) stamps_first ∙ ap (λ paths. loaded ++ stamps_at held t paths) paths_are) stamped;
+            ids = subst (λ l. HaveSameIds (ids_there loaded search.files) l)
+                (ap (λ l. ids_of l ++ ids_at t (unread_paths first (wanted t found))) stamps_first ∙ ap (λ paths. ids_of loaded ++ ids_at t paths) paths_are) ids;
             begun = omega (arith, begun, empty.begun, count);
             none_lacks = ap (λ b. b || lacks_one held (wanted_keys scope held t loaded)) is.all_held ∙ ap (lacks_one held) (sym keys_are) ∙ lacks;
           }
@@ -77,7 +80,7 @@ module _ (scope : Scope) (t : Nodes) (loaded : List Stamp) (conf : Conf) (found 
   -- ---- if contents are known
 
   pub wanted_keys_are : (known : Option Contents) → IfKnown known (λ held. IsConfOf (conf_of scope) conf held t)
-      → IfKnown known (λ held. opened_keys held t (stamps_there loaded first) (unread_paths first (wanted t found)) ≡ wanted_keys scope held t loaded)
+      → IfKnown known (λ held. opened_keys t (ids_there loaded first) (unread_paths first (wanted t found)) ≡ wanted_keys scope held t loaded)
   wanted_keys_are None is = tt
   wanted_keys_are (Some held) is = keys_are held is
 
@@ -85,17 +88,18 @@ module _ (scope : Scope) (t : Nodes) (loaded : List Stamp) (conf : Conf) (found 
   module _ (search : Search) (read : search.conf ≡ conf) (there : search.dirs.places ≡ found) (absent_are : search.dirs.absent ≡ absent t conf.dirs) (what : Analyses)
       (judges : (path : List ℕ) → analysis_at search.files.table path ≡ judged scope what path) where
     pub searched : (known : Option Contents) → IfKnown known (λ held. IsConfOf (conf_of scope) conf held t)
-        → IfKnown known (λ held. AgreeOn (unread_paths first (wanted t found)) (said_in held t (stamps_there loaded first) (unread_paths first (wanted t found))) what)
+        → IfKnown known (λ held. AgreeOn (unread_paths first (wanted t found)) (info_in held t (stamps_there loaded first) (unread_paths first (wanted t found))) what)
         → IfKnown known (λ held. search.files.stamps
-        ≡ with_stamps first.stamps (stamps_said t (said_in held t (stamps_there loaded first) (unread_paths first (wanted t found))) (unread_paths first (wanted t found))))
+        ≡ with_stamps first.stamps (info_stamps t (info_in held t (stamps_there loaded first) (unread_paths first (wanted t found))) (unread_paths first (wanted t found))))
         → IfKnown known (λ held. StampTheSame (stamps_there loaded search.files) (stamps_there loaded first ++ stamps_at held t (unread_paths first (wanted t found))))
-        → IfKnown known (λ held. search.files.begun ≡ first.begun + length (opened_keys held t (stamps_there loaded first) (unread_paths first (wanted t found))))
-        → IfKnown known (λ held. lacks_one held (opened_keys held t (stamps_there loaded first) (unread_paths first (wanted t found))) ≡ false)
+        → HaveSameIds (ids_there loaded search.files) (ids_there loaded first ++ ids_at t (unread_paths first (wanted t found)))
+        → search.files.begun ≡ first.begun + length (opened_keys t (ids_there loaded first) (unread_paths first (wanted t found)))
+        → IfKnown known (λ held. lacks_one held (opened_keys t (ids_there loaded first) (unread_paths first (wanted t found))) ≡ false)
         → IfKnown known (λ held. IsSearched scope held t loaded search)
-    searched None is said stamps stamped begun lacks = tt
-    searched (Some held) is said stamps stamped begun lacks =
-        let agrees = judged_agrees scope what (analysis_at search.files.table) judges (said_in held t (stamps_there loaded first) (unread_paths first (wanted t found))) (unread_paths first (wanted t found)) said in
-        is_searched held is search read there absent_are agrees stamps stamped begun lacks
+    searched None is info stamps stamped ids begun lacks = tt
+    searched (Some held) is info stamps stamped ids begun lacks =
+        let agrees = judged_agrees scope what (analysis_at search.files.table) judges (info_in held t (stamps_there loaded first) (unread_paths first (wanted t found))) (unread_paths first (wanted t found)) info in
+        is_searched held is search read there absent_are agrees stamps stamped ids begun lacks
 
 pub all_conf : (scope : Scope) (t : Nodes) (conf : Conf) (known : Option Contents) → IfKnown known (λ held. IsConfOf (conf_of scope) conf held t) → IfKnown known (λ held. conf_lacks (conf_of scope) held t ≡ false)
 all_conf scope t conf None is = tt

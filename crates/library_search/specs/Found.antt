@@ -16,18 +16,20 @@ use Rattle.file_table.specs.Table.{analysis_at}
 use Rattle.place_libraries.specs.Best.{bests_of}
 use Rattle.soname_links.specs.Apply.{nodes_with}
 use Rattle.soname_links.specs.Marks.{blocked, mixed}
-use Rattle.file_stamps.specs.Said.{stamps_said}
+use Rattle.file_stamps.specs.Info.{info_stamps}
+use Rattle.file_stamps.specs.Opened.{HaveSameIds}
 use Rattle.file_stamps.specs.Stamped.{StampTheSame, with_stamps}
+use Rattle.file_stamps.specs.State.{ids_there}
 use Rattle.tree_face.specs.Known.{IfKnown}
 use Rattle.tree_face.specs.Store.{Contents, StoreState}
 use Rattle.tree_face.specs.StoreUse.{Ending, ReadsFiles}
 use Rattle.image_tree.specs.Tree.{Nodes}
 use Rattle.update_report.specs.Skips.{skip_at}
-use Rattle.library_search.specs.Begun.{behind_keys, has_too_many_nodes, lacks_file, lacks_some, lacks_wanted, opened_in, search_bytes, search_keys, stamps_wanted, update_bytes, update_keys, wanted_keys}
+use Rattle.library_search.specs.Begun.{after_keys, has_too_many_nodes, ids_wanted, lacks_file, lacks_some, lacks_wanted, opened_in, search_bytes, search_keys, stamps_wanted, update_bytes, update_keys, wanted_keys}
 use Rattle.library_search.specs.Judged.{judged}
 use Rattle.library_search.specs.declared.finding.Found.{Found}
 use Rattle.library_search.specs.declared.search.Search.{Search}
-use Rattle.library_search.specs.Ldconfig.{best_libraries, conf_in, conf_of, entries_in, library_files, links_in, places_in, planned_in, said_files, said_wanted, stamps_in, wanted_in}
+use Rattle.library_search.specs.Ldconfig.{best_libraries, conf_in, conf_of, entries_in, library_files, links_in, places_in, planned_in, info_files, info_wanted, stamps_in, wanted_in}
 
 -- ---- before the links are planned
 
@@ -36,9 +38,10 @@ pub record IsSearched (scope : Scope) (held : Contents) (t : Nodes) (loaded : Li
   pub conf : IsConfOf (conf_of scope) search.conf held t
   pub places : search.dirs.places ≡ places_in scope held t
   pub absent_is : search.dirs.absent ≡ absent t (conf_in scope held t).dirs
-  pub said : AgreeOn (wanted_in scope held t) (judged scope (said_wanted scope held t loaded)) (analysis_at search.files.table)
-  pub stamps : search.files.stamps ≡ with_stamps [] (stamps_said t (said_wanted scope held t loaded) (wanted_in scope held t))
+  pub info : AgreeOn (wanted_in scope held t) (judged scope (info_wanted scope held t loaded)) (analysis_at search.files.table)
+  pub stamps : search.files.stamps ≡ with_stamps [] (info_stamps t (info_wanted scope held t loaded) (wanted_in scope held t))
   pub stamped : StampTheSame (loaded ++ search.files.stamps) (stamps_wanted scope held t loaded)
+  pub ids : HaveSameIds (ids_there loaded search.files) (ids_wanted scope held t loaded)
   pub begun : search.files.begun ≡ length (wanted_keys scope held t loaded)
   pub none_lacks : lacks_wanted scope held t loaded ≡ false
 
@@ -57,18 +60,18 @@ pub record IsFound (scope : Scope) (held : Contents) (t : Nodes) (loaded : List 
   pub absent_is : found.search.dirs.absent ≡ absent t (conf_in scope held t).dirs
   pub plan : found.links.plan ≡ links_in scope held t loaded
   pub tree_is : tree ≡ planned_in scope held t loaded
-  pub blocked_is : found.links.blocked ≡ blocked (judged scope (said_wanted scope held t loaded)) t (places_in scope held t)
-  pub mixed_is : found.links.mixed ≡ mixed (judged scope (said_wanted scope held t loaded)) t (places_in scope held t)
+  pub blocked_is : found.links.blocked ≡ blocked (judged scope (info_wanted scope held t loaded)) t (places_in scope held t)
+  pub mixed_is : found.links.mixed ≡ mixed (judged scope (info_wanted scope held t loaded)) t (places_in scope held t)
   pub dangling_is : found.followed.dangling ≡ dangling (planned_in scope held t loaded) (places_in scope held t)
   pub entries_are : entries.found (analysis_at found.search.files.table) tree found.search.dirs.places ≡ entries_in scope held t loaded
   pub bests_are : bests_of (analysis_at found.search.files.table) tree found.search.dirs.places ≡ best_libraries scope held t loaded
   pub skips_are : filter_map (skip_at (analysis_at found.search.files.table)) (ascending (keys_of found.search.files.table))
-      ≡ filter_map (skip_at (judged scope (said_files scope held t loaded))) (library_files scope held t loaded)
+      ≡ filter_map (skip_at (judged scope (info_files scope held t loaded))) (library_files scope held t loaded)
   pub stamps : found.search.files.stamps ≡ stamps_in scope held t loaded
   pub opened : found.search.files.begun ≡ opened_in scope held t loaded
   pub none_lacks : lacks_wanted scope held t loaded ≡ false
   pub few : has_too_many_nodes scope held t loaded ≡ false
-  pub none_behind : lacks_one held (behind_keys scope held t loaded) ≡ false
+  pub none_after : lacks_one held (after_keys scope held t loaded) ≡ false
   -- the number of opened files: the conf files, and the library files that had to be opened
   pub counted : length (update_keys scope held t loaded) ≡ length (conf_keys (conf_of scope) held t) + opened_in scope held t loaded
 

@@ -20,7 +20,7 @@ use Rattle.place_libraries.specs.Best.{bests_of}
 use Rattle.place_libraries.specs.Library.{Library}
 use Rattle.link_plan.specs.declared.kinds.Planned.{Planned}
 use Rattle.soname_links.specs.Plan.{links, with_links}
-use Rattle.file_stamps.specs.Said.{said_in, stamps_said}
+use Rattle.file_stamps.specs.Info.{info_in, info_stamps}
 use Rattle.file_stamps.specs.Stamped.{with_stamps}
 use Rattle.tree_face.specs.Store.{Contents}
 use Rattle.image_tree.specs.Tree.{Nodes}
@@ -49,15 +49,15 @@ places_in scope held t = places scope t (conf_in scope held t).dirs
 unfoldable pub wanted_in : Scope → Contents → Nodes → List (List ℕ)
 wanted_in scope held t = wanted t (places_in scope held t)
 
--- ---- The analyses of these files, given the loaded stamps (`said_in`). All of the following depends on them.
+-- ---- The analyses of these files, given the loaded stamps (`info_in`). All of the following depends on them.
 
-unfoldable pub said_wanted : Scope → Contents → Nodes → List Stamp → Analyses
-said_wanted scope held t loaded = said_in held t loaded (wanted_in scope held t)
+unfoldable pub info_wanted : Scope → Contents → Nodes → List Stamp → Analyses
+info_wanted scope held t loaded = info_in held t loaded (wanted_in scope held t)
 
 -- By the analyses that count (`judged`), the best library of each soname in a search directory wants a link that is named by the soname. The
 -- missing links are planned.
 unfoldable pub links_in : Scope → Contents → Nodes → List Stamp → List Planned
-links_in scope held t loaded = links (judged scope (said_wanted scope held t loaded)) t (places_in scope held t)
+links_in scope held t loaded = links (judged scope (info_wanted scope held t loaded)) t (places_in scope held t)
 
 -- the tree with the planned links
 unfoldable pub planned_in : Scope → Contents → Nodes → List Stamp → Nodes
@@ -72,30 +72,30 @@ abbrev pub library_files : Scope → Contents → Nodes → List Stamp → List 
 library_files scope held t loaded = ascending (wanted_in scope held t ++ reached_in scope held t loaded)
 
 -- the link targets that aren't among the files with library names
-abbrev pub behind_in : Scope → Contents → Nodes → List Stamp → List (List ℕ)
-behind_in scope held t loaded = filter (λ path. not (list_any (bytes_eq path) (wanted_in scope held t))) (reached_in scope held t loaded)
+abbrev pub after_in : Scope → Contents → Nodes → List Stamp → List (List ℕ)
+after_in scope held t loaded = filter (λ path. not (list_any (bytes_eq path) (wanted_in scope held t))) (reached_in scope held t loaded)
 
 -- the library files, each once, in the order in which they are read
 abbrev pub library_paths : Scope → Contents → Nodes → List Stamp → List (List ℕ)
-library_paths scope held t loaded = wanted_in scope held t ++ behind_in scope held t loaded
+library_paths scope held t loaded = wanted_in scope held t ++ after_in scope held t loaded
 
 -- the analyses of all library files
-unfoldable pub said_files : Scope → Contents → Nodes → List Stamp → Analyses
-said_files scope held t loaded = said_in held t loaded (library_paths scope held t loaded)
+unfoldable pub info_files : Scope → Contents → Nodes → List Stamp → Analyses
+info_files scope held t loaded = info_in held t loaded (library_paths scope held t loaded)
 
--- The stamps in the auxiliary cache, sorted by identity: those of all library files that have an identity and are libraries.
+-- The stamps in the auxiliary cache, sorted by identity: those of all library files that have an identity.
 unfoldable pub stamps_in : Scope → Contents → Nodes → List Stamp → List Stamp
-stamps_in scope held t loaded = with_stamps [] (stamps_said t (said_files scope held t loaded) (library_paths scope held t loaded))
+stamps_in scope held t loaded = with_stamps [] (info_stamps t (info_files scope held t loaded) (library_paths scope held t loaded))
 
 -- The cache entries, in no order. Each soname in a search directory has one, for its best file, or if it has no file, for its best link.
 unfoldable pub entries_in : Scope → Contents → Nodes → List Stamp → List Entry
-entries_in scope held t loaded = found (judged scope (said_files scope held t loaded)) (planned_in scope held t loaded) (places_in scope held t)
+entries_in scope held t loaded = found (judged scope (info_files scope held t loaded)) (planned_in scope held t loaded) (places_in scope held t)
 
 -- The best library of each soname in each place.
 unfoldable pub best_libraries : Scope → Contents → Nodes → List Stamp → List (List Library)
-best_libraries scope held t loaded = bests_of (judged scope (said_files scope held t loaded)) (planned_in scope held t loaded) (places_in scope held t)
+best_libraries scope held t loaded = bests_of (judged scope (info_files scope held t loaded)) (planned_in scope held t loaded) (places_in scope held t)
 
 -- The search of the directories for a name, an ABI and the loader's hwcaps names. It gives the path of the first winner: it tries the
 -- subdirectories of each hwcaps name in order, and then the directories themselves (ld.so(8): glibc-hwcaps).
 unfoldable pub walk_in : Scope → Contents → Nodes → List Stamp → List ℕ → Abi → List (List ℕ) → Option (List ℕ)
-walk_in scope held t loaded = walk (judged scope (said_files scope held t loaded)) (planned_in scope held t loaded) (places_in scope held t)
+walk_in scope held t loaded = walk (judged scope (info_files scope held t loaded)) (planned_in scope held t loaded) (places_in scope held t)

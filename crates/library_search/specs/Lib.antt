@@ -1,4 +1,4 @@
-pub mod Behind
+pub mod After
 pub mod Begun
 pub mod Faults
 pub mod Found

@@ -8,12 +8,12 @@ ghost use Rattle.image_tree.specs.Tree.{IsTree};
 ghost use Rattle.planned_tree.specs.Search.{IsSearchedAlike};
 ghost use Rattle.soname_links.specs.Apply.{is_plan};
 ghost use Rattle.soname_links.specs.Settled.{IsSettled};
-ghost use Rattle.aux_cache.specs.Stamps.{HaveNames};
+ghost use Rattle.aux_cache.specs.Stamps.{AreRecordable};
 ghost use Rattle.tree_face.specs.Known.{IfKnown};
 ghost use Rattle.library_search.specs.Faults.{find_ending};
 ghost use Rattle.library_search.specs.Found.{HasTooManyNodes, IsFound, ReadsFinding};
 ghost use Rattle.library_search.specs.Judged.{judged};
-ghost use Rattle.library_search.specs.Ldconfig.{places_in, said_wanted};
+ghost use Rattle.library_search.specs.Ldconfig.{places_in, info_wanted};
 
 use crate::fault::FindFault;
 use crate::following::{Followed, follow_links};
@@ -35,7 +35,7 @@ pub struct Found {
 }
 
 /// Searches an image, and puts the planned links into its tree. It opens a library file only if the file's identity has no stamp: no
-/// loaded one, and none from a library that was read before.
+/// loaded one, and none from a file that was read before.
 pub fn find<S: Store>(
     alloc: Global,
     scope: &Scope,
@@ -43,13 +43,13 @@ pub fn find<S: Store>(
     store: &mut S,
     loaded: &Stamps,
 ) -> Result<Found, FindFault>
-    requires names { HaveNames loaded.now }
+    requires recordable { AreRecordable loaded.now }
     ensures found { IfOk result (λ found. IfKnown (S.state store.old).held (λ held. IsFound scope.now held tree.old loaded.now found tree.new)) }
     ensures valid { IfOk result (λ found. IsTrue (is_plan found.links.plan)) }
     ensures is_tree { OnOk result (IsTree tree.new) }
     ensures alike { OnOk result (IsSearchedAlike tree.old tree.new) }
     ensures settled { OnOk result (IfKnown (S.state store.old).held
-        (λ held. IsSettled (judged scope.now (said_wanted scope.now held tree.old loaded.now)) tree.old (places_in scope.now held tree.old) tree.new)) }
+        (λ held. IsSettled (judged scope.now (info_wanted scope.now held tree.old loaded.now)) tree.old (places_in scope.now held tree.old) tree.new)) }
     ensures links { IfOk result (λ found. found.followed.links ≡ followed tree.new found.search.dirs.places) }
     ensures bests { IfOk result (λ found. found.links.bests ≡ bests_of (analysis_at found.search.files.table) tree.new found.search.dirs.places) }
     ensures spelled { IfOk result (λ found. IsTrue (are_spelled found.search.dirs.places)) }

@@ -4,7 +4,7 @@ ghost use Rattle.std.specs.List.{list_any};
 ghost use Rattle.std.specs.Map.{keys_of};
 ghost use Rattle.std.specs.Str.{bytes_eq};
 ghost use Rattle.file_stamps.specs.Files.{AreRead};
-ghost use Rattle.aux_cache.specs.Stamps.{HaveNames};
+ghost use Rattle.aux_cache.specs.Stamps.{AreRecordable};
 ghost use Rattle.hwcap_dirs.specs.Places.{are_dirs, are_spelled};
 ghost use Rattle.file_table.specs.Analyses.{HaveAnalyses};
 ghost use Rattle.place_libraries.specs.Rows.{AreOfPlaces};
@@ -78,7 +78,7 @@ pub fn search_image<S: Store>(
     store: &mut S,
     loaded: &Stamps,
 ) -> Result<Search, FindFault>
-    requires names { HaveNames loaded.now }
+    requires recordable { AreRecordable loaded.now }
     ensures found { IfOk result (λ search. IfKnown (S.state store.old).held (λ held. IsSearched scope.now held tree.now loaded.now search)) }
     ensures real { IfOk result (λ search. IsTrue (are_dirs tree.now search.dirs.places)) }
     ensures spelled { IfOk result (λ search. IsTrue (are_spelled search.dirs.places)) }

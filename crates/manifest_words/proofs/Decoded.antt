@@ -55,29 +55,29 @@ pub plain_decoded : (word : List ℕ) → list_any (λ b. eqb b backslash) word 
 plain_decoded word h = other_decoded word (none_is word h)
 
 -- bytes, and then the bytes that a word represents
-abbrev pub behind : List ℕ → Option (List ℕ) → Option (List ℕ)
-behind front text = option_map (λ bytes. front ++ bytes) text
+abbrev pub following : List ℕ → Option (List ℕ) → Option (List ℕ)
+following front text = option_map (λ bytes. front ++ bytes) text
 
-behind_one : (front : List ℕ) (b : ℕ) (text : Option (List ℕ)) → behind front (in_front (Some b) text) ≡ behind (front ++ b ∷ []) text
-behind_one front b None = refl
-behind_one front b (Some bytes) = ap Some (sym (append_assoc front (b ∷ []) bytes))
+after_one : (front : List ℕ) (b : ℕ) (text : Option (List ℕ)) → following front (in_front (Some b) text) ≡ following (front ++ b ∷ []) text
+after_one front b None = refl
+after_one front b (Some bytes) = ap Some (sym (append_assoc front (b ∷ []) bytes))
 
 -- one more byte
-pub behind_step : (front rest after : List ℕ) (b : ℕ) → 0 < length rest → first_byte rest ≡ Some (b, after) → behind (front ++ b ∷ []) (decoded after) ≡ behind front (decoded rest)
-behind_step front [] after b some e = absurd (omega arith)
-behind_step front (x ∷ rest) after b some e = sym (ap (behind front) (decoded_step x rest ∙ ap then_rest e) ∙ behind_one front b (decoded after))
+pub after_step : (front rest after : List ℕ) (b : ℕ) → 0 < length rest → first_byte rest ≡ Some (b, after) → following (front ++ b ∷ []) (decoded after) ≡ following front (decoded rest)
+after_step front [] after b some e = absurd (omega arith)
+after_step front (x ∷ rest) after b some e = sym (ap (following front) (decoded_step x rest ∙ ap then_rest e) ∙ after_one front b (decoded after))
 
 -- the end of the word
-pub all_decoded : (old new rest : List ℕ) (text : Option (List ℕ)) → length rest ≡ 0 → behind new (decoded rest) ≡ behind old text → Decodes old new text true
-all_decoded old new [] None empty e = absurd (cc (ap (behind new) decoded_nil))
-all_decoded old new [] (Some text) empty e = (refl, cc (ap (behind new) decoded_nil, append-nil new))
+pub all_decoded : (old new rest : List ℕ) (text : Option (List ℕ)) → length rest ≡ 0 → following new (decoded rest) ≡ following old text → Decodes old new text true
+all_decoded old new [] None empty e = absurd (cc (ap (following new) decoded_nil))
+all_decoded old new [] (Some text) empty e = (refl, cc (ap (following new) decoded_nil, append-nil new))
 all_decoded old new (x ∷ rest) text empty e = absurd (omega arith)
 
 -- a bad escape
-pub not_decoded : (old new rest : List ℕ) (text : Option (List ℕ)) → 0 < length rest → first_byte rest ≡ None → behind new (decoded rest) ≡ behind old text → Decodes old new text false
+pub not_decoded : (old new rest : List ℕ) (text : Option (List ℕ)) → 0 < length rest → first_byte rest ≡ None → following new (decoded rest) ≡ following old text → Decodes old new text false
 not_decoded old new rest None some none e = refl
 not_decoded old new [] (Some text) some none e = absurd (omega arith)
-not_decoded old new (x ∷ rest) (Some text) some none e = absurd (cc (ap (behind new) (decoded_step x rest ∙ ap then_rest none)))
+not_decoded old new (x ∷ rest) (Some text) some none e = absurd (cc (ap (following new) (decoded_step x rest ∙ ap then_rest none)))
 
 -- the error of a value without a backslash
 pub plain_fault : (is_contents : Bool) (value : List ℕ) → list_any (λ b. eqb b backslash) value ≡ false → fault_of_text is_contents value ≡ written_fault is_contents value

@@ -15,13 +15,14 @@ use Rattle.manifest_words.specs.declared.fault.LineKind.TheVariants.{BadLine}
 use Rattle.manifest_words.proofs.Decoded.{none_is, other_decoded}
 use Rattle.manifest_words.proofs.Escaping.{all_of_parts}
 use Rattle.manifest_words.proofs.Names.{slashed, name_facts}
+use Rattle.image_tree.specs.declared.path.TheConstants.{PATH_MAX}
 
 -- a path begins with a slash
 pub path_first : (path : List ℕ) → is_path path ≡ true → (rest : List ℕ) × (path ≡ 47 ∷ rest)
 path_first [] proper = absurd (cc)
 path_first (b ∷ rest) proper =
-    let parts = and_parts (leb (length (b ∷ rest)) 4095 && (eqb 47 b && true)) (are_names rest) proper in
-    let first = and_parts (leb (length (b ∷ rest)) 4095) (eqb 47 b && true) parts.0 in
+    let parts = and_parts (leb (length (b ∷ rest)) PATH_MAX && (eqb 47 b && true)) (are_names rest) proper in
+    let first = and_parts (leb (length (b ∷ rest)) PATH_MAX) (eqb 47 b && true) parts.0 in
     (rest, ap (λ c. c ∷ rest) (sym (eqb-true 47 b (and_parts (eqb 47 b) true first.1).0)))
 
 pub path_names : (rest : List ℕ) → is_path (47 ∷ rest) ≡ true → list_all is_name (slice_split is_slash rest) ≡ true

@@ -1,4 +1,4 @@
-pub mod Beside
+pub mod NextTo
 pub mod Decoded
 pub mod Escaping
 pub mod FullWords

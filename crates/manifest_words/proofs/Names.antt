@@ -11,6 +11,8 @@ use Rattle.std.proofs.lemmas.Str.Ascii.{IsAscii-cons}
 use Rattle.lib_types.specs.Name.{is_name, are_dots, have_no_slash}
 use Rattle.image_tree.specs.Node.{is_key, is_target, has_no_nul}
 use Rattle.image_tree.specs.Paths.{is_path, are_names, root}
+use Rattle.image_tree.specs.declared.path.TheConstants.{PATH_MAX}
+use Rattle.image_tree.specs.declared.node.TheConstants.{TEXT_MAX}
 
 -- the properties of a name
 pub record IsName (name : List ℕ) : Type 0 where
@@ -57,12 +59,12 @@ joined_text name (next ∷ names) good =
     let parts = and_parts (is_name name) (list_all is_name (next ∷ names)) good in
     let first = name_text name parts.0 in
     let rest = joined_text next names parts.1 in
-    let behind = 47 ∷ join_with_byte 47 (next ∷ names) in
+    let following = 47 ∷ join_with_byte 47 (next ∷ names) in
     let slash : IsUtf8 (47 ∷ []) = IsUtf8-from_ascii (47 ∷ []) (IsAscii-cons 47 [] (omega arith) (λ i. omega arith)) in
     record {
-      some = omega (arith, length-append name behind, first.some);
-      no_nul = list_all-append (λ b. not (eqb b 0)) name behind ∙ and_from (has_no_nul name) (has_no_nul behind) first.no_nul rest.no_nul;
-      utf8 = IsUtf8-append name behind first.utf8 (IsUtf8-append (47 ∷ []) (join_with_byte 47 (next ∷ names)) slash rest.utf8);
+      some = omega (arith, length-append name following, first.some);
+      no_nul = list_all-append (λ b. not (eqb b 0)) name following ∙ and_from (has_no_nul name) (has_no_nul following) first.no_nul rest.no_nul;
+      utf8 = IsUtf8-append name following first.utf8 (IsUtf8-append (47 ∷ []) (join_with_byte 47 (next ∷ names)) slash rest.utf8);
     }
 
 all_text : (names : List (List ℕ)) → 1 ≤ length names → list_all is_name names ≡ true → IsText (join_with_byte 47 names)
@@ -72,15 +74,15 @@ all_text (name ∷ names) some good = joined_text name names good
 -- a path without its first slash is a key
 pub path_key : (path : List ℕ) → is_path path ≡ true → is_key (drop 1 path) ≡ true
 path_key path proper =
-    let parts = and_parts (leb (length path) 4095 && starts_with eqb path root) (are_names (drop 1 path)) proper in
-    let short = leb-true (length path) 4095 (and_parts (leb (length path) 4095) (starts_with eqb path root) parts.0).0 in
+    let parts = and_parts (leb (length path) PATH_MAX && starts_with eqb path root) (are_names (drop 1 path)) proper in
+    let short = leb-true (length path) PATH_MAX (and_parts (leb (length path) PATH_MAX) (starts_with eqb path root) parts.0).0 in
     let split = slice_split (λ b. eqb b 47) (drop 1 path) in
     let text : IsText (drop 1 path) =
     subst IsText (join_with_byte-slice_split 47 (drop 1 path)) (all_text split (omega (arith, length-slice_split (λ b. eqb b 47) (drop 1 path))) parts.1) in
     let key = drop 1 path in
     let less = length-drop 1 path in
     and_from (is_target key) (is_utf8 key)
-    (and_from (leb 1 (length key) && leb (length key) 4095) (has_no_nul key)
-    (and_from (leb 1 (length key)) (leb (length key) 4095) (le-leb 1 (length key) text.some) (le-leb (length key) 4095 (omega arith)))
+    (and_from (leb 1 (length key) && leb (length key) TEXT_MAX) (has_no_nul key)
+    (and_from (leb 1 (length key)) (leb (length key) TEXT_MAX) (le-leb 1 (length key) text.some) (le-leb (length key) TEXT_MAX (omega arith)))
     text.no_nul)
     (is_utf8-from_IsUtf8 key text.utf8)

@@ -34,8 +34,8 @@ in_front (Some b) text = option_map (λ bytes. b ∷ bytes) text
 -- the decoded text of an escape: if it is a letter, its byte and the text after the letter; else the byte of three octal digits and the
 -- text after the digits
 abbrev pub escape : Option ℕ → Option (List ℕ) → Option ℕ → Option (List ℕ) → Option (List ℕ)
-escape (Some b) behind_letter digits behind_digits = in_front (Some b) behind_letter
-escape None behind_letter digits behind_digits = in_front digits behind_digits
+escape (Some b) after_letter digits after_digits = in_front (Some b) after_letter
+escape None after_letter digits after_digits = in_front digits after_digits
 
 -- The bytes that a word represents; None if a backslash doesn't begin an escape. Each byte except a backslash represents itself.
 unfoldable pub decoded : List ℕ → Option (List ℕ)
@@ -59,14 +59,14 @@ byte_of (b ∷ c ∷ []) = if b == backslash then letter c else None
 byte_of (b ∷ c ∷ d ∷ e ∷ []) = if b == backslash then octal c d e else None
 byte_of _ = None
 
-pub record StandsFor (word bytes : List ℕ) : Type 0 where
+pub record Represents (word bytes : List ℕ) : Type 0 where
   pub texts : List (List ℕ)
   pub joined : flat_map (λ text. text) texts ≡ word
   pub each : map byte_of texts ≡ map Some bytes
 
 -- A word decodes to bytes exactly if it represents these bytes.
 abbrev pub DecodesAll : Type 0
-DecodesAll = (word bytes : List ℕ) → (decoded word ≡ Some bytes) ↔ StandsFor word bytes
+DecodesAll = (word bytes : List ℕ) → (decoded word ≡ Some bytes) ↔ Represents word bytes
 
 -- the bytes that are not escaped in the canonical text: printable ASCII except blank, backslash and `#`
 abbrev pub is_unescaped : ℕ → Bool

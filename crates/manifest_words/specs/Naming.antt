@@ -23,8 +23,8 @@ abbrev pub named : List ℕ → Bool → Option (List (List ℕ)) → Option (Li
 named path good names = option_map (λ ns. (below path ns, good && list_all is_name ns)) names
 
 -- whether a word names a valid path, given whether its names are valid, and the length of the path before them
-abbrev pub is_place_behind : Bool → Bool → ℕ → List ℕ → Bool
-is_place_behind is_dir are_names start path = are_names && (is_dir || not (length path == start)) && (length path == 0 || is_path path)
+abbrev pub is_place_after : Bool → Bool → ℕ → List ℕ → Bool
+is_place_after is_dir are_names start path = are_names && (is_dir || not (length path == start)) && (length path == 0 || is_path path)
 
-abbrev pub place_fault_behind : List ℕ → Bool → Option LineKind
-place_fault_behind word is_place = fault_unless (not (is_directive word) && is_place) BadLine
+abbrev pub place_fault_after : List ℕ → Bool → Option LineKind
+place_fault_after word is_place = fault_unless (not (is_directive word) && is_place) BadLine

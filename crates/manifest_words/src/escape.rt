@@ -82,17 +82,17 @@ fn first_byte(word: &[u8]) -> Option<(u8, &[u8])>
 }
 
 // Decodes a word byte by byte.
-#[tactic(auto, using(crate::proofs::Decoded::behind_step, crate::proofs::Decoded::all_decoded, crate::proofs::Decoded::not_decoded))]
+#[tactic(auto, using(crate::proofs::Decoded::after_step, crate::proofs::Decoded::all_decoded, crate::proofs::Decoded::not_decoded))]
 fn decode_bytes(out: &mut Vec<u8>, word: &[u8]) -> Result<bool, NoMemory>
     ensures { IfOk result (λ good. Decodes out.old.items out.new.items (decoded word.now) good) }
 {
     let mut rest = word;
     while !rest.is_empty() {
-        let Some((byte, behind)) = first_byte(rest) else {
+        let Some((byte, following)) = first_byte(rest) else {
             return Ok(false);
         };
         out.push(byte)?;
-        rest = behind;
+        rest = following;
     }
     Ok(true)
 }

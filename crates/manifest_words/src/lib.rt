@@ -10,5 +10,5 @@ mod plain;
 pub use escape::decode;
 pub use fault::LineKind;
 pub use keys::{Given, Keys, LineType, fault_unless, first_fault, given_word, no_keys, unset_word};
-pub use paths::{append_names, behind_first, is_directive, is_full};
+pub use paths::{after_first, append_names, is_directive, is_full};
 pub use plain::KnownPath;

@@ -8,7 +8,7 @@ use lib_types::{NoMemory, Separator, has_byte, is_name, split};
 use tree_face::is_kept;
 
 /// The bytes without the first byte: a word without its first character, or a path without its first slash.
-pub fn behind_first(bytes: &[u8]) -> &[u8]
+pub fn after_first(bytes: &[u8]) -> &[u8]
     ensures { result.now ≡ drop 1 bytes.now }
 {
     if bytes.is_empty() { bytes } else { &bytes[1..] }
@@ -18,7 +18,7 @@ pub fn behind_first(bytes: &[u8]) -> &[u8]
 pub fn is_full(word: &[u8]) -> bool
     ensures { result ≡ is_full word.now }
 {
-    has_byte(b'/', behind_first(word))
+    has_byte(b'/', after_first(word))
 }
 
 /// Whether a word is `/NAME` without a further slash.

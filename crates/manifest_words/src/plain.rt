@@ -6,7 +6,7 @@ ghost use Rattle.manifest_words.specs.Naming.{LeadsTo};
 ghost use Rattle.manifest_words.specs.Plain.{is_own, is_short, is_plain_path, IsKnown, IsAbove};
 
 use crate::escape::has_backslash;
-use crate::paths::behind_first;
+use crate::paths::after_first;
 use lib_types::NAME_MAX;
 use std::marker::Model;
 use tree_face::{PATH_MAX, is_path};
@@ -36,7 +36,7 @@ fn is_own(b: u8) -> bool
 }
 
 // The first index from which on `is_own` holds for all bytes.
-#[tactic(auto, using(crate::proofs::Beside::own_before))]
+#[tactic(auto, using(crate::proofs::NextTo::own_before))]
 fn own_from(path: &[u8]) -> usize
     ensures within { result ≤ length path.now }
     ensures own { IsTrue (list_all is_own (drop result path.now)) }
@@ -49,7 +49,7 @@ fn own_from(path: &[u8]) -> usize
 }
 
 // The path's directory and its last name, if `is_own` holds for all bytes of the name.
-#[tactic(auto, using(crate::proofs::Beside::divided_at))]
+#[tactic(auto, using(crate::proofs::NextTo::divided_at))]
 fn divided(path: &[u8]) -> Option<(&[u8], &[u8])>
     ensures parts { IfSome result (λ r. path.now ≡ r.0.now ++ slash ∷ r.1.now) }
     ensures own { IfSome result (λ r. IsTrue (list_all is_own r.1.now)) }
@@ -72,7 +72,7 @@ fn is_short(name: &[u8]) -> bool
 }
 
 // Whether a path is the folder, or is below it.
-#[tactic(auto, using(crate::proofs::Beside::above_end, crate::proofs::Beside::above_slash))]
+#[tactic(auto, using(crate::proofs::NextTo::above_end, crate::proofs::NextTo::above_slash))]
 fn is_above(folder: &[u8], path: &[u8]) -> bool
     ensures { IsTrue result → IsAbove folder.now path.now }
 {
@@ -83,7 +83,7 @@ fn is_above(folder: &[u8], path: &[u8]) -> bool
 }
 
 // Whether the bytes are a path without escapes whose directory is the known path or above it. Only the last name is checked.
-fn is_beside(known: &[u8], path: &[u8]) -> bool
+fn is_next_to(known: &[u8], path: &[u8]) -> bool
     requires known { IsKnown known.now }
     ensures { IsTrue result → IsTrue (is_plain_path path.now) }
 {
@@ -110,8 +110,8 @@ fn dotted_path<'a>(known: &[u8], word: &'a [u8]) -> Option<&'a [u8]>
     ensures path { IfSome result (λ path. LeadsTo word.entry.now path.now) }
     ensures plain { IfSome result (λ path. IsTrue (is_plain_path path.now)) }
 {
-    let path = behind_first(word);
-    if word.starts_with(b".") && (is_beside(known, path) || is_plain_path(path)) {
+    let path = after_first(word);
+    if word.starts_with(b".") && (is_next_to(known, path) || is_plain_path(path)) {
         Some(path)
     } else {
         None

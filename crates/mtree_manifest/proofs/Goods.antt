@@ -9,13 +9,13 @@ use Rattle.image_tree.specs.declared.node.Node.TheVariants as node
 use Rattle.image_tree.specs.Node.{is_node, is_key, is_target, has_no_nul}
 use Rattle.image_tree.specs.Paths.{is_path}
 use Rattle.manifest_words.specs.Escape.{decoded, in_front}
-use Rattle.mtree_manifest.specs.Good.{IsGood, IsGoodAt, IsGoodBehind, IsGoodOpen, are_good, is_good_link, is_good_contents}
-use Rattle.mtree_manifest.specs.Progress.{Open, given_by_head, with_word_behind, with_word, line_ended, reading_behind, reading_of}
+use Rattle.mtree_manifest.specs.Good.{IsGood, IsGoodAt, IsGoodAfter, IsGoodOpen, are_good, is_good_link, is_good_contents}
+use Rattle.mtree_manifest.specs.Progress.{Open, given_by_head, with_word_after, with_word, line_ended, reading_after, reading_of}
 use Rattle.manifest_words.specs.Keys.{Values, Given, no_values, given_by, divided, is_equals, keyword_of, with_value, without, value_fault, rank, first_fault, fault_unless, text_fault, is_link_text}
 use Rattle.manifest_words.specs.Decoding.{first_byte}
 use Rattle.manifest_words.proofs.Names.{path_key}
 use Rattle.manifest_words.proofs.Decoded.{decoded_step, then_rest}
-use Rattle.mtree_manifest.specs.Manifest.{State, ◌>>=◌, Faulty, Defaults, Puts, head_of, with_put, with_node, with_reading, entry_fault, entry, node_of, node_by, text_of, key_of, id_of, target_fault, unless_faulty, put_by, stack_behind, is_dir}
+use Rattle.mtree_manifest.specs.Manifest.{State, ◌>>=◌, Faulty, Defaults, Puts, head_of, with_put, with_node, with_reading, entry_fault, entry, node_of, node_by, text_of, key_of, id_of, target_fault, unless_faulty, put_by, stack_after, is_dir}
 use Rattle.manifest_words.specs.Paths.{Stack, closed, place, place_fault_of, path_of, names_of, below, base_of, is_place, is_directive}
 use Rattle.manifest_words.specs.declared.fault.LineKind.{LineKind}
 use Rattle.manifest_words.specs.declared.fault.LineKind.TheVariants.{BadLine}
@@ -27,6 +27,7 @@ use Rattle.mtree_manifest.specs.declared.line.Head.{Head}
 use Rattle.mtree_manifest.specs.declared.line.Head.TheVariants as head
 use Rattle.manifest_words.specs.declared.keys.LineType.{LineType}
 use Rattle.manifest_words.specs.declared.keys.LineType.TheVariants as types
+use Rattle.image_tree.specs.declared.node.TheConstants.{TEXT_MAX}
 
 -- if a line has no error, its parts have no error
 pub neither : (a b : Option LineKind) → first_fault a b ≡ None → (a ≡ None) × (b ≡ None)
@@ -42,11 +43,11 @@ pub holds : (t : Bool) (kind : LineKind) → fault_unless t kind ≡ None → t 
 holds true kind e = refl
 holds false kind e = absurd (cc)
 
-pub faultless : (dirs : Stack) (first : List ℕ) (g : Given) → entry_fault dirs first g ≡ None → entry dirs first g ≡ Puts (stack_behind dirs first g.values) (put_by (place dirs first) g.values)
-faultless dirs first g e = ap (λ f. unless_faulty f (Puts (stack_behind dirs first g.values) (put_by (place dirs first) g.values))) e
+pub faultless : (dirs : Stack) (first : List ℕ) (g : Given) → entry_fault dirs first g ≡ None → entry dirs first g ≡ Puts (stack_after dirs first g.values) (put_by (place dirs first) g.values)
+faultless dirs first g e = ap (λ f. unless_faulty f (Puts (stack_after dirs first g.values) (put_by (place dirs first) g.values))) e
 
 pub faulty : (dirs : Stack) (first : List ℕ) (g : Given) (kind : LineKind) → entry_fault dirs first g ≡ Some kind → entry dirs first g ≡ Faulty kind
-faulty dirs first g kind e = ap (λ f. unless_faulty f (Puts (stack_behind dirs first g.values) (put_by (place dirs first) g.values))) e
+faulty dirs first g kind e = ap (λ f. unless_faulty f (Puts (stack_after dirs first g.values) (put_by (place dirs first) g.values))) e
 
 -- a word that has no error and doesn't name the root names a valid path
 pub path_found : (d : Bool) (base word : List ℕ) (found : Option (List (List ℕ))) → place_fault_of d base word found ≡ None → eqb (length (path_of found base)) 0 ≡ false → is_path (path_of found base) ≡ true
@@ -83,8 +84,8 @@ some_target : (b : ℕ) (text : Option (List ℕ)) → is_none (text_fault is_li
 some_target b None good = absurd (cc)
 some_target b (Some text) good =
     let t = b ∷ text in
-    let parts = and_parts (leb (length t) 4095) (has_no_nul t) (good_text is_link_text (Some t) good) in
-    and_from (leb 1 (length t) && leb (length t) 4095) (has_no_nul t) (and_from (leb 1 (length t)) (leb (length t) 4095) (le-leb 1 (length t) (omega arith)) parts.0) parts.1
+    let parts = and_parts (leb (length t) TEXT_MAX) (has_no_nul t) (good_text is_link_text (Some t) good) in
+    and_from (leb 1 (length t) && leb (length t) TEXT_MAX) (has_no_nul t) (and_from (leb 1 (length t)) (leb (length t) TEXT_MAX) (le-leb 1 (length t) (omega arith)) parts.0) parts.1
 
 first_target : (first : Option (ℕ × List ℕ)) → is_none (text_fault is_link_text (then_rest first)) ≡ true → is_target (unwrap_or (then_rest first) []) ≡ true
 first_target None good = absurd (cc)
@@ -165,7 +166,7 @@ next_good head.Unset g word good = unset_good (bytes_eq word (codes "all")) g.va
 next_good head.Close g word good = good
 next_good head.Entry g word good = given_good g (divided word (position is_equals word)) good
 
-word_good : (n : ℕ) (f : Option (Head × List ℕ)) (g : Given) (word : List ℕ) → IsGoodBehind f g → IsGoodOpen (with_word_behind n f g word)
+word_good : (n : ℕ) (f : Option (Head × List ℕ)) (g : Given) (word : List ℕ) → IsGoodAfter f g → IsGoodOpen (with_word_after n f g word)
 word_good n None g word good = first_good (head_of word) g good
 word_good n (Some first) g word good = next_good first.0 g word good
 
@@ -206,11 +207,11 @@ line_keeps n s t head.Comment first g e good line = put_keeps n s t s.dirs None 
 line_keeps n s t head.Set first g e good line = set_keeps n s t g.values g.fault e line
 line_keeps n s t head.Unset first g e good line = is_good_ok (record s { defaults = g.values }) t e line
 line_keeps n s t head.Close first g e good line = close_keeps n s t (eqb (length s.dirs) 0) e good
-line_keeps n s t head.Entry first g e good line = unless_keeps n s t (entry_fault s.dirs first g) (stack_behind s.dirs first g.values) (put_by (place s.dirs first) g.values) e good
+line_keeps n s t head.Entry first g e good line = unless_keeps n s t (entry_fault s.dirs first g) (stack_after s.dirs first g.values) (put_by (place s.dirs first) g.values) e good
 
-behind_keeps : (n : ℕ) (s t : State) (f : Option (Head × List ℕ)) (g : Given) → with_reading n s (reading_behind f g s.dirs) ≡ Ok t → are_good s.defaults ≡ true → IsGoodBehind f g → are_good t.defaults ≡ true
-behind_keeps n s t None g e good line = put_keeps n s t s.dirs None e good
-behind_keeps n s t (Some first) g e good line = line_keeps n s t first.0 first.1 g e good line
+after_keeps : (n : ℕ) (s t : State) (f : Option (Head × List ℕ)) (g : Given) → with_reading n s (reading_after f g s.dirs) ≡ Ok t → are_good s.defaults ≡ true → IsGoodAfter f g → are_good t.defaults ≡ true
+after_keeps n s t None g e good line = put_keeps n s t s.dirs None e good
+after_keeps n s t (Some first) g e good line = line_keeps n s t first.0 first.1 g e good line
 
 pub defaults_good : (s t : State) (o : Open) → line_ended s o ≡ Ok t → are_good s.defaults ≡ true → IsGoodOpen o → are_good t.defaults ≡ true
-defaults_good s t o e good line = behind_keeps o.number s t o.first o.given e good line
+defaults_good s t o e good line = after_keeps o.number s t o.first o.given e good line

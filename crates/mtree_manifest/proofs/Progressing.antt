@@ -12,9 +12,9 @@ use Rattle.mtree_manifest.specs.declared.line.Head.TheVariants as head
 
 -- ---- one line
 
-pub behind_first : (n : ℕ) (h : Head) (first : List ℕ) (g : Given) (rest : List (List ℕ)) → fold with_word (record { number = n; first = Some (h, first); given = g }) rest ≡ record { number = n; first = Some (h, first); given = fold (given_by_head h) g rest }
-behind_first n h first g [] = refl
-behind_first n h first g (word ∷ rest) = behind_first n h first (given_by_head h g word) rest
+pub after_first : (n : ℕ) (h : Head) (first : List ℕ) (g : Given) (rest : List (List ℕ)) → fold with_word (record { number = n; first = Some (h, first); given = g }) rest ≡ record { number = n; first = Some (h, first); given = fold (given_by_head h) g rest }
+after_first n h first g [] = refl
+after_first n h first g (word ∷ rest) = after_first n h first (given_by_head h g word) rest
 
 unset_values : (g : Given) (rest : List (List ℕ)) → (fold (given_by_head head.Unset) g rest).values ≡ unset g.values rest
 unset_values g [] = refl
@@ -31,7 +31,7 @@ by_head head.Entry d dirs first rest = refl
 words_read : (n : ℕ) (s : State) (words : List (List ℕ)) → line_ended s (fold with_word (started n s.defaults) words) ≡ with_line s (record { number = n; words = words })
 words_read n s [] = refl
 words_read n s (first ∷ rest) =
-    ap (line_ended s) (behind_first n (head_of first) first (record { values = s.defaults; fault = None }) rest)
+    ap (line_ended s) (after_first n (head_of first) first (record { values = s.defaults; fault = None }) rest)
     ∙ ap (with_reading n s) (by_head (head_of first) s.defaults s.dirs first rest)
 
 -- ---- the lines

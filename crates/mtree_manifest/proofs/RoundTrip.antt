@@ -23,7 +23,7 @@ use Rattle.bstr.specs.Text.{without_terminator}
 use Rattle.mtree_manifest.specs.Canon.{canon, node_line}
 use Rattle.manifest_words.specs.Keys.{Values, no_values, first_fault}
 use Rattle.manifest_words.specs.Lines.{Line, joined, goes_on, physical_words, physical_lines}
-use Rattle.mtree_manifest.specs.Manifest.{State, Puts, ◌>>=◌, reading, entry, entry_fault, put_by, stack_behind, node_of, node_by, is_dir, target_fault, unless_faulty, with_node, with_reading, with_lines, no_lines, outcome, tree_of}
+use Rattle.mtree_manifest.specs.Manifest.{State, Puts, ◌>>=◌, reading, entry, entry_fault, put_by, stack_after, node_of, node_by, is_dir, target_fault, unless_faulty, with_node, with_reading, with_lines, no_lines, outcome, tree_of}
 use Rattle.manifest_words.specs.Paths.{decoded_each, names_of, place, place_fault}
 use Rattle.manifest_words.specs.Range.{AreBytes, IsInRange, AreInRange}
 use Rattle.mtree_manifest.specs.declared.fault.TheConstants.{TEXT_MAX}
@@ -51,7 +51,7 @@ module _ (rest : List ℕ) (proper : is_path (47 ∷ rest) ≡ true) (range : Ar
 
 -- ---- one line
 
-nothing_opened : (v : Values) (rest : List ℕ) → stack_behind [] (path_word (47 ∷ rest)) v ≡ []
+nothing_opened : (v : Values) (rest : List ℕ) → stack_after [] (path_word (47 ∷ rest)) v ≡ []
 nothing_opened v rest = cond-false (is_dir v.kind && false) _ _ (and_right (is_dir v.kind) false refl)
 
 module _ (rest : List ℕ) (n : Node) (proper : is_path (47 ∷ rest) ≡ true) (good : is_node n ≡ true) (range : IsInRange (47 ∷ rest, n)) where
@@ -73,7 +73,7 @@ module _ (rest : List ℕ) (n : Node) (proper : is_path (47 ∷ rest) ≡ true) 
       let w = path_word (47 ∷ rest) in
       let u = values_for (47 ∷ rest) n in
       ap (entry [] w) (keywords_given (47 ∷ rest) n good range.1)
-      ∙ ap (λ f. unless_faulty f (Puts (stack_behind [] w u) (put_by (place [] w) u))) line_faultless
+      ∙ ap (λ f. unless_faulty f (Puts (stack_after [] w u) (put_by (place [] w) u))) line_faultless
       ∙ ap (λ dirs. Puts dirs (put_by (place [] w) u)) (nothing_opened u rest)
       ∙ ap (Puts []) line_put
 

@@ -8,8 +8,8 @@ use Rattle.image_tree.specs.Node.{is_node}
 use Rattle.image_tree.specs.Paths.{is_path}
 use Rattle.image_tree.specs.declared.node.Node.{Node}
 use Rattle.mtree_manifest.proofs.Goods.{good_node, good_path, holds, neither, none_good, path_found, words_good}
-use Rattle.mtree_manifest.proofs.Progressing.{behind_first}
-use Rattle.mtree_manifest.specs.Good.{IsGood, IsGoodBehind}
+use Rattle.mtree_manifest.proofs.Progressing.{after_first}
+use Rattle.mtree_manifest.specs.Good.{IsGood, IsGoodAfter}
 use Rattle.manifest_words.specs.Keys.{Given, fault_unless, first_fault, no_values, unset_word}
 use Rattle.mtree_manifest.specs.Manifest.{entry_fault, head_of, is_dir, node_of, put_by}
 use Rattle.manifest_words.specs.Paths.{base_of, is_directive, is_full, is_place, names_of, place, place_fault, place_fault_of}
@@ -45,7 +45,7 @@ by_head head.Close first rest = ap (λ (g : Given). Err (pathless_fault g.fault)
 pub read : (words : List (List ℕ)) → alone_of (path_word (fold with_word (started 1 no_values) words).first) (fold with_word (started 1 no_values) words).given ≡ words_alone words
 read [] = refl
 read (first ∷ rest) =
-    ap (λ (o : Open). alone_of (path_word o.first) o.given) (behind_first 1 (head_of first) first (record { values = no_values; fault = None }) rest)
+    ap (λ (o : Open). alone_of (path_word o.first) o.given) (after_first 1 (head_of first) first (record { values = no_values; fault = None }) rest)
     ∙ by_head (head_of first) first rest
 
 -- ---- the error of a first word
@@ -106,7 +106,7 @@ entry_made first g e = ap (λ f. entry_unless f (put_by (place [] first) g.value
 
 -- ---- the values of a line with a path
 
-by_first : (first : Option (Head × List ℕ)) (g : Given) (word : List ℕ) → IsGoodBehind first g → path_word first ≡ Some word → IsGood g
+by_first : (first : Option (Head × List ℕ)) (g : Given) (word : List ℕ) → IsGoodAfter first g → path_word first ≡ Some word → IsGood g
 by_first None g word ok some = absurd (cc)
 by_first (Some (head.Entry, first)) g word ok some = ok
 by_first (Some (head.Set, first)) g word ok some = absurd (cc)

@@ -3,7 +3,7 @@ use Rattle.std.proofs.Common.{◌≡◌, ◌<◌, ◌≤◌, ℕ, zero, suc, Boo
 use Rattle.std.proofs.lemmas.Bool.{agree_below_at, and_parts, leb-true}
 use Rattle.std.specs.Option.{is_none, option_map}
 use Rattle.manifest_words.specs.Decoding.{first_byte, escape_at, escape_by, octal_at}
-use Rattle.manifest_words.specs.Escape.{DecodesAll, StandsFor, backslash, byte_of, decoded, in_front, is_octal, letter, octal, octal_value}
+use Rattle.manifest_words.specs.Escape.{DecodesAll, Represents, backslash, byte_of, decoded, in_front, is_octal, letter, octal, octal_value}
 use Rattle.manifest_words.proofs.Decoded.{decoded_nil, decoded_plain, decoded_step, then_rest}
 
 -- ---- a word that represents bytes decodes to them
@@ -48,8 +48,8 @@ plain_one false x b rest is h = decoded_plain x rest is ∙ ap (λ o. in_front o
 by_letter : (l : Option ℕ) (b : ℕ) (rest : List ℕ) (digits : Option (ℕ × List ℕ)) → l ≡ Some b → then_rest (escape_by l rest digits) ≡ in_front (Some b) (decoded rest)
 by_letter l b rest digits e = rw e refl
 
-by_digits : (l o : Option ℕ) (b : ℕ) (rest behind : List ℕ) → l ≡ None → o ≡ Some b → then_rest (escape_by l behind (option_map {U = ℕ × List ℕ} (λ n. (n, rest)) o)) ≡ in_front (Some b) (decoded rest)
-by_digits l o b rest behind e h = rw (e, h) refl
+by_digits : (l o : Option ℕ) (b : ℕ) (rest following : List ℕ) → l ≡ None → o ≡ Some b → then_rest (escape_by l following (option_map {U = ℕ × List ℕ} (λ n. (n, rest)) o)) ≡ in_front (Some b) (decoded rest)
+by_digits l o b rest following e h = rw (e, h) refl
 
 letter_one : (p : Bool) (x c b : ℕ) (rest : List ℕ) → eqb x backslash ≡ p → cond p (letter c) None ≡ Some b → decoded (x ∷ c ∷ rest) ≡ in_front (Some b) (decoded rest)
 letter_one true x c b rest is h =
@@ -143,7 +143,7 @@ has_front false x b rest after is h =
       shorter = rw (← end) (omega arith);
     }
 
-with_front : (word bytes after : List ℕ) (b : ℕ) → HasFront word b after → StandsFor after bytes → StandsFor word (b ∷ bytes)
+with_front : (word bytes after : List ℕ) (b : ℕ) → HasFront word b after → Represents after bytes → Represents word (b ∷ bytes)
 with_front word bytes after b front rest = record {
   texts = front.text ∷ rest.texts;
   joined = ap (λ t. front.text ++ t) rest.joined ∙ front.joined;
@@ -152,30 +152,30 @@ with_front word bytes after b front rest = record {
 
 -- the induction hypothesis: shorter words represent the bytes that they decode to
 abbrev Shorter : ℕ → Type 0
-Shorter n = (word bytes : List ℕ) → length word ≤ n → decoded word ≡ Some bytes → StandsFor word bytes
+Shorter n = (word bytes : List ℕ) → length word ≤ n → decoded word ≡ Some bytes → Represents word bytes
 
 from_decoded : (n : ℕ) → Shorter n → (d : Option (List ℕ)) (word bytes after : List ℕ) (b : ℕ) → length word ≤ suc n → decoded after ≡ d → HasFront word b after
-    → in_front (Some b) d ≡ Some bytes → StandsFor word bytes
+    → in_front (Some b) d ≡ Some bytes → Represents word bytes
 from_decoded n shorter None word bytes after b le is front e = absurd (cc)
-from_decoded n shorter (Some behind) word bytes after b le is front e =
-    let whole : b ∷ behind ≡ bytes = cc in
-    rw (← whole) (with_front word behind after b front (shorter after behind (omega (arith, front.shorter)) is))
+from_decoded n shorter (Some following) word bytes after b le is front e =
+    let whole : b ∷ following ≡ bytes = cc in
+    rw (← whole) (with_front word following after b front (shorter after following (omega (arith, front.shorter)) is))
 
 from_first : (n : ℕ) → Shorter n → (first : Option (ℕ × List ℕ)) (x : ℕ) (rest bytes : List ℕ) → length (x ∷ rest) ≤ suc n → first_byte (x ∷ rest) ≡ first
-    → then_rest first ≡ Some bytes → StandsFor (x ∷ rest) bytes
+    → then_rest first ≡ Some bytes → Represents (x ∷ rest) bytes
 from_first n shorter None x rest bytes le is e = absurd (cc)
 from_first n shorter (Some front) x rest bytes le is e =
     from_decoded n shorter (decoded front.1) (x ∷ rest) bytes front.1 front.0 le refl (has_front (eqb x backslash) x front.0 rest front.1 refl is) e
 
-stands_for : (n : ℕ) (word bytes : List ℕ) → length word ≤ n → decoded word ≡ Some bytes → StandsFor word bytes
-stands_for n [] [] le h = record { texts = []; joined = refl; each = refl }
-stands_for n [] (b ∷ bytes) le h = absurd (cc (decoded_nil, h))
-stands_for zero (x ∷ rest) bytes le h = absurd (omega arith)
-stands_for (suc n) (x ∷ rest) bytes le h =
-    from_first n (stands_for n) (first_byte (x ∷ rest)) x rest bytes le refl (sym (decoded_step x rest) ∙ h)
+represents : (n : ℕ) (word bytes : List ℕ) → length word ≤ n → decoded word ≡ Some bytes → Represents word bytes
+represents n [] [] le h = record { texts = []; joined = refl; each = refl }
+represents n [] (b ∷ bytes) le h = absurd (cc (decoded_nil, h))
+represents zero (x ∷ rest) bytes le h = absurd (omega arith)
+represents (suc n) (x ∷ rest) bytes le h =
+    from_first n (represents n) (first_byte (x ∷ rest)) x rest bytes le refl (sym (decoded_step x rest) ∙ h)
 
 pub decodes_all : DecodesAll
 decodes_all word bytes = (
-  λ h. stands_for (length word) word bytes (omega arith) h,
-  λ stands. ap decoded (sym stands.joined) ∙ all_decoded stands.texts bytes stands.each,
+  λ h. represents (length word) word bytes (omega arith) h,
+  λ located. ap decoded (sym located.joined) ∙ all_decoded located.texts bytes located.each,
 )

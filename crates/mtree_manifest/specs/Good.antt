@@ -27,9 +27,9 @@ IsGoodAt head.Comment g = IsGood g
 IsGoodAt head.Close g = IsGood g
 IsGoodAt head.Unset g = are_good g.values ≡ true
 
-abbrev pub IsGoodBehind : Option (Head × List ℕ) → Given → Type 0
-IsGoodBehind None g = are_good g.values ≡ true
-IsGoodBehind (Some first) g = IsGoodAt first.0 g
+abbrev pub IsGoodAfter : Option (Head × List ℕ) → Given → Type 0
+IsGoodAfter None g = are_good g.values ≡ true
+IsGoodAfter (Some first) g = IsGoodAt first.0 g
 
 abbrev pub IsGoodOpen : Open → Type 0
-IsGoodOpen o = IsGoodBehind o.first o.given
+IsGoodOpen o = IsGoodAfter o.first o.given

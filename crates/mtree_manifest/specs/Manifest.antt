@@ -79,8 +79,8 @@ abbrev pub target_fault : Values → Option LineKind
 target_fault v = fault_unless (not (is_link v.kind && length v.link == 0)) NoTarget
 
 -- a relative line with type `dir` opens the directory
-abbrev pub stack_behind : Stack → List ℕ → Values → Stack
-stack_behind dirs first v = if is_dir v.kind && not (is_full first) then dirs ++ place dirs first ∷ [] else dirs
+abbrev pub stack_after : Stack → List ℕ → Values → Stack
+stack_after dirs first v = if is_dir v.kind && not (is_full first) then dirs ++ place dirs first ∷ [] else dirs
 
 abbrev pub unless_faulty : Option LineKind → Reading → Reading
 unless_faulty None reading = reading
@@ -96,7 +96,7 @@ entry_fault dirs first g = first_fault g.fault (first_fault (place_fault (is_dir
 -- a line with a path; its keywords have overridden the defaults
 abbrev pub entry : Stack → List ℕ → Given → Reading
 entry dirs first g =
-    unless_faulty (entry_fault dirs first g) (Puts (stack_behind dirs first g.values) (put_by (place dirs first) g.values))
+    unless_faulty (entry_fault dirs first g) (Puts (stack_after dirs first g.values) (put_by (place dirs first) g.values))
 
 -- `/set` adds its keywords to the defaults
 abbrev pub set_line : Given → Reading

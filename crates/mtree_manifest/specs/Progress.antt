@@ -24,12 +24,12 @@ given_by_head head.Set g word = given_word g word
 given_by_head head.Entry g word = given_word g word
 given_by_head head.Unset g word = record g { values = unset_word g.values word }
 
-abbrev pub with_word_behind : ℕ → Option (Head × List ℕ) → Given → List ℕ → Open
-with_word_behind number None g word = record { number = number; first = Some (head_of word, word); given = g }
-with_word_behind number (Some first) g word = record { number = number; first = Some first; given = given_by_head first.0 g word }
+abbrev pub with_word_after : ℕ → Option (Head × List ℕ) → Given → List ℕ → Open
+with_word_after number None g word = record { number = number; first = Some (head_of word, word); given = g }
+with_word_after number (Some first) g word = record { number = number; first = Some first; given = given_by_head first.0 g word }
 
 abbrev pub with_word : Open → List ℕ → Open
-with_word o word = with_word_behind o.number o.first o.given word
+with_word o word = with_word_after o.number o.first o.given word
 
 abbrev pub reading_of : Head → List ℕ → Given → Stack → Reading
 reading_of head.Comment first g dirs = Puts dirs None
@@ -38,9 +38,9 @@ reading_of head.Unset first g dirs = Defaults g.values
 reading_of head.Close first g dirs = close_line dirs
 reading_of head.Entry first g dirs = entry dirs first g
 
-abbrev pub reading_behind : Option (Head × List ℕ) → Given → Stack → Reading
-reading_behind None g dirs = Puts dirs None
-reading_behind (Some first) g dirs = reading_of first.0 first.1 g dirs
+abbrev pub reading_after : Option (Head × List ℕ) → Given → Stack → Reading
+reading_after None g dirs = Puts dirs None
+reading_after (Some first) g dirs = reading_of first.0 first.1 g dirs
 
 -- the state after the lines that have ended, and the open line
 pub record Progress : Type 0 where
@@ -51,7 +51,7 @@ pub record Progress : Type 0 where
 
 -- the end of the open line
 abbrev pub line_ended : State → Open → Result State ManifestFault
-line_ended s o = with_reading o.number s (reading_behind o.first o.given s.dirs)
+line_ended s o = with_reading o.number s (reading_after o.first o.given s.dirs)
 
 abbrev pub going_on : Bool → ℕ → State → Open → Result Progress ManifestFault
 going_on goes_on next s o =

@@ -4,7 +4,7 @@ use Rattle.manifest_words.specs.Keys.{Values}
 use Rattle.manifest_words.specs.Paths.{place}
 use Rattle.mtree_manifest.specs.declared.fault.ManifestFault.{ManifestFault}
 use Rattle.mtree_manifest.specs.Lining.{line_in}
-use Rattle.mtree_manifest.specs.Manifest.{State, put_by, stack_behind, with_put}
+use Rattle.mtree_manifest.specs.Manifest.{State, put_by, stack_after, with_put}
 use Rattle.manifest_words.specs.Views.{values_in}
 use Rattle.mtree_manifest.specs.Progress.{Progress}
 use Rattle.mtree_manifest.specs.declared.line.Line as the_line
@@ -18,4 +18,4 @@ progress_in r next line = record { state = state_in r; line = line_in line; next
 
 -- the state after a line without an error, whose node is put
 abbrev pub entry_put : ℕ → State → List ℕ → Values → Result State ManifestFault
-entry_put number s first v = with_put number s (stack_behind s.dirs first v) (put_by (place s.dirs first) v)
+entry_put number s first v = with_put number s (stack_after s.dirs first v) (put_by (place s.dirs first) v)

@@ -7,14 +7,14 @@ ghost use Rattle.image_tree.specs.Tree.{IsFullFor};
 ghost use Rattle.mtree_manifest.specs.Ends.{Ends};
 ghost use Rattle.mtree_manifest.specs.Manifest.{key_of, id_of, node_of, is_dir, is_link, target_fault, with_node};
 ghost use Rattle.manifest_words.specs.Paths.{names_of, place_fault_of, path_of, base_by};
-ghost use Rattle.manifest_words.specs.Naming.{is_place_behind, place_fault_behind};
+ghost use Rattle.manifest_words.specs.Naming.{is_place_after, place_fault_after};
 ghost use Rattle.manifest_words.specs.Views.{values_in};
 
 use crate::fault::ManifestFault;
 use crate::value::LastValue;
 use lib_types::{NoMemory, Text};
 use manifest_words::{
-    Keys, KnownPath, LineKind, LineType, append_names, behind_first, fault_unless, is_directive,
+    Keys, KnownPath, LineKind, LineType, after_first, append_names, fault_unless, is_directive,
     is_full,
 };
 use std::alloc::Global;
@@ -64,19 +64,19 @@ fn begin_at(path: &mut Vec<u8>, current: &[u8], word: &[u8]) -> Result<(), NoMem
 
 // Whether a word names a valid path, given the path and the length of the directory's path before the word's names.
 fn is_place(is_dir: bool, are_names: bool, start: usize, path: &[u8]) -> bool
-    ensures { result ≡ is_place_behind is_dir are_names start path.now }
+    ensures { result ≡ is_place_after is_dir are_names start path.now }
 {
     are_names && (is_dir || path.len() != start) && (path.is_empty() || is_path(path))
 }
 
 fn place_fault(word: &[u8], is_place: bool) -> Option<LineKind>
-    ensures { result ≡ place_fault_behind word.now is_place }
+    ensures { result ≡ place_fault_after word.now is_place }
 {
     fault_unless(!is_directive(word) && is_place, LineKind::BadLine)
 }
 
 /// Fills the buffer with the path that a first word names. Returns the error of the word, if it has an error.
-#[tactic(auto, using(manifest_words::proofs::Places::fault_behind))]
+#[tactic(auto, using(manifest_words::proofs::Places::fault_after))]
 pub(crate) fn find_place<'a>(
     path: &mut Vec<u8>,
     known: &mut KnownPath<'a>,
@@ -110,7 +110,7 @@ fn key_of<'a>(
 {
     match contents {
         Some(value) => last.text_of(alloc, value),
-        None => Text::copy_of(alloc, behind_first(path)),
+        None => Text::copy_of(alloc, after_first(path)),
     }
 }
 

@@ -7,7 +7,7 @@ ghost use Rattle.mtree_manifest.specs.Good.{IsGood, IsGoodOpen, are_good};
 ghost use Rattle.manifest_words.specs.Lines.{lines_in};
 ghost use Rattle.mtree_manifest.specs.Lining.{line_in};
 ghost use Rattle.manifest_words.specs.Escape.{DecodesAll};
-ghost use Rattle.mtree_manifest.specs.Manifest.{no_lines, set_line, close_line, entry_fault, entry, stack_behind, with_reading, with_lines, tree_of, first_bad};
+ghost use Rattle.mtree_manifest.specs.Manifest.{no_lines, set_line, close_line, entry_fault, entry, stack_after, with_reading, with_lines, tree_of, first_bad};
 ghost use Rattle.manifest_words.specs.Paths.{place};
 ghost use Rattle.mtree_manifest.specs.Progress.{line_ended, physical_taken};
 ghost use Rattle.mtree_manifest.specs.Reader.{state_in, progress_in, entry_put};
@@ -42,7 +42,7 @@ pub(crate) struct Reader<'a> {
 #[tactic(auto, using(manifest_words::proofs::Places::place_from, manifest_words::proofs::Places::place_longer))]
 fn open_place(dirs: &mut Dirs, keys: &Keys<'_>, first: &[u8], path: &[u8]) -> Result<(), NoMemory>
     requires { path.now ≡ place dirs.old first.now }
-    ensures { OnOk result (dirs.new ≡ stack_behind dirs.old first.now (values_in keys.now)) }
+    ensures { OnOk result (dirs.new ≡ stack_after dirs.old first.now (values_in keys.now)) }
 {
     if is_dir(keys.kind) && !is_full(first) {
         let len = dirs.current().len();

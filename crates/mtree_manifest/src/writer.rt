@@ -11,7 +11,7 @@ ghost use Rattle.image_tree.specs.Tree.{IsTree};
 ghost use Rattle.manifest_words.specs.Range.{AreBytes, IsIdInRange, IsSomeIdInRange, IsNodeInRange, IsInRange, AreInRange};
 
 use lib_types::NoMemory;
-use manifest_words::behind_first;
+use manifest_words::after_first;
 use std::alloc::Global;
 use tree_face::{Id, Node, Tree};
 
@@ -117,7 +117,7 @@ fn push_key(out: &mut Vec<u8>, path: &[u8], key: &[u8]) -> Result<(), NoMemory>
     ensures text { OnOk result (out.new.items ≡ out.old.items ++ key_words path.now key.now) }
     ensures range { AreBytes key.now }
 {
-    if key == behind_first(path) {
+    if key == after_first(path) {
         return Ok(());
     }
     push_text(out, b" contents=")?;

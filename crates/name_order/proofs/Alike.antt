@@ -36,14 +36,14 @@ number_ended : (n : ℕ) (xs : List ℕ) → is_ascii_digit (get_or xs 0 0) ≡ 
 number_ended n [] h = refl
 number_ended n (x ∷ xs) h = rw h refl
 
-behind_byte : (number : Option ℕ) (n x y : ℕ) (a b : List ℕ) → is_ascii_digit x ≡ false → Parts number (suc n) (x ∷ a) (y ∷ b) → Parts None n a b
-behind_byte number zero x y a b e parts = inl refl
-behind_byte number (suc n) x y a b e parts = parts
+after_byte : (number : Option ℕ) (n x y : ℕ) (a b : List ℕ) → is_ascii_digit x ≡ false → Parts number (suc n) (x ∷ a) (y ∷ b) → Parts None n a b
+after_byte number zero x y a b e parts = inl refl
+after_byte number (suc n) x y a b e parts = parts
 
-behind_digit : (number next : Option ℕ) (n x y : ℕ) (a b : List ℕ) → is_ascii_digit x ≡ true → Parts number (suc n) (x ∷ a) (y ∷ b) → Parts next n a b
-behind_digit number next zero x y a b e (inl f) = absurd (cc)
-behind_digit number next zero x y a b e (inr f) = inr f
-behind_digit number next (suc n) x y a b e parts = parts
+after_digit : (number next : Option ℕ) (n x y : ℕ) (a b : List ℕ) → is_ascii_digit x ≡ true → Parts number (suc n) (x ∷ a) (y ∷ b) → Parts next n a b
+after_digit number next zero x y a b e (inl f) = absurd (cc)
+after_digit number next zero x y a b e (inr f) = inr f
+after_digit number next (suc n) x y a b e parts = parts
 
 -- one more equal byte doesn't change the order
 one_passed : (number : Option ℕ) (n x y : ℕ) (a b : List ℕ) (order : Ordering) → x ≡ y
@@ -58,12 +58,12 @@ one_passed number n x y a b order same rest parts = by (is_ascii_digit x) refl
     by true e =
         let next = with_digit (unwrap_or number 0) x in
         rw (e, other true e) (ap (λ z. slice_cmp token_cmp (tokens_after (Some next) a) (tokens_after (Some (with_digit (unwrap_or number 0) z)) b)) (sym same)
-        ∙ rest (Some next) (behind_digit number (Some next) n x y a b e parts))
+        ∙ rest (Some next) (after_digit number (Some next) n x y a b e parts))
     by false e =
         rw (e, other false e) (same_number number (Byte x ∷ tokens_after None a) (Byte y ∷ tokens_after None b)
         ∙ ap (λ z. slice_cmp token_cmp (Byte x ∷ tokens_after None a) (Byte z ∷ tokens_after None b)) (sym same)
         ∙ same_first (Byte x) (tokens_after None a) (tokens_after None b)
-        ∙ rest None (behind_byte number n x y a b e parts))
+        ∙ rest None (after_byte number n x y a b e parts))
 
 passed : (n : ℕ) (number : Option ℕ) (a b : List ℕ) → n ≤ length a → n ≤ length b → take n a ≡ take n b → Parts number n a b
     → slice_cmp token_cmp (tokens_after number a) (tokens_after number b) ≡ slice_cmp token_cmp (tokens_after None (drop n a)) (tokens_after None (drop n b))

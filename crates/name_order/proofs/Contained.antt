@@ -25,22 +25,22 @@ so_here name (suc i) some h e = let d : suc i - 1 ≡ i = omega arith in at name
     at (x ∷ xs) (suc i) h e = sym (ap (λ b. starts_with nat_eq (x ∷ xs) (codes ".so") || b) (sym (at xs i (omega arith) e)) ∙ or-true (starts_with nat_eq (x ∷ xs) (codes ".so")))
 
 -- if `.so` doesn't begin at i - 1 and isn't in the bytes from i on, it isn't in the bytes from i - 1 on
-pub so_behind : (name : List ℕ) (i : ℕ) → 0 < i → i ≤ length name → starts_with nat_eq (drop (i - 1) name) (codes ".so") ≡ false
+pub so_after : (name : List ℕ) (i : ℕ) → 0 < i → i ≤ length name → starts_with nat_eq (drop (i - 1) name) (codes ".so") ≡ false
     → contains (codes ".so") (drop i name) ≡ false → contains (codes ".so") (drop (i - 1) name) ≡ false
-so_behind name zero some h e behind = absurd (omega arith)
-so_behind name (suc i) some h e behind =
+so_after name zero some h e following = absurd (omega arith)
+so_after name (suc i) some h e following =
     let d : suc i - 1 ≡ i = omega arith in
-    subst (λ n. contains (codes ".so") (drop n name) ≡ false) (sym d) (at name i (omega arith) (subst (λ n. starts_with nat_eq (drop n name) (codes ".so") ≡ false) d e) behind)
+    subst (λ n. contains (codes ".so") (drop n name) ≡ false) (sym d) (at name i (omega arith) (subst (λ n. starts_with nat_eq (drop n name) (codes ".so") ≡ false) d e) following)
   where
     at : (name : List ℕ) (i : ℕ) → i < length name → starts_with nat_eq (drop i name) (codes ".so") ≡ false → contains (codes ".so") (drop (suc i) name) ≡ false
         → contains (codes ".so") (drop i name) ≡ false
-    at [] i h e behind = absurd (omega arith)
-    at (x ∷ xs) zero h e behind = ap (λ b. b || contains (codes ".so") xs) e ∙ behind
-    at (x ∷ xs) (suc i) h e behind = at xs i (omega arith) e behind
+    at [] i h e following = absurd (omega arith)
+    at (x ∷ xs) zero h e following = ap (λ b. b || contains (codes ".so") xs) e ∙ following
+    at (x ∷ xs) (suc i) h e following = at xs i (omega arith) e following
 
 -- the empty rest of a name doesn't contain `.so`
 pub so_at_end : (name : List ℕ) → contains (codes ".so") (drop (length name) name) ≡ false
 so_at_end [] = refl
 so_at_end (x ∷ xs) = so_at_end xs
 
-pub ruleset so_laws = (so_behind, so_at_end)
+pub ruleset so_laws = (so_after, so_at_end)

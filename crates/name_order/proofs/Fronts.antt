@@ -13,7 +13,7 @@ use Rattle.name_order.specs.Order.{token_cmp, token_order, tokens, tokens_after,
 use Rattle.name_order.specs.Digits.{AreDigits, AreEqualDigits, BeginsByNumber}
 use Rattle.name_order.specs.Numbers.{GoOnWithNumbers}
 use Rattle.name_order.proofs.Numbers.{stays_above}
-use Rattle.name_order.proofs.Runs.{AreDigits-run, behind, goes_on, run}
+use Rattle.name_order.proofs.Runs.{AreDigits-run, following, goes_on, run}
 
 pub known_digit : (x : ℕ) → is_ascii_digit x ≡ true → IsAsciiDigit x
 known_digit x e = grind (arith, nat_tests)
@@ -66,10 +66,10 @@ first_below n (x ∷ xs) (y ∷ ys) digits long some below least = stays_above (
 
 module _ (n : ℕ) (a b : List ℕ) where
   number_below : fold with_digit n (run a) < fold with_digit n (run b) → Less ≡ slice_cmp token_cmp (tokens_after (Some n) a) (tokens_after (Some n) b)
-  number_below h = rw (goes_on n a, goes_on n b) (ap (λ r. ordering_then r (slice_cmp token_cmp (tokens_after None (behind a)) (tokens_after None (behind b)))) (nat_cmp_is (fold with_digit n (run a)) (fold with_digit n (run b)) Less h))
+  number_below h = rw (goes_on n a, goes_on n b) (ap (λ r. ordering_then r (slice_cmp token_cmp (tokens_after None (following a)) (tokens_after None (following b)))) (nat_cmp_is (fold with_digit n (run a)) (fold with_digit n (run b)) Less h))
 
   number_above : fold with_digit n (run b) < fold with_digit n (run a) → Greater ≡ slice_cmp token_cmp (tokens_after (Some n) a) (tokens_after (Some n) b)
-  number_above h = rw (goes_on n a, goes_on n b) (ap (λ r. ordering_then r (slice_cmp token_cmp (tokens_after None (behind a)) (tokens_after None (behind b)))) (nat_cmp_is (fold with_digit n (run a)) (fold with_digit n (run b)) Greater h))
+  number_above h = rw (goes_on n a, goes_on n b) (ap (λ r. ordering_then r (slice_cmp token_cmp (tokens_after None (following a)) (tokens_after None (following b)))) (nat_cmp_is (fold with_digit n (run a)) (fold with_digit n (run b)) Greater h))
 
   counts_decide : (0 < n ⊎ ((48 < get_or (run a) 0 0) × (48 < get_or (run b) 0 0))) → (prefix_len is_ascii_digit a ≡ prefix_len is_ascii_digit b → ⊥)
       → nat_cmp (prefix_len is_ascii_digit a) (prefix_len is_ascii_digit b) ≡ slice_cmp token_cmp (tokens_after (Some n) a) (tokens_after (Some n) b)
@@ -117,10 +117,10 @@ at_front (suc k) [] = refl
 at_front (suc k) (x ∷ xs) = at_front k xs
 
 -- the order of the names is the order of the tokens after k digits, with the number n read so far
-abbrev Behind : ℕ → ℕ → List ℕ → List ℕ → Ordering → Type 0
-Behind k n a b order = order ≡ slice_cmp token_cmp (tokens_after (Some n) (drop k a)) (tokens_after (Some n) (drop k b))
+abbrev After : ℕ → ℕ → List ℕ → List ℕ → Ordering → Type 0
+After k n a b order = order ≡ slice_cmp token_cmp (tokens_after (Some n) (drop k a)) (tokens_after (Some n) (drop k b))
 
-passed : (k n : ℕ) (a b : List ℕ) → 0 < n → AreEqualDigits k a b → (m : ℕ) × (0 < m) × Behind k m a b (slice_cmp token_cmp (tokens_after (Some n) a) (tokens_after (Some n) b))
+passed : (k n : ℕ) (a b : List ℕ) → 0 < n → AreEqualDigits k a b → (m : ℕ) × (0 < m) × After k m a b (slice_cmp token_cmp (tokens_after (Some n) a) (tokens_after (Some n) b))
 passed zero n a b p e = (n, p, refl)
 passed (suc k) n [] b p e = absurd e
 passed (suc k) n (x ∷ a) [] p e = absurd e
@@ -143,16 +143,16 @@ first_above : (xs : List ℕ) → BeginsByNumber xs → 48 < get_or (run xs) 0 0
 first_above xs p = let x = first-run xs (some_digit xs p) in omega (arith, x.0, p.0)
 
 -- names that begin with numbers continue them after their equal digits
-pub behind_equal : (k : ℕ) (a b : List ℕ) → AreEqualDigits k a b → BeginsByNumber a → BeginsByNumber b → GoOnWithNumbers k a b
+pub after_equal : (k : ℕ) (a b : List ℕ) → AreEqualDigits k a b → BeginsByNumber a → BeginsByNumber b → GoOnWithNumbers k a b
 unfolding tokens
-behind_equal zero a b e first second = record {
+after_equal zero a b e first second = record {
   number = 0;
   begun = inr (first, second);
   order = rw (from_nothing a (some_digit a first), from_nothing b (some_digit b second)) refl;
 }
-behind_equal (suc k) [] b e first second = absurd e
-behind_equal (suc k) (x ∷ a) [] e first second = absurd e
-behind_equal (suc k) (x ∷ a) (y ∷ b) e first second =
+after_equal (suc k) [] b e first second = absurd e
+after_equal (suc k) (x ∷ a) [] e first second = absurd e
+after_equal (suc k) (x ∷ a) (y ∷ b) e first second =
     let dx : is_ascii_digit x ≡ true = digit_known x e.1 in
     let dy : is_ascii_digit y ≡ true = subst (λ z. is_ascii_digit z ≡ true) e.0 dx in
     let r = passed k (with_digit 0 x) a b (omega (arith, first.0)) e.2 in

@@ -16,17 +16,17 @@ use Rattle.name_order.specs.Digits.{AreDigits}
 abbrev pub run : List ℕ → List ℕ
 run xs = take (prefix_len is_ascii_digit xs) xs
 
-abbrev pub behind : List ℕ → List ℕ
-behind xs = drop (prefix_len is_ascii_digit xs) xs
+abbrev pub following : List ℕ → List ℕ
+following xs = drop (prefix_len is_ascii_digit xs) xs
 
 -- a number that has begun continues to the last digit of the run
-pub goes_on : (n : ℕ) (xs : List ℕ) → tokens_after (Some n) xs ≡ Number (fold with_digit n (run xs)) ∷ tokens_after None (behind xs)
+pub goes_on : (n : ℕ) (xs : List ℕ) → tokens_after (Some n) xs ≡ Number (fold with_digit n (run xs)) ∷ tokens_after None (following xs)
 goes_on n [] = refl
 goes_on n (x ∷ xs) = by (is_ascii_digit x) refl (goes_on (with_digit n x) xs)
   where
     by : (b : Bool) → is_ascii_digit x ≡ b
-        → tokens_after (Some (with_digit n x)) xs ≡ Number (fold with_digit (with_digit n x) (run xs)) ∷ tokens_after None (behind xs)
-        → tokens_after (Some n) (x ∷ xs) ≡ Number (fold with_digit n (run (x ∷ xs))) ∷ tokens_after None (behind (x ∷ xs))
+        → tokens_after (Some (with_digit n x)) xs ≡ Number (fold with_digit (with_digit n x) (run xs)) ∷ tokens_after None (following xs)
+        → tokens_after (Some n) (x ∷ xs) ≡ Number (fold with_digit n (run (x ∷ xs))) ∷ tokens_after None (following (x ∷ xs))
     by true e rest = rw (e, one-add (prefix_len is_ascii_digit xs)) rest
     by false e rest = simp e
 
@@ -43,12 +43,12 @@ AreDigits-run (x ∷ xs) = by (is_ascii_digit x) refl (AreDigits-run xs)
     by false e rest = rw e tt
 
 -- the first token of a name that begins with a digit
-pub tokens-run : (name : List ℕ) → 0 < prefix_len is_ascii_digit name → tokens name ≡ Number (value (run name)) ∷ tokens (behind name)
+pub tokens-run : (name : List ℕ) → 0 < prefix_len is_ascii_digit name → tokens name ≡ Number (value (run name)) ∷ tokens (following name)
 unfolding tokens
 tokens-run [] some = absurd (omega arith)
 tokens-run (x ∷ xs) some = by (is_ascii_digit x) refl
   where
-    by : (b : Bool) → is_ascii_digit x ≡ b → tokens (x ∷ xs) ≡ Number (value (run (x ∷ xs))) ∷ tokens (behind (x ∷ xs))
+    by : (b : Bool) → is_ascii_digit x ≡ b → tokens (x ∷ xs) ≡ Number (value (run (x ∷ xs))) ∷ tokens (following (x ∷ xs))
     by true e = rw (e, one-add (prefix_len is_ascii_digit xs)) (goes_on (with_digit 0 x) xs)
     by false e = absurd (let none : prefix_len is_ascii_digit (x ∷ xs) ≡ 0 = simp e in omega arith)
 

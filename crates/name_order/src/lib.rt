@@ -36,7 +36,7 @@ fn compare_first(a: &[u8], b: &[u8]) -> Option<Ordering>
 
 // The number of digits that follow the first `count` bytes of a name.
 #[tactic(auto, using(std::proofs::lemmas::List::take_rest))]
-fn digits_behind(name: &[u8], count: usize) -> usize
+fn digits_after(name: &[u8], count: usize) -> usize
     requires { count ≤ length name.now }
     ensures value { result ≡ prefix_len is_ascii_digit (drop count name.now) }
     ensures bound { count + result ≤ length name.now }
@@ -58,7 +58,7 @@ fn compare_digits(a: &[u8], b: &[u8], count: usize) -> Option<Ordering>
     requires numbers { GoOnWithNumbers count a.now b.now }
     ensures { IfSome result (λ order. order ≡ token_order a.now b.now) }
 {
-    let (m, n) = (digits_behind(a, count), digits_behind(b, count));
+    let (m, n) = (digits_after(a, count), digits_after(b, count));
     if m != n {
         return Some(m.cmp(&n));
     }
@@ -69,7 +69,7 @@ fn compare_digits(a: &[u8], b: &[u8], count: usize) -> Option<Ordering>
 }
 
 // The order of two names that begin with `count` equal digits, if the first number or the first byte decides it.
-#[tactic(auto, using(crate::proofs::Fronts::behind_equal))]
+#[tactic(auto, using(crate::proofs::Fronts::after_equal))]
 fn compare_fronts(a: &[u8], b: &[u8], count: usize) -> Option<Ordering>
     requires within { (count ≤ length a.now) × (count ≤ length b.now) }
     requires equal { AreEqualDigits count a.now b.now }
@@ -131,7 +131,7 @@ fn compare_in_numbers(a: &[u8], b: &[u8], same: usize) -> Option<Ordering>
 }
 
 // The order of two names whose first `same` bytes are equal. The comparison begins at the part that contains the next byte.
-fn compare_behind(a: &[u8], b: &[u8], same: usize) -> Ordering
+fn compare_after(a: &[u8], b: &[u8], same: usize) -> Ordering
     requires within { (same ≤ length a.now) × (same ≤ length b.now) }
     requires same { take same a.now ≡ take same b.now }
     ensures { result ≡ token_order a.now b.now }
@@ -154,7 +154,7 @@ pub fn compare_tokens(a: &[u8], b: &[u8]) -> Ordering
     }
     match compare_in_numbers(a, b, same) {
         Some(order) => order,
-        None => compare_behind(a, b, same),
+        None => compare_after(a, b, same),
     }
 }
 

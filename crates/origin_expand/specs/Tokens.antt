@@ -23,14 +23,14 @@ abbrev pub is_in_name : ℕ → Bool
 is_in_name b = is_ascii_alphanumeric b || b == 95
 
 -- The rest of a part after a token at its front. Without braces, the longest run of letters, digits and `_` must be the token's name.
-abbrev pub behind : List ℕ → Token → Option (List ℕ)
-behind part token =
+abbrev pub following : List ℕ → Token → Option (List ℕ)
+following part token =
     if bytes_eq (take_while is_in_name part) (name_of token) then Some (drop (length (name_of token)) part) else
     if starts_with nat_eq part (in_braces token) then Some (drop (length (in_braces token)) part) else
     None
 
 abbrev pub read : List ℕ → Token → Option (Token × List ℕ)
-read part token = option_map (λ rest. (token, rest)) (behind part token)
+read part token = option_map (λ rest. (token, rest)) (following part token)
 
 -- the token at the front of a part, and the rest of the part
 abbrev pub token_in : List ℕ → Option (Token × List ℕ)
@@ -50,7 +50,7 @@ dollar = 36
 abbrev pub is_dollar : ℕ → Bool
 is_dollar b = b == dollar
 
--- replaces a token by its value; if there is no token, the dollar stays
+-- replaces a token by its value; a dollar without a token stays
 abbrev pub with_value : (Token → List ℕ) → List ℕ → Option (Token × List ℕ) → List ℕ
 with_value value part (Some (token, rest)) = value token ++ rest
 with_value value part None = dollar ∷ part
@@ -79,6 +79,6 @@ has_origin_in (front ∷ parts) = list_any begins_with_origin parts
 unfoldable pub has_origin : List ℕ → Bool
 has_origin text = has_origin_in (slice_split is_dollar text)
 
--- The text with its tokens replaced by their values. In secure execution there is no result if the text contains `$ORIGIN`.
+-- The text with its tokens replaced by their values. In secure execution a text with `$ORIGIN` has no result.
 unfoldable pub expanded : (Token → List ℕ) → Bool → List ℕ → Option (List ℕ)
 expanded value secure text = if secure && has_origin text then None else Some (join_replaced value (slice_split is_dollar text))

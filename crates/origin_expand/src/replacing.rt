@@ -70,7 +70,7 @@ fn add_replaced(out: &mut Vec<u8>, values: Values<'_>, part: &[u8]) -> Result<()
     Ok(())
 }
 
-/// The text with its tokens replaced. In secure execution there is no result if the text contains `$ORIGIN`.
+/// The text with its tokens replaced. In secure execution a text with `$ORIGIN` has no result.
 ///
 /// A token's value is inserted unchanged: if the origin is `/`, `$ORIGIN/lib` gives `//lib`.
 #[tactic(auto, unfolding(crate::specs::Tokens::expanded))]

@@ -2,7 +2,7 @@
 ghost use Rattle.std.specs.Prelude.{◌≡◌, ◌<◌, not, length, position, option_map, IfSome};
 ghost use Rattle.std.specs.List.{take_while};
 ghost use Rattle.std.specs.Option.{option_copied};
-ghost use Rattle.origin_expand.specs.Tokens.{behind, in_braces, is_in_name, is_origin, name_of, read, token_in};
+ghost use Rattle.origin_expand.specs.Tokens.{following, in_braces, is_in_name, is_origin, name_of, read, token_in};
 
 /// A token that the loader replaces in its paths.
 #[derive(Clone, Copy, Debug, PartialEq, Eq)]
@@ -73,8 +73,8 @@ fn run(part: &[u8]) -> &[u8]
 }
 
 // The rest of a part after a token, if the part begins with this token.
-fn behind(part: &[u8], token: Token) -> Option<&[u8]>
-    ensures { option_copied result ≡ behind part.now token }
+fn following(part: &[u8], token: Token) -> Option<&[u8]>
+    ensures { option_copied result ≡ following part.now token }
 {
     if run(part) == token.name() {
         return Some(&part[token.name().len()..]);
@@ -88,7 +88,7 @@ fn behind(part: &[u8], token: Token) -> Option<&[u8]>
 fn read(part: &[u8], token: Token) -> Option<(Token, &[u8])>
     ensures { option_map (λ found. (found.0, found.1.now)) result ≡ read part.now token }
 {
-    Some((token, behind(part, token)?))
+    Some((token, following(part, token)?))
 }
 
 /// The token after a dollar, and the rest after the token.

@@ -2,7 +2,7 @@
 use lib_types::{NoMemory, Text};
 use origin_expand::expand;
 use std::alloc::Global;
-use table_rows::{Row, Said, Trial, Words, divide, has_line, value};
+use table_rows::{Differences, Row, Trial, Words, divide, has_line, value};
 
 /// A row has the replacements of the tokens, and `secure` for secure execution. Each line `text` is followed by the result, or by `-` if
 /// the text is dropped.
@@ -21,11 +21,11 @@ fn gives(
     row: Row<'_>,
     text: &[u8],
     want: &[u8],
-    said: &mut Said,
+    differences: &mut Differences,
 ) -> Result<bool, NoMemory> {
     match expanded(alloc, row, text)? {
-        Some(got) => said.is_same(text, want, got.as_bytes()),
-        None => said.is_same(text, want, b"-"),
+        Some(got) => differences.is_same(text, want, got.as_bytes()),
+        None => differences.is_same(text, want, b"-"),
     }
 }
 
@@ -36,7 +36,11 @@ impl Trial for Tokens {
         WORDS
     }
 
-    fn is_right(alloc: Global, row: Row<'_>, said: &mut Said) -> Result<bool, NoMemory> {
+    fn is_right(
+        alloc: Global,
+        row: Row<'_>,
+        differences: &mut Differences,
+    ) -> Result<bool, NoMemory> {
         let mut is_right = true;
         let mut text: &[u8] = b"";
         for line in row {
@@ -45,7 +49,7 @@ impl Trial for Tokens {
                 text = rest;
             }
             if word == b"gives".as_slice() {
-                is_right = gives(alloc, row, text, rest, said)? && is_right;
+                is_right = gives(alloc, row, text, rest, differences)? && is_right;
             }
         }
         Ok(is_right)

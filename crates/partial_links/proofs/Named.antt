@@ -1,21 +1,21 @@
 -- The sonames in what files are said to be are names.
 use Rattle.std.proofs.Common.{◌≡◌, ◌++◌, ◌&&◌, ℕ, zero, suc, Bool, true, false, if◌then◌else◌, cond, drop, find, not, List, [], ◌∷◌, Option, Some, None, option_map, refl, ap, sym, subst, ◌∙◌}
-use Rattle.std.proofs.lemmas.List.Elements.{All-append, All-cons, All-nil}
+use Rattle.std.proofs.lemmas.List.Elements.{All-append, All-cons, All-nil, All-weaker}
 use Rattle.std.specs.List.{All, before_first, cons_option}
 use Rattle.std.specs.Option.{option_and_then, option_map_or, option_or}
 use Rattle.std.specs.Prelude.{IfSome}
 use Rattle.std.specs.Str.{bytes_eq}
-use Rattle.aux_cache.specs.Stamps as stamps
-use Rattle.aux_cache.specs.Stamps.{stamp_of}
+use Rattle.aux_cache.proofs.Found.{found_holds}
+use Rattle.aux_cache.specs.Stamps.{AreRecordable, IsRecordable, stamp_of}
 use Rattle.aux_cache.specs.declared.stamps.Stamp.{Stamp}
 use Rattle.elf_dynamic.specs.Analysis.{analysis, analysis_by, defect, sentences}
 use Rattle.elf_dynamic.specs.Begun.{key_in}
 use Rattle.elf_dynamic.specs.Object.{entries, soname_of, table}
 use Rattle.elf_headers.specs.Header.{Sentence, abi, first_defect}
 use Rattle.elf_headers.specs.Layout.{is_wide, machine, word_size}
-use Rattle.file_stamps.proofs.Stamps.{name_found, stamp_by_says}
+use Rattle.file_stamps.proofs.Stamps.{recordable_named}
 use Rattle.file_stamps.specs.Files.{what_is}
-use Rattle.file_stamps.specs.Said.{said_in}
+use Rattle.file_stamps.specs.Info.{info_in}
 use Rattle.file_stamps.specs.Stamped.{id_at, of_stamp, stamp_at, stamp_by, stamp_for, stamps_at}
 use Rattle.file_table.specs.Analyses.{Analyses, HaveNames, has_name, is_soname}
 use Rattle.hwcap_dirs.specs.declared.kinds.Scope.{Scope}
@@ -83,19 +83,9 @@ analysis_named bytes = by (defect bytes) refl
 
 -- ---- stamps
 
-stamp_named : (s : Stamp) → has_name (of_stamp s) ≡ true → stamps.HasName s
-stamp_named s h = by s.soname h
-  where
-    by : (o : Option (List ℕ)) → is_soname o ≡ true → IfSome o (λ soname. is_name soname ≡ true)
-    by None h = tt
-    by (Some soname) h = h
-
-named_stamp : (s : Stamp) → stamps.HasName s → has_name (of_stamp s) ≡ true
-named_stamp s h = by s.soname h
-  where
-    by : (o : Option (List ℕ)) → IfSome o (λ soname. is_name soname ≡ true) → is_soname o ≡ true
-    by None h = refl
-    by (Some soname) h = h
+-- the soname in a stamp is a name
+abbrev IsNamed : Stamp → Type 0
+IsNamed s = has_name (of_stamp s) ≡ true
 
 module _ (held : Contents) (t : Nodes) where
   what_named : HaveNames (what_is held t)
@@ -105,39 +95,41 @@ module _ (held : Contents) (t : Nodes) where
       by None e = absurd (cc)
       by (Some bytes) e = let same : analysis bytes ≡ found = cc in subst (λ (a : Analysis). has_name a ≡ true) same (analysis_named bytes)
 
-  at_named : (path : List ℕ) (s : Stamp) → stamp_at held t path ≡ Some s → stamps.HasName s
-  at_named path s e = by (id_at t path) (what_is held t path) refl e
+  at_named : (path : List ℕ) → IfSome (stamp_at held t path) IsNamed
+  at_named path = by (id_at t path) (what_is held t path) (what_named path)
     where
-      by : (id : Option Id) (o : Option Analysis) → what_is held t path ≡ o → stamp_by id o ≡ Some s → stamps.HasName s
-      by None o is e = absurd (cc)
-      by (Some id) None is e = absurd (cc)
-      by (Some id) (Some found) is e =
-          stamp_named s (subst (λ (a : Analysis). has_name a ≡ true) (stamp_by_says (Some id) found s e) (what_named path found is))
+      by : (id : Option Id) (o : Option Analysis) → ((found : Analysis) → o ≡ Some found → has_name found ≡ true) → IfSome (stamp_by id o) IsNamed
+      by None o named = tt
+      by (Some id) None named = tt
+      by (Some id) (Some found) named = named found refl
 
-  all_named : (paths : List (List ℕ)) → All stamps.HasName (stamps_at held t paths)
-  all_named [] = All-nil stamps.HasName
-  all_named (path ∷ paths) = elim (stamp_at held t path) as (λ o. stamp_at held t path ≡ o → All stamps.HasName (cons_option o (stamps_at held t paths))) [
-    | None ↦ λ e. all_named paths
-    | Some s ↦ λ e. All-cons stamps.HasName s (stamps_at held t paths) (at_named path s e) (all_named paths)
-  ] refl
+  all_named : (paths : List (List ℕ)) → All IsNamed (stamps_at held t paths)
+  all_named [] = All-nil IsNamed
+  all_named (path ∷ paths) = elim (stamp_at held t path) as (λ o. IfSome o IsNamed → All IsNamed (cons_option o (stamps_at held t paths))) [
+    | None ↦ λ h. all_named paths
+    | Some s ↦ λ h. All-cons IsNamed s (stamps_at held t paths) h (all_named paths)
+  ] (at_named path)
 
   -- ---- what files are said to be
 
-  pub said_named : (loaded : List Stamp) → stamps.HaveNames loaded → (paths : List (List ℕ)) → HaveNames (said_in held t loaded paths)
-  said_named loaded names paths path found e = by_stamp (stamp_for xs t path) (by_id (id_at t path)) e
+  pub info_named : (loaded : List Stamp) → AreRecordable loaded → (paths : List (List ℕ)) → HaveNames (info_in held t loaded paths)
+  info_named loaded are paths path found e = by_stamp (stamp_for xs t path) (by_id (id_at t path)) e
     where
       xs : List Stamp
       xs = loaded ++ stamps_at held t (before_first (bytes_eq path) paths)
 
-      by_id : (o : Option Id) (s : Stamp) → option_and_then (stamp_of xs) o ≡ Some s → stamps.HasName s
-      by_id None s e = absurd (cc)
-      by_id (Some id) s e = name_found xs id s (All-append stamps.HasName loaded _ names (all_named (before_first (bytes_eq path) paths))) (sym e)
+      loaded_named : All IsNamed loaded
+      loaded_named = All-weaker (λ (s : Stamp). IsRecordable s.analysis) IsNamed (λ s h. recordable_named s.analysis h) loaded are
 
-      by_stamp : (o : Option Stamp) → ((s : Stamp) → o ≡ Some s → stamps.HasName s) → option_or (option_map of_stamp o) (what_is held t path) ≡ Some found → has_name found ≡ true
+      by_id : (o : Option Id) → IfSome (option_and_then (stamp_of xs) o) IsNamed
+      by_id None = tt
+      by_id (Some id) = found_holds IsNamed xs id (All-append IsNamed loaded _ loaded_named (all_named (before_first (bytes_eq path) paths)))
+
+      by_stamp : (o : Option Stamp) → IfSome o IsNamed → option_or (option_map of_stamp o) (what_is held t path) ≡ Some found → has_name found ≡ true
       by_stamp None named e = what_named path found e
       by_stamp (Some s) named e =
           let same : of_stamp s ≡ found = cc in
-          subst (λ (a : Analysis). has_name a ≡ true) same (named_stamp s (named s refl))
+          subst (λ (a : Analysis). has_name a ≡ true) same named
 
 -- ---- those that the loader can search for
 

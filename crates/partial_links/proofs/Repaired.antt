@@ -1,7 +1,7 @@
 -- An update of a tree with a part of its planned links ends and writes as one of the tree.
 use Rattle.std.proofs.Common.{◌≡◌, ◌∷◌, ◌≤◌, ℕ, Bool, true, false, nat_lt, List, [], length, Option, None, refl, ap, sym, subst, ◌∙◌}
 use Rattle.aux_cache.specs.AuxText.{aux_text}
-use Rattle.aux_cache.specs.Stamps.{HaveNames}
+use Rattle.aux_cache.specs.Stamps.{AreRecordable}
 use Rattle.cache_entries.specs.Entries.{AreEntriesOf}
 use Rattle.cache_layout.specs.declared.limits.TheConstants.{ENTRIES_MAX}
 use Rattle.cache_writer.specs.CacheText.{cache_text}
@@ -18,7 +18,7 @@ use Rattle.ldconfig_core.specs.Outcome.{Lacking, Outcome, TooLarge, TooMany, fir
 use Rattle.ldconfig_core.specs.Texts.{AreAlike, AreTextsOf, UpdateTexts}
 use Rattle.ldso_conf.specs.Reading.{conf_lacks}
 use Rattle.lib_types.specs.declared.entry.Entry.{Entry}
-use Rattle.library_search.specs.Begun.{behind_keys, wanted_keys}
+use Rattle.library_search.specs.Begun.{after_keys, wanted_keys}
 use Rattle.library_search.specs.Ldconfig.{conf_of, entries_in, links_in, planned_in}
 use Rattle.link_plan.specs.declared.kinds.Planned.{Planned}
 use Rattle.soname_links.specs.Apply.{nodes_with}
@@ -70,19 +70,19 @@ module _ (scope : Scope) (none : is_image scope ≡ false) (held : Contents) (s 
   same_outcome =
       let t = s.tree in
       let loaded = s.stamps in
-      ap (λ b. outcome_by b (wanted_keys scope held new loaded) (nodes_with new (links_in scope held new loaded)) (behind_keys scope held new loaded)
+      ap (λ b. outcome_by b (wanted_keys scope held new loaded) (nodes_with new (links_in scope held new loaded)) (after_keys scope held new loaded)
       (new_manifest scope held again) (planned_in scope held new loaded) (entries_in scope held new loaded)) finds.lacks
-      ∙ ap (λ keys. outcome_by (conf_lacks (conf_of scope) held t) keys (nodes_with new (links_in scope held new loaded)) (behind_keys scope held new loaded)
+      ∙ ap (λ keys. outcome_by (conf_lacks (conf_of scope) held t) keys (nodes_with new (links_in scope held new loaded)) (after_keys scope held new loaded)
       (new_manifest scope held again) (planned_in scope held new loaded) (entries_in scope held new loaded)) finds.first_files
-      ∙ ap (λ n. outcome_by (conf_lacks (conf_of scope) held t) (wanted_keys scope held t loaded) n (behind_keys scope held new loaded)
+      ∙ ap (λ n. outcome_by (conf_lacks (conf_of scope) held t) (wanted_keys scope held t loaded) n (after_keys scope held new loaded)
       (new_manifest scope held again) (planned_in scope held new loaded) (entries_in scope held new loaded)) finds.nodes
       ∙ ap (λ keys. outcome_by (conf_lacks (conf_of scope) held t) (wanted_keys scope held t loaded) (nodes_with t (links_in scope held t loaded)) keys
       (new_manifest scope held again) (planned_in scope held new loaded) (entries_in scope held new loaded)) finds.later_files
-      ∙ ap (λ text. outcome_by (conf_lacks (conf_of scope) held t) (wanted_keys scope held t loaded) (nodes_with t (links_in scope held t loaded)) (behind_keys scope held t loaded)
+      ∙ ap (λ text. outcome_by (conf_lacks (conf_of scope) held t) (wanted_keys scope held t loaded) (nodes_with t (links_in scope held t loaded)) (after_keys scope held t loaded)
       text (planned_in scope held new loaded) (entries_in scope held new loaded)) (no_manifest again ∙ sym (no_manifest s))
-      ∙ ap (λ n. outcome_by (conf_lacks (conf_of scope) held t) (wanted_keys scope held t loaded) (nodes_with t (links_in scope held t loaded)) (behind_keys scope held t loaded)
+      ∙ ap (λ n. outcome_by (conf_lacks (conf_of scope) held t) (wanted_keys scope held t loaded) (nodes_with t (links_in scope held t loaded)) (after_keys scope held t loaded)
       (new_manifest scope held s) n (entries_in scope held new loaded)) finds.planned
-      ∙ ap (outcome_by (conf_lacks (conf_of scope) held t) (wanted_keys scope held t loaded) (nodes_with t (links_in scope held t loaded)) (behind_keys scope held t loaded)
+      ∙ ap (outcome_by (conf_lacks (conf_of scope) held t) (wanted_keys scope held t loaded) (nodes_with t (links_in scope held t loaded)) (after_keys scope held t loaded)
       (new_manifest scope held s) (planned_in scope held t loaded)) finds.entries
 
   writes_same : WritesSame scope held s again
@@ -111,9 +111,9 @@ module _ (scope : Scope) (none : is_image scope ≡ false) (held : Contents) (s 
     }
 
 -- What is left of the links of an image's update is repaired by the next one.
-pub repaired : (scope : Scope) → is_image scope ≡ false → (held : Contents) (s : Loaded) (new : Nodes) → IsTree s.tree → HaveNames s.stamps → IsPathSorted new
+pub repaired : (scope : Scope) → is_image scope ≡ false → (held : Contents) (s : Loaded) (new : Nodes) → IsTree s.tree → AreRecordable s.stamps → IsPathSorted new
     → nodes_with s.tree (links_in scope held s.tree s.stamps) ≤ NODES_MAX → HasPart s.tree (links_in scope held s.tree s.stamps) new → IsRepaired scope held s new
-repaired scope none held s new tree names sorted few part =
-    let after = is_tree scope held s.tree s.stamps new tree names part sorted few in
-    let finds = finds_same scope held s.tree s.stamps new tree names part after in
+repaired scope none held s new tree are sorted few part =
+    let after = is_tree scope held s.tree s.stamps new tree are part sorted few in
+    let finds = finds_same scope held s.tree s.stamps new tree are part after in
     record { is_tree = after; finds = finds; writes = writes_same scope none held s new finds; stamped = stamped scope none held s new finds }

@@ -3,7 +3,7 @@ use Rattle.std.proofs.Common.{◌≡◌, ◌⊎◌, ◌≤◌, inl, inr, ℕ, Bo
 use Rattle.std.proofs.lemmas.Bool.Decides.{nat_tests}
 use Rattle.std.specs.Option.{option_map}
 use Rattle.atomic_replace.specs.Replace.{Write}
-use Rattle.aux_cache.specs.Stamps.{HaveNames}
+use Rattle.aux_cache.specs.Stamps.{AreRecordable}
 use Rattle.elf_dynamic.specs.Begun.{lacks_one}
 use Rattle.hwcap_dirs.specs.declared.kinds.Scope.{Scope}
 use Rattle.image_session.specs.Aux.{stamps_of_slot}
@@ -31,7 +31,7 @@ use Rattle.tree_face.specs.Store.{Contents}
 use Rattle.tree_face.specs.declared.disk.Tag.{Tag}
 use Rattle.partial_links.proofs.Left.{all_made, crash_leaves, first_made}
 use Rattle.partial_links.proofs.Repaired.{repaired}
-use Rattle.partial_links.proofs.Slots.{slot_named}
+use Rattle.partial_links.proofs.Slots.{slot_recordable}
 use Rattle.partial_links.proofs.Trees.{whole_tree}
 use Rattle.partial_links.specs.Left.{IsLeft, MightBeLeft, Repairs, linkings}
 use Rattle.partial_links.specs.Partial.{HasPart, IsOfPlan}
@@ -146,5 +146,5 @@ repairs scope none held s aux plan asked tag writes result start old new c stamp
     let room = room_for scope held s outcome in
     let of_dir : IsWhole c.now = subst (λ o. IfKnown o (λ (c : FolderContent). IsWhole c.now)) known whole in
     let tree : IsTree s.tree = whole_tree s.tree (subst (λ (t : Nodes). IsWhole t) (sym tree_is) of_dir) (omega (arith, room)) in
-    repaired scope none held s left tree (subst HaveNames (sym stamps_are) (slot_named aux)) (left_sorted start new.folder later left is) room
+    repaired scope none held s left tree (subst AreRecordable (sym stamps_are) (slot_recordable aux)) (left_sorted start new.folder later left is) room
     (subst (λ (p : List Planned). HasPart s.tree p left) plan_is (subst (λ (t : Nodes). HasPart t plan left) (sym tree_is) part))

@@ -23,16 +23,16 @@ use Rattle.root_folder.specs.Whole.{IsWhole}
 abbrev AreFound : Nodes → Nodes → Type 0
 AreFound t some = AllByRecursion (λ (e : List ℕ × Node). node_at t e.0 ≡ Some e.1) some
 
-found_behind : (x : List ℕ × Node) (t some : Nodes) → AllByRecursion (λ k. path_cmp x.0 k ≡ Less) (keys_of some) → AreFound t some → AreFound (x ∷ t) some
-found_behind x t [] behind found = tt
-found_behind x t (e ∷ some) behind found =
-    (ap (λ r. cond (is_eq r) (Some x.1) (node_at t e.0)) (flipped path_total x.0 e.0 Less behind.0) ∙ found.0, found_behind x t some behind.1 found.1)
+found_after : (x : List ℕ × Node) (t some : Nodes) → AllByRecursion (λ k. path_cmp x.0 k ≡ Less) (keys_of some) → AreFound t some → AreFound (x ∷ t) some
+found_after x t [] following found = tt
+found_after x t (e ∷ some) following found =
+    (ap (λ r. cond (is_eq r) (Some x.1) (node_at t e.0)) (flipped path_total x.0 e.0 Less following.0) ∙ found.0, found_after x t some following.1 found.1)
 
 all_found : (t : Nodes) → IsPathSorted t → AreFound t t
 all_found [] sorted = tt
 all_found (x ∷ t) sorted = (
   ap (λ r. cond (is_eq r) (Some x.1) (node_at t x.0)) (tied_itself path_total x.0),
-  found_behind x t t (sorted_head path_cmp x.0 (keys_of t) sorted) (all_found t (sorted_tail path_cmp x.0 (keys_of t) sorted)),
+  found_after x t t (sorted_head path_cmp x.0 (keys_of t) sorted) (all_found t (sorted_tail path_cmp x.0 (keys_of t) sorted)),
 )
 
 -- ---- what is above a node is a directory
@@ -58,10 +58,10 @@ module _ (t : Nodes) where
         all_sound whole some (λ q below. into q (or_right (is_below q e.0) (has_below some q) below)) parts.1 found.1,
       )
 
-  apart : (below dir : Bool) → (below ≡ true → dir ≡ true) → (below && not dir) ≡ false
-  apart true true h = refl
-  apart true false h = let z : false ≡ true = h refl in absurd (cc)
-  apart false dir h = refl
+  differ : (below dir : Bool) → (below ≡ true → dir ≡ true) → (below && not dir) ≡ false
+  differ true true h = refl
+  differ true false h = let z : false ≡ true = h refl in absurd (cc)
+  differ false dir h = refl
 
   swapped : (below dir : Bool) → (below ≡ true → dir ≡ true) → (not dir && below) ≡ false
   swapped true true h = refl
@@ -74,7 +74,7 @@ module _ (t : Nodes) where
   none_clashes e sound (x ∷ some) all =
       or_from _ _
       (or_from _ _
-      (apart (is_below x.0 e.0) (is_dir x.1) (λ below. all.0.dir (sound.above x.0 below)))
+      (differ (is_below x.0 e.0) (is_dir x.1) (λ below. all.0.dir (sound.above x.0 below)))
       (swapped (is_below e.0 x.0) (is_dir e.1) (λ below. sound.dir (all.0.above e.0 below))))
       (none_clashes e sound some all.1)
 

@@ -9,8 +9,8 @@ use Rattle.image_tree.specs.Tree.{Nodes, IsTree}
 use Rattle.ldconfig_core.specs.Outcome.{update_outcome}
 use Rattle.ldconfig_core.specs.Texts.{AreAlike, AreTextsOf, UpdateTexts}
 use Rattle.ldso_conf.specs.Reading.{conf_keys, conf_lacks}
-use Rattle.library_search.specs.Begun.{behind_keys, wanted_keys}
-use Rattle.library_search.specs.Ldconfig.{conf_in, conf_of, entries_in, links_in, places_in, planned_in, reached_in, said_files, said_wanted, stamps_in, walk_in, wanted_in}
+use Rattle.library_search.specs.Begun.{after_keys, wanted_keys}
+use Rattle.library_search.specs.Ldconfig.{conf_in, conf_of, entries_in, links_in, places_in, planned_in, reached_in, info_files, info_wanted, stamps_in, walk_in, wanted_in}
 use Rattle.soname_links.specs.Apply.{nodes_with}
 use Rattle.tree_face.specs.Store.{Contents}
 use Rattle.partial_links.specs.Partial.{missing}
@@ -20,13 +20,13 @@ pub record FindsSame (scope : Scope) (held : Contents) (t : Nodes) (loaded : Lis
   pub conf : conf_in scope held new ≡ conf_in scope held t
   pub places : places_in scope held new ≡ places_in scope held t
   pub wanted : wanted_in scope held new ≡ wanted_in scope held t
-  pub said_first : said_wanted scope held new loaded ≡ said_wanted scope held t loaded
+  pub info_first : info_wanted scope held new loaded ≡ info_wanted scope held t loaded
   -- the links that aren't there are planned, and they give the same planned tree
   pub rest : links_in scope held new loaded ≡ missing new (links_in scope held t loaded)
   pub planned : planned_in scope held new loaded ≡ planned_in scope held t loaded
   pub reached : reached_in scope held new loaded ≡ reached_in scope held t loaded
   -- each file is said to be the same
-  pub said : said_files scope held new loaded ≡ said_files scope held t loaded
+  pub info : info_files scope held new loaded ≡ info_files scope held t loaded
   pub entries : entries_in scope held new loaded ≡ entries_in scope held t loaded
   pub walk : walk_in scope held new loaded ≡ walk_in scope held t loaded
   pub stamps : stamps_in scope held new loaded ≡ stamps_in scope held t loaded
@@ -34,7 +34,7 @@ pub record FindsSame (scope : Scope) (held : Contents) (t : Nodes) (loaded : Lis
   pub conf_files : conf_keys (conf_of scope) held new ≡ conf_keys (conf_of scope) held t
   pub lacks : conf_lacks (conf_of scope) held new ≡ conf_lacks (conf_of scope) held t
   pub first_files : wanted_keys scope held new loaded ≡ wanted_keys scope held t loaded
-  pub later_files : behind_keys scope held new loaded ≡ behind_keys scope held t loaded
+  pub later_files : after_keys scope held new loaded ≡ after_keys scope held t loaded
   -- each path has the same identity and content
   pub ids : (path : List ℕ) → id_at new path ≡ id_at t path
   pub contents : (path : List ℕ) → content_of held new path ≡ content_of held t path

@@ -40,5 +40,5 @@ module _ (path : List ℕ) (n : ℕ) (ends : ends_at path n) (within : n ≤ len
       by [] (suc m) other le = absurd (omega arith)
       by (x ∷ xs) (suc m) other le = refl
 
-  pub last_behind : last path ≡ drop (n + 1) path
-  last_behind = ap (λ front. drop (length front + 1) path) ends ∙ ap (λ m. drop (m + 1) path) (length-take-le n path within)
+  pub last_after : last path ≡ drop (n + 1) path
+  last_after = ap (λ front. drop (length front + 1) path) ends ∙ ap (λ m. drop (m + 1) path) (length-take-le n path within)

@@ -192,12 +192,12 @@ module _ (t : Nodes) (p name : List ℕ) (free : list_any is_slash name ≡ fals
       ∙ ap (λ o. at_child (kind_of n) (at_link Full name (target_in o) [] p) (Ends (Ok q)) (Ends (Ok q))) e
       ∙ ap (λ names. at_child (kind_of n) (Follows names (start_of (target_in (Some n)) p)) (Ends (Ok q)) (Ends (Ok q))) (append-nil (components (target_in (Some n))))
 
-  pub file_beside : (key : List ℕ) (id : Option Id) → node_at t (join p name) ≡ Some (node.File key id)
+  pub file_next_to : (key : List ℕ) (id : Option Id) → node_at t (join p name) ≡ Some (node.File key id)
       → (steps t Full (components name) (start_of name p) ≡ Ends (Ok (join p name))) × (kind_at t (join p name) ≡ kinds.File)
-  file_beside key id e = (one_name (node.File key id) e, kind_of_node t (join p name) (node.File key id) proper e)
+  file_next_to key id e = (one_name (node.File key id) e, kind_of_node t (join p name) (node.File key id) proper e)
 
-  pub link_beside : (target : List ℕ) → node_at t (join p name) ≡ Some (node.Link target) → steps t Full (components name) (start_of name p) ≡ Follows (components target) (start_of target p)
-  link_beside target e = one_name (node.Link target) e
+  pub link_next_to : (target : List ℕ) → node_at t (join p name) ≡ Some (node.Link target) → steps t Full (components name) (start_of name p) ≡ Follows (components target) (start_of target p)
+  link_next_to target e = one_name (node.Link target) e
 
 -- ---- the link
 

@@ -9,8 +9,8 @@ use Rattle.path_walk.specs.Rest.{names_in}
 use Rattle.path_walk.specs.Walk.{Stop, Ends, Follows, at_file, steps, is_plain_mode, start_of, target_at}
 use Rattle.path_walk.specs.declared.walk.Mode.{Mode}
 use Rattle.path_walk.specs.declared.walk.Mode.TheVariants.{Full}
-use Rattle.path_walk.specs.declared.files.Beside.{Beside}
-use Rattle.path_walk.specs.declared.files.Beside.TheVariants as beside
+use Rattle.path_walk.specs.declared.files.NextTo.{NextTo}
+use Rattle.path_walk.specs.declared.files.NextTo.TheVariants as next_to
 use Rattle.path_walk.specs.declared.walk.WalkFault.{WalkFault}
 use Rattle.path_walk.specs.declared.walk.WalkFault.TheVariants.{Absent, TooManyLinks, NoMemory}
 use Rattle.path_walk.specs.declared.walk.Child.{Child}
@@ -88,7 +88,7 @@ HaltsAt t old new (halt.Reached e) = EndsAt t old new e
 HaltsAt t old new (halt.Link target rest) = KeepsDir t old new
 
 -- the walk by the target of a link in this folder ends at a file after one name, or goes on by the target of another link there
-abbrev pub IsBeside : Nodes → List ℕ → List ℕ → Beside → Type 0
-IsBeside t folder target (beside.File path) = (steps t Full (components target) (start_of target folder) ≡ Ends (Ok path)) × (kind_at t path ≡ kinds.File)
-IsBeside t folder target (beside.Link next) = steps t Full (components target) (start_of target folder) ≡ Follows (components next.now) (start_of next.now folder)
-IsBeside t folder target beside.Other = Unit {0}
+abbrev pub IsNextTo : Nodes → List ℕ → List ℕ → NextTo → Type 0
+IsNextTo t folder target (next_to.File path) = (steps t Full (components target) (start_of target folder) ≡ Ends (Ok path)) × (kind_at t path ≡ kinds.File)
+IsNextTo t folder target (next_to.Link next) = steps t Full (components target) (start_of target folder) ≡ Follows (components next.now) (start_of next.now folder)
+IsNextTo t folder target next_to.Other = Unit {0}

@@ -73,8 +73,8 @@ walk t mode zero (Follows names place) = Err TooManyLinks
 walk t mode (suc links) (Follows names place) = walk t mode links (steps t mode names place)
 
 -- the fault is the fault of the walk, or NoMemory
-abbrev pub LeadsNowhere : Result (List ℕ) WalkFault → WalkFault → Type 0
-LeadsNowhere walk fault = (fault ≡ NoMemory) ⊎ (walk ≡ Err fault)
+abbrev pub IsNotFound : Result (List ℕ) WalkFault → WalkFault → Type 0
+IsNotFound walk fault = (fault ≡ NoMemory) ⊎ (walk ≡ Err fault)
 
 -- the path, without links, to which a path text leads
 unfoldable pub resolution : Nodes → List ℕ → Mode → Result (List ℕ) WalkFault

@@ -3,7 +3,7 @@ ghost use Rattle.std.specs.Prelude.{◌≡◌, IfOk};
 ghost use Rattle.image_tree.specs.Tree.{IsTree, kind_at};
 ghost use Rattle.image_tree.specs.declared.tree.Kind.TheVariants as kinds;
 ghost use Rattle.path_walk.specs.Files.{file_at, file_from, GivesFile};
-ghost use Rattle.path_walk.specs.Stops.{IsBeside};
+ghost use Rattle.path_walk.specs.Stops.{IsNextTo};
 ghost use Rattle.path_walk.specs.Walk.{start_of};
 
 use crate::names::join;
@@ -61,7 +61,7 @@ fn file_by_target(
 
 // What a link's target names in the link's directory.
 #[derive(Drop)]
-enum Beside<'t> {
+enum NextTo<'t> {
     /// A file of this path.
     File(Text),
     /// A link with this target.
@@ -72,30 +72,30 @@ enum Beside<'t> {
 
 // What a link's target names in the link's directory, by one search. A path in a tree consists of names only. So if a target without
 // a slash has a node in this directory, the target is a name.
-#[tactic(auto, using(crate::proofs::Linked::file_beside, crate::proofs::Linked::link_beside))]
-fn find_beside<'t>(
+#[tactic(auto, using(crate::proofs::Linked::file_next_to, crate::proofs::Linked::link_next_to))]
+fn find_next_to<'t>(
     alloc: Global,
     tree: &'t Tree,
     folder: &[u8],
     target: &[u8],
-) -> Result<Beside<'t>, NoMemory>
-    ensures { IfOk result (IsBeside tree.now folder.now target.now) }
+) -> Result<NextTo<'t>, NoMemory>
+    ensures { IfOk result (IsNextTo tree.now folder.now target.now) }
 {
     if target.contains(&b'/') {
-        return Ok(Beside::Other);
+        return Ok(NextTo::Other);
     }
     let path = join(alloc, folder, target)?;
     match tree.node(path.as_bytes()) {
-        Some(Node::File { .. }) => Ok(Beside::File(path)),
-        Some(Node::Link { target }) => Ok(Beside::Link(target.as_bytes())),
-        _ => Ok(Beside::Other),
+        Some(Node::File { .. }) => Ok(NextTo::File(path)),
+        Some(Node::Link { target }) => Ok(NextTo::Link(target.as_bytes())),
+        _ => Ok(NextTo::Other),
     }
 }
 
 // The same as `file_by_target`, but faster. Most targets are the name of a file or link in the link's own directory. Those need
 // no walk.
 #[tactic(auto, using(crate::proofs::Walks::walk_ends, crate::proofs::Walks::walk_follows))]
-fn file_beside(
+fn file_next_to(
     alloc: Global,
     tree: &Tree,
     folder: &[u8],
@@ -108,10 +108,10 @@ fn file_beside(
     let mut left = links;
     let mut text = target;
     while left > 0 {
-        match find_beside(alloc, tree, folder, text)? {
-            Beside::File(path) => return Ok(Some(path)),
-            Beside::Link(next) => text = next,
-            Beside::Other => break,
+        match find_next_to(alloc, tree, folder, text)? {
+            NextTo::File(path) => return Ok(Some(path)),
+            NextTo::Link(next) => text = next,
+            NextTo::Other => break,
         }
         left -= 1;
     }
@@ -131,5 +131,5 @@ pub fn linked_file(
     ensures file { GivesFile tree.now folder.now target.now result }
 {
     tree.know();
-    file_beside(alloc, tree, folder, target, LINKS_MAX - 1)
+    file_next_to(alloc, tree, folder, target, LINKS_MAX - 1)
 }

@@ -89,7 +89,7 @@ fn after_byte(path: &[u8], n: usize) -> &[u8]
 }
 
 /// The directory of a path, and its last name, which follows the last slash.
-#[tactic(auto, using(crate::proofs::Folders::empty_before, crate::proofs::Folders::some_before, crate::proofs::Folders::last_behind))]
+#[tactic(auto, using(crate::proofs::Folders::empty_before, crate::proofs::Folders::some_before, crate::proofs::Folders::last_after))]
 pub fn parted(path: &[u8]) -> (&[u8], &[u8])
     ensures folder { result.0.now ≡ parent path.now }
     ensures name { result.1.now ≡ last path.now }

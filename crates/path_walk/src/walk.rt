@@ -4,7 +4,7 @@ ghost use Rattle.std.specs.Option.{option_copied};
 ghost use Rattle.image_tree.specs.Paths.{components};
 ghost use Rattle.image_tree.specs.Tree.{IsTree, kind_at, node_at};
 ghost use Rattle.image_tree.specs.declared.tree.Kind.TheVariants as kinds;
-ghost use Rattle.path_walk.specs.Walk.{steps, walk, start_of, is_plain_mode, LeadsNowhere, resolution};
+ghost use Rattle.path_walk.specs.Walk.{steps, walk, start_of, is_plain_mode, IsNotFound, resolution};
 ghost use Rattle.path_walk.specs.Stops.{StopsAt, IsAt, IsAbsentAt, IsChild, IsChildAt, IsNoChild, KeepsDir, EndsAt, EndsAtFile, GoesOn, HaltsAt, Fails, LinkIsLeft};
 ghost use Rattle.path_walk.specs.declared.walk.Halt.TheVariants as halts;
 ghost use Rattle.path_walk.specs.Rest.{names_in};
@@ -175,7 +175,7 @@ fn go<'t, 'p>(
 ) -> Result<Option<Halt<'t, 'p>>, WalkFault>
     requires { IsTree tree.now }
     ensures goes { IfOk result (GoesOn tree.now mode name.now (names_in (option_copied rest.entry)) place.old.items place.new.items) }
-    ensures stands { IfOk result (λ stop. MatchOption stop (KeepsDir tree.now place.old.items place.new.items) (HaltsAt tree.now place.old.items place.new.items)) }
+    ensures located { IfOk result (λ stop. MatchOption stop (KeepsDir tree.now place.old.items place.new.items) (HaltsAt tree.now place.old.items place.new.items)) }
     ensures fails { IfErr result (Fails (steps tree.now mode (name.now ∷ names_in (option_copied rest.entry)) place.old.items)) }
 {
     if name == b"..".as_slice() {
@@ -201,7 +201,7 @@ fn walk_names<'t, 'p>(
 ) -> Result<Halt<'t, 'p>, WalkFault>
     requires { IsTree tree.now }
     ensures halts { IfOk result (StopsAt tree.now mode (names_in (option_copied path.entry)) place.old.items place.new.items) }
-    ensures stands { IfOk result (HaltsAt tree.now place.old.items place.new.items) }
+    ensures located { IfOk result (HaltsAt tree.now place.old.items place.new.items) }
     ensures fails { IfErr result (Fails (steps tree.now mode (names_in (option_copied path.entry)) place.old.items)) }
 {
     let mut left = path;
@@ -247,8 +247,8 @@ pub(crate) fn follow(
 ) -> Result<End, WalkFault>
     requires { IsTree tree.now }
     ensures reached { OnOk result (walk tree.now mode links (steps tree.now mode (components path.items) place.old.items) ≡ Ok place.new.items) }
-    ensures stands { IfOk result (EndsAt tree.now place.old.items place.new.items) }
-    ensures fails { IfErr result (LeadsNowhere (walk tree.now mode links (steps tree.now mode (components path.items) place.old.items))) }
+    ensures located { IfOk result (EndsAt tree.now place.old.items place.new.items) }
+    ensures fails { IfErr result (IsNotFound (walk tree.now mode links (steps tree.now mode (components path.items) place.old.items))) }
 {
     let mut path = path;
     for link in 0..links {
@@ -270,7 +270,7 @@ pub(crate) fn follow(
 #[tactic(auto, unfolding(crate::specs::Walk::resolution))]
 pub fn resolve(alloc: Global, tree: &Tree, path: &[u8], mode: Mode) -> Result<Text, WalkFault>
     ensures place { IfOk result (λ place. resolution tree.now path.now mode ≡ Ok place) }
-    ensures fault { IfErr result (LeadsNowhere (resolution tree.now path.now mode)) }
+    ensures fault { IfErr result (IsNotFound (resolution tree.now path.now mode)) }
 {
     tree.know();
     let mut place = Vec::from_slice(alloc, b"/")?;

@@ -35,8 +35,8 @@ fn links(
 
 // The links of `/usr/lib`, a directory without a node: their names, their targets, and the files to which they lead.
 const LINKS: &[(&str, &str, Option<&str>)] = &[
-    ("beside", "x", Some("/usr/lib/x")),
-    ("twice", "beside", Some("/usr/lib/x")),
+    ("next_to", "x", Some("/usr/lib/x")),
+    ("twice", "next_to", Some("/usr/lib/x")),
     ("liby.so", "liby.so.1", Some("/usr/lib/x")),
     ("liby.so.1", "./x", Some("/usr/lib/x")),
     ("dir", "sub", None),

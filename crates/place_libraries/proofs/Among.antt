@@ -65,19 +65,19 @@ module _ (t : Nodes) (folder : List ℕ) where
   abbrev is_there : List ℕ → Bool
   is_there name = is_library_name name && is_file (kind_at t (join folder name))
 
-  all_behind : (name : List ℕ) (names : List (List ℕ)) → AllByRecursion (λ y. cmp name y ≡ Less) names
+  all_after : (name : List ℕ) (names : List (List ℕ)) → AllByRecursion (λ y. cmp name y ≡ Less) names
       → AllByRecursion (λ y. cmp (join folder name) y ≡ Less) (filter_map (file_in t folder) names)
-  all_behind name [] a = tt
-  all_behind name (next ∷ names) a =
+  all_after name [] a = tt
+  all_after name (next ∷ names) a =
       elim (is_there next) as (λ b. AllByRecursion (λ y. cmp (join folder name) y ≡ Less) (cons_option (file_if next b) (filter_map (file_in t folder) names)))
-      [ true ↦ (joined_cmp (stem folder ++ root) name next ∙ a.0, all_behind name names a.1) | false ↦ all_behind name names a.1 ]
+      [ true ↦ (joined_cmp (stem folder ++ root) name next ∙ a.0, all_after name names a.1) | false ↦ all_after name names a.1 ]
 
   files_sorted : (names : List (List ℕ)) → AreSorted names → AreSorted (filter_map (file_in t folder) names)
   unfolding IsStrictlySortedBy
   files_sorted [] s = tt
   files_sorted (name ∷ names) s =
       elim (is_there name) as (λ b. AreSorted (cons_option (file_if name b) (filter_map (file_in t folder) names)))
-      [ true ↦ (all_behind name names s.0, files_sorted names s.1) | false ↦ files_sorted names s.1 ]
+      [ true ↦ (all_after name names s.0, files_sorted names s.1) | false ↦ files_sorted names s.1 ]
 
   file_is : (name path : List ℕ) → file_in t folder name ≡ Some path → join folder name ≡ path
   file_is name path e = by_test (is_there name)

@@ -53,15 +53,15 @@ module _ {X : Type 0} where
       let e : suc k + 1 ≡ suc (k + 1) = omega arith in
       subst (λ n. lt (get_or (x ∷ xs) n d) (get_or xs k d) ≡ false) e (sorted (suc k) d (omega arith) (omega arith))
 
-  all_behind : (x : List ℕ × X) (xs : List (List ℕ × X)) → ((i : ℕ) → i < length xs → lt (get_or xs i x) x ≡ false)
+  all_after : (x : List ℕ × X) (xs : List (List ℕ × X)) → ((i : ℕ) → i < length xs → lt (get_or xs i x) x ≡ false)
       → AllByRecursion (λ other. is_lt (cmp other x.0) ≡ false) (keys_of xs)
-  all_behind x [] h = tt
-  all_behind x (y ∷ ys) h = (h 0 (omega arith), all_behind x ys (λ i within. h (suc i) (omega (arith, within))))
+  all_after x [] h = tt
+  all_after x (y ∷ ys) h = (h 0 (omega arith), all_after x ys (λ i within. h (suc i) (omega (arith, within))))
 
   are_ascending : (xs : List (List ℕ × X)) → IsSortedBy lt xs → AreAscending (keys_of xs)
   are_ascending [] up = tt
   are_ascending (x ∷ xs) up =
-      (all_behind x xs (λ i within. sorted_far lt weak (x ∷ xs) up 0 (suc i) x (omega arith) (omega (arith, within))), are_ascending xs (sorted_rest x xs up))
+      (all_after x xs (λ i within. sorted_far lt weak (x ∷ xs) up 0 (suc i) x (omega arith) (omega (arith, within))), are_ascending xs (sorted_rest x xs up))
 
   none_from : (sorted : List (List ℕ × X)) → length sorted ≡ 0 → sorted ≡ []
   none_from [] e = refl

@@ -149,7 +149,7 @@ fn add<'a, X: Drop, G: Gather<X> + Drop>(
     item: X,
 ) -> Result<(), NoMemory>
     requires ordered { AreOrdered found.old.items }
-    requires behind { AllByRecursion (λ key. is_lt (slice_cmp nat_cmp soname.now key) ≡ false) (keys_of found.old.items) }
+    requires following { AllByRecursion (λ key. is_lt (slice_cmp nat_cmp soname.now key) ≡ false) (keys_of found.old.items) }
     ensures { OnOk result (IsGathered G.step found.old.items soname.now item found.new.items) }
 {
     let more = match take_last(found, soname) {

@@ -124,20 +124,20 @@ module _ (t : Nodes) (tree : IsTree t) (name : List ℕ) where
     walk_onto (suc links) (Follows names place) g e =
         ap (walk t Plain links) (steps_onto names place g) ∙ walk_onto links (steps t Plain names place) (goes_on names place g) e
 
-    nowhere : (text : List ℕ) → is_name name ≡ true → resolution t text Plain ≡ Ok dir → resolution t (join text name) Plain ≡ Err Absent
+    not_found : (text : List ℕ) → is_name name ≡ true → resolution t text Plain ≡ Ok dir → resolution t (join text name) Plain ≡ Err Absent
     unfolding resolution
-    nowhere text named e =
+    not_found text named e =
         ap (λ names. walk t Plain LINKS_MAX (steps t Plain names root)) (joined_names text name named)
         ∙ ap (walk t Plain LINKS_MAX) (steps_onto (components text) root refl)
         ∙ walk_onto LINKS_MAX (steps t Plain (components text) root) (goes_on (components text) root refl) e
 
 -- the text of a directory with the name of a link there, which is a library name
-pub link_nowhere : (t : Nodes) (text dir name : List ℕ) → IsTree t → is_name name ≡ true → is_library_name name ≡ true → resolution t text Plain ≡ Ok dir → is_dir (kind_at t dir) ≡ true
+pub link_not_found : (t : Nodes) (text dir name : List ℕ) → IsTree t → is_name name ≡ true → is_library_name name ≡ true → resolution t text Plain ≡ Ok dir → is_dir (kind_at t dir) ≡ true
     → kind_at t (join dir name) ≡ kinds.Link → resolution t (join text name) Plain ≡ Err Absent
-link_nowhere t text dir name tree named library leads here link =
+link_not_found t text dir name tree named library leads here link =
     let path = join dir name in
     let child = at_child (kind_at t path) (at_link Plain name (target_at t path) [] dir) (at_file [] path) (steps t Plain [] path) in
     let stops : child ≡ Ends (Err Absent) =
     ap (λ k. at_child k (at_link Plain name (target_at t path) [] dir) (at_file [] path) (steps t Plain [] path)) link ∙ hidden name (target_at t path) [] dir library in
     let dead : steps t Plain (name ∷ []) dir ≡ Ends (Err Absent) = ap (λ b. cond b (steps t Plain [] (parent dir)) child) (no_dots name named).1 ∙ stops in
-    nowhere t tree name dir here dead text named leads
+    not_found t tree name dir here dead text named leads

@@ -20,7 +20,7 @@ use Rattle.conf_patterns.specs.Patterns.{is_link}
 use Rattle.planned_tree.proofs.Agree.{agree}
 use Rattle.planned_tree.proofs.Alike.{IsAlike, same_dir}
 use Rattle.planned_tree.proofs.Children.{children_kept, is_kept, same_kept}
-use Rattle.planned_tree.proofs.Ends.{link_nowhere}
+use Rattle.planned_tree.proofs.Ends.{link_not_found}
 use Rattle.planned_tree.proofs.Walks.{same_place}
 
 -- ---- names that give nothing
@@ -60,8 +60,8 @@ module _ (t : Nodes) (tree : IsTree t) (folder dir : List ℕ) (leads : dir_at t
   no_place name named gone =
       let led = led_by (resolution t folder Plain) leads in
       let parts = and_parts (is_library_name name) (is_link (kind_at t (join dir name))) (not_false _ gone) in
-      let nowhere = link_nowhere t folder dir name tree named parts.0 led.0 led.1 (link_is _ parts.1) in
-      let none : hwcap_place (join folder name) name (dir_at t (join folder name)) ≡ None = ap (λ r. hwcap_place (join folder name) name (dir_by t r)) nowhere in
+      let not_found = link_not_found t folder dir name tree named parts.0 led.0 led.1 (link_is _ parts.1) in
+      let none : hwcap_place (join folder name) name (dir_at t (join folder name)) ≡ None = ap (λ r. hwcap_place (join folder name) name (dir_by t r)) not_found in
       by_test (is_hidden name) (λ e. rw e refl) (λ e. rw e none)
 
   below_kept : filter_map (place_of_name t folder) (children_kept t dir) ≡ filter_map (place_of_name t folder) (children_of t dir)

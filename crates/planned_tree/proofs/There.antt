@@ -24,7 +24,7 @@ use Rattle.image_tree.proofs.Below.{below_from, below_is}
 use Rattle.image_tree.proofs.Order.{path_total}
 use Rattle.image_tree.proofs.Prefixes.{path_above}
 use Rattle.image_tree.proofs.Rising.{below_rest, first_name, name_ended, name_goes_on}
-use Rattle.image_tree.specs.Paths.{folder, is_below, is_path, is_slash, join, name_behind, path_cmp, root, stem}
+use Rattle.image_tree.specs.Paths.{folder, is_below, is_path, is_slash, join, name_after, path_cmp, root, stem}
 use Rattle.image_tree.specs.Tree.{Nodes, children_of, has_below, is_entry, kind_at, kind_there, names_below, node_at, of_dir}
 use Rattle.image_tree.specs.declared.node.Node.{Node}
 use Rattle.image_tree.specs.declared.node.Node.TheVariants as node
@@ -63,19 +63,19 @@ once z names h = list_any-from_Contains nat_list_eq_equiv z (dedup bytes_eq name
 module _ (d z : List ℕ) where
   -- the path goes on from the directory by the name
   abbrev goes_by : List ℕ → Bool
-  goes_by p = is_below d p && bytes_eq z (name_behind (length (folder d)) p)
+  goes_by p = is_below d p && bytes_eq z (name_after (length (folder d)) p)
 
   in_below : (t : Nodes) → is_in (names_below t d) z ≡ list_any (λ e. goes_by e.0) t
   in_below [] = refl
   in_below (e ∷ t) = by_test (is_below d e.0)
-      (λ b. rw b (ap (λ c. bytes_eq z (name_behind (length (folder d)) e.0) || c) (in_below t)))
+      (λ b. rw b (ap (λ c. bytes_eq z (name_after (length (folder d)) e.0) || c) (in_below t)))
       (λ b. rw b (in_below t))
 
   -- ---- from a path to what is at the name's
 
   to_name : (p : List ℕ) → goes_by p ≡ true → (p ≡ join d z) ⊎ ((more : List ℕ) × (p ≡ join d z ++ slash ∷ more))
   to_name p h =
-      let parts = and_parts (is_below d p) (bytes_eq z (name_behind (length (folder d)) p)) h in
+      let parts = and_parts (is_below d p) (bytes_eq z (name_after (length (folder d)) p)) h in
       let rest = drop (length (folder d)) p in
       let whole : p ≡ folder d ++ rest = below_rest d p parts.0 in
       let here : before_first is_slash rest ≡ z = sym (exact z (before_first is_slash rest) parts.1) in
@@ -127,7 +127,7 @@ module _ (d z : List ℕ) where
   module _ (named : is_name z ≡ true) where
     goes : (p rest : List ℕ) → p ≡ folder d ++ rest → first_name rest ≡ z → goes_by p ≡ true
     goes p rest whole first =
-        let name : z ≡ name_behind (length (folder d)) p = sym (ap (λ x. first_name (drop (length (folder d)) x)) whole ∙ ap first_name (drop_at (folder d) rest (length (folder d)) refl) ∙ first) in
+        let name : z ≡ name_after (length (folder d)) p = sym (ap (λ x. first_name (drop (length (folder d)) x)) whole ∙ ap first_name (drop_at (folder d) rest (length (folder d)) refl) ∙ first) in
         and_from _ _ ((starts_is Decides-eqb p (folder d) (is_below d p) refl).1 rest whole) ((bytes_eq-Decides z _).1 name)
 
     goes_below : (p : List ℕ) → is_path (join d z) ≡ true → is_below (join d z) p ≡ true → goes_by p ≡ true

@@ -9,7 +9,7 @@ use Rattle.cache_reader.specs.Cache.{CachedEntry}
 use Rattle.command_status.specs.Ending.{AnswerText, EndsAs}
 use Rattle.command_status.specs.declared.status.Status.{Status}
 use Rattle.command_status.specs.declared.status.Status.TheVariants.{Done, Missing, NoMemory}
-use Rattle.commands.specs.Devices.{DeviceStates, IfBothKnown}
+use Rattle.commands.specs.Devices.{DeviceStates, IfBothKnown, states}
 use Rattle.commands.specs.declared.kinds.Resolve.{Resolve}
 use Rattle.rpath_search.specs.declared.kinds.SystemDirs.TheVariants.{Debian}
 use Rattle.image_session.specs.declared.reading.ReadImage.{ReadImage}
@@ -22,13 +22,14 @@ use Rattle.root_asking.specs.declared.fault.ReadFault.{ReadFault}
 use Rattle.root_asking.specs.declared.fault.RootListFault.{RootListFault}
 use Rattle.root_asking.specs.declared.fault.RootListFault.TheVariants as faults
 use Rattle.root_folder.specs.Folder.{FolderState}
-use Rattle.tree_face.specs.Disk.{Content}
+use Rattle.tree_face.specs.Disk.{Content, DiskState}
 use Rattle.tree_face.specs.Known.{IfKnown}
 use Rattle.tree_face.specs.Store.{Contents, StoreState}
+use Rattle.tree_face.specs.Stream.{SinkState, SourceState}
 
 -- ---- the answer
 
--- The program is listed as one of an image, but Debian's directories of each ABI are searched too.
+-- The program is listed as one of an image, but all built-in directories are searched.
 pub record ListsRoot (asked : Resolve) (image : ReadImage) (answer : Result AnswerText RootListFault) (old new : StoreState) : Type 0 where
   pub listed : Result AnswerText ListFault
   pub lists : ListsImage Debian asked image listed old new
@@ -65,6 +66,26 @@ pub record ResolvesRoot (asked : Resolve) (before after : FolderState) (old new 
   pub source : new.source ≡ old.source
   pub complete : IfKnown before.contents (λ dir. IfBothKnown old.store.held old.disk.contents
       (λ held content. CompletesRoot asked dir.now held content.now.cache before after old new status))
+
+-- ---- the states of the interfaces
+
+-- those that the command uses
+pub record AskedStates : Type 0 where
+  pub folder : FolderState
+  pub store : StoreState
+  pub disk : DiskState
+  pub sink : SinkState
+
+abbrev pub asked_states : FolderState → StoreState → DiskState → SinkState → AskedStates
+asked_states folder store disk sink = record { folder = folder; store = store; disk = disk; sink = sink }
+
+abbrev pub with_source : SourceState → AskedStates → DeviceStates
+with_source source s = states s.store s.disk source s.sink
+
+-- The input may be in any state, because nothing is read from it.
+abbrev pub ResolvesWithoutInput : Resolve → AskedStates → AskedStates → Status → Type 0
+ResolvesWithoutInput asked old new status =
+    (source : SourceState) → ResolvesRoot asked old.folder new.folder (with_source source old) (with_source source new) status
 
 -- ---- what private functions say
 

@@ -1,9 +1,7 @@
 //! The command `resolve` of a directory.
 ghost use Rattle.std.specs.Prelude.{◌≡◌};
 ghost use Rattle.asking_runs.specs.Resolve.{listed_text};
-ghost use Rattle.commands.specs.Devices.{states};
-ghost use Rattle.root_asking.specs.Resolve.{AnswersRoot, ResolvesRoot, root_answer};
-ghost use Rattle.tree_face.specs.Stream.{SourceState};
+ghost use Rattle.root_asking.specs.Resolve.{AnswersRoot, ResolvesWithoutInput, asked_states, root_answer};
 
 use crate::fault::{ReadFault, RootListFault};
 use crate::reading::read_root;
@@ -35,7 +33,7 @@ fn resolve<S: Store>(
     }
 }
 
-/// Runs the command `resolve` for a program of a directory that has no manifest. It also searches Debian's directories of each ABI. It
+/// Runs the command `resolve` for a program of a directory that has no manifest. It searches all built-in directories. It
 /// writes nothing but the answer. The input may be in any state, because nothing is read from it.
 pub fn resolve_root<F: Folder, S: Store, D: Disk, O: Sink>(
     alloc: Global,
@@ -45,9 +43,8 @@ pub fn resolve_root<F: Folder, S: Store, D: Disk, O: Sink>(
     disk: &mut D,
     sink: &mut O,
 ) -> Status
-    ensures resolves { (source : SourceState) → ResolvesRoot asked (F.state folder.old) (F.state folder.new)
-        (states (S.state store.old) (D.state disk.old) source (O.state sink.old))
-        (states (S.state store.new) (D.state disk.new) source (O.state sink.new)) result }
+    ensures resolves { ResolvesWithoutInput asked (asked_states (F.state folder.old) (S.state store.old) (D.state disk.old) (O.state sink.old))
+        (asked_states (F.state folder.new) (S.state store.new) (D.state disk.new) (O.state sink.new)) result }
     ensures no_usage { result ≡ Status.Usage → ⊥ }
 {
     let read = read_root(alloc, folder, disk);

@@ -10,7 +10,7 @@ use root_asking::resolve_root;
 use root_folder::MemFolder;
 use rpath_search::Env;
 use std::alloc::Global;
-use table_rows::{Row, Said, Trial, Words, calls, count, lines_in, value};
+use table_rows::{Differences, Row, Trial, Words, calls, count, lines_in, value};
 use tree_face::{MemDisk, MemSink};
 
 /// A row has the tree of a directory as a manifest, the store's files, the cache, the loader's environment, the path of the program, and
@@ -37,22 +37,30 @@ fn asked_of(alloc: Global, row: Row<'_>) -> Result<Resolve, NoMemory> {
 }
 
 // The directory of a row, whose manifest has a line for each directory.
-fn folder_of(alloc: Global, row: Row<'_>, said: &mut Said) -> Result<Option<MemFolder>, NoMemory> {
-    let Some(tree) = tree_of(alloc, row, said)? else {
+fn folder_of(
+    alloc: Global,
+    row: Row<'_>,
+    differences: &mut Differences,
+) -> Result<Option<MemFolder>, NoMemory> {
+    let Some(tree) = tree_of(alloc, row, differences)? else {
         return Ok(None);
     };
     let folder = MemFolder::new(alloc, tree, calls(alloc, row, b"folder-fails")?);
     if folder.is_none() {
-        said.say(b"a directory without a line", b"")?;
+        differences.say(b"a directory without a line", b"")?;
     }
     Ok(folder)
 }
 
-fn is_unwritten(folder: &MemFolder, disk: &MemDisk, said: &mut Said) -> Result<bool, NoMemory> {
+fn is_unwritten(
+    folder: &MemFolder,
+    disk: &MemDisk,
+    differences: &mut Differences,
+) -> Result<bool, NoMemory> {
     let counts = folder.counts();
     let is_so = counts.links == 0 && counts.settles == 0 && disk.calls().is_empty();
     if !is_so {
-        said.say(b"a call that writes was made", b"")?;
+        differences.say(b"a call that writes was made", b"")?;
     }
     Ok(is_so)
 }
@@ -61,7 +69,7 @@ fn try_folder(
     alloc: Global,
     row: Row<'_>,
     folder: &mut MemFolder,
-    said: &mut Said,
+    differences: &mut Differences,
 ) -> Result<bool, SampleFault> {
     let asked = asked_of(alloc, row)?;
     let mut store = store_of(alloc, row)?;
@@ -72,11 +80,11 @@ fn try_folder(
     let keys = lines_in(alloc, store.keys())?;
     let reads = slots_in(alloc, disk.reads())?;
     Ok(
-        said.is_number(alloc, b"status", count(row, b"status"), code)?
-            && said.is_text(alloc, row, b"output", sink.written())?
-            && said.is_text(alloc, row, b"keys", &keys)?
-            && said.is_text(alloc, row, b"reads", &reads)?
-            && is_unwritten(folder, &disk, said)?,
+        differences.is_number(alloc, b"status", count(row, b"status"), code)?
+            && differences.is_text(alloc, row, b"output", sink.written())?
+            && differences.is_text(alloc, row, b"keys", &keys)?
+            && differences.is_text(alloc, row, b"reads", &reads)?
+            && is_unwritten(folder, &disk, differences)?,
     )
 }
 
@@ -103,11 +111,15 @@ impl Trial for Listed {
         WORDS
     }
 
-    fn is_right(alloc: Global, row: Row<'_>, said: &mut Said) -> Result<bool, NoMemory> {
-        let Some(mut folder) = folder_of(alloc, row, said)? else {
+    fn is_right(
+        alloc: Global,
+        row: Row<'_>,
+        differences: &mut Differences,
+    ) -> Result<bool, NoMemory> {
+        let Some(mut folder) = folder_of(alloc, row, differences)? else {
             return Ok(false);
         };
-        let tried = try_folder(alloc, row, &mut folder, said);
-        is_made(tried, said)
+        let tried = try_folder(alloc, row, &mut folder, differences);
+        is_made(tried, differences)
     }
 }

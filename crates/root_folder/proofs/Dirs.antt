@@ -20,15 +20,15 @@ use Rattle.root_folder.specs.Whole.{IsWhole, has_dir}
 
 -- ---- the directory of a path below another
 
-abbrev behind_slash : Option (List ℕ) → List ℕ
-behind_slash None = []
-behind_slash (Some front) = slash ∷ front
+abbrev after_slash : Option (List ℕ) → List ℕ
+after_slash None = []
+after_slash (Some front) = slash ∷ front
 
-from_slash : (o : Option (List ℕ)) → more_before slash o ≡ Some (behind_slash o)
+from_slash : (o : Option (List ℕ)) → more_before slash o ≡ Some (after_slash o)
 from_slash None = refl
 from_slash (Some front) = refl
 
-before_joined : (q s : List ℕ) → before_last (q ++ slash ∷ s) ≡ Some (q ++ behind_slash (before_last s))
+before_joined : (q s : List ℕ) → before_last (q ++ slash ∷ s) ≡ Some (q ++ after_slash (before_last s))
 before_joined [] s = from_slash (before_last s)
 before_joined (b ∷ q) s = ap (more_before b) (before_joined q s)
 
@@ -49,7 +49,7 @@ shorter : (s front : List ℕ) → before_last s ≡ Some front → length front
 shorter [] front e = absurd (cc)
 shorter (b ∷ s) front e = shorter_by b s (before_last s) (λ f is. shorter s f is) front e
 
-parent_joined : (q s : List ℕ) → is_path q ≡ true → parent (q ++ slash ∷ s) ≡ q ++ behind_slash (before_last s)
+parent_joined : (q s : List ℕ) → is_path q ≡ true → parent (q ++ slash ∷ s) ≡ q ++ after_slash (before_last s)
 parent_joined [] s h = absurd (cc)
 parent_joined (b ∷ q) s h = ap (λ o. unless_empty (unwrap_or o [])) (before_joined (b ∷ q) s)
 
@@ -86,12 +86,12 @@ module _ (t : Nodes) (whole : IsWhole t) (q : List ℕ) (proper : is_path q ≡ 
   -- if a path is below `q`, its directory is `q` or is below `q`
   step : (n : ℕ) (s : List ℕ) (o : Option (List ℕ)) → before_last s ≡ o → length (q ++ slash ∷ s) ≤ suc n
       → ((p : List ℕ) → length p ≤ n → has_dir t (parent p) ≡ true → is_below q p ≡ true → node_at t q ≡ Some Dir)
-      → has_dir t (q ++ behind_slash o) ≡ true → node_at t q ≡ Some Dir
-  step n s None is le next dir = node_of q (not_root q proper) (subst (λ (z : List ℕ). has_dir t z ≡ true) (nothing_behind q) dir)
+      → has_dir t (q ++ after_slash o) ≡ true → node_at t q ≡ Some Dir
+  step n s None is le next dir = node_of q (not_root q proper) (subst (λ (z : List ℕ). has_dir t z ≡ true) (nothing_after q) dir)
     where
-      nothing_behind : (f : List ℕ) → f ++ [] ≡ f
-      nothing_behind [] = refl
-      nothing_behind (x ∷ f) = ap (λ l. x ∷ l) (nothing_behind f)
+      nothing_after : (f : List ℕ) → f ++ [] ≡ f
+      nothing_after [] = refl
+      nothing_after (x ∷ f) = ap (λ l. x ∷ l) (nothing_after f)
   step n s (Some f) is le next dir =
       let d = q ++ slash ∷ f in
       let node : node_at t d ≡ Some Dir = node_of d (not_the_root f) dir in

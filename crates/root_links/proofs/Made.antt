@@ -10,7 +10,7 @@ use Rattle.root_folder.specs.Found.{Found, found_eq}
 use Rattle.root_folder.specs.declared.folder.FolderCall.{FolderCall}
 use Rattle.root_links.proofs.Lists.{none_once, once, take_whole}
 use Rattle.root_links.proofs.Step.{readings_on}
-use Rattle.root_links.specs.Links.{HasMade, IsOfLinks, KeepsReadings, Linking, MakesAll, MakesPart, MayHaveMade, dirs_in, dirs_of, is_beside, link_call, settling, with_links}
+use Rattle.root_links.specs.Links.{HasMade, IsOfLinks, KeepsReadings, Linking, MakesAll, MakesPart, MayHaveMade, dirs_in, dirs_of, is_next_to, link_call, settling, with_links}
 use Rattle.root_links.specs.Steps.{FailsToLink, FailsToSettle, HasLinked, HasSettled, IsOfSettling, LinksFirst, MayHaveLinked, MayHaveSettled, SettlesAll, is_in_one}
 use Rattle.root_links.specs.declared.fault.LinkFault.{LinkFault}
 use Rattle.root_links.specs.declared.fault.LinkFault.TheVariants as faults
@@ -44,7 +44,7 @@ module _ (tag : Tag) (links : List Linking) where
       }
 
       durable : (z : Option FolderContent) → IfKnown z (λ k. (p : List ℕ) (x : Found) → is_in_one (dirs_of links) p ≡ true → c.may p x ≡ found_eq (node_at k.now p) x)
-          → IfKnown z (λ k. (p : List ℕ) (x : Found) → is_beside links p ≡ true → c.may p x ≡ found_eq (node_at k.now p) x)
+          → IfKnown z (λ k. (p : List ℕ) (x : Found) → is_next_to links p ≡ true → c.may p x ≡ found_eq (node_at k.now p) x)
       durable None is = tt
       durable (Some z) is = λ p x h. is p x (once (parent p) (dirs_in links) h)
 

@@ -58,8 +58,8 @@ abbrev pub dirs_of : List Linking → List (List ℕ)
 dirs_of links = dedup bytes_eq (dirs_in links)
 
 -- the path is directly in the directory of a link
-abbrev pub is_beside : List Linking → List ℕ → Bool
-is_beside links p = list_any (bytes_eq (parent p)) (dirs_in links)
+abbrev pub is_next_to : List Linking → List ℕ → Bool
+is_next_to links p = list_any (bytes_eq (parent p)) (dirs_in links)
 
 -- ---- the calls
 
@@ -77,8 +77,8 @@ calls_of tag links = map (link_call tag) links ++ map settling (dirs_of links)
 -- all links exist, and their directories are synced
 pub record HasMade (links : List Linking) (a b : FolderContent) : Type 0 where
   pub now : b.now ≡ with_links a.now links
-  pub inside : (p : List ℕ) → is_beside links p ≡ true → b.settled p ≡ node_at b.now p
-  pub others : (p : List ℕ) → is_beside links p ≡ false → b.settled p ≡ a.settled p
+  pub inside : (p : List ℕ) → is_next_to links p ≡ true → b.settled p ≡ node_at b.now p
+  pub others : (p : List ℕ) → is_next_to links p ≡ false → b.settled p ≡ a.settled p
 
 -- `made` is a possible number of existing links after this call failed
 abbrev pub Stops : LinkFault → List Linking → ℕ → Type 0
@@ -112,7 +112,7 @@ pub record MakesAll (tag : Tag) (links : List Linking) (old new : FolderState) :
   pub contents : Relates (HasMade links) old.contents new.contents
   pub calls : Relates (IsFollowedBy (calls_of tag links)) old.calls new.calls
   pub leaves : Leaves (IsOfLinks links) old new
-  pub durable : IfKnown new.contents (λ c. (p : List ℕ) (x : Found) → is_beside links p ≡ true → new.may p x ≡ found_eq (node_at c.now p) x)
+  pub durable : IfKnown new.contents (λ c. (p : List ℕ) (x : Found) → is_next_to links p ≡ true → new.may p x ≡ found_eq (node_at c.now p) x)
   pub readings : KeepsReadings old new
   pub faults : new.faults ≡ old.faults
 

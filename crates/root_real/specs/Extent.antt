@@ -41,7 +41,7 @@ names_in extents.Libraries dir = library_names_in dir
 abbrev pub leads_out : List ℕ → Bool
 leads_out target = starts_with nat_eq target (codes "/") || list_any leads_up (slice_split (is_byte 47) target)
 
--- the target of a link in the tree: a link that may lead out of a directory of libraries leads to its root, which is no file
+-- the target of a link in the tree: a link that may lead out of a directory of libraries leads to a path at which the tree has nothing
 abbrev pub target_in : Extent → List ℕ → List ℕ
 target_in extents.Whole target = target
-target_in extents.Libraries target = if leads_out target then codes "/" else target
+target_in extents.Libraries target = if leads_out target then codes "/outside" else target

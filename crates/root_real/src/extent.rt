@@ -64,14 +64,14 @@ impl Extent {
         self.names_in(dir.as_bytes()).has(name.as_bytes())
     }
 
-    /// The target of a link in the tree. If only libraries belong to the tree, a link that may lead out of it leads to its root: the paths
-    /// outside are those of this machine, so they mean nothing in the tree.
+    /// The target of a link in the tree. If only libraries belong to the tree, a link that may lead out of it leads nowhere: the paths
+    /// outside are those of this machine, and the tree has nothing at `/outside`.
     pub(crate) fn target(self, target: &str) -> &str
         ensures { result.now ≡ target_in self target.now }
     {
         match self {
             Extent::Whole => target,
-            Extent::Libraries if leads_out(target.as_bytes()) => "/",
+            Extent::Libraries if leads_out(target.as_bytes()) => "/outside",
             Extent::Libraries => target,
         }
     }

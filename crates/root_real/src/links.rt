@@ -87,7 +87,7 @@ where
 
 // Flushes the directory that was entered.
 fn flush_entered<R: Runtime>(image: &ImageFolder<R>) -> io::Result<()> {
-    let path = image.path_beside(".")?;
+    let path = image.path_next_to(".")?;
     fs::open(&image.rt, path.as_str())?.sync_all()
 }
 

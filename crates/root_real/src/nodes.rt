@@ -47,13 +47,13 @@ where
     let (dir, name) = divided(path);
     match image.enter(dir, Missing::IsFault) {
         Ok(()) => image.look(name),
-        Err(error) if is_nowhere(error.kind()) => Ok(None),
+        Err(error) if is_not_found(error.kind()) => Ok(None),
         Err(error) => Err(error),
     }
 }
 
 // The error of a path whose parent is missing or isn't a directory.
-fn is_nowhere(kind: ErrorKind) -> bool
+fn is_not_found(kind: ErrorKind) -> bool
     ensures { IsTrue result ↔ (kind ≡ ErrorKind.NotFound ⊎ kind ≡ ErrorKind.NotADirectory) }
 {
     is_missing(kind) || kind == ErrorKind::NotADirectory

@@ -1,7 +1,7 @@
 //! Paths of a tree as names below the directory of the image.
 ghost use Rattle.std.specs.Prelude.{◌≡◌, ◌∷◌, IfSome};
 
-use device_rules::behind;
+use device_rules::following;
 use std::io::{Error, ErrorKind};
 use std::str::from_utf8;
 use tree_face::is_path;
@@ -31,7 +31,7 @@ fn without_slash(path: &[u8]) -> Option<&str>
     ensures { IfSome result (λ below. path.now ≡ 47 ∷ below.now) }
 {
     match from_utf8(path) {
-        Ok(text) => behind(text, "/"),
+        Ok(text) => following(text, "/"),
         Err(_) => None,
     }
 }

@@ -1,6 +1,6 @@
 //! Links under temporary names.
 use device_rules::{MOST_NAMES, RunId, is_missing, is_no_text, is_there, maker_of, temporary_path};
-use image_folder::ImageFolder;
+use image_folder::{ImageFolder, is_own, left_behind};
 use std::fs::{self, DirEntry, read_dir};
 use std::io::{self, Error, ErrorKind};
 use std::os::unix::fs::symlink;
@@ -23,7 +23,7 @@ pub(crate) fn make_temporary<R: Runtime>(
             random: run.random.wrapping_add(turn),
         };
         let name = temporary_path(&image.rt, FRONT, tag, run)?;
-        let path = image.path_beside(name.as_str())?;
+        let path = image.path_next_to(name.as_str())?;
         match symlink(&image.rt, target, path.as_str()) {
             Ok(()) => return Ok(path),
             Err(error) if is_there(error.kind()) => {}
@@ -34,12 +34,13 @@ pub(crate) fn make_temporary<R: Runtime>(
 }
 
 /// Removes the temporary links of ended runs in this directory, and returns whether there were any. Links that can't be examined or
-/// removed stay.
+/// removed stay. It is an error if one of them is this user's own: otherwise each run would leave one more in such a directory, which may
+/// be append-only.
 pub(crate) fn remove_left<R: Runtime>(rt: &R, dir: &str) -> io::Result<bool> {
     let mut removed = false;
     for entry in read_dir(rt, dir)? {
         match entry {
-            Ok(entry) => removed = remove_entry(rt, &entry) || removed,
+            Ok(entry) => removed = remove_entry(rt, &entry)? || removed,
             Err(error) if is_no_text(error.kind()) => {}
             Err(error) => return Err(error),
         }
@@ -48,24 +49,33 @@ pub(crate) fn remove_left<R: Runtime>(rt: &R, dir: &str) -> io::Result<bool> {
 }
 
 // Removes the link of a directory entry, if it is such a temporary link. Returns whether it did.
-fn remove_entry<R: Runtime>(rt: &R, entry: &DirEntry<R, R::A>) -> bool {
-    match maker_of(entry.file_name(), FRONT) {
-        Some(process) => remove_if_left(rt, process, entry).unwrap_or(false),
-        None => false,
+fn remove_entry<R: Runtime>(rt: &R, entry: &DirEntry<R, R::A>) -> io::Result<bool> {
+    let Some(process) = maker_of(entry.file_name(), FRONT) else {
+        return Ok(false);
+    };
+    if !is_left(rt, process, entry).unwrap_or(false) {
+        return Ok(false);
+    }
+    match rt.remove_file(entry.path().as_str()) {
+        Ok(()) => Ok(true),
+        Err(_) => require_others(rt, entry),
     }
 }
 
-// Removes the link that a process made, unless a process now has this number: it may be about to rename the link. Returns whether it did.
-fn remove_if_left<R: Runtime>(
-    rt: &R,
-    process: &str,
-    entry: &DirEntry<R, R::A>,
-) -> io::Result<bool> {
-    if !entry.metadata()?.is_symlink() || !is_gone(rt, process)? {
+// Returns an error if the link of a directory entry is there and this user's own.
+fn require_others<R: Runtime>(rt: &R, entry: &DirEntry<R, R::A>) -> io::Result<bool> {
+    let Ok(found) = entry.metadata() else {
         return Ok(false);
+    };
+    if is_own(rt, &found)? {
+        return Err(left_behind());
     }
-    rt.remove_file(entry.path().as_str())?;
-    Ok(true)
+    Ok(false)
+}
+
+// Whether it is a link that an ended process made. If a process now has this number, it may be about to rename the link.
+fn is_left<R: Runtime>(rt: &R, process: &str, entry: &DirEntry<R, R::A>) -> io::Result<bool> {
+    Ok(entry.metadata()?.is_symlink() && is_gone(rt, process)?)
 }
 
 fn is_gone<R: Runtime>(rt: &R, process: &str) -> io::Result<bool> {

@@ -11,7 +11,7 @@ use Rattle.lib_types.specs.Name.{slash}
 use Rattle.image_tree.proofs.Below.{not_root}
 use Rattle.image_tree.proofs.Prefixes.{path_above}
 use Rattle.image_tree.proofs.Rising.{first_name, name_goes_on}
-use Rattle.image_tree.specs.Paths.{folder, is_below, is_path, is_slash, join, name_behind, root}
+use Rattle.image_tree.specs.Paths.{folder, is_below, is_path, is_slash, join, name_after, root}
 use Rattle.path_walk.specs.Names.{before_last, last, more_before, parent, unless_empty}
 
 -- ---- the bytes before the last slash, and those after it
@@ -101,8 +101,8 @@ module _ (q : List ℕ) (proper : is_path q ≡ true) where
   pub below_parent : is_below (parent q) q ≡ true
   below_parent = (starts_is Decides-eqb q (folder (parent q)) (is_below (parent q) q) refl).1 (last q) (sym joined)
 
-  pub named_behind : name_behind (length (folder (parent q))) q ≡ last q
-  named_behind = ap (λ x. first_name (drop (length (folder (parent q))) x)) (sym joined) ∙ ap first_name (drop_at (folder (parent q)) (last q) (length (folder (parent q))) refl) ∙ last_whole
+  pub named_after : name_after (length (folder (parent q))) q ≡ last q
+  named_after = ap (λ x. first_name (drop (length (folder (parent q))) x)) (sym joined) ∙ ap first_name (drop_at (folder (parent q)) (last q) (length (folder (parent q))) refl) ∙ last_whole
 
   -- the directory's path is shorter, unless the directory is the root
   pub shorter : bytes_eq (parent q) root ≡ false → length (parent q) < length q

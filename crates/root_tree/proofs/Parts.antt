@@ -25,8 +25,8 @@ use Rattle.root_tree.specs.SoFar.{IsPart}
 found_here : (e : List ℕ × Node) (t : Nodes) → node_at (e ∷ t) e.0 ≡ Some e.1
 found_here e t = ap (λ r. cond (is_eq r) (Some e.1) (node_at t e.0)) (tied_itself path_total e.0)
 
-found_behind : (e : List ℕ × Node) (t : Nodes) (q : List ℕ) → path_cmp e.0 q ≡ Less → node_at (e ∷ t) q ≡ node_at t q
-found_behind e t q less = ap (λ r. cond (is_eq r) (Some e.1) (node_at t q)) (flipped path_total e.0 q Less less)
+found_after : (e : List ℕ × Node) (t : Nodes) (q : List ℕ) → path_cmp e.0 q ≡ Less → node_at (e ∷ t) q ≡ node_at t q
+found_after e t q less = ap (λ r. cond (is_eq r) (Some e.1) (node_at t q)) (flipped path_total e.0 q Less less)
 
 -- if all keys of a list are greater than `p`, so is the key of a node that is found in it
 found_later : (p : List ℕ) (t : Nodes) (q : List ℕ) (n : Node) → AllByRecursion (λ k. path_cmp p k ≡ Less) (keys_of t) → node_at t q ≡ Some n → path_cmp p q ≡ Less
@@ -53,19 +53,19 @@ shorter t [] st sp is = record { few = omega arith; same = empty t }
 shorter [] (x ∷ part) st sp is = let none = is x.0 x.1 (found_here x part) in absurd (cc)
 shorter (y ∷ t) (x ∷ part) st sp is =
     let first : node_at (y ∷ t) x.0 ≡ Some x.1 = is x.0 x.1 (found_here x part) in
-    let behind_x = sorted_head path_cmp x.0 (keys_of part) sp in
-    let behind_y = sorted_head path_cmp y.0 (keys_of t) st in
+    let after_x = sorted_head path_cmp x.0 (keys_of part) sp in
+    let after_y = sorted_head path_cmp y.0 (keys_of t) st in
     by_ordering (path_cmp y.0 x.0)
     (λ less.
-    let rest = shorter t (x ∷ part) (sorted_tail path_cmp y.0 (keys_of t) st) sp (λ q n e. sym (found_behind y t q (later q n less behind_x e)) ∙ is q n e) in
+    let rest = shorter t (x ∷ part) (sorted_tail path_cmp y.0 (keys_of t) st) sp (λ q n e. sym (found_after y t q (later q n less after_x e)) ∙ is q n e) in
     record { few = omega (arith, rest.few); same = λ h. absurd (omega (arith, rest.few)) })
     (λ tied.
     let key : y.0 ≡ x.0 = exact y.0 x.0 tied in
     let node : y.1 ≡ x.1 = by_some (sym (found_here y t) ∙ ap (node_at (y ∷ t)) key ∙ first) in
     let rest = shorter t part (sorted_tail path_cmp y.0 (keys_of t) st) (sorted_tail path_cmp x.0 (keys_of part) sp)
     (λ q n e.
-    let less = found_later x.0 part q n behind_x e in
-    sym (found_behind y t q (ap (λ z. path_cmp z q) key ∙ less)) ∙ is q n (found_behind x part q less ∙ e)) in
+    let less = found_later x.0 part q n after_x e in
+    sym (found_after y t q (ap (λ z. path_cmp z q) key ∙ less)) ∙ is q n (found_after x part q less ∙ e)) in
     record {
       few = omega (arith, rest.few);
       same = λ h. ap (λ z. z ∷ part) (pair x y (sym key) (sym node)) ∙ ap (λ z. y ∷ z) (rest.same (omega arith));
@@ -73,7 +73,7 @@ shorter (y ∷ t) (x ∷ part) st sp is =
     (λ more.
     let less = flipped path_total y.0 x.0 Greater more in
     let other : node_at (y ∷ t) x.0 ≡ node_at t x.0 = ap (λ r. cond (is_eq r) (Some y.1) (node_at t x.0)) less in
-    absurd (irreflexive x.0 (none_before x.0 t y.0 x.1 less behind_y (sym other ∙ first))))
+    absurd (irreflexive x.0 (none_before x.0 t y.0 x.1 less after_y (sym other ∙ first))))
   where
     later : (q : List ℕ) (n : Node) → path_cmp y.0 x.0 ≡ Less → AllByRecursion (λ k. path_cmp x.0 k ≡ Less) (keys_of part) → node_at (x ∷ part) q ≡ Some n → path_cmp y.0 q ≡ Less
     later q n less all e = by_test (is_at (path_cmp q) x.0)
@@ -110,7 +110,7 @@ any_found test (e ∷ t) s h = by_test (test e)
     record {
       path = rest.path;
       node = rest.node;
-      found = found_behind e t rest.path (found_later e.0 t rest.path rest.node (sorted_head path_cmp e.0 (keys_of t) s) rest.found) ∙ rest.found;
+      found = found_after e t rest.path (found_later e.0 t rest.path rest.node (sorted_head path_cmp e.0 (keys_of t) s) rest.found) ∙ rest.found;
       passes = rest.passes;
     })
 

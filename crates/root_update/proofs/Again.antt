@@ -1,19 +1,27 @@
 -- A second update of a directory plans no link and writes the same caches. So does an update without an auxiliary cache.
-use Rattle.std.proofs.Common.{◌≡◌, ◌∙◌, ℕ, List, [], Some, ap, refl, subst, sym}
+use Rattle.std.proofs.Common.{◌≡◌, ◌∙◌, ◌++◌, ℕ, false, List, [], Some, ap, refl, subst, sym}
 use Rattle.aux_cache.specs.declared.stamps.Stamp.{Stamp}
-use Rattle.file_stamps.specs.Opened.{opens}
+use Rattle.elf_dynamic.proofs.BegunKeys.{none_lacks}
+use Rattle.elf_dynamic.specs.Begun.{lacks_one}
+use Rattle.file_stamps.proofs.Opened.{opened_append, opened_are}
+use Rattle.file_stamps.specs.Opened.{ids_at, ids_of, opened_keys, opens}
+use Rattle.file_stamps.specs.Reading.{opened_by}
 use Rattle.file_stamps.specs.Stamped.{AreSame, AreTrue, stamps_of}
 use Rattle.file_table.specs.Analyses.{Analyses}
 use Rattle.hwcap_dirs.specs.declared.kinds.Scope.{Scope}
 use Rattle.image_session.specs.Aux.{stamps_of_slot}
 use Rattle.image_session.specs.Session.{Loaded, image_with}
+use Rattle.image_tree.specs.Tree.{Nodes}
+use Rattle.image_tree.specs.declared.node.Id.{Id}
 use Rattle.ldconfig_core.proofs.OneText.{again, both_links, one_outcome, one_written, some_texts}
+use Rattle.ldconfig_core.proofs.OutcomeRows.{writes_held}
+use Rattle.ldconfig_core.specs.Outcome.{Writes, update_outcome}
 use Rattle.ldconfig_core.specs.Settled.{AreCachesAgain, AreSettled, planned_image, unstamped_image}
 use Rattle.ldconfig_core.specs.Texts.{AreTextsOf, UpdateTexts}
-use Rattle.library_search.proofs.Honest.{none_true, said_is, said_law, stamps_are, wanted_is}
-use Rattle.library_search.specs.Begun.{opened_in}
+use Rattle.library_search.proofs.Honest.{after_in_order, none_true, info_is, info_law, stamps_are, wanted_in_order, wanted_is}
+use Rattle.library_search.specs.Begun.{after_keys, ids_wanted, opened_in, wanted_keys}
 use Rattle.library_search.specs.Judged.{AreJudged}
-use Rattle.library_search.specs.Ldconfig.{library_paths, stamps_in}
+use Rattle.library_search.specs.Ldconfig.{after_in, library_paths, stamps_in, wanted_in}
 use Rattle.root_update.proofs.AsImage.{same_cache}
 use Rattle.root_update.proofs.Reopened.{opens_again}
 use Rattle.root_update.specs.Made.{AreAllSearchable, ChangesNothing, HasCacheOfImage, IsRootRebuilt, IsRootSettled, tree_after, unstamped_in}
@@ -48,19 +56,32 @@ module _ (scope : Scope) (held : Contents) (image : Loaded) (texts : UpdateTexts
     abbrev made : List Stamp
     made = stamps_in scope held image.tree image.stamps
 
-    opened : opened_in scope held stamped.tree made ≡ unstamped_in scope held stamped.tree made
-    opened =
+    -- the contents of the files that it opens are held
+    opened_held : update_outcome scope held stamped ≡ Writes → lacks_one held (opened_by stamped.tree (ids_of made) (library_paths scope held stamped.tree made)) ≡ false
+    unfolding wanted_keys after_keys ids_wanted
+    opened_held writes =
+        let t : Nodes = stamped.tree in
+        let ids : List Id = ids_of made in
+        let first : List (List ℕ) = wanted_in scope held t in
+        let parts = writes_held scope held stamped writes in
+        ap (lacks_one held) (opened_append t ids first (after_in scope held t made)
+        ∙ ap (λ l. l ++ opened_by t (ids ++ ids_at t first) (after_in scope held t made)) (sym (opened_are t ids first (wanted_in_order scope held t)))
+        ∙ ap (λ l. opened_keys t ids first ++ l) (sym (opened_are t (ids ++ ids_at t first) (after_in scope held t made) (after_in_order scope held t made))))
+        ∙ none_lacks held (opened_keys t ids first) (opened_keys t (ids ++ ids_at t first) (after_in scope held t made)) parts.0 parts.1
+
+    opened : update_outcome scope held stamped ≡ Writes → opened_in scope held stamped.tree made ≡ unstamped_in scope held stamped.tree made
+    opened writes =
         let paths : List (List ℕ) = library_paths scope held stamped.tree made in
         let are_those : made ≡ stamps_of held stamped.tree paths = sym settled.stamps ∙ stamps_are scope held stamped.tree settled.same made settled.are_true in
-        (said_law scope held stamped.tree settled.same made settled.are_true).opened ∙ ap (λ (stamps : List Stamp). opens held stamped.tree stamps paths) are_those
-        ∙ opens_again held stamped.tree paths (subst (λ (stamps : List Stamp). AreTrue held stamped.tree stamps) are_those settled.are_true)
+        (info_law scope held stamped.tree settled.same made settled.are_true).opened ∙ ap (λ (stamps : List Stamp). opens stamped.tree stamps paths) are_those
+        ∙ opens_again held stamped.tree settled.same paths (ap (λ (stamps : List Stamp). lacks_one held (opened_by stamped.tree (ids_of stamps) paths)) (sym are_those) ∙ opened_held writes)
 
-    pub is_settled : stamps_of_slot (Some texts.aux) ≡ stamps_in scope held image.tree image.stamps → IsRootSettled scope held image texts
-    is_settled read = record {
+    pub is_settled : stamps_of_slot (Some texts.aux) ≡ stamps_in scope held image.tree image.stamps → update_outcome scope held image ≡ Writes → IsRootSettled scope held image texts
+    is_settled read writes = record {
       again = nothing;
       still_true = settled.true_too;
       made_true = subst (λ (stamps : List Stamp). AreTrue held (tree_after scope held image) stamps) (sym read) settled.are_true;
-      opened = subst (λ (stamps : List Stamp). opened_in scope held stamped.tree stamps ≡ unstamped_in scope held stamped.tree stamps) (sym read) opened;
+      opened = subst (λ (stamps : List Stamp). opened_in scope held stamped.tree stamps ≡ unstamped_in scope held stamped.tree stamps) (sym read) (opened (settled.outcome writes));
     }
 
   -- ---- without the auxiliary cache
@@ -76,7 +97,7 @@ module _ (scope : Scope) (held : Contents) (image : Loaded) (texts : UpdateTexts
     all_bare : AreAllSearchable scope held image → AreAllSearchable scope held bare
     all_bare all = record {
       wanted = subst (λ (w : Analyses). AreJudged scope w) (wanted_is scope held image.tree same image.stamps truth ∙ sym (wanted_is scope held image.tree same [] none)) all.wanted;
-      files = subst (λ (w : Analyses). AreJudged scope w) (said_is scope held image.tree same image.stamps truth ∙ sym (said_is scope held image.tree same [] none)) all.files;
+      files = subst (λ (w : Analyses). AreJudged scope w) (info_is scope held image.tree same image.stamps truth ∙ sym (info_is scope held image.tree same [] none)) all.files;
     }
 
     as_image : HasCacheOfImage scope held image bare texts

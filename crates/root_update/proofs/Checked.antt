@@ -72,7 +72,7 @@ module _ (parts : RootParts) (prepared : Prepared) (old : RootStates) (f1 : Fold
         texts = texts_of prepared;
         disk = d1;
         makes = made.1.0;
-        said = record { report = made.1.1.0; links = asked; looked = made.1.1.1 };
+        info = record { report = made.1.1.0; links = asked; looked = made.1.1.1 };
         cache_is = subst (λ (known : Option DiskContent). IfKnown known (λ c. differs ≡ (parts.cache && not (content_eq c.now.cache (Some prepared.cache.items)))))
             aux.keeps.contents (compared parts.cache differs prepared.cache.items d1 d2 is);
         reads = reads_next (aux_slots parts.aux) (if parts.cache then Cache ∷ [] else []) Complete old.disk d1 d2 aux (cache_read parts.cache differs prepared.cache.items d1 d2 is);

@@ -1,6 +1,6 @@
 -- The image of a directory, from the tree and the auxiliary cache that were read.
 use Rattle.std.proofs.Common.{◌≡◌, ◌∙◌, ◌∷◌, ℕ, false, List, [], Option, Some, None, Result, Ok, Err, IfErr, IfOk, ap, subst, sym}
-use Rattle.aux_cache.specs.Stamps.{HaveNames}
+use Rattle.aux_cache.specs.Stamps.{AreRecordable}
 use Rattle.aux_cache.specs.declared.stamps.Stamp.{Stamp}
 use Rattle.image_session.proofs.ReadSlots.{gave_up}
 use Rattle.image_session.specs.Aux.{damage_of_slot, stamps_of_slot}
@@ -11,7 +11,7 @@ use Rattle.image_session.specs.declared.fault.SlotFault.TheVariants as slots
 use Rattle.image_tree.specs.Tree.{Nodes}
 use Rattle.root_tree.specs.ReadTree.{ReadsTree}
 use Rattle.root_tree.specs.declared.fault.TreeRead.{TreeRead}
-use Rattle.root_update.specs.Loading.{IfAux, LoadsRoot, ReadsAux, ReadsNoTree, SaysOf, UsesAux, root_image}
+use Rattle.root_update.specs.Loading.{IfAux, LoadsRoot, ReadsAux, ReadsNoTree, IsLoadedFrom, UsesAux, root_image}
 use Rattle.root_update.specs.declared.fault.RootFault.TheVariants as faults
 use Rattle.root_update.specs.declared.parts.AuxUse.{AuxUse}
 use Rattle.root_update.specs.declared.parts.AuxUse.TheVariants.{Unused, Replaced, Updated}
@@ -26,10 +26,10 @@ use Rattle.tree_face.specs.declared.disk.Slot.TheVariants.{Aux}
 
 -- the stamps of a text that was read, unless memory runs out
 pub of_text : (aux : Content) (result : Result AuxStamps SlotFault) (a b : DiskState) → ReadsContent Aux (Ok aux) a b
-    → IfOk result (λ read. read.stamps ≡ stamps_of_slot aux) → IfOk result (λ read. read.damaged ≡ damage_of_slot aux) → IfOk result (λ read. HaveNames read.stamps)
+    → IfOk result (λ read. read.stamps ≡ stamps_of_slot aux) → IfOk result (λ read. read.damaged ≡ damage_of_slot aux) → IfOk result (λ read. AreRecordable read.stamps)
     → IfErr result (λ fault. fault ≡ slots.NoMemory) → ReadsAux Updated result a b
-of_text aux (Ok read) a b is stamps damaged names fault = (aux, (record { stamps = stamps; damaged = damaged; names = names }, is))
-of_text aux (Err fault) a b is stamps damaged names no_memory =
+of_text aux (Ok read) a b is stamps damaged recordable fault = (aux, (record { stamps = stamps; damaged = damaged; recordable = recordable }, is))
+of_text aux (Err fault) a b is stamps damaged recordable no_memory =
     subst (λ (fault : SlotFault). ReadsContent Aux (Err fault) a b) (sym no_memory) (record { content = tt; fails = tt; reads = gave_up (Aux ∷ []) a b is.reads })
 
 -- a property of the content that was read
@@ -44,7 +44,7 @@ if_aux Updated aux a b P is fact = in_slot a.contents aux P is.content fact
 
 -- ---- the image
 
-same_image : (tree : Nodes) (aux : Content) (read : AuxStamps) → SaysOf aux read → root_image tree read ≡ image_with tree aux
+same_image : (tree : Nodes) (aux : Content) (read : AuxStamps) → IsLoadedFrom aux read → root_image tree read ≡ image_with tree aux
 same_image tree aux read is =
     ap (λ stamps. image_of stamps read.damaged) is.stamps ∙ ap (λ damaged. image_of (stamps_of_slot aux) damaged) is.damaged
   where

@@ -27,9 +27,10 @@ use Rattle.tree_face.specs.StoreUse.{Complete}
 -- the facts of a second update
 settles : (scope : Scope) (image : Loaded) (texts : UpdateTexts) (known : Option Contents) → IfKnown known (λ held. AreTextsOf scope held image texts)
     → IfKnown known (λ held. stamps_of_slot (Some texts.aux) ≡ stamps_in scope held image.tree image.stamps)
-    → IfHonestly known image (λ held. AreSettled scope held image (planned_image scope held image)) → IfHonestly known image (λ held. IsRootSettled scope held image texts)
-settles scope image texts None are read settled = tt
-settles scope image texts (Some held) are read settled = λ truth same. is_settled scope held image texts are (settled truth same) read
+    → IfHonestly known image (λ held. AreSettled scope held image (planned_image scope held image)) → IfKnown known (λ held. update_outcome scope held image ≡ Writes)
+    → IfHonestly known image (λ held. IsRootSettled scope held image texts)
+settles scope image texts None are read settled writes = tt
+settles scope image texts (Some held) are read settled writes = λ truth same. is_settled scope held image texts are (settled truth same) read writes
 
 module _ (scope : Scope) (how : AuxUse) (image : Loaded) (prepared : Prepared) (old new : RootStates) where
   pub makes : LoadsRoot how image (image_states old) (image_states new) → AreUpdateTexts scope image old.store.held (texts_of prepared)
@@ -43,7 +44,7 @@ module _ (scope : Scope) (how : AuxUse) (image : Loaded) (prepared : Prepared) (
       plan_is = plan;
       as_image = known_then old.store.held _ _ (λ held texts same all others is. same_cache scope held image same all (texts_of prepared) others texts is) are.are_of;
       rebuilt = known_then old.store.held _ _ (λ held texts truth same. is_rebuilt scope held image (texts_of prepared) texts truth same) are.are_of;
-      settles = settles scope image (texts_of prepared) old.store.held are.are_of are.aux_read are.settles;
+      settles = settles scope image (texts_of prepared) old.store.held are.are_of are.aux_read are.settles writes;
     };
     writes = writes;
     reads = reads;
@@ -62,6 +63,7 @@ out_of_memory scope how image plan texts old new is = record {
   loads = is.loads;
   answers = any old.store.held;
   reads = making_ends scope Prepared image old.store new.store updating.NoMemory refl is.reads;
+  others = refl;
 }
   where
     any : (known : Option Contents) → IfKnown known (λ held. IsAnswer {A = Prepared} (update_outcome scope held image) (Err updating.NoMemory) old.store new.store)

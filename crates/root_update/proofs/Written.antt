@@ -14,7 +14,7 @@ use Rattle.root_update.proofs.Loaded.{if_aux}
 use Rattle.root_update.proofs.Plans.{same_tree}
 use Rattle.root_update.specs.Loading.{IfAux}
 use Rattle.root_update.specs.Made.{MakesRoot, RootStates, image_states, root_states}
-use Rattle.root_update.specs.Update.{IsSaidOf, LeavesPlanned, WritesMade, aux_for, linking, links_for}
+use Rattle.root_update.specs.Update.{IsOutcomeOf, LeavesPlanned, WritesMade, aux_for, linking, links_for}
 use Rattle.root_update.specs.declared.parts.RootParts.{RootParts}
 use Rattle.root_update.specs.declared.updating.Updated.{Updated}
 use Rattle.root_writes.specs.Writing.{LeavesInOrder, WritesRoot, file_writes, states}
@@ -32,8 +32,8 @@ module _ (parts : RootParts) (tag : Tag) (result : Result (Unit {0}) WriteFault)
       → links ≡ links_for parts plan → cache ≡ (if parts.cache then Some texts.cache else None) → aux ≡ aux_for parts.aux texts.aux
       → WritesRoot tag links (file_writes cache aux) result (states folder disk) (image_states new)
       → LeavesInOrder tag links (file_writes cache aux) (states folder disk) (image_states new)
-      → IfSome updated (IsSaidOf parts old.store.held image plan texts) → WritesMade parts tag result updated old new
-  writes_made image plan texts links cache aux made links_are cache_is aux_is written order said = record {
+      → IfSome updated (IsOutcomeOf parts old.store.held image plan texts) → WritesMade parts tag result updated old new
+  writes_made image plan texts links cache aux made links_are cache_is aux_is written order info = record {
     image = image;
     plan = plan;
     texts = texts;
@@ -42,7 +42,7 @@ module _ (parts : RootParts) (tag : Tag) (result : Result (Unit {0}) WriteFault)
     makes = made;
     written = asked (λ ls c a. WritesRoot tag ls (file_writes c a) result (states folder disk) (image_states new)) written;
     order = asked (λ ls c a. LeavesInOrder tag ls (file_writes c a) (states folder disk) (image_states new)) order;
-    said = said;
+    info = info;
   }
     where
       asked : (P : List Linking → Content → Content → Type 0) → P links cache aux → P (links_for parts plan) (if parts.cache then Some texts.cache else None) (aux_for parts.aux texts.aux)

@@ -1,12 +1,14 @@
 -- What an update of a directory would change. Nothing is written.
-use Rattle.std.specs.Prelude.{◌≡◌, ◌⊎◌, ◌∷◌, ◌++◌, ◌&&◌, ℕ, Bool, true, false, List, [], not, if◌then◌else◌, Some, Result, Ok, Err}
+use Rattle.std.specs.Prelude.{◌≡◌, ◌⊎◌, ◌∷◌, ◌++◌, ◌&&◌, ◌||◌, ◌==◌, ℕ, Bool, true, false, List, [], length, not, if◌then◌else◌, Some, Result, Ok, Err}
+use Rattle.command_status.specs.declared.status.Status.{Status}
+use Rattle.command_status.specs.declared.status.Status.TheVariants.{Done, Missing}
 use Rattle.image_session.specs.Reading.{ReadsContent}
 use Rattle.image_session.specs.Session.{Loaded}
 use Rattle.image_session.specs.declared.fault.SlotFault.{SlotFault}
 use Rattle.ldconfig_core.specs.Texts.{UpdateTexts}
 use Rattle.link_plan.specs.declared.kinds.Planned.{Planned}
 use Rattle.root_update.specs.Made.{MakesNone, MakesRoot, RootStates, root_states}
-use Rattle.root_update.specs.Update.{IsSaidOf}
+use Rattle.root_update.specs.Update.{IsOutcomeOf}
 use Rattle.root_update.specs.declared.checking.RootChanges.{RootChanges}
 use Rattle.root_update.specs.declared.fault.RootFault.{RootFault}
 use Rattle.root_update.specs.declared.fault.RootFault.TheVariants as faults
@@ -31,8 +33,8 @@ abbrev pub slots_checked : RootParts → List Slot
 slots_checked parts = aux_slots parts.aux ++ (if parts.cache then Cache ∷ [] else [])
 
 -- the report, links and search directories of a check, as those of an update
-abbrev pub said_of : RootChanges → Updated
-said_of changes = record { report = changes.report; links = changes.links; looked = changes.looked }
+abbrev pub report_input_of : RootChanges → Updated
+report_input_of changes = record { report = changes.report; links = changes.links; looked = changes.looked }
 
 -- Everything is made as for an update and compared with what exists: which links are missing, and whether the cache differs.
 pub record FindsChanges (parts : RootParts) (changes : RootChanges) (old new : RootStates) : Type 0 where
@@ -42,7 +44,7 @@ pub record FindsChanges (parts : RootParts) (changes : RootChanges) (old new : R
   -- the disk when everything was made
   pub disk : DiskState
   pub makes : MakesRoot parts.scope parts.aux image plan texts old (root_states new.folder new.store disk)
-  pub said : IsSaidOf parts old.store.held image plan texts (said_of changes)
+  pub info : IsOutcomeOf parts old.store.held image plan texts (report_input_of changes)
   pub cache_is : IfKnown old.disk.contents (λ c. changes.cache ≡ (parts.cache && not (content_eq c.now.cache (Some texts.cache))))
   pub reads : ReadsOnly (slots_checked parts) Complete old.disk new.disk
 
@@ -62,6 +64,15 @@ ChecksRoot parts (Err (faults.Slot fault)) old new = MakesNone parts.scope parts
 ChecksRoot parts (Err (faults.Tree fault)) old new = MakesNone parts.scope parts.aux (faults.Tree fault) old new
 ChecksRoot parts (Err (faults.Update fault)) old new = MakesNone parts.scope parts.aux (faults.Update fault) old new
 ChecksRoot parts (Err (faults.Write fault)) old new = ⊥
+
+-- ---- the status
+
+-- a link would be made, or the cache would change
+abbrev pub would_change : RootChanges → Bool
+would_change changes = changes.cache || not (length changes.links == 0)
+
+abbrev pub status_of_changes : RootChanges → Status
+status_of_changes changes = if would_change changes then Missing else Done
 
 -- ---- what private functions say
 

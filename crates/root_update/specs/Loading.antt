@@ -1,6 +1,6 @@
 -- What an update of a directory works on: its tree, and the stamps of the auxiliary cache if it is used (ldconfig(8): -r, -i).
 use Rattle.std.specs.Prelude.{◌≡◌, false, Option, None, Result, Ok, Err}
-use Rattle.aux_cache.specs.Stamps.{HaveNames}
+use Rattle.aux_cache.specs.Stamps.{AreRecordable}
 use Rattle.image_session.specs.Aux.{damage_of_slot, stamps_of_slot}
 use Rattle.image_session.specs.Reading.{ReadsContent}
 use Rattle.image_session.specs.Session.{Loaded, image_with}
@@ -61,13 +61,13 @@ pub record ReadsNoAux (how : AuxUse) (fault : SlotFault) (old new : States) : Ty
 -- ---- what private functions say
 
 -- the information in this auxiliary cache: its stamps, and the offset where it is malformed
-pub record SaysOf (aux : Content) (read : AuxStamps) : Type 0 where
+pub record IsLoadedFrom (aux : Content) (read : AuxStamps) : Type 0 where
   pub stamps : read.stamps ≡ stamps_of_slot aux
   pub damaged : read.damaged ≡ damage_of_slot aux
-  pub names : HaveNames read.stamps
+  pub recordable : AreRecordable read.stamps
 
 abbrev pub ReadsAux : AuxUse → Result AuxStamps SlotFault → DiskState → DiskState → Type 0
-ReadsAux how (Ok read) old new = (aux : Content) × (SaysOf aux read × UsesAux how aux old new)
+ReadsAux how (Ok read) old new = (aux : Content) × (IsLoadedFrom aux read × UsesAux how aux old new)
 ReadsAux how (Err fault) old new = FailsToUseAux how fault old new
 
 -- the image of this tree and these stamps, without edits

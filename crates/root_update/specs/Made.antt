@@ -1,14 +1,14 @@
 -- What an update of a directory makes before it writes (ldconfig(8)).
-use Rattle.std.specs.Prelude.{◌≡◌, ℕ, List, [], filter, length, Option, Some, Result, Ok, Err}
-use Rattle.std.specs.Option.{is_none}
+use Rattle.std.specs.Prelude.{◌≡◌, ℕ, true, List, [], length, Option, Some, Result, Ok, Err}
 use Rattle.aux_cache.specs.declared.stamps.Stamp.{Stamp}
-use Rattle.elf_dynamic.specs.Begun.{file_keys}
-use Rattle.file_stamps.specs.Stamped.{AreTrue, stamp_at}
+use Rattle.file_stamps.specs.Opened.{keys_without_id}
+use Rattle.file_stamps.specs.Stamped.{AreTrue}
 use Rattle.hwcap_dirs.specs.declared.kinds.Scope.{Scope}
 use Rattle.hwcap_dirs.specs.declared.kinds.Scope.TheVariants.{Image}
 use Rattle.image_session.specs.Aux.{stamps_of_slot}
 use Rattle.image_session.specs.Session.{Loaded, image_with}
 use Rattle.image_tree.specs.Tree.{Nodes}
+use Rattle.ldconfig_core.specs.Faults.{is_of_preparing}
 use Rattle.ldconfig_core.specs.Looked.{HasLooked}
 use Rattle.ldconfig_core.specs.Outcome.{Writes, update_outcome}
 use Rattle.ldconfig_core.specs.Settled.{AreCachesAgain, unstamped_image}
@@ -20,7 +20,7 @@ use Rattle.ldconfig_core.specs.declared.preparing.Prepared.{Prepared}
 use Rattle.ldconfig_core.specs.declared.report.Report.{Report}
 use Rattle.library_search.specs.Begun.{opened_in}
 use Rattle.library_search.specs.Judged.{AreJudged}
-use Rattle.library_search.specs.Ldconfig.{library_paths, links_in, places_in, planned_in, said_files, said_wanted}
+use Rattle.library_search.specs.Ldconfig.{library_paths, links_in, places_in, planned_in, info_files, info_wanted}
 use Rattle.link_plan.specs.declared.kinds.Planned.{Planned}
 use Rattle.root_folder.specs.Folder.{FolderState}
 use Rattle.root_update.specs.Loading.{LoadsRoot, ReadsNoAux, ReadsNoTree}
@@ -49,11 +49,11 @@ image_states s = states s.folder s.disk
 
 -- The loader can search for each library of the image, so each counts as what it is.
 pub record AreAllSearchable (scope : Scope) (held : Contents) (image : Loaded) : Type 0 where
-  pub wanted : AreJudged scope (said_wanted scope held image.tree image.stamps)
-  pub files : AreJudged scope (said_files scope held image.tree image.stamps)
+  pub wanted : AreJudged scope (info_wanted scope held image.tree image.stamps)
+  pub files : AreJudged scope (info_files scope held image.tree image.stamps)
 
--- An update of the image `manifested` by a manifest makes the same cache, if the two rules of a directory change nothing: Debian's directories add no
--- search directory, and the loader can search for each library's name.
+-- An update of the image `manifested` by a manifest makes the same cache, if the two rules of a directory change nothing: the further
+-- built-in directories add no search directory, and the loader can search for each library's name.
 abbrev pub HasCacheOfImage : Scope → Contents → Loaded → Loaded → UpdateTexts → Type 0
 HasCacheOfImage scope held image manifested texts =
     places_in Image held image.tree ≡ places_in scope held image.tree → AreAllSearchable scope held image
@@ -65,9 +65,9 @@ HasCacheOfImage scope held image manifested texts =
 abbrev pub tree_after : Scope → Contents → Loaded → Nodes
 tree_after scope held image = planned_in scope held image.tree image.stamps
 
--- the number of library files that can't have a stamp: those without an identity, and those that are not libraries
+-- the number of library files that can't have a stamp: those without an identity
 abbrev pub unstamped_in : Scope → Contents → Nodes → List Stamp → ℕ
-unstamped_in scope held t loaded = length (file_keys t (filter (λ path. is_none (stamp_at held t path)) (library_paths scope held t loaded)))
+unstamped_in scope held t loaded = length (keys_without_id t (library_paths scope held t loaded))
 
 -- An update of the image `next` plans no link, and writes the caches of these texts.
 pub record ChangesNothing (scope : Scope) (held : Contents) (image next : Loaded) (texts : UpdateTexts) : Type 0 where
@@ -81,7 +81,7 @@ pub record IsRootSettled (scope : Scope) (held : Contents) (image : Loaded) (tex
   pub again : (aux : Content) → AreTrue held (tree_after scope held image) (stamps_of_slot aux) → ChangesNothing scope held image (image_with (tree_after scope held image) aux) texts
   pub still_true : (stamps : List Stamp) → AreTrue held image.tree stamps → AreTrue held (tree_after scope held image) stamps
   pub made_true : AreTrue held (tree_after scope held image) (stamps_of_slot (Some texts.aux))
-  -- with the one that this update makes, no library that has an identity is opened again
+  -- with the one that this update makes, no file that has an identity is opened again
   pub opened : opened_in scope held (tree_after scope held image) (stamps_of_slot (Some texts.aux))
       ≡ unstamped_in scope held (tree_after scope held image) (stamps_of_slot (Some texts.aux))
 
@@ -121,6 +121,8 @@ pub record RefusesRoot (scope : Scope) (how : AuxUse) (fault : UpdateFault) (old
   pub loads : LoadsRoot how image (image_states old) (image_states new)
   pub answers : IfKnown old.store.held (λ held. IsAnswer {A = Prepared} (update_outcome scope held image) (Err fault) old.store new.store)
   pub reads : ReadsUpdate scope image (update_ending {A = Prepared} (Err fault)) old.store new.store
+  -- it isn't the fault of a writing call: none is made
+  pub others : is_of_preparing fault ≡ true
 
 -- Nothing was made, for this reason: the auxiliary cache or the tree can't be read, or there is nothing to write.
 abbrev pub MakesNone : Scope → AuxUse → RootFault → RootStates → RootStates → Type 0

@@ -51,10 +51,10 @@ files_for parts texts = file_writes (if parts.cache then Some texts.cache else N
 -- ---- what is reported
 
 -- the text and the numbers of the report, the planned links that are requested, and the directories that were searched
-pub record IsSaidOf (parts : RootParts) (known : Option Contents) (image : Loaded) (plan : List Planned) (texts : UpdateTexts) (said : Updated) : Type 0 where
-  pub report : IsRootReport parts.scope known image texts said.report
-  pub links : said.links ≡ asked_links parts plan
-  pub looked : IfKnown known (λ held. HasLooked parts.scope held image said.looked)
+pub record IsOutcomeOf (parts : RootParts) (known : Option Contents) (image : Loaded) (plan : List Planned) (texts : UpdateTexts) (info : Updated) : Type 0 where
+  pub report : IsRootReport parts.scope known image texts info.report
+  pub links : info.links ≡ asked_links parts plan
+  pub looked : IfKnown known (λ held. HasLooked parts.scope held image info.looked)
 
 -- ---- one update
 
@@ -70,7 +70,7 @@ pub record WritesMade (parts : RootParts) (tag : Tag) (result : Result (Unit {0}
   pub written : WritesRoot tag (links_for parts plan) (files_for parts texts) result (states folder disk) (image_states new)
   -- a crash leaves a new file only if all links were made and flushed before
   pub order : LeavesInOrder tag (links_for parts plan) (files_for parts texts) (states folder disk) (image_states new)
-  pub said : IfSome updated (IsSaidOf parts old.store.held image plan texts)
+  pub info : IfSome updated (IsOutcomeOf parts old.store.held image plan texts)
 
 abbrev pub UpdatesRoot : RootParts → Tag → Result Updated RootFault → RootStates → RootStates → Type 0
 UpdatesRoot parts tag (Ok updated) old new = WritesMade parts tag (Ok tt) (Some updated) old new

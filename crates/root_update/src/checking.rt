@@ -1,10 +1,12 @@
 //! What an update of a directory would change.
-ghost use Rattle.root_update.specs.Check.{ChecksRoot, Compares};
+ghost use Rattle.std.specs.Prelude.{◌≡◌};
+ghost use Rattle.root_update.specs.Check.{ChecksRoot, Compares, status_of_changes};
 ghost use Rattle.root_update.specs.Made.{root_states};
 
 use crate::fault::RootFault;
 use crate::making::{asked_links, prepare_root};
 use crate::parts::RootParts;
+use command_status::Status;
 use image_session::{SlotFault, read_slot};
 use ldconfig_core::{Looked, Report};
 use link_plan::Plan;
@@ -62,4 +64,15 @@ pub fn check_root<F: Folder, S: Store, D: Disk>(
         report: prepared.report,
         looked: prepared.looked,
     })
+}
+
+/// The status of a check that found these changes: `Missing` if anything would change.
+pub fn status_of_changes(changes: &RootChanges) -> Status
+    ensures { result ≡ status_of_changes changes.now }
+{
+    if changes.cache || !changes.links.is_empty() {
+        Status::Missing
+    } else {
+        Status::Done
+    }
 }

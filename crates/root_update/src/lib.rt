@@ -8,7 +8,7 @@ mod parts;
 mod stamps;
 mod updating;
 
-pub use checking::{RootChanges, check_root};
+pub use checking::{RootChanges, check_root, status_of_changes};
 pub use fault::{RootFault, status_of};
 pub use parts::{AuxUse, RootParts};
 pub use updating::{Updated, update_root};

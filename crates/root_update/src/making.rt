@@ -1,7 +1,7 @@
 //! What an update of a directory is about to write.
 ghost use Rattle.std.specs.Prelude.{◌≡◌, ◌≤◌, [], IfOk, IsTrue, Some, None, if◌then◌else◌, map, true};
 ghost use Rattle.std.specs.Option.{option_copied};
-ghost use Rattle.aux_cache.specs.Stamps.{HaveNames};
+ghost use Rattle.aux_cache.specs.Stamps.{AreRecordable};
 ghost use Rattle.root_links.specs.Links.{are_valid, links_in};
 ghost use Rattle.root_update.specs.Loading.{IsRead, root_image};
 ghost use Rattle.root_update.specs.Made.{Prepares, root_states};
@@ -26,7 +26,7 @@ use tree_face::{Disk, Store, Tree};
 
 // The directory as an image.
 fn root_image(tree: Tree, aux: AuxStamps) -> Session
-    requires names { HaveNames aux.stamps }
+    requires recordable { AreRecordable aux.stamps }
     ensures { result ≡ root_image tree aux }
 {
     Session {

@@ -1,8 +1,8 @@
 //! The stamps of the auxiliary cache that an update of a directory uses.
 ghost use Rattle.std.specs.Prelude.{◌≡◌, ◌≤◌, None, Some, IfErr, IfOk};
-ghost use Rattle.aux_cache.specs.Stamps.{HaveNames};
+ghost use Rattle.aux_cache.specs.Stamps.{AreRecordable};
 ghost use Rattle.image_session.specs.Aux.{damage_of_slot, stamps_of_slot};
-ghost use Rattle.root_update.specs.Loading.{ReadsAux, SaysOf};
+ghost use Rattle.root_update.specs.Loading.{ReadsAux, IsLoadedFrom};
 ghost use Rattle.root_update.specs.declared.parts.AuxUse.TheVariants as uses;
 ghost use Rattle.tree_face.specs.Disk.{KeepsMade};
 
@@ -21,7 +21,7 @@ pub(crate) struct AuxStamps {
 }
 
 fn no_stamps(alloc: Global) -> AuxStamps
-    ensures { SaysOf None result }
+    ensures { IsLoadedFrom None result }
 {
     AuxStamps {
         stamps: Stamps::new(alloc),
@@ -33,7 +33,7 @@ fn no_stamps(alloc: Global) -> AuxStamps
 fn stamps_of(alloc: Global, text: &[u8]) -> Result<AuxStamps, SlotFault>
     ensures stamps { IfOk result (λ read. read.stamps ≡ stamps_of_slot (Some text.now)) }
     ensures damaged { IfOk result (λ read. read.damaged ≡ damage_of_slot (Some text.now)) }
-    ensures names { IfOk result (λ read. HaveNames read.stamps) }
+    ensures recordable { IfOk result (λ read. AreRecordable read.stamps) }
     ensures fault { IfErr result (λ fault. fault ≡ SlotFault.NoMemory) }
 {
     match aux_cache::read(alloc, text) {
@@ -51,7 +51,7 @@ fn stamps_of(alloc: Global, text: &[u8]) -> Result<AuxStamps, SlotFault>
 
 fn read_stamps<D: Disk>(alloc: Global, disk: &mut D) -> Result<AuxStamps, SlotFault>
     ensures reads { ReadsAux uses.Updated result (D.state disk.old) (D.state disk.new) }
-    ensures names { IfOk result (λ read. HaveNames read.stamps) }
+    ensures recordable { IfOk result (λ read. AreRecordable read.stamps) }
     ensures made { KeepsMade (D.state disk.old) (D.state disk.new) }
     ensures faults { (D.state disk.old).faults ≤ (D.state disk.new).faults }
 {
@@ -68,7 +68,7 @@ pub(crate) fn read_aux<D: Disk>(
     disk: &mut D,
 ) -> Result<AuxStamps, SlotFault>
     ensures reads { ReadsAux aux result (D.state disk.old) (D.state disk.new) }
-    ensures names { IfOk result (λ read. HaveNames read.stamps) }
+    ensures recordable { IfOk result (λ read. AreRecordable read.stamps) }
     ensures made { KeepsMade (D.state disk.old) (D.state disk.new) }
     ensures faults { (D.state disk.old).faults ≤ (D.state disk.new).faults }
 {

@@ -10,7 +10,7 @@ use root_update_fixture::{
     Devices, NONE, devices_of, link_node, links_in, put_link, store_of, update, whole_tree,
 };
 use std::alloc::Global;
-use table_rows::{Row, Said, divide, text};
+use table_rows::{Differences, Row, divide, text};
 use tree_face::{MemDisk, Tree};
 
 // Whether the directory of a path is flushed in these calls.
@@ -71,9 +71,9 @@ fn tree_with(
     row: Row<'_>,
     index: usize,
     before: bool,
-    said: &mut Said,
+    differences: &mut Differences,
 ) -> Result<Option<Tree>, NoMemory> {
-    let Some(mut tree) = whole_tree(alloc, row, said)? else {
+    let Some(mut tree) = whole_tree(alloc, row, differences)? else {
         return Ok(None);
     };
     let links = links_in(alloc, &text(alloc, row, b"made")?)?;
@@ -102,7 +102,7 @@ fn is_image_repaired(
     row: Row<'_>,
     tree: Tree,
     disk: MemDisk,
-    said: &mut Said,
+    differences: &mut Differences,
 ) -> Result<bool, SampleFault> {
     let store = store_of(alloc, row, None)?;
     match MemFolder::new(alloc, tree, Vec::new(alloc)) {
@@ -112,7 +112,7 @@ fn is_image_repaired(
                 store,
                 disk,
             };
-            Ok(is_repaired(alloc, row, &mut devices, said)?)
+            Ok(is_repaired(alloc, row, &mut devices, differences)?)
         }
         None => Ok(false),
     }
@@ -125,17 +125,17 @@ fn is_choice_repaired(
     index: usize,
     before: bool,
     devices: &Devices,
-    said: &mut Said,
+    differences: &mut Differences,
 ) -> Result<bool, SampleFault> {
     let links = links_in(alloc, &text(alloc, row, b"made")?)?;
-    let Some(tree) = tree_with(alloc, row, index, before, said)? else {
+    let Some(tree) = tree_with(alloc, row, index, before, differences)? else {
         return Ok(false);
     };
     if !may_be_left(&links, &tree, &devices.folder) {
         return Ok(true);
     }
     let disk = devices.disk.image(alloc, 0)?;
-    is_image_repaired(alloc, row, tree, disk, said)
+    is_image_repaired(alloc, row, tree, disk, differences)
 }
 
 // Whether the next update repairs each tree of the row's old and new links that a crash may leave.
@@ -143,17 +143,17 @@ fn are_choices_repaired(
     alloc: Global,
     row: Row<'_>,
     devices: &Devices,
-    said: &mut Said,
+    differences: &mut Differences,
 ) -> Result<bool, SampleFault> {
     let links = links_in(alloc, &text(alloc, row, b"made")?)?;
     for index in 0..links.len() {
-        if !is_choice_repaired(alloc, row, index, true, devices, said)?
-            || !is_choice_repaired(alloc, row, index, false, devices, said)?
+        if !is_choice_repaired(alloc, row, index, true, devices, differences)?
+            || !is_choice_repaired(alloc, row, index, false, devices, differences)?
         {
             return Ok(false);
         }
     }
-    is_choice_repaired(alloc, row, links.len(), true, devices, said)
+    is_choice_repaired(alloc, row, links.len(), true, devices, differences)
 }
 
 // Stops the machine after `writes` writing calls in the directory.
@@ -161,23 +161,23 @@ fn is_stop_repaired(
     alloc: Global,
     row: Row<'_>,
     writes: u64,
-    said: &mut Said,
+    differences: &mut Differences,
 ) -> Result<bool, SampleFault> {
-    let Some(tree) = whole_tree(alloc, row, said)? else {
+    let Some(tree) = whole_tree(alloc, row, differences)? else {
         return Ok(false);
     };
-    let Some(mut devices) = devices_of(alloc, row, NONE, said)? else {
+    let Some(mut devices) = devices_of(alloc, row, NONE, differences)? else {
         return Ok(false);
     };
     devices.folder.stop_after(writes);
     if update(alloc, row, &mut devices).is_ok() {
-        said.say(b"the update goes on", b"")?;
+        differences.say(b"the update goes on", b"")?;
         return Ok(false);
     }
     Ok(
         devices.disk.calls().is_empty()
             && are_links_left(alloc, row, writes, &tree, &devices.folder)?
-            && are_choices_repaired(alloc, row, &devices, said)?,
+            && are_choices_repaired(alloc, row, &devices, differences)?,
     )
 }
 
@@ -208,13 +208,13 @@ fn stopped(
     row: Row<'_>,
     calls: u64,
     choice: u8,
-    said: &mut Said,
+    differences: &mut Differences,
 ) -> Result<Option<Devices>, SampleFault> {
     let writes = writes_before(calls, calls_of(alloc, row)?);
-    let Some(tree) = whole_tree(alloc, row, said)? else {
+    let Some(tree) = whole_tree(alloc, row, differences)? else {
         return Ok(None);
     };
-    let Some(mut devices) = devices_of(alloc, row, NONE, said)? else {
+    let Some(mut devices) = devices_of(alloc, row, NONE, differences)? else {
         return Ok(None);
     };
     devices.disk.stop_after(calls);
@@ -233,13 +233,13 @@ fn is_disk_repaired(
     row: Row<'_>,
     calls: u64,
     choice: u8,
-    said: &mut Said,
+    differences: &mut Differences,
 ) -> Result<bool, SampleFault> {
     let want = state_after(calls, calls_of(alloc, row)?);
-    match stopped(alloc, row, calls, choice, said)? {
+    match stopped(alloc, row, calls, choice, differences)? {
         Some(mut devices) => Ok(
-            is_in(alloc, row, want, &mut devices, said)?
-                && is_repaired(alloc, row, &mut devices, said)?,
+            is_in(alloc, row, want, &mut devices, differences)?
+                && is_repaired(alloc, row, &mut devices, differences)?,
         ),
         None => Ok(false),
     }
@@ -250,11 +250,11 @@ fn are_disks_repaired(
     alloc: Global,
     row: Row<'_>,
     calls: u64,
-    said: &mut Said,
+    differences: &mut Differences,
 ) -> Result<bool, SampleFault> {
     for choice in [0, 2, 4, 6] {
-        if !is_disk_repaired(alloc, row, calls, choice, said)? {
-            say_number(alloc, b"a crash of the disk after ", calls, said)?;
+        if !is_disk_repaired(alloc, row, calls, choice, differences)? {
+            say_number(alloc, b"a crash of the disk after ", calls, differences)?;
             return Ok(false);
         }
     }
@@ -262,10 +262,19 @@ fn are_disks_repaired(
 }
 
 // Whether the next update repairs every state that a crash after a writing call in the directory leaves.
-fn are_stops_repaired(alloc: Global, row: Row<'_>, said: &mut Said) -> Result<bool, SampleFault> {
+fn are_stops_repaired(
+    alloc: Global,
+    row: Row<'_>,
+    differences: &mut Differences,
+) -> Result<bool, SampleFault> {
     for writes in 0..calls_of(alloc, row)?.writes {
-        if !is_stop_repaired(alloc, row, writes, said)? {
-            say_number(alloc, b"a crash in the directory after ", writes, said)?;
+        if !is_stop_repaired(alloc, row, writes, differences)? {
+            say_number(
+                alloc,
+                b"a crash in the directory after ",
+                writes,
+                differences,
+            )?;
             return Ok(false);
         }
     }
@@ -276,13 +285,13 @@ fn are_stops_repaired(alloc: Global, row: Row<'_>, said: &mut Said) -> Result<bo
 pub(crate) fn are_crashes_repaired(
     alloc: Global,
     row: Row<'_>,
-    said: &mut Said,
+    differences: &mut Differences,
 ) -> Result<bool, SampleFault> {
-    if !are_stops_repaired(alloc, row, said)? {
+    if !are_stops_repaired(alloc, row, differences)? {
         return Ok(false);
     }
     for calls in 0..calls_of(alloc, row)?.disk_writes.saturating_add(1) {
-        if !are_disks_repaired(alloc, row, calls, said)? {
+        if !are_disks_repaired(alloc, row, calls, differences)? {
             return Ok(false);
         }
     }

@@ -3,7 +3,7 @@ use lib_types::NoMemory;
 use root_update::AuxUse;
 use root_update_fixture::{Devices, aux_use, file_left, has_tree, new_file, old_file, update};
 use std::alloc::Global;
-use table_rows::{Row, Said, divide, has_line, number, text, value};
+use table_rows::{Differences, Row, divide, has_line, number, text, value};
 use tree_face::Slot;
 
 /// The number of calls of an update: those that read the directory, those of the store, those that write to the directory, those that read
@@ -101,10 +101,10 @@ pub(crate) fn say_number(
     alloc: Global,
     what: &[u8],
     number: u64,
-    said: &mut Said,
+    differences: &mut Differences,
 ) -> Result<(), NoMemory> {
     let digits = format!(in alloc; "{number}")?;
-    said.say(what, digits.as_bytes())
+    differences.say(what, digits.as_bytes())
 }
 
 /// The possible contents of a file, if the writing call `renaming` renames it, and `call` is the last call, which may have failed.
@@ -137,17 +137,17 @@ pub(crate) fn is_in(
     row: Row<'_>,
     want: State,
     devices: &mut Devices,
-    said: &mut Said,
+    differences: &mut Differences,
 ) -> Result<bool, NoMemory> {
     let made = text(alloc, row, b"made")?;
     let made = first_lines(alloc, &made, want.writes)?;
-    if !has_tree(alloc, row, &made, devices, said)? {
+    if !has_tree(alloc, row, &made, devices, differences)? {
         return Ok(false);
     }
     let is_in = has_one(alloc, row, Slot::Cache, want.cache, devices)?
         && has_one(alloc, row, Slot::Aux, want.aux, devices)?;
     if !is_in {
-        said.say(b"another cache is left", b"")?;
+        differences.say(b"another cache is left", b"")?;
     }
     Ok(is_in)
 }
@@ -164,12 +164,12 @@ pub(crate) fn is_repaired(
     alloc: Global,
     row: Row<'_>,
     devices: &mut Devices,
-    said: &mut Said,
+    differences: &mut Differences,
 ) -> Result<bool, NoMemory> {
     match update(alloc, row, devices) {
-        Ok(_updated) => is_in(alloc, row, DONE, devices, said),
+        Ok(_updated) => is_in(alloc, row, DONE, devices, differences),
         Err(_) => {
-            said.say(b"the next update fails", b"")?;
+            differences.say(b"the next update fails", b"")?;
             Ok(false)
         }
     }

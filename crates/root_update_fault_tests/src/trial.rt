@@ -6,7 +6,7 @@ use image_rows::{AUX, FILES, MANIFEST, is_made};
 use lib_types::NoMemory;
 use root_update_fixture::RUN;
 use std::alloc::Global;
-use table_rows::{Row, Said, Trial, Words};
+use table_rows::{Differences, Row, Trial, Words};
 
 /// A row describes a directory: its nodes, its files, the existing caches, and the options of the run. It has the number of calls that read
 /// the directory and the store, the writing calls in the directory, and the bytes of the cache and the records of the auxiliary cache
@@ -21,8 +21,15 @@ const WORDS: &[Words] = &[
     &[b"in-turn", b"made", b"new-cache", b"new-records"],
 ];
 
-fn try_row(alloc: Global, row: Row<'_>, said: &mut Said) -> Result<bool, SampleFault> {
-    Ok(are_turns_repaired(alloc, row, said)? && are_crashes_repaired(alloc, row, said)?)
+fn try_row(
+    alloc: Global,
+    row: Row<'_>,
+    differences: &mut Differences,
+) -> Result<bool, SampleFault> {
+    Ok(
+        are_turns_repaired(alloc, row, differences)?
+            && are_crashes_repaired(alloc, row, differences)?,
+    )
 }
 
 impl Trial for Failures {
@@ -30,8 +37,12 @@ impl Trial for Failures {
         WORDS
     }
 
-    fn is_right(alloc: Global, row: Row<'_>, said: &mut Said) -> Result<bool, NoMemory> {
-        let tried = try_row(alloc, row, said);
-        is_made(tried, said)
+    fn is_right(
+        alloc: Global,
+        row: Row<'_>,
+        differences: &mut Differences,
+    ) -> Result<bool, NoMemory> {
+        let tried = try_row(alloc, row, differences);
+        is_made(tried, differences)
     }
 }

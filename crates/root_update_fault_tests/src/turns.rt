@@ -7,7 +7,7 @@ use lib_types::NoMemory;
 use root_update::status_of;
 use root_update_fixture::{Devices, Failing, devices_of, update, writing_calls};
 use std::alloc::Global;
-use table_rows::{Row, Said, text};
+use table_rows::{Differences, Row, text};
 
 // An I/O interface.
 #[derive(Clone, Copy, PartialEq, Eq)]
@@ -87,7 +87,7 @@ fn ends_after(
     status: u64,
     writes: u64,
     devices: &mut Devices,
-    said: &mut Said,
+    differences: &mut Differences,
 ) -> Result<bool, NoMemory> {
     let got = match update(alloc, row, devices) {
         Ok(_updated) => 0,
@@ -97,8 +97,8 @@ fn ends_after(
     let made = text(alloc, row, b"made")?;
     let made = first_lines(alloc, &made, writes)?;
     Ok(
-        said.is_number(alloc, b"status", status, got)?
-            && said.is_same(b"writing calls", &made, &calls)?,
+        differences.is_number(alloc, b"status", status, got)?
+            && differences.is_same(b"writing calls", &made, &calls)?,
     )
 }
 
@@ -108,18 +108,18 @@ fn is_turn_repaired(
     row: Row<'_>,
     interface: Interface,
     call: u64,
-    said: &mut Said,
+    differences: &mut Differences,
 ) -> Result<bool, SampleFault> {
     let calls = calls_of(alloc, row)?;
-    let Some(mut devices) = devices_of(alloc, row, failing(interface, call), said)? else {
+    let Some(mut devices) = devices_of(alloc, row, failing(interface, call), differences)? else {
         return Ok(false);
     };
     let status = status_by(interface, calls, call);
     let state = state_by(interface, calls, call);
     Ok(
-        ends_after(alloc, row, status, state.writes, &mut devices, said)?
-            && is_in(alloc, row, state, &mut devices, said)?
-            && is_repaired(alloc, row, &mut devices, said)?,
+        ends_after(alloc, row, status, state.writes, &mut devices, differences)?
+            && is_in(alloc, row, state, &mut devices, differences)?
+            && is_repaired(alloc, row, &mut devices, differences)?,
     )
 }
 
@@ -129,12 +129,12 @@ fn is_last(
     row: Row<'_>,
     interface: Interface,
     call: u64,
-    said: &mut Said,
+    differences: &mut Differences,
 ) -> Result<bool, SampleFault> {
-    let Some(mut devices) = devices_of(alloc, row, failing(interface, call), said)? else {
+    let Some(mut devices) = devices_of(alloc, row, failing(interface, call), differences)? else {
         return Ok(false);
     };
-    Ok(ends_after(alloc, row, 0, u64::MAX, &mut devices, said)?)
+    Ok(ends_after(alloc, row, 0, u64::MAX, &mut devices, differences)?)
 }
 
 fn name_of(interface: Interface) -> &'static [u8] {
@@ -150,27 +150,27 @@ fn are_repaired(
     alloc: Global,
     row: Row<'_>,
     interface: Interface,
-    said: &mut Said,
+    differences: &mut Differences,
 ) -> Result<bool, SampleFault> {
     let count = count_of(interface, calls_of(alloc, row)?);
     for call in 0..count {
-        if !is_turn_repaired(alloc, row, interface, call, said)? {
-            say_number(alloc, name_of(interface), call, said)?;
+        if !is_turn_repaired(alloc, row, interface, call, differences)? {
+            say_number(alloc, name_of(interface), call, differences)?;
             return Ok(false);
         }
     }
-    is_last(alloc, row, interface, count, said)
+    is_last(alloc, row, interface, count, differences)
 }
 
 /// Whether the next update repairs what each failing call leaves.
 pub(crate) fn are_turns_repaired(
     alloc: Global,
     row: Row<'_>,
-    said: &mut Said,
+    differences: &mut Differences,
 ) -> Result<bool, SampleFault> {
     Ok(
-        are_repaired(alloc, row, Interface::Folder, said)?
-            && are_repaired(alloc, row, Interface::Store, said)?
-            && are_repaired(alloc, row, Interface::Disk, said)?,
+        are_repaired(alloc, row, Interface::Folder, differences)?
+            && are_repaired(alloc, row, Interface::Store, differences)?
+            && are_repaired(alloc, row, Interface::Disk, differences)?,
     )
 }

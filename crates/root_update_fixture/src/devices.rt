@@ -7,7 +7,7 @@ use lib_types::NoMemory;
 use root_folder::MemFolder;
 use root_update::{AuxUse, RootFault, RootParts, Updated, update_root};
 use std::alloc::Global;
-use table_rows::{Row, Said, Words, has_line, optional_text, owned_value, values};
+use table_rows::{Differences, Row, Words, has_line, optional_text, owned_value, values};
 use tree_face::{MemDisk, MemStore, Tag, Tree};
 
 /// The words of a directory besides its manifest, its files and its auxiliary cache: the existing cache, and the options of the run.
@@ -121,9 +121,9 @@ pub fn devices_of(
     alloc: Global,
     row: Row<'_>,
     failing: Failing,
-    said: &mut Said,
+    differences: &mut Differences,
 ) -> Result<Option<Devices>, SampleFault> {
-    match whole_tree(alloc, row, said)? {
+    match whole_tree(alloc, row, differences)? {
         Some(tree) => with_tree(alloc, row, tree, failing),
         None => Ok(None),
     }

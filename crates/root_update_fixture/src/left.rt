@@ -7,7 +7,7 @@ use mtree_manifest::write;
 use root_folder::{FolderCall, MemFolder};
 use root_tree::read_tree;
 use std::alloc::Global;
-use table_rows::{Row, Said, has_line, text};
+use table_rows::{Differences, Row, has_line, text};
 use tree_face::{Disk, Slot};
 
 // Adds a line of a word and a text.
@@ -61,11 +61,11 @@ pub fn has_tree(
     row: Row<'_>,
     calls: &[u8],
     devices: &mut Devices,
-    said: &mut Said,
+    differences: &mut Differences,
 ) -> Result<bool, NoMemory> {
-    let want = text_with(alloc, row, calls, said)?;
+    let want = text_with(alloc, row, calls, differences)?;
     let got = tree_left(alloc, devices)?;
-    said.is_same(b"the tree", &want, &got)
+    differences.is_same(b"the tree", &want, &got)
 }
 
 /// A cache of a directory, empty if there is none or it can't be read.

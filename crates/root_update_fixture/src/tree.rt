@@ -4,7 +4,7 @@ use lib_types::{NoMemory, Text, Texts};
 use mtree_manifest::write;
 use path_walk::parted;
 use std::alloc::Global;
-use table_rows::{Row, Said, divide};
+use table_rows::{Differences, Row, divide};
 use tree_face::{Node, Tree, TreeFault, is_node, is_path};
 
 fn paths_in(alloc: Global, tree: &Tree) -> Result<Texts, NoMemory> {
@@ -43,8 +43,12 @@ fn put_dirs(tree: &mut Tree, path: &[u8]) -> Result<(), NoMemory> {
 }
 
 /// The tree of the row's manifest, in which each parent directory has a node.
-pub fn whole_tree(alloc: Global, row: Row<'_>, said: &mut Said) -> Result<Option<Tree>, NoMemory> {
-    let Some(mut tree) = tree_of(alloc, row, said)? else {
+pub fn whole_tree(
+    alloc: Global,
+    row: Row<'_>,
+    differences: &mut Differences,
+) -> Result<Option<Tree>, NoMemory> {
+    let Some(mut tree) = tree_of(alloc, row, differences)? else {
         return Ok(None);
     };
     let paths = paths_in(alloc, &tree)?;
@@ -97,10 +101,10 @@ pub fn text_with(
     alloc: Global,
     row: Row<'_>,
     calls: &[u8],
-    said: &mut Said,
+    differences: &mut Differences,
 ) -> Result<Vec<u8>, NoMemory> {
     let links = links_in(alloc, calls)?;
-    match whole_tree(alloc, row, said)? {
+    match whole_tree(alloc, row, differences)? {
         Some(tree) => text_of(alloc, tree, &links),
         None => Ok(Vec::new(alloc)),
     }

@@ -8,7 +8,7 @@ use mtree_manifest::write;
 use root_update::AuxUse;
 use root_update_fixture::{Devices, TAG, aux_use, file_left, store_of, tree_left, whole_tree};
 use std::alloc::Global;
-use table_rows::{Row, Said, has_line};
+use table_rows::{Differences, Row, has_line};
 use tree_face::{Disk, MemDisk, MemStore, Slot};
 
 // The tree and the cache that an update leaves.
@@ -56,8 +56,12 @@ fn aux_read(alloc: Global, row: Row<'_>) -> Result<Option<Vec<u8>>, NoMemory> {
 }
 
 // Updates by a manifest of the row's directory.
-fn updated(alloc: Global, row: Row<'_>, said: &mut Said) -> Result<Option<Outcome>, SampleFault> {
-    let Some(tree) = whole_tree(alloc, row, said)? else {
+fn updated(
+    alloc: Global,
+    row: Row<'_>,
+    differences: &mut Differences,
+) -> Result<Option<Outcome>, SampleFault> {
+    let Some(tree) = whole_tree(alloc, row, differences)? else {
         return Ok(None);
     };
     let manifest = write(alloc, &tree)?;
@@ -67,10 +71,10 @@ fn updated(alloc: Global, row: Row<'_>, said: &mut Said) -> Result<Option<Outcom
     Ok(update_image(alloc, &mut store, &mut disk)?)
 }
 
-fn is_same(want: &Outcome, got: &Outcome, said: &mut Said) -> Result<bool, NoMemory> {
+fn is_same(want: &Outcome, got: &Outcome, differences: &mut Differences) -> Result<bool, NoMemory> {
     Ok(
-        said.is_same(b"the cache by a manifest", &want.cache, &got.cache)?
-            && said.is_same(b"the tree by a manifest", &want.tree, &got.tree)?,
+        differences.is_same(b"the cache by a manifest", &want.cache, &got.cache)?
+            && differences.is_same(b"the tree by a manifest", &want.tree, &got.tree)?,
     )
 }
 
@@ -84,13 +88,13 @@ pub(crate) fn is_as_by_manifest(
     alloc: Global,
     row: Row<'_>,
     devices: &mut Devices,
-    said: &mut Said,
+    differences: &mut Differences,
 ) -> Result<bool, SampleFault> {
     if !is_compared(row) {
         return Ok(true);
     }
-    let Some(want) = updated(alloc, row, said)? else {
-        said.say(b"no update by a manifest", b"")?;
+    let Some(want) = updated(alloc, row, differences)? else {
+        differences.say(b"no update by a manifest", b"")?;
         return Ok(false);
     };
     let got = Outcome {
@@ -100,5 +104,5 @@ pub(crate) fn is_as_by_manifest(
     if has_line(row, b"other-than-update") {
         return Ok(want.cache.as_slice() != got.cache.as_slice());
     }
-    Ok(is_same(&want, &got, said)?)
+    Ok(is_same(&want, &got, differences)?)
 }

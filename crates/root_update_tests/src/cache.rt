@@ -4,7 +4,7 @@ use lib_types::NoMemory;
 use root_update::AuxUse;
 use root_update_fixture::{Devices, TAG, aux_use, file_left, new_file};
 use std::alloc::Global;
-use table_rows::{Row, Said, count, has_line, text};
+use table_rows::{Differences, Row, count, has_line, text};
 use tree_face::{Call, DoneCall, MemSink, Slot, Tag};
 
 // Whether the cache is printed as the row says. A malformed cache isn't printed.
@@ -12,13 +12,13 @@ fn is_printed(
     alloc: Global,
     row: Row<'_>,
     cache: &[u8],
-    said: &mut Said,
+    differences: &mut Differences,
 ) -> Result<bool, NoMemory> {
     let mut sink = MemSink::new(alloc, Vec::new(alloc));
     if let Ok(view) = CacheView::parse(cache) {
         let _ = print(&view, b"/etc/ld.so.cache", &mut sink);
     }
-    said.is_text(alloc, row, b"print", sink.written())
+    differences.is_text(alloc, row, b"print", sink.written())
 }
 
 /// Whether the cache is the row's or, without `print`, the one that was there.
@@ -26,17 +26,18 @@ pub(crate) fn has_cache(
     alloc: Global,
     row: Row<'_>,
     devices: &mut Devices,
-    said: &mut Said,
+    differences: &mut Differences,
 ) -> Result<bool, NoMemory> {
     let cache = file_left(alloc, Slot::Cache, devices);
     if !has_line(row, b"print") {
-        return said.is_text(alloc, row, b"cache", &cache);
+        return differences.is_text(alloc, row, b"cache", &cache);
     }
     let size = count(row, b"size");
     Ok(
-        is_printed(alloc, row, &cache, said)?
-            && (size == 0 || said.is_number(alloc, b"size", size, cache.len() as u64)?)
-            && (!has_line(row, b"new-cache") || said.is_text(alloc, row, b"new-cache", &cache)?),
+        is_printed(alloc, row, &cache, differences)?
+            && (size == 0 || differences.is_number(alloc, b"size", size, cache.len() as u64)?)
+            && (!has_line(row, b"new-cache")
+                || differences.is_text(alloc, row, b"new-cache", &cache)?),
     )
 }
 
@@ -45,11 +46,11 @@ pub(crate) fn has_records(
     alloc: Global,
     row: Row<'_>,
     devices: &mut Devices,
-    said: &mut Said,
+    differences: &mut Differences,
 ) -> Result<bool, NoMemory> {
     let want = new_file(alloc, row, Slot::Aux)?;
     let got = file_left(alloc, Slot::Aux, devices);
-    said.is_same(b"new-records", &want, &got)
+    differences.is_same(b"new-records", &want, &got)
 }
 
 const REPLACING: &[Call] = &[
@@ -94,7 +95,7 @@ pub(crate) fn has_calls(
     row: Row<'_>,
     updates: u64,
     devices: &Devices,
-    said: &mut Said,
+    differences: &mut Differences,
 ) -> Result<bool, NoMemory> {
     let mut calls = Vec::new(alloc);
     for _ in 0..updates {
@@ -102,7 +103,7 @@ pub(crate) fn has_calls(
     }
     let is_so = devices.disk.calls() == calls.as_slice();
     if !is_so {
-        said.say(b"other writing calls of the disk", b"")?;
+        differences.say(b"other writing calls of the disk", b"")?;
     }
     Ok(is_so)
 }

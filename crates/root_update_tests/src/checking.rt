@@ -4,7 +4,7 @@ use link_plan::Planned;
 use root_update::{RootChanges, check_root, status_of};
 use root_update_fixture::{Devices, parts_of, writing_calls};
 use std::alloc::Global;
-use table_rows::{Row, Said};
+use table_rows::{Differences, Row};
 
 /// The exit status of a check, and its lines.
 #[derive(Clone, Copy)]
@@ -69,7 +69,7 @@ pub(crate) fn is_listed(
     row: Row<'_>,
     want: Listing<'_>,
     devices: &mut Devices,
-    said: &mut Said,
+    differences: &mut Differences,
 ) -> Result<bool, NoMemory> {
     let before = writing_calls(alloc, &devices.folder)?;
     let written = devices.disk.calls().len() as u64;
@@ -77,9 +77,9 @@ pub(crate) fn is_listed(
     let after = writing_calls(alloc, &devices.folder)?;
     let calls = devices.disk.calls().len() as u64;
     Ok(
-        said.is_number(alloc, b"check", want.status, status)?
-            && said.is_same(b"changes", want.lines, &lines)?
-            && said.is_same(b"writing calls of a check", &before, &after)?
-            && said.is_number(alloc, b"writing calls of a check", written, calls)?,
+        differences.is_number(alloc, b"check", want.status, status)?
+            && differences.is_same(b"changes", want.lines, &lines)?
+            && differences.is_same(b"writing calls of a check", &before, &after)?
+            && differences.is_number(alloc, b"writing calls of a check", written, calls)?,
     )
 }

@@ -7,7 +7,7 @@ use image_rows::{AUX, FILES, MANIFEST, is_made};
 use lib_types::NoMemory;
 use root_update_fixture::{Devices, Failing, RUN, devices_of};
 use std::alloc::Global;
-use table_rows::{Row, Said, Trial, Words, count, has_line, number, text, value};
+use table_rows::{Differences, Row, Trial, Words, count, has_line, number, text, value};
 
 /// A row describes a directory: its nodes, its files, the existing caches, the options of the run, and the calls that fail. It has the
 /// exit status and the lines of a check. Of the update it has the exit status, the path that can't be read, the report and the number of
@@ -52,19 +52,23 @@ fn call_of(row: Row<'_>, word: &[u8]) -> Option<u64> {
 fn devices_for(
     alloc: Global,
     row: Row<'_>,
-    said: &mut Said,
+    differences: &mut Differences,
 ) -> Result<Option<Devices>, SampleFault> {
     let failing = Failing {
         folder: call_of(row, b"folder-fails"),
         store: call_of(row, b"store-fails"),
         disk: call_of(row, b"disk-fails"),
     };
-    devices_of(alloc, row, failing, said)
+    devices_of(alloc, row, failing, differences)
 }
 
 // Whether a check lists what the row says.
-fn is_checked(alloc: Global, row: Row<'_>, said: &mut Said) -> Result<bool, SampleFault> {
-    let Some(mut devices) = devices_for(alloc, row, said)? else {
+fn is_checked(
+    alloc: Global,
+    row: Row<'_>,
+    differences: &mut Differences,
+) -> Result<bool, SampleFault> {
+    let Some(mut devices) = devices_for(alloc, row, differences)? else {
         return Ok(false);
     };
     let lines = text(alloc, row, b"changes")?;
@@ -72,7 +76,7 @@ fn is_checked(alloc: Global, row: Row<'_>, said: &mut Said) -> Result<bool, Samp
         status: count(row, b"check"),
         lines: &lines,
     };
-    Ok(is_listed(alloc, row, want, &mut devices, said)?)
+    Ok(is_listed(alloc, row, want, &mut devices, differences)?)
 }
 
 // Whether the update leaves what the row says, and a second update leaves the same.
@@ -80,22 +84,26 @@ fn is_updated(
     alloc: Global,
     row: Row<'_>,
     devices: &mut Devices,
-    said: &mut Said,
+    differences: &mut Differences,
 ) -> Result<bool, NoMemory> {
-    if !is_first(alloc, row, devices, said)? {
+    if !is_first(alloc, row, devices, differences)? {
         return Ok(false);
     }
-    Ok(has_line(row, b"refused") || is_second(alloc, row, devices, said)?)
+    Ok(has_line(row, b"refused") || is_second(alloc, row, devices, differences)?)
 }
 
-fn try_row(alloc: Global, row: Row<'_>, said: &mut Said) -> Result<bool, SampleFault> {
-    let Some(mut devices) = devices_for(alloc, row, said)? else {
+fn try_row(
+    alloc: Global,
+    row: Row<'_>,
+    differences: &mut Differences,
+) -> Result<bool, SampleFault> {
+    let Some(mut devices) = devices_for(alloc, row, differences)? else {
         return Ok(false);
     };
     Ok(
-        is_checked(alloc, row, said)?
-            && is_updated(alloc, row, &mut devices, said)?
-            && is_as_by_manifest(alloc, row, &mut devices, said)?,
+        is_checked(alloc, row, differences)?
+            && is_updated(alloc, row, &mut devices, differences)?
+            && is_as_by_manifest(alloc, row, &mut devices, differences)?,
     )
 }
 
@@ -105,8 +113,12 @@ impl Trial for Directory {
     }
 
     // An update that always returns NoMemory meets its contract, but not the rows.
-    fn is_right(alloc: Global, row: Row<'_>, said: &mut Said) -> Result<bool, NoMemory> {
-        let tried = try_row(alloc, row, said);
-        is_made(tried, said)
+    fn is_right(
+        alloc: Global,
+        row: Row<'_>,
+        differences: &mut Differences,
+    ) -> Result<bool, NoMemory> {
+        let tried = try_row(alloc, row, differences);
+        is_made(tried, differences)
     }
 }

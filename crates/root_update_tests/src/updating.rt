@@ -7,7 +7,7 @@ use root_tree::TreeRead;
 use root_update::{RootFault, Updated, status_of};
 use root_update_fixture::{Devices, file_left, has_tree, links_in, update, writing_calls};
 use std::alloc::Global;
-use table_rows::{Row, Said, count, has_line, lines_in, text, value};
+use table_rows::{Differences, Row, count, has_line, lines_in, text, value};
 use tree_face::Slot;
 
 // The path that couldn't be read.
@@ -22,13 +22,13 @@ fn is_refused(
     alloc: Global,
     row: Row<'_>,
     fault: &RootFault,
-    said: &mut Said,
+    differences: &mut Differences,
 ) -> Result<bool, NoMemory> {
     let status = u64::from(status_of(fault).code());
     let at = value(row, b"fails-at").unwrap_or(b"");
     Ok(
-        said.is_number(alloc, b"refused", count(row, b"refused"), status)?
-            && said.is_same(b"fails-at", at, failed_at(fault))?,
+        differences.is_number(alloc, b"refused", count(row, b"refused"), status)?
+            && differences.is_same(b"fails-at", at, failed_at(fault))?,
     )
 }
 
@@ -55,7 +55,7 @@ fn has_links(
     row: Row<'_>,
     is_first: bool,
     links: &Plan,
-    said: &mut Said,
+    differences: &mut Differences,
 ) -> Result<bool, NoMemory> {
     let mut got = Vec::new(alloc);
     for planned in links.as_slice() {
@@ -64,9 +64,9 @@ fn has_links(
     let made = links_in(alloc, &text(alloc, row, b"made")?)?;
     let want = lines_in(alloc, &made)?;
     if is_first {
-        said.is_same(b"the links", &want, &got)
+        differences.is_same(b"the links", &want, &got)
     } else {
-        said.is_same(b"the links", b"", &got)
+        differences.is_same(b"the links", b"", &got)
     }
 }
 
@@ -75,7 +75,7 @@ fn is_done(
     row: Row<'_>,
     is_first: bool,
     updated: &Updated,
-    said: &mut Said,
+    differences: &mut Differences,
 ) -> Result<bool, NoMemory> {
     let word = if is_first {
         b"output".as_slice()
@@ -84,11 +84,11 @@ fn is_done(
     };
     let report = &updated.report;
     Ok(
-        said.is_number(alloc, b"refused", count(row, b"refused"), 0)?
-            && said.is_text(alloc, row, word, report.text.as_bytes())?
+        differences.is_number(alloc, b"refused", count(row, b"refused"), 0)?
+            && differences.is_text(alloc, row, word, report.text.as_bytes())?
             && (!is_first
-                || said.is_number(alloc, b"opened", count(row, b"opened"), report.opened)?)
-            && has_links(alloc, row, is_first, &updated.links, said)?,
+                || differences.is_number(alloc, b"opened", count(row, b"opened"), report.opened)?)
+            && has_links(alloc, row, is_first, &updated.links, differences)?,
     )
 }
 
@@ -98,11 +98,11 @@ fn ends_so(
     row: Row<'_>,
     is_first: bool,
     devices: &mut Devices,
-    said: &mut Said,
+    differences: &mut Differences,
 ) -> Result<bool, NoMemory> {
     match update(alloc, row, devices) {
-        Ok(updated) => is_done(alloc, row, is_first, &updated, said),
-        Err(fault) => is_refused(alloc, row, &fault, said),
+        Ok(updated) => is_done(alloc, row, is_first, &updated, differences),
+        Err(fault) => is_refused(alloc, row, &fault, differences),
     }
 }
 
@@ -111,17 +111,17 @@ pub(crate) fn is_first(
     alloc: Global,
     row: Row<'_>,
     devices: &mut Devices,
-    said: &mut Said,
+    differences: &mut Differences,
 ) -> Result<bool, NoMemory> {
-    if !ends_so(alloc, row, true, devices, said)? {
+    if !ends_so(alloc, row, true, devices, differences)? {
         return Ok(false);
     }
     let calls = writing_calls(alloc, &devices.folder)?;
     Ok(
-        said.is_text(alloc, row, b"made", &calls)?
-            && has_tree(alloc, row, &calls, devices, said)?
-            && has_cache(alloc, row, devices, said)?
-            && has_records(alloc, row, devices, said)?,
+        differences.is_text(alloc, row, b"made", &calls)?
+            && has_tree(alloc, row, &calls, devices, differences)?
+            && has_cache(alloc, row, devices, differences)?
+            && has_records(alloc, row, devices, differences)?,
     )
 }
 
@@ -130,23 +130,23 @@ pub(crate) fn is_second(
     alloc: Global,
     row: Row<'_>,
     devices: &mut Devices,
-    said: &mut Said,
+    differences: &mut Differences,
 ) -> Result<bool, NoMemory> {
     let cache = file_left(alloc, Slot::Cache, devices);
-    let first = has_calls(alloc, row, 1, devices, said)?;
-    let ended = ends_so(alloc, row, false, devices, said)?;
+    let first = has_calls(alloc, row, 1, devices, differences)?;
+    let ended = ends_so(alloc, row, false, devices, differences)?;
     let calls = writing_calls(alloc, &devices.folder)?;
     Ok(
         first
             && ended
-            && said.is_text(alloc, row, b"made", &calls)?
-            && has_calls(alloc, row, 2, devices, said)?
-            && said.is_same(
+            && differences.is_text(alloc, row, b"made", &calls)?
+            && has_calls(alloc, row, 2, devices, differences)?
+            && differences.is_same(
                 b"the second cache",
                 &cache,
                 &file_left(alloc, Slot::Cache, devices),
             )?
-            && has_records(alloc, row, devices, said)?
-            && is_listed(alloc, row, NOTHING, devices, said)?,
+            && has_records(alloc, row, devices, differences)?
+            && is_listed(alloc, row, NOTHING, devices, differences)?,
     )
 }

@@ -4,7 +4,7 @@ use lib_types::NoMemory;
 use root_words::{command_of, is_root_command};
 use std::alloc::Global;
 use std::str::from_utf8;
-use table_rows::{Row, Said, Trial, Words, divide, text};
+use table_rows::{Differences, Row, Trial, Words, divide, text};
 
 /// A row has a line for each argument. It has the command with its values, or `other` for a command of another kind, or the fault.
 pub(crate) struct Arguments;
@@ -41,9 +41,13 @@ impl Trial for Arguments {
     }
 
     // A body that always returns NoMemory meets the contract, but not the rows.
-    fn is_right(alloc: Global, row: Row<'_>, said: &mut Said) -> Result<bool, NoMemory> {
+    fn is_right(
+        alloc: Global,
+        row: Row<'_>,
+        differences: &mut Differences,
+    ) -> Result<bool, NoMemory> {
         let words = words_of(alloc, &text(alloc, row, b"arguments")?)?;
         let got = answer(alloc, words.as_slice())?;
-        said.is_text(alloc, row, b"command", &got)
+        differences.is_text(alloc, row, b"command", &got)
     }
 }

@@ -1,4 +1,4 @@
-mod Beside
+mod NextTo
 mod Endings
 pub mod Libraries
 mod Listed

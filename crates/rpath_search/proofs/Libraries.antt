@@ -15,7 +15,7 @@ use Rattle.elf_dynamic.specs.Object.{object}
 use Rattle.elf_dynamic.specs.declared.kinds.Object.{Object}
 use Rattle.elf_dynamic.specs.Begun.{file_keys, key_in}
 use Rattle.rpath_search.specs.Search.{is_good, is_library, is_library_at, is_library_of, library_at, library_by}
-use Rattle.rpath_search.specs.Searching.{Tries, is_among, keys_beside}
+use Rattle.rpath_search.specs.Searching.{Tries, is_among, keys_next_to}
 use Rattle.rpath_search.specs.declared.kinds.Found.{Found}
 use Rattle.rpath_search.specs.declared.search.Answer.TheVariants as answer
 
@@ -59,7 +59,7 @@ module _ (t : Nodes) (abi : Abi) (real key : List ℕ) (there : key_in (node_at 
 
 -- the key of the file, if the file isn't loaded
 pub new_keys : (t : Nodes) (places : List (List ℕ)) (path real : List ℕ) → file_at t path ≡ Some real → is_among places real ≡ false →
-    keys_beside t places (path ∷ []) ≡ file_keys t (real ∷ [])
+    keys_next_to t places (path ∷ []) ≡ file_keys t (real ∷ [])
 new_keys t places path real leads new = rw (leads, new) refl
 
 module _ (known : Option Contents) (t : Nodes) (abi : Abi) (places : List (List ℕ)) where

@@ -4,7 +4,7 @@ use Rattle.std.proofs.lemmas.List.{length-append, length-drop}
 use Rattle.std.proofs.Math.Seq.{get_or-append_seam}
 use Rattle.rpath_search.specs.Candidates.{all_paths}
 use Rattle.rpath_search.specs.Listed.{HasLast, reach_in}
-use Rattle.rpath_search.specs.Loaders.{nowhere, reach_at, reach_over}
+use Rattle.rpath_search.specs.Loaders.{not_found, reach_at, reach_over}
 use Rattle.rpath_search.specs.Places.{Reach, env_for, has_slash, paths, reach_of, with_caps_once}
 use Rattle.rpath_search.specs.declared.kinds.Env.{Env}
 use Rattle.rpath_search.specs.declared.kinds.Owner.{Owner}
@@ -23,7 +23,7 @@ none_left (x ∷ xs) (suc n) e = none_left xs n (omega (arith, e))
 last_is : (reaches : List Reach) (r : Reach) → reach_at (reaches ++ r ∷ []) (length (reaches ++ r ∷ []) - 1) ≡ r
 last_is reaches r =
     let len : length (reaches ++ r ∷ []) - 1 ≡ length reaches = omega (arith, length-append reaches (r ∷ [])) in
-    ap (reach_at (reaches ++ r ∷ [])) len ∙ get_or-append_seam reaches r [] nowhere
+    ap (reach_at (reaches ++ r ∷ [])) len ∙ get_or-append_seam reaches r [] not_found
 
 module _ (env : Env) (owners : List Owner) where
   -- the last object of the chain alone

@@ -6,7 +6,7 @@ use Rattle.std.proofs.Math.Seq.{get_or-append_seam}
 use Rattle.rpath_search.specs.declared.loaders.Link.{Link}
 use Rattle.rpath_search.specs.declared.kinds.Env.{Env}
 use Rattle.rpath_search.specs.declared.kinds.Owner.{Owner}
-use Rattle.rpath_search.specs.Loaders.{AreLinked, nowhere, own_dirs, reach_at, reach_by, reach_over, reaches_from, reaches_of, rpaths_from}
+use Rattle.rpath_search.specs.Loaders.{AreLinked, not_found, own_dirs, reach_at, reach_by, reach_over, reaches_from, reaches_of, rpaths_from}
 use Rattle.rpath_search.specs.Places.{Reach}
 
 -- some object
@@ -29,7 +29,7 @@ reaches_more library reaches (k ∷ links) l = reaches_more library (reaches ++ 
 
 rpaths_more : (reaches more : List Reach) (above : Option ℕ) → IfSome above (λ j. j < length reaches) → rpaths_from (reaches ++ more) above ≡ rpaths_from reaches above
 rpaths_more reaches more None within = refl
-rpaths_more reaches more (Some j) within = ap (λ (r : Reach). r.rpaths) (get_or_append_left reaches more nowhere j within)
+rpaths_more reaches more (Some j) within = ap (λ (r : Reach). r.rpaths) (get_or_append_left reaches more not_found j within)
 
 within_more : (above : Option ℕ) (n m : ℕ) → n ≤ m → IfSome above (λ j. j < n) → IfSome above (λ j. j < m)
 within_more None n m more within = tt
@@ -64,14 +64,14 @@ module _ (library : List (List ℕ)) (links : List Link) (l : Link) (are : AreLi
         let here : i < length before = omega (arith, early, are.all) in
         let near : i ≤ length before = omega (arith, here) in
         rw (one_more, get_or_append_left links (l ∷ []) d i early)
-        (get_or_append_left before (last ∷ []) nowhere i here ∙ are.linked i d early
+        (get_or_append_left before (last ∷ []) not_found i here ∙ are.linked i d early
         ∙ sym (by_more (get_or links i d) (within_more (get_or links i d).above i (length before) near (are.below i d early)))))
         (λ late.
         let e : i ≡ length links = omega (arith, late, inside, length-append links (l ∷ [])) in
         let at : i ≡ length before = omega (arith, e, are.all) in
         let near : length links ≤ length before = omega (arith, are.all) in
         rw (one_more, get_or_in links l i d e)
-        (get_or_in before last i nowhere at ∙ sym (by_more l (within_more l.above (length links) (length before) near within))))
+        (get_or_in before last i not_found at ∙ sym (by_more l (within_more l.above (length links) (length before) near within))))
         (cases_lt i (length links));
   }
 

@@ -14,8 +14,8 @@ use Rattle.path_walk.specs.Files.{file_at}
 use Rattle.elf_dynamic.proofs.BegunKeys.{keys_early, keys_then, none_lacks}
 use Rattle.elf_dynamic.specs.Begun.{ReadsBy, file_keys, key_in, lacks_one}
 use Rattle.rpath_search.specs.Search.{files_of, first_good, is_good, looked_at}
-use Rattle.rpath_search.specs.Searching.{AreHeld, Finds, SearchesBeside, Tries, is_among, keys_beside}
-use Rattle.rpath_search.specs.Trying.{HasTried, IsBehind}
+use Rattle.rpath_search.specs.Searching.{AreHeld, Finds, SearchesNextTo, Tries, is_among, keys_next_to}
+use Rattle.rpath_search.specs.Trying.{HasTried, IsAfter}
 use Rattle.rpath_search.specs.declared.search.Answer.{Answer}
 
 -- the paths after the next path
@@ -32,7 +32,7 @@ held_if GaveUp held keys partial = tt
 
 module _ (t : Nodes) (places : List (List ℕ)) where
   abbrev keys : List (List ℕ) → List (List ℕ)
-  keys paths = keys_beside t places paths
+  keys paths = keys_next_to t places paths
 
   keys_append : (xs ys : List (List ℕ)) → keys (xs ++ ys) ≡ keys xs ++ keys ys
   keys_append xs ys =
@@ -44,7 +44,7 @@ module _ (t : Nodes) (places : List (List ℕ)) where
 module _ (known : Option Contents) (t : Nodes) (abi : Abi) (places paths : List (List ℕ)) where
   -- before the first path
   pub none_tried : (s : StoreState) → HasTried known t abi places paths paths s s
-  none_tried s = record { count = 0; left = refl; reads = nothing known; held = none known; behind = all known }
+  none_tried s = record { count = 0; left = refl; reads = nothing known; held = none known; following = all known }
     where
       nothing : (k : Option Contents) → ReadsBy k [] Complete s s
       nothing None = reads_none _ _ s
@@ -54,16 +54,16 @@ module _ (known : Option Contents) (t : Nodes) (abi : Abi) (places paths : List 
       none None = tt
       none (Some held) = refl
 
-      all : (k : Option Contents) → IfKnown k (λ held. IsBehind held t abi paths 0)
+      all : (k : Option Contents) → IfKnown k (λ held. IsAfter held t abi paths 0)
       all None = tt
       all (Some held) = record { place = omega arith; first = refl }
 
   -- the search fails after at most n paths
   stops : (n : ℕ) (e : Ending) (before after : StoreState) → IsPartial e → IfKnown known (λ held. n ≤ looked_at held t abi paths) →
-      ReadsBy known (keys t places (take n paths)) e before after → SearchesBeside known t abi places paths e before after
+      ReadsBy known (keys t places (take n paths)) e before after → SearchesNextTo known t abi places paths e before after
   stops n e before after partial few reads = by known few reads
     where
-      by : (k : Option Contents) → IfKnown k (λ held. n ≤ looked_at held t abi paths) → ReadsBy k (keys t places (take n paths)) e before after → SearchesBeside k t abi places paths e before after
+      by : (k : Option Contents) → IfKnown k (λ held. n ≤ looked_at held t abi paths) → ReadsBy k (keys t places (take n paths)) e before after → SearchesNextTo k t abi places paths e before after
       by None few reads = record { count = n; begins = reads; exactly = tt; none_lacks = tt }
       by (Some held) few reads =
           let m = looked_at held t abi paths - n in
@@ -81,10 +81,10 @@ module _ (known : Option Contents) (t : Nodes) (abi : Abi) (places paths : List 
     i = so_far.count
 
     -- out of memory before the next path
-    pub gives_up : SearchesBeside known t abi places paths GaveUp before here
-    gives_up = stops i GaveUp before here tt (few known so_far.behind) (reads_all _ _ before here _ so_far.reads)
+    pub gives_up : SearchesNextTo known t abi places paths GaveUp before here
+    gives_up = stops i GaveUp before here tt (few known so_far.following) (reads_all _ _ before here _ so_far.reads)
       where
-        few : (k : Option Contents) → IfKnown k (λ held. IsBehind held t abi paths i) → IfKnown k (λ held. i ≤ looked_at held t abi paths)
+        few : (k : Option Contents) → IfKnown k (λ held. IsAfter held t abi paths i) → IfKnown k (λ held. i ≤ looked_at held t abi paths)
         few None a = tt
         few (Some held) a = let place = a.place in omega (arith, place)
 
@@ -116,31 +116,31 @@ module _ (known : Option Contents) (t : Nodes) (abi : Abi) (places paths : List 
         left = rest_is paths i path more at_hand;
         reads = reads_more Complete after reads;
         held = held_on known so_far.held held;
-        behind = behind_on known so_far.behind bad;
+        following = after_on known so_far.following bad;
       }
         where
-          behind_on : (k : Option Contents) → IfKnown k (λ held. IsBehind held t abi paths i) → IfKnown k (λ held. is_good held t abi path ≡ false) → IfKnown k (λ held. IsBehind held t abi paths (i + 1))
-          behind_on None a b = tt
-          behind_on (Some held) a b =
+          after_on : (k : Option Contents) → IfKnown k (λ held. IsAfter held t abi paths i) → IfKnown k (λ held. is_good held t abi path ≡ false) → IfKnown k (λ held. IsAfter held t abi paths (i + 1))
+          after_on None a b = tt
+          after_on (Some held) a b =
               let p = is_good held t abi in
               let tail = sym (rest_is paths i path more at_hand) in
               let further : position_or_len p (path ∷ more) ≡ 1 + position_or_len p more = rw b refl in
               let same : find p (path ∷ more) ≡ find p more = rw b refl in
               let place = a.place ∙ ap (λ l. i + position_or_len p l) at_hand in
-              let behind = ap (position_or_len p) tail in
-              record { place = omega (arith, place, further, behind); first = a.first ∙ ap (find p) at_hand ∙ same ∙ ap (find p) tail }
+              let following = ap (position_or_len p) tail in
+              record { place = omega (arith, place, further, following); first = a.first ∙ ap (find p) at_hand ∙ same ∙ ap (find p) tail }
 
       -- the path is good
       pub found_on : (after : StoreState) → IfKnown known (λ held. is_good held t abi path ≡ true) → IfKnown known (λ held. lacks_one held (keys t places (path ∷ [])) ≡ false)
-          → ReadsBy known (keys t places (path ∷ [])) Complete here after → SearchesBeside known t abi places paths Complete before after
+          → ReadsBy known (keys t places (path ∷ [])) Complete here after → SearchesNextTo known t abi places paths Complete before after
       found_on after good held reads = record {
         count = i + 1;
         begins = reads_more Complete after reads;
-        exactly = exactly known so_far.behind good;
+        exactly = exactly known so_far.following good;
         none_lacks = held_on known so_far.held held;
       }
         where
-          exactly : (k : Option Contents) → IfKnown k (λ held. IsBehind held t abi paths i) → IfKnown k (λ held. is_good held t abi path ≡ true) → IfKnown k (λ held. i + 1 ≡ looked_at held t abi paths)
+          exactly : (k : Option Contents) → IfKnown k (λ held. IsAfter held t abi paths i) → IfKnown k (λ held. is_good held t abi path ≡ true) → IfKnown k (λ held. i + 1 ≡ looked_at held t abi paths)
           exactly None a b = tt
           exactly (Some held) a b =
               let p = is_good held t abi in
@@ -149,22 +149,22 @@ module _ (known : Option Contents) (t : Nodes) (abi : Abi) (places paths : List 
               omega (arith, place, here)
 
       pub finds_on : (a : Answer) → IfKnown known (λ held. Tries held t abi places path (Some a)) → IfKnown known (λ held. Finds held t abi places (first_good held t abi paths) (Some a))
-      finds_on a tries = by known so_far.behind tries
+      finds_on a tries = by known so_far.following tries
         where
-          by : (k : Option Contents) → IfKnown k (λ held. IsBehind held t abi paths i) → IfKnown k (λ held. Tries held t abi places path (Some a))
+          by : (k : Option Contents) → IfKnown k (λ held. IsAfter held t abi paths i) → IfKnown k (λ held. Tries held t abi places path (Some a))
               → IfKnown k (λ held. Finds held t abi places (first_good held t abi paths) (Some a))
-          by None behind tries = tt
-          by (Some held) behind tries =
+          by None following tries = tt
+          by (Some held) following tries =
               let p = is_good held t abi in
               let here : find p (path ∷ more) ≡ Some path = rw tries.0 refl in
-              let first : first_good held t abi paths ≡ Some path = behind.first ∙ ap (find p) at_hand ∙ here in
+              let first : first_good held t abi paths ≡ Some path = following.first ∙ ap (find p) at_hand ∙ here in
               rw first tries.1
 
       -- the search fails at this path
-      pub failed_on : (e : Ending) (after : StoreState) → IsPartial e → ReadsBy known (keys t places (path ∷ [])) e here after → SearchesBeside known t abi places paths e before after
-      failed_on e after partial reads = stops (i + 1) e before after partial (few known so_far.behind) (reads_more e after reads)
+      pub failed_on : (e : Ending) (after : StoreState) → IsPartial e → ReadsBy known (keys t places (path ∷ [])) e here after → SearchesNextTo known t abi places paths e before after
+      failed_on e after partial reads = stops (i + 1) e before after partial (few known so_far.following) (reads_more e after reads)
         where
-          few : (k : Option Contents) → IfKnown k (λ held. IsBehind held t abi paths i) → IfKnown k (λ held. i + 1 ≤ looked_at held t abi paths)
+          few : (k : Option Contents) → IfKnown k (λ held. IsAfter held t abi paths i) → IfKnown k (λ held. i + 1 ≤ looked_at held t abi paths)
           few None a = tt
           few (Some held) a = let place = a.place in omega (arith, place)
 
@@ -173,11 +173,11 @@ module _ (known : Option Contents) (t : Nodes) (abi : Abi) (places paths : List 
       none_left : drop i paths ≡ []
       none_left = so_far.left ∙ end
 
-      pub all_tried : SearchesBeside known t abi places paths Complete before here
-      all_tried = by known so_far.behind so_far.held so_far.reads
+      pub all_tried : SearchesNextTo known t abi places paths Complete before here
+      all_tried = by known so_far.following so_far.held so_far.reads
         where
-          by : (k : Option Contents) → IfKnown k (λ held. IsBehind held t abi paths i) → IfKnown k (λ held. lacks_one held (keys t places (take i paths)) ≡ false)
-              → ReadsBy k (keys t places (take i paths)) Complete before here → SearchesBeside k t abi places paths Complete before here
+          by : (k : Option Contents) → IfKnown k (λ held. IsAfter held t abi paths i) → IfKnown k (λ held. lacks_one held (keys t places (take i paths)) ≡ false)
+              → ReadsBy k (keys t places (take i paths)) Complete before here → SearchesNextTo k t abi places paths Complete before here
           by None a none reads = record { count = i; begins = reads; exactly = tt; none_lacks = tt }
           by (Some held) a none reads =
               let p = is_good held t abi in
@@ -191,9 +191,9 @@ module _ (known : Option Contents) (t : Nodes) (abi : Abi) (places paths : List 
               }
 
       pub finds_none : IfKnown known (λ held. Finds held t abi places (first_good held t abi paths) None)
-      finds_none = by known so_far.behind
+      finds_none = by known so_far.following
         where
-          by : (k : Option Contents) → IfKnown k (λ held. IsBehind held t abi paths i) → IfKnown k (λ held. Finds held t abi places (first_good held t abi paths) None)
+          by : (k : Option Contents) → IfKnown k (λ held. IsAfter held t abi paths i) → IfKnown k (λ held. Finds held t abi places (first_good held t abi paths) None)
           by None a = tt
           by (Some held) a =
               let first : first_good held t abi paths ≡ None = a.first ∙ ap (find (is_good held t abi)) none_left in

@@ -43,14 +43,14 @@ paths_at name None = []
 paths_at name (Some at) = map (hwcaps_path at.dir.now name) at.caps.now ++ (at.dir.now ++ root ++ name) ∷ []
 
 -- the paths after those in the current directory
-abbrev pub paths_behind : Candidates → List (List ℕ)
-paths_behind s =
+abbrev pub paths_after : Candidates → List (List ℕ)
+paths_after s =
     flat_map (paths_in s.name.now s.caps.now) (dirs_left s.first)
     ++ option_to_list (option_copied s.cached)
     ++ flat_map (paths_in s.name.now s.caps.now) (defaults_left s.defaults)
 
 abbrev pub paths_left : Candidates → List (List ℕ)
-paths_left s = s.listed.now ++ option_to_list s.whole ++ paths_at s.name.now s.at ++ paths_behind s
+paths_left s = s.listed.now ++ option_to_list s.whole ++ paths_at s.name.now s.at ++ paths_after s
 
 -- the first path, if there is one, and the paths after it
 abbrev pub IsNext : Option (List ℕ) → List (List ℕ) → List (List ℕ) → Type 0

@@ -20,11 +20,11 @@ reach_over env owner above = record {
   nodeflib = owner.nodeflib;
 }
 
-abbrev pub nowhere : Reach
-nowhere = record { rpaths = []; library = []; runpath = None; nodeflib = false }
+abbrev pub not_found : Reach
+not_found = record { rpaths = []; library = []; runpath = None; nodeflib = false }
 
 abbrev pub reach_at : List Reach → ℕ → Reach
-reach_at reaches i = slice_index_or reaches i nowhere
+reach_at reaches i = slice_index_or reaches i not_found
 
 -- ---- the objects
 

@@ -88,7 +88,7 @@ reach_of env owner loaders = record {
 abbrev pub first_dirs : Reach → List (List ℕ)
 first_dirs reach = (if is_some reach.runpath then [] else reach.rpaths) ++ reach.library ++ option_map_or (λ dirs. dirs) reach.runpath []
 
--- the default directories of ld.so(8), and Debian's if they are wanted
+-- the default directories of ld.so(8), and the other built-in directories if they are wanted
 abbrev pub system_dirs_of : SystemDirs → List (List ℕ)
 system_dirs_of Loader = system_dirs
 system_dirs_of Debian = all_builtin_dirs
@@ -106,7 +106,7 @@ hwcaps_path dir name cap = dir ++ codes "/glibc-hwcaps/" ++ cap ++ root ++ name
 abbrev pub paths_in : List ℕ → List (List ℕ) → List ℕ → List (List ℕ)
 paths_in name caps dir = map (hwcaps_path dir name) caps ++ (dir ++ root ++ name) ∷ []
 
--- the path is in a default directory or below one; Debian's directories are below those of the loader
+-- the path is in a default directory or below one; the other built-in directories are below these
 abbrev pub is_default : List ℕ → Bool
 is_default path = list_any (λ dir. is_below dir path) system_dirs
 

@@ -74,8 +74,8 @@ Finds held t abi places (Some path) None = ⊥
 Finds held t abi places (Some path) (Some a) = IsAnswer held t abi places path a
 
 -- the keys of the files to which the paths lead, without loaded files
-abbrev pub keys_beside : Nodes → List (List ℕ) → List (List ℕ) → List (List ℕ)
-keys_beside t places paths = file_keys t (filter (λ real. not (is_among places real)) (files_of t paths))
+abbrev pub keys_next_to : Nodes → List (List ℕ) → List (List ℕ) → List (List ℕ)
+keys_next_to t places paths = file_keys t (filter (λ real. not (is_among places real)) (files_of t paths))
 
 -- if the call completes, the contents of all these keys are held
 abbrev pub AreHeld : Contents → List (List ℕ) → Ending → Type 0
@@ -85,9 +85,9 @@ AreHeld held keys GaveUp = Unit {0}
 
 -- A search tries the first `count` paths. It opens the files to which they lead, except loaded files, in order, up to the first one whose
 -- content isn't held.
-pub record SearchesBeside (known : Option Contents) (t : Nodes) (abi : Abi) (places paths : List (List ℕ)) (ending : Ending) (old new : StoreState) : Type 0 where
+pub record SearchesNextTo (known : Option Contents) (t : Nodes) (abi : Abi) (places paths : List (List ℕ)) (ending : Ending) (old new : StoreState) : Type 0 where
   pub count : ℕ
-  pub begins : ReadsBy known (keys_beside t places (take count paths)) ending old new
+  pub begins : ReadsBy known (keys_next_to t places (take count paths)) ending old new
   -- if contents are known, the last tried path is the first good one, or the last path
   pub exactly : IfKnown known (λ held. count ≡ looked_at held t abi paths)
-  pub none_lacks : IfKnown known (λ held. AreHeld held (keys_beside t places (take count paths)) ending)
+  pub none_lacks : IfKnown known (λ held. AreHeld held (keys_next_to t places (take count paths)) ending)

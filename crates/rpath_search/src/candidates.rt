@@ -171,7 +171,7 @@ fn next_at<'a>(alloc: Global, name: &[u8], at: At<'a>) -> Result<(Text, Option<A
     }
 }
 
-// Whether a path is in a default directory or below one. Debian's directories are below those of the loader.
+// Whether a path is in a default directory or below one. The other built-in directories are below these.
 fn is_default(path: &[u8]) -> bool
     ensures { result ≡ is_default path.now }
 {

@@ -12,7 +12,7 @@ use string_pool::distinct;
 pub enum SystemDirs {
     /// The loader's own default directories.
     Loader,
-    /// The loader's directories and Debian's directories for each ABI.
+    /// The loader's directories, Debian's directories for each ABI, and those of RISC-V's loader.
     Debian,
 }
 

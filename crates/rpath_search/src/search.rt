@@ -9,7 +9,7 @@ ghost use Rattle.string_pool.specs.Distinct.{distinct};
 ghost use Rattle.rpath_search.specs.Candidates.{IsInside, paths_left};
 ghost use Rattle.rpath_search.specs.Faults.{search_ending};
 ghost use Rattle.rpath_search.specs.Search.{IsFound, Searches, first_good, is_library, library_at};
-ghost use Rattle.rpath_search.specs.Searching.{AreKnown, Finds, IsNew, SearchesBeside, Tries, is_outsider, keys_beside};
+ghost use Rattle.rpath_search.specs.Searching.{AreKnown, Finds, IsNew, SearchesNextTo, Tries, is_outsider, keys_next_to};
 
 use crate::candidates::Candidates;
 use crate::fault::SearchFault;
@@ -129,8 +129,8 @@ fn try_path<S: Store>(
     requires { IfKnown (S.state store.old).held (λ held. AreKnown held tree.now abi files.now) }
     ensures tries { IfOk result (λ a. IfKnown (S.state store.old).held (λ held. Tries held tree.now abi files.now.loaded path a)) }
     ensures new { IfOk result (IsNew (S.state store.old).held tree.now abi files.now.loaded) }
-    ensures held { IfOk result (λ _. IfKnown (S.state store.old).held (λ held. lacks_one held (keys_beside tree.now files.now.loaded (path ∷ [])) ≡ false)) }
-    ensures reads { ReadsBy (S.state store.old).held (keys_beside tree.now files.now.loaded (path ∷ [])) (search_ending result)
+    ensures held { IfOk result (λ _. IfKnown (S.state store.old).held (λ held. lacks_one held (keys_next_to tree.now files.now.loaded (path ∷ [])) ≡ false)) }
+    ensures reads { ReadsBy (S.state store.old).held (keys_next_to tree.now files.now.loaded (path ∷ [])) (search_ending result)
         (S.state store.old) (S.state store.new) }
 {
     let Some(real) = file_at(alloc, tree, path.as_bytes())? else {
@@ -162,7 +162,7 @@ pub fn search_paths<S: Store>(
     ensures finds { IfOk result (λ a. IfKnown (S.state store.old).held
         (λ held. Finds held tree.now abi files.now.loaded (first_good held tree.now abi (paths_left paths.entry)) a)) }
     ensures new { IfOk result (IsNew (S.state store.old).held tree.now abi files.now.loaded) }
-    ensures searches { SearchesBeside (S.state store.old).held tree.now abi files.now.loaded (paths_left paths.entry) (search_ending result)
+    ensures searches { SearchesNextTo (S.state store.old).held tree.now abi files.now.loaded (paths_left paths.entry) (search_ending result)
         (S.state store.old) (S.state store.new) }
 {
     let mut left = paths;

@@ -4,7 +4,7 @@ use lib_types::{NoMemory, Text};
 use rpath_search::{Chain, Owner, places};
 use std::alloc::Global;
 use table_rows::{
-    Row, Said, Trial, Words, divide, has_line, lines_before, lines_in, owned_value, value,
+    Differences, Row, Trial, Words, divide, has_line, lines_before, lines_in, owned_value, value,
 };
 
 /// A row has the name that is looked for, and the objects of the chain, the requesting one first. Each object has the directory where it
@@ -53,11 +53,15 @@ impl Trial for Places {
         WORDS
     }
 
-    fn is_right(alloc: Global, row: Row<'_>, said: &mut Said) -> Result<bool, NoMemory> {
+    fn is_right(
+        alloc: Global,
+        row: Row<'_>,
+        differences: &mut Differences,
+    ) -> Result<bool, NoMemory> {
         let name = value(row, b"name").unwrap_or(b"");
         let chain = chain_of(alloc, row)?;
         let env = env_of(alloc, row)?;
         let got = places(alloc, name, &chain, &env, value(row, b"cached"))?;
-        said.is_text(alloc, row, b"paths", &lines_in(alloc, &got)?)
+        differences.is_text(alloc, row, b"paths", &lines_in(alloc, &got)?)
     }
 }

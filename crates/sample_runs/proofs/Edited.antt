@@ -10,7 +10,7 @@ use Rattle.library_search.specs.Ldconfig.{links_in, planned_in}
 use Rattle.tree_face.specs.declared.disk.Slot.TheVariants.{Cache, Aux}
 use Rattle.tree_face.specs.Store.{Contents}
 use Rattle.sample_runs.specs.declared.files.SampleFile.{SampleFile}
-use Rattle.sample_runs.specs.Files.{files_from, has_hwcaps_file, is_replaced, next, sample_files}
+use Rattle.sample_runs.specs.Files.{drawn, files_from, has_hwcaps_file, is_replaced, next, sample_files}
 use Rattle.sample_runs.specs.Images.{all_replaced, empty_image, first_image, with_files, with_hwcaps_file, with_library, with_newer, with_replaced}
 
 -- ---- the first image
@@ -31,7 +31,7 @@ unfolding first_image sample_files
 first_edited zero some = absurd (omega (arith, some))
 first_edited (suc n) some =
     let m : ℕ = suc n in
-    stays_edited m (files_from (next (next m)) 1 n) (with_files m empty_image (record { index = 0; major = (next m / 65536) % 20; minor = (next (next m) / 65536) % 4 })) (with_files_edited m empty_image (record { index = 0; major = (next m / 65536) % 20; minor = (next (next m) / 65536) % 4 }))
+    stays_edited m (files_from (next (next m)) 1 n) (with_files m empty_image (record { index = 0; major = drawn (next m) % 20; minor = drawn (next (next m)) % 4 })) (with_files_edited m empty_image (record { index = 0; major = drawn (next m) % 20; minor = drawn (next (next m)) % 4 }))
 
 -- ---- the second image
 

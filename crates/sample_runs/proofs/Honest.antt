@@ -18,8 +18,8 @@ use Rattle.image_tree.specs.declared.node.Node.TheVariants.{Dir, File, Link}
 use Rattle.ldconfig_core.specs.Settled.{planned_image}
 use Rattle.image_session.specs.Edit.{without_node}
 use Rattle.image_session.specs.Session.{Loaded}
-use Rattle.library_search.proofs.Honest.{none_true, said_law, stamps_true}
-use Rattle.library_search.specs.Laws.{IsSaidRight}
+use Rattle.library_search.proofs.Honest.{none_true, info_law, stamps_true}
+use Rattle.library_search.specs.Laws.{IsInfoRight}
 use Rattle.library_search.specs.Ldconfig.{links_in, planned_in, stamps_in}
 use Rattle.file_stamps.specs.Stamped.{AreSame, AreTrue, content_of, id_at, id_in}
 use Rattle.tree_face.specs.Store.{Contents}
@@ -188,15 +188,15 @@ first_true held n = subst (λ stamps. AreTrue held (first_image n).tree stamps) 
 first_same : (held : Contents) (n : ℕ) → AreSame held (first_image n).tree (first_image n).tree
 first_same held n = are_same n held (first_image n).tree (first_image n).tree (first_own n) (first_own n)
 
-pub first_right : (held : Contents) (n : ℕ) → IsSaidRight Image held (first_image n).tree (first_image n).stamps
-first_right held n = said_law Image held (first_image n).tree (first_same held n) (first_image n).stamps (first_true held n)
+pub first_right : (held : Contents) (n : ℕ) → IsInfoRight Image held (first_image n).tree (first_image n).stamps
+first_right held n = info_law Image held (first_image n).tree (first_same held n) (first_image n).stamps (first_true held n)
 
 -- the stamps that the update makes of the first image are true of the second one
-pub second_right : (held : Contents) (n : ℕ) → IsSaidRight Image held (second_image held n).tree (second_image held n).stamps
+pub second_right : (held : Contents) (n : ℕ) → IsInfoRight Image held (second_image held n).tree (second_image held n).stamps
 second_right held n =
     let first = first_image n in
     let second = second_image held n in
     let over = are_same n held first.tree second.tree (first_own n) (second_own n held) in
     let are : AreTrue held second.tree second.stamps =
     subst (λ stamps. AreTrue held second.tree stamps) (sym (second_stamps held n)) (stamps_true Image held first.tree (first_same held n) first.stamps (first_true held n) second.tree over) in
-    said_law Image held second.tree (are_same n held second.tree second.tree (second_own n held) (second_own n held)) second.stamps are
+    info_law Image held second.tree (are_same n held second.tree second.tree (second_own n held) (second_own n held)) second.stamps are

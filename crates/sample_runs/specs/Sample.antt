@@ -13,7 +13,7 @@ use Rattle.tree_face.specs.Store.{Contents, StoreState}
 use Rattle.tree_face.specs.Stream.{SinkState}
 use Rattle.sample_runs.specs.declared.fault.SampleFault.{SampleFault}
 use Rattle.sample_runs.specs.Faults.{of_sample}
-use Rattle.library_search.specs.Laws.{IsSaidRight}
+use Rattle.library_search.specs.Laws.{IsInfoRight}
 use Rattle.sample_runs.specs.Images.{first_image, second_image}
 use Rattle.sample_runs.specs.Text.{sample_text}
 use Rattle.sample_runs.specs.Updates.{AreWritten, ReadsTwice, SampleFails, UsesSample}
@@ -24,8 +24,8 @@ pub record IsTextOf (held : Contents) (n : ℕ) (text : List ℕ) (first second 
   pub first_are : AreTextsOf Image held (first_image n) first
   pub second_are : AreTextsOf Image held (second_image held n) second
   -- the image has the true ELF information of each file, so updates without stamps give the same
-  pub first_right : IsSaidRight Image held (first_image n).tree (first_image n).stamps
-  pub second_right : IsSaidRight Image held (second_image held n).tree (second_image held n).stamps
+  pub first_right : IsInfoRight Image held (first_image n).tree (first_image n).stamps
+  pub second_right : IsInfoRight Image held (second_image held n).tree (second_image held n).stamps
   pub first_all : 0 < n → slots_of (writes_of first) ≡ update_slots
   pub second_all : 0 < n → slots_of (writes_of second) ≡ update_slots
   pub text_is : text ≡ sample_text held n first.cache second.cache

@@ -10,7 +10,7 @@ use Rattle.image_session.specs.Session.{Loaded}
 use Rattle.library_search.specs.Begun.{opened_in}
 use Rattle.library_search.specs.Ldconfig.{entries_in, links_in}
 use Rattle.tree_face.specs.Store.{Contents}
-use Rattle.update_world.specs.Turns.{readings_behind}
+use Rattle.update_world.specs.Turns.{readings_after}
 use Rattle.update_world.specs.declared.post.Post.{Post}
 use Rattle.update_world.specs.declared.post.Reading.{Reading}
 use Rattle.update_world.specs.declared.post.Turn.{Turn}
@@ -67,7 +67,7 @@ schedule = round ++ round ++ round ++ round ++ round
 
 -- what the loaders read while both updaters replace the first cache
 unfoldable pub readings : List ℕ → List ℕ → List Reading
-readings first second = readings_behind (Some first) (posts first second) [] schedule
+readings first second = readings_after (Some first) (posts first second) [] schedule
 
 abbrev pub is_first : Reading → Bool
 is_first reading = is_none reading.writer

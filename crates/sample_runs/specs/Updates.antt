@@ -8,7 +8,7 @@ use Rattle.lib_types.specs.Counts.{HasRisen}
 use Rattle.image_session.specs.Session.{Loaded}
 use Rattle.atomic_replace.specs.OneByOne.{calls_of, slots_of}
 use Rattle.library_search.specs.Begun.{lacks_some, opened_in, update_keys}
-use Rattle.library_search.specs.Laws.{IsSaidRight}
+use Rattle.library_search.specs.Laws.{IsInfoRight}
 use Rattle.library_search.specs.Ldconfig.{entries_in, links_in}
 use Rattle.tree_face.specs.declared.disk.Slot.{Slot}
 use Rattle.tree_face.specs.declared.disk.Slot.TheVariants.{Cache}
@@ -103,8 +103,8 @@ pub record AreUpdatesOf (held : Contents) (n : ℕ) (first second : UpdateTexts)
   pub second_all : 0 < n → slots_of (writes_of second) ≡ update_slots
   pub first_numbers : AreNumbers held (first_image n) numbers.0
   pub second_numbers : AreNumbers held (second_image held n) numbers.1
-  pub first_right : IsSaidRight Image held (first_image n).tree (first_image n).stamps
-  pub second_right : IsSaidRight Image held (second_image held n).tree (second_image held n).stamps
+  pub first_right : IsInfoRight Image held (first_image n).tree (first_image n).stamps
+  pub second_right : IsInfoRight Image held (second_image held n).tree (second_image held n).stamps
 
 -- the files that both updates open, one after the other
 abbrev pub sample_keys : Contents → ℕ → List (List ℕ)

@@ -7,10 +7,10 @@ ghost use Rattle.tree_face.specs.Known.{IfKnown, Relates};
 ghost use Rattle.sample_runs.specs.Updates.{Goes, ReadFails, UpdateFails, UpdatesTo, UsesPart, keys_of};
 
 use crate::fault::SampleFault;
-use image_session::Session;
+use image_session::{Session, SlotFault, read_slot};
 use lib_types::Text;
 use std::alloc::Global;
-use tree_face::{Disk, DiskRead, Slot, Store, Tag};
+use tree_face::{Disk, Slot, Store, Tag};
 
 /// The numbers of an update, and the cache that it has written.
 #[derive(Drop)]
@@ -31,10 +31,10 @@ fn read_cache<D: Disk>(alloc: Global, disk: &mut D) -> Result<Text, SampleFault>
     ensures reads { OnOk result (Relates (IsFollowedBy (slots.Cache ∷ [])) (D.state disk.old).reads (D.state disk.new).reads) }
     ensures part { OnErr result (Relates (IsFollowedByPart (slots.Cache ∷ [])) (D.state disk.old).reads (D.state disk.new).reads) }
 {
-    match disk.read(alloc, Slot::Cache) {
-        Ok(Some(bytes)) => Ok(Text::from_vec(bytes)),
-        Ok(None) | Err(DiskRead::NoMemory) => Err(SampleFault::NoMemory),
-        Err(DiskRead::Failed) => Err(SampleFault::DiskFault),
+    match read_slot(alloc, disk, Slot::Cache) {
+        Ok(Some(cache)) => Ok(cache),
+        Ok(None) | Err(SlotFault::NoMemory) => Err(SampleFault::NoMemory),
+        Err(SlotFault::DiskFailed { .. }) => Err(SampleFault::DiskFault),
     }
 }
 

@@ -6,14 +6,14 @@ less : (n : ℕ) → suc n - 1 ≡ n
 less n = omega arith
 
 -- a line that is continued is continued with one more byte in front, too
-behind : (b : ℕ) (bytes : List ℕ) → goes_on bytes ≡ true → goes_on (b ∷ bytes) ≡ true
-behind b [] e = absurd (cc)
-behind b (c ∷ rest) e = rw (less (suc (length rest))) (rw (less (length rest)) at e)
+following : (b : ℕ) (bytes : List ℕ) → goes_on bytes ≡ true → goes_on (b ∷ bytes) ≡ true
+following b [] e = absurd (cc)
+following b (c ∷ rest) e = rw (less (suc (length rest))) (rw (less (length rest)) at e)
 
 dropped : (k : ℕ) (bytes : List ℕ) → goes_on (drop k bytes) ≡ true → goes_on bytes ≡ true
 dropped zero bytes e = e
 dropped (suc k) [] e = e
-dropped (suc k) (b ∷ bytes) e = behind b bytes (dropped k bytes e)
+dropped (suc k) (b ∷ bytes) e = following b bytes (dropped k bytes e)
 
 -- the bytes after the first n bytes are continued only if the line is
 pub rest_ends : (bytes rest : List ℕ) (n : ℕ) → rest ≡ drop n bytes → goes_on rest ≡ true → goes_on bytes ≡ true

@@ -3,7 +3,7 @@ use crate::shown::shown;
 use lib_types::NoMemory;
 use script_lines::read_line;
 use std::alloc::Global;
-use table_rows::{Row, Said, Trial, Words, text};
+use table_rows::{Differences, Row, Trial, Words, text};
 
 /// A row has a line, with its line feed, and its meaning or its fault.
 pub(crate) struct Lines;
@@ -25,9 +25,13 @@ impl Trial for Lines {
     }
 
     // A body that always returns NoMemory meets the contract, but not the rows.
-    fn is_right(alloc: Global, row: Row<'_>, said: &mut Said) -> Result<bool, NoMemory> {
+    fn is_right(
+        alloc: Global,
+        row: Row<'_>,
+        differences: &mut Differences,
+    ) -> Result<bool, NoMemory> {
         let line = text(alloc, row, b"line")?;
         let got = shown(alloc, read_line(alloc, line_of(&line)))?;
-        said.is_text(alloc, row, b"asks", &got)
+        differences.is_text(alloc, row, b"asks", &got)
     }
 }

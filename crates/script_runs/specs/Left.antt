@@ -19,7 +19,7 @@ use Rattle.image_session.specs.Aux.{stamps_of_slot}
 use Rattle.image_session.specs.Manifest.{HasTree, manifest_of}
 use Rattle.image_session.specs.Session.{Loaded}
 use Rattle.library_search.specs.Begun.{opened_in, update_keys}
-use Rattle.library_search.specs.Laws.{IsSaidRight}
+use Rattle.library_search.specs.Laws.{IsInfoRight}
 use Rattle.library_search.specs.Ldconfig.{conf_of, stamps_in}
 use Rattle.file_stamps.specs.Stamped.{AreSame, AreTrue}
 use Rattle.tree_face.specs.Disk.{DiskContent, Slots}
@@ -52,7 +52,7 @@ pub record IsUpdateOf (held : Contents) (u : Loaded) (texts : UpdateTexts) : Typ
   pub manifest_read : IfReads texts.manifest (planned_image Image held u)
   pub aux_read : stamps_of_slot (Some texts.aux) ≡ stamps_in Image held u.tree u.stamps
   pub counted : length (update_keys Image held u.tree u.stamps) ≡ length (conf_keys (conf_of Image) held u.tree) + opened_in Image held u.tree u.stamps
-  pub right : IsHonest held u → IsSaidRight Image held u.tree u.stamps
+  pub right : IsHonest held u → IsInfoRight Image held u.tree u.stamps
   pub rebuilt : IsHonest held u → IsRebuiltOf held u texts
   pub settled : IsHonest held u → AreSettled Image held u (planned_image Image held u)
 

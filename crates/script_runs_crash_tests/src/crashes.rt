@@ -39,7 +39,7 @@ const WITHOUT_IDENTITIES: Update<'_> = Update {
     auxes: (None, NO_STAMPS),
 };
 
-// Before the update there are stamps of the only library, and of a file that is gone.
+// Before the update there are stamps of the only library, and of a file that is gone, in a file of version 1.0.
 const WITH_IDENTITIES: Update<'_> = Update {
     manifests: (
         b"#mtree\n./usr/lib/libfoo.so.1 type=link link=libfoo.so.1.1\n./usr/lib/libfoo.so.1.1 type=file dev=0 inode=1 ctime=3 size=253\n./usr/lib/libfoo.so.1.2 type=file dev=0 inode=2 ctime=4 size=253\n",
@@ -54,7 +54,7 @@ const WITH_IDENTITIES: Update<'_> = Update {
             \x03\x03\x00\x00\x01\x00\x00\x00\x00\x00\x00\x00\x00\x00\x00\x00\
             \0libfoo.so.1\0",
         ),
-        b"glibc-ld.so.auxcache-1.0\x02\x00\x00\x00\x0d\x00\x00\x00\
+        b"glibc-ld.so.auxcache-1.1\x02\x00\x00\x00\x0d\x00\x00\x00\
         \x01\x00\x00\x00\x00\x00\x00\x00\x03\x00\x00\x00\x00\x00\x00\x00\xfd\x00\x00\x00\x00\x00\x00\x00\x00\x00\x00\x00\x00\x00\x00\x00\
         \x03\x03\x00\x00\x01\x00\x00\x00\x00\x00\x00\x00\x00\x00\x00\x00\
         \x02\x00\x00\x00\x00\x00\x00\x00\x04\x00\x00\x00\x00\x00\x00\x00\xfd\x00\x00\x00\x00\x00\x00\x00\x00\x00\x00\x00\x00\x00\x00\x00\

@@ -53,13 +53,13 @@ const SECOND_CACHE: &[u8] = b"\
     ldconfig (image profile) release version 1";
 
 /// An auxiliary cache of the first library's stamp: 91 bytes.
-const FIRST_AUX: &[u8] = b"glibc-ld.so.auxcache-1.0\x01\x00\x00\x00\x0b\x00\x00\x00\
+const FIRST_AUX: &[u8] = b"glibc-ld.so.auxcache-1.1\x01\x00\x00\x00\x0b\x00\x00\x00\
     \x05\x00\x00\x00\x00\x00\x00\x00\x01\x00\x00\x00\x00\x00\x00\x00\xfb\x00\x00\x00\x00\x00\x00\x00\x00\x00\x00\x00\x00\x00\x00\x00\
     \x03\x03\x00\x00\x01\x00\x00\x00\x00\x00\x00\x00\x00\x00\x00\x00\
     \0liba.so.1\0";
 
 /// An auxiliary cache of the second library's stamp: 91 bytes.
-const SECOND_AUX: &[u8] = b"glibc-ld.so.auxcache-1.0\x01\x00\x00\x00\x0b\x00\x00\x00\
+const SECOND_AUX: &[u8] = b"glibc-ld.so.auxcache-1.1\x01\x00\x00\x00\x0b\x00\x00\x00\
     \x05\x00\x00\x00\x00\x00\x00\x00\x02\x00\x00\x00\x00\x00\x00\x00\xfb\x00\x00\x00\x00\x00\x00\x00\x00\x00\x00\x00\x00\x00\x00\x00\
     \x03\x03\x00\x00\x01\x00\x00\x00\x00\x00\x00\x00\x00\x00\x00\x00\
     \0liba.so.2\0";
@@ -114,10 +114,10 @@ fn published_before(slot: Slot, call: u64) -> u64 {
 /// The two possible contents of a slot's file if the writing call with this number fails, or if the machine crashes after it: the content
 /// before the call and the content after it. They differ only if the call renames the file into place.
 pub(crate) fn contents(slot: Slot, call: u64) -> (Option<&'static [u8]>, Option<&'static [u8]>) {
-    let behind = call.saturating_add(1);
+    let following = call.saturating_add(1);
     (
         content(slot, published_before(slot, call)),
-        content(slot, published_before(slot, behind)),
+        content(slot, published_before(slot, following)),
     )
 }
 

@@ -10,7 +10,7 @@ use Rattle.ldso_conf.specs.declared.kinds.Conf.{Conf}
 use Rattle.ldso_conf.specs.declared.reading.TheConstants.{DEPTH_MAX}
 use Rattle.path_walk.specs.declared.walk.Mode.TheVariants.{Plain}
 use Rattle.root_folder.specs.Whole.{IsWhole}
-use Rattle.seen_conf.proofs.Items.{AreRead, AreSame, Files, GiveSame, IsSameStep, behind, read_parts, until_both}
+use Rattle.seen_conf.proofs.Items.{AreRead, AreSame, Files, GiveSame, IsSameStep, following, read_parts, until_both}
 use Rattle.seen_conf.proofs.Patterns.{found_place_seen, found_seen}
 use Rattle.seen_conf.proofs.Steps.{steps_same, steps_seen}
 use Rattle.seen_conf.specs.Conf.{file_paths, items_looked, patterns_looked}
@@ -37,7 +37,7 @@ module _ (t part : Nodes) (whole : IsWhole t) (is : IsPart t part) where
         until_both xs other ys (asked new (before ++ flat_map place_in other) steps) (each.0 file new same before parts.0)
         (λ items held.
         ap (λ done. until_missing (asked new (before ++ flat_map place_in done) steps)) items
-        ∙ asked_seen next steps each.1 (subst (λ b. AreSeen t part (patterns_looked t (behind b (until_missing ys)))) held parts.1))
+        ∙ asked_seen next steps each.1 (subst (λ b. AreSeen t part (patterns_looked t (following b (until_missing ys)))) held parts.1))
 
     with_seen : (before : List (List ℕ)) (item : Item) → AreRead t part (with_steps file t before item)
         → AreSame (with_steps file t before item) (with_steps new part before item)

@@ -29,13 +29,13 @@ until_whole (x ∷ xs) held =
     ap (λ b. x ∷ cond b [] (until_missing xs)) parts.0 ∙ ap (λ l. x ∷ l) (until_whole xs parts.1)
 
 -- the items that follow others; none if a file of those others is missing
-abbrev pub behind : Bool → List Item → List Item
-behind missing items = cond missing [] items
+abbrev pub following : Bool → List Item → List Item
+following missing items = cond missing [] items
 
-pub until_parts : (xs ys : List Item) → until_missing (xs ++ ys) ≡ until_missing xs ++ behind (lacks xs) (until_missing ys)
+pub until_parts : (xs ys : List Item) → until_missing (xs ++ ys) ≡ until_missing xs ++ following (lacks xs) (until_missing ys)
 until_parts [] ys = refl
 until_parts (x ∷ xs) ys =
-    by_test {P = until_missing ((x ∷ xs) ++ ys) ≡ until_missing (x ∷ xs) ++ behind (lacks (x ∷ xs)) (until_missing ys)} (is_missing x)
+    by_test {P = until_missing ((x ∷ xs) ++ ys) ≡ until_missing (x ∷ xs) ++ following (lacks (x ∷ xs)) (until_missing ys)} (is_missing x)
     (λ e. rw e refl)
     (λ e. rw e (ap (λ l. x ∷ l) (until_parts xs ys)))
 
@@ -44,13 +44,13 @@ pub until_both : (xs new ys more : List Item) → until_missing new ≡ until_mi
     → (new ≡ xs → lacks xs ≡ false → until_missing more ≡ until_missing ys) → until_missing (new ++ more) ≡ until_missing (xs ++ ys)
 until_both xs new ys more same rest =
     let lacking : lacks new ≡ lacks xs = sym (lacks_until new) ∙ ap lacks same ∙ lacks_until xs in
-    let following : behind (lacks xs) (until_missing more) ≡ behind (lacks xs) (until_missing ys) = by_test (lacks xs)
+    let rest_same : following (lacks xs) (until_missing more) ≡ following (lacks xs) (until_missing ys) = by_test (lacks xs)
     (λ e. rw e refl)
     (λ e. rw e (rest (sym (until_whole new (lacking ∙ e)) ∙ same ∙ until_whole xs e) e)) in
     until_parts new more
-    ∙ ap (λ l. l ++ behind (lacks new) (until_missing more)) same
-    ∙ ap (λ b. until_missing xs ++ behind b (until_missing more)) lacking
-    ∙ ap (λ l. until_missing xs ++ l) following
+    ∙ ap (λ l. l ++ following (lacks new) (until_missing more)) same
+    ∙ ap (λ b. until_missing xs ++ following b (until_missing more)) lacking
+    ∙ ap (λ l. until_missing xs ++ l) rest_same
     ∙ sym (until_parts xs ys)
 
 -- ---- what gives the same items in a part of a tree
@@ -68,10 +68,10 @@ module _ (t part : Nodes) where
   AreRead items = AreSeen t part (patterns_looked t (until_missing items))
 
   pub read_parts : (xs ys : List Item) → AreRead (xs ++ ys)
-      → AreRead xs × AreSeen t part (patterns_looked t (behind (lacks xs) (until_missing ys)))
+      → AreRead xs × AreSeen t part (patterns_looked t (following (lacks xs) (until_missing ys)))
   read_parts xs ys all =
       let first = until_missing xs in
-      let rest = behind (lacks xs) (until_missing ys) in
+      let rest = following (lacks xs) (until_missing ys) in
       let parted : patterns_looked t (until_missing (xs ++ ys)) ≡ patterns_looked t first ++ patterns_looked t rest =
       ap (patterns_looked t) (until_parts xs ys) ∙ flat_map-append (item_paths (results_looked t)) first rest in
       seen_parts t part (patterns_looked t first) (patterns_looked t rest) (subst (AreSeen t part) parted all)

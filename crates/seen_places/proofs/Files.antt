@@ -8,7 +8,7 @@ use Rattle.image_tree.specs.declared.node.Node.{Node}
 use Rattle.image_tree.specs.declared.node.Node.TheVariants as node
 use Rattle.lib_types.proofs.SortedPairs.{by_test}
 use Rattle.library_files.specs.Link.{FollowedLink}
-use Rattle.library_files.specs.Search.{dangling, dangling_in, file_in, files_behind, files_in, files_of, folder_links, followed, followed_by, followed_in, link_with, reached, unless_file, wanted}
+use Rattle.library_files.specs.Search.{dangling, dangling_in, file_in, files_after, files_in, files_of, folder_links, followed, followed_by, followed_in, link_with, reached, unless_file, wanted}
 use Rattle.name_order.specs.LibraryName.{is_library_name}
 use Rattle.path_walk.specs.Files.{file_at, file_by, is_file}
 use Rattle.path_walk.specs.Walk.{resolution}
@@ -136,7 +136,7 @@ module _ (t part : Nodes) (whole : IsWhole t) (is : IsPart t part) where
 
   pub reached_seen : (places : List Place) → AreSeen t part (wanted_looked t places) → AreSeen t part (followed_looked t places) → reached part places ≡ reached t places
   unfolding reached
-  reached_seen places seen all = ap files_behind (followed_seen places seen all)
+  reached_seen places seen all = ap files_after (followed_seen places seen all)
 
   pub dangling_seen : (places : List Place) → AreSeen t part (wanted_looked t places) → AreSeen t part (followed_looked t places) → dangling part places ≡ dangling t places
   unfolding dangling wanted_looked followed_looked

@@ -6,6 +6,6 @@ pub mod Libraries
 pub mod Links
 pub mod Places
 pub mod Planned
-pub mod Said
+pub mod Info
 pub mod Sonames
 pub mod Stage

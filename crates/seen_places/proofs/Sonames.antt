@@ -1,4 +1,4 @@
--- A library name that a search directory lacks has no node there, neither in the tree nor in the part: it need not be looked up.
+-- A library name that a search directory lacks has no node there, in the tree and in the part: it need not be looked up.
 use Rattle.std.proofs.Common.{◌≡◌, ℕ, Bool, true, false, not, ◌&&◌, ◌||◌, ◌==◌, List, [], ◌∷◌, filter, length, refl, ap, sym, ◌∙◌, Option, Some, None}
 use Rattle.std.proofs.lemmas.Bool.{and_from, and_parts, false≢true}
 use Rattle.std.proofs.lemmas.Bool.Decides.{Decides-eqb}
@@ -8,7 +8,7 @@ use Rattle.std.specs.List.{dedup, list_any}
 use Rattle.std.specs.Str.{bytes_eq}
 use Rattle.image_tree.proofs.Above.{found_any}
 use Rattle.image_tree.proofs.Rising.{first_name, name_goes_on}
-use Rattle.image_tree.specs.Paths.{folder, is_below, join, name_behind}
+use Rattle.image_tree.specs.Paths.{folder, is_below, join, name_after}
 use Rattle.image_tree.specs.Tree.{Nodes, children_of, kind_at, names_below, node_at, of_dir}
 use Rattle.image_tree.specs.declared.node.Node.{Node}
 use Rattle.image_tree.specs.declared.tree.Kind.TheVariants as kinds
@@ -29,18 +29,18 @@ first_alone (b ∷ name) h =
 module _ (t : Nodes) (d : List ℕ) (dir : kind_at t d ≡ kinds.Dir) (z : List ℕ) (named : is_name z ≡ true) where
   -- the path continues from the directory by the name
   abbrev goes_by : List ℕ → Bool
-  goes_by p = is_below d p && bytes_eq z (name_behind (length (folder d)) p)
+  goes_by p = is_below d p && bytes_eq z (name_after (length (folder d)) p)
 
   in_below : (nodes : Nodes) → is_in (names_below nodes d) z ≡ list_any (λ e. goes_by e.0) nodes
   in_below [] = refl
   in_below (e ∷ nodes) = by_test (is_below d e.0)
-      (λ b. rw b (ap (λ c. bytes_eq z (name_behind (length (folder d)) e.0) || c) (in_below nodes)))
+      (λ b. rw b (ap (λ c. bytes_eq z (name_after (length (folder d)) e.0) || c) (in_below nodes)))
       (λ b. rw b (in_below nodes))
 
   goes_itself : goes_by (join d z) ≡ true
   goes_itself =
       let flat : have_no_slash z ≡ true = (and_parts _ _ (and_parts _ _ named).0).1 in
-      let name : z ≡ name_behind (length (folder d)) (join d z) = sym (ap first_name (drop_at (folder d) z (length (folder d)) refl) ∙ first_alone z flat) in
+      let name : z ≡ name_after (length (folder d)) (join d z) = sym (ap first_name (drop_at (folder d) z (length (folder d)) refl) ∙ first_alone z flat) in
       and_from _ _ ((starts_is Decides-eqb (join d z) (folder d) (is_below d (join d z)) refl).1 z refl) ((bytes_eq-Decides z _).1 name)
 
   -- a name with a node is in the directory

@@ -16,7 +16,7 @@ use Rattle.image_tree.proofs.Above.{found_any, path_of_found}
 use Rattle.image_tree.proofs.Below.{below_from}
 use Rattle.image_tree.proofs.Prefixes.{path_above}
 use Rattle.image_tree.proofs.Rising.{below_rest, children_sorted, first_name, name_ended, name_goes_on}
-use Rattle.image_tree.specs.Paths.{folder, is_below, is_path, is_slash, join, name_behind, root, stem}
+use Rattle.image_tree.specs.Paths.{folder, is_below, is_path, is_slash, join, name_after, root, stem}
 use Rattle.image_tree.specs.Tree.{Nodes, children_of, has_below, kind_at, names_below, node_at, of_dir}
 use Rattle.image_tree.specs.declared.node.Node.{Node}
 use Rattle.image_tree.specs.declared.node.Node.TheVariants.{Dir}
@@ -41,18 +41,18 @@ first_twice (b ∷ s) = by_test (is_slash b)
 
 module _ (d z : List ℕ) where
   abbrev goes_by : List ℕ → Bool
-  goes_by p = is_below d p && bytes_eq z (name_behind (length (folder d)) p)
+  goes_by p = is_below d p && bytes_eq z (name_after (length (folder d)) p)
 
   in_below : (t : Nodes) → is_in (names_below t d) z ≡ list_any (λ e. goes_by e.0) t
   in_below [] = refl
   in_below (e ∷ t) = by_test (is_below d e.0)
-      (λ b. rw b (ap (λ c. bytes_eq z (name_behind (length (folder d)) e.0) || c) (in_below t)))
+      (λ b. rw b (ap (λ c. bytes_eq z (name_after (length (folder d)) e.0) || c) (in_below t)))
       (λ b. rw b (in_below t))
 
   is_child : (t : Nodes) → kind_at t d ≡ kinds.Dir → is_in (children_of t d) z ≡ list_any (λ e. goes_by e.0) t
   is_child t dir = ap (λ kind. is_in (of_dir kind (dedup bytes_eq (names_below t d))) z) dir ∙ dedup_in (bytes_eq z) (names_below t d) ∙ in_below t
 
-  name_of : (p : List ℕ) → goes_by p ≡ true → z ≡ name_behind (length (folder d)) p
+  name_of : (p : List ℕ) → goes_by p ≡ true → z ≡ name_after (length (folder d)) p
   name_of p h = (bytes_eq-Decides z _).0 (and_parts (is_below d p) _ h).1
 
   -- the path is the name's path, or is below it

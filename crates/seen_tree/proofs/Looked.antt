@@ -70,8 +70,8 @@ all_looked looked (p ∷ paths) = and_from _ _ (still_looked p (with_path looked
 
 module _ (t : Nodes) (s : Seen) (is : IsSeenOf t s) where
   -- a text that isn't a valid path has no node
-  nowhere : (q : List ℕ) → is_path q ≡ false → IsSeen t s.part q
-  nowhere q h = by (node_at s.part q) refl (node_at t q) refl
+  not_found : (q : List ℕ) → is_path q ≡ false → IsSeen t s.part q
+  not_found q h = by (node_at s.part q) refl (node_at t q) refl
     where
       by : (o : Option Node) → node_at s.part q ≡ o → (r : Option Node) → node_at t q ≡ r → node_at s.part q ≡ node_at t q
       by None e None f = e ∙ sym f
@@ -87,7 +87,7 @@ module _ (t : Nodes) (s : Seen) (is : IsSeenOf t s) where
   pub looked_seen : (q : List ℕ) → is_looked s.looked q ≡ true → IsSeen t s.part q
   looked_seen q h = by_test (is_path q)
       (λ e. seen_in q s.looked is.nodes (sym (ap (λ b. not b || list_any (bytes_eq q) s.looked) e) ∙ h))
-      (λ e. nowhere q e)
+      (λ e. not_found q e)
 
   -- at the paths that were looked up, the part agrees with the tree
   pub are_seen : (paths : List (List ℕ)) → are_looked s.looked paths ≡ true → AreSeen t s.part paths

@@ -5,11 +5,13 @@ use crate::places::Places;
 use crate::same_bytes::have_same_bytes;
 use crate::temporary::{Temporary, make_own, remove_left};
 use device_rules::{
-    HEAD_SIZE, Owner, RunId, SlotPaths, Stamp, Standing, entries_in, has_room, is_as_read,
-    is_missing, largest, length_to_read, mode_of, mode_until_whole, owner_of, owner_to_give,
-    stamp_of, standing_of, too_long,
+    Existing, HEAD_SIZE, Owner, RunId, SlotPaths, Stamp, entries_in, existing_of, has_room,
+    is_as_read, is_missing, largest, length_to_read, mode_of, mode_until_whole, owner_of,
+    owner_to_give, stamp_of, too_long,
 };
-use image_folder::{HeldFile, ImageFolder, Missing, changed, open_file, read_whole, shorter};
+use image_folder::{
+    HeldFile, ImageFolder, Missing, changed, left_behind, open_file, read_whole, shorter,
+};
 use lib_types::NoMemory;
 use standard_streams::{Streams, file_limit};
 use std::alloc::{AllocError, Global};
@@ -52,10 +54,12 @@ pub struct SlotFiles<R: Runtime> {
     places: Places,
     run: RunId,
     temporary: Option<Temporary<R>>,
-    // The stamp of the manifest that was read, if it was read: the inner None means that there was no manifest.
+    // The stamp of the manifest that was read, if it was read: the inner None means that the image had none.
     manifest: Option<Option<Stamp>>,
     // Whether temporary files that earlier runs left were removed.
     is_clean: bool,
+    // Whether one of them is this user's own and can't be removed.
+    has_left: bool,
     written: Written,
 }
 
@@ -79,6 +83,7 @@ impl<R: Runtime> SlotFiles<R> {
             temporary: None,
             manifest: None,
             is_clean: false,
+            has_left: false,
             written: Written::default(),
         })
     }
@@ -98,7 +103,7 @@ impl<R: Runtime> SlotFiles<R>
 where
     R::File: HeldFile,
 {
-    /// The bytes of a slot's file, or None if there is no file. If a manifest is too long, only enough is read to show that. If a file is
+    /// The bytes of a slot's file, or None if it doesn't exist. If a manifest is too long, only enough is read to show that. If a file is
     /// not a cache, only its first bytes are read.
     pub fn read(&mut self, alloc: Global, slot: Slot) -> io::Result<Option<Vec<u8>>> {
         match self.open_slot(slot)? {
@@ -145,22 +150,24 @@ where
     pub fn create(&mut self, tag: Tag, slot: Slot) -> io::Result<()> {
         self.discard();
         self.clean();
+        self.require_removed(slot)?;
         let (folder, _) = self.places.place_of(slot);
         self.image.enter(folder, Missing::IsMade)?;
-        let stood = self.what_stands(slot)?;
-        self.begin(tag, slot, stood)
+        let existing = self.look_at_slot(slot)?;
+        self.begin(tag, slot, existing)
     }
 
     // Makes an empty temporary file in the directory that was entered.
-    fn begin(&mut self, tag: Tag, slot: Slot, stood: Option<Standing>) -> io::Result<()> {
-        let mode = mode_after(slot, stood);
+    fn begin(&mut self, tag: Tag, slot: Slot, existing: Option<Existing>) -> io::Result<()> {
+        let mode = mode_after(slot, existing);
         let (_, slot_name) = self.places.place_of(slot);
-        let (name, file) = make_own(&self.image, slot_name, tag, self.run)?;
-        let done = hand_over(&file, stood, mode);
+        let (name, path, file) = make_own(&self.image, slot_name, tag, self.run)?;
+        let done = hand_over(&file, existing, mode);
         self.temporary = Some(Temporary {
             tag,
             slot,
             name,
+            path,
             file,
             mode,
         });
@@ -168,13 +175,13 @@ where
     }
 
     // What the new file takes over from the slot's file, if there is one.
-    fn what_stands(&mut self, slot: Slot) -> io::Result<Option<Standing>> {
+    fn look_at_slot(&mut self, slot: Slot) -> io::Result<Option<Existing>> {
         let (_, name) = self.places.place_of(slot);
         let found = self.image.look(name)?;
         if slot == Slot::Cache {
             self.written.entries_before = self.entries_there();
         }
-        Ok(found.and_then(|found| standing_of(&found)))
+        Ok(found.and_then(|found| existing_of(&found)))
     }
 
     // The entry count of the cache at the current path.
@@ -187,17 +194,27 @@ where
         if !self.is_clean {
             self.is_clean = true;
             for slot in [Slot::Manifest, Slot::Cache, Slot::Aux] {
-                if self.places.has(slot) {
-                    let _ = self.clean_beside(slot);
+                if self.places.has(slot) && self.clean_next_to(slot).unwrap_or(false) {
+                    self.has_left = true;
                 }
             }
         }
     }
 
-    fn clean_beside(&mut self, slot: Slot) -> io::Result<()> {
+    // Returns an error if a temporary file for this slot can't be removed. Otherwise each run would leave one more in such a directory.
+    fn require_removed(&mut self, slot: Slot) -> io::Result<()> {
+        if self.has_left && self.clean_next_to(slot).unwrap_or(false) {
+            go_to_file(&mut self.image, self.places.place_of(slot))?;
+            return Err(left_behind());
+        }
+        Ok(())
+    }
+
+    // Removes the temporary files for this slot, and returns whether one of this user's own stays.
+    fn clean_next_to(&mut self, slot: Slot) -> io::Result<bool> {
         let (folder, name) = self.places.place_of(slot);
         self.image.enter(folder, Missing::IsFault)?;
-        let path = self.image.path_beside("")?;
+        let path = self.image.path_next_to("")?;
         remove_left(&self.image.rt, path.as_str(), name)
     }
 
@@ -270,7 +287,7 @@ where
     fn replace(&mut self, slot: Slot) -> io::Result<()> {
         if let Some(temporary) = &self.temporary {
             let (_, name) = self.places.place_of(slot);
-            rename_beside(&self.image, temporary.name.as_str(), name)?;
+            rename_next_to(&self.image, temporary.name.as_str(), name)?;
             if slot == Slot::Manifest {
                 // Renaming changes the stamp.
                 self.manifest = stamp_in(&temporary.file);
@@ -291,7 +308,7 @@ where
     fn discard(&mut self) {
         if let Some(temporary) = &self.temporary {
             let (folder, _) = self.places.place_of(temporary.slot);
-            let _ = remove_in(&mut self.image, folder, temporary.name.as_str());
+            let _ = remove_in(&mut self.image, folder, temporary);
         }
         self.temporary = None;
     }
@@ -357,24 +374,30 @@ where
     Ok(())
 }
 
-// Removes the file of this name in this directory.
-fn remove_in<R: Runtime>(image: &mut ImageFolder<R>, folder: &str, name: &str) -> io::Result<()>
+// Removes a temporary file in this directory. If memory is gone, its path at its creation serves, because its directory is still open then.
+fn remove_in<R: Runtime>(
+    image: &mut ImageFolder<R>,
+    folder: &str,
+    temporary: &Temporary<R>,
+) -> io::Result<()>
 where
     R::File: HeldFile,
 {
     image.enter(folder, Missing::IsFault)?;
-    let path = image.path_beside(name)?;
-    image.rt.remove_file(path.as_str())
+    match image.path_next_to(temporary.name.as_str()) {
+        Ok(path) => image.rt.remove_file(path.as_str()),
+        Err(_) => image.rt.remove_file(temporary.path.as_str()),
+    }
 }
 
 // Renames a file in the directory that was entered.
-fn rename_beside<R: Runtime>(image: &ImageFolder<R>, from: &str, to: &str) -> io::Result<()> {
-    let from = image.path_beside(from)?;
+fn rename_next_to<R: Runtime>(image: &ImageFolder<R>, from: &str, to: &str) -> io::Result<()> {
+    let from = image.path_next_to(from)?;
     rename_to(image, from.as_str(), to)
 }
 
 fn rename_to<R: Runtime>(image: &ImageFolder<R>, from: &str, to: &str) -> io::Result<()> {
-    let to = image.path_beside(to)?;
+    let to = image.path_next_to(to)?;
     image.rt.rename(from, to.as_str())
 }
 
@@ -387,16 +410,16 @@ fn stamp_in<F: OpenFile>(file: &F) -> Option<Option<Stamp>> {
 }
 
 // The mode of a slot's new file.
-fn mode_after(slot: Slot, stood: Option<Standing>) -> u32 {
-    match stood {
-        Some(stood) => mode_of(slot, Some(stood.mode)),
+fn mode_after(slot: Slot, existing: Option<Existing>) -> u32 {
+    match existing {
+        Some(existing) => mode_of(slot, Some(existing.mode)),
         None => mode_of(slot, None),
     }
 }
 
-fn owner_in(stood: Option<Standing>) -> Option<Owner> {
-    match stood {
-        Some(stood) => Some(stood.owner),
+fn owner_in(existing: Option<Existing>) -> Option<Owner> {
+    match existing {
+        Some(existing) => Some(existing.owner),
         None => None,
     }
 }
@@ -404,11 +427,11 @@ fn owner_in(stood: Option<Standing>) -> Option<Owner> {
 // Gives a new file the owner of the file that it replaces, if possible, and the mode for the time while it is written.
 fn hand_over<F: OpenFile + HeldFile>(
     file: &F,
-    stood: Option<Standing>,
+    existing: Option<Existing>,
     mode: u32,
 ) -> io::Result<()> {
     let made = file.metadata()?;
-    if let Some(owner) = owner_to_give(owner_of(&made), owner_in(stood)) {
+    if let Some(owner) = owner_to_give(owner_of(&made), owner_in(existing)) {
         let _ = file.give_to(owner.user, owner.group);
     }
     file.set_permissions(Permissions::from_mode(mode_until_whole(mode)))

@@ -3,7 +3,7 @@ use device_rules::{
     Identity, MOST_NAMES, RunId, identity_of, is_missing, is_no_text, is_there, maker_of,
     temporary_path,
 };
-use image_folder::{HeldFile, ImageFolder, open_file};
+use image_folder::{HeldFile, ImageFolder, is_own, open_file};
 use std::fs::{self, DirEntry, OpenFile, OpenOptions, read_dir};
 use std::io::{self, Error, ErrorKind};
 use std::os::unix::fs::OpenOptionsExt;
@@ -17,6 +17,8 @@ pub struct Temporary<R: Runtime> {
     pub slot: Slot,
     /// Its name in the directory of the slot's file.
     pub name: String<R::A>,
+    /// Its path at its creation, as passed to the system.
+    pub path: String<R::A>,
     pub file: R::File,
     /// The mode that it gets when it is complete.
     pub mode: u32,
@@ -26,13 +28,13 @@ pub struct Temporary<R: Runtime> {
 const NEW_MODE: u32 = 0o644;
 
 /// Makes an empty temporary file for the slot's file of this name, in the directory that was entered. It has a lock, which shows other
-/// runs that it is in use. Returns its name, too.
+/// runs that it is in use. Returns its name and its path, too.
 pub fn make_own<R: Runtime>(
     image: &ImageFolder<R>,
     slot_name: &str,
     tag: Tag,
     run: RunId,
-) -> io::Result<(String<R::A>, R::File)>
+) -> io::Result<(String<R::A>, String<R::A>, R::File)>
 where
     R::File: HeldFile,
 {
@@ -42,20 +44,12 @@ where
             random: run.random.wrapping_add(turn),
         };
         let name = temporary_path(&image.rt, slot_name, tag, run)?;
-        if let Some(file) = make_beside(image, name.as_str())? {
-            return Ok((name, file));
+        let path = image.path_next_to(name.as_str())?;
+        if let Some(file) = make_locked(&image.rt, path.as_str())? {
+            return Ok((name, path, file));
         }
     }
     Err(Error::new(ErrorKind::AlreadyExists, "its temporary files are taken"))
-}
-
-// Makes an empty file of this name with a lock, in the directory that was entered.
-fn make_beside<R: Runtime>(image: &ImageFolder<R>, name: &str) -> io::Result<Option<R::File>>
-where
-    R::File: HeldFile,
-{
-    let path = image.path_beside(name)?;
-    make_locked(&image.rt, path.as_str())
 }
 
 // Makes an empty file with a lock. The result is None if the name is taken, or if another run took the unlocked file for a leftover.
@@ -71,7 +65,7 @@ where
     if !file.take_lock().is_kept() {
         return Ok(None);
     }
-    match stands_at(rt, path, &file) {
+    match is_still_at(rt, path, &file) {
         Ok(true) => Ok(Some(file)),
         Ok(false) => Ok(None),
         Err(error) => {
@@ -82,7 +76,7 @@ where
 }
 
 // Whether the path still leads to this open file.
-fn stands_at<R: Runtime>(rt: &R, path: &str, file: &R::File) -> io::Result<bool> {
+fn is_still_at<R: Runtime>(rt: &R, path: &str, file: &R::File) -> io::Result<bool> {
     let made = identity_of(&file.metadata()?);
     is_at(rt, path, made)
 }
@@ -107,40 +101,46 @@ fn is_at<R: Runtime>(rt: &R, path: &str, file: Identity) -> io::Result<bool> {
 }
 
 /// Removes the temporary files for the slot's file of this name that runs left and that have no lock, from this directory. Files that
-/// can't be examined or removed stay.
-pub fn remove_left<R: Runtime>(rt: &R, folder: &str, slot_name: &str) -> io::Result<()>
+/// can't be examined or removed stay. Returns whether one of them is this user's own: then this user can't remove any file from the
+/// directory, because it is append-only, for example.
+pub fn remove_left<R: Runtime>(rt: &R, folder: &str, slot_name: &str) -> io::Result<bool>
 where
     R::File: HeldFile,
 {
+    let mut stays = false;
     for entry in read_dir(rt, folder)? {
         match entry {
-            Ok(entry) => remove_entry(rt, &entry, slot_name),
+            Ok(entry) => stays = remove_entry(rt, &entry, slot_name) || stays,
             Err(error) if is_no_text(error.kind()) => {}
             Err(error) => return Err(error),
         }
     }
-    Ok(())
+    Ok(stays)
 }
 
-// Removes the file of a directory entry, if it is such a temporary file.
-fn remove_entry<R: Runtime>(rt: &R, entry: &DirEntry<R, R::A>, slot_name: &str)
+// Removes the file of a directory entry, if it is such a temporary file. Returns whether it stays and is this user's own.
+fn remove_entry<R: Runtime>(rt: &R, entry: &DirEntry<R, R::A>, slot_name: &str) -> bool
 where
     R::File: HeldFile,
 {
-    if maker_of(entry.file_name(), slot_name).is_some() {
-        let _ = remove_if_left(rt, entry.path().as_str());
+    match maker_of(entry.file_name(), slot_name) {
+        Some(_) => remove_if_left(rt, entry.path().as_str()).unwrap_or(false),
+        None => false,
     }
 }
 
 // Removes a temporary file if no program has its lock. While this program has the lock, no other run removes the file, so the path can't
-// become another file's.
-fn remove_if_left<R: Runtime>(rt: &R, path: &str) -> io::Result<()>
+// become another file's. Returns whether it stays and is this user's own.
+fn remove_if_left<R: Runtime>(rt: &R, path: &str) -> io::Result<bool>
 where
     R::File: HeldFile,
 {
     let (file, stamp) = open_file(rt, path)?;
-    if file.take_lock().is_left() && is_at(rt, path, stamp.identity())? {
-        rt.remove_file(path)?;
+    if !file.take_lock().is_left() || !is_at(rt, path, stamp.identity())? {
+        return Ok(false);
     }
-    Ok(())
+    match rt.remove_file(path) {
+        Ok(()) => Ok(false),
+        Err(_) => is_own(rt, &file.metadata()?),
+    }
 }

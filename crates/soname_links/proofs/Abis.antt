@@ -16,7 +16,7 @@ use Rattle.soname_links.proofs.Grouped.{best_grouped}
 use Rattle.string_pool.proofs.Members.{is_in, kept_in, same_members}
 use Rattle.place_libraries.specs.Best.{best, has_soname, is_preferred, sonames}
 use Rattle.soname_links.specs.Marks.{is_odd, mixed_among, odd_soname}
-use Rattle.soname_links.specs.Survey.{group_at, group_with, groups, grown, mixed_soname, with_library}
+use Rattle.soname_links.specs.Survey.{group_at, group_with, groups, extended, mixed_soname, with_library}
 use Rattle.soname_links.specs.declared.groups.Group.{Group}
 use Rattle.place_libraries.specs.Library.{Library}
 
@@ -38,31 +38,31 @@ one_of : (p : Bool) (library other : Library) (n : ℕ) → flags_of library.abi
 one_of true library other n a b = a
 one_of false library other n a b = b
 
-all_of_one : (libraries : List Library) (group : Group) (n : ℕ) → flags_of group.best.abi ≡ n → list_any (differs n) libraries ≡ false → flags_of (fold grown group libraries).best.abi ≡ n
+all_of_one : (libraries : List Library) (group : Group) (n : ℕ) → flags_of group.best.abi ≡ n → list_any (differs n) libraries ≡ false → flags_of (fold extended group libraries).best.abi ≡ n
 all_of_one [] group n e none = e
 all_of_one (library ∷ libraries) group n e none =
     let parts = or_parts (differs n library) (list_any (differs n) libraries) none in
-    all_of_one libraries (grown group library) n (one_of (is_preferred library group.best) library group.best n (equal_to n (flags_of library.abi) parts.0) e) parts.1
+    all_of_one libraries (extended group library) n (one_of (is_preferred library group.best) library group.best n (equal_to n (flags_of library.abi) parts.0) e) parts.1
 
 -- once mixed, or with all flags so far as those of the best one
 mixed_after : (libraries : List Library) (group : Group) (n : ℕ) → (group.mixed ≡ true) ⊎ (flags_of group.best.abi ≡ n)
-    → (fold grown group libraries).mixed ≡ (group.mixed || list_any (differs n) libraries)
+    → (fold extended group libraries).mixed ≡ (group.mixed || list_any (differs n) libraries)
 mixed_after [] group n h = elim group.mixed as (λ b. b ≡ (b || false)) [ true ↦ refl | false ↦ refl ]
 mixed_after (library ∷ libraries) group n h = by_test group.mixed
     (λ e.
-    let still : (grown group library).mixed ≡ true = ap (λ b. b || is_odd (Some group.best) library) e in
-    mixed_after libraries (grown group library) n (inl still) ∙ ap (λ b. b || list_any (differs n) libraries) still ∙ sym (ap (λ b. b || list_any (differs n) (library ∷ libraries)) e))
+    let still : (extended group library).mixed ≡ true = ap (λ b. b || is_odd (Some group.best) library) e in
+    mixed_after libraries (extended group library) n (inl still) ∙ ap (λ b. b || list_any (differs n) libraries) still ∙ sym (ap (λ b. b || list_any (differs n) (library ∷ libraries)) e))
     (λ e. elim h [
       | inl m ↦ absurd (cc)
       | inr same ↦
-          let here : (grown group library).mixed ≡ differs n library = ap (λ b. b || is_odd (Some group.best) library) e ∙ ap (λ k. differs k library) same in
+          let here : (extended group library).mixed ≡ differs n library = ap (λ b. b || is_odd (Some group.best) library) e ∙ ap (λ k. differs k library) same in
           by_test (differs n library)
           (λ d.
-          mixed_after libraries (grown group library) n (inl (here ∙ d)) ∙ ap (λ b. b || list_any (differs n) libraries) here
+          mixed_after libraries (extended group library) n (inl (here ∙ d)) ∙ ap (λ b. b || list_any (differs n) libraries) here
           ∙ sym (ap (λ b. b || (differs n library || list_any (differs n) libraries)) e))
           (λ d.
           let kept = one_of (is_preferred library group.best) library group.best n (equal_to n (flags_of library.abi) d) same in
-          mixed_after libraries (grown group library) n (inr kept) ∙ ap (λ b. b || list_any (differs n) libraries) here
+          mixed_after libraries (extended group library) n (inr kept) ∙ ap (λ b. b || list_any (differs n) libraries) here
           ∙ sym (ap (λ b. b || (differs n library || list_any (differs n) libraries)) e))
     ])
 
@@ -70,12 +70,12 @@ abbrev alone : Library → Group
 alone library = record { best = library; mixed = false }
 
 mixed_is : (library : Library) (libraries : List Library)
-    → (fold grown (alone library) libraries).mixed ≡ list_any (is_odd (Some (fold grown (alone library) libraries).best)) (library ∷ libraries)
+    → (fold extended (alone library) libraries).mixed ≡ list_any (is_odd (Some (fold extended (alone library) libraries).best)) (library ∷ libraries)
 mixed_is library libraries =
     let n = flags_of library.abi in
-    let last = flags_of (fold grown (alone library) libraries).best.abi in
+    let last = flags_of (fold extended (alone library) libraries).best.abi in
     let others = list_any (differs n) libraries in
-    let first : (fold grown (alone library) libraries).mixed ≡ others = mixed_after libraries (alone library) n (inr refl) in
+    let first : (fold extended (alone library) libraries).mixed ≡ others = mixed_after libraries (alone library) n (inr refl) in
     by_test (nat_eq last n)
     (λ e.
     let same : last ≡ n = grind (arith, nat_tests) in
@@ -86,9 +86,9 @@ mixed_is library libraries =
     let same : last ≡ n = all_of_one libraries (alone library) n refl none in
     let z : nat_eq last n ≡ true = rw same (grind (arith, nat_tests)) in absurd (cc)))
 
-some_kept : (libraries : List Library) (group : Group) → fold with_library (Some group) libraries ≡ Some (fold grown group libraries)
+some_kept : (libraries : List Library) (group : Group) → fold with_library (Some group) libraries ≡ Some (fold extended group libraries)
 some_kept [] group = refl
-some_kept (library ∷ libraries) group = some_kept libraries (grown group library)
+some_kept (library ∷ libraries) group = some_kept libraries (extended group library)
 
 abbrev is_mixed : Option Group → Bool
 is_mixed None = false

@@ -69,7 +69,7 @@ module _ (t : Nodes) (tree : IsTree t) (path : List ℕ) (room : IsRoom t path) 
 not_below : (t : Nodes) (p q : List ℕ) → IsRoom t p → IsRoom t q → is_below p q ≡ false
 not_below t p q here there = by_test (is_below p q)
     (λ below. let z : true ≡ false = sym (ap is_taken (there.above p here.proper below)) ∙ here.free in absurd (cc))
-    (λ apart. apart)
+    (λ differ. differ)
 
 -- ---- one link after another
 
@@ -85,9 +85,9 @@ module _ (first : Nodes) where
   clear_later : (planned : Planned) → IsRoom first planned.path → (t : Nodes) (plan : List Planned) → HaveRoom first plan → AllClear t plan → AllClear (with_link t planned) plan
   clear_later planned here t [] room all = tt
   clear_later planned here t (next ∷ plan) room all =
-      let apart : clash_with next.path (node.Link next.file) (planned.path, node.Link planned.file) ≡ false =
+      let differ : clash_with next.path (node.Link next.file) (planned.path, node.Link planned.file) ≡ false =
       or_from _ _ (ap (λ b. b && true) (not_below first planned.path next.path here room.0)) (not_below first next.path planned.path room.0 here) in (
-        none_put (clash_with next.path (node.Link next.file)) t planned.path (node.Link planned.file) all.0 apart,
+        none_put (clash_with next.path (node.Link next.file)) t planned.path (node.Link planned.file) all.0 differ,
         clear_later planned here t plan room.1 all.1,
       )
 

@@ -14,7 +14,7 @@ use Rattle.image_tree.proofs.Below.{below_from}
 use Rattle.image_tree.proofs.Order.{path_total}
 use Rattle.image_tree.proofs.Rising.{below_rest, children_sorted}
 use Rattle.image_tree.specs.Index.{has_file_above}
-use Rattle.image_tree.specs.Paths.{folder, is_below, is_slash, join, name_behind}
+use Rattle.image_tree.specs.Paths.{folder, is_below, is_slash, join, name_after}
 use Rattle.image_tree.specs.Tree as tree
 use Rattle.image_tree.specs.Tree.{Nodes, IsPathSorted, children_of, clashes, kind_at, names_below, node_at, of_dir}
 use Rattle.image_tree.specs.declared.node.Node.TheVariants as node
@@ -39,7 +39,7 @@ module _ (t : Nodes) (path file : List ℕ) (free : is_open (node_at t path) ≡
 
   module _ (d : List ℕ) (below : is_below d path ≡ true) where
     abbrev next : List ℕ
-    next = name_behind (length (folder d)) path
+    next = name_after (length (folder d)) path
 
     ends : path ≡ join d next → is_file (kind_at t (join d next)) ≡ true → ⊥
     ends whole e =
@@ -69,7 +69,7 @@ module _ (t : Nodes) (path file : List ℕ) (free : is_open (node_at t path) ≡
         (λ ge. ends (whole ∙ ap (λ z. folder d ++ z) (sym (take_all (position_or_len is_slash rest) rest ge))) e)
         (cases_lt (position_or_len is_slash rest) (length rest))
 
-    pub on_the_way : is_file (kind_at t (join d (name_behind (length (folder d)) path))) ≡ false
+    pub on_the_way : is_file (kind_at t (join d (name_after (length (folder d)) path))) ≡ false
     on_the_way = by_test (is_file (kind_at t (join d next))) (λ e. absurd (no_file_next e)) (λ e. e)
 
   module _ {Y : Type 0} (f : List ℕ → Option (List ℕ) → Option Y) (nothing : (name : List ℕ) → f name None ≡ None) (sorted : IsPathSorted t) (d : List ℕ) (dir : kind_at t d ≡ Dir) where
@@ -85,9 +85,9 @@ module _ (t : Nodes) (path file : List ℕ) (free : is_open (node_at t path) ≡
     same_kind : kind_at new d ≡ Dir
     same_kind = dir_kept t path file free clear d dir
 
-    gives_nothing : is_below d path ≡ true → (name : List ℕ) → is_other d (name_behind (length (folder d)) path) name ≡ false → give t name ≡ None
+    gives_nothing : is_below d path ≡ true → (name : List ℕ) → is_other d (name_after (length (folder d)) path) name ≡ false → give t name ≡ None
     gives_nothing below name same =
-        let here : name ≡ name_behind (length (folder d)) path = (bytes_eq-Decides name _).0 (not_false _ same) in
+        let here : name ≡ name_after (length (folder d)) path = (bytes_eq-Decides name _).0 (not_false _ same) in
         let none : is_file (kind_at t (join d name)) ≡ false = subst (λ (z : List ℕ). is_file (kind_at t (join d z)) ≡ false) (sym here) (on_the_way d below) in
         ap (λ b. f name (cond (is_library_name name && b) (Some (join d name)) None)) none
         ∙ ap (λ b. f name (cond b (Some (join d name)) None)) (and_false (is_library_name name)) ∙ nothing name
@@ -95,7 +95,7 @@ module _ (t : Nodes) (path file : List ℕ) (free : is_open (node_at t path) ≡
     names_give : filter_map (give t) (dedup bytes_eq (names_below new d)) ≡ filter_map (give t) (dedup bytes_eq (names_below t d))
     names_give = by_test (is_below d path)
         (λ b.
-        let other = is_other d (name_behind (length (folder d)) path) in
+        let other = is_other d (name_after (length (folder d)) path) in
         let none = gives_nothing b in
         sym (left_out other (give t) none (dedup bytes_eq (names_below new d)))
         ∙ ap (filter_map (give t)) (same_left other (names_below t d) (names_below new d) (each_once t sorted dir)

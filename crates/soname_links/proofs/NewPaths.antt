@@ -75,8 +75,8 @@ module _ (t : Nodes) where
 
   -- all links were counted
   pub count_whole : (plan : List Planned) (i count : ℕ) → length plan ≤ i → count + length (new_paths t (drop i plan)) ≡ length (new_paths t plan) → count ≡ length (new_paths t plan)
-  count_whole plan i count behind whole =
-      let none : length (new_paths t (drop i plan)) ≡ 0 = ap (λ (p : List Planned). length (new_paths t p)) (drop_all i plan behind) ∙ no_paths in
+  count_whole plan i count following whole =
+      let none : length (new_paths t (drop i plan)) ≡ 0 = ap (λ (p : List Planned). length (new_paths t p)) (drop_all i plan following) ∙ no_paths in
       omega (arith, none, whole)
 
   pub few_paths : (plan : List Planned) → length (new_paths t plan) ≤ length (filter_map (new_path t) plan)

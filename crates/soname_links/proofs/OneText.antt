@@ -53,7 +53,7 @@ module _ (what : Analyses) (named : HaveNames what) (t : Nodes) (tree : IsTree t
         (folder_of_dir t place.real (is_dir_kind _ here)) (folder_of_dir t other.real (is_dir_kind _ there)) is_name_of name whole in
         let text = same_best place other library more parts.0 parts.1 (own_best place soname library e) (own_best other other_soname more f) in
         ap (λ b. not b || bytes_eq planned.file library.name) same ∙ (bytes_eq-Decides planned.file library.name).1 (sym link.file ∙ sym text))
-        (λ apart. ap (λ b. not b || bytes_eq planned.file library.name) apart)
+        (λ differ. ap (λ b. not b || bytes_eq planned.file library.name) differ)
 
     -- a link at the path of a best library's soname has that library's name
     pub one_text : (places : List Place) → are_dirs t places ≡ true → list_all (is_same_link (join place.real library.soname) library.name) (links what t places) ≡ true

@@ -13,7 +13,7 @@ use Rattle.image_tree.proofs.Below.{exact}
 use Rattle.image_tree.proofs.Order.{path_total}
 use Rattle.image_tree.specs.Index.{has_file_above, is_file_above}
 use Rattle.image_tree.specs.Node.{is_dir}
-use Rattle.image_tree.specs.Paths.{folder, is_below, name_behind, path_cmp}
+use Rattle.image_tree.specs.Paths.{folder, is_below, name_after, path_cmp}
 use Rattle.image_tree.specs.Tree as tree
 use Rattle.image_tree.specs.Tree.{Nodes, names_below, node_at}
 use Rattle.image_tree.specs.declared.node.Node.{Node}
@@ -43,7 +43,7 @@ module _ (path : List ℕ) (node : Node) where
 
 module _ (d x : List ℕ) where
   abbrev name_in : List ℕ → List ℕ
-  name_in q = name_behind (length (folder d)) q
+  name_in q = name_after (length (folder d)) q
 
   abbrev pub is_other : List ℕ → Bool
   is_other name = not (bytes_eq name x)
@@ -61,16 +61,16 @@ module _ (d x : List ℕ) where
 
 -- the other names are the same
 pub others_same : (t : Nodes) (path : List ℕ) (node : Node) (d : List ℕ) →
-    let x = name_behind (length (folder d)) path in filter (is_other d x) (names_below (tree.put t path node) d) ≡ filter (is_other d x) (names_below t d)
+    let x = name_after (length (folder d)) path in filter (is_other d x) (names_below (tree.put t path node) d) ≡ filter (is_other d x) (names_below t d)
 others_same t path node d =
-    let x = name_behind (length (folder d)) path in
+    let x = name_after (length (folder d)) path in
     let itself : bytes_eq x x ≡ true = (bytes_eq-Decides x x).1 refl in
     let gone : keeps d x path ≡ false = ap (λ b. is_below d path && not b) itself ∙ and_false (is_below d path) in
-    names_kept d x (tree.put t path node) ∙ ap (map (λ e. name_behind (length (folder d)) e.0)) (kept_put path node (keeps d x) gone t) ∙ sym (names_kept d x t)
+    names_kept d x (tree.put t path node) ∙ ap (map (λ e. name_after (length (folder d)) e.0)) (kept_put path node (keeps d x) gone t) ∙ sym (names_kept d x t)
 
 -- nothing of it is below the directory, so all names are the same
 pub names_same : (t : Nodes) (path : List ℕ) (node : Node) (d : List ℕ) → is_below d path ≡ false → names_below (tree.put t path node) d ≡ names_below t d
-names_same t path node d apart = ap (map (λ e. name_behind (length (folder d)) e.0)) (kept_put path node (is_below d) apart t)
+names_same t path node d differ = ap (map (λ e. name_after (length (folder d)) e.0)) (kept_put path node (is_below d) differ t)
 
 -- ---- what is above a path
 

@@ -23,8 +23,8 @@ use Rattle.soname_links.specs.declared.surveying.Spot.TheVariants.{Blocked, Link
 -- ---- the libraries of one soname
 
 -- adds a library, which is compared with the best one so far
-abbrev pub grown : Group → Library → Group
-grown group library = record {
+abbrev pub extended : Group → Library → Group
+extended group library = record {
   best = if is_preferred library group.best then library else group.best;
   mixed = group.mixed || is_odd (Some group.best) library;
 }
@@ -34,7 +34,7 @@ keyed libraries = map (λ library. (library.soname, library)) libraries
 
 abbrev pub with_library : Option Group → Library → Option Group
 with_library None library = Some (record { best = library; mixed = false })
-with_library (Some group) library = Some (grown group library)
+with_library (Some group) library = Some (extended group library)
 
 -- the libraries with this soname, if there are any
 abbrev pub group_at : List Library → List ℕ → Option Group

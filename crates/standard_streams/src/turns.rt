@@ -13,7 +13,8 @@ const MOST_TURNS: u64 = 360_000;
 
 const PAUSE_MILLIS: u64 = 10;
 
-fn pause<R: Runtime>(rt: &R) {
+/// The pause of 10 ms before a call is repeated.
+pub fn pause<R: Runtime>(rt: &R) {
     thread::sleep(rt, Duration::from_millis(PAUSE_MILLIS))
 }
 

@@ -6,7 +6,7 @@ use Rattle.std.proofs.lemmas.List.Concat.{flat_map-append}
 use Rattle.std.proofs.lemmas.Slice.Eq.{bytes_eq-Decides}
 use Rattle.std.specs.List.{list_any, before_first, position_or_len}
 use Rattle.indexmap.specs.IndexSet.{insert_key}
-use Rattle.string_pool.specs.Texts.{with_nul, StandsAt}
+use Rattle.string_pool.specs.Texts.{with_nul, IsTextAt}
 use Rattle.string_pool.specs.InOrder.{table_of, offset_of}
 use Rattle.string_pool.specs.Kept.{offsets_from, AreLaidOut}
 
@@ -53,14 +53,14 @@ place_of_le (t ∷ ts) text =
     ])
 
 -- a string is in the table at its offset
-pub stands : (ts : List (List ℕ)) (t : List ℕ) → list_any (bytes_eq t) ts ≡ true → StandsAt (table_of ts) (offset_of ts t) t
-stands [] t h = absurd (true≢false (sym h))
-stands (s ∷ ts) t h = rw (offset_of_cons s ts t) (by (bytes_eq t s) refl (stands ts t))
+pub located : (ts : List (List ℕ)) (t : List ℕ) → list_any (bytes_eq t) ts ≡ true → IsTextAt (table_of ts) (offset_of ts t) t
+located [] t h = absurd (true≢false (sym h))
+located (s ∷ ts) t h = rw (offset_of_cons s ts t) (by (bytes_eq t s) refl (located ts t))
   where
     size : length (with_nul t) ≡ length t + 1
     size = length-append t (0 ∷ [])
 
-    by : (b : Bool) → bytes_eq t s ≡ b → (list_any (bytes_eq t) ts ≡ true → StandsAt (table_of ts) (offset_of ts t) t)
+    by : (b : Bool) → bytes_eq t s ≡ b → (list_any (bytes_eq t) ts ≡ true → IsTextAt (table_of ts) (offset_of ts t) t)
         → take (length t + 1) (drop (cond b 0 (length (with_nul s) + offset_of ts t)) (with_nul s ++ table_of ts)) ≡ with_nul t
     by true e rest =
         let same : t ≡ s = (bytes_eq-Decides t s).0 e in

@@ -25,11 +25,11 @@ among ts t = by (list_any (bytes_eq t) ts) refl
 
 -- a string stays in the list when others are added
 pub among_more : (ts : List (List ℕ)) (t u : List ℕ) → list_any (bytes_eq t) ts ≡ true → list_any (bytes_eq t) (insert_key bytes_eq ts u) ≡ true
-among_more ts t u h = elim (list_any (bytes_eq u) ts) as (λ b. list_any (bytes_eq t) (if b then ts else ts ++ u ∷ []) ≡ true) [ true ↦ h | false ↦ behind ts h ]
+among_more ts t u h = elim (list_any (bytes_eq u) ts) as (λ b. list_any (bytes_eq t) (if b then ts else ts ++ u ∷ []) ≡ true) [ true ↦ h | false ↦ following ts h ]
   where
-    behind : (xs : List (List ℕ)) → list_any (bytes_eq t) xs ≡ true → list_any (bytes_eq t) (xs ++ u ∷ []) ≡ true
-    behind [] e = absurd (true≢false (sym e))
-    behind (x ∷ xs) e = by (bytes_eq t x) e (behind xs)
+    following : (xs : List (List ℕ)) → list_any (bytes_eq t) xs ≡ true → list_any (bytes_eq t) (xs ++ u ∷ []) ≡ true
+    following [] e = absurd (true≢false (sym e))
+    following (x ∷ xs) e = by (bytes_eq t x) e (following xs)
       where
         by : (b : Bool) → (b || list_any (bytes_eq t) xs) ≡ true → (list_any (bytes_eq t) xs ≡ true → list_any (bytes_eq t) (xs ++ u ∷ []) ≡ true)
             → (b || list_any (bytes_eq t) (xs ++ u ∷ [])) ≡ true

@@ -53,8 +53,8 @@ module _ {K : Type 0} {X : Type 0} {cmp : K → K → Ordering} (o : IsTotalOrde
       → filter_map (λ k. f k (lookup (is_at (cmp k)) (e ∷ es))) ks ≡ filter_map (λ k. f k (lookup (is_at (cmp k)) es)) ks
   passes f e es [] a = refl
   passes f e es (k ∷ ks) a =
-      let behind : cmp k e.0 ≡ Greater = flipped o e.0 k Less a.0 in
-      rw behind (ap (cons_option (f k (lookup (is_at (cmp k)) es))) (passes f e es ks a.1))
+      let following : cmp k e.0 ≡ Greater = flipped o e.0 k Less a.0 in
+      rw following (ap (cons_option (f k (lookup (is_at (cmp k)) es))) (passes f e es ks a.1))
 
   -- looking up all keys gives the values
   pub by_keys : (es : List (K × X)) → IsStrictlySortedBy cmp (keys_of es) → filter_map (λ k. lookup (is_at (cmp k)) es) (keys_of es) ≡ values_of es

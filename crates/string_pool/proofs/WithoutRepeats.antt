@@ -15,12 +15,12 @@ bytes_eq-sym xs ys = same_from_decides (bytes_eq xs ys) (bytes_eq ys xs) (bytes_
 kept : (text other : List ℕ) (ts : List (List ℕ)) → bytes_eq text other ≡ false
     → list_any (bytes_eq text) (filter (λ t. not (bytes_eq other t)) ts) ≡ list_any (bytes_eq text) ts
 kept text other [] _ = refl
-kept text other (t ∷ ts) apart = by (bytes_eq other t) refl (kept text other ts apart)
+kept text other (t ∷ ts) differ = by (bytes_eq other t) refl (kept text other ts differ)
   where
     by : (b : Bool) → bytes_eq other t ≡ b
         → list_any (bytes_eq text) (filter (λ x. not (bytes_eq other x)) ts) ≡ list_any (bytes_eq text) ts
         → list_any (bytes_eq text) (cond (not b) (t ∷ filter (λ x. not (bytes_eq other x)) ts) (filter (λ x. not (bytes_eq other x)) ts)) ≡ (bytes_eq text t || list_any (bytes_eq text) ts)
-    by true e rest = rw (subst (λ x. bytes_eq text x ≡ false) ((bytes_eq-Decides other t).0 e) apart) rest
+    by true e rest = rw (subst (λ x. bytes_eq text x ≡ false) ((bytes_eq-Decides other t).0 e) differ) rest
     by false e rest = ap (λ b. bytes_eq text t || b) rest
 
 -- one more text

@@ -12,5 +12,5 @@ abbrev pub with_nul : List ℕ → List ℕ
 with_nul text = text ++ 0 ∷ []
 
 -- a text with its NUL is at this offset
-abbrev pub StandsAt : List ℕ → ℕ → List ℕ → Type 0
-StandsAt bytes at text = take (length text + 1) (drop at bytes) ≡ with_nul text
+abbrev pub IsTextAt : List ℕ → ℕ → List ℕ → Type 0
+IsTextAt bytes at text = take (length text + 1) (drop at bytes) ≡ with_nul text

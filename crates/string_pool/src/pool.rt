@@ -1,7 +1,7 @@
 //! A string table: texts one after the other.
 ghost use Rattle.std.specs.Prelude.{◌≡◌, ◌∷◌, ◌+◌, ◌-◌, ◌^◌, ◌++◌, ◌<◌, [], length, take, IfOk, OnOk, OnErr, bytes_eq};
 ghost use Rattle.indexmap.specs.IndexSet.{insert_key};
-ghost use Rattle.string_pool.specs.Texts.{with_nul, StandsAt};
+ghost use Rattle.string_pool.specs.Texts.{with_nul, IsTextAt};
 ghost use Rattle.string_pool.specs.InOrder.{table_of, offset_of};
 
 use crate::Texts;
@@ -66,7 +66,7 @@ impl<'a> Pool<'a> {
         requires { self.old.base + length (table_of self.old.texts) + length text.now + 1 < 2 ^ 32 }
         ensures strings { OnOk result (self.new ≡ record self.old { texts = insert_key bytes_eq self.old.texts text.now }) }
         ensures offset { IfOk result (λ at. at ≡ self.new.base + offset_of self.new.texts text.now) }
-        ensures stands { IfOk result (λ at. StandsAt (table_of self.new.texts) (at - self.new.base) text.now) }
+        ensures located { IfOk result (λ at. IsTextAt (table_of self.new.texts) (at - self.new.base) text.now) }
         ensures refused { OnErr result (self.new ≡ self.old) }
     {
         let count = self.texts.len();

@@ -2,13 +2,13 @@
 //! row, and runs its tables, the files in its data/. `docs/ROWS.md` describes the format of a table.
 #![tactic(auto)]
 
+mod differences;
 mod lines;
-mod said;
 mod table;
 
+pub use differences::Differences;
 pub use lines::{
     Row, calls, count, divide, has_line, lines_before, lines_in, list, number, optional_text,
     owned_value, text, text_below, value, values,
 };
-pub use said::Said;
 pub use table::{Trial, Words, status, try_tables};

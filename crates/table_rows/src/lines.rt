@@ -46,11 +46,11 @@ pub(crate) fn expanded(alloc: Global, text: &[u8]) -> Result<Vec<u8>, NoMemory> 
         if rest.is_empty() {
             break;
         }
-        let (front, behind) = divide(b'<', rest);
-        let (inside, behind) = divide(b'>', behind);
+        let (front, following) = divide(b'<', rest);
+        let (inside, following) = divide(b'>', following);
         out.extend_from_slice(front)?;
         push_inside(&mut out, inside)?;
-        rest = behind;
+        rest = following;
     }
     Ok(out)
 }
@@ -63,9 +63,9 @@ pub(crate) fn lines_of(alloc: Global, text: &[u8]) -> Result<Vec<&[u8]>, NoMemor
         if rest.is_empty() {
             break;
         }
-        let (line, behind) = divide(b'\n', rest);
+        let (line, following) = divide(b'\n', rest);
         lines.push(line)?;
-        rest = behind;
+        rest = following;
     }
     Ok(lines)
 }

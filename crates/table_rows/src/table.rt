@@ -1,6 +1,6 @@
 //! Runs the tests of a table, row by row.
+use crate::differences::Differences;
 use crate::lines::{Row, begins_with, expanded, lines_before, lines_of, of_text};
-use crate::said::Said;
 use lib_types::NoMemory;
 use std::alloc::Global;
 use std::io::ErrorKind;
@@ -16,7 +16,11 @@ pub trait Trial {
     fn words() -> &'static [Words];
 
     /// Whether the result equals what the row expects. If not, reports the difference.
-    fn is_right(alloc: Global, row: Row<'_>, said: &mut Said) -> Result<bool, NoMemory>;
+    fn is_right(
+        alloc: Global,
+        row: Row<'_>,
+        differences: &mut Differences,
+    ) -> Result<bool, NoMemory>;
 }
 
 // The number of rows of a table, and the number of rows that differ.
@@ -38,10 +42,14 @@ fn is_known(lists: &[Words], line: &[u8]) -> bool {
 }
 
 // Whether each line of a row begins with a known word. If not, reports the first one that doesn't.
-fn are_known(lists: &[Words], row: Row<'_>, said: &mut Said) -> Result<bool, NoMemory> {
+fn are_known(
+    lists: &[Words],
+    row: Row<'_>,
+    differences: &mut Differences,
+) -> Result<bool, NoMemory> {
     for line in row {
         if !is_known(lists, line) {
-            said.say(b"no line of a row: ", line)?;
+            differences.say(b"no line of a row: ", line)?;
             return Ok(false);
         }
     }
@@ -53,22 +61,27 @@ fn is_right<T: Trial>(
     alloc: Global,
     head: &[u8],
     row: Row<'_>,
-    said: &mut Said,
+    differences: &mut Differences,
 ) -> Result<bool, NoMemory> {
-    let is_right = are_known(T::words(), row, said)? && T::is_right(alloc, row, said)?;
+    let is_right = are_known(T::words(), row, differences)?
+        && T::is_right(alloc, row, differences)?;
     if !is_right {
-        said.say(b"differs: ", head)?;
+        differences.say(b"differs: ", head)?;
     }
     Ok(is_right)
 }
 
-fn try_rows<T: Trial>(alloc: Global, lines: &[&[u8]], said: &mut Said) -> Result<Counts, NoMemory> {
+fn try_rows<T: Trial>(
+    alloc: Global,
+    lines: &[&[u8]],
+    differences: &mut Differences,
+) -> Result<Counts, NoMemory> {
     let (mut rows, mut differ) = (0u64, 0u64);
     for (index, line) in lines.iter().enumerate() {
         if begins_with(HEAD, line) {
             rows = rows.saturating_add(1);
             let row = lines_before(HEAD, &lines[index + 1..]);
-            if !is_right::<T>(alloc, line, row, said)? {
+            if !is_right::<T>(alloc, line, row, differences)? {
                 differ = differ.saturating_add(1);
             }
         }
@@ -77,22 +90,26 @@ fn try_rows<T: Trial>(alloc: Global, lines: &[&[u8]], said: &mut Said) -> Result
 }
 
 // Tests each row of a table, and reports the differences.
-fn try_table<T: Trial>(alloc: Global, text: &[u8], said: &mut Said) -> Result<Counts, NoMemory> {
+fn try_table<T: Trial>(
+    alloc: Global,
+    text: &[u8],
+    differences: &mut Differences,
+) -> Result<Counts, NoMemory> {
     let text = expanded(alloc, text)?;
     let lines = lines_of(alloc, &text)?;
-    try_rows::<T>(alloc, &lines, said)
+    try_rows::<T>(alloc, &lines, differences)
 }
 
 // Tests the table in this file, and prints the differences.
 fn try_file<T: Trial>(rt: &HostRuntime, name: &str) -> io::Result<Counts> {
     let alloc = rt.alloc();
     let text = fs::read(rt, name)?;
-    let mut said = Said::new(alloc);
-    let Ok(counts) = try_table::<T>(alloc, &text, &mut said) else {
+    let mut differences = Differences::new(alloc);
+    let Ok(counts) = try_table::<T>(alloc, &text, &mut differences) else {
         return Err(io::Error::from(ErrorKind::OutOfMemory));
     };
-    if let Ok(said) = std::str::from_utf8(said.text()) {
-        rt.print(said)?;
+    if let Ok(differences) = std::str::from_utf8(differences.text()) {
+        rt.print(differences)?;
     }
     Ok(counts)
 }

@@ -228,10 +228,10 @@ module _ (a b : SureDisk) where
 
 -- ---- `publish`, step by step
 
-pub behind : (p q r : Past) (c : Change) (result : Result (Unit {0}) Failed) → KeepsPast p q → MatchResult result (λ _. IsChangedBy c q r) (λ _. KeepsPast q r)
+pub following : (p q r : Past) (c : Change) (result : Result (Unit {0}) Failed) → KeepsPast p q → MatchResult result (λ _. IsChangedBy c q r) (λ _. KeepsPast q r)
     → MatchResult result (λ _. IsChangedBy c p r) (λ _. KeepsPast p r)
-behind p q r c (Ok x) keeps next = record { first = λ s. next.first s ∙ keeps.first s; more = next.more ∙ ap (λ l. l ++ c ∷ []) keeps.same }
-behind p q r c (Err x) keeps next = record { first = λ s. next.first s ∙ keeps.first s; same = next.same ∙ keeps.same }
+following p q r c (Ok x) keeps next = record { first = λ s. next.first s ∙ keeps.first s; more = next.more ∙ ap (λ l. l ++ c ∷ []) keeps.same }
+following p q r c (Err x) keeps next = record { first = λ s. next.first s ∙ keeps.first s; same = next.same ∙ keeps.same }
 
 -- the steps of `publish`: reserve memory (m), remove the temporary file (n), add the change (b)
 module _ (a m n b : SureDisk) (tag : ℕ) (slot : Slot) (file : Option Temporary) (result : Result (Unit {0}) Failed)
@@ -241,7 +241,7 @@ module _ (a m n b : SureDisk) (tag : ℕ) (slot : Slot) (file : Option Temporary
     (there : SameFiles n b) (change : MatchResult result (λ _. IsChangedBy (Published slot file) n.past b.past) (λ _. KeepsPast n.past b.past)) where
   pub whole_change : MatchResult result (λ _. IsChangedBy (Published slot (file_in (files_of a slot) tag)) a.past b.past) (λ _. KeepsPast a.past b.past)
   whole_change =
-      let whole = behind a.past m.past b.past (Published slot file) result room
+      let whole = following a.past m.past b.past (Published slot file) result room
       (subst (λ (p : Past). MatchResult result (λ _. IsChangedBy (Published slot file) p b.past) (λ _. KeepsPast p b.past)) taken change) in
       subst (λ (f : Option Temporary). MatchResult result (λ _. IsChangedBy (Published slot f) a.past b.past) (λ _. KeepsPast a.past b.past))
       (is ∙ ap (λ (f : Temporaries). file_in f tag) (here slot)) whole

@@ -1,12 +1,12 @@
 //! The files of an image that is unpacked in a directory, as a `Disk`.
 ghost use Rattle.std.specs.Prelude.{◌≡◌, ◌≤◌, IfOk, OnErr, OnOk};
 ghost use Rattle.std.specs.Result.{is_err};
-ghost use Rattle.lib_types.specs.Counts.{HasRisen};
+ghost use Rattle.lib_types.specs.Counts.{HasRisen, raised};
 ghost use Rattle.tree_real.specs.Unknown.{unknown_disk, unknown_moments};
 
 use crate::counts::one_more;
 use device_rules::{RunId, SlotPaths, is_out_of_memory};
-use image_folder::HeldFile;
+use image_folder::{DirLock, HeldFile};
 use lib_types::{Failed, NoMemory};
 use slot_files::{ImageSlots, SlotFiles, Written};
 use standard_streams::Streams;
@@ -22,6 +22,17 @@ pub struct FolderDisk<R: Runtime> {
     faults: u64,
     // The number of faults in reading calls.
     read_faults: u64,
+    lock: Locking<R>,
+}
+
+// The lock on the image's directory.
+#[derive(Drop)]
+enum Locking<R: Runtime> {
+    // This disk takes none: it only reads, or its maker has taken the lock.
+    Unused,
+    // It is taken before the first reading, on the directory of this path.
+    Wanted(R, String<R::A>),
+    Held(DirLock<R>),
 }
 
 impl<R: Runtime> FolderDisk<R> {
@@ -40,6 +51,28 @@ impl<R: Runtime> FolderDisk<R> {
             files,
             faults: 0,
             read_faults: 0,
+            lock: Locking::Unused,
+        })
+    }
+
+    /// The same slots, for a run that writes what it makes of the files that it reads. Before the first reading it takes the lock on the
+    /// directory, and keeps it as long as this value exists, so that what another run writes is not lost.
+    pub fn locking(
+        rt: R,
+        root: &str,
+        run: RunId,
+        paths: SlotPaths,
+    ) -> Result<FolderDisk<R>, NoMemory>
+        ensures { IfOk result (λ disk. unknown_disk disk.faults disk.read_faults ≡ unknown_disk 0 0) }
+    {
+        let own = rt.clone()?;
+        let directory = String::from_str(own.alloc(), root)?;
+        let files = ImageSlots::new(rt, root, run, paths, None)?;
+        Ok(FolderDisk {
+            files,
+            faults: 0,
+            read_faults: 0,
+            lock: Locking::Wanted(own, directory),
         })
     }
 
@@ -65,6 +98,11 @@ where
         let text = text.unwrap_or(Vec::new(alloc));
         Ok(Vec::from_slice(alloc, line_of(&text, number))?)
     }
+
+    /// The bytes of the cache as it is now, if there is one. The reading doesn't count as a call of the disk.
+    pub fn cache_bytes(&mut self, alloc: Global) -> io::Result<Option<Vec<u8>>> {
+        self.files.read(alloc, Slot::Cache)
+    }
 }
 
 impl<R: Runtime + Streams> FolderDisk<R>
@@ -83,6 +121,33 @@ where
                 false
             }
         }
+    }
+
+    // Takes the lock if it is wanted. If it couldn't be taken, a line on the error output says why. Returns whether reading may begin.
+    fn has_lock(&mut self) -> bool
+        ensures { unknown_disk self.new.faults self.new.read_faults ≡ unknown_disk self.old.faults self.old.read_faults }
+    {
+        let Locking::Wanted(rt, directory) = &self.lock else {
+            return true;
+        };
+        match DirLock::take(rt, directory.as_str()) {
+            Ok(lock) => {
+                self.lock = Locking::Held(lock);
+                true
+            }
+            Err(_) => false,
+        }
+    }
+
+    // The fault of a reading call, which is counted.
+    fn read_fault(&mut self) -> DiskRead
+        ensures failed { result ≡ DiskRead.Failed }
+        ensures faults { self.new.faults ≡ raised self.old.faults 1 }
+        ensures read_faults { self.new.read_faults ≡ raised self.old.read_faults 1 }
+    {
+        self.faults = one_more(self.faults);
+        self.read_faults = one_more(self.read_faults);
+        DiskRead::Failed
     }
 
     // The result of a writing call. A failure is counted.
@@ -115,14 +180,15 @@ where
     ghost moments = { λ d. unknown_moments d.faults d.read_faults };
 
     fn read(&mut self, alloc: Global, slot: Slot) -> Result<Option<Vec<u8>>, DiskRead> {
+        if !self.has_lock() {
+            return Err(self.read_fault());
+        }
         match self.files.read(alloc, slot) {
             Ok(found) => Ok(found),
             Err(error) if is_out_of_memory(error.kind()) => Err(DiskRead::NoMemory),
             Err(error) => {
                 self.files.fail(slot, "read: ", error);
-                self.faults = one_more(self.faults);
-                self.read_faults = one_more(self.read_faults);
-                Err(DiskRead::Failed)
+                Err(self.read_fault())
             }
         }
     }

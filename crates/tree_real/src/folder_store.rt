@@ -39,8 +39,8 @@ impl<R: Runtime> FolderStore<R> {
         Ok(FolderStore::without(image, None))
     }
 
-    /// The store of the files in this directory. If one of them is the file `aux`, it can't be opened: an auxiliary cache is no file of an
-    /// image.
+    /// The store of the files in this directory. If one of them is the file `aux`, it can't be opened: an auxiliary cache isn't a file of
+    /// an image.
     pub fn without(image: ImageFolder<R>, aux: Option<Identity>) -> FolderStore<R>
         ensures { result.counts ≡ no_counts }
     {

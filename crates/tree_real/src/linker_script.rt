@@ -1,4 +1,4 @@
-//! Linker scripts, which have names of libraries and are no ELF files.
+//! Linker scripts, which have names of libraries but aren't ELF files.
 ghost use Rattle.std.specs.Prelude.{◌≡◌};
 ghost use Rattle.name_order.specs.LibraryName.{contains};
 ghost use Rattle.tree_real.specs.LinkerScript.{is_linker_script};

@@ -1,11 +1,13 @@
 //! Standard input and output.
-ghost use Rattle.std.specs.Prelude.{◌≡◌};
+ghost use Rattle.std.specs.Prelude.{◌≡◌, ◌≤◌, IfOk, length};
 ghost use Rattle.tree_real.specs.Unknown.{unknown_source, unknown_sink};
 
 use crate::counts::one_more;
 use lib_types::Failed;
-use standard_streams::{Streams, read_some, write_error_line, write_some};
-use std::io::{Error, ErrorKind};
+use standard_streams::{
+    Streams, has_terminal, read_some, write_error_line, write_shown, write_some,
+};
+use std::io::{self, Error, ErrorKind};
 use std::rt::Runtime;
 use tree_face::{Sink, Source};
 
@@ -17,10 +19,11 @@ pub struct StdinSource<R: Runtime> {
     faults: u64,
 }
 
-/// The standard output.
+/// The standard output. On a terminal, what could steer it is escaped.
 #[derive(Drop)]
 pub struct StdoutSink<R: Runtime> {
     rt: R,
+    is_terminal: bool,
     faults: u64,
 }
 
@@ -43,7 +46,25 @@ impl<R: Runtime> StdoutSink<R> {
     pub fn new(rt: R) -> StdoutSink<R>
         ensures { result.faults ≡ 0 }
     {
-        StdoutSink { rt, faults: 0 }
+        let is_terminal = has_terminal(&rt);
+        StdoutSink {
+            rt,
+            is_terminal,
+            faults: 0,
+        }
+    }
+}
+
+impl<R: Runtime + Streams> StdoutSink<R> {
+    // Writes some of the bytes, and returns how many.
+    fn write_bytes(&self, bytes: &[u8]) -> io::Result<usize>
+        ensures { IfOk result (λ n. n ≤ length bytes.now) }
+    {
+        if self.is_terminal {
+            write_shown(&self.rt, bytes)
+        } else {
+            write_some(&self.rt, bytes)
+        }
     }
 }
 
@@ -66,7 +87,7 @@ impl<R: Runtime + Streams> Sink for StdoutSink<R> {
     ghost state = { λ s. unknown_sink s.faults };
 
     fn write(&mut self, bytes: &[u8]) -> Result<usize, Failed> {
-        let error = match write_some(&self.rt, bytes) {
+        let error = match self.write_bytes(bytes) {
             Ok(count) if count > 0 || bytes.is_empty() => return Ok(count),
             Ok(_) => Error::from(ErrorKind::WriteZero),
             Err(error) => error,

@@ -69,10 +69,10 @@ module _ (defect_at : List ℕ → Option Defect) where
       ap (λ es. insert_entry cmp es k d) (one x (Some d) ks here) ∙ row_put k x d d (picked ks) Equal a ∙ sym (one x (Some d) ks here) ∙ ap picked (sym (text_put k x ks Equal a)))
       (λ a.
       let rest = defect_put k d ks e (sorted_tail cmp x ks s) in
-      let behind : insert_entry cmp (picked (x ∷ ks)) k d ≡ picked (x ∷ with_text ks k) =
+      let following : insert_entry cmp (picked (x ∷ ks)) k d ≡ picked (x ∷ with_text ks k) =
       elim (defect_at x) as (λ o. insert_entry cmp (cons_option (paired x o) (picked ks)) k d ≡ cons_option (paired x o) (picked (with_text ks k)))
       [ None ↦ rest | Some e ↦ row_put k x d e (picked ks) Greater a ∙ ap (λ es. (x, e) ∷ es) rest ] in
-      behind ∙ ap picked (sym (text_put k x ks Greater a)))
+      following ∙ ap picked (sym (text_put k x ks Greater a)))
 
   -- the file at the path has no defect
   pub none_put : (k : List ℕ) (ks : List (List ℕ)) → defect_at k ≡ None → picked ks ≡ picked (with_text ks k)
@@ -122,21 +122,21 @@ module _ (what : Analyses) where
 -- ---- rows of distinct paths
 
 -- a row in front with another path changes no lookup
-found_behind : (path : List ℕ) (analysis : Analysis) (rows some : Rows) → AllByRecursion (λ y. bytes_eq path y ≡ false) (keys_of some) → AreFound (analysis_at rows) some
+found_after : (path : List ℕ) (analysis : Analysis) (rows some : Rows) → AllByRecursion (λ y. bytes_eq path y ≡ false) (keys_of some) → AreFound (analysis_at rows) some
     → AreFound (analysis_at ((path, analysis) ∷ rows)) some
-found_behind path analysis rows [] others are = tt
-found_behind path analysis rows (row ∷ some) others are =
+found_after path analysis rows [] others are = tt
+found_after path analysis rows (row ∷ some) others are =
     let differs : bytes_eq row.0 path ≡ false = by_test (bytes_eq row.0 path)
     (λ e.
     let there : bytes_eq path row.0 ≡ true = (bytes_eq-Decides path row.0).1 (sym ((bytes_eq-Decides row.0 path).0 e)) in
     let z : true ≡ false = sym there ∙ others.0 in absurd (cc))
     (λ e. e) in
-    (rw differs are.0, found_behind path analysis rows some others.1 are.1)
+    (rw differs are.0, found_after path analysis rows some others.1 are.1)
 
 all_found : (rows : Rows) → IsDistinct bytes_eq (keys_of rows) → AreFound (analysis_at rows) rows
 unfolding IsDistinct
 all_found [] distinct = tt
-all_found ((path, analysis) ∷ rows) distinct = (rw (itself path) refl, found_behind path analysis rows rows distinct.0 (all_found rows distinct.1))
+all_found ((path, analysis) ∷ rows) distinct = (rw (itself path) refl, found_after path analysis rows rows distinct.0 (all_found rows distinct.1))
 
 pub all_in_order : (rows : Rows) → IsDistinct bytes_eq (keys_of rows) → map skip_of (fold with_row [] rows) ≡ filter_map (skip_at (analysis_at rows)) (ascending (keys_of rows))
 unfolding ascending IsStrictlySortedBy

@@ -48,7 +48,7 @@ abbrev pub spelled_of : Option Place → List ℕ
 spelled_of (Some place) = place.spelled
 spelled_of None = []
 
--- the path of the search directory with this number, before links are resolved; empty if there is no such directory
+-- the path of the search directory with this number, before links are resolved; empty if no directory has this number
 abbrev pub spelled_at : List Place → ℕ → List ℕ
 spelled_at places number = spelled_of (slice_get places number)
 

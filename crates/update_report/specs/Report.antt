@@ -11,7 +11,7 @@ use Rattle.update_report.specs.declared.kinds.Findings.{Findings}
 use Rattle.update_report.specs.declared.kinds.Skipped.{Skipped}
 
 -- what a report says of an image
-pub record Said : Type 0 where
+pub record ReportInput : Type 0 where
   -- the offset at which the auxiliary cache was corrupt when it was loaded
   pub damaged : Option ℕ
   pub conf : List ConfReport
@@ -27,7 +27,7 @@ pub record Said : Type 0 where
   -- the number of library files that were opened
   pub opened : ℕ
 
-abbrev pub findings_of : Findings → Said
+abbrev pub findings_of : Findings → ReportInput
 findings_of findings = record {
   damaged = findings.damaged;
   conf = findings.conf.now;
@@ -52,15 +52,15 @@ neighbours sonames = zip sonames (drop 1 sonames)
 abbrev pub twin_lines : List (List ℕ) → List ℕ
 twin_lines sonames = flat_map line_of_twins (neighbours sonames)
 
-unfoldable pub report_text : Said → List ℕ
-report_text said =
-    damaged_line said.damaged
-    ++ flat_map conf_line said.conf
-    ++ flat_map absent_line said.absent
-    ++ flat_map (link_line said.places) said.plan
-    ++ flat_map (blocked_line said.places) said.blocked
-    ++ flat_map (mixed_line said.places) said.mixed
-    ++ flat_map skip_line said.skips
-    ++ flat_map dangling_line said.dangling
-    ++ twin_lines (sonames_of said.entries)
-    ++ last_line (length said.entries) (length said.plan) said.opened
+unfoldable pub report_text : ReportInput → List ℕ
+report_text info =
+    damaged_line info.damaged
+    ++ flat_map conf_line info.conf
+    ++ flat_map absent_line info.absent
+    ++ flat_map (link_line info.places) info.plan
+    ++ flat_map (blocked_line info.places) info.blocked
+    ++ flat_map (mixed_line info.places) info.mixed
+    ++ flat_map skip_line info.skips
+    ++ flat_map dangling_line info.dangling
+    ++ twin_lines (sonames_of info.entries)
+    ++ last_line (length info.entries) (length info.plan) info.opened

@@ -11,18 +11,18 @@ use Rattle.tree_face.specs.declared.disk.Call.TheVariants.{Create, Append, Sync,
 use Rattle.update_world.specs.declared.post.Post.{Post}
 use Rattle.update_world.specs.declared.post.Turn.{Turn}
 use Rattle.update_world.specs.declared.post.Turn.TheVariants.{Step, Load}
-use Rattle.update_world.specs.Turns.{PostCall, call_of, calls, calls_behind, is_publish, is_settle, is_step, last_of, publishers, steps_of, until_settled}
+use Rattle.update_world.specs.Turns.{PostCall, call_of, calls, calls_after, is_publish, is_settle, is_step, last_of, publishers, steps_of, until_settled}
 use Rattle.update_world.proofs.Lists.{count_more, last_get, until_before, until_it}
 
-behind_more : (n : ℕ) (before xs : List Turn) (t : Turn) → calls_behind n before (xs ++ t ∷ []) ≡ calls_behind n before xs ++ call_of n (before ++ xs) t
-behind_more n before [] t = append-nil (call_of n before t) ∙ ap (λ b. call_of n b t) (sym (append-nil before))
-behind_more n before (x ∷ xs) t =
-    ap (λ c. call_of n before x ++ c) (behind_more n (before ++ x ∷ []) xs t)
-    ∙ sym (append_assoc (call_of n before x) (calls_behind n (before ++ x ∷ []) xs) (call_of n ((before ++ x ∷ []) ++ xs) t))
-    ∙ ap (λ b. (call_of n before x ++ calls_behind n (before ++ x ∷ []) xs) ++ call_of n b t) (append_assoc before (x ∷ []) xs)
+after_more : (n : ℕ) (before xs : List Turn) (t : Turn) → calls_after n before (xs ++ t ∷ []) ≡ calls_after n before xs ++ call_of n (before ++ xs) t
+after_more n before [] t = append-nil (call_of n before t) ∙ ap (λ b. call_of n b t) (sym (append-nil before))
+after_more n before (x ∷ xs) t =
+    ap (λ c. call_of n before x ++ c) (after_more n (before ++ x ∷ []) xs t)
+    ∙ sym (append_assoc (call_of n before x) (calls_after n (before ++ x ∷ []) xs) (call_of n ((before ++ x ∷ []) ++ xs) t))
+    ∙ ap (λ b. (call_of n before x ++ calls_after n (before ++ x ∷ []) xs) ++ call_of n b t) (append_assoc before (x ∷ []) xs)
 
 pub calls_more : (n : ℕ) (turns : List Turn) (t : Turn) → calls n (turns ++ t ∷ []) ≡ calls n turns ++ call_of n turns t
-calls_more n turns t = behind_more n [] turns t
+calls_more n turns t = after_more n [] turns t
 
 pub steps_more : (i : ℕ) (turns : List Turn) (t : Turn) → steps_of i (turns ++ t ∷ []) ≡ steps_of i turns + cond (is_step i t) 1 0
 steps_more i turns t = count_more (is_step i) turns t
@@ -56,8 +56,8 @@ module _ (posts : List Post) (i : ℕ) where
       by true e = absurd (past absent (grind (arith, nat_tests, e)))
       by false e = refl
 
-  pub absent_apart : slice_get posts i ≡ None → (j : ℕ) → j < length posts → eqb i j ≡ false
-  absent_apart absent j h = by (eqb i j) refl
+  pub absent_differ : slice_get posts i ≡ None → (j : ℕ) → j < length posts → eqb i j ≡ false
+  absent_differ absent j h = by (eqb i j) refl
     where
       by : (b : Bool) → eqb i j ≡ b → eqb i j ≡ false
       by false e = e

@@ -18,9 +18,9 @@ use Rattle.update_world.specs.declared.post.Reading.{Reading}
 use Rattle.update_world.specs.declared.post.Turn.{Turn}
 use Rattle.update_world.specs.declared.post.Turn.TheVariants.{Step, Load}
 use Rattle.update_world.specs.Disks.{AreMade, AreOnDisks, HoldsAlone, HoldsExactly, LeavesExactly, done, is_among, is_load}
-use Rattle.update_world.specs.Turns.{PostCall, call_of, calls, calls_behind, is_publish, is_settle, left, left_by, publishers, reading, reading_after, readings_behind, repeated, steps_of}
-use Rattle.update_world.proofs.Apart.{tags_apart}
-use Rattle.update_world.proofs.Calls.{absent_apart, absent_call, call_is, calls_more, last_more, load_steps, other_steps, own_steps, place_is, place_of, publishers_more}
+use Rattle.update_world.specs.Turns.{PostCall, call_of, calls, calls_after, is_publish, is_settle, left, left_by, publishers, reading, reading_after, readings_after, repeated, steps_of}
+use Rattle.update_world.proofs.Differ.{tags_differ}
+use Rattle.update_world.proofs.Calls.{absent_differ, absent_call, call_is, calls_more, last_more, load_steps, other_steps, own_steps, place_is, place_of, publishers_more}
 use Rattle.update_world.proofs.Left.{left_alone, left_more, left_same, none_more}
 
 -- the temporary file after n calls of its updater: after one call it is empty, after two it has the bytes, after three it is flushed
@@ -84,7 +84,7 @@ module _ (first : Content) (posts : List Post) (different : repeated posts ≡ N
 
     module _ (i : ℕ) where
       no_post : slice_get posts i ≡ None → OnDisk (turns ++ Step i ∷ []) s
-      no_post absent = still (Step i) (absent_call posts i turns absent) (λ j q e. same_file (Step i) j q (other_steps i j turns (absent_apart posts i absent j (slice_get_within posts j q e))) e)
+      no_post absent = still (Step i) (absent_call posts i turns absent) (λ j q e. same_file (Step i) j q (other_steps i j turns (absent_differ posts i absent j (slice_get_within posts j q e))) e)
 
       no_call : i < length posts → slice_get all_calls (steps_of i turns) ≡ None → OnDisk (turns ++ Step i ∷ []) s
       no_call within none = still (Step i) (call_is (length posts) turns i within ∙ ap (λ o. option_map_or (λ (call : Call). pair call) o []) none) (λ j q e. file j q (eqb i j) refl e)
@@ -93,7 +93,7 @@ module _ (first : Content) (posts : List Post) (different : repeated posts ≡ N
           pair call = (i, call) ∷ []
 
           file : (j : ℕ) (q : Post) (b : Bool) → eqb i j ≡ b → slice_get posts j ≡ Some q → HasFile (steps_of j (turns ++ Step i ∷ [])) q.bytes (on.known.temporary q.tag.0 Cache) (on.known.synced q.tag.0 Cache)
-          file j q false apart e = same_file (Step i) j q (other_steps i j turns apart) e
+          file j q false differ e = same_file (Step i) j q (other_steps i j turns differ) e
           file j q true is e =
               subst (λ k. HasFile k q.bytes (on.known.temporary q.tag.0 Cache) (on.known.synced q.tag.0 Cache)) (sym (own_steps i j turns is))
               (past_file (steps_of j turns) q.bytes _ _ (ap (λ j. slice_get all_calls (steps_of j turns)) (sym (eqb-true i j is)) ∙ none))
@@ -126,18 +126,18 @@ module _ (first : Content) (posts : List Post) (different : repeated posts ≡ N
                 calls_more (length posts) turns (Step i)
                 ∙ ap (λ c. of_turns turns ++ c) (call_is (length posts) turns i (slice_get_within posts i p there) ∙ ap (λ o. option_map_or (λ (call : Call). (i, call) ∷ []) o []) at)
 
-            beside : (q : Post) → eqb q.tag.0 p.tag.0 ≡ false → (eqb q.tag.0 p.tag.0 && slot_eq Cache Cache) ≡ false
-            beside q e = ap (λ b. b && true) e
+            next_to : (q : Post) → eqb q.tag.0 p.tag.0 ≡ false → (eqb q.tag.0 p.tag.0 && slot_eq Cache Cache) ≡ false
+            next_to q e = ap (λ b. b && true) e
 
             same_post : (p q : Post) → Some p ≡ Some q → p ≡ q
             same_post p q e = ap (λ o. unwrap_or o p) e
 
             file : (j : ℕ) (q : Post) (b : Bool) → eqb i j ≡ b → slice_get posts j ≡ Some q → HasFile (steps_of j (turns ++ Step i ∷ [])) q.bytes (known.temporary q.tag.0 Cache) (known.synced q.tag.0 Cache)
-            file j q false apart e =
-                let other = beside q (tags_apart posts different i j p q apart there e) in
+            file j q false differ e =
+                let other = next_to q (tags_differ posts different i j p q differ there e) in
                 subst (λ c. HasFile (steps_of j (turns ++ Step i ∷ [])) q.bytes c (known.synced q.tag.0 Cache)) (sym (others.bytes q.tag.0 Cache other))
                 (subst (λ b. HasFile (steps_of j (turns ++ Step i ∷ [])) q.bytes (on.known.temporary q.tag.0 Cache) b) (sym (others.flushed q.tag.0 Cache other))
-                (same_file (Step i) j q (other_steps i j turns apart) e))
+                (same_file (Step i) j q (other_steps i j turns differ) e))
             file j q true is e =
                 let same : p ≡ q = same_post p q (sym there ∙ ap (slice_get posts) (eqb-true i j is) ∙ e) in
                 subst (λ k. HasFile k q.bytes (known.temporary q.tag.0 Cache) (known.synced q.tag.0 Cache)) (ap suc (sym place ∙ ap (λ j. steps_of j turns) (eqb-true i j is)) ∙ sym (own_steps i j turns is))
@@ -221,14 +221,14 @@ module _ (first : Content) (posts : List Post) (different : repeated posts ≡ N
     on_turn Load new made = subst (OnDisk (turns ++ Load ∷ [])) (sym made) loaded
     on_turn (Step i) new made = on_step i new made
 
-  made_apart : (cs ds : List PostCall) (a c : DiskState) → AreMade posts (cs ++ ds) a c → (b : DiskState) × AreMade posts cs a b × AreMade posts ds b c
-  made_apart [] ds a c made = (a, refl, made)
-  made_apart (call ∷ cs) ds a c (middle, is, made) = let (b, before, behind) = made_apart cs ds middle c made in (b, (middle, is, before), behind)
+  made_differ : (cs ds : List PostCall) (a c : DiskState) → AreMade posts (cs ++ ds) a c → (b : DiskState) × AreMade posts cs a b × AreMade posts ds b c
+  made_differ [] ds a c made = (a, refl, made)
+  made_differ (call ∷ cs) ds a c (middle, is, made) = let (b, before, following) = made_differ cs ds middle c made in (b, (middle, is, before), following)
 
-  on_all : (before turns : List Turn) (s t : DiskState) → OnDisk before s → AreMade posts (calls_behind (length posts) before turns) s t → OnDisk (before ++ turns) t
+  on_all : (before turns : List Turn) (s t : DiskState) → OnDisk before s → AreMade posts (calls_after (length posts) before turns) s t → OnDisk (before ++ turns) t
   on_all before [] s t on made = subst (OnDisk (before ++ [])) (sym made) (subst (λ ts. OnDisk ts s) (sym (append-nil before)) on)
   on_all before (x ∷ xs) s t on made =
-      let (middle, one, rest) = made_apart (call_of (length posts) before x) (calls_behind (length posts) (before ++ x ∷ []) xs) s t made in
+      let (middle, one, rest) = made_differ (call_of (length posts) before x) (calls_after (length posts) (before ++ x ∷ []) xs) s t made in
       subst (λ ts. OnDisk ts t) (append_assoc before (x ∷ []) xs) (on_all (before ++ x ∷ []) xs middle t (on_turn before s on x middle one) rest)
 
   pub leaves : (turns : List Turn) → LeavesExactly first posts (calls (length posts) turns) (left first posts turns)
@@ -243,11 +243,11 @@ module _ (first : Content) (posts : List Post) (different : repeated posts ≡ N
   holds turns = λ old new alone made. let on = on_all [] turns old new (starts old alone) made in record { known = on.known; contents = on.contents; held = on.held }
 
   -- the reading of the load that follows the earlier turns of a schedule
-  read_at : (before earlier later : List Turn) → slice_get (readings_behind first posts before (earlier ++ Load ∷ later)) (length (filter is_load earlier)) ≡ Some (reading_after first posts (before ++ earlier))
+  read_at : (before earlier later : List Turn) → slice_get (readings_after first posts before (earlier ++ Load ∷ later)) (length (filter is_load earlier)) ≡ Some (reading_after first posts (before ++ earlier))
   read_at before [] later = ap (λ turns. Some (reading_after first posts turns)) (sym (append-nil before))
   read_at before (Step i ∷ earlier) later = read_at (before ++ Step i ∷ []) earlier later ∙ ap (λ turns. Some (reading_after first posts turns)) (append_assoc before (Step i ∷ []) earlier)
   read_at before (Load ∷ earlier) later = read_at (before ++ Load ∷ []) earlier later ∙ ap (λ turns. Some (reading_after first posts turns)) (append_assoc before (Load ∷ []) earlier)
 
-  pub on_disks : (before schedule : List Turn) → AreOnDisks first posts before schedule (readings_behind first posts before schedule)
+  pub on_disks : (before schedule : List Turn) → AreOnDisks first posts before schedule (readings_after first posts before schedule)
   on_disks before schedule = λ earlier later is.
-      (reading_after first posts (before ++ earlier), ap (λ turns. slice_get (readings_behind first posts before turns) (length (filter is_load earlier))) is ∙ read_at before earlier later, holds (before ++ earlier))
+      (reading_after first posts (before ++ earlier), ap (λ turns. slice_get (readings_after first posts before turns) (length (filter is_load earlier))) is ∙ read_at before earlier later, holds (before ++ earlier))

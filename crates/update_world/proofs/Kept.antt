@@ -14,9 +14,9 @@ use Rattle.update_world.specs.declared.post.Turn.{Turn}
 use Rattle.update_world.specs.declared.post.Turn.TheVariants.{Step, Load}
 use Rattle.update_world.specs.Kept.{IsKept, Machines, advanced, after_turn, made, new_machine, next_in, seen, spent, stepped, world_of}
 use Rattle.update_world.specs.Turns.{PostCall, call_of, calls, is_publish, is_settle, last_of, publishers, read_in, reading, repeated, steps_of, until_settled}
-use Rattle.update_world.specs.Worlds.{Stands, temporary_after}
-use Rattle.update_world.proofs.Calls.{absent_apart, absent_call, call_is, calls_more, last_more, load_steps, next_is, other_steps, own_steps, place_is, place_of, publishers_more, settled_before, settled_now}
-use Rattle.update_world.proofs.Lists.{set_at, set_beside}
+use Rattle.update_world.specs.Worlds.{IsAfterTurns, temporary_after}
+use Rattle.update_world.proofs.Calls.{absent_differ, absent_call, call_is, calls_more, last_more, load_steps, next_is, other_steps, own_steps, place_is, place_of, publishers_more, settled_before, settled_now}
+use Rattle.update_world.proofs.Lists.{set_at, set_next_to}
 
 abbrev no_file : Content
 no_file = None
@@ -81,8 +81,8 @@ module _ (first : Content) (posts : List Post) where
       at i (Some p) e = each_same posts no_file i (slice_get_within posts i p e)
 
   module _ (turns : List Turn) (m : Machines) (kept : IsKept first posts turns m) where
-    pub stands : Stands (world_of first posts turns m)
-    stands = record { cache = kept.cache ∙ ap (λ ps. (reading first posts ps).bytes) kept.published; temporaries = kept.temporaries; progress = kept.progress }
+    pub after_turns : IsAfterTurns (world_of first posts turns m)
+    after_turns = record { cache = kept.cache ∙ ap (λ ps. (reading first posts ps).bytes) kept.published; temporaries = kept.temporaries; progress = kept.progress }
 
     -- a turn that makes no call
     module _ (t : Turn) (none : call_of (length posts) turns t ≡ [])
@@ -122,20 +122,20 @@ module _ (first : Content) (posts : List Post) where
 
       no_post : slice_get posts i ≡ None → IsKept first posts (turns ++ Step i ∷ []) m
       no_post e =
-          still (Step i) (absent_call posts i turns e) (λ j h. ap (λ k. drop k all_calls) (others j (absent_apart posts i e j h)))
-          (λ j bytes h. ap (λ k. temporary_after k bytes) (others j (absent_apart posts i e j h)))
+          still (Step i) (absent_call posts i turns e) (λ j h. ap (λ k. drop k all_calls) (others j (absent_differ posts i e j h)))
+          (λ j bytes h. ap (λ k. temporary_after k bytes) (others j (absent_differ posts i e j h)))
 
       no_call : i < length posts → slice_get all_calls (steps_of i turns) ≡ None → IsKept first posts (turns ++ Step i ∷ []) m
       no_call within e = still (Step i) (call_is (length posts) turns i within ∙ ap (λ o. option_map_or (λ call. (i, call) ∷ []) o []) e) (λ j h. left j (eqb i j) refl) (λ j bytes h. file j bytes (eqb i j) refl)
         where
           left : (j : ℕ) (b : Bool) → eqb i j ≡ b → drop (steps_of j (turns ++ Step i ∷ [])) all_calls ≡ drop (steps_of j turns) all_calls
-          left j false apart = ap (λ k. drop k all_calls) (others j apart)
+          left j false differ = ap (λ k. drop k all_calls) (others j differ)
           left j true is =
               ap (λ k. drop k all_calls) (own j is)
               ∙ subst (λ k. drop (suc (steps_of k turns)) all_calls ≡ drop (steps_of k turns) all_calls) (eqb-true i j is) (spent_drop (steps_of i turns) e)
 
           file : (j : ℕ) (bytes : List ℕ) (b : Bool) → eqb i j ≡ b → temporary_after (steps_of j (turns ++ Step i ∷ [])) bytes ≡ temporary_after (steps_of j turns) bytes
-          file j bytes false apart = ap (λ k. temporary_after k bytes) (others j apart)
+          file j bytes false differ = ap (λ k. temporary_after k bytes) (others j differ)
           file j bytes true is =
               ap (λ k. temporary_after k bytes) (own j is)
               ∙ subst (λ k. temporary_after (suc (steps_of k turns)) bytes ≡ temporary_after (steps_of k turns) bytes) (eqb-true i j is) (spent_file (steps_of i turns) bytes e)
@@ -182,12 +182,12 @@ module _ (first : Content) (posts : List Post) where
         file_by Publish e = set_at m.temporaries i None room
         file_by Settle e = here ∙ ap (λ k. Some (temporary_after k p.bytes)) e
 
-        file_beside : (c : Call) (j : ℕ) → j ≢ i → slice_get (made i p.bytes c m).temporaries j ≡ slice_get m.temporaries j
-        file_beside Create j h = set_beside m.temporaries i j (Some []) h
-        file_beside Append j h = set_beside m.temporaries i j (Some p.bytes) h
-        file_beside Sync j h = refl
-        file_beside Publish j h = set_beside m.temporaries i j None h
-        file_beside Settle j h = refl
+        file_next_to : (c : Call) (j : ℕ) → j ≢ i → slice_get (made i p.bytes c m).temporaries j ≡ slice_get m.temporaries j
+        file_next_to Create j h = set_next_to m.temporaries i j (Some []) h
+        file_next_to Append j h = set_next_to m.temporaries i j (Some p.bytes) h
+        file_next_to Sync j h = refl
+        file_next_to Publish j h = set_next_to m.temporaries i j None h
+        file_next_to Settle j h = refl
 
         files_by : (c : Call) → length (made i p.bytes c m).temporaries ≡ length posts
         files_by Create = length-set m.temporaries i (Some []) ∙ kept.files
@@ -228,25 +228,25 @@ module _ (first : Content) (posts : List Post) where
         left_at : get_or m.progress i [] ≡ drop steps all_calls
         left_at = get_or_from_slice_get m.progress i (drop steps all_calls) [] (kept.progress i within)
 
-        grown : (k : ℕ) → steps ≡ k → spent (set m.progress i (drop 1 (get_or m.progress i []))) + few_left (drop k all_calls) ≡ spent m.progress + few_left (drop 1 (drop k all_calls))
-        grown k e =
+        extended : (k : ℕ) → steps ≡ k → spent (set m.progress i (drop 1 (get_or m.progress i []))) + few_left (drop k all_calls) ≡ spent m.progress + few_left (drop 1 (drop k all_calls))
+        extended k e =
             subst (λ (l : List Call). spent (set m.progress i (drop 1 (get_or m.progress i []))) + few_left l ≡ spent m.progress + few_left (drop 1 l)) (left_at ∙ ap (λ k. drop k all_calls) e)
             (sum_by-set few_left m.progress i (drop 1 (get_or m.progress i [])) [] (subst (λ n. i < n) (sym kept.each) within))
 
         counted_by : (c : Call) → steps ≡ place_of (Some c) → length (made i p.bytes c m).published ≤ spent (set m.progress i (drop 1 (get_or m.progress i [])))
-        counted_by Create e = let is = grown 0 e in let most = kept.counted in omega (arith, is, most)
-        counted_by Append e = let is = grown 1 e in let most = kept.counted in omega (arith, is, most)
-        counted_by Sync e = let is = grown 2 e in let most = kept.counted in omega (arith, is, most)
-        counted_by Publish e = let is = grown 3 e in let most = kept.counted in let longer = Rattle.std.proofs.Common.length-append m.published (i ∷ []) in omega (arith, is, most, longer)
-        counted_by Settle e = let is = grown 4 e in let most = kept.counted in omega (arith, is, most)
+        counted_by Create e = let is = extended 0 e in let most = kept.counted in omega (arith, is, most)
+        counted_by Append e = let is = extended 1 e in let most = kept.counted in omega (arith, is, most)
+        counted_by Sync e = let is = extended 2 e in let most = kept.counted in omega (arith, is, most)
+        counted_by Publish e = let is = extended 3 e in let most = kept.counted in let longer = Rattle.std.proofs.Common.length-append m.published (i ∷ []) in omega (arith, is, most, longer)
+        counted_by Settle e = let is = extended 4 e in let most = kept.counted in omega (arith, is, most)
 
-        apart : (j : ℕ) → eqb i j ≡ false → j ≢ i
-        apart j e same = false≢true (sym e ∙ eq-eqb i j (sym same))
+        differ : (j : ℕ) → eqb i j ≡ false → j ≢ i
+        differ j e same = false≢true (sym e ∙ eq-eqb i j (sym same))
 
         file_on : (j : ℕ) (b : Bool) → eqb i j ≡ b → (o : Option Post) → slice_get posts j ≡ o → IfSome o (λ q. slice_get m.temporaries j ≡ Some (temporary_after (steps_of j turns) q.bytes))
             → IfSome o (λ q. slice_get (made i p.bytes call m).temporaries j ≡ Some (temporary_after (steps_of j (turns ++ Step i ∷ [])) q.bytes))
         file_on j b e None is file = tt
-        file_on j false e (Some q) is file = file_beside call j (apart j e) ∙ file ∙ ap (λ k. Some (temporary_after k q.bytes)) (sym (others j e))
+        file_on j false e (Some q) is file = file_next_to call j (differ j e) ∙ file ∙ ap (λ k. Some (temporary_after k q.bytes)) (sym (others j e))
         file_on j true e (Some q) is file =
             let same : p ≡ q = some_is p q (sym there ∙ ap (slice_get posts) (eqb-true i j e) ∙ is) in
             ap (slice_get (made i p.bytes call m).temporaries) (sym (eqb-true i j e))
@@ -259,7 +259,7 @@ module _ (first : Content) (posts : List Post) where
             some_is p q e = ap (λ o. Rattle.std.proofs.Common.unwrap_or o p) e
 
         left_on : (j : ℕ) (b : Bool) → eqb i j ≡ b → j < length posts → slice_get (set m.progress i (drop 1 (get_or m.progress i []))) j ≡ Some (drop (steps_of j (turns ++ Step i ∷ [])) all_calls)
-        left_on j false e h = set_beside m.progress i j _ (apart j e) ∙ kept.progress j h ∙ ap (λ k. Some (drop k all_calls)) (sym (others j e))
+        left_on j false e h = set_next_to m.progress i j _ (differ j e) ∙ kept.progress j h ∙ ap (λ k. Some (drop k all_calls)) (sym (others j e))
         left_on j true e h =
             ap (slice_get (set m.progress i (drop 1 (get_or m.progress i [])))) (sym (eqb-true i j e))
             ∙ set_at m.progress i _ (subst (λ n. i < n) (sym kept.each) within)

@@ -1,4 +1,4 @@
-mod Apart
+mod Differ
 mod Calls
 mod Disks
 mod Kept

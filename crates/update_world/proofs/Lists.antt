@@ -25,12 +25,12 @@ module _ {X : Type 0} where
   set_at (y ∷ l) zero x h = refl
   set_at (y ∷ l) (suc i) x h = set_at l i x (le_of_suc-le-suc h)
 
-  pub set_beside : (l : List X) (i j : ℕ) (x : X) → j ≢ i → slice_get (set l i x) j ≡ slice_get l j
-  set_beside [] i j x h = refl
-  set_beside (y ∷ l) zero zero x h = absurd (h refl)
-  set_beside (y ∷ l) zero (suc j) x h = refl
-  set_beside (y ∷ l) (suc i) zero x h = refl
-  set_beside (y ∷ l) (suc i) (suc j) x h = set_beside l i j x (λ e. h (ap suc e))
+  pub set_next_to : (l : List X) (i j : ℕ) (x : X) → j ≢ i → slice_get (set l i x) j ≡ slice_get l j
+  set_next_to [] i j x h = refl
+  set_next_to (y ∷ l) zero zero x h = absurd (h refl)
+  set_next_to (y ∷ l) zero (suc j) x h = refl
+  set_next_to (y ∷ l) (suc i) zero x h = refl
+  set_next_to (y ∷ l) (suc i) (suc j) x h = set_next_to l i j x (λ e. h (ap suc e))
 
   pub last_get : (l : List X) (x : X) → slice_get (l ++ x ∷ []) (length (l ++ x ∷ []) - 1) ≡ Some x
   last_get l x = ap (slice_get (l ++ x ∷ [])) (let is = length-append l (x ∷ []) in omega (arith, is)) ∙ seam l

@@ -10,7 +10,7 @@ use Rattle.update_world.specs.declared.post.Post.{Post}
 use Rattle.update_world.specs.declared.post.Reading.{Reading}
 use Rattle.update_world.specs.declared.post.Turn.{Turn}
 use Rattle.update_world.specs.declared.post.Turn.TheVariants.{Step, Load}
-use Rattle.update_world.specs.Turns.{call_of, calls, last_of, publishers, read_in, reading, reading_after, readings_behind}
+use Rattle.update_world.specs.Turns.{call_of, calls, last_of, publishers, read_in, reading, reading_after, readings_after}
 use Rattle.update_world.specs.Worlds.{HasTaken, HasTakenPart, IsWhole, NeverFalls, Worlds}
 use Rattle.update_world.proofs.Calls.{calls_more, publishers_more}
 use Rattle.update_world.proofs.Lists.{dropped}
@@ -42,24 +42,24 @@ module _ (schedule : List Turn) (a : Worlds) where
             ∙ ap (λ ts. a.turns ++ ts) (ap (λ (t : Turn). take k schedule ++ t ∷ []) is ∙ sym (take-suc schedule k turn within));
       }
 
-      pub rest_on : (readings out all : List Reading) → readings ++ readings_behind b.first b.posts b.turns (drop k schedule) ≡ all → out ≡ read_in b.first b.posts b.turns turn
-          → (readings ++ out) ++ readings_behind c.first c.posts c.turns (drop (suc k) schedule) ≡ all
+      pub rest_on : (readings out all : List Reading) → readings ++ readings_after b.first b.posts b.turns (drop k schedule) ≡ all → out ≡ read_in b.first b.posts b.turns turn
+          → (readings ++ out) ++ readings_after c.first c.posts c.turns (drop (suc k) schedule) ≡ all
       rest_on readings out all rest read =
           append_assoc readings out _
-          ∙ ap (λ l. readings ++ (l ++ readings_behind c.first c.posts c.turns (drop (suc k) schedule))) read
+          ∙ ap (λ l. readings ++ (l ++ readings_after c.first c.posts c.turns (drop (suc k) schedule))) read
           ∙ ap (λ l. readings ++ (read_in b.first b.posts b.turns turn ++ l)) same
-          ∙ ap (λ l. readings ++ readings_behind b.first b.posts b.turns l) (sym (drop-cons schedule k turn within ∙ ap (λ (t : Turn). t ∷ drop (suc k) schedule) (sym is)))
+          ∙ ap (λ l. readings ++ readings_after b.first b.posts b.turns l) (sym (drop-cons schedule k turn within ∙ ap (λ (t : Turn). t ∷ drop (suc k) schedule) (sym is)))
           ∙ rest
         where
-          same : readings_behind c.first c.posts c.turns (drop (suc k) schedule) ≡ readings_behind b.first b.posts (b.turns ++ turn ∷ []) (drop (suc k) schedule)
+          same : readings_after c.first c.posts c.turns (drop (suc k) schedule) ≡ readings_after b.first b.posts (b.turns ++ turn ∷ []) (drop (suc k) schedule)
           same =
-              ap (λ (f : Content). readings_behind f c.posts c.turns (drop (suc k) schedule)) one.first
-              ∙ ap (λ (ps : List Post). readings_behind b.first ps c.turns (drop (suc k) schedule)) one.posts
-              ∙ ap (λ ts. readings_behind b.first b.posts ts (drop (suc k) schedule)) one.turns
+              ap (λ (f : Content). readings_after f c.posts c.turns (drop (suc k) schedule)) one.first
+              ∙ ap (λ (ps : List Post). readings_after b.first ps c.turns (drop (suc k) schedule)) one.posts
+              ∙ ap (λ ts. readings_after b.first b.posts ts (drop (suc k) schedule)) one.turns
 
 pub read_all : (w : Worlds) (k : ℕ) (schedule : List Turn) (readings all : List Reading) → length schedule ≤ k
-    → readings ++ readings_behind w.first w.posts w.turns (drop k schedule) ≡ all → readings ≡ all
-read_all w k schedule readings all past rest = sym (append-nil readings) ∙ ap (λ l. readings ++ readings_behind w.first w.posts w.turns l) (sym (dropped schedule k past)) ∙ rest
+    → readings ++ readings_after w.first w.posts w.turns (drop k schedule) ≡ all → readings ≡ all
+read_all w k schedule readings all past rest = sym (append-nil readings) ∙ ap (λ l. readings ++ readings_after w.first w.posts w.turns l) (sym (dropped schedule k past)) ∙ rest
 
 module _ (first : Content) (posts : List Post) where
   among : (o : Option ℕ) (p : Post) → option_and_then (slice_get posts) o ≡ Some p → Contains posts p
@@ -75,7 +75,7 @@ module _ (first : Content) (posts : List Post) where
   is_whole published = whole_by (length published) (last_of posts published) (λ p e. among (slice_get published (length published - 1)) p e)
 
   -- each reading is a whole content
-  pub all_whole : (before turns : List Turn) → All (IsWhole first posts) (readings_behind first posts before turns)
+  pub all_whole : (before turns : List Turn) → All (IsWhole first posts) (readings_after first posts before turns)
   all_whole before [] = All-nil (IsWhole first posts)
   all_whole before (Step i ∷ turns) = all_whole (before ++ Step i ∷ []) turns
   all_whole before (Load ∷ turns) = All-cons (IsWhole first posts) (reading_after first posts before) _ (is_whole (publishers (calls (length posts) before))) (all_whole (before ++ Load ∷ []) turns)
@@ -91,14 +91,14 @@ module _ (first : Content) (posts : List Post) where
       ∙ length-append (publishers (calls (length posts) turns)) (publishers (call_of (length posts) turns turn)) in
       omega (arith, more)
 
-  all_from : (n : ℕ) (before turns : List Turn) → n ≤ count_after before → All (λ (r : Reading). n ≤ r.published) (readings_behind first posts before turns)
+  all_from : (n : ℕ) (before turns : List Turn) → n ≤ count_after before → All (λ (r : Reading). n ≤ r.published) (readings_after first posts before turns)
   all_from n before [] h = All-nil (λ (r : Reading). n ≤ r.published)
   all_from n before (Step i ∷ turns) h = all_from n (before ++ Step i ∷ []) turns (let more = grows before (Step i) in omega (arith, h, more))
   all_from n before (Load ∷ turns) h =
       All-cons (λ (r : Reading). n ≤ r.published) (reading_after first posts before) _ h (all_from n (before ++ Load ∷ []) turns (let more = grows before Load in omega (arith, h, more)))
 
   -- a later reading never has fewer renames than an earlier one
-  pub never_falls : (before turns : List Turn) → NeverFalls (readings_behind first posts before turns)
+  pub never_falls : (before turns : List Turn) → NeverFalls (readings_after first posts before turns)
   never_falls before [] = λ i j d less within. absurd (not-suc-le-zero within)
   never_falls before (Step i ∷ turns) = never_falls (before ++ Step i ∷ []) turns
   never_falls before (Load ∷ turns) =

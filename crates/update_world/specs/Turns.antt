@@ -43,13 +43,13 @@ call_of posts before Load = []
 call_of posts before (Step i) = if nat_lt i posts then option_map_or (λ call. (i, call) ∷ []) (slice_get all_calls (steps_of i before)) [] else []
 
 -- the calls of the turns that follow `before`
-abbrev pub calls_behind : ℕ → List Turn → List Turn → List PostCall
-calls_behind posts before [] = []
-calls_behind posts before (turn ∷ turns) = call_of posts before turn ++ calls_behind posts (before ++ turn ∷ []) turns
+abbrev pub calls_after : ℕ → List Turn → List Turn → List PostCall
+calls_after posts before [] = []
+calls_after posts before (turn ∷ turns) = call_of posts before turn ++ calls_after posts (before ++ turn ∷ []) turns
 
 -- the calls of these turns, if there are this many updaters
 abbrev pub calls : ℕ → List Turn → List PostCall
-calls posts turns = calls_behind posts [] turns
+calls posts turns = calls_after posts [] turns
 
 abbrev pub is_publish : Call → Bool
 is_publish Publish = true
@@ -97,9 +97,9 @@ read_in first posts before (Step i) = []
 read_in first posts before Load = reading_after first posts before ∷ []
 
 -- the readings of the turns that follow `before`, one for each load
-abbrev pub readings_behind : Content → List Post → List Turn → List Turn → List Reading
-readings_behind first posts before [] = []
-readings_behind first posts before (turn ∷ turns) = read_in first posts before turn ++ readings_behind first posts (before ++ turn ∷ []) turns
+abbrev pub readings_after : Content → List Post → List Turn → List Turn → List Reading
+readings_after first posts before [] = []
+readings_after first posts before (turn ∷ turns) = read_in first posts before turn ++ readings_after first posts (before ++ turn ∷ []) turns
 
 -- ---- the contents that a crash can leave
 

@@ -58,7 +58,7 @@ temporary_after (suc (suc (suc zero))) bytes = Some bytes
 temporary_after (suc (suc (suc (suc n)))) bytes = None
 
 -- the slot, the temporary files and the remaining calls are those after these turns
-pub record Stands (w : Worlds) : Type 0 where
+pub record IsAfterTurns (w : Worlds) : Type 0 where
   pub cache : w.cache ≡ (reading_after w.first w.posts w.turns).bytes
   pub temporaries : (i : ℕ) → IfSome (slice_get w.posts i) (λ p. slice_get w.temporaries i ≡ Some (temporary_after (steps_of i w.turns) p.bytes))
   pub progress : (i : ℕ) → i < length w.posts → slice_get w.progress i ≡ Some (drop (steps_of i w.turns) all_calls)

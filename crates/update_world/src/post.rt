@@ -16,7 +16,7 @@ pub type Posts = Seq<Post>;
 /// One atomic step.
 #[derive(Clone, Copy, Debug, PartialEq, Eq)]
 pub enum Turn {
-    /// The next system call of the updater with this index, counted from 0. If there is no such updater or no call, nothing happens.
+    /// The next system call of the updater with this index, counted from 0. Without such an updater, or a call of it, nothing happens.
     Step(u32),
     /// A read of the whole cache slot.
     Load,

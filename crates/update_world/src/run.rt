@@ -2,8 +2,8 @@
 ghost use Rattle.std.specs.Prelude.{◌≡◌, IfOk, OnOk, OnErr};
 ghost use Rattle.std.specs.List.{All};
 ghost use Rattle.update_world.specs.Disks.{AreOnDisks};
-ghost use Rattle.update_world.specs.Turns.{readings_behind};
-ghost use Rattle.update_world.specs.Worlds.{HasTaken, HasTakenPart, IsWhole, NeverFalls, Stands};
+ghost use Rattle.update_world.specs.Turns.{readings_after};
+ghost use Rattle.update_world.specs.Worlds.{HasTaken, HasTakenPart, IsWhole, NeverFalls, IsAfterTurns};
 
 use crate::post::{Readings, Turn};
 use crate::world::World;
@@ -14,15 +14,15 @@ use std::alloc::Global;
 /// taken.
 #[tactic(auto, using(crate::proofs::Runs::taken_none, crate::proofs::Runs::taken_all, crate::proofs::Runs::taken_part, crate::proofs::Runs::taken_on, crate::proofs::Runs::rest_on))]
 pub fn world_run(alloc: Global, world: &mut World, schedule: &[Turn]) -> Result<Readings, NoMemory>
-    ensures readings { IfOk result (λ readings. readings ≡ readings_behind world.old.first world.old.posts world.old.turns schedule.now) }
+    ensures readings { IfOk result (λ readings. readings ≡ readings_after world.old.first world.old.posts world.old.turns schedule.now) }
     ensures taken { OnOk result (HasTaken schedule.now world.old world.new) }
     ensures part { OnErr result (HasTakenPart schedule.now world.old world.new) }
-    ensures stands { Stands world.new }
+    ensures after_turns { IsAfterTurns world.new }
     ensures whole { IfOk result (All (IsWhole world.old.first world.old.posts)) }
     ensures order { IfOk result NeverFalls }
     ensures disk { IfOk result (AreOnDisks world.old.first world.old.posts world.old.turns schedule.now) }
 {
-    // This call makes `Stands` known for an empty schedule.
+    // This call makes `IsAfterTurns` known for an empty schedule.
     let _taken = world.turns();
     let mut readings = Readings::new(alloc);
     for turn in schedule {

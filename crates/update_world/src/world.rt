@@ -3,7 +3,7 @@ ghost use Rattle.std.specs.Prelude.{◌≡◌, ◌<◌, ◌^◌, ◌∷◌, [], 
 ghost use Rattle.std.specs.Option.{option_to_list};
 ghost use Rattle.update_world.specs.Disks.{HoldsExactly, LeavesExactly};
 ghost use Rattle.update_world.specs.Turns.{calls, left, read_in, reading_after, repeated};
-ghost use Rattle.update_world.specs.Worlds.{HasTaken, IsFaultOf, Stands, new_world};
+ghost use Rattle.update_world.specs.Worlds.{HasTaken, IsFaultOf, IsAfterTurns, new_world};
 
 use crate::fault::WorldFault;
 use crate::machine::Machine;
@@ -39,7 +39,7 @@ fn begin(alloc: Global, first: Option<Text>, posts: Posts) -> Result<World, NoMe
     requires few { length posts < 2 ^ 32 }
     requires different { repeated posts ≡ None }
     ensures made { IfOk result (λ world. world ≡ new_world first posts) }
-    ensures stands { IfOk result Stands }
+    ensures after_turns { IfOk result IsAfterTurns }
 {
     let machine = Machine::new(alloc, Text::copy_if_some(alloc, &first)?, posts.as_slice())?;
     Ok(World {
@@ -54,7 +54,7 @@ impl World {
     /// A world before the first turn, with this content in the cache slot.
     pub fn new(alloc: Global, first: Option<Text>, posts: Posts) -> Result<World, WorldFault>
         ensures made { IfOk result (λ world. world ≡ new_world first posts) }
-        ensures stands { IfOk result Stands }
+        ensures after_turns { IfOk result IsAfterTurns }
         ensures different { OnOk result (repeated posts ≡ None) }
         ensures fault { IfErr result (IsFaultOf posts) }
     {
@@ -68,22 +68,22 @@ impl World {
     }
 
     /// The turns so far.
-    #[tactic(auto, using(crate::proofs::Kept::stands))]
+    #[tactic(auto, using(crate::proofs::Kept::after_turns))]
     pub fn turns(&self) -> &[Turn]
         ensures turns { result.now ≡ self.now.turns }
-        ensures stands { Stands self.now }
+        ensures after_turns { IsAfterTurns self.now }
         ensures different { repeated self.now.posts ≡ None }
     {
         &self.turns
     }
 
     // Takes a turn. If the turn is a load, returns the reading.
-    #[tactic(auto, using(crate::proofs::Kept::seen_is, crate::proofs::Kept::stands))]
+    #[tactic(auto, using(crate::proofs::Kept::seen_is, crate::proofs::Kept::after_turns))]
     pub(crate) fn take(&mut self, alloc: Global, turn: Turn) -> Result<Option<Reading>, NoMemory>
         ensures read { IfOk result (λ r. option_to_list r ≡ read_in self.old.first self.old.posts self.old.turns turn) }
         ensures taken { OnOk result (HasTaken (turn ∷ []) self.old self.new) }
         ensures refused { OnErr result (self.new ≡ self.old) }
-        ensures stands { Stands self.new }
+        ensures after_turns { IsAfterTurns self.new }
     {
         self.turns.reserve(1)?;
         let read = take_turn(alloc, &mut self.machine, self.posts.as_slice(), turn)?;

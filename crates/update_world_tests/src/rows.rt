@@ -2,7 +2,7 @@
 use crate::shown::Seen;
 use lib_types::{NoMemory, Text};
 use std::alloc::Global;
-use table_rows::{Row, Said, Trial, Words, divide, number, owned_value, value};
+use table_rows::{Differences, Row, Trial, Words, divide, number, owned_value, value};
 use tree_face::Tag;
 use update_world::{Post, Posts, Turn, World, WorldFault};
 
@@ -44,9 +44,9 @@ fn take_rounds(alloc: Global, world: &mut World, rounds: &[u8]) -> Result<Seen, 
         if rest.is_empty() {
             break;
         }
-        let (round, behind) = divide(b' ', rest);
+        let (round, following) = divide(b' ', rest);
         seen.take(alloc, world, &turns_of(alloc, round)?)?;
-        rest = behind;
+        rest = following;
     }
     Ok(seen)
 }
@@ -55,16 +55,21 @@ fn are_right(
     alloc: Global,
     row: Row<'_>,
     world: &mut World,
-    said: &mut Said,
+    differences: &mut Differences,
 ) -> Result<bool, NoMemory> {
     let got = take_rounds(alloc, world, value(row, b"rounds").unwrap_or(b""))?;
-    let read = said.is_text(alloc, row, b"readings", &got.read)?;
-    Ok(said.is_text(alloc, row, b"after-crash", &got.left)? && read)
+    let read = differences.is_text(alloc, row, b"readings", &got.read)?;
+    Ok(differences.is_text(alloc, row, b"after-crash", &got.left)? && read)
 }
 
-fn is_tag(alloc: Global, tag: Tag, want: &[u8], said: &mut Said) -> Result<bool, NoMemory> {
+fn is_tag(
+    alloc: Global,
+    tag: Tag,
+    want: &[u8],
+    differences: &mut Differences,
+) -> Result<bool, NoMemory> {
     let got = format!(in alloc; "{}", tag.0)?;
-    said.is_same(b"same-tag", want, got.as_bytes())
+    differences.is_same(b"same-tag", want, got.as_bytes())
 }
 
 const WORDS: &[Words] = &[&[
@@ -82,15 +87,19 @@ impl Trial for Rounds {
     }
 
     // A body that always returns NoMemory meets the contract, but not the rows.
-    fn is_right(alloc: Global, row: Row<'_>, said: &mut Said) -> Result<bool, NoMemory> {
+    fn is_right(
+        alloc: Global,
+        row: Row<'_>,
+        differences: &mut Differences,
+    ) -> Result<bool, NoMemory> {
         let want = value(row, b"same-tag").unwrap_or(b"");
         match World::new(
             alloc,
             owned_value(alloc, row, b"first")?,
             posts_of(alloc, row)?,
         ) {
-            Ok(mut world) => Ok(are_right(alloc, row, &mut world, said)? && want.is_empty()),
-            Err(WorldFault::SameTag { tag }) => is_tag(alloc, tag, want, said),
+            Ok(mut world) => Ok(are_right(alloc, row, &mut world, differences)? && want.is_empty()),
+            Err(WorldFault::SameTag { tag }) => is_tag(alloc, tag, want, differences),
             Err(WorldFault::NoMemory) => Err(NoMemory),
         }
     }

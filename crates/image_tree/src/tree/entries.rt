@@ -3,7 +3,7 @@ ghost use Rattle.std.specs.Prelude.{◌≡◌, ◌≢◌, ◌<◌, ◌≤◌, �
 ghost use Rattle.std.specs.Str.{bytes_eq};
 ghost use Rattle.std.specs.Option.{option_copied, is_some};
 ghost use Rattle.image_tree.specs.Paths.{root, is_path};
-ghost use Rattle.image_tree.specs.Index.{IsBehind, is_file_above, has_file_above};
+ghost use Rattle.image_tree.specs.Index.{IsAfter, is_file_above, has_file_above};
 ghost use Rattle.image_tree.specs.Runs.{joined, are_runs, index_of, AreRuns, AreFromDir, IsEntryPlace, IsPlace, IsPlaceOf, IsGapAt};
 ghost use Rattle.image_tree.specs.declared.tree.TheConstants.{NODES_MAX};
 ghost use Rattle.image_tree.specs.Tree.{IsPathSorted, IsTree, node_at, has_below, clashes, has_no_room, IsFullFor, kind_of, kind_at, put, remove};
@@ -90,16 +90,16 @@ pub(super) fn remove(runs: &mut Vec<Run>, path: &[u8]) -> bool
     }
 }
 
-// Whether the text is a path with something below it. The entries from the place `behind` on must be the ones after the path. If an entry
+// Whether the text is a path with something below it. The entries from the place `following` on must be the ones after the path. If an entry
 // lies below the text, the text is a path. So its bytes need no test.
-fn has_below(runs: &Vec<Run>, path: &[u8], behind: Place) -> bool
+fn has_below(runs: &Vec<Run>, path: &[u8], following: Place) -> bool
     requires runs { AreRuns runs.now.items }
     requires path { bytes_eq path.now root ≡ false }
-    requires place { IsPlace runs.now.items behind }
-    requires behind { IsBehind (joined runs.now.items) path.now (index_of runs.now.items behind) }
+    requires place { IsPlace runs.now.items following }
+    requires following { IsAfter (joined runs.now.items) path.now (index_of runs.now.items following) }
     ensures { result ≡ (is_path path.now && has_below (joined runs.now.items) path.now) }
 {
-    match entry_from(runs, behind) {
+    match entry_from(runs, following) {
         Some(next) => is_above(path, next.path),
         None => false,
     }
@@ -192,12 +192,12 @@ fn has_file_above(runs: &Vec<Run>, path: &[u8], found: Result<Place, Place>) -> 
 }
 
 // The place of the first entry after the path.
-fn behind(runs: &Vec<Run>, path: &[u8], found: Result<Place, Place>) -> Place
+fn following(runs: &Vec<Run>, path: &[u8], found: Result<Place, Place>) -> Place
     requires runs { IsTrue (are_runs runs.now.items) }
     requires sorted { IsPathSorted (joined runs.now.items) }
     requires found { MatchResult found (IsPlaceOf runs.now.items path.now) (IsGapAt runs.now.items path.now) }
     ensures place { IsPlace runs.now.items result }
-    ensures behind { IsBehind (joined runs.now.items) path.now (index_of runs.now.items result) }
+    ensures following { IsAfter (joined runs.now.items) path.now (index_of runs.now.items result) }
 {
     match found {
         Ok(place) => Place {
@@ -216,7 +216,7 @@ fn clashes(runs: &Vec<Run>, path: &[u8], node: &Node, found: Result<Place, Place
     ensures { result ≡ clashes (joined runs.now.items) path.now node.now }
 {
     has_file_above(runs, path, found)
-        || (!is_dir(node) && has_below(runs, path, behind(runs, path, found)))
+        || (!is_dir(node) && has_below(runs, path, following(runs, path, found)))
 }
 
 // Whether the path is new and the tree already has `NODES_MAX` nodes.
@@ -334,7 +334,7 @@ pub(super) fn from_dir<'a>(runs: &'a Vec<Run>, path: &[u8]) -> Option<Rest<'a>>
     }
     let found = search(runs, path);
     match kind_found(runs, path, found) {
-        Kind::Dir => Some(Rest::from(runs, behind(runs, path, found))),
+        Kind::Dir => Some(Rest::from(runs, following(runs, path, found))),
         _ => None,
     }
 }

@@ -3,10 +3,10 @@ ghost use Rattle.std.specs.Prelude.{◌≡◌, ◌≤◌, ◌∷◌, [], ◌&&�
 ghost use Rattle.std.specs.List.{dedup_from, starts_with};
 ghost use Rattle.std.specs.Option.{option_copied};
 ghost use Rattle.std.specs.Str.{bytes_eq};
-ghost use Rattle.image_tree.specs.Paths.{name_behind};
+ghost use Rattle.image_tree.specs.Paths.{name_after};
 ghost use Rattle.image_tree.specs.Tree.{IsPathSorted};
-ghost use Rattle.image_tree.specs.Behind.{AreSortedBehind};
-ghost use Rattle.image_tree.specs.Runs.{IsPathOfChild, child_at, children_behind, children_in, is_name_end, is_same_child};
+ghost use Rattle.image_tree.specs.After.{AreSortedAfter};
+ghost use Rattle.image_tree.specs.Runs.{IsPathOfChild, child_at, children_after, children_in, is_name_end, is_same_child};
 
 use super::rest::Rest;
 use super::row::PathEntry;
@@ -144,7 +144,7 @@ fn is_name_end(path: &[u8], n: usize) -> bool
 
 // Whether the path is the child's path or lies below it. Most entries belong to other children, and one byte rules them out.
 fn is_child(child: &[u8], path: &[u8]) -> bool
-    ensures { (folder name : List ℕ) → IsPathOfChild folder name child.now → result ≡ (starts_with nat_eq path.now folder && bytes_eq (name_behind (length folder) path.now) name) }
+    ensures { (folder name : List ℕ) → IsPathOfChild folder name child.now → result ≡ (starts_with nat_eq path.now folder && bytes_eq (name_after (length folder) path.now) name) }
 {
     is_name_end(path, child.len()) && begins_with(path, child)
 }
@@ -153,7 +153,7 @@ fn is_child(child: &[u8], path: &[u8]) -> bool
 #[tactic(auto, using(crate::proofs::Names::child_within))]
 fn path_of_child<'a>(path: &'a [u8], folder: &[u8], name: &[u8]) -> &'a [u8]
     requires folder { starts_with nat_eq path.now folder.now ≡ true }
-    requires name { name.now ≡ name_behind (length folder.now) path.now }
+    requires name { name.now ≡ name_after (length folder.now) path.now }
     ensures { IsPathOfChild folder.now name.now result.now }
 {
     &path[..folder.len() + name.len()]
@@ -161,11 +161,11 @@ fn path_of_child<'a>(path: &'a [u8], folder: &[u8], name: &[u8]) -> &'a [u8]
 
 // Skips to the last run that begins with an entry of the child. The skipped entries come before that entry, so they are the child's too.
 fn from_last_run<'a>(entries: Rest<'a>, child: &[u8]) -> Rest<'a>
-    requires { AreSortedBehind child.now entries }
-    ensures sorted { AreSortedBehind child.now result }
+    requires { AreSortedAfter child.now entries }
+    ensures sorted { AreSortedAfter child.now result }
     ensures few { length result ≤ length entries.entry }
-    ensures same { (folder name : List ℕ) (node : _) → IsPathOfChild folder name child.now → dedup_from is_same_child (name, node) (children_behind folder result)
-        ≡ dedup_from is_same_child (name, node) (children_behind folder entries.entry) }
+    ensures same { (folder name : List ℕ) (node : _) → IsPathOfChild folder name child.now → dedup_from is_same_child (name, node) (children_after folder result)
+        ≡ dedup_from is_same_child (name, node) (children_after folder entries.entry) }
 {
     let mut rest = entries;
     while let Some((first, next)) = rest.next_run() {
@@ -178,11 +178,11 @@ fn from_last_run<'a>(entries: Rest<'a>, child: &[u8]) -> Rest<'a>
 }
 
 // The entries after those of one child, given its path. A child that is a directory can have many entries.
-#[tactic(auto, using(crate::proofs::AllOfChild::behind_sorted))]
+#[tactic(auto, using(crate::proofs::AllOfChild::after_sorted))]
 fn skip_child<'a>(entries: Rest<'a>, child: &[u8]) -> Rest<'a>
-    requires { AreSortedBehind child.now entries }
+    requires { AreSortedAfter child.now entries }
     ensures sorted { IsPathSorted result }
-    ensures children { (folder name : List ℕ) (node : _) → IsPathOfChild folder name child.now → dedup_from is_same_child (name, node) (children_behind folder entries.entry)
+    ensures children { (folder name : List ℕ) (node : _) → IsPathOfChild folder name child.now → dedup_from is_same_child (name, node) (children_after folder entries.entry)
         ≡ (name, node) ∷ children_in folder result }
 {
     let mut rest = entries;

@@ -1,7 +1,7 @@
 //! The entries of a tree from a place on.
 ghost use Rattle.std.specs.Prelude.{◌≡◌, ◌∷◌, [], ◌<◌, ◌≤◌, ◌+◌, IfSome, MatchOption, true, length, drop, slice_index_or};
 ghost use Rattle.image_tree.specs.Runs.{joined, index_of, are_runs, run_length, IsPlace};
-ghost use Rattle.image_tree.specs.Behind.{EndsWith};
+ghost use Rattle.image_tree.specs.After.{EndsWith};
 
 use super::row::{PathEntry, Rows};
 use super::run::Run;
@@ -62,7 +62,7 @@ impl<'a> Rest<'a> {
         }
         Rest {
             first: rest_of_run(runs, place),
-            others: runs_behind(runs, place.run),
+            others: runs_after(runs, place.run),
         }
     }
 
@@ -104,7 +104,7 @@ fn rest_of_run(runs: &Vec<Run>, place: Place) -> Rows<'_>
 }
 
 // The runs after this one.
-fn runs_behind(runs: &Vec<Run>, run: usize) -> &[Run]
+fn runs_after(runs: &Vec<Run>, run: usize) -> &[Run]
     requires { run < length runs.now.items }
     ensures { result.now ≡ drop (run + 1) runs.now.items }
 {

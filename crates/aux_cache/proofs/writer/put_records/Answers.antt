@@ -1,8 +1,11 @@
 -- One more record.
 use Rattle.std.proofs.Common.{◌+◌, ◌++◌, ◌∷◌, [], ◌∙◌, ap, sym, take}
 use Rattle.std.proofs.lemmas.List.{take_more}
-use Rattle.aux_cache.proofs.Joining.{records_step, range_step}
+use Rattle.aux_cache.proofs.Joining.{item_recordable, records_step, range_step}
 use Rattle.aux_cache.proofs.writer.put_records.Goals as goal
+
+pub put_record-requires-clause-recordable : goal.put_record-requires-clause-recordable
+put_record-requires-clause-recordable c = item_recordable c.args.stamps.now c.loop-stamp.stamp-index c.stamp-item.result c.requires.recordable c.loop-stamp-test.true c.stamp-item.is
 
 pub loop-stamp-preserved : goal.loop-stamp-preserved
 loop-stamp-preserved c =

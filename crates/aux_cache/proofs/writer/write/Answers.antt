@@ -11,14 +11,17 @@ use Rattle.aux_cache.proofs.writer.write.Goals as goal
 pub of-requires : goal.of-requires
 of-requires c =
     let same = c.in_ok-numbered.ensures.texts ∙ ap strings c.as_slice-stamps.ensures.stamps in
-    let small = strings_small c.args.stamps.now c.requires.names in
+    let small = strings_small c.args.stamps.now c.requires.recordable in
     omega (arith, small, ap (λ ts. length (table_of ts)) same, c.requires.few)
 
 pub overflow_cast-bytes : goal.overflow_cast-bytes
 overflow_cast-bytes c =
     let same = ap (λ s. s.texts) c.in_ok-strings.ensures ∙ c.in_ok-numbered.ensures.texts ∙ ap strings c.as_slice-stamps.ensures.stamps in
-    let small = strings_small c.args.stamps.now c.requires.names in
+    let small = strings_small c.args.stamps.now c.requires.recordable in
     omega (arith, small, ap (λ ts. length (table_of ts)) same, ap length c.bytes-bytes.ensures, c.requires.few)
+
+pub put_records-requires-clause-recordable : goal.put_records-requires-clause-recordable
+put_records-requires-clause-recordable c = rw (c.deref.ensures.value, c.in_ok-numbered.ensures.stamps, c.as_slice-stamps.ensures.stamps) c.requires.recordable
 
 pub returns-clause-bytes : goal.returns-clause-bytes
 returns-clause-bytes c =
@@ -31,13 +34,13 @@ returns-clause-bytes c =
 pub returns-clause-undamaged : goal.returns-clause-undamaged
 returns-clause-undamaged c =
     let ys = c.as_slice-stamps.result.now in
-    let whole = written c.args.stamps.now ys c.requires.few c.requires.names c.as_slice-stamps.ensures.sorted c.as_slice-stamps.ensures.stamps
+    let whole = written c.args.stamps.now ys c.requires.few c.requires.recordable c.as_slice-stamps.ensures.sorted c.as_slice-stamps.ensures.stamps
     (rw c.in_ok-numbered.ensures.stamps at (rw c.deref.ensures.value at c.in_ok-put_records.ensures.range)) in
     ap damage (returns-clause-bytes c) ∙ undamaged c.args.stamps.now whole
 
 pub returns-clause-read_back : goal.returns-clause-read_back
 returns-clause-read_back c =
     let ys = c.as_slice-stamps.result.now in
-    let whole = written c.args.stamps.now ys c.requires.few c.requires.names c.as_slice-stamps.ensures.sorted c.as_slice-stamps.ensures.stamps
+    let whole = written c.args.stamps.now ys c.requires.few c.requires.recordable c.as_slice-stamps.ensures.sorted c.as_slice-stamps.ensures.stamps
     (rw c.in_ok-numbered.ensures.stamps at (rw c.deref.ensures.value at c.in_ok-put_records.ensures.range)) in
     ap stamps_in (returns-clause-bytes c) ∙ all_back c.args.stamps.now whole

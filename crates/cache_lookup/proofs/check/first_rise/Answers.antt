@@ -3,7 +3,7 @@ use Rattle.std.specs.Ordering.{is_lt}
 use Rattle.cache_reader.specs.Cache.{read}
 use Rattle.cache_lookup.specs.Searches.{IsNameAt}
 use Rattle.cache_lookup.proofs.Rises.{first, one_more}
-use Rattle.cache_lookup.proofs.Standing.{is_less}
+use Rattle.cache_lookup.proofs.NameOrders.{is_less}
 use Rattle.cache_lookup.proofs.check.first_rise.Goals as goal
 
 pub returns-then-eq-clause-rise : goal.returns-then-eq-clause-rise

@@ -5,8 +5,8 @@ use Rattle.cache_lookup.specs.Probing.{order_to, rank_of}
 use Rattle.cache_lookup.specs.Searches.{IsLeast}
 use Rattle.cache_lookup.proofs.Indexed.{probed}
 use Rattle.cache_lookup.proofs.Least.{least_chosen, least_more}
-use Rattle.cache_lookup.proofs.Runs.{more_steps, none_before, none_behind, one_equal, run_steps}
-use Rattle.cache_lookup.proofs.Standing.{is_below, is_equal}
+use Rattle.cache_lookup.proofs.Runs.{more_steps, none_before, none_after, one_equal, run_steps}
+use Rattle.cache_lookup.proofs.NameOrders.{is_below, is_equal}
 use Rattle.cache_lookup.proofs.search.best_from.Goals as goal
 
 pub loop-index-init : goal.loop-index-init
@@ -45,7 +45,7 @@ returns-then-ne-clause-chosen g c =
     let below : (d : CachedEntry) → is_lt (order_to c.args.name.now (get_or entries i d)) ≡ true = λ d. is_below _ (ap is_eq (sym (order d)) ∙ is_equal _ _ c.if-ne.ensures) (c.requires.others i d (omega arith) (omega arith)) in
     c.index_of.ensures
     ∙ least_chosen entries c.args.name.now c.args.abi c.args.caps.now c.loop-index.best
-    (none_behind c.args.name.now c.args.abi c.args.caps.now entries c.requires.sorted i c.loop-index.best (omega arith) so_far.best below)
+    (none_after c.args.name.now c.args.abi c.args.caps.now entries c.requires.sorted i c.loop-index.best (omega arith) so_far.best below)
 
 pub returns-then-ne-clause-steps : goal.returns-then-ne-clause-steps
 returns-then-ne-clause-steps g c =

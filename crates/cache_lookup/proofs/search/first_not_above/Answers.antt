@@ -3,7 +3,7 @@ use Rattle.std.specs.Ordering.{is_gt}
 use Rattle.cache_lookup.specs.Probing.{order_to}
 use Rattle.cache_lookup.proofs.Halving.{halved}
 use Rattle.cache_lookup.proofs.Indexed.{probed}
-use Rattle.cache_lookup.proofs.Standing.{above, is_greater, not_above}
+use Rattle.cache_lookup.proofs.NameOrders.{above, is_greater, not_above}
 use Rattle.cache_lookup.proofs.search.first_not_above.Goals as goal
 
 pub loop-low-preserved-then-eq : goal.loop-low-preserved-then-eq

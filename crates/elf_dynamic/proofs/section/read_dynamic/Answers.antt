@@ -5,11 +5,12 @@ use Rattle.elf_headers.specs.Reading.{OfKnown, TakesAtMost}
 use Rattle.elf_dynamic.specs.declared.kinds.Dynamic.{Dynamic}
 use Rattle.elf_dynamic.specs.Faults.{IfBad}
 use Rattle.elf_dynamic.specs.Kept.{kept, kept_of}
-use Rattle.elf_dynamic.specs.Memory.{IsBehindTexts}
+use Rattle.elf_dynamic.specs.Memory.{IsAfterTexts}
 use Rattle.elf_dynamic.specs.Sections.{section_in, counting_in}
 use Rattle.elf_dynamic.proofs.Files.{file_without, file_outside, file_section, file_fault, file_takes, file_taken}
 use Rattle.elf_dynamic.proofs.Memory.{fault_is}
 use Rattle.elf_dynamic.proofs.section.read_dynamic.Goals as goal
+use Rattle.elf_dynamic.specs.declared.text.TheConstants.{TEXT_LIMIT}
 
 pub returns-in_default-clause-dynamic : goal.returns-in_default-clause-dynamic
 returns-in_default-clause-dynamic g c = record {
@@ -49,7 +50,7 @@ returns-in-Ok-clause-taken g c =
     let e = c.in_ok-dynamic.ensures in
     let inside = subst (λ (h : Head). nat_lt h.length (d.offset + d.filesz) ≡ false) e.reads.head (sym c.is_outside.ensures.outside ∙ c.if-is_outside.false) in
     file_taken (g.S.Store.state c.args.file.now.store.now) h c.in_ok-dynamic.field-0 e.found c.requires.cursor.head d c.in-Some.is mid e.reads.reads inside last e.taken
-    (subst (λ (h : Head). OfKnown mid (λ bytes. TakesAtMost (112 * h.phnum + 4 * d.filesz + 65536 * counting_in (word_size h.wide) bytes d) mid last)) e.reads.head c.read_section.ensures.taken)
+    (subst (λ (h : Head). OfKnown mid (λ bytes. TakesAtMost (112 * h.phnum + 4 * d.filesz + TEXT_LIMIT * counting_in (word_size h.wide) bytes d) mid last)) e.reads.head c.read_section.ensures.taken)
 
 pub returns-in-Err-clause-bad : goal.returns-in-Err-clause-bad
 returns-in-Err-clause-bad g c =
@@ -71,7 +72,7 @@ returns-in-Err-clause-taken g c =
     let e = c.in_ok-dynamic.ensures in
     let inside = subst (λ (h : Head). nat_lt h.length (d.offset + d.filesz) ≡ false) e.reads.head (sym c.is_outside.ensures.outside ∙ c.if-is_outside.false) in
     file_taken (g.S.Store.state c.args.file.now.store.now) h c.in_ok-dynamic.field-0 e.found c.requires.cursor.head d c.in-Some.is mid e.reads.reads inside last e.taken
-    (subst (λ (h : Head). OfKnown mid (λ bytes. TakesAtMost (112 * h.phnum + 4 * d.filesz + 65536 * counting_in (word_size h.wide) bytes d) mid last)) e.reads.head c.read_section.ensures.taken)
+    (subst (λ (h : Head). OfKnown mid (λ bytes. TakesAtMost (112 * h.phnum + 4 * d.filesz + TEXT_LIMIT * counting_in (word_size h.wide) bytes d) mid last)) e.reads.head c.read_section.ensures.taken)
 
 pub returns-in-Err-clause-no_memory : goal.returns-in-Err-clause-no_memory
 returns-in-Err-clause-no_memory g c none =
@@ -81,4 +82,4 @@ returns-in-Err-clause-no_memory g c none =
     let e = c.in_ok-dynamic.ensures in
     let inside = subst (λ (h : Head). nat_lt h.length (d.offset + d.filesz) ≡ false) e.reads.head (sym c.is_outside.ensures.outside ∙ c.if-is_outside.false) in
     file_takes (g.S.Store.state c.args.file.now.store.now) h c.in_ok-dynamic.field-0 e.found c.requires.cursor.head d c.in-Some.is mid e.reads.reads inside
-    (subst (λ (h : Head). OfKnown mid (λ bytes. IfErr (section_in (word_size h.wide) bytes d) IsBehindTexts)) e.reads.head (c.in-Err.ensures.fault.no_memory (fault_is _ _ _ _ none)))
+    (subst (λ (h : Head). OfKnown mid (λ bytes. IfErr (section_in (word_size h.wide) bytes d) IsAfterTexts)) e.reads.head (c.in-Err.ensures.fault.no_memory (fault_is _ _ _ _ none)))

@@ -1,7 +1,7 @@
 use Rattle.std.proofs.Common.{◌≡◌, Ok, Err, sym, ap, subst, rules}
 use Rattle.tree_face.specs.Known.{IfKnown}
 use Rattle.elf_headers.specs.Layout.{word_size}
-use Rattle.elf_headers.specs.Range.{IsInRange}
+use Rattle.lib_types.specs.Ranges.{IsInRange}
 use Rattle.elf_headers.specs.Reading.{known_content, OfKnown, TakesAtMost}
 use Rattle.elf_dynamic.specs.Faults.{IfBad}
 use Rattle.elf_dynamic.specs.Kept.{kept, kept_of}

@@ -11,7 +11,7 @@ loop-text-preserved c =
     let bytes = c.as_bytes.ensures in
     let is : text ≡ get_or texts i text = cc in
     let put = entry_step c.args.w c.loop-text.next i texts text _ _ (omega arith) is c.loop-text.invariant.put in
-    record { put = rw c.in_ok-put_entry.ensures put; behind = size_step c.loop-text.next _ i texts text (omega arith) is c.loop-text.invariant.behind }
+    record { put = rw c.in_ok-put_entry.ensures put; following = size_step c.loop-text.next _ i texts text (omega arith) is c.loop-text.invariant.following }
 
 pub returns-clause-put : goal.returns-clause-put
 returns-clause-put c = none_left c.args.w c.loop-text.next c.loop-text.text-index c.args.texts.now c.loop-text.out.items _ (omega arith) c.loop-text.invariant.put

@@ -5,7 +5,7 @@ use Rattle.elf_dynamic.specs.declared.fault.AnalyseFault.TheVariants.{StoreFault
 use Rattle.elf_dynamic.specs.Faults.{analyse_ending}
 use Rattle.library_files.specs.FoundFile.{paths_of}
 use Rattle.tree_face.proofs.StoreUse.{IsPartial}
-use Rattle.file_stamps.proofs.ReadOn.{all_begun, all_few, all_most, all_opens, all_reads, all_rows, all_said, all_stamped, all_stamps, most_last, none_lacking, none_read, read_last, read_on}
+use Rattle.file_stamps.proofs.ReadOn.{all_begun, all_few, all_ids, all_most, all_opens, all_reads, all_rows, all_info, all_stamped, all_stamps, most_last, none_lacking, none_read, read_last, read_on}
 use Rattle.file_stamps.specs.Reading.{HasRead}
 use Rattle.file_stamps.proofs.files.read_files.Goals.{In-None}
 use Rattle.file_stamps.proofs.files.read_files.Goals as goal
@@ -33,7 +33,8 @@ returns-in_err-read_file-clause-reads g c =
 pub returns-in_err-read_file-clause-most : goal.returns-in_err-read_file-clause-most
 returns-in_err-read_file-clause-most g c =
     let failed : c.read_file.result ≡ Err c.in_err-read_file.field-0.0 = c.in_err-read_file.was in
-    most_last c.args.tree.now c.args.loaded.now _ (paths_of c.args.found.items) c.args.files.now c.loop-file.files _ _ c.in-Some.file.path _ (rw c.in-Some.ensures.steps.0 at c.loop-file.invariant.read) (analyse_ending {X = Unit {0}} (Err c.in_err-read_file.field-0.0)) _
+    most_last c.args.tree.now c.args.loaded.now _ (paths_of c.args.found.items) c.args.files.now c.loop-file.files _ _ c.in-Some.file.path _ (rw c.in-Some.ensures.steps.0 at c.loop-file.invariant.read) c.requires.sorted (analyse_ending {X = Unit {0}} (Err c.in_err-read_file.field-0.0)) _
+    (is_partial c.in_err-read_file.field-0.0)
     (rw (c.loop-file.invariant.read.reads.held, failed) at c.read_file.ensures.reads)
 
 pub loop-file-preserved : goal.loop-file-preserved
@@ -54,6 +55,9 @@ all_read g c =
 pub returns-clause-begun : goal.returns-clause-begun
 returns-clause-begun g c = all_begun _ _ _ _ c.requires.sorted _ _ _ _ (all_read g (goal.at.returns-clause-begun g c).In-None)
 
+pub returns-clause-ids : goal.returns-clause-ids
+returns-clause-ids g c = all_ids _ _ _ _ c.requires.sorted _ _ _ _ (all_read g (goal.at.returns-clause-ids g c).In-None)
+
 pub returns-clause-opens : goal.returns-clause-opens
 returns-clause-opens g c = all_opens _ _ _ _ c.requires.sorted _ _ _ _ (all_read g (goal.at.returns-clause-opens g c).In-None)
 
@@ -69,8 +73,8 @@ returns-clause-few g c = all_few _ _ _ _ c.requires.sorted _ _ _ _ (all_read g (
 pub returns-clause-most : goal.returns-clause-most
 returns-clause-most g c = all_most _ _ _ _ c.requires.sorted _ _ _ _ (all_read g (goal.at.returns-clause-most g c).In-None)
 
-pub returns-clause-said : goal.returns-clause-said
-returns-clause-said g c = all_said _ _ _ _ c.requires.sorted _ _ _ _ (all_read g (goal.at.returns-clause-said g c).In-None)
+pub returns-clause-info : goal.returns-clause-info
+returns-clause-info g c = all_info _ _ _ _ c.requires.sorted _ _ _ _ (all_read g (goal.at.returns-clause-info g c).In-None)
 
 pub returns-clause-stamps : goal.returns-clause-stamps
 returns-clause-stamps g c = all_stamps _ _ _ _ c.requires.sorted _ _ _ _ (all_read g (goal.at.returns-clause-stamps g c).In-None)

@@ -1,6 +1,6 @@
 use Rattle.std.proofs.Common.{◌≡◌, ◌<◌, ◌∙◌, [], length, get_or, rules}
 use Rattle.std.proofs.lemmas.List.{get_or_default}
-use Rattle.ldd_resolve.proofs.Standing.{among_more}
+use Rattle.ldd_resolve.proofs.MatchesKept.{among_more}
 use Rattle.ldd_resolve.proofs.names.add_names.Goals as goal
 
 pub loop-name-preserved : goal.loop-name-preserved

@@ -3,6 +3,7 @@ use Rattle.ldd_resolve.specs.declared.loading.Loading.{Loading}
 use Rattle.ldd_resolve.proofs.Objects.{all_answered, none_taken, object_fails, object_then}
 use Rattle.ldd_resolve.proofs.Sound.{even_then, turn_within}
 use Rattle.ldd_resolve.proofs.requests.answer_all.Goals as goal
+use Rattle.image_tree.specs.declared.tree.TheConstants.{NODES_MAX}
 
 pub loop-needed-init : goal.loop-needed-init
 loop-needed-init g c =
@@ -33,7 +34,7 @@ overflow_add-number g c =
     let s2 : Loading = record s1 { pending = c.pop_front.new.self } in
     let queue : s1.pending.items ≡ c.in-Some.needed ∷ s2.pending.items = search rules in
     let within = turn_within s1 s2 c.loop-needed.number c.in-Some.needed c.loop-needed.invariant.even queue _ _ _ c.loop-needed.invariant.sound in
-    let few : length c.args.given.now.tree.now ≤ 1048576 = c.know.ensures.few in
+    let few : length c.args.given.now.tree.now ≤ NODES_MAX = c.know.ensures.few in
     omega (arith, within, few)
 
 pub loop-needed-smaller : goal.loop-needed-smaller

@@ -44,5 +44,5 @@ returns-clause-answers g c =
     let new : is_among c.args.loading.now.names c.args.name ≡ false = search rules in
     let st = g.S.Store.state c.args.store.now in
     λ chain rest r here. searched_name c.args.given.now r c.args.loading.now c.args.number chain c.args.name rest here st (g.S.Store.state c.search_name.new.store) new _ (same_paths c.args.given.now r c.args.loading.now c.args.number chain c.args.name rest here c.requires.loader)
-    c.take_answer.new.self c.in_ok-answer.answer c.requires.loader c.in_ok-take_answer.ensures.stands st.held
+    c.take_answer.new.self c.in_ok-answer.answer c.requires.loader c.in_ok-take_answer.ensures.matching st.held
     (rw c.as_bytes-2.ensures at c.in_ok-answer.ensures.finds) c.in_ok-answer.ensures.new (rw (c.in_ok-answer.was, c.as_bytes-2.ensures) at c.search_name.ensures.begins)

@@ -35,7 +35,7 @@ returns g c =
     let after = g.S.Store.state c.answer_all.new.store in
     λ keys. subst (λ (e : Env). Advances st.held (inputs_of c.args.tree.now (option_copied c.args.cache) e) (record_with c.args.program keys) (failing c.in-Err.fault) (λ r2. Unit {0}) st after)
     c.in_ok-env.ensures (fails_as st.held _ (record_with c.args.program keys) (λ r2. IsListed r2 c.answer_all.new.loading.members.items c.answer_all.new.loading.items) st after c.in-Err.fault
-    ((rw c.in-Err.is at c.answer_all.ensures.answers) (record_with c.args.program keys) (c.in_ok-loading.ensures.stands keys)))
+    ((rw c.in-Err.is at c.answer_all.ensures.answers) (record_with c.args.program keys) (c.in_ok-loading.ensures.matching keys)))
 
 pub returns-in-Ok : goal.returns-in-Ok
 returns-in-Ok g c =
@@ -43,4 +43,4 @@ returns-in-Ok g c =
     let after = g.S.Store.state c.answer_all.new.store in
     λ keys. rw c.from_vec.ensures (subst (λ (e : Env). Advances st.held (inputs_of c.args.tree.now (option_copied c.args.cache) e) (record_with c.args.program keys) Complete
     (λ r2. IsListed r2 c.answer_all.new.loading.members.items c.answer_all.new.loading.items) st after)
-    c.in_ok-env.ensures ((rw c.in-Ok.is at c.answer_all.ensures.answers) (record_with c.args.program keys) (c.in_ok-loading.ensures.stands keys)))
+    c.in_ok-env.ensures ((rw c.in-Ok.is at c.answer_all.ensures.answers) (record_with c.args.program keys) (c.in_ok-loading.ensures.matching keys)))

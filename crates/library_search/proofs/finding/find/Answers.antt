@@ -1,13 +1,13 @@
 use Rattle.std.proofs.Common.{rules, ◌≡◌, Err, ap}
 use Rattle.library_files.specs.Search.{reached}
 use Rattle.file_table.specs.Table.{analysis_at}
-use Rattle.file_stamps.specs.State.{stamps_there, unread_paths}
+use Rattle.file_stamps.specs.State.{ids_there, unread_paths}
 use Rattle.tree_face.proofs.StoreUse.{reads_all}
 use Rattle.tree_face.specs.StoreUse.{Complete, GaveUp}
 use Rattle.library_search.proofs.Bests.{bests_kept}
-use Rattle.library_search.proofs.Endings.{behind_failed, behind_read, links_failed, search_failed}
+use Rattle.library_search.proofs.Endings.{after_failed, after_read, links_failed, search_failed}
 use Rattle.library_search.proofs.Judged.{judged_keep}
-use Rattle.library_search.proofs.KnownParts.{behind_are, few_nodes, is_found, known_judged, many_nodes, none_lacks, settled, too_large}
+use Rattle.library_search.proofs.KnownParts.{after_are, few_nodes, is_found, known_judged, many_nodes, none_lacks, settled, too_large}
 use Rattle.library_search.specs.declared.finding.Found.{Found}
 use Rattle.library_search.specs.declared.following.Followed.{Followed}
 use Rattle.library_search.specs.declared.search.Search.{Search}
@@ -38,11 +38,11 @@ returns-in_err-followed-clause-reads g c =
     let found = c.in_ok-search.search in
     let ensured = c.in_ok-search.ensures in
     let new = c.plan_links.new.tree in
-    rw same (behind_failed c.args.scope.now c.args.tree.now c.args.loaded.now _ _
+    rw same (after_failed c.args.scope.now c.args.tree.now c.args.loaded.now _ _
     (none_lacks c.args.scope.now c.args.tree.now c.args.loaded.now found _ ensured.found)
     (few_nodes c.args.scope.now c.args.tree.now c.args.loaded.now found _ ensured.found c.in_ok-links.ensures.few)
-    new c.in_ok-links.ensures.alike (stamps_there c.args.loaded.now found.files) (unread_paths found.files (reached new found.dirs.places))
-    (behind_are c.args.scope.now c.args.tree.now c.args.loaded.now found ensured.all ensured.only new c.in_ok-links.ensures.alike c.in_ok-links.ensures.tree _ ensured.found)
+    new c.in_ok-links.ensures.alike (ids_there c.args.loaded.now found.files) (unread_paths found.files (reached new found.dirs.places))
+    (after_are c.args.scope.now c.args.tree.now c.args.loaded.now found ensured.all ensured.only new c.in_ok-links.ensures.alike c.in_ok-links.ensures.tree _ ensured.found)
     ensured.reads _ Followed Found c.in_err-followed.field-0.0 c.in_err-followed.ensures.others
     (rw (c.in_err-followed.was, ensured.reads.held) at c.follow_links.ensures.reads))
 
@@ -53,11 +53,11 @@ returns-in_err-judge-clause-reads g c =
     let found = c.in_ok-search.search in
     let ensured = c.in_ok-search.ensures in
     let new = c.plan_links.new.tree in
-    rw same (behind_read c.args.scope.now c.args.tree.now c.args.loaded.now _ _
+    rw same (after_read c.args.scope.now c.args.tree.now c.args.loaded.now _ _
     (none_lacks c.args.scope.now c.args.tree.now c.args.loaded.now found _ ensured.found)
     (few_nodes c.args.scope.now c.args.tree.now c.args.loaded.now found _ ensured.found c.in_ok-links.ensures.few)
-    new c.in_ok-links.ensures.alike (stamps_there c.args.loaded.now found.files) (unread_paths found.files (reached new found.dirs.places))
-    (behind_are c.args.scope.now c.args.tree.now c.args.loaded.now found ensured.all ensured.only new c.in_ok-links.ensures.alike c.in_ok-links.ensures.tree _ ensured.found)
+    new c.in_ok-links.ensures.alike (ids_there c.args.loaded.now found.files) (unread_paths found.files (reached new found.dirs.places))
+    (after_are c.args.scope.now c.args.tree.now c.args.loaded.now found ensured.all ensured.only new c.in_ok-links.ensures.alike c.in_ok-links.ensures.tree _ ensured.found)
     ensured.reads _ GaveUp (reads_all _ _ _ _ _ (rw ensured.reads.held at c.in_ok-followed.ensures.reads)))
 
 pub returns-clause-found : goal.returns-clause-found
@@ -72,7 +72,7 @@ returns-clause-found g c =
     is_found scope c.args.tree.now c.args.loaded.now c.in_ok-search.search ensured.all ensured.only c.plan_links.new.tree planned.alike planned.tree
     planned.settled c.in_ok-links.links c.in_ok-followed.followed (record c.follow_links.new.files { table = c.judge.new.table }) planned.plan planned.few planned.blocked planned.mixed followed.dangling
     (judged_keep scope what (analysis_at c.judge.new.table) judges (analysis_at c.in_ok-search.search.files.table) ensured.judged followed.kept) (rw rows followed.only) _ ensured.found
-    (known_judged scope what (analysis_at c.judge.new.table) judges _ _ _ (rw ensured.reads.held at followed.said)) (rw ensured.reads.held at followed.stamps) (rw ensured.reads.held at followed.begun)
+    (known_judged scope what (analysis_at c.judge.new.table) judges _ _ _ (rw ensured.reads.held at followed.info)) (rw ensured.reads.held at followed.stamps) followed.begun
     (rw ensured.reads.held at followed.none_lacks)
 
 pub returns-clause-settled : goal.returns-clause-settled
@@ -91,9 +91,9 @@ returns-clause-reads g c =
     let found = c.in_ok-search.search in
     let ensured = c.in_ok-search.ensures in
     let new = c.plan_links.new.tree in
-    behind_read c.args.scope.now c.args.tree.now c.args.loaded.now _ _
+    after_read c.args.scope.now c.args.tree.now c.args.loaded.now _ _
     (none_lacks c.args.scope.now c.args.tree.now c.args.loaded.now found _ ensured.found)
     (few_nodes c.args.scope.now c.args.tree.now c.args.loaded.now found _ ensured.found c.in_ok-links.ensures.few)
-    new c.in_ok-links.ensures.alike (stamps_there c.args.loaded.now found.files) (unread_paths found.files (reached new found.dirs.places))
-    (behind_are c.args.scope.now c.args.tree.now c.args.loaded.now found ensured.all ensured.only new c.in_ok-links.ensures.alike c.in_ok-links.ensures.tree _ ensured.found)
+    new c.in_ok-links.ensures.alike (ids_there c.args.loaded.now found.files) (unread_paths found.files (reached new found.dirs.places))
+    (after_are c.args.scope.now c.args.tree.now c.args.loaded.now found ensured.all ensured.only new c.in_ok-links.ensures.alike c.in_ok-links.ensures.tree _ ensured.found)
     ensured.reads _ Complete (rw ensured.reads.held at c.in_ok-followed.ensures.reads)

@@ -20,7 +20,7 @@ read_files-requires g c = record {
   sorted = subst (λ (paths : List (List ℕ)). IsStrictlySortedBy (slice_cmp nat_cmp) paths) (sym c.in_ok-found.ensures.paths)
       (unread_sorted (analysis_at c.args.files.now.table) (reached c.args.tree.now c.args.dirs.now.places) (reached_sorted c.args.tree.now c.args.dirs.now.places));
   files = c.in_ok-found.ensures.files;
-  names = c.requires.names;
+  recordable = c.requires.recordable;
 }
 
 pub returns-in_err-read_files-clause-reads : goal.returns-in_err-read_files-clause-reads
@@ -44,10 +44,10 @@ returns-clause-only g c =
     let is = those (analysis_at c.args.files.now.table) _ _ c.in_ok-found.ensures.paths in
     among_both (analysis_at c.args.files.now.table) (reached c.args.tree.now c.args.dirs.now.places) _ _ (rw is at c.in_ok-read_files.ensures.rows)
 
-pub returns-clause-said : goal.returns-clause-said
-returns-clause-said g c =
+pub returns-clause-info : goal.returns-clause-info
+returns-clause-info g c =
     let is = those (analysis_at c.args.files.now.table) _ _ c.in_ok-found.ensures.paths in
-    rw is at c.in_ok-read_files.ensures.said
+    rw is at c.in_ok-read_files.ensures.info
 
 pub returns-clause-stamps : goal.returns-clause-stamps
 returns-clause-stamps g c =

@@ -39,7 +39,7 @@ pub read_files-requires : goal.read_files-requires
 read_files-requires g c = record {
   sorted = subst (λ (paths : List (List ℕ)). IsStrictlySortedBy (slice_cmp nat_cmp) paths) (sym c.in_ok-found.ensures.paths) (wanted_sorted c.args.tree.now c.in_ok-dirs.dirs.places);
   files = c.in_ok-found.ensures.files;
-  names = c.requires.names;
+  recordable = c.requires.recordable;
 }
 
 pub returns-in_err-read_files-clause-reads : goal.returns-in_err-read_files-clause-reads
@@ -71,8 +71,8 @@ returns-clause-found g c =
     searched c.args.scope.now c.args.tree.now c.args.loaded.now c.in_ok-conf.conf c.in_ok-dirs.dirs.places first c.in_ok-dirs.ensures.places empty
     (record { conf = c.in_ok-conf.conf; dirs = c.in_ok-dirs.dirs; files = record c.read_files.new.files { table = c.judge.new.table } }) refl refl c.in_ok-dirs.ensures.absent
     (analysis_at c.read_files.new.files.table) c.in_ok-judge.ensures.judged _ c.in_ok-conf.ensures.conf
-    (rw (held, c.in_ok-found.ensures.paths) at read.said) (rw (held, c.in_ok-found.ensures.paths) at read.stamps) (rw (held, c.in_ok-found.ensures.paths) at read.stamped)
-    (rw (held, c.in_ok-found.ensures.paths) at read.begun) (rw (held, c.in_ok-found.ensures.paths) at read.none_lacks)
+    (rw (held, c.in_ok-found.ensures.paths) at read.info) (rw (held, c.in_ok-found.ensures.paths) at read.stamps) (rw (held, c.in_ok-found.ensures.paths) at read.stamped)
+    (rw c.in_ok-found.ensures.paths at read.ids) (rw c.in_ok-found.ensures.paths at read.begun) (rw (held, c.in_ok-found.ensures.paths) at read.none_lacks)
 
 pub returns-clause-reads : goal.returns-clause-reads
 returns-clause-reads g c =

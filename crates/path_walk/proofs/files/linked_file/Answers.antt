@@ -9,7 +9,7 @@ pub returns : goal.returns
 returns c = record {
   file = λ name dir named link.
       let t = c.args.tree.now in
-      subst (λ f. IfOk c.file_beside.result (λ file. file ≡ f))
+      subst (λ f. IfOk c.file_next_to.result (λ file. file ≡ f))
       (sym (ap (file_by t) (from_link t c.know.ensures c.args.folder.now name c.args.target.now dir named link)))
-      (c.file_beside.ensures dir);
+      (c.file_next_to.ensures dir);
 }

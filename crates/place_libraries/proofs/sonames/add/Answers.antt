@@ -15,6 +15,6 @@ returns g c =
           gathered_last g.G.Gather.step soname c.args.item es front w.in-Some.last more c.push.new.self.items w.in-Some.ensures c.requires.ordered
           (ap Some w.more-is ∙ w.with-more.ensures) made
       | in-None w ↦
-          gathered_new g.G.Gather.step soname c.args.item es more c.push.new.self.items (all_less soname more es c.requires.ordered c.requires.behind w.in-None.ensures.1) c.requires.ordered
+          gathered_new g.G.Gather.step soname c.args.item es more c.push.new.self.items (all_less soname more es c.requires.ordered c.requires.following w.in-None.ensures.1) c.requires.ordered
           (ap Some w.more-is ∙ w.first-more.ensures) (made ∙ ap (λ xs. xs ++ (soname, more) ∷ []) w.in-None.ensures.0)
     ]

@@ -12,8 +12,8 @@ loop-item-init g c =
     subst (λ es. GoesOn g.G.Gather.step c.args.items.items es c.into_iter-item-iterator.result.rest.items) (sym c.in_ok-found.ensures.items)
     (subst (GoesOn g.G.Gather.step c.args.items.items []) (sym whole) (begins g.G.Gather.step c.args.items.items c.requires))
 
-pub add-requires-clause-behind : goal.add-requires-clause-behind
-add-requires-clause-behind g c =
+pub add-requires-clause-following : goal.add-requires-clause-following
+add-requires-clause-following g c =
     subst (λ soname. AllByRecursion (λ key. is_lt (slice_cmp nat_cmp soname key) ≡ false) (keys_of c.loop-item.found.items)) (sym c.soname-soname.ensures)
     (none_below_next g.G.Gather.step c.args.items.items c.loop-item.found.items c.in-Some.item c.next.new.self.rest.items
     (subst (GoesOn g.G.Gather.step c.args.items.items c.loop-item.found.items) c.in-Some.ensures.steps.0 c.loop-item.invariant))

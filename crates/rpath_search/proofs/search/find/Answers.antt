@@ -1,7 +1,7 @@
 use Rattle.std.proofs.Common.{◌≡◌, rules, Err, Option, Some, None}
 use Rattle.rpath_search.specs.declared.kinds.Found.{Found}
 use Rattle.rpath_search.specs.declared.search.Answer.{Answer}
-use Rattle.rpath_search.proofs.Beside.{searches_alone}
+use Rattle.rpath_search.proofs.NextTo.{searches_alone}
 use Rattle.rpath_search.proofs.Endings.{ending_same}
 use Rattle.rpath_search.proofs.Once.{first_once}
 use Rattle.rpath_search.proofs.search.find.Goals as goal

@@ -1,5 +1,5 @@
 use Rattle.std.proofs.Common.{rules, ◌≡◌, ◌∷◌, [], ◌++◌, ◌+◌, ◌∙◌, ap, drop, false, true}
-use Rattle.update_world.proofs.Apart.{repeated_here, repeated_later}
+use Rattle.update_world.proofs.Differ.{repeated_here, repeated_later}
 use Rattle.update_world.specs.Turns.{repeated_among}
 use Rattle.update_world.proofs.tags.repeated_tag.Goals as goal
 

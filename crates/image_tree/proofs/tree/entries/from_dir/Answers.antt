@@ -24,7 +24,7 @@ returns-in-Dir-clause-entries c =
     record {
       dir = dir;
       below = ap (in_folder (folder path)) c.from.ensures
-          ∙ below_taken (joined runs) path (index_of runs c.behind.result) (dir_has_path (joined runs) path proper dir) c.behind.ensures.behind c.requires.tree.sorted;
+          ∙ below_taken (joined runs) path (index_of runs c.following.result) (dir_has_path (joined runs) path proper dir) c.following.ensures.following c.requires.tree.sorted;
     }
 
 pub returns-in-Dir-clause-sorted : goal.returns-in-Dir-clause-sorted

@@ -1,7 +1,7 @@
 use Rattle.std.proofs.Common.{◌≡◌, ◌∙◌, ◌||◌, ap, refl, rules}
 use Rattle.std.specs.Str.{bytes_eq}
 use Rattle.rpath_search.specs.Searching.{is_among}
-use Rattle.ldd_resolve.proofs.Standing.{among_inserted, on_ok}
+use Rattle.ldd_resolve.proofs.MatchesKept.{among_inserted, on_ok}
 use Rattle.ldd_resolve.proofs.loading.Loading.add_name.Goals as goal
 
 pub returns : goal.returns

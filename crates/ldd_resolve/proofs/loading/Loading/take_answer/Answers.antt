@@ -3,15 +3,15 @@ use Rattle.std.proofs.lemmas.List.{length-append, length-set}
 use Rattle.rpath_search.specs.Searching.{is_among}
 use Rattle.ldd_resolve.specs.Loading.{HasOutcome, IsSoundAnswer}
 use Rattle.rpath_search.specs.declared.search.Answer.TheVariants as answer
-use Rattle.ldd_resolve.proofs.Answered.{found_stands, loaded_stands, missing_stands}
+use Rattle.ldd_resolve.proofs.Answered.{found_matches, loaded_matches, missing_matches}
 use Rattle.ldd_resolve.proofs.Sound.{sound_more, sound_same}
-use Rattle.ldd_resolve.proofs.Standing.{on_ok, same_count}
+use Rattle.ldd_resolve.proofs.MatchesKept.{on_ok, same_count}
 use Rattle.ldd_resolve.proofs.loading.Loading.take_answer.Goals as goal
 
 pub returns-in-Some-Loaded : goal.returns-in-Some-Loaded
 returns-in-Some-Loaded c = record {
-  stands = on_ok c.add_name.result (λ adds r r2 q rest stands outcome next name chain.
-      loaded_stands c.args.env.now r r2 c.args.self.now c.add_name.new.self (suc c.args.loader) q rest stands next c.in-Some-Loaded.number
+  matching = on_ok c.add_name.result (λ adds r r2 q rest matching outcome next name chain.
+      loaded_matches c.args.env.now r r2 c.args.self.now c.add_name.new.self (suc c.args.loader) q rest matching next c.in-Some-Loaded.number
       (rw (c.in-Some-Loaded.is, c.in-Some-Loaded.field-0-is) at outcome) c.requires.distinct (rw name c.requires.unknown) (rw name adds)) c.add_name.ensures;
   sound = λ known t abi sound good. on_ok c.add_name.result (λ adds. sound_same known t abi c.args.self.now c.add_name.new.self sound adds.places
       (ap length (adds.members (record { path = []; real = []; names = [] })) ∙ length-set c.args.self.now.members.items c.in-Some-Loaded.number _)) c.add_name.ensures;
@@ -20,14 +20,14 @@ returns-in-Some-Loaded c = record {
 
 pub returns-in-Some-New : goal.returns-in-Some-New
 returns-in-Some-New c = record {
-  stands = on_ok c.add_found.result (λ adds r r2 q rest stands outcome next name chain.
+  matching = on_ok c.add_found.result (λ adds r r2 q rest matching outcome next name chain.
       let f = c.in-Some-New.found in
       let out : HasOutcome r q (Some (answer.New f)) r2 = rw (c.in-Some-New.is, c.in-Some-New.field-0-is) at outcome in
-      let all = same_count c.args.env.now c.args.self.now.loaders r.objects stands.linked in
+      let all = same_count c.args.env.now c.args.self.now.loaders r.objects matching.linked in
       let within = c.requires.loader in
       let few : suc c.args.loader ≤ length r.objects = omega (arith, within, all) in
       let one : 1 ≤ length r.objects = omega (arith, few) in
-      found_stands c.args.env.now r r2 c.args.self.now c.add_found.new.self (suc c.args.loader) q rest stands next f c.args.loader
+      found_matches c.args.env.now r r2 c.args.self.now c.add_found.new.self (suc c.args.loader) q rest matching next f c.args.loader
       out.0 out.1 chain c.requires.loader few one (rw name adds)) c.add_found.ensures;
   sound = λ known t abi sound good.
       let f = c.in-Some-New.found in
@@ -45,9 +45,9 @@ returns-in-Some-New c = record {
 
 pub returns-in-None : goal.returns-in-None
 returns-in-None c = record {
-  stands = on_ok c.add_missing.result (λ adds r r2 q rest stands outcome next name chain.
+  matching = on_ok c.add_missing.result (λ adds r r2 q rest matching outcome next name chain.
       let out : HasOutcome r q None r2 = rw c.in-None.is at outcome in
-      missing_stands c.args.env.now r r2 c.args.self.now c.add_missing.new.self (suc c.args.loader) q rest stands next out.0 out.1 adds.loaders adds.places adds.names adds.members adds.pending
+      missing_matches c.args.env.now r r2 c.args.self.now c.add_missing.new.self (suc c.args.loader) q rest matching next out.0 out.1 adds.loaders adds.places adds.names adds.members adds.pending
       (rw name adds.missing) (rw name adds.items)) c.add_missing.ensures;
   sound = λ known t abi sound good. on_ok c.add_missing.result (λ adds. sound_same known t abi c.args.self.now c.add_missing.new.self sound adds.places (ap length adds.members)) c.add_missing.ensures;
   grows = on_ok c.add_missing.result (λ adds. record {

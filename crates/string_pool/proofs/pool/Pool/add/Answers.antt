@@ -25,8 +25,8 @@ returns-then-len-count-clause-offset c =
     let same = sym c.len.ensures ∙ c.if-len-count.true ∙ c.len-count.ensures in
     (found old.base old.texts c.add.new.self old.offsets.items old.bytes.items c.args.text.now c.self.invariant c.in_ok-number.ensures.texts c.in_ok-number.number c.index.result.now c.in_ok-number.ensures.number same c.index.ensures).0
 
-pub returns-then-len-count-clause-stands : goal.returns-then-len-count-clause-stands
-returns-then-len-count-clause-stands c =
+pub returns-then-len-count-clause-located : goal.returns-then-len-count-clause-located
+returns-then-len-count-clause-located c =
     let old = c.self.inside in
     let same = sym c.len.ensures ∙ c.if-len-count.true ∙ c.len-count.ensures in
     (found old.base old.texts c.add.new.self old.offsets.items old.bytes.items c.args.text.now c.self.invariant c.in_ok-number.ensures.texts c.in_ok-number.number c.index.result.now c.in_ok-number.ensures.number same c.index.ensures).1

@@ -4,7 +4,7 @@ use Rattle.image_tree.specs.Runs.{joined, are_runs, is_run}
 use Rattle.image_tree.proofs.tree.rest.Rest.from.Goals as goal
 
 pub invariant_of-result : goal.invariant_of-result
-invariant_of-result c = ap are_runs c.runs_behind.ensures ∙ all_dropped is_run c.args.runs.now.items (c.args.place.run + 1) c.requires.runs
+invariant_of-result c = ap are_runs c.runs_after.ensures ∙ all_dropped is_run c.args.runs.now.items (c.args.place.run + 1) c.requires.runs
 
 pub returns : goal.returns
 returns c =
@@ -12,5 +12,5 @@ returns c =
     let runs = c.args.runs.now.items in
     let r = c.requires.place in
     let h : p.run < length runs = omega (arith, r.run) in
-    ap (λ f. f ++ joined c.runs_behind.result.now) c.rest_of_run.ensures
-    ∙ ap (λ o. drop p.at (get_or runs p.run []) ++ joined o) c.runs_behind.ensures ∙ joined_from runs p.run (p.run + 1) p.at refl h r.at
+    ap (λ f. f ++ joined c.runs_after.result.now) c.rest_of_run.ensures
+    ∙ ap (λ o. drop p.at (get_or runs p.run []) ++ joined o) c.runs_after.ensures ∙ joined_from runs p.run (p.run + 1) p.at refl h r.at
