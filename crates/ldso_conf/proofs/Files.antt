@@ -1,16 +1,20 @@
 -- One file that is opened and read whole.
-use Rattle.std.proofs.Common.{◌≡◌, ◌≤◌, ◌∙◌, ℕ, List, [], ◌∷◌, length, Option, Some, None, Ok, Err, inl, arith}
+use Rattle.std.proofs.Common.{◌≡◌, ◌≤◌, ◌∙◌, ℕ, List, [], ◌∷◌, length, Option, Some, None, Ok, Err, inl, refl, arith}
 use Rattle.std.proofs.lemmas.Bool.{le-leb}
 use Rattle.std.specs.Prelude.{IfSome, option_map}
 use Rattle.lib_types.specs.Counts.{raised}
 use Rattle.lib_types.specs.declared.fault.Failed.{Failed}
+use Rattle.conf_views.specs.declared.fault.ViewFault.{ViewFault}
+use Rattle.conf_views.specs.declared.fault.ViewFault.TheVariants as view
 use Rattle.tree_face.specs.Known.{IfKnown}
 use Rattle.tree_face.specs.Store.{Contents, StoreState, Begins, HasBegun, Reads}
 use Rattle.tree_face.specs.StoreUse.{Complete, DeviceFailed, GaveUp}
 use Rattle.tree_face.proofs.Follows.{part_whole}
 use Rattle.tree_face.proofs.Known.{relates_by}
 use Rattle.tree_face.proofs.StoreUse.{raised-mono}
+use Rattle.ldso_conf.specs.Endings.{fault_of, read_ending_by}
 use Rattle.ldso_conf.specs.Visits.{ReadsFile, size_read}
+use Rattle.ldso_conf.specs.declared.fault.ReadFault.TheVariants as read
 use Rattle.ldso_conf.specs.declared.reading.TheConstants.{CONF_MAX}
 
 module _ (key : List ℕ) where
@@ -103,3 +107,17 @@ module _ (key : List ℕ) where
     faults = r.faults;
     cause = r.cause;
   }
+
+-- ---- the view doesn't answer
+
+pub view_gave_up : (fault : ViewFault) → read_ending_by (fault_of fault) ≡ GaveUp
+view_gave_up view.Unseen = refl
+view_gave_up view.NoMemory = refl
+
+pub not_answered : (fault : ViewFault) (key : List ℕ) (known : Option Contents) (a b : StoreState) → ReadsFile key known Complete a b
+    → ReadsFile key known (read_ending_by (fault_of fault)) a b
+not_answered fault key known a b r = rw (view_gave_up fault) (gave_up key known a b r)
+
+pub was_unseen : (fault : ViewFault) → fault_of fault ≡ read.Unseen → fault ≡ view.Unseen
+was_unseen view.Unseen e = refl
+was_unseen view.NoMemory e = absurd (cc)

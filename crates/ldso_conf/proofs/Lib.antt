@@ -1,3 +1,4 @@
+pub mod Asked
 pub mod CommandLine
 mod Files
 mod Items

@@ -6,20 +6,21 @@ use Rattle.std.proofs.lemmas.List.{append-nil}
 use Rattle.std.proofs.lemmas.List.Concat.{flat_map-append}
 use Rattle.std.proofs.lemmas.List.Folds.{list_any-append}
 use Rattle.std.proofs.lemmas.List.Sums.{sum_by-append, sum_by-cons}
-use Rattle.std.specs.Prelude.{IfSome, sum_by}
+use Rattle.std.specs.Prelude.{IfSome, option_map, sum_by}
 use Rattle.std.specs.List.{flat_map, list_any}
 use Rattle.lib_types.proofs.SortedPairs.{by_test}
 use Rattle.tree_face.specs.Follows.{IsFollowedBy, IsFollowedByPart}
 use Rattle.tree_face.specs.Known.{IfKnown, Relates}
-use Rattle.tree_face.specs.Store.{Contents, StoreState}
+use Rattle.tree_face.specs.Store.{Contents, Lacks, StoreState}
 use Rattle.tree_face.specs.StoreUse.{Ending, Complete, DeviceFailed, GaveUp, HasCause, ReadsFiles}
 use Rattle.tree_face.proofs.StoreUse.{IsPartial, reads_on, reads_part, unread}
 use Rattle.conf_patterns.specs.Patterns.{Found}
-use Rattle.ldso_conf.specs.Endings.{ending_by}
+use Rattle.conf_views.specs.declared.view.FoundFile.{FoundFile}
+use Rattle.ldso_conf.specs.Endings.{read_ending_by}
 use Rattle.ldso_conf.specs.Reading.{Item, Reports, asked, asked_by, begun, bytes_taken, is_missing, key_begun, named, place_in, until_missing}
-use Rattle.ldso_conf.specs.Visits.{Progress, HasTaken, IsDone, IsDoneIn, ReadsFile, ReadsItems, bytes_in, keys_in, lacks_in, size_read, with_dir, with_report}
-use Rattle.ldso_conf.specs.declared.fault.ConfFault.{ConfFault}
-use Rattle.ldso_conf.specs.declared.fault.ConfFault.TheVariants.{StoreFault, NoMemory}
+use Rattle.ldso_conf.specs.Visits.{Progress, HasTaken, IsDone, IsDoneIn, LacksAny, ReadsAny, ReadsFile, ReadsItems, bytes_in, keys_in, lacks_in, size_read, with_dir, with_report}
+use Rattle.ldso_conf.specs.declared.fault.ReadFault.{ReadFault}
+use Rattle.ldso_conf.specs.declared.fault.ReadFault.TheVariants.{StoreFault, NoMemory, Unseen}
 use Rattle.ldso_conf.specs.declared.kinds.ConfReport.{ConfReport}
 use Rattle.ldso_conf.specs.declared.kinds.Origin.{Origin}
 use Rattle.ldso_conf.specs.declared.reading.TheConstants.{CONF_MAX}
@@ -28,8 +29,9 @@ use Rattle.image_tree.specs.declared.path.TheConstants.{PATH_MAX}
 use Rattle.ldso_conf.proofs.Visiting.{take_dir, take_report}
 use Rattle.ldso_conf.proofs.Items.{following, taken_more, until_after, until_parts, until_whole}
 
-pub partial : (fault : ConfFault) → IsPartial (ending_by fault)
+pub partial : (fault : ReadFault) → IsPartial (read_ending_by fault)
 partial StoreFault = tt
+partial Unseen = tt
 partial NoMemory = tt
 
 -- ---- a call that leaves the store as it is
@@ -227,7 +229,7 @@ module _ (whole : Contents → List Item) where
   pub stops_here : (rest : Contents → List Item) (start now : Progress) (a b : StoreState) (known : Option Contents) → IsDoneIn known whole rest start now a b → ReadsItems whole known GaveUp a b
   stops_here rest start now a b known d = items_stop (λ held. []) rest start now a b b known GaveUp d tt (reads_none _ _ _ b)
 
-  module _ (file : Contents → List (List ℕ) → Found → List Item) (step : Step) (steps : List Step) (start now next : Progress) (a b c : StoreState) where
+  module _ (file : Contents → List (List ℕ) → FoundFile → List Item) (step : Step) (steps : List Step) (start now next : Progress) (a b c : StoreState) where
     -- one more step is processed
     pub step_done : (known : Option Contents) → IsDoneIn known whole (λ held. asked (file held) now.read (step ∷ steps)) start now a b →
         IfKnown known (λ held. HasTaken (asked_by (file held) now.read step) now next) → ReadsItems (λ held. asked_by (file held) now.read step) known Complete b c →
@@ -259,3 +261,46 @@ module _ (known : Option Contents) (r new : Progress) (s : StoreState) where
       IfKnown known (λ held. HasTaken (named dir origin ∷ []) r new) × ReadsItems (λ held. named dir origin ∷ []) known Complete s s
   dir_taken dir origin e =
       (alone_taken (named dir origin) (take_dir r new dir origin e), alone_reads known (named dir origin) (key_of_named dir origin) (held_named dir origin))
+
+-- ---- the files that are read aren't known
+
+any_lacks : (key : List ℕ) (known : Option Contents) → Lacks known key → LacksAny known
+any_lacks key None lacks = lacks
+any_lacks key (Some held) lacks = (key, lacks)
+
+module _ (known : Option Contents) (a b : StoreState) where
+  pub any_file : (key : List ℕ) (e : Ending) → ReadsFile key known e a b → ReadsAny known e a b
+  any_file key e reads =
+      reads_unknown (Lacks known key) (LacksAny known) (Some (key ∷ [])) (option_map (λ held. size_read (held key)) known) e a a b (any_lacks key known) (unread a) reads
+
+  -- the file is read
+  pub file_any : (key : List ℕ) → ReadsFile key known Complete a b → ReadsFiles ⊥ None None Complete a b
+  file_any key reads = reads_all (LacksAny known) ⊥ None None a b (any_file key Complete reads)
+
+  module _ (c : StoreState) (first : ReadsFiles ⊥ None None Complete a b) where
+    pub any_stops : (e : Ending) → ReadsAny known e b c → ReadsAny known e a c
+    any_stops e next = reads_unknown (LacksAny known) (LacksAny known) None None e a b c (λ l. l) first next
+
+    pub any_on : ReadsAny known Complete b c → ReadsFiles ⊥ None None Complete a c
+    any_on next = reads_all (LacksAny known) ⊥ None None a c (any_stops Complete next)
+
+  -- the call ends or gives up at this place
+  pub any_done : ReadsFiles ⊥ None None Complete a b → ReadsAny known Complete a b
+  any_done first = reads_all ⊥ (LacksAny known) None None a b first
+
+  pub any_gives_up : ReadsFiles ⊥ None None Complete a b → ReadsAny known GaveUp a b
+  any_gives_up first = any_part (any_done first) where
+    any_part : ReadsAny known Complete a b → ReadsAny known GaveUp a b
+    any_part r = record {
+      held = r.held;
+      begins = tt;
+      begun = tt;
+      begun_before = r.begun_before;
+      taken = tt;
+      taken_before = r.taken_before;
+      faults = r.faults;
+      cause = r.cause;
+    }
+
+pub any_nothing : (known : Option Contents) (s : StoreState) → ReadsAny known Complete s s
+any_nothing known s = any_done known s s (unread s)

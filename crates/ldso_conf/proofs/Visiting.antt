@@ -6,10 +6,11 @@ use Rattle.std.specs.List.{flat_map}
 use Rattle.lib_types.proofs.SortedPairs.{by_test}
 use Rattle.tree_face.specs.Known.{IfKnown}
 use Rattle.tree_face.specs.Store.{Contents}
-use Rattle.image_tree.specs.Tree.{Nodes, node_at}
+use Rattle.image_tree.specs.Tree.{Nodes}
 use Rattle.image_tree.specs.declared.path.TheConstants.{PATH_MAX}
 use Rattle.conf_patterns.specs.Patterns.{Found}
-use Rattle.ldso_conf.specs.Reading.{Item, Reports, asked, begun, included, included_by, key_in, named, place_in, reported, steps_in, was_read, with_steps}
+use Rattle.conf_views.specs.Files.{file_with}
+use Rattle.ldso_conf.specs.Reading.{Item, Reports, asked, begun, included, included_by, named, place_in, reported, steps_in, was_read, with_steps}
 use Rattle.ldso_conf.specs.Steps.{steps_of}
 use Rattle.ldso_conf.specs.Visits.{Progress, HasContent, HasEnded, HasLoaded, HasTaken, IsToBeginAs, with_begun, with_dir, with_items, with_read, with_report}
 use Rattle.ldso_conf.specs.declared.kinds.ConfKind.TheVariants.{NotFile, Repeated, TooDeep, TooLarge, LongPath}
@@ -39,24 +40,24 @@ dir_files r new dir origin e =
 
 -- ---- a file that is not to be opened
 
-module _ (t : Nodes) (left : ℕ) (r : Progress) (f : Found) where
-  alone : (report : ConfReport) (held : Contents) → included_by held left r.read f (key_in (node_at t f.1)) ≡ Reports report → included t held left r.read f ≡ Reports report ∷ []
-  alone report held e = at left e where
-    at : (n : ℕ) → included_by held n r.read f (key_in (node_at t f.1)) ≡ Reports report → included t held n r.read f ≡ Reports report ∷ []
+module _ (left : ℕ) (r : Progress) (f : Found) (there : Option (List ℕ)) where
+  alone : (report : ConfReport) (t : Nodes) (held : Contents) → included_by held left r.read f there ≡ Reports report → included t held left r.read (file_with f there) ≡ Reports report ∷ []
+  alone report t held e = at left e where
+    at : (n : ℕ) → included_by held n r.read f there ≡ Reports report → included t held n r.read (file_with f there) ≡ Reports report ∷ []
     at zero e = ap (λ item. item ∷ []) e
     at (suc n) e = ap (with_steps (included t held n) t r.read) e
 
-  pub not_file : (new : Progress) → key_in (node_at t f.1) ≡ None → new ≡ with_report r (reported f.0 NotFile) → HasEnded t left r f new
-  not_file new none e = record { report = reported f.0 NotFile; alone = λ held. alone (reported f.0 NotFile) held (rw none refl); reported = e }
+  pub not_file : (new : Progress) → there ≡ None → new ≡ with_report r (reported f.0 NotFile) → HasEnded left r f there new
+  not_file new none e = record { report = reported f.0 NotFile; alone = λ t held. alone (reported f.0 NotFile) t held (rw none refl); reported = e }
 
-  pub repeated : (new : Progress) (key : List ℕ) → key_in (node_at t f.1) ≡ Some key → was_read r.read f.1 ≡ true → new ≡ with_report r (reported f.0 Repeated) → HasEnded t left r f new
-  repeated new key some read e = record { report = reported f.0 Repeated; alone = λ held. alone (reported f.0 Repeated) held (rw (some, read) refl); reported = e }
+  pub repeated : (new : Progress) (key : List ℕ) → there ≡ Some key → was_read r.read f.1 ≡ true → new ≡ with_report r (reported f.0 Repeated) → HasEnded left r f there new
+  repeated new key some read e = record { report = reported f.0 Repeated; alone = λ t held. alone (reported f.0 Repeated) t held (rw (some, read) refl); reported = e }
 
-  pub too_deep : (new : Progress) (key : List ℕ) → key_in (node_at t f.1) ≡ Some key → was_read r.read f.1 ≡ false → left ≡ 0 → new ≡ with_report r (reported f.0 TooDeep) → HasEnded t left r f new
-  too_deep new key some unread none e = record { report = reported f.0 TooDeep; alone = λ held. alone (reported f.0 TooDeep) held (rw (some, unread, none) refl); reported = e }
+  pub too_deep : (new : Progress) (key : List ℕ) → there ≡ Some key → was_read r.read f.1 ≡ false → left ≡ 0 → new ≡ with_report r (reported f.0 TooDeep) → HasEnded left r f there new
+  too_deep new key some unread none e = record { report = reported f.0 TooDeep; alone = λ t held. alone (reported f.0 TooDeep) t held (rw (some, unread, none) refl); reported = e }
 
-  pub begins : (key : List ℕ) → key_in (node_at t f.1) ≡ Some key → was_read r.read f.1 ≡ false → 0 < left → IsToBeginAs t left r f r key
-  begins key some unread deep = record { same = refl; deep = deep; there = some; unread = unread }
+  pub begins : (key : List ℕ) → there ≡ Some key → was_read r.read f.1 ≡ false → 0 < left → IsToBeginAs left r f there r key
+  begins key some unread deep = record { same = refl; deep = deep; is_file = some; unread = unread }
 
 -- ---- a file that is opened
 
@@ -90,29 +91,29 @@ module _ (t : Nodes) (r : Progress) (f : Found) (key : List ℕ) where
   loads_large None new steps e k h = h
   loads_large (Some held) new steps e k h = rw (e, k) (load_large held h)
 
-module _ (t : Nodes) (left : ℕ) (r : Progress) (f : Found) (new : Progress) (key : List ℕ) (b : IsToBeginAs t left r f new key) (held : Contents) where
+module _ (t : Nodes) (left : ℕ) (r : Progress) (f : Found) (there : Option (List ℕ)) (new : Progress) (key : List ℕ) (b : IsToBeginAs left r f there new key) (held : Contents) where
   -- the items of the file
-  pub by_file : included t held left r.read f ≡ with_steps (included t held (left - 1)) t r.read (begun f key (held key))
+  pub by_file : included t held left r.read (file_with f there) ≡ with_steps (included t held (left - 1)) t r.read (begun f key (held key))
   by_file = at left b.deep where
-    at : (n : ℕ) → 0 < n → included t held n r.read f ≡ with_steps (included t held (n - 1)) t r.read (begun f key (held key))
+    at : (n : ℕ) → 0 < n → included t held n r.read (file_with f there) ≡ with_steps (included t held (n - 1)) t r.read (begun f key (held key))
     at zero deep = absurd (omega arith)
     at (suc n) deep =
         let e : suc n - 1 ≡ n = omega arith in
-        rw (b.there, b.unread) (ap (λ m. with_steps (included t held m) t r.read (begun f key (held key))) (sym e))
+        rw (b.is_file, b.unread) (ap (λ m. with_steps (included t held m) t r.read (begun f key (held key))) (sym e))
 
   -- the file was loaded, and its steps are left
   pub by_steps : (item : Item) (now : Progress) (steps : List Step) → item ≡ begun f key (held key) → HasLoaded t item new now steps →
-      included t held left r.read f ≡ (item ∷ []) ++ asked (included t held (left - 1)) now.read steps
+      included t held left r.read (file_with f there) ≡ (item ∷ []) ++ asked (included t held (left - 1)) now.read steps
   by_steps item now steps e loaded =
       by_file ∙ rw (← e, loaded.left, loaded.reader, b.same) (ap (λ places. item ∷ asked (included t held (left - 1)) (r.read ++ places) (steps_in t item)) places) where
         places : place_in item ≡ flat_map place_in (item ∷ [])
         places = sym (append-nil (place_in item))
 
-module _ (t : Nodes) (left : ℕ) (r : Progress) (f : Found) (new : Progress) (key : List ℕ) (b : IsToBeginAs t left r f new key) (now : Progress) (steps : List Step) where
+module _ (t : Nodes) (left : ℕ) (r : Progress) (f : Found) (there : Option (List ℕ)) (new : Progress) (key : List ℕ) (b : IsToBeginAs left r f there new key) (now : Progress) (steps : List Step) where
   pub steps_left : (known : Option Contents) → IfKnown known (λ held. HasLoaded t (begun f key (held key)) new now steps) →
-      IfKnown known (λ held. included t held left r.read f ≡ begun f key (held key) ∷ asked (included t held (left - 1)) now.read steps)
+      IfKnown known (λ held. included t held left r.read (file_with f there) ≡ begun f key (held key) ∷ asked (included t held (left - 1)) now.read steps)
   steps_left None loaded = tt
-  steps_left (Some held) loaded = by_steps t left r f new key b held (begun f key (held key)) now steps refl loaded
+  steps_left (Some held) loaded = by_steps t left r f there new key b held (begun f key (held key)) now steps refl loaded
 
   pub file_taken : (known : Option Contents) → IfKnown known (λ held. HasLoaded t (begun f key (held key)) new now steps) → IfKnown known (λ held. HasTaken (begun f key (held key) ∷ []) r now)
   file_taken None loaded = tt

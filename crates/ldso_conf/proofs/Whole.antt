@@ -7,7 +7,8 @@ use Rattle.tree_face.specs.Known.{IfKnown}
 use Rattle.tree_face.specs.Store.{Contents, StoreState}
 use Rattle.tree_face.specs.StoreUse.{Ending, Complete, GaveUp, ReadsFiles}
 use Rattle.image_tree.specs.Tree.{Nodes}
-use Rattle.conf_patterns.specs.Patterns.{found_at, place_at}
+use Rattle.conf_views.specs.Files.{file_at}
+use Rattle.conf_views.specs.declared.view.FoundFile.{FoundFile}
 use Rattle.ldso_conf.specs.Reading.{ConfFile, Item, all_from, conf_bytes, conf_items, conf_keys, conf_lacks, dir_in, included, key_begun, origin_in, reading, report_in, IsConfOf, ReadsConf}
 use Rattle.ldso_conf.specs.Visits.{Progress, HasTaken, IsConfFrom, ReadsItems, nothing_read}
 use Rattle.ldso_conf.specs.declared.kinds.Conf.{Conf}
@@ -18,7 +19,7 @@ use Rattle.ldso_conf.proofs.Uses.{reads_all, reads_none, reads_nothing}
 
 module _ (path : List ℕ) (t : Nodes) where
   abbrev all_items : Contents → List Item
-  all_items held = all_from t held (found_at t path)
+  all_items held = all_from t held (file_at t path)
 
   -- if all items were processed, the result is that of the conf files
   as_conf : (held : Contents) (conf : Conf) (reader : Progress) → HasTaken (all_items held) nothing_read reader → IsConfFrom conf reader → IsConfOf (ConfFile path) conf held t
@@ -42,15 +43,15 @@ module _ (path : List ℕ) (t : Nodes) where
 
   -- ---- the path of the conf file doesn't resolve
 
-  no_items : place_at t path ≡ None → (held : Contents) → all_items held ≡ []
+  no_items : file_at t path ≡ None → (held : Contents) → all_items held ≡ []
   no_items e held = rw e refl
 
-  pub no_conf : (known : Option Contents) (conf : Conf) (reader : Progress) → place_at t path ≡ None → reader ≡ nothing_read → IsConfFrom conf reader →
+  pub no_conf : (known : Option Contents) (conf : Conf) (reader : Progress) → file_at t path ≡ None → reader ≡ nothing_read → IsConfFrom conf reader →
       IfKnown known (λ held. IsConfOf (ConfFile path) conf held t)
   no_conf None conf reader e start is = tt
   no_conf (Some held) conf reader e start is = as_conf held conf reader (rw (no_items e held) record { held = refl; reader = start }) is
 
-  pub no_reads : (s : StoreState) → place_at t path ≡ None → ReadsConf (ConfFile path) t Complete s s
+  pub no_reads : (s : StoreState) → file_at t path ≡ None → ReadsConf (ConfFile path) t Complete s s
   no_reads s e = as_reads Complete s s s.held (at s.held) where
     at : (known : Option Contents) → ReadsItems all_items known Complete s s
     at None = unread s
@@ -61,20 +62,23 @@ module _ (path : List ℕ) (t : Nodes) where
 
   -- ---- the path of the conf file resolves
 
-  module _ (start : Progress) (spelled real : List ℕ) (place : place_at t path ≡ Some real) (none : start ≡ nothing_read) (same : spelled ≡ path) where
+  module _ (start : Progress) (file : FoundFile) (there : file_at t path ≡ Some file) (none : start ≡ nothing_read) where
     abbrev visited : Contents → List Item
-    visited held = included t held (DEPTH_MAX + 1) start.read (spelled, real)
+    visited held = included t held (DEPTH_MAX + 1) start.read file
 
     from_start : (held : Contents) → visited held ≡ all_items held
-    from_start held = rw (none, same, place) refl
+    from_start held = rw (none, there) refl
 
     pub a_conf : (known : Option Contents) (conf : Conf) (reader : Progress) → IfKnown known (λ held. HasTaken (visited held) start reader) → IsConfFrom conf reader →
         IfKnown known (λ held. IsConfOf (ConfFile path) conf held t)
     a_conf None conf reader taken is = tt
     a_conf (Some held) conf reader taken is = as_conf held conf reader (subst (λ s. HasTaken (all_items held) s reader) none (subst (λ items. HasTaken items start reader) (from_start held) taken)) is
 
-    pub a_reads : (e : Ending) (old new : StoreState) → ReadsItems visited old.held e old new → ReadsConf (ConfFile path) t e old new
-    a_reads e old new reads = as_reads e old new old.held (at old.held reads) where
-      at : (known : Option Contents) → ReadsItems visited known e old new → ReadsItems all_items known e old new
-      at None reads = reads
-      at (Some held) reads = rw (← from_start held) reads
+    pub a_reads : (u : Nodes) → u ≡ t → (e : Ending) (old new : StoreState)
+        → ReadsItems (λ held. included u held (DEPTH_MAX + 1) start.read file) old.held e old new → ReadsConf (ConfFile path) t e old new
+    a_reads u is e old new reads =
+        as_reads e old new old.held (at old.held (subst (λ x. ReadsItems (λ held. included x held (DEPTH_MAX + 1) start.read file) old.held e old new) is reads))
+      where
+        at : (known : Option Contents) → ReadsItems visited known e old new → ReadsItems all_items known e old new
+        at None reads = reads
+        at (Some held) reads = rw (← from_start held) reads

@@ -3,13 +3,13 @@
 use Rattle.std.specs.Prelude.{◌≡◌, ℕ, zero, suc, ◌+◌, Bool, true, false, List, [], ◌∷◌, ◌++◌, if◌then◌else◌, nat_le, flat_map, map, sum_by, length, codes, Option, Some, None, IsSomeAnd, option_map}
 use Rattle.std.specs.List.{list_any}
 use Rattle.std.specs.Str.{bytes_eq}
-use Rattle.image_tree.specs.declared.node.Node.{Node}
-use Rattle.image_tree.specs.declared.node.Node.TheVariants as node
 use Rattle.image_tree.specs.declared.path.TheConstants.{PATH_MAX}
 use Rattle.tree_face.specs.Store.{Contents, StoreState}
 use Rattle.tree_face.specs.StoreUse.{Ending, ReadsFiles}
-use Rattle.image_tree.specs.Tree.{Nodes, node_at}
-use Rattle.conf_patterns.specs.Patterns.{Found, found_at}
+use Rattle.image_tree.specs.Tree.{Nodes}
+use Rattle.conf_patterns.specs.Patterns.{Found}
+use Rattle.conf_views.specs.Files.{file_at}
+use Rattle.conf_views.specs.declared.view.FoundFile.{FoundFile}
 use Rattle.ldso_conf.specs.Steps.{steps_of}
 use Rattle.ldso_conf.specs.declared.kinds.Conf.{Conf}
 use Rattle.ldso_conf.specs.declared.kinds.ConfKind.{ConfKind}
@@ -101,13 +101,6 @@ command_line = record { file = codes "<cmdline>"; line = 0 }
 abbrev pub given : List ℕ → Item
 given dir = named dir command_line
 
--- the key of the file that a path resolves to; None if the path resolves to a directory
-abbrev pub key_in : Option Node → Option (List ℕ)
-key_in (Some (node.File key id)) = Some key
-key_in (Some node.Dir) = None
-key_in (Some (node.Link target)) = None
-key_in None = None
-
 -- a file that is opened, given the content that the store has for its key
 abbrev pub begun : Found → List ℕ → Option (List ℕ) → Item
 begun f key None = Misses f key
@@ -127,8 +120,8 @@ included_by held left before f None = Reports (reported f.0 NotFile)
 included_by held left before f (Some key) =
     if was_read before f.1 then Reports (reported f.0 Repeated) else unless_deep left f (begun f key (held key))
 
-abbrev pub included_at : Nodes → Contents → ℕ → List (List ℕ) → Found → Item
-included_at t held left before f = included_by held left before f (key_in (node_at t f.1))
+abbrev pub included_at : Contents → ℕ → List (List ℕ) → FoundFile → Item
+included_at held left before f = included_by held left before (f.spelled, f.real) f.key
 
 -- ---- the preorder
 
@@ -141,30 +134,30 @@ steps_in t (Passes f key) = []
 steps_in t (Misses f key) = []
 
 -- the items of one step; `file` gives the items of an included file
-abbrev pub asked_by : (List (List ℕ) → Found → List Item) → List (List ℕ) → Step → List Item
+abbrev pub asked_by : (List (List ℕ) → FoundFile → List Item) → List (List ℕ) → Step → List Item
 asked_by file before (step.Directory dir origin) = named dir origin ∷ []
 asked_by file before (step.Report report) = Reports report ∷ []
-asked_by file before (step.Include f) = file before (f.spelled, f.real)
+asked_by file before (step.Include f) = file before f
 
 -- the items of the steps in order; the files that one step reads count as read before the next step
-abbrev pub asked : (List (List ℕ) → Found → List Item) → List (List ℕ) → List Step → List Item
+abbrev pub asked : (List (List ℕ) → FoundFile → List Item) → List (List ℕ) → List Step → List Item
 asked file before [] = []
 asked file before (step ∷ steps) = asked_by file before step ++ asked file (before ++ flat_map place_in (asked_by file before step)) steps
 
-abbrev pub with_steps : (List (List ℕ) → Found → List Item) → Nodes → List (List ℕ) → Item → List Item
+abbrev pub with_steps : (List (List ℕ) → FoundFile → List Item) → Nodes → List (List ℕ) → Item → List Item
 with_steps file t before item = item ∷ asked file (before ++ place_in item) (steps_in t item)
 
 -- an included file, followed by the items of its lines
-abbrev pub included : Nodes → Contents → ℕ → List (List ℕ) → Found → List Item
-included t held zero before f = included_at t held zero before f ∷ []
-included t held (suc left) before f = with_steps (included t held left) t before (included_at t held (suc left) before f)
+abbrev pub included : Nodes → Contents → ℕ → List (List ℕ) → FoundFile → List Item
+included t held zero before f = included_at held zero before f ∷ []
+included t held (suc left) before f = with_steps (included t held left) t before (included_at held (suc left) before f)
 
 -- The path of the conf file, unless another is given.
 abbrev pub conf_path : List ℕ
 conf_path = codes "/etc/ld.so.conf"
 
 -- the first conf file has depth 0; if it doesn't exist, the list of items is empty
-abbrev pub all_from : Nodes → Contents → Option Found → List Item
+abbrev pub all_from : Nodes → Contents → Option FoundFile → List Item
 all_from t held None = []
 all_from t held (Some f) = included t held (DEPTH_MAX + 1) [] f
 
@@ -185,7 +178,7 @@ pub data Source : Type 0 where
 -- The items of the conf files, in preorder, starting with the file at a path. The reading stops at the first file that is missing. If
 -- directories are given instead, each is one item, and no file is read.
 unfoldable pub conf_items : Source → Contents → Nodes → List Item
-conf_items (ConfFile path) held t = until_missing (all_from t held (found_at t path))
+conf_items (ConfFile path) held t = until_missing (all_from t held (file_at t path))
 conf_items (Given dirs) held t = map given dirs
 
 -- the result of reading the conf files

@@ -5,7 +5,8 @@ use Rattle.image_tree.specs.Paths.{root}
 use Rattle.image_tree.specs.Tree.{Nodes}
 use Rattle.lib_types.specs.Sets.{is_in, slashes, without_end}
 use Rattle.ldso_conf.specs.Lines.{lines_of, text_of, words_of, arguments_of, include, hwcap, equals, before_equals}
-use Rattle.conf_patterns.specs.Patterns.{Found, results}
+use Rattle.conf_views.specs.Files.{files}
+use Rattle.conf_views.specs.declared.view.FoundFile.{FoundFile}
 use Rattle.path_walk.specs.Names.{is_absolute}
 use Rattle.ldso_conf.specs.declared.kinds.ConfKind.{ConfKind}
 use Rattle.ldso_conf.specs.declared.kinds.ConfKind.TheVariants.{Relative, Equals, Hwcap}
@@ -41,11 +42,11 @@ directory_steps origin text =
 
 -- ---- the lines
 
-abbrev pub included : Found → Step
-included f = Include (record { spelled = f.0; real = f.1 })
+abbrev pub included : FoundFile → Step
+included f = Include f
 
 abbrev pub include_steps : Nodes → List ℕ → List ℕ → List Step
-include_steps t file patterns = flat_map (λ pattern. map included (results t file pattern)) (words_of patterns)
+include_steps t file patterns = flat_map (λ pattern. map included (files t file pattern)) (words_of patterns)
 
 -- the steps of a line, given the arguments of `include` and those of `hwcap`, if it has them
 abbrev pub steps_by : Nodes → Origin → List ℕ → Option (List ℕ) → Option (List ℕ) → List Step

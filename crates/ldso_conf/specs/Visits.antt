@@ -4,10 +4,11 @@ use Rattle.std.specs.List.{list_any}
 use Rattle.std.specs.declared.alloc.Global.{Global}
 use Rattle.tree_face.specs.Store.{Contents, Lacks, StoreState}
 use Rattle.tree_face.specs.StoreUse.{Ending, Complete, ReadsFiles}
-use Rattle.image_tree.specs.Tree.{Nodes, node_at}
+use Rattle.image_tree.specs.Tree.{Nodes}
 use Rattle.image_tree.specs.declared.path.TheConstants.{PATH_MAX}
 use Rattle.conf_patterns.specs.Patterns.{Found}
-use Rattle.ldso_conf.specs.Reading.{Item, bytes_taken, dir_in, included, is_missing, key_begun, key_in, origin_in, place_in, report_in, reported, steps_in, until_missing, was_read}
+use Rattle.conf_views.specs.Files.{file_with}
+use Rattle.ldso_conf.specs.Reading.{Item, bytes_taken, dir_in, included, is_missing, key_begun, origin_in, place_in, report_in, reported, steps_in, until_missing, was_read}
 use Rattle.ldso_conf.specs.declared.kinds.Conf.{Conf}
 use Rattle.ldso_conf.specs.declared.kinds.ConfKind.TheVariants.{LongPath}
 use Rattle.ldso_conf.specs.declared.kinds.ConfReport.{ConfReport}
@@ -71,21 +72,28 @@ size_read (Some content) = if nat_le (length content) CONF_MAX then length conte
 abbrev pub ReadsFile : List ℕ → Option Contents → Ending → StoreState → StoreState → Type 0
 ReadsFile key known ending old new = ReadsFiles (Lacks known key) (Some (key ∷ [])) (option_map (λ held. size_read (held key)) known) ending old new
 
+-- the files that are read aren't known
+abbrev pub LacksAny : Option Contents → Type 0
+LacksAny known = IsSomeAnd known (λ held. (key : List ℕ) × (held key ≡ None))
+
+abbrev pub ReadsAny : Option Contents → Ending → StoreState → StoreState → Type 0
+ReadsAny known ending old new = ReadsFiles (LacksAny known) None None ending old new
+
 -- a file that is to be opened, or a file that is reported instead
-pub record IsToBeginAs (t : Nodes) (left : ℕ) (r : Progress) (f : Found) (new : Progress) (key : List ℕ) : Type 0 where
+pub record IsToBeginAs (left : ℕ) (r : Progress) (f : Found) (there : Option (List ℕ)) (new : Progress) (key : List ℕ) : Type 0 where
   pub same : new ≡ r
   pub deep : 0 < left
-  pub there : key_in (node_at t f.1) ≡ Some key
+  pub is_file : there ≡ Some key
   pub unread : was_read r.read f.1 ≡ false
 
-pub record HasEnded (t : Nodes) (left : ℕ) (r : Progress) (f : Found) (new : Progress) : Type 0 where
+pub record HasEnded (left : ℕ) (r : Progress) (f : Found) (there : Option (List ℕ)) (new : Progress) : Type 0 where
   pub report : ConfReport
-  pub alone : (held : Contents) → included t held left r.read f ≡ Item.Reports report ∷ []
+  pub alone : (t : Nodes) (held : Contents) → included t held left r.read (file_with f there) ≡ Item.Reports report ∷ []
   pub reported : new ≡ with_report r report
 
-abbrev pub IsToBegin : Nodes → ℕ → Progress → Found → Progress → Option (List ℕ) → Type 0
-IsToBegin t left r f new None = HasEnded t left r f new
-IsToBegin t left r f new (Some key) = IsToBeginAs t left r f new key
+abbrev pub IsToBegin : ℕ → Progress → Found → Option (List ℕ) → Progress → Option (List ℕ) → Type 0
+IsToBegin left r f there new None = HasEnded left r f there new
+IsToBegin left r f there new (Some key) = IsToBeginAs left r f there new key
 
 -- a file was loaded, and these are its steps
 pub record HasLoaded (t : Nodes) (item : Item) (r new : Progress) (steps : List Step) : Type 0 where

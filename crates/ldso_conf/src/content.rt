@@ -1,11 +1,12 @@
 //! The content of a conf file.
-ghost use Rattle.std.specs.Prelude.{◌≡◌, IfOk};
+ghost use Rattle.std.specs.Prelude.{◌≡◌, IfOk, IsErrOf};
 ghost use Rattle.lib_types.specs.Counts.{raised};
 ghost use Rattle.tree_face.specs.Known.{IfKnown};
-ghost use Rattle.ldso_conf.specs.Endings.{ending_of};
+ghost use Rattle.ldso_conf.specs.Endings.{read_ending};
 ghost use Rattle.ldso_conf.specs.Visits.{HasContent, ReadsFile};
+ghost use Rattle.ldso_conf.specs.declared.fault.ReadFault.TheVariants as faults;
 
-use crate::fault::ConfFault;
+use crate::fault::ReadFault;
 use crate::reading::CONF_MAX;
 use std::alloc::Global;
 use tree_face::Store;
@@ -16,10 +17,11 @@ pub(crate) fn content_of<S: Store>(
     alloc: Global,
     store: &mut S,
     key: &[u8],
-) -> Result<Option<Vec<u8>>, ConfFault>
+) -> Result<Option<Vec<u8>>, ReadFault>
     ensures content { IfOk result (λ content. IfKnown (S.state store.old).held (λ held. HasContent (held key.now) content)) }
     ensures begun { IfOk result (λ _. (S.state store.new).begun ≡ raised (S.state store.old).begun 1) }
-    ensures reads { ReadsFile key.now (S.state store.old).held (ending_of result) (S.state store.old) (S.state store.new) }
+    ensures answered { IsErrOf result faults.Unseen → ⊥ }
+    ensures reads { ReadsFile key.now (S.state store.old).held (read_ending result) (S.state store.old) (S.state store.new) }
 {
     let size = store.begin(key)?;
     if size > CONF_MAX {

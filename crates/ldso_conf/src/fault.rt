@@ -1,7 +1,9 @@
 //! Why the conf file isn't read.
 ghost use Rattle.std.specs.Prelude.{◌≡◌};
-ghost use Rattle.ldso_conf.specs.declared.fault.ConfFault.TheVariants as faults;
+ghost use Rattle.ldso_conf.specs.Endings.{fault_of};
+ghost use Rattle.ldso_conf.specs.declared.fault.ReadFault.TheVariants as faults;
 
+use conf_views::ViewFault;
 use lib_types::{Failed, NoMemory};
 use std::alloc::{AllocError, AllocFailed};
 
@@ -13,26 +15,47 @@ pub enum ConfFault {
     NoMemory,
 }
 
-impl From<Failed> for ConfFault {
+/// Why the conf file isn't read in a view of a tree.
+#[derive(Clone, Copy, Debug, PartialEq, Eq)]
+pub enum ReadFault {
+    /// The content of a conf file can't be read.
+    StoreFault,
+    /// A path can't be looked up, or a directory can't be listed. The view knows why.
+    Unseen,
+    NoMemory,
+}
+
+impl From<Failed> for ReadFault {
     ghost from_gives = { λ _ e. e ≡ faults.StoreFault };
 
     fn from(_: Failed) -> Self {
-        ConfFault::StoreFault
+        ReadFault::StoreFault
     }
 }
 
-impl From<NoMemory> for ConfFault {
+impl From<NoMemory> for ReadFault {
     ghost from_gives = { λ _ e. e ≡ faults.NoMemory };
 
     fn from(_: NoMemory) -> Self {
-        ConfFault::NoMemory
+        ReadFault::NoMemory
     }
 }
 
-impl From<AllocError> for ConfFault {
+impl From<AllocError> for ReadFault {
     ghost from_gives = { λ _ e. e ≡ faults.NoMemory };
 
     fn from(_: AllocError) -> Self {
-        ConfFault::NoMemory
+        ReadFault::NoMemory
+    }
+}
+
+impl From<ViewFault> for ReadFault {
+    ghost from_gives = { λ fault e. e ≡ fault_of fault };
+
+    fn from(fault: ViewFault) -> Self {
+        match fault {
+            ViewFault::Unseen => ReadFault::Unseen,
+            ViewFault::NoMemory => ReadFault::NoMemory,
+        }
     }
 }

@@ -4,6 +4,7 @@
 mod content;
 mod fault;
 mod given;
+mod in_tree;
 mod kinds;
 mod lines;
 mod reader;
@@ -11,7 +12,8 @@ mod reading;
 mod steps;
 
 pub use conf_patterns::glob_match;
-pub use fault::ConfFault;
+pub use fault::{ConfFault, ReadFault};
 pub use given::given_dirs;
+pub use in_tree::read_conf;
 pub use kinds::{Conf, ConfKind, ConfReport, ConfReports, Origin, Origins};
-pub use reading::{CONF_MAX, CONF_PATH, DEPTH_MAX, read_conf};
+pub use reading::{CONF_MAX, CONF_PATH, DEPTH_MAX, read_conf_in};

@@ -1,29 +1,24 @@
 //! What the lines of a conf file ask for.
-ghost use Rattle.std.specs.Prelude.{◌≡◌, ◌∷◌, ◌++◌, [], map, IfOk, OnOk};
-ghost use Rattle.ldso_conf.specs.Steps.{directory_steps, include_steps, included, named, origin_at, reported, steps_of, text_steps, without_slashes};
+ghost use Rattle.std.specs.Prelude.{◌≡◌, ◌∷◌, ◌++◌, [], false, map, IfOk, IsErrOf, OnOk};
+ghost use Rattle.conf_views.specs.View.{IsSameView};
+ghost use Rattle.conf_views.specs.declared.fault.ViewFault.TheVariants as faults;
+ghost use Rattle.ldso_conf.specs.Steps.{directory_steps, include_steps, named, origin_at, reported, steps_of, text_steps, without_slashes};
+ghost use Rattle.ldso_conf.specs.declared.steps.Step.TheVariants as step;
 
 use crate::kinds::{ConfKind, ConfReport, Origin};
 use crate::lines::{arguments_of, before_equals, text_of};
-use conf_patterns::patterns::{Results, results};
+use conf_views::{FoundFile, TreeView, ViewFault};
 use lib_types::trim::{has_one, without_end};
 use lib_types::{NoMemory, Separator, Text, split};
 use path_walk::is_absolute;
 use std::alloc::Global;
-use tree_face::Tree;
-
-/// A conf file: its path as written, and the path that it resolves to.
-#[derive(Drop)]
-pub(crate) struct ConfFile {
-    pub(crate) spelled: Text,
-    pub(crate) real: Text,
-}
 
 /// What one line, or one result of a pattern, asks for.
 #[derive(Drop)]
 pub(crate) enum Step {
     Directory(Text, Origin),
     Report(ConfReport),
-    Include(ConfFile),
+    Include(FoundFile),
 }
 
 fn add_report(
@@ -94,69 +89,80 @@ fn add_directory(
 }
 
 // Adds the results of one pattern.
-fn add_results(found: Results, steps: &mut Vec<Step>) -> Result<(), NoMemory>
-    ensures { OnOk result (steps.new.items ≡ steps.old.items ++ map included found.entries) }
+fn add_results(found: Vec<FoundFile>, steps: &mut Vec<Step>) -> Result<(), NoMemory>
+    ensures { OnOk result (steps.new.items ≡ steps.old.items ++ map step.Include found.items) }
 {
-    for (spelled, real) in found {
-        steps.push(Step::Include(ConfFile { spelled, real }))?;
+    for file in found {
+        steps.push(Step::Include(file))?;
     }
     Ok(())
 }
 
 // Adds the results of the patterns between the blanks.
-fn add_included(
+fn add_included<V: TreeView>(
     alloc: Global,
-    tree: &Tree,
+    view: &mut V,
     file: &[u8],
     patterns: &[u8],
     steps: &mut Vec<Step>,
-) -> Result<(), NoMemory>
-    ensures { OnOk result (steps.new.items ≡ steps.old.items ++ include_steps tree.now file.now patterns.now) }
+) -> Result<(), ViewFault>
+    ensures steps { OnOk result (V.knows view.old → steps.new.items ≡ steps.old.items ++ include_steps (V.state view.old).tree file.now patterns.now) }
+    ensures knows { OnOk result (V.knows view.old → V.knows view.new) }
+    ensures view { IsSameView (V.state view.old) (V.state view.new) }
+    ensures unseen { IsErrOf result faults.Unseen → (V.state view.old).whole ≡ false }
 {
     for pattern in split(Separator::In(b" \t"), patterns) {
         if !pattern.is_empty() {
-            add_results(results(alloc, tree, file, pattern)?, steps)?;
+            add_results(view.files(alloc, file, pattern)?, steps)?;
         }
     }
     Ok(())
 }
 
 // Adds the steps of one line without its comment.
-fn add_text(
+fn add_text<V: TreeView>(
     alloc: Global,
-    tree: &Tree,
+    view: &mut V,
     file: &[u8],
     line: u32,
     text: &[u8],
     steps: &mut Vec<Step>,
-) -> Result<(), NoMemory>
-    ensures { OnOk result (steps.new.items ≡ steps.old.items ++ text_steps tree.now (origin_at file.now line) text.now) }
+) -> Result<(), ViewFault>
+    ensures steps { OnOk result (V.knows view.old → steps.new.items ≡ steps.old.items ++ text_steps (V.state view.old).tree (origin_at file.now line) text.now) }
+    ensures knows { OnOk result (V.knows view.old → V.knows view.new) }
+    ensures view { IsSameView (V.state view.old) (V.state view.new) }
+    ensures unseen { IsErrOf result faults.Unseen → (V.state view.old).whole ≡ false }
 {
     if let Some(patterns) = arguments_of(b"include", text) {
-        return add_included(alloc, tree, file, patterns, steps);
+        return add_included(alloc, view, file, patterns, steps);
     }
     if arguments_of(b"hwcap", text).is_some() {
-        return add_report(alloc, file, ConfKind::Hwcap, steps);
+        add_report(alloc, file, ConfKind::Hwcap, steps)?;
+        return Ok(());
     }
-    add_directory(alloc, file, line, text, steps)
+    add_directory(alloc, file, line, text, steps)?;
+    Ok(())
 }
 
 /// The steps of a file of this path and content.
 #[tactic(auto, unfolding(crate::specs::Steps::steps_of))]
-pub(crate) fn steps_of(
+pub(crate) fn steps_of<V: TreeView>(
     alloc: Global,
-    tree: &Tree,
+    view: &mut V,
     file: &[u8],
     content: &[u8],
-) -> Result<Vec<Step>, NoMemory>
-    ensures { IfOk result (λ steps. steps.items ≡ steps_of tree.now file.now content.now) }
+) -> Result<Vec<Step>, ViewFault>
+    ensures steps { IfOk result (λ steps. V.knows view.old → steps.items ≡ steps_of (V.state view.old).tree file.now content.now) }
+    ensures knows { OnOk result (V.knows view.old → V.knows view.new) }
+    ensures view { IsSameView (V.state view.old) (V.state view.new) }
+    ensures unseen { IsErrOf result faults.Unseen → (V.state view.old).whole ≡ false }
 {
     let mut steps = Vec::new(alloc);
     let mut number = 1u32;
     for line in split(Separator::In(b"\n"), content) {
-        add_text(alloc, tree, file, number, text_of(line), &mut steps)?;
+        add_text(alloc, view, file, number, text_of(line), &mut steps)?;
         let Some(next) = number.checked_add(1) else {
-            return Err(NoMemory);
+            return Err(ViewFault::NoMemory);
         };
         number = next;
     }

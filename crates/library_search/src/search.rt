@@ -25,7 +25,7 @@ use aux_cache::Stamps;
 use file_stamps::{Files, read_files};
 use hwcap_dirs::{Dirs, Scope, order};
 use ldso_conf::{CONF_PATH, Conf, ConfFault, given_dirs, read_conf};
-use lib_types::Text;
+use lib_types::{NoMemory, Text};
 use library_files::wanted_files;
 use std::alloc::Global;
 use tree_face::{Store, Tree};
@@ -65,7 +65,10 @@ fn read_source<S: Store>(
     match scope {
         Scope::Image => read_conf(alloc, CONF_PATH, tree, store),
         Scope::Root { conf } => read_conf(alloc, conf_or(conf), tree, store),
-        Scope::Only { dirs } => Ok(given_dirs(alloc, dirs)?),
+        Scope::Only { dirs } => match given_dirs(alloc, dirs) {
+            Ok(conf) => Ok(conf),
+            Err(NoMemory) => Err(ConfFault::NoMemory),
+        },
     }
 }
 

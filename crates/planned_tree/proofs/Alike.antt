@@ -3,7 +3,7 @@ use Rattle.std.proofs.Common.{◌≡◌, ◌⊎◌, inl, inr, ℕ, true, false, 
 use Rattle.name_order.specs.LibraryName.{is_library_name}
 use Rattle.std.specs.Option.{option_map}
 use Rattle.hwcap_dirs.specs.Places.{is_dir}
-use Rattle.ldso_conf.specs.Reading.{key_in}
+use Rattle.conf_views.specs.Files.{key_in}
 use Rattle.image_tree.specs.Tree.{Nodes, kind_at, node_at}
 use Rattle.image_tree.specs.declared.node.Node.{Node}
 use Rattle.image_tree.specs.declared.node.Node.TheVariants as node

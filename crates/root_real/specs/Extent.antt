@@ -1,9 +1,9 @@
 -- How much of a directory belongs to its tree.
 use Rattle.std.specs.Prelude.{ℕ, Bool, true, false, List, ◌&&◌, ◌==◌, ◌||◌, not, nat_eq, if◌then◌else◌, codes, drop, length}
-use Rattle.std.specs.List.{list_any, slice_split, starts_with}
+use Rattle.std.specs.List.{list_any, starts_with}
 use Rattle.std.specs.Str.{bytes_eq}
 use Rattle.lib_types.specs.Bytes.{is_byte}
-use Rattle.device_rules.specs.Paths.{leads_up}
+use Rattle.device_rules.specs.Paths.{has_up}
 use Rattle.name_order.specs.LibraryName.{is_library_name}
 use Rattle.root_real.specs.declared.extent.Extent.{Extent}
 use Rattle.root_real.specs.declared.extent.Extent.TheVariants as extents
@@ -39,7 +39,7 @@ names_in extents.Libraries dir = library_names_in dir
 
 -- a link's target is absolute or has a component `..`
 abbrev pub leads_out : List ℕ → Bool
-leads_out target = starts_with nat_eq target (codes "/") || list_any leads_up (slice_split (is_byte 47) target)
+leads_out target = starts_with nat_eq target (codes "/") || has_up target
 
 -- the target of a link in the tree: a link that may lead out of a directory of libraries leads to a path at which the tree has nothing
 abbrev pub target_in : Extent → List ℕ → List ℕ

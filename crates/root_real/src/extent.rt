@@ -1,13 +1,10 @@
 //! How much of a directory belongs to its tree.
 ghost use Rattle.std.specs.Prelude.{◌≡◌};
-ghost use Rattle.std.specs.List.{list_any, slice_split};
 ghost use Rattle.std.specs.Str.{bytes_eq};
-ghost use Rattle.device_rules.specs.Paths.{leads_up};
-ghost use Rattle.lib_types.specs.Bytes.{is_byte};
 ghost use Rattle.root_real.specs.Extent.{caps, has_name, is_cap_dir, leads_out, names_in, target_in};
 
-use device_rules::{divided, leads_up};
-use lib_types::{Separator, has_byte, split};
+use device_rules::{divided, has_up};
+use lib_types::has_byte;
 use name_order::is_library_name;
 
 /// The names in a directory that belong to a tree.
@@ -90,17 +87,6 @@ fn is_cap_dir(dir: &[u8]) -> bool
 {
     let front = b"glibc-hwcaps/";
     dir.starts_with(front) && !has_byte(b'/', &dir[front.len()..])
-}
-
-fn has_up(target: &[u8]) -> bool
-    ensures { result ≡ list_any leads_up (slice_split (is_byte 47) target.now) }
-{
-    for part in split(Separator::Byte(b'/'), target) {
-        if leads_up(part) {
-            return true;
-        }
-    }
-    false
 }
 
 // Whether a link's target is absolute or has a component `..`.

@@ -1,11 +1,11 @@
 //! What is at a path.
-ghost use Rattle.std.specs.Prelude.{◌≡◌, ◌↔◌, ◌⊎◌, ◌+◌, ◌*◌, ◌^◌, ◌<◌, IfOk, IfSome, IsTrue, SomeIff};
+ghost use Rattle.std.specs.Prelude.{◌≡◌, ◌↔◌, ◌⊎◌, ◌+◌, ◌*◌, ◌^◌, ◌<◌, IfOk, IfSome, IsTrue, SomeIff, option_map};
 ghost use Rattle.image_tree.specs.Node.{is_node};
 
 use crate::extent::Extent;
 use crate::listing::copy_of;
 use crate::paths::below_root;
-use device_rules::{divided, is_missing, is_no_text, stamp_of};
+use device_rules::{Stamp, divided, is_missing, is_no_text, stamp_of};
 use image_folder::{HeldFile, ImageFolder, Missing};
 use std::alloc::Global;
 use std::fs::{self, Metadata};
@@ -63,7 +63,7 @@ fn file_of(alloc: Global, path: &str, found: &Metadata) -> io::Result<Option<Nod
     ensures { IfOk result (λ found. IfSome found (λ node. IsTrue (is_node node))) }
 {
     let key = copy_of(alloc, path)?;
-    let id = id_of(found);
+    let id = id_of(stamp_of(found));
     Ok(valid(Node::File { key, id }))
 }
 
@@ -92,8 +92,13 @@ fn valid(node: Node) -> Option<Node>
     if is_node(&node) { Some(node) } else { None }
 }
 
-fn id_of(found: &Metadata) -> Option<Id> {
-    let stamp = stamp_of(found);
+// The identity that a tree has for a file, if its time fits.
+fn id_of(stamp: Stamp) -> Option<Id>
+    ensures time { SomeIff (option_map (λ id. id.ctime) result) (stamp.changed * 10 ^ 9 + stamp.changed_nanos < 2 ^ 64) (stamp.changed * 10 ^ 9 + stamp.changed_nanos) }
+    ensures device { IfSome result (λ id. id.dev ≡ stamp.device) }
+    ensures inode { IfSome result (λ id. id.inode ≡ stamp.inode) }
+    ensures size { IfSome result (λ id. id.size ≡ stamp.size) }
+{
     let ctime = nanos_since_epoch(stamp.changed, stamp.changed_nanos)?;
     Some(Id {
         dev: stamp.device,

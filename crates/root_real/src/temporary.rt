@@ -18,11 +18,7 @@ pub(crate) fn make_temporary<R: Runtime>(
     target: &str,
 ) -> io::Result<String<R::A>> {
     for turn in 0..MOST_NAMES {
-        let run = RunId {
-            process: run.process,
-            random: run.random.wrapping_add(turn),
-        };
-        let name = temporary_path(&image.rt, FRONT, tag, run)?;
+        let name = temporary_path(&image.rt, FRONT, tag, run.turned(turn))?;
         let path = image.path_next_to(name.as_str())?;
         match symlink(&image.rt, target, path.as_str()) {
             Ok(()) => return Ok(path),

@@ -1,22 +1,23 @@
 -- If the paths that a reading of the conf files looks up were seen, the reading in the part is that in the tree.
 use Rattle.std.proofs.Common.{length, true, ◌≡◌, ℕ, zero, suc, ◌+◌, List, [], ◌∷◌, ◌++◌, refl, ap, sym, subst, ◌∙◌, Option, Some, None}
-use Rattle.std.specs.List.{AllByRecursion, flat_map, list_any}
+use Rattle.std.specs.List.{flat_map, list_any}
 use Rattle.std.specs.Prelude.{IsSomeAnd, option_map, sum_by}
-use Rattle.conf_patterns.specs.Patterns.{Found, found_at}
+use Rattle.conf_views.proofs.Files.{file_seen}
+use Rattle.conf_views.specs.Files.{file_at}
+use Rattle.conf_views.specs.declared.view.FoundFile.{FoundFile}
 use Rattle.image_tree.specs.Tree.{Nodes}
-use Rattle.ldso_conf.specs.Reading.{Item, Names, Reports, Reads, Passes, Misses, Source, ConfFile, Given, all_from, asked, asked_by, bytes_taken, conf_bytes, conf_items, conf_keys, conf_lacks, included, included_at, included_by, is_missing, key_begun, key_in, place_in, reading, reading_of, until_missing, with_steps, IsConfOf, Reading, ReadsConf}
+use Rattle.ldso_conf.specs.Reading.{Item, Names, Reports, Reads, Passes, Misses, Source, ConfFile, Given, all_from, asked, asked_by, bytes_taken, conf_bytes, conf_items, conf_keys, conf_lacks, included, included_at, is_missing, key_begun, place_in, reading, reading_of, until_missing, with_steps, IsConfOf, Reading, ReadsConf}
 use Rattle.ldso_conf.specs.Steps.{steps_of}
 use Rattle.ldso_conf.specs.declared.kinds.Conf.{Conf}
 use Rattle.ldso_conf.specs.declared.reading.TheConstants.{DEPTH_MAX}
 use Rattle.path_walk.specs.declared.walk.Mode.TheVariants.{Plain}
 use Rattle.root_folder.specs.Whole.{IsWhole}
-use Rattle.seen_conf.proofs.Items.{AreRead, AreSame, Files, GiveSame, IsSameStep, following, read_parts, until_both}
-use Rattle.seen_conf.proofs.Patterns.{found_place_seen, found_seen}
-use Rattle.seen_conf.proofs.Steps.{steps_same, steps_seen}
+use Rattle.seen_conf.proofs.Items.{AreRead, AreSame, Files, GiveSame, following, read_parts, step_same, until_both}
+use Rattle.seen_conf.proofs.Steps.{steps_seen}
 use Rattle.seen_conf.specs.Conf.{file_paths, items_looked, patterns_looked}
-use Rattle.seen_conf.specs.Patterns.{results_looked}
+use Rattle.conf_views.specs.Patterns.{results_looked}
 use Rattle.seen_tree.proofs.Same.{seen_parts}
-use Rattle.seen_tree.specs.Part.{AreSeen, IsPart, IsSeen, looked_by}
+use Rattle.seen_tree.specs.Part.{AreSeen, IsPart, looked_by}
 use Rattle.tree_face.specs.Known.{IfKnown}
 use Rattle.tree_face.specs.Store.{Contents, StoreState}
 use Rattle.tree_face.specs.StoreUse.{Ending, ReadsFiles}
@@ -25,19 +26,18 @@ module _ (t part : Nodes) (whole : IsWhole t) (is : IsPart t part) where
   -- ---- the items of one file
 
   module _ (file new : Files) (same : GiveSame t part file new) where
-    asked_seen : (before : List (List ℕ)) (steps : List _) → AllByRecursion (IsSameStep t part asked_by) steps
-        → AreRead t part (asked file before steps) → AreSame (asked file before steps) (asked new before steps)
-    asked_seen before [] each all = refl
-    asked_seen before (s ∷ steps) each all =
+    asked_seen : (before : List (List ℕ)) (steps : List _) → AreRead t part (asked file before steps) → AreSame (asked file before steps) (asked new before steps)
+    asked_seen before [] all = refl
+    asked_seen before (s ∷ steps) all =
         let xs = asked_by file before s in
         let next = before ++ flat_map place_in xs in
         let ys = asked file next steps in
         let other = asked_by new before s in
         let parts = read_parts t part xs ys all in
-        until_both xs other ys (asked new (before ++ flat_map place_in other) steps) (each.0 file new same before parts.0)
+        until_both xs other ys (asked new (before ++ flat_map place_in other) steps) (step_same t part file new same before s parts.0)
         (λ items held.
         ap (λ done. until_missing (asked new (before ++ flat_map place_in done) steps)) items
-        ∙ asked_seen next steps each.1 (subst (λ b. AreSeen t part (patterns_looked t (following b (until_missing ys)))) held parts.1))
+        ∙ asked_seen next steps (subst (λ b. AreSeen t part (patterns_looked t (following b (until_missing ys)))) held parts.1))
 
     with_seen : (before : List (List ℕ)) (item : Item) → AreRead t part (with_steps file t before item)
         → AreSame (with_steps file t before item) (with_steps new part before item)
@@ -51,22 +51,20 @@ module _ (t part : Nodes) (whole : IsWhole t) (is : IsPart t part) where
         let rest = until_missing (asked file next steps) in
         let parts = seen_parts t part (file_paths (results_looked t) f.0 content) (patterns_looked t rest) all in
         ap (λ lines. Reads f key content ∷ until_missing (asked new next lines)) (steps_seen t part whole is f.0 content parts.0)
-        ∙ ap (λ items. Reads f key content ∷ items) (asked_seen next steps (steps_same t part whole is f.0 content parts.0) parts.1)
+        ∙ ap (λ items. Reads f key content ∷ items) (asked_seen next steps parts.1)
 
   -- ---- the items of all files
 
   module _ (held : Contents) where
-    included_seen : (left : ℕ) (before : List (List ℕ)) (f : Found) → IsSeen t part f.1 → AreRead t part (included t held left before f)
+    included_seen : (left : ℕ) (before : List (List ℕ)) (f : FoundFile) → AreRead t part (included t held left before f)
         → AreSame (included t held left before f) (included part held left before f)
-    included_seen zero before f here all = ap (λ node. until_missing (included_by held zero before f (key_in node) ∷ [])) here
-    included_seen (suc left) before f here all =
-        ap (λ node. until_missing (with_steps (included part held left) part before (included_by held (suc left) before f (key_in node)))) here
-        ∙ with_seen (included t held left) (included part held left) (included_seen left) before (included_at t held (suc left) before f) all
+    included_seen zero before f all = refl
+    included_seen (suc left) before f all =
+        with_seen (included t held left) (included part held left) (included_seen left) before (included_at held (suc left) before f) all
 
-    all_seen : (o : Option Found) → ((f : Found) → o ≡ Some f → IsSeen t part f.1) → AreRead t part (all_from t held o)
-        → AreSame (all_from t held o) (all_from part held o)
-    all_seen None here all = refl
-    all_seen (Some f) here all = included_seen (DEPTH_MAX + 1) [] f (here f refl) all
+    all_seen : (o : Option FoundFile) → AreRead t part (all_from t held o) → AreSame (all_from t held o) (all_from part held o)
+    all_seen None all = refl
+    all_seen (Some f) all = included_seen (DEPTH_MAX + 1) [] f all
 
     -- the conf files have the same items
     pub items_seen : (source : Source) → AreSeen t part (items_looked source held t)
@@ -74,9 +72,8 @@ module _ (t part : Nodes) (whole : IsWhole t) (is : IsPart t part) where
     unfolding conf_items items_looked
     items_seen (Given dirs) all = refl
     items_seen (ConfFile path) all =
-        let parts = seen_parts t part (looked_by t path Plain) (patterns_looked t (until_missing (all_from t held (found_at t path)))) all in
-        ap (λ o. until_missing (all_from part held o)) (found_seen t part whole is path parts.0)
-        ∙ all_seen (found_at t path) (λ f. found_place_seen t part whole is path f parts.0) parts.1
+        let parts = seen_parts t part (looked_by t path Plain) (patterns_looked t (until_missing (all_from t held (file_at t path)))) all in
+        ap (λ o. until_missing (all_from part held o)) (file_seen t part whole is path parts.0) ∙ all_seen (file_at t path) parts.1
 
     -- ---- the reading
 

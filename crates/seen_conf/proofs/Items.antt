@@ -4,13 +4,14 @@ use Rattle.std.proofs.lemmas.Bool.{or_parts}
 use Rattle.std.proofs.lemmas.List.Concat.{flat_map-append}
 use Rattle.std.specs.List.{list_any}
 use Rattle.lib_types.proofs.SortedPairs.{by_test}
-use Rattle.conf_patterns.specs.Patterns.{Found}
+use Rattle.conf_views.specs.declared.view.FoundFile.{FoundFile}
 use Rattle.image_tree.specs.Tree.{Nodes}
-use Rattle.ldso_conf.specs.Reading.{Item, is_missing, until_missing}
+use Rattle.ldso_conf.specs.Reading.{Item, asked_by, is_missing, until_missing}
+use Rattle.ldso_conf.proofs.Asked.{step_items}
 use Rattle.seen_conf.specs.Conf.{item_paths, patterns_looked}
-use Rattle.seen_conf.specs.Patterns.{results_looked}
+use Rattle.conf_views.specs.Patterns.{results_looked}
 use Rattle.seen_tree.proofs.Same.{seen_parts}
-use Rattle.seen_tree.specs.Part.{AreSeen, IsSeen}
+use Rattle.seen_tree.specs.Part.{AreSeen}
 
 abbrev pub lacks : List Item → Bool
 lacks items = list_any is_missing items
@@ -57,7 +58,7 @@ until_both xs new ys more same rest =
 
 -- a way to read a file, given the files that were read before it
 abbrev pub Files : Type 0
-Files = List (List ℕ) → Found → List Item
+Files = List (List ℕ) → FoundFile → List Item
 
 abbrev pub AreSame : List Item → List Item → Type 0
 AreSame items new = until_missing new ≡ until_missing items
@@ -76,13 +77,11 @@ module _ (t part : Nodes) where
       ap (patterns_looked t) (until_parts xs ys) ∙ flat_map-append (item_paths (results_looked t)) first rest in
       seen_parts t part (patterns_looked t first) (patterns_looked t rest) (subst (AreSeen t part) parted all)
 
-  -- two ways to read a file give the same items, if the path of the file was seen
+  -- two ways to read a file give the same items
   abbrev pub GiveSame : Files → Files → Type 0
-  GiveSame file new =
-      (before : List (List ℕ)) (f : Found) → IsSeen t part f.1 → AreRead (file before f) → AreSame (file before f) (new before f)
+  GiveSame file new = (before : List (List ℕ)) (f : FoundFile) → AreRead (file before f) → AreSame (file before f) (new before f)
 
-  -- a step has the same items, if the files that it includes have
-  abbrev pub IsSameStep : {S : Type 0} → (Files → List (List ℕ) → S → List Item) → S → Type 0
-  IsSameStep items s =
-      (file new : Files) → GiveSame file new → (before : List (List ℕ)) → AreRead (items file before s)
-      → AreSame (items file before s) (items new before s)
+  -- each step has the same items, if the files that it includes have
+  pub step_same : (file new : Files) → GiveSame file new → (before : List (List ℕ)) (step : _) → AreRead (asked_by file before step)
+      → AreSame (asked_by file before step) (asked_by new before step)
+  step_same file new same before step = step_items (λ xs ys. AreRead xs → AreSame xs ys) file new before (λ item all. refl) (λ f. same before f) step

@@ -12,10 +12,10 @@ use Rattle.lib_types.proofs.SortedPairs.{by_test}
 use Rattle.path_walk.specs.declared.walk.Mode.TheVariants.{Plain}
 use Rattle.root_folder.specs.Whole.{IsWhole}
 use Rattle.seen_conf.proofs.Conf.{items_seen}
-use Rattle.seen_conf.proofs.Each.{flat_map_seen}
-use Rattle.seen_conf.proofs.Patterns.{next_seen, parts_seen, place_seen, texts_seen}
+use Rattle.conf_views.proofs.Each.{flat_map_seen}
+use Rattle.conf_views.proofs.Patterns.{next_seen, parts_seen, place_seen, texts_seen}
 use Rattle.seen_conf.specs.Conf.{file_paths, include_paths, item_paths, items_listed, items_looked, line_paths, patterns_listed, patterns_looked}
-use Rattle.seen_conf.specs.Patterns.{choices_listed, choices_looked, dirs_in, listed_in, places_looked, results_listed, results_looked, texts_listed, texts_looked}
+use Rattle.conf_views.specs.Patterns.{choices_listed, choices_looked, dirs_in, listed_in, places_looked, results_listed, results_looked, texts_listed, texts_looked}
 use Rattle.seen_tree.proofs.Children.{names_seen}
 use Rattle.seen_tree.proofs.Same.{kind_seen, seen_parts, text_seen}
 use Rattle.seen_tree.specs.Part.{AreSeen, IsPart, if_dir, looked_by}

@@ -5,7 +5,7 @@ use Rattle.ldso_conf.specs.Lines.{arguments_of, include, lines_of, text_of, word
 use Rattle.ldso_conf.specs.Reading.{Item, Names, Reports, Reads, Passes, Misses, Source, ConfFile, Given, conf_items}
 use Rattle.ldso_conf.specs.Steps.{numbered}
 use Rattle.path_walk.specs.declared.walk.Mode.TheVariants.{Plain}
-use Rattle.seen_conf.specs.Patterns.{results_listed, results_looked}
+use Rattle.conf_views.specs.Patterns.{results_listed, results_looked}
 use Rattle.seen_tree.specs.Part.{looked_by}
 use Rattle.tree_face.specs.Store.{Contents}
 

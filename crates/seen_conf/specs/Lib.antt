@@ -1,2 +1,1 @@
 pub mod Conf
-pub mod Patterns

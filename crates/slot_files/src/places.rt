@@ -1,4 +1,8 @@
 //! The existing slots, and the paths of their files.
+ghost use Rattle.std.specs.Prelude.{◌≡◌};
+ghost use Rattle.device_rules.specs.Places.{IsIn};
+ghost use Rattle.slot_files.specs.Places.{file_in, has_file};
+
 use device_rules::SlotPaths;
 use tree_face::Slot;
 
@@ -12,7 +16,9 @@ pub enum Places {
 
 impl Places {
     /// Whether this slot has a file.
-    pub fn has(&self, slot: Slot) -> bool {
+    pub fn has(&self, slot: Slot) -> bool
+        ensures { result ≡ has_file self.now slot }
+    {
         match self {
             Places::Image(_) => true,
             Places::Aux(_) => slot == Slot::Aux,
@@ -20,7 +26,9 @@ impl Places {
     }
 
     /// The path of a slot's file, below the directory.
-    pub fn file_of(&self, slot: Slot) -> &str {
+    pub fn file_of(&self, slot: Slot) -> &str
+        ensures { result.now ≡ file_in self.now slot }
+    {
         match self {
             Places::Image(paths) => paths.file_of(slot),
             Places::Aux(name) => name.as_str(),
@@ -28,7 +36,9 @@ impl Places {
     }
 
     /// The directory of a slot's file, and its name.
-    pub fn place_of(&self, slot: Slot) -> (&str, &str) {
+    pub fn place_of(&self, slot: Slot) -> (&str, &str)
+        ensures { IsIn result.0.now result.1.now (file_in self.now slot) }
+    {
         match self {
             Places::Image(paths) => paths.place_of(slot),
             Places::Aux(name) => ("", name.as_str()),

@@ -1,24 +1,56 @@
 //! Whether two files have the same bytes.
+ghost use Rattle.std.specs.Prelude.{◌≡◌, ◌↔◌, ◌≤◌, ℕ, List, Option, drop, length, take, IfOk, IsTrue};
+ghost use Rattle.tree_face.specs.Known.{IfKnown};
+
 use std::io;
 use std::os::unix::fs::FileExt;
 
 const WINDOW: usize = 4096;
 
+/// The bytes of a file. Of a real file, contracts don't know them.
+pub trait Bytes {
+    ghost content: { Self → Option (List ℕ) };
+
+    /// Fills the buffer with the bytes at an offset. It is an error if the file has fewer.
+    fn fill(&self, buf: &mut [u8], at: u64) -> io::Result<()>
+        ensures { IfOk result (λ _. IfKnown (content self.now) (λ bytes. buf.new ≡ take (length buf.old) (drop at bytes))) };
+}
+
+impl<F: FileExt> Bytes for F {
+    ghost use Rattle.std.specs.Prelude.{None};
+
+    ghost content = { λ _. None };
+
+    fn fill(&self, buf: &mut [u8], at: u64) -> io::Result<()> {
+        self.read_exact_at(buf, at)
+    }
+}
+
 /// Whether two files of this length have the same bytes. They are read piece by piece, with pread.
-pub fn have_same_bytes<F: FileExt>(one: &F, other: &F, length: u64) -> io::Result<bool> {
-    let mut ones = [0u8; WINDOW];
-    let mut others = [0u8; WINDOW];
-    for turn in 0..u64::MAX {
-        let at = turn.saturating_mul(WINDOW as u64);
-        let count = length.saturating_sub(at).min(WINDOW as u64) as usize;
-        if count == 0 {
-            return Ok(true);
-        }
-        one.read_exact_at(&mut ones[..count], at)?;
-        other.read_exact_at(&mut others[..count], at)?;
-        if ones[..count] != others[..count] {
+#[tactic(auto, using(crate::proofs::Pieces::grows, crate::proofs::Pieces::differs))]
+pub fn have_same_bytes<F: Bytes>(one: &F, other: &F, length: u64) -> io::Result<bool>
+    ensures { IfOk result (λ same. IfKnown (F.content one.now) (λ ones. IfKnown (F.content other.now) (λ others. IsTrue same ↔ take length ones ≡ take length others))) }
+{
+    let mut at = 0;
+    while at < length {
+        let count = (length - at).min(WINDOW as u64);
+        if !is_same_piece(one, other, at, count)? {
             return Ok(false);
         }
+        at += count;
     }
-    Ok(false)
+    Ok(true)
+}
+
+// Whether two files have the same bytes in this piece, which is no longer than a window.
+fn is_same_piece<F: Bytes>(one: &F, other: &F, at: u64, count: u64) -> io::Result<bool>
+    requires { count ≤ 4096 }
+    ensures { IfOk result (λ same. IfKnown (F.content one.now) (λ ones. IfKnown (F.content other.now) (λ others. IsTrue same ↔ take count (drop at ones) ≡ take count (drop at others)))) }
+{
+    let mut ones = [0u8; WINDOW];
+    let mut others = [0u8; WINDOW];
+    let (piece, other_piece) = (&mut ones[..count as usize], &mut others[..count as usize]);
+    one.fill(piece, at)?;
+    other.fill(other_piece, at)?;
+    Ok(*piece == *other_piece)
 }

@@ -1,5 +1,6 @@
 //! The files of an image's slots, and how they are replaced.
-ghost use Rattle.std.specs.Prelude.{◌≡◌, IfOk, IsSomeAnd};
+ghost use Rattle.std.specs.Prelude.{◌≡◌, ◌≢◌, ◌↔◌, ◌⊎◌, Some, length, option_map, IfOk, IsSomeAnd, IsTrue};
+ghost use Rattle.device_rules.specs.Folder.{length_to_read, mode_of};
 
 use crate::places::Places;
 use crate::same_bytes::have_same_bytes;
@@ -35,7 +36,11 @@ pub struct Written {
 }
 
 impl Written {
-    fn note(&mut self, slot: Slot) {
+    // The slot's file was replaced.
+    fn note(&mut self, slot: Slot)
+        ensures manifest { IsTrue self.new.manifest ↔ (IsTrue self.old.manifest ⊎ slot ≡ Slot.Manifest) }
+        ensures cache { IsTrue self.new.cache ↔ (IsTrue self.old.cache ⊎ slot ≡ Slot.Cache) }
+    {
         match slot {
             Slot::Manifest => self.manifest = true,
             Slot::Cache => self.cache = true,
@@ -128,7 +133,11 @@ where
     }
 
     // From here on, this is the manifest that was read.
-    fn note_read(&mut self, slot: Slot, found: Option<Stamp>) {
+    fn note_read(&mut self, slot: Slot, found: Option<Stamp>)
+        ensures manifest { slot ≡ Slot.Manifest → self.new.manifest ≡ Some found }
+        ensures length { slot ≡ Slot.Manifest → self.new.written.manifest_length ≡ option_map (λ stamp. stamp.size) found }
+        ensures others { slot ≢ Slot.Manifest → self.new.manifest ≡ self.old.manifest }
+    {
         if slot == Slot::Manifest {
             self.manifest = Some(found);
             self.written.manifest_length = found.map(|stamp| stamp.size);
@@ -410,14 +419,18 @@ fn stamp_in<F: OpenFile>(file: &F) -> Option<Option<Stamp>> {
 }
 
 // The mode of a slot's new file.
-fn mode_after(slot: Slot, existing: Option<Existing>) -> u32 {
+fn mode_after(slot: Slot, existing: Option<Existing>) -> u32
+    ensures { result ≡ mode_of slot (option_map (λ e. e.mode) existing) }
+{
     match existing {
         Some(existing) => mode_of(slot, Some(existing.mode)),
         None => mode_of(slot, None),
     }
 }
 
-fn owner_in(existing: Option<Existing>) -> Option<Owner> {
+fn owner_in(existing: Option<Existing>) -> Option<Owner>
+    ensures { result ≡ option_map (λ e. e.owner) existing }
+{
     match existing {
         Some(existing) => Some(existing.owner),
         None => None,
@@ -456,10 +469,23 @@ where
 fn read_slot<F: HeldFile + Read + Drop>(
     alloc: Global,
     slot: Slot,
-    mut file: F,
+    file: F,
     size: u64,
 ) -> io::Result<Vec<u8>> {
     let is_cache = slot == Slot::Cache && begins_cache(&file, size)?;
+    read_part(alloc, slot, is_cache, file, size)
+}
+
+// The same, if it is known whether the file begins like a cache.
+fn read_part<F: Read + Drop>(
+    alloc: Global,
+    slot: Slot,
+    is_cache: bool,
+    mut file: F,
+    size: u64,
+) -> io::Result<Vec<u8>>
+    ensures { IfOk result (λ bytes. length_to_read slot is_cache size ≡ Some (length bytes.items)) }
+{
     let Some(length) = length_to_read(slot, is_cache, size) else {
         let text = too_large(alloc, slot)?;
         return Err(Error::new(ErrorKind::FileTooLarge, text.as_str()));

@@ -1,4 +1,7 @@
 //! Temporary files that belong to one run.
+ghost use Rattle.std.specs.Prelude.{◌≡◌, true};
+ghost use Rattle.std.specs.Fs.{asks_create_new, asks_read, asks_write};
+
 use device_rules::{
     Identity, MOST_NAMES, RunId, identity_of, is_missing, is_no_text, is_there, maker_of,
     temporary_path,
@@ -39,11 +42,7 @@ where
     R::File: HeldFile,
 {
     for turn in 0..MOST_NAMES {
-        let run = RunId {
-            process: run.process,
-            random: run.random.wrapping_add(turn),
-        };
-        let name = temporary_path(&image.rt, slot_name, tag, run)?;
+        let name = temporary_path(&image.rt, slot_name, tag, run.turned(turn))?;
         let path = image.path_next_to(name.as_str())?;
         if let Some(file) = make_locked(&image.rt, path.as_str())? {
             return Ok((name, path, file));
@@ -83,18 +82,25 @@ fn is_still_at<R: Runtime>(rt: &R, path: &str, file: &R::File) -> io::Result<boo
 
 // Creates an empty file. It is an error if it exists.
 fn make_file<R: Runtime>(rt: &R, path: &str) -> io::Result<R::File> {
-    OpenOptions::new()
-        .read(true)
-        .write(true)
-        .create_new(true)
-        .mode(NEW_MODE)
-        .open(rt, path)
+    new_file().open(rt, path)
+}
+
+// How a new file is opened.
+fn new_file() -> OpenOptions
+    ensures new { asks_create_new result ≡ true }
+    ensures read { asks_read result ≡ true }
+    ensures write { asks_write result ≡ true }
+{
+    let mut options = OpenOptions::new();
+    options.mode(NEW_MODE);
+    options.read(true).write(true).create_new(true);
+    options
 }
 
 // Whether the path leads to this file.
 fn is_at<R: Runtime>(rt: &R, path: &str, file: Identity) -> io::Result<bool> {
     match fs::symlink_metadata(rt, path) {
-        Ok(found) => Ok(identity_of(&found) == file),
+        Ok(found) => Ok(identity_of(&found).is(file)),
         Err(error) if is_missing(error.kind()) => Ok(false),
         Err(error) => Err(error),
     }

@@ -1,5 +1,7 @@
 //! Calls on the standard streams that are repeated if they couldn't be done yet.
-ghost use Rattle.std.specs.Prelude.{◌≤◌, IfOk, length};
+ghost use Rattle.std.specs.Prelude.{◌≤◌, ◌≢◌, IfErr, IfOk, length};
+ghost use Rattle.std.specs.IoError.{error_kind};
+ghost use Rattle.std.specs.declared.io.ErrorKind.TheVariants as kinds;
 
 use crate::streams::Streams;
 use device_rules::is_for_now;
@@ -20,7 +22,9 @@ pub fn pause<R: Runtime>(rt: &R) {
 
 /// Reads once. It tries again if a signal came or if nothing is there yet.
 pub fn read_some<R: Runtime>(rt: &R, reader: &mut R::Reader, buf: &mut [u8]) -> io::Result<usize>
-    ensures { IfOk result (λ n. n ≤ length buf.new) }
+    ensures within { IfOk result (λ n. n ≤ length buf.new) }
+    ensures not_for_a_signal { IfErr result (λ error. error_kind error ≢ kinds.Interrupted) }
+    ensures not_for_now { IfErr result (λ error. error_kind error ≢ kinds.WouldBlock) }
 {
     for _ in 0..MOST_TURNS {
         match reader.read(buf) {
@@ -33,7 +37,9 @@ pub fn read_some<R: Runtime>(rt: &R, reader: &mut R::Reader, buf: &mut [u8]) -> 
 
 /// Writes once. It tries again if a signal came or if the reader isn't ready.
 pub fn write_some<R: Runtime + Streams>(rt: &R, bytes: &[u8]) -> io::Result<usize>
-    ensures { IfOk result (λ n. n ≤ length bytes.now) }
+    ensures within { IfOk result (λ n. n ≤ length bytes.now) }
+    ensures not_for_a_signal { IfErr result (λ error. error_kind error ≢ kinds.Interrupted) }
+    ensures not_for_now { IfErr result (λ error. error_kind error ≢ kinds.WouldBlock) }
 {
     for _ in 0..MOST_TURNS {
         match rt.write_output(bytes) {

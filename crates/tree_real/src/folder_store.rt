@@ -157,15 +157,9 @@ fn is_file(other: Option<Identity>, identity: Identity) -> bool
     ensures { IsTrue result ↔ other ≡ Some identity }
 {
     match other {
-        Some(other) => is_same(other, identity),
+        Some(other) => other.is(identity),
         None => false,
     }
-}
-
-fn is_same(one: Identity, other: Identity) -> bool
-    ensures { IsTrue result ↔ one ≡ other }
-{
-    one == other
 }
 
 // The number of bytes to read into a buffer of this length.

@@ -1,5 +1,7 @@
-use Rattle.std.proofs.Common.{◌≡◌, ◌≤◌, ◌<◌, ◌-◌}
+use Rattle.std.proofs.Common.{◌≡◌, ◌≤◌, ◌<◌, ◌-◌, None}
 use Rattle.lib_types.specs.Counts.{raised}
+use Rattle.conf_views.specs.View.{IsSameView}
+use Rattle.tree_face.specs.StoreUse.{Complete, ReadsFiles}
 use Rattle.ldso_conf.specs.Reading.{asked, included}
 use Rattle.ldso_conf.specs.Visits.{IsDoneIn}
 use Rattle.ldso_conf.proofs.reading.+visit.Given as goal
@@ -8,8 +10,13 @@ use Rattle.ldso_conf.proofs.reading.+visit.Given as goal
 abbrev pub invariant-loop-step : goal.invariant-loop-step
 invariant-loop-step g l = record {
   deep : 0 < l.left;
-  done : IsDoneIn (g.S.Store.state l.fn.store).held (λ held. included l.tree held l.left l.fn.reader.read (l.fn.file.spelled, l.fn.file.real))
-      (λ held. asked (included l.tree held (l.left - 1)) l.reader.read l.step-iterator.rest.items) l.fn.reader l.reader (g.S.Store.state l.fn.store) (g.S.Store.state l.store);
+  done : g.V.TreeView.knows l.fn.view → IsDoneIn (g.S.Store.state l.fn.store).held
+      (λ held. included (g.V.TreeView.state l.fn.view).tree held l.left l.fn.reader.read l.fn.file)
+      (λ held. asked (included (g.V.TreeView.state l.fn.view).tree held (l.left - 1)) l.reader.read l.step-iterator.rest.items)
+      l.fn.reader l.reader (g.S.Store.state l.fn.store) (g.S.Store.state l.store);
+  any : ReadsFiles ⊥ None None Complete (g.S.Store.state l.fn.store) (g.S.Store.state l.store);
+  knows : g.V.TreeView.knows l.fn.view → g.V.TreeView.knows l.view;
+  view : IsSameView (g.V.TreeView.state l.fn.view) (g.V.TreeView.state l.view);
   held : (g.S.Store.state l.store).held ≡ (g.S.Store.state l.fn.store).held;
   files : l.fn.reader.files ≤ l.reader.files;
   begun : (g.S.Store.state l.store).begun ≡ raised (g.S.Store.state l.fn.store).begun (l.reader.files - l.fn.reader.files);

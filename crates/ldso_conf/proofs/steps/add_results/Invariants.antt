@@ -1,7 +1,7 @@
 use Rattle.std.proofs.Common.{◌≡◌, ◌++◌, map}
-use Rattle.ldso_conf.specs.Steps.{included}
+use Rattle.ldso_conf.specs.declared.steps.Step.TheVariants as step
 use Rattle.ldso_conf.proofs.steps.add_results.Given as goal
 
 -- the remaining results give the rest
-abbrev pub invariant-loop-spelled : goal.invariant-loop-spelled
-invariant-loop-spelled l = l.steps.items ++ map included l.spelled-iterator ≡ l.fn.steps.items ++ map included l.fn.found.entries
+abbrev pub invariant-loop-file : goal.invariant-loop-file
+invariant-loop-file l = l.steps.items ++ map step.Include l.file-iterator.rest.items ≡ l.fn.steps.items ++ map step.Include l.fn.found.items

@@ -1,10 +1,15 @@
 use Rattle.std.proofs.Common.{◌≡◌, ◌++◌}
 use Rattle.std.specs.List.{flat_map}
+use Rattle.conf_views.specs.View.{IsSameView}
 use Rattle.ldso_conf.specs.Lines.{lines_of}
 use Rattle.ldso_conf.specs.Steps.{line_steps, numbered}
 use Rattle.ldso_conf.proofs.steps.steps_of.Given as goal
 
 -- the remaining lines give the rest
 abbrev pub invariant-loop-line : goal.invariant-loop-line
-invariant-loop-line l =
-    l.steps.items ++ flat_map (line_steps l.tree l.file) (numbered l.number l.line-iterator) ≡ flat_map (line_steps l.tree l.file) (numbered 1 (lines_of l.fn.content))
+invariant-loop-line g l = record {
+  steps : g.V.TreeView.knows l.fn.view → l.steps.items ++ flat_map (line_steps (g.V.TreeView.state l.fn.view).tree l.file) (numbered l.number l.line-iterator)
+      ≡ flat_map (line_steps (g.V.TreeView.state l.fn.view).tree l.file) (numbered 1 (lines_of l.fn.content));
+  knows : g.V.TreeView.knows l.fn.view → g.V.TreeView.knows l.view;
+  view : IsSameView (g.V.TreeView.state l.fn.view) (g.V.TreeView.state l.view);
+}

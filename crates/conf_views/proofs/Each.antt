@@ -5,10 +5,6 @@ use Rattle.image_tree.specs.Tree.{Nodes}
 use Rattle.seen_tree.proofs.Same.{seen_parts}
 use Rattle.seen_tree.specs.Part.{AreSeen}
 
-pub all_parts : {Y : Type 0} (P : Y → Type 0) (xs ys : List Y) → AllByRecursion P xs → AllByRecursion P ys → AllByRecursion P (xs ++ ys)
-all_parts P [] ys all more = more
-all_parts P (x ∷ xs) ys all more = (all.0, all_parts P xs ys all.1 more)
-
 first_all : {Y : Type 0} (P : Y → Type 0) (o : Option Y) (ys : List Y) → ((y : Y) → o ≡ Some y → P y) → AllByRecursion P ys
     → AllByRecursion P (cons_option o ys)
 first_all P None ys here all = all
@@ -29,14 +25,7 @@ module _ (t part : Nodes) {X Y : Type 0} (looked : X → List (List ℕ)) where
       let parts = seen_parts t part (looked x) (flat_map looked xs) all in
       ap (λ y. cons_option y (filter_map f xs)) (same x parts.0) ∙ ap (cons_option (g x)) (filter_map_seen f g same xs parts.1)
 
-  -- what holds for the results of each item holds for all results
-  pub flat_map_all : (P : Y → Type 0) (f : X → List Y) → ((x : X) → AreSeen t part (looked x) → AllByRecursion P (f x))
-      → (xs : List X) → AreSeen t part (flat_map looked xs) → AllByRecursion P (flat_map f xs)
-  flat_map_all P f each [] all = tt
-  flat_map_all P f each (x ∷ xs) all =
-      let parts = seen_parts t part (looked x) (flat_map looked xs) all in
-      all_parts P (f x) (flat_map f xs) (each x parts.0) (flat_map_all P f each xs parts.1)
-
+  -- what holds for the result of each item holds for all results
   pub filter_map_all : (P : Y → Type 0) (f : X → Option Y) → ((x : X) (y : Y) → AreSeen t part (looked x) → f x ≡ Some y → P y)
       → (xs : List X) → AreSeen t part (flat_map looked xs) → AllByRecursion P (filter_map f xs)
   filter_map_all P f each [] all = tt

@@ -20,8 +20,8 @@ use Rattle.root_folder.specs.Whole.{IsWhole}
 use Rattle.seen_tree.proofs.Children.{names_seen}
 use Rattle.seen_tree.proofs.Same.{end_seen, kind_seen, seen_parts, text_seen}
 use Rattle.seen_tree.specs.Part.{AreSeen, IsPart, IsSeen, looked_by}
-use Rattle.seen_conf.proofs.Each.{filter_map_all, filter_map_seen, flat_map_seen}
-use Rattle.seen_conf.specs.Patterns.{choices_looked, listed_in, places_looked, results_looked, texts_looked}
+use Rattle.conf_views.proofs.Each.{filter_map_all, filter_map_seen, flat_map_seen}
+use Rattle.conf_views.specs.Patterns.{choices_looked, listed_in, places_looked, results_looked, texts_looked}
 
 both_tests : {X : Type 0} (p q : X → Bool) (xs : List X) → filter (λ x. p x && q x) xs ≡ filter q (filter p xs)
 both_tests p q [] = refl
